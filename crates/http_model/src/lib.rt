@@ -1,0 +1,56 @@
+//! The words in which the crates above speak of an HTTP/1.1 message: the types that definitions and code
+//! share, and in `specs/` the head and the message, edits of fields, finishing, refusals and spelling.
+#![tactic(auto)]
+
+pub use htx_model::{Kind, OutOfMemory};
+
+/// How the body of a message is found (RFC 9112 section 6.3).
+#[derive(Clone, Copy, Debug, PartialEq, Eq)]
+pub enum Framing {
+    /// There is no body.
+    Absent,
+    /// So many bytes.
+    Length(u64),
+    /// Chunks, the last chunk and the trailer section.
+    Chunked,
+    /// All bytes up to the end of the connection.
+    ToClose,
+}
+
+/// The sizes of a configuration, in bytes: `tune.bufsize`, and of it what a received head leaves free.
+#[derive(Clone, Copy, Debug, PartialEq, Eq)]
+pub struct Limits {
+    /// 1024 to 262144.
+    pub bufsize: u32,
+    /// At most `bufsize - 512`.
+    pub maxrewrite: u32,
+}
+
+/// How a stream of bytes ended.
+#[derive(Clone, Copy, Debug, PartialEq, Eq)]
+pub enum Ending {
+    /// The peer closed it.
+    Closed,
+    /// It failed.
+    Broke,
+}
+
+/// How a link was closed.
+#[derive(Clone, Copy, Debug, PartialEq, Eq)]
+pub enum Close {
+    /// In order.
+    Clean,
+    /// So that the peer sees that its message is not whole.
+    Failed,
+}
+
+/// How a session ended.
+#[derive(Clone, Copy, Debug, PartialEq, Eq)]
+pub enum End {
+    /// The client sent no further request.
+    Done,
+    /// The connection was not to be kept.
+    Closed,
+    /// A response was cut.
+    Cut,
+}

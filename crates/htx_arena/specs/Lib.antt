@@ -1,0 +1,9 @@
+pub mod Descriptor
+pub mod Held
+pub mod Contents
+pub use Rattle.htx_model.specs.Block
+pub use Rattle.htx_model.specs.Blocks
+pub mod Written
+pub mod Lending
+pub mod RunLends
+pub mod Fields

@@ -1,0 +1,13 @@
+#![tactic(auto)]
+
+mod arena;
+mod fields;
+mod laid;
+mod lend;
+mod payload;
+#[cfg(test)]
+mod tests;
+
+pub use arena::{Arena, Full, Line};
+pub use fields::Fields;
+pub use htx_model::{Kind, OutOfMemory};
