@@ -1,0 +1,13 @@
+pub use Rattle.http_model.specs.Block
+pub use Rattle.http_model.specs.Blocks
+pub use Rattle.http_model.specs.Head
+pub use Rattle.http_model.specs.Fields
+pub use Rattle.http_model.specs.Finish
+pub use Rattle.http_model.specs.Refusal
+pub use Rattle.http_model.specs.Spelling
+pub use Rattle.http_model.specs.Reading
+pub mod Stream
+pub mod Meaning
+pub mod Asking
+pub mod Answering
+pub mod Session
