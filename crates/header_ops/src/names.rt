@@ -1,0 +1,38 @@
+//! Header fields by name.
+ghost use Rattle.std.specs.Prelude.{◌≡◌, ◌<◌, length};
+ghost use Rattle.std.specs.List.{list_any};
+ghost use Rattle.http_model.specs.Fields.{same_name};
+ghost use Rattle.htx_arena.specs.Blocks.{block_at};
+ghost use Rattle.header_ops.specs.Headers.{is_header_named};
+
+use htx_arena::{Arena, Kind};
+
+/// Whether two names are one but for case (RFC 9110 section 5.1).
+fn same_name(a: &[u8], b: &[u8]) -> bool
+    ensures { result ≡ same_name a.now b.now }
+{
+    a.eq_ignore_ascii_case(b)
+}
+
+/// Whether the block at an index is a header of this name.
+pub fn is_named(msg: &Arena, at: u32, name: &[u8]) -> bool
+    requires { at < length msg.now.blocks }
+    ensures { result ≡ is_header_named name.now (block_at msg.now.blocks at) }
+{
+    match msg.kind(at) {
+        Kind::Header => same_name(msg.name(at), name),
+        _ => false,
+    }
+}
+
+/// Whether a header has this name, without regard to case.
+pub fn has_named(msg: &Arena, name: &[u8]) -> bool
+    ensures { result ≡ list_any (is_header_named name.now) msg.now.blocks }
+{
+    for at in 0..msg.len() {
+        if is_named(msg, at, name) {
+            return true;
+        }
+    }
+    false
+}
