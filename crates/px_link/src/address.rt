@@ -1,0 +1,9 @@
+use crate::Bytes;
+
+/// Where a server listens.
+#[derive(Debug, Drop)]
+pub struct Address {
+    /// A host name or a numeric address, as it was written.
+    pub host: Bytes,
+    pub port: u16,
+}
