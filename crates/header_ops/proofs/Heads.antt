@@ -2,25 +2,32 @@
 use Rattle.std.proofs.Common.{◌≡◌, ℕ, List, [], ◌∷◌, ◌++◌, Bool, true, false, cond, not, map, filter, refl, ap, ◌∙◌}
 use Rattle.http_model.specs.Block.{Block, Header, EndHeaders}
 use Rattle.http_model.specs.Head.{Field, StartLine, RequestLine, StatusLine, Head, line_block, header_block, head_blocks}
-use Rattle.http_model.specs.Fields.{is_named, without, set_field, add_field}
-use Rattle.header_ops.specs.Headers.{without_headers, with_header, set_header, HasEnd}
-
--- the blocks of fields with the end behind them
-ended : List Field → List Block
-ended fields = map header_block fields ++ EndHeaders ∷ []
+use Rattle.http_model.specs.Fields.{is_named, is_named_among, without, without_each, set_field, add_field}
+use Rattle.http_model.specs.Finish.{framing_names}
+use Rattle.header_ops.specs.Headers.{is_header_named, is_framing_header, without_framing, without_headers, with_header, set_header, HasEnd}
 
 HasEnd-ended : (fs : List Field) → HasEnd (map header_block fs ++ EndHeaders ∷ [])
 HasEnd-ended [] = tt
 HasEnd-ended (f ∷ fs) = HasEnd-ended fs
 
-without-ended : (name : List ℕ) (fs : List Field) → without_headers name (map header_block fs ++ EndHeaders ∷ []) ≡ map header_block (without name fs) ++ EndHeaders ∷ []
-without-ended name [] = refl
-without-ended name (f ∷ fs) = one (is_named name f) f (without_headers name (map header_block fs ++ EndHeaders ∷ [])) (without name fs) (without-ended name fs)
+-- a filter of blocks that keeps the line and the end, and of fields those that pass
+filter-ended : (p : Block → Bool) (q : Field → Bool) → ((f : Field) → p (header_block f) ≡ q f) → p EndHeaders ≡ true → (fs : List Field)
+    → filter p (map header_block fs ++ EndHeaders ∷ []) ≡ map header_block (filter q fs) ++ EndHeaders ∷ []
+filter-ended p q same end [] = ap (λ t. cond t (EndHeaders ∷ []) []) end
+filter-ended p q same end (f ∷ fs) =
+    ap (λ t. cond t (header_block f ∷ filter p (map header_block fs ++ EndHeaders ∷ [])) (filter p (map header_block fs ++ EndHeaders ∷ []))) (same f)
+    ∙ one (q f) f (filter p (map header_block fs ++ EndHeaders ∷ [])) (filter q fs) (filter-ended p q same end fs)
   where
     one : (t : Bool) (f : Field) (bs : List Block) (rest : List Field) → bs ≡ map header_block rest ++ EndHeaders ∷ []
-        → cond (not t) (header_block f ∷ bs) bs ≡ map header_block (cond (not t) (f ∷ rest) rest) ++ EndHeaders ∷ []
-    one true f bs rest e = e
-    one false f bs rest e = ap (λ b. header_block f ∷ b) e
+        → cond t (header_block f ∷ bs) bs ≡ map header_block (cond t (f ∷ rest) rest) ++ EndHeaders ∷ []
+    one true f bs rest e = ap (λ b. header_block f ∷ b) e
+    one false f bs rest e = e
+
+without-ended : (name : List ℕ) (fs : List Field) → without_headers name (map header_block fs ++ EndHeaders ∷ []) ≡ map header_block (without name fs) ++ EndHeaders ∷ []
+without-ended name fs = filter-ended (λ b. not (is_header_named name b)) (λ f. not (is_named name f)) (λ f. refl) refl fs
+
+framing-ended : (fs : List Field) → without_framing (map header_block fs ++ EndHeaders ∷ []) ≡ map header_block (without_each framing_names fs) ++ EndHeaders ∷ []
+framing-ended fs = filter-ended (λ b. not (is_framing_header b)) (λ f. not (is_named_among framing_names f)) (λ f. refl) refl fs
 
 with-ended : (name value : List ℕ) (fs : List Field) → with_header (Header name value) (map header_block fs ++ EndHeaders ∷ []) ≡ map header_block (fs ++ (name, value) ∷ []) ++ EndHeaders ∷ []
 with-ended name value [] = refl
@@ -51,3 +58,10 @@ pub set-head_blocks : (name value : List ℕ) (head : Head) → set_header name 
 set-head_blocks name value head =
     ap (with_header (Header name value)) (without-head_blocks name head)
     ∙ with-head_blocks name value (record head { fields = without name head.fields })
+
+pub framing-head_blocks : (head : Head) → without_framing (head_blocks head) ≡ head_blocks (record head { fields = without_each framing_names head.fields })
+framing-head_blocks head = by_line head.line
+  where
+    by_line : (line : StartLine) → without_framing (line_block line ∷ (map header_block head.fields ++ EndHeaders ∷ [])) ≡ line_block line ∷ (map header_block (without_each framing_names head.fields) ++ EndHeaders ∷ [])
+    by_line (RequestLine a b c) = ap (λ t. line_block (RequestLine a b c) ∷ t) (framing-ended head.fields)
+    by_line (StatusLine a b c) = ap (λ t. line_block (StatusLine a b c) ∷ t) (framing-ended head.fields)

@@ -1,6 +1,7 @@
 -- Edits of the headers in a list of blocks.
 use Rattle.std.specs.Prelude.{ℕ, List, [], ◌∷◌, Bool, false, not, filter, if◌then◌else◌}
-use Rattle.http_model.specs.Fields.{same_name}
+use Rattle.http_model.specs.Fields.{same_name, is_named_among}
+use Rattle.http_model.specs.Finish.{framing_names}
 use Rattle.http_model.specs.Block.{Block, Header, EndHeaders, weight}
 
 -- the block is a header of this name, without regard to case
@@ -31,3 +32,12 @@ with_header field (block ∷ blocks) = block ∷ with_header field blocks
 -- each header of the name goes, and one of this value stands behind the others
 abbrev pub set_header : List ℕ → List ℕ → List Block → List Block
 set_header name value blocks = with_header (Header name value) (without_headers name blocks)
+
+-- the block is a header that frames the message or speaks of its connection
+abbrev pub is_framing_header : Block → Bool
+is_framing_header (Header n v) = is_named_among framing_names (n, v)
+is_framing_header block = false
+
+-- each such header goes
+abbrev pub without_framing : List Block → List Block
+without_framing blocks = filter (λ block. not (is_framing_header block)) blocks

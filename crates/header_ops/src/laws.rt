@@ -2,8 +2,9 @@
 ghost use Rattle.std.specs.Prelude.{◌≡◌, ℕ, List};
 ghost use Rattle.http_model.specs.Block.{Header};
 ghost use Rattle.http_model.specs.Head.{Head, head_blocks};
-ghost use Rattle.http_model.specs.Fields.{without, set_field, add_field};
-ghost use Rattle.header_ops.specs.Headers.{without_headers, with_header, set_header, HasEnd};
+ghost use Rattle.http_model.specs.Fields.{without, without_each, set_field, add_field};
+ghost use Rattle.http_model.specs.Finish.{framing_names};
+ghost use Rattle.header_ops.specs.Headers.{without_headers, with_header, set_header, without_framing, HasEnd};
 
 /// An edit of the blocks of a head is that edit of its fields.
 pub fn edits_of_heads()

@@ -3,8 +3,10 @@
 #![tactic(auto)]
 
 mod edits;
+mod framing;
 pub mod laws;
 mod names;
 
 pub use edits::{add_field, remove_named, set_field};
+pub use framing::remove_framing;
 pub use names::has_named;

@@ -8,7 +8,7 @@ ghost use Rattle.header_ops.specs.Headers.{is_header_named};
 use htx_arena::{Arena, Kind};
 
 /// Whether two names are one but for case (RFC 9110 section 5.1).
-fn same_name(a: &[u8], b: &[u8]) -> bool
+pub fn same_name(a: &[u8], b: &[u8]) -> bool
     ensures { result ≡ same_name a.now b.now }
 {
     a.eq_ignore_ascii_case(b)
