@@ -1,25 +1,52 @@
 -- The end of the headers, and what a header in front of it weighs.
-use Rattle.std.proofs.Common.{◌≡◌, ℕ, ◌+◌, List, [], ◌∷◌, Bool, true, false, cond, not, length, refl, arith}
+use Rattle.std.proofs.Common.{◌≡◌, ℕ, ◌+◌, List, [], ◌∷◌, Bool, true, false, cond, not, filter, length, refl, arith}
 use Rattle.std.proofs.lemmas.List.Sums.{sum_by-cons}
 use Rattle.http_model.specs.Block.{Block, RequestLine, ResponseLine, Header, EndHeaders, Data, Trailer, EndTrailers, weight}
 use Rattle.http_model.specs.Blocks.{load}
-use Rattle.header_ops.specs.Headers.{is_header_named, without_headers, with_header, set_header, HasEnd}
+use Rattle.header_ops.specs.Headers.{is_header_named, is_framing_header, without_headers, without_framing, with_header, set_header, HasEnd}
 
-either_way : (t : Bool) (n v : List ℕ) (bs : List Block) → HasEnd bs → HasEnd (cond (not t) (Header n v ∷ bs) bs)
-either_way true n v bs h = h
-either_way false n v bs h = h
+in_front : (b : Block) (bs : List Block) → HasEnd bs → HasEnd (b ∷ bs)
+in_front (RequestLine x y z) bs h = h
+in_front (ResponseLine x y z) bs h = h
+in_front (Header n v) bs h = h
+in_front EndHeaders bs h = tt
+in_front (Data q) bs h = h
+in_front (Trailer n v) bs h = h
+in_front EndTrailers bs h = h
 
--- no header that goes is the end
+either_way : (t : Bool) (b : Block) (bs : List Block) → HasEnd bs → HasEnd (cond t (b ∷ bs) bs)
+either_way true b bs h = in_front b bs h
+either_way false b bs h = h
+
+-- blocks that go leave the end, where no end goes
+kept_end : (p : Block → Bool) → p EndHeaders ≡ true → (bs : List Block) → HasEnd bs → HasEnd (filter p bs)
+kept_end p end [] h = h
+kept_end p end (EndHeaders ∷ bs) h = rw end tt
+kept_end p end (RequestLine x y z ∷ bs) h = either_way (p (RequestLine x y z)) (RequestLine x y z) (filter p bs) (kept_end p end bs h)
+kept_end p end (ResponseLine x y z ∷ bs) h = either_way (p (ResponseLine x y z)) (ResponseLine x y z) (filter p bs) (kept_end p end bs h)
+kept_end p end (Header n v ∷ bs) h = either_way (p (Header n v)) (Header n v) (filter p bs) (kept_end p end bs h)
+kept_end p end (Data q ∷ bs) h = either_way (p (Data q)) (Data q) (filter p bs) (kept_end p end bs h)
+kept_end p end (Trailer n v ∷ bs) h = either_way (p (Trailer n v)) (Trailer n v) (filter p bs) (kept_end p end bs h)
+kept_end p end (EndTrailers ∷ bs) h = either_way (p EndTrailers) EndTrailers (filter p bs) (kept_end p end bs h)
+
+-- no header of a name is the end
 pub HasEnd-without : (name : List ℕ) (bs : List Block) → HasEnd bs → HasEnd (without_headers name bs)
-HasEnd-without name [] h = h
-HasEnd-without name (EndHeaders ∷ bs) h = h
-HasEnd-without name (RequestLine x y z ∷ bs) h = HasEnd-without name bs h
-HasEnd-without name (ResponseLine x y z ∷ bs) h = HasEnd-without name bs h
-HasEnd-without name (Data p ∷ bs) h = HasEnd-without name bs h
-HasEnd-without name (Trailer n v ∷ bs) h = HasEnd-without name bs h
-HasEnd-without name (EndTrailers ∷ bs) h = HasEnd-without name bs h
-HasEnd-without name (Header n v ∷ bs) h =
-    either_way (is_header_named name (Header n v)) n v (without_headers name bs) (HasEnd-without name bs h)
+HasEnd-without name bs h = kept_end (λ b. not (is_header_named name b)) refl bs h
+
+-- no header that frames is the end
+pub HasEnd-without_framing : (bs : List Block) → HasEnd bs → HasEnd (without_framing bs)
+HasEnd-without_framing bs h = kept_end (λ b. not (is_framing_header b)) refl bs h
+
+-- a block in front of the end leaves the end
+pub HasEnd-with_header : (n v : List ℕ) (bs : List Block) → HasEnd bs → HasEnd (with_header (Header n v) bs)
+HasEnd-with_header n v [] h = h
+HasEnd-with_header n v (EndHeaders ∷ bs) h = tt
+HasEnd-with_header n v (RequestLine x y z ∷ bs) h = HasEnd-with_header n v bs h
+HasEnd-with_header n v (ResponseLine x y z ∷ bs) h = HasEnd-with_header n v bs h
+HasEnd-with_header n v (Header a b ∷ bs) h = HasEnd-with_header n v bs h
+HasEnd-with_header n v (Data q ∷ bs) h = HasEnd-with_header n v bs h
+HasEnd-with_header n v (Trailer a b ∷ bs) h = HasEnd-with_header n v bs h
+HasEnd-with_header n v (EndTrailers ∷ bs) h = HasEnd-with_header n v bs h
 
 behind : (a b : Block) (old new : List Block) → load new ≡ load old + weight b → load (a ∷ new) ≡ load (a ∷ old) + weight b
 behind a b old new h = omega (arith, sum_by-cons weight a new, sum_by-cons weight a old)
@@ -40,4 +67,4 @@ pub load-set_header : (name value : List ℕ) (bs : List Block) → HasEnd bs �
 load-set_header name value bs h =
     omega (arith, load-with_header (Header name value) (without_headers name bs) (HasEnd-without name bs h))
 
-pub ruleset ends = (HasEnd-without, load-set_header)
+pub ruleset ends = (HasEnd-without, HasEnd-without_framing, HasEnd-with_header, load-set_header)

@@ -8,8 +8,10 @@ use crate::names::is_named;
 use htx_arena::{Arena, Full, Kind};
 
 /// Removes each header of this name, without regard to case.
+#[tactic(auto, using(crate::proofs::Ends::ends))]
 pub fn remove_named(msg: &mut Arena, name: &[u8])
     ensures blocks { msg.new.blocks ≡ without_headers name.now msg.old.blocks }
+    ensures end { HasEnd msg.old.blocks → HasEnd msg.new.blocks }
     ensures size { msg.new.size ≡ msg.old.size }
 {
     let mut at = 0;
@@ -64,6 +66,7 @@ fn end_of_headers(msg: &Arena) -> u32
 }
 
 /// Puts a header of this name, which is in lower case, behind the others.
+#[tactic(auto, using(crate::proofs::Ends::ends))]
 pub fn add_field(msg: &mut Arena, name: &[u8], value: &[u8]) -> Result<(), Full>
     requires end { HasEnd msg.old.blocks }
     requires named { 1 ≤ length name.now }
@@ -71,6 +74,7 @@ pub fn add_field(msg: &mut Arena, name: &[u8], value: &[u8]) -> Result<(), Full>
     ensures ok { OnOk result (msg.new.blocks ≡ with_header (Header name.now value.now) msg.old.blocks) }
     ensures fits { IsOk result ↔ Fits (with_header (Header name.now value.now) msg.old.blocks) msg.old.size }
     ensures full { OnErr result (msg.new ≡ msg.old) }
+    ensures end { HasEnd msg.new.blocks }
     ensures size { msg.new.size ≡ msg.old.size }
 {
     let end = end_of_headers(msg);
@@ -94,6 +98,7 @@ pub fn set_field(msg: &mut Arena, name: &[u8], value: &[u8]) -> Result<(), Full>
     ensures ok { OnOk result (msg.new.blocks ≡ set_header name.now value.now msg.old.blocks) }
     ensures fits { IsOk result ↔ Fits (set_header name.now value.now msg.old.blocks) msg.old.size }
     ensures full { OnErr result (msg.new ≡ msg.old) }
+    ensures end { HasEnd msg.new.blocks }
     ensures size { msg.new.size ≡ msg.old.size }
 {
     let room = msg.room() as usize + load_of_named(msg, name) as usize;

@@ -4,7 +4,7 @@ ghost use Rattle.std.specs.List.{list_any};
 ghost use Rattle.http_model.specs.Fields.{same_name};
 ghost use Rattle.http_model.specs.Finish.{framing_names};
 ghost use Rattle.htx_arena.specs.Blocks.{block_at};
-ghost use Rattle.header_ops.specs.Headers.{is_framing_header, without_framing};
+ghost use Rattle.header_ops.specs.Headers.{is_framing_header, without_framing, HasEnd};
 
 use crate::names::same_name;
 use htx_arena::{Arena, Kind};
@@ -35,8 +35,10 @@ fn is_framing(msg: &Arena, at: u32) -> bool
 
 /// Removes each header that frames the message or speaks of its connection (RFC 9110 section 7.6.1): `connection`,
 /// `keep-alive`, `proxy-connection`, `te`, `upgrade`, `transfer-encoding` and `content-length`.
+#[tactic(auto, using(crate::proofs::Ends::ends))]
 pub fn remove_framing(msg: &mut Arena)
     ensures blocks { msg.new.blocks ≡ without_framing msg.old.blocks }
+    ensures end { HasEnd msg.old.blocks → HasEnd msg.new.blocks }
     ensures size { msg.new.size ≡ msg.old.size }
 {
     let mut at = 0;

@@ -12,4 +12,5 @@ pub fn edits_of_heads()
     ensures remove { (name : List ℕ) (head : Head) → without_headers name (head_blocks head) ≡ head_blocks (record head { fields = without name head.fields }) }
     ensures add { (name value : List ℕ) (head : Head) → with_header (Header name value) (head_blocks head) ≡ head_blocks (add_field name value head) }
     ensures set { (name value : List ℕ) (head : Head) → set_header name value (head_blocks head) ≡ head_blocks (set_field name value head) }
+    ensures strip { (head : Head) → without_framing (head_blocks head) ≡ head_blocks (record head { fields = without_each framing_names head.fields }) }
 {}
