@@ -1,10 +1,21 @@
 //! The texts of numbers, without leading zeros.
-ghost use Rattle.std.specs.Prelude.{◌≡◌, ◌≤◌, length, take, drop, false};
-ghost use Rattle.std.specs.Fmt.{decimal, signed_decimal, digits};
+ghost use Rattle.std.specs.Prelude.{◌≡◌, ◌<◌, ◌≤◌, length, take, drop, false};
+ghost use Rattle.std.specs.Fmt.{decimal, signed_decimal, digits, digit_glyph};
 
 use itoa::Buffer;
 
-static HEX_DIGITS: [u8; 16] = *b"0123456789abcdef";
+/// The hexadecimal digit that stands for a number below 16, in lower case.
+#[inline]
+fn hex_digit(value: u32) -> u8
+    requires { value < 16 }
+    ensures { result ≡ digit_glyph false value }
+{
+    if value < 10 {
+        b'0' + value as u8
+    } else {
+        b'a' + (value - 10) as u8
+    }
+}
 
 /// Writes the decimal text of a number at the front, and tells its length: 1 to 20 bytes. The bytes
 /// behind it stay.
@@ -49,11 +60,11 @@ pub fn write_hex(n: u32, into: &mut [u8; 8]) -> usize
     let mut left = n;
     while left >= 16 {
         at -= 1;
-        text[at] = HEX_DIGITS[(left % 16) as usize];
+        text[at] = hex_digit(left % 16);
         left /= 16;
     }
     at -= 1;
-    text[at] = HEX_DIGITS[left as usize];
+    text[at] = hex_digit(left);
     let len = 8 - at;
     into[..len].copy_from_slice(&text[at..]);
     len
