@@ -1,0 +1,4 @@
+pub mod DigitLemmas
+pub mod HexLemmas
+pub mod PieceLemmas
+pub mod ValueLemmas
