@@ -3,5 +3,6 @@ pub use Rattle.session_model.specs.Meaning
 pub use Rattle.session_model.specs.Asking
 pub use Rattle.session_model.specs.Answering
 pub use Rattle.session_model.specs.Session
-pub mod Finishing
-pub mod Plain
+pub mod Texts
+
+-- pub mod First

@@ -1,0 +1,9 @@
+//! One exchange: a request is read, ruled, finished and sent, and its answer is sent back.
+#![tactic(auto)]
+
+mod ask;
+mod refusal;
+mod text;
+
+pub use http_model::{End, Limits, OutOfMemory};
+pub use px_link::Bytes;
