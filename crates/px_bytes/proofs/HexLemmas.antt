@@ -26,18 +26,18 @@ spell_next k n acc h = ap (λ t. cond t (last_glyph n ∷ acc) (spell k (n / 16)
 spell-append : (k n : ℕ) (acc : List ℕ) → spell k n acc ≡ spell k n [] ++ acc
 spell-append zero n acc = refl
 spell-append (suc k) n acc = elim (cases_lt n 16) [
-    inl l ↦ spell_last k n acc l ∙ ap (λ x. x ++ acc) (sym (spell_last k n [] l))
+  | inl l ↦ spell_last k n acc l ∙ ap (λ x. x ++ acc) (sym (spell_last k n [] l))
   | inr l ↦ spell_next k n acc l ∙ spell-append k (n / 16) (last_glyph n ∷ acc) ∙ sym (append_assoc (spell k (n / 16) []) (last_glyph n ∷ []) acc) ∙ ap (λ x. x ++ acc) (sym (spell_next k n [] l ∙ spell-append k (n / 16) (last_glyph n ∷ [])))
-  ]
+]
 
 -- more places than the number needs change nothing
 spell_enough : (j k n : ℕ) (acc : List ℕ) → n < 16 ^ suc j → n < 16 ^ suc k → spell (suc j) n acc ≡ spell (suc k) n acc
 spell_enough zero k n acc p q = spell_last zero n acc (omega arith) ∙ sym (spell_last k n acc (omega arith))
 spell_enough (suc j) zero n acc p q = spell_last (suc j) n acc (omega arith) ∙ sym (spell_last zero n acc (omega arith))
 spell_enough (suc j) (suc k) n acc p q = elim (cases_lt n 16) [
-    inl l ↦ spell_last (suc j) n acc l ∙ sym (spell_last (suc k) n acc l)
+  | inl l ↦ spell_last (suc j) n acc l ∙ sym (spell_last (suc k) n acc l)
   | inr l ↦ spell_next (suc j) n acc l ∙ spell_enough j k (n / 16) (last_glyph n ∷ acc) (omega arith) (omega arith) ∙ sym (spell_next (suc k) n acc l)
-  ]
+]
 
 digits_onto-nil : (n : ℕ) → digits_onto 64 16 false n [] ≡ digits 16 false n
 unfolding digits
@@ -61,13 +61,13 @@ place_fewer (suc (suc j)) n h small =
 pub length-hex-le : (k n : ℕ) → 0 < k → n < 16 ^ k → n < 16 ^ 64 → length (digits 16 false n) ≤ k
 length-hex-le zero n some fits small = absurd (omega arith)
 length-hex-le (suc k) n some fits small = elim (cases_lt n 16) [
-    inl l ↦ omega (arith, ap length (hex_one_digit false n l))
+  | inl l ↦ omega (arith, ap length (hex_one_digit false n l))
   | inr l ↦
       let fewer = place_fewer (suc k) n l fits in
       let less : suc k - 1 ≡ k = omega arith in
       let rest : length (digits 16 false (n / 16)) ≤ k = length-hex-le k (n / 16) (omega arith) (rw less at fewer.1) (omega arith) in
       omega (arith, ap length (hex_step n l small), length-append (digits 16 false (n / 16)) (digit_glyph false (n % 16) ∷ []), rest)
-  ]
+]
 
 -- a byte written in front of the place at shows there
 written_at : (text : List ℕ) (at g : ℕ) → 1 ≤ at → at ≤ length text → drop (at - 1) (set text (at - 1) g) ≡ g ∷ drop at text

@@ -1,5 +1,5 @@
 //! Outside vectors, and callers that need no proof file.
-ghost use Rattle.std.specs.Prelude.{◌≡◌, ◌==◌, ◌↔◌, length, codes, IsTrue, All, Some, true, option_map, slice_get};
+ghost use Rattle.std.specs.Prelude.{◌≡◌, ◌==◌, ◌↔◌, length, codes, IsTrue, All, Some, true, option_map, is_some, find, slice_get};
 ghost use Rattle.std.specs.List.{list_any, list_all};
 ghost use Rattle.std.specs.Str.{str_eq_ignore_ascii_case};
 ghost use Rattle.px_bytes.specs.Numbers.{decimal_of};
@@ -33,37 +33,30 @@ fn count(field: &[u8]) -> usize
     values(field).count()
 }
 
-fn count_by_loop(field: &[u8]) -> usize
-    ensures { result ≡ length (values_of field.now) }
+/// The first value that has digits alone.
+fn first_number(field: &[u8]) -> Option<&[u8]>
+    ensures { option_map (λ v. v.now) result ≡ find (λ v. is_some (decimal_of 18 v)) (values_of field.now) }
 {
-    let mut count = 0;
-    for _value in values(field) {
-        count += 1;
-    }
-    count
+    values(field).find(|value| read_decimal(value, 18).is_some())
 }
 
 fn nth(field: &[u8], n: usize) -> Option<&[u8]>
     ensures { option_map (λ v. v.now) result ≡ slice_get (values_of field.now) n }
 {
-    values(field).nth(n)
+    let mut left = n;
+    for value in values(field) {
+        if left == 0 {
+            return Some(value);
+        }
+        left -= 1;
+    }
+    None
 }
 
 fn all_are(field: &[u8], number: u64) -> bool
     ensures { IsTrue result ↔ All (λ v. decimal_of 18 v ≡ Some number) (values_of field.now) }
 {
     values(field).all(|value| read_decimal(value, 18) == Some(number))
-}
-
-fn all_are_by_loop(field: &[u8], number: u64) -> bool
-    ensures { IsTrue result ↔ All (λ v. decimal_of 18 v ≡ Some number) (values_of field.now) }
-{
-    for value in values(field) {
-        if read_decimal(value, 18) != Some(number) {
-            return false;
-        }
-    }
-    true
 }
 
 #[test]
