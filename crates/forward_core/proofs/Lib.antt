@@ -1,1 +1,5 @@
 pub mod Refusals
+pub mod Forwarded
+pub mod Plains
+pub mod Asks
+pub mod Clients

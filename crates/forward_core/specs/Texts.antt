@@ -1,5 +1,5 @@
 -- The texts of blocks.
-use Rattle.std.specs.Prelude.{ℕ, List, [], ◌∷◌, ◌++◌, codes}
+use Rattle.std.specs.Prelude.{ℕ, List, [], ◌∷◌, ◌++◌, codes, decimal}
 use Rattle.std.specs.List.{flat_map}
 use Rattle.http_model.specs.Block.{Block, RequestLine, ResponseLine, Header, EndHeaders, Data, Trailer, EndTrailers}
 use Rattle.http_model.specs.Head as head
@@ -31,3 +31,7 @@ parts_text digits reason length body =
       line = head.StatusLine (codes "HTTP/1.1") digits reason;
       fields = (codes "content-length", length) ∷ (codes "cache-control", codes "no-cache") ∷ (codes "content-type", codes "text/html") ∷ close_field ∷ [];
     }) ++ body
+
+-- what the client is sent of an answer that states its length
+abbrev pub answer_text : ℕ → List ℕ → List ℕ
+answer_text n body = codes "HTTP/1.1 200 OK\r\ncontent-length: " ++ (decimal n ++ (codes "\r\n\r\n" ++ body))

@@ -1,6 +1,7 @@
 //! One exchange: a request is read, ruled, finished and sent, and its answer is sent back.
 #![tactic(auto)]
 
+mod answer;
 mod ask;
 mod refusal;
 mod text;

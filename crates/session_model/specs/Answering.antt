@@ -59,7 +59,7 @@ answer_by M asker received head body = by_reading body
 -- the declared length of a body that there is passes a limit
 abbrev pub response_declares_too_much : (M : Meaning) → Received → Bool
 response_declares_too_much M received =
-    not (is_bodiless received.framing) && declares_too_much M.response_filters received.declared
+    declares_too_much M.response_filters received.declared && not (is_bodiless received.framing)
 
 -- Behind the rules: a declared length that passes a limit, then a finished head that doesn't fit, then the body.
 abbrev pub AnswersWith : (M : Meaning) → Asker → Received → Head → Stream → Final → Type 0

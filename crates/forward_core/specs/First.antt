@@ -1,0 +1,80 @@
+-- The meaning that a configuration of the first form gives to a session.
+use Rattle.std.specs.Prelude.{◌≡◌, ℕ, ◌<◌, ◌≤◌, List, [], ◌∷◌, ◌++◌, Bool, true, false, ◌&&◌, if◌then◌else◌, nat_lt, nat_le, length, codes, decimal, Option, Some, None, ◌⊎◌}
+use Rattle.http_model.specs.declared.Framing.{Framing}
+use Rattle.http_model.specs.declared.Framing.TheVariants.{Absent, Length, Chunked, ToClose}
+use Rattle.http_model.specs.declared.Limits.{Limits}
+use Rattle.http_model.specs.declared.Ending.{Ending}
+use Rattle.http_model.specs.declared.Ending.TheVariants.{Closed, Broke}
+use Rattle.http_model.specs.Blocks.{load}
+use Rattle.http_model.specs.Head.{Head, StatusLine, head_blocks}
+use Rattle.http_model.specs.Fields.{set_field}
+use Rattle.http_model.specs.Reading.{Received, HeadReading, BodyReading}
+use Rattle.http_model.specs.Reading as reading
+use Rattle.h1_head.specs.Request.{RequestOf}
+use Rattle.session_model.specs.Stream.{Stream}
+use Rattle.session_model.specs.Meaning.{Meaning, Verdict, Pass, Fail, no_filters}
+use Rattle.first_config.specs.Form.{First}
+
+-- the one rule of the first form: a text that is longer than the buffer fails, and so does a list that doesn't fit
+abbrev pub first_rule : First → Head → Verdict (Unit {0})
+first_rule cfg head =
+    if nat_le (length cfg.value) cfg.limits.bufsize && nat_le (load (head_blocks (set_field cfg.name cfg.value head))) cfg.limits.bufsize
+    then Pass (set_field cfg.name cfg.value head) tt
+    else Fail
+
+-- a body that isn't in chunks (RFC 9112 section 6.3)
+abbrev pub PlainBody : Framing → List ℕ → Ending → BodyReading → Type 0
+PlainBody Absent bytes ending r = r ≡ reading.Whole [] [] bytes
+PlainBody (Length n) bytes ending r =
+    ((body : List ℕ) × (rest : List ℕ) × (bytes ≡ body ++ rest) × (length body ≡ n) × (r ≡ reading.Whole body [] rest))
+    ⊎ ((length bytes < n) × (r ≡ reading.Broke bytes))
+PlainBody ToClose bytes Closed r = r ≡ reading.Whole bytes [] []
+PlainBody ToClose bytes Broke r = r ≡ reading.Broke bytes
+PlainBody Chunked bytes ending r = ⊥
+
+-- the head of a response that states its length and nothing else
+abbrev pub first_response : ℕ → List ℕ
+first_response n = codes "HTTP/1.1 200 OK\r\nContent-Length: " ++ decimal n ++ codes "\r\n\r\n"
+
+abbrev pub first_received : ℕ → Received
+first_received n =
+    record {
+      head = record {
+        line = StatusLine (codes "HTTP/1.1") (codes "200") (codes "OK");
+        fields = (codes "content-length", decimal n) ∷ [];
+      };
+      framing = Length n;
+      declared = Some n;
+      close = false;
+    }
+
+-- the bytes begin with such a head
+abbrev pub FirstResponse : List ℕ → HeadReading → Type 0
+FirstResponse bytes r =
+    (n : ℕ) × (rest : List ℕ) × (bytes ≡ first_response n ++ rest) × (r ≡ reading.Begins (first_received n) rest)
+
+-- Requests are read in full; responses and bodies as far as the first form has them.
+abbrev pub meaning_of : First → Meaning
+meaning_of cfg =
+    record {
+      limits = cfg.limits;
+      Vars = Unit {0};
+      renewed = λ vars. vars;
+      reads_request = RequestOf cfg.limits;
+      reads_response = λ head_asked. FirstResponse;
+      reads_body = PlainBody;
+      request_rules = λ vars. first_rule cfg;
+      response_rules = λ vars method head. Pass head vars;
+      request_filters = no_filters;
+      response_filters = no_filters;
+    }
+
+-- ---- one exchange
+
+-- a server that gives such a head and a body of the length that it states
+abbrev pub IsFirstServer : List ℕ → Type 0
+IsFirstServer server =
+    (body : List ℕ) × (length body ≤ 65536) × (server ≡ first_response (length body) ++ body)
+
+abbrev pub closed : List ℕ → Stream
+closed bytes = record { bytes = bytes; ending = Closed }

@@ -1,0 +1,75 @@
+//! What a client of the first form asks for.
+ghost use Rattle.std.specs.Prelude.{◌≡◌, ◌≤◌, ◌↔◌, ⊥, length, IsTrue};
+ghost use Rattle.forward_core.specs.Unbuilt.{BeginsEmpty, IsUnbuilt};
+ghost use Rattle.forward_core.specs.Client.{IfPlain, IfRefused, IfUnserved, ReadsPlain};
+ghost use Rattle.h1_head.specs.Request.{RequestOf};
+ghost use Rattle.http_model.specs.Reading.{Refused};
+
+use h1_head::{HeadRead, HeadWhy, is_plain_request, read_request};
+use htx_arena::Arena;
+use http_model::Limits;
+
+/// What a client asks for.
+#[derive(Clone, Copy, Debug, PartialEq, Eq)]
+pub enum ClientAsks {
+    /// A plain GET, whose blocks are in the array.
+    Plain,
+    /// A head that is refused with this code.
+    Refused(u16),
+    /// Something that is not served yet.
+    Unserved,
+}
+
+/// Whether there are no bytes, or a carriage return or a line feed stands in front.
+fn begins_empty(client: &[u8]) -> bool
+    ensures { IsTrue result ↔ BeginsEmpty client.now }
+{
+    client.is_empty() || client[0] == b'\r' || client[0] == b'\n'
+}
+
+/// Whether the text has no head within the limits, as this reason for its refusal says.
+fn is_headless(why: HeadWhy) -> bool {
+    matches!(why, HeadWhy::Grammar | HeadWhy::Long)
+}
+
+/// How many of the client's bytes are looked at: all, or as many as the array has.
+fn window_len(client: &[u8], limits: Limits) -> usize
+    ensures within { result ≤ length client.now }
+    ensures small { result ≤ limits.bufsize }
+    ensures full { result < length client.now → result ≡ limits.bufsize }
+{
+    client.len().min(limits.bufsize as usize)
+}
+
+/// Reads what the client asks for.
+pub fn read_client(client: &[u8], limits: Limits, msg: &mut Arena) -> ClientAsks
+    requires least { 1024 ≤ limits.bufsize }
+    requires most { limits.bufsize ≤ 262144 }
+    requires reserve { limits.maxrewrite + 512 ≤ limits.bufsize }
+    requires empty { msg.old.blocks ≡ [] }
+    requires size { msg.old.size ≡ limits.bufsize }
+    ensures plain { IfPlain result (ReadsPlain limits client.now msg.new.blocks) }
+    ensures refused { IfRefused result (λ code. RequestOf limits client.now (Refused code)) }
+    ensures served { IfServed result (IsUnbuilt limits client.now → ⊥) }
+    ensures unserved { IfUnserved result (IsUnbuilt limits client.now) }
+    ensures size { msg.new.size ≡ msg.old.size }
+{
+    if begins_empty(client) {
+        return ClientAsks::Unserved;
+    }
+    let (window, more) = client.split_at(window_len(client, limits));
+    let read = read_request(window, more.is_empty(), limits, msg);
+    if let HeadRead::Refuse { code, why } = read {
+        if is_headless(why) {
+            return ClientAsks::Refused(code);
+        }
+    }
+    if !is_plain_request(client, limits) {
+        return ClientAsks::Unserved;
+    }
+    match read {
+        HeadRead::Head { .. } => ClientAsks::Plain,
+        HeadRead::Refuse { code, why: _ } => ClientAsks::Refused(code),
+        HeadRead::More { .. } => unreachable!(),
+    }
+}
