@@ -1,3 +1,4 @@
+pub mod BlankLemmas
 pub mod DigitLemmas
 pub mod HexLemmas
 pub mod PieceLemmas

@@ -1,5 +1,5 @@
 -- Pieces, values and their offsets.
-use Rattle.std.proofs.Common.{◌≡◌, ◌≢◌, ℕ, zero, suc, ◌+◌, ◌-◌, ◌<◌, ◌≤◌, Bool, true, false, cond, List, [], ◌∷◌, ◌++◌, length, take, drop, get_or, map, refl, sym, ap, ◌∙◌, arith, rules, append_assoc}
+use Rattle.std.proofs.Common.{◌≡◌, ◌≢◌, ℕ, suc, ◌+◌, ◌-◌, ◌≤◌, Bool, true, false, cond, List, [], ◌∷◌, ◌++◌, length, take, drop, map, refl, sym, ap, ◌∙◌, arith}
 use Rattle.std.proofs.lemmas.Bool.{eqb-true}
 use Rattle.std.proofs.lemmas.List.{map-append, append-nil, length-append, length-drop, length-take-le, drop-drop, drop-append-le, take-append-le}
 use Rattle.std.proofs.lemmas.List.Elements.{All-cons}
@@ -10,7 +10,7 @@ use Rattle.std.specs.List.{join_with_byte, onto_first, prefix_len, suffix_len}
 use Rattle.px_bytes.specs.declared.pieces.Place.{Place}
 use Rattle.px_bytes.specs.declared.pieces.Place.TheVariants.{Outside, Quoted, Escaped}
 use Rattle.px_bytes.specs.Blanks.{is_blank, trimmed}
-use Rattle.px_bytes.specs.Values.{next_place, separates, pieces_from, pieces_of, values_of, placed_from, placed_values, value_at, place_behind, IsClosed, LiesIn}
+use Rattle.px_bytes.specs.Values.{next_place, separates, pieces_from, pieces_of, values_of, placed_from, value_at, place_behind, IsClosed, LiesIn}
 use Rattle.px_bytes.proofs.PieceLemmas.{in_front, in_front-nil}
 
 -- the values with their offsets are the values

@@ -17,6 +17,19 @@ fn hex_digit(value: u32) -> u8
     }
 }
 
+/// Writes a text at the front, and tells its length. The bytes behind it stay.
+#[inline]
+fn write_text(text: &[u8], into: &mut [u8; 20]) -> usize
+    requires { length text.now ≤ 20 }
+    ensures size { result ≡ length text.now }
+    ensures text { take result into.new ≡ text.now }
+    ensures rest { drop result into.new ≡ drop result into.old }
+{
+    let len = text.len();
+    into[..len].copy_from_slice(text);
+    len
+}
+
 /// Writes the decimal text of a number at the front, and tells its length: 1 to 20 bytes. The bytes
 /// behind it stay.
 pub fn write_decimal(n: u64, into: &mut [u8; 20]) -> usize
@@ -25,11 +38,8 @@ pub fn write_decimal(n: u64, into: &mut [u8; 20]) -> usize
     ensures text { take result into.new ≡ decimal n }
     ensures rest { drop result into.new ≡ drop result into.old }
 {
-    let mut buffer = Buffer::new();
-    let text = buffer.format(n).as_bytes();
-    let len = text.len();
-    into[..len].copy_from_slice(text);
-    len
+    let mut digits = Buffer::new();
+    write_text(digits.format(n).as_bytes(), into)
 }
 
 /// Writes the decimal text of a number at the front, with a minus where it is negative, and tells its
@@ -40,11 +50,8 @@ pub fn write_signed(n: i64, into: &mut [u8; 20]) -> usize
     ensures text { take result into.new ≡ signed_decimal n }
     ensures rest { drop result into.new ≡ drop result into.old }
 {
-    let mut buffer = Buffer::new();
-    let text = buffer.format(n).as_bytes();
-    let len = text.len();
-    into[..len].copy_from_slice(text);
-    len
+    let mut text = Buffer::new();
+    write_text(text.format(n).as_bytes(), into)
 }
 
 /// Writes the hexadecimal text of a number at the front, in lower case, and tells its length: 1 to 8

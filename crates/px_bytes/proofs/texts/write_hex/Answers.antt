@@ -1,4 +1,4 @@
-use Rattle.std.proofs.Common.{◌≡◌, ◌-◌, ◌+◌, ◌∷◌, ◌<◌, ◌≤◌, ◌^◌, length, drop, arith, sym, ap, ◌∙◌, append-nil, length-set, refl, false}
+use Rattle.std.proofs.Common.{◌-◌, arith, ◌∙◌, append-nil, length-set, refl, false}
 use Rattle.std.specs.Fmt.{digits}
 use Rattle.px_bytes.proofs.HexLemmas.{place_fewer, written_more, written_last, written_len, copied}
 use Rattle.px_bytes.proofs.texts.write_hex.Goals as goal
