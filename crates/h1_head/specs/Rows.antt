@@ -44,22 +44,23 @@ host_is_good p =
     let hosts = length (fields_named (codes "host") p.fields) in
     if p.minor == 1 then hosts == 1 else nat_lt hosts 2
 
+abbrev pub is_number : ℕ → Option ℕ → Bool
+is_number n None = false
+is_number n (Some m) = n == m
+
 -- the element is this number, in 1 to 18 digits
 abbrev pub is_length : ℕ → List ℕ → Bool
-is_length n element = is_that (decimal_of 18 element)
-  where
-    is_that : Option ℕ → Bool
-    is_that None = false
-    is_that (Some m) = n == m
+is_length n element = is_number n (decimal_of 18 element)
+
+-- the number of a first element, where each other element is that number
+abbrev pub if_all_are : Option ℕ → List (List ℕ) → Option ℕ
+if_all_are None elements = None
+if_all_are (Some n) elements = if list_all (is_length n) elements then Some n else None
 
 -- the number that each element is; none where one is no number of 1 to 18 digits, or two differ
 abbrev pub one_length : List (List ℕ) → Option ℕ
 one_length [] = None
-one_length (element ∷ elements) = if_all (decimal_of 18 element)
-  where
-    if_all : Option ℕ → Option ℕ
-    if_all None = None
-    if_all (Some n) = if list_all (is_length n) elements then Some n else None
+one_length (element ∷ elements) = if_all_are (decimal_of 18 element) elements
 
 -- the length that the Content-Length fields declare
 abbrev pub declared_length : List Field → Option ℕ

@@ -21,6 +21,11 @@ span_parts text head fields =
 abbrev pub IsNamed : Field → Type 0
 IsNamed field = 1 ≤ length field.0
 
+-- the span of a name covers 1 to 255 bytes
+pub record HasGoodName (text : List ℕ) (field : HeaderSpan) : Type 0 where
+  pub named : 1 ≤ length (span_bytes text field.name)
+  pub short : length (span_bytes text field.name) ≤ 255
+
 -- the spans lie in the text, each name has a byte, and there are at most 100 fields
 pub record AreSpansGood (text : List ℕ) (head : RequestSpans) (fields : List HeaderSpan) : Type 0 where
   pub method : IsWithin (length text) head.method

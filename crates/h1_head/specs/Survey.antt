@@ -54,21 +54,31 @@ codings_after codings (element ∷ elements) = codings_after (next_coding coding
 abbrev pub has_value : List ℕ → List ℕ → Bool
 has_value word list = list_any (λ element. same_name element word) (values_of list)
 
+-- some field of Connection has this word as an element
+abbrev pub has_option_in : List ℕ → List Field → Bool
+has_option_in word fields = list_any (λ field. is_named (codes "connection") field && has_value word field.1) fields
+
 -- ---- fields
+
+-- what is known behind one more field, by whether it has each of the four names
+abbrev pub add_field_as : (host sized coded linked : Bool) → Survey → Field → Survey
+add_field_as host sized coded linked s field =
+    record {
+      long_name = s.long_name || nat_lt 255 (length field.0);
+      hosts = if host then s.hosts + 1 else s.hosts;
+      has_length = if sized then true else s.has_length;
+      lengths = if sized then lengths_after s.lengths (values_of field.1) else s.lengths;
+      has_coding = if coded then true else s.has_coding;
+      codings = if coded then codings_after s.codings (values_of field.1) else s.codings;
+      has_options = if linked then true else s.has_options;
+      close = if linked then s.close || has_value (codes "close") field.1 else s.close;
+    }
 
 -- what is known behind one more field
 abbrev pub add_field : Survey → Field → Survey
 add_field s field =
-    record {
-      long_name = s.long_name || nat_lt 255 (length field.0);
-      hosts = s.hosts + (if is_named (codes "host") field then 1 else 0);
-      has_length = s.has_length || is_named (codes "content-length") field;
-      lengths = if is_named (codes "content-length") field then lengths_after s.lengths (values_of field.1) else s.lengths;
-      has_coding = s.has_coding || is_named (codes "transfer-encoding") field;
-      codings = if is_named (codes "transfer-encoding") field then codings_after s.codings (values_of field.1) else s.codings;
-      has_options = s.has_options || is_named (codes "connection") field;
-      close = s.close || (is_named (codes "connection") field && has_value (codes "close") field.1);
-    }
+    add_field_as (is_named (codes "host") field) (is_named (codes "content-length") field)
+        (is_named (codes "transfer-encoding") field) (is_named (codes "connection") field) s field
 
 abbrev pub survey_after : Survey → List Field → Survey
 survey_after s [] = s

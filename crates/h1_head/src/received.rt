@@ -7,9 +7,10 @@ ghost use Rattle.htx_model.specs.Block.{Header};
 ghost use Rattle.htx_model.specs.Blocks.{load};
 ghost use Rattle.http_model.specs.Head.{header_block, head_blocks};
 ghost use Rattle.http_model.specs.Fields.{has_field};
-ghost use Rattle.h1_head.specs.Rows.{has_option, is_kept, folded, received_head};
+ghost use Rattle.h1_head.specs.Rows.{is_kept, folded, received_head};
 ghost use Rattle.h1_head.specs.Spans.{received_fields};
-ghost use Rattle.h1_head.specs.Spans.{span_parts, AreSpansGood, IsNamed};
+ghost use Rattle.h1_head.specs.Survey.{has_option_in};
+ghost use Rattle.h1_head.specs.Spans.{span_parts, AreSpansGood, HasGoodName};
 
 use crate::names::{NameClass, class_of, is_lasting};
 use crate::survey::has_value;
@@ -23,7 +24,7 @@ pub const MAX_NAME: usize = 255;
 /// Whether some element of Connection is this word.
 fn has_option(text: &[u8], fields: &[HeaderSpan], word: &[u8]) -> bool
     requires { All (IsHeaderWithin (length text.now)) fields.now }
-    ensures { result ≡ has_option word.now (map (header_bytes text.now) fields.now) }
+    ensures { result ≡ has_option_in word.now (map (header_bytes text.now) fields.now) }
 {
     for field in fields {
         if class_of(field.name.of(text)) == NameClass::Connection
@@ -35,15 +36,17 @@ fn has_option(text: &[u8], fields: &[HeaderSpan], word: &[u8]) -> bool
     false
 }
 
-/// Whether the field of this name stays, of a head that has Connection fields or none.
-fn is_kept(text: &[u8], fields: &[HeaderSpan], has_options: bool, name: &[u8]) -> bool
+/// Whether a field of the head stays, where the head has Connection fields or none.
+fn is_kept(text: &[u8], fields: &[HeaderSpan], has_options: bool, field: &HeaderSpan) -> bool
     requires within { All (IsHeaderWithin (length text.now)) fields.now }
+    requires inside { IsHeaderWithin (length text.now) field.now }
     requires options { has_options ≡ has_field (codes "connection") (map (header_bytes text.now) fields.now) }
-    ensures { (value : List ℕ) → result ≡ is_kept (map (header_bytes text.now) fields.now) (name.now, value) }
+    ensures { result ≡ is_kept (map (header_bytes text.now) fields.now) (header_bytes text.now field.now) }
 {
     if !has_options {
         return true;
     }
+    let name = field.name.of(text);
     !has_option(text, fields, name) || is_lasting(class_of(name))
 }
 
@@ -71,16 +74,15 @@ fn push_fields(
     to: &mut Arena,
 ) -> Result<(), Full>
     requires within { All (IsHeaderWithin (length text.now)) fields.now }
-    requires named { All IsNamed (map (header_bytes text.now) fields.now) }
+    requires named { All (HasGoodName text.now) fields.now }
     requires options { has_options ≡ has_field (codes "connection") (map (header_bytes text.now) fields.now) }
     ensures ok { OnOk result (to.new.blocks ≡ to.old.blocks ++ received_fields (map (header_bytes text.now) fields.now)) }
     ensures full { OnErr result (to.old.size < load (to.old.blocks ++ received_fields (map (header_bytes text.now) fields.now))) }
     ensures size { to.new.size ≡ to.old.size }
 {
     for field in fields {
-        let name = field.name.of(text);
-        if is_kept(text, fields, has_options, name) {
-            push_field(name, field.value.of(text), to)?;
+        if is_kept(text, fields, has_options, field) {
+            push_field(field.name.of(text), field.value.of(text), to)?;
         }
     }
     Ok(())
@@ -103,7 +105,7 @@ pub fn push_head(
     to: &mut Arena,
 ) -> Result<(), Full>
     requires spans { AreSpansGood text.now head.now fields.now }
-    requires named { All IsNamed (map (header_bytes text.now) fields.now) }
+    requires named { All (HasGoodName text.now) fields.now }
     requires options { has_options ≡ has_field (codes "connection") (map (header_bytes text.now) fields.now) }
     requires empty { to.old.blocks ≡ [] }
     ensures ok { OnOk result (to.new.blocks ≡ head_blocks (received_head (span_parts text.now head.now fields.now))) }

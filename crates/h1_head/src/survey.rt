@@ -119,27 +119,37 @@ pub fn has_value(list: &[u8], word: &[u8]) -> bool
 }
 
 impl Survey {
-    /// Adds what one field says.
-    fn add(&mut self, name: &[u8], value: &[u8])
-        requires { self.old.hosts ≤ 100 }
-        ensures { self.new ≡ add_field self.old (name.now, value.now) }
+    /// What is known behind one more field.
+    #[tactic(auto, using(crate::proofs::Adds::added))]
+    fn and(self, name: &[u8], value: &[u8]) -> Survey
+        requires { self.hosts ≤ 100 }
+        ensures { result ≡ add_field self (name.now, value.now) }
     {
-        self.long_name = self.long_name || name.len() > 255;
+        let known = Survey {
+            long_name: self.long_name || name.len() > 255,
+            ..self
+        };
         match class_of(name) {
-            NameClass::Host => self.hosts += 1,
-            NameClass::ContentLength => {
-                self.has_length = true;
-                self.lengths = read_lengths(self.lengths, value);
-            }
-            NameClass::TransferEncoding => {
-                self.has_coding = true;
-                self.codings = read_codings(self.codings, value);
-            }
-            NameClass::Connection => {
-                self.has_options = true;
-                self.close = self.close || has_value(value, b"close");
-            }
-            NameClass::Hop | NameClass::Expect | NameClass::Other => {}
+            NameClass::Host => Survey {
+                hosts: known.hosts + 1,
+                ..known
+            },
+            NameClass::ContentLength => Survey {
+                has_length: true,
+                lengths: read_lengths(known.lengths, value),
+                ..known
+            },
+            NameClass::TransferEncoding => Survey {
+                has_coding: true,
+                codings: read_codings(known.codings, value),
+                ..known
+            },
+            NameClass::Connection => Survey {
+                has_options: true,
+                close: known.close || has_value(value, b"close"),
+                ..known
+            },
+            NameClass::Hop | NameClass::Expect | NameClass::Other => known,
         }
     }
 }
@@ -161,7 +171,7 @@ pub fn survey_fields(text: &[u8], fields: &[HeaderSpan]) -> Survey
         close: false,
     };
     for field in fields {
-        survey.add(field.name.of(text), field.value.of(text));
+        survey = survey.and(field.name.of(text), field.value.of(text));
     }
     survey
 }
