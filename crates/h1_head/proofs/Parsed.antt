@@ -1,8 +1,8 @@
 -- What the spans of the parser and the decision say of a text.
-use Rattle.std.proofs.Common.{◌≡◌, ℕ, ◌≤◌, ◌<◌, Bool, true, false, cond, List, length, take, drop, refl, sym, ◌∙◌, ap, subst, arith, get_or, length-take}
+use Rattle.std.proofs.Common.{◌≡◌, ◌≢◌, ℕ, ◌+◌, ◌-◌, ◌≤◌, ◌<◌, Bool, true, false, cond, List, [], ◌∷◌, ◌++◌, length, length-drop, take, drop, refl, sym, ◌∙◌, ap, subst, arith, get_or, length-take}
 use Rattle.std.specs.Prelude.{All, codes, map, Option, Some, None, Result, Ok, Err, not}
 use Rattle.std.specs.Str.{bytes_eq}
-use Rattle.std.proofs.lemmas.List.{length-map, take-append-drop}
+use Rattle.std.proofs.lemmas.List.{length-map, drop-drop}
 use Rattle.std.proofs.lemmas.List.Elements.{All-map, All-same}
 use Rattle.httparse.specs.declared.spans.HeaderSpan.{HeaderSpan}
 use Rattle.httparse.specs.declared.spans.RequestSpans.{RequestSpans}
@@ -12,17 +12,17 @@ use Rattle.httparse.specs.Spans.{IsRequestWithin, IsRequestAt, IsRequestOf, IsHe
 use Rattle.htx_model.specs.Block.{Block}
 use Rattle.http_model.specs.declared.Framing.{Framing}
 use Rattle.http_model.specs.declared.Limits.{Limits}
-use Rattle.http_model.specs.Reading.{Received}
+use Rattle.http_model.specs.Reading.{Received, Begins}
 use Rattle.h1_head.specs.declared.answer.HeadWhy.{HeadWhy}
 use Rattle.h1_head.specs.declared.answer.HeadWhy.TheVariants as why
 use Rattle.h1_head.specs.Answers.{KeepsHead, IsKept}
-use Rattle.h1_head.specs.Request.{behind, BeginsWith, parts_of, HasRefusedHead}
+use Rattle.h1_head.specs.Request.{behind, BeginsWith, parts_of, HasRefusedHead, RequestOf}
 use Rattle.h1_head.specs.Rows.{Parts, has_long_name, host_is_good, framing_is_bad, coding_is_unknown, is_heavy, received, refusal_of, unless_refused, decision}
 use Rattle.h1_head.specs.Spans.{span_parts, AreSpansGood, IsNamed}
 use Rattle.h1_head.specs.Window.{RefusesFor}
 use Rattle.h1_head.proofs.Heads.{unled}
 use Rattle.h1_head.proofs.Soundness.{begins_received}
-use Rattle.h1_head.proofs.Streams.{head_stays}
+use Rattle.h1_head.proofs.Streams.{head_stays, moved, goes_on}
 
 pub begins_at : (limits : Limits) (text : List ℕ) (spans : List HeaderSpan) (r : RequestSpans) (h : RequestHead) → behind text ≡ text → length text ≤ limits.bufsize → length spans ≤ 100
     → IsRequestWithin text spans r → IsRequestAt text spans r h → BeginsWith limits text h (drop r.len text)
@@ -140,3 +140,22 @@ refuses_for limits whole text why.Method h = h
 refuses_for limits whole text why.Framing h = h
 refuses_for limits whole text why.Coding h = h
 refuses_for limits whole text why.Receive h = h
+
+-- ---- from a text to a window
+
+pub keeps_window : (limits : Limits) (whole : Bool) (window text : List ℕ) (blocks : List Block) (skip used : ℕ) (framing : Framing) (declared : Option ℕ) (close : Bool)
+    → text ≡ drop skip window → drop skip window ≡ behind window → behind text ≡ text → skip ≤ length window → text ≢ [] → text ≢ 13 ∷ []
+    → KeepsHead limits whole text blocks used framing declared close → KeepsHead limits whole window blocks (skip + used) framing declared close
+keeps_window limits whole window text blocks skip used framing declared close at is same inside some other k =
+    let used_in : used ≤ length text = k.within in
+    let size : length text ≡ length window - skip = ap length at ∙ length-drop skip window in
+    let rest : drop used text ≡ drop (skip + used) window = ap (drop used) at ∙ drop-drop used skip window in
+    let got : Received = record { head = k.head; framing = framing; declared = declared; close = close } in
+    record {
+      head = k.head;
+      blocks_are = k.blocks_are;
+      within = omega arith;
+      begins = λ more ends. subst (λ (r : List ℕ). RequestOf limits (window ++ more) (Begins got (r ++ more))) rest
+          (moved limits (text ++ more) (window ++ more) (Begins got (drop used text ++ more)) (goes_on window text more (at ∙ is) same some other) (k.begins more ends));
+      received = k.received;
+    }

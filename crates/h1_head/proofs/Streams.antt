@@ -208,3 +208,11 @@ one_reading limits stream (Begins got rest) (Begins other left) a b =
     let g : got ≡ other = cc in
     let r : rest ≡ left = same.1 in
     cc
+
+-- a CR alone at the end of a stream is no head
+pub lone_cr : (limits : Limits) (window : List ℕ) → 13 ∷ [] ≡ behind window → IsHopeless limits true window
+lone_cr limits window cr more ends =
+    let is : behind (window ++ more) ≡ 13 ∷ [] = ap (λ m. behind (window ++ m)) (ends refl) ∙ ap behind (append-nil window) ∙ sym cr in record {
+      some = λ none. let bad : 13 ∷ [] ≡ [] = sym is ∙ none in cc;
+      none = λ h rest b. not_short limits (behind (window ++ more)) (13 ∷ []) h rest (omega arith) b is;
+    }
