@@ -1,0 +1,12 @@
+pub mod Heads
+pub mod Fronts
+pub mod Classes
+pub mod Adds
+pub mod Surveyed
+pub mod Keeping
+pub mod Streams
+pub mod Told
+pub mod Trimmed
+pub mod Soundness
+pub mod Judging
+pub mod Parsed

@@ -1,0 +1,12 @@
+pub use Rattle.http_model.specs.Head
+pub use Rattle.http_model.specs.Fields
+pub use Rattle.http_model.specs.Reading
+pub mod Names
+pub mod Rows
+pub mod Request
+pub mod Window
+pub mod Answers
+pub mod Received
+pub mod Plain
+pub mod Survey
+pub mod Spans

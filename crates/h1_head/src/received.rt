@@ -1,0 +1,125 @@
+//! The received head, put straight into the array.
+ghost use Rattle.std.specs.Prelude.{◌≡◌, ◌≤◌, ◌<◌, ◌++◌, ◌∷◌, [], List, ℕ, length, map, codes, All, OnOk, OnErr};
+ghost use Rattle.std.specs.Str.{str_to_ascii_lowercase};
+ghost use Rattle.httparse.specs.Grammar.{print_version};
+ghost use Rattle.httparse.specs.Spans.{IsWithin, IsHeaderWithin, header_bytes};
+ghost use Rattle.htx_model.specs.Block.{Header};
+ghost use Rattle.htx_model.specs.Blocks.{load};
+ghost use Rattle.http_model.specs.Head.{header_block, head_blocks};
+ghost use Rattle.http_model.specs.Fields.{has_field};
+ghost use Rattle.h1_head.specs.Rows.{is_kept, folded, received_head};
+ghost use Rattle.h1_head.specs.Spans.{received_fields};
+ghost use Rattle.h1_head.specs.Survey.{has_option_in};
+ghost use Rattle.h1_head.specs.Spans.{span_parts, AreSpansGood, HasGoodName};
+
+use crate::names::{NameClass, class_of, is_lasting};
+use crate::survey::has_value;
+use httparse::spans::{HeaderSpan, RequestSpans};
+use htx_arena::{Arena, Full, Kind};
+use px_bytes::fold;
+
+/// The most bytes of a field's name.
+pub const MAX_NAME: usize = 255;
+
+/// Whether some element of Connection is this word.
+fn has_option(text: &[u8], fields: &[HeaderSpan], word: &[u8]) -> bool
+    requires { All (IsHeaderWithin (length text.now)) fields.now }
+    ensures { result ≡ has_option_in word.now (map (header_bytes text.now) fields.now) }
+{
+    for field in fields {
+        if class_of(field.name.of(text)) == NameClass::Connection
+            && has_value(field.value.of(text), word)
+        {
+            return true;
+        }
+    }
+    false
+}
+
+/// Whether a field of the head stays, where the head has Connection fields or none.
+fn is_kept(text: &[u8], fields: &[HeaderSpan], has_options: bool, field: &HeaderSpan) -> bool
+    requires within { All (IsHeaderWithin (length text.now)) fields.now }
+    requires inside { IsHeaderWithin (length text.now) field.now }
+    requires options { has_options ≡ has_field (codes "connection") (map (header_bytes text.now) fields.now) }
+    ensures { result ≡ is_kept (map (header_bytes text.now) fields.now) (header_bytes text.now field.now) }
+{
+    if !has_options {
+        return true;
+    }
+    let name = field.name.of(text);
+    !has_option(text, fields, name) || is_lasting(class_of(name))
+}
+
+/// Adds a field behind the others, with its name in lower case.
+fn push_field(name: &[u8], value: &[u8], to: &mut Arena) -> Result<(), Full>
+    requires named { 1 ≤ length name.now }
+    requires short { length name.now ≤ 255 }
+    ensures ok { OnOk result (to.new.blocks ≡ to.old.blocks ++ header_block (folded (name.now, value.now)) ∷ []) }
+    ensures full { OnErr result (to.old.size < load (to.old.blocks ++ header_block (folded (name.now, value.now)) ∷ [])) }
+    ensures size { to.new.size ≡ to.old.size }
+{
+    let mut buffer = [0; MAX_NAME];
+    let lower = &mut buffer[..name.len()];
+    lower.copy_from_slice(name);
+    fold(lower);
+    let at = to.len();
+    to.insert_field(at, Kind::Header, lower, value)
+}
+
+/// Adds the fields that stay.
+fn push_fields(
+    text: &[u8],
+    fields: &[HeaderSpan],
+    has_options: bool,
+    to: &mut Arena,
+) -> Result<(), Full>
+    requires within { All (IsHeaderWithin (length text.now)) fields.now }
+    requires named { All (HasGoodName text.now) fields.now }
+    requires options { has_options ≡ has_field (codes "connection") (map (header_bytes text.now) fields.now) }
+    ensures ok { OnOk result (to.new.blocks ≡ to.old.blocks ++ received_fields (map (header_bytes text.now) fields.now)) }
+    ensures full { OnErr result (to.old.size < load (to.old.blocks ++ received_fields (map (header_bytes text.now) fields.now))) }
+    ensures size { to.new.size ≡ to.old.size }
+{
+    for field in fields {
+        if is_kept(text, fields, has_options, field) {
+            push_field(field.name.of(text), field.value.of(text), to)?;
+        }
+    }
+    Ok(())
+}
+
+/// The text of a version.
+fn version_text(minor: u8) -> &'static [u8]
+    requires { minor ≤ 1 }
+    ensures { result.now ≡ print_version minor }
+{
+    if minor == 0 { b"HTTP/1.0" } else { b"HTTP/1.1" }
+}
+
+/// Puts the received head into an empty array.
+pub fn push_head(
+    text: &[u8],
+    head: &RequestSpans,
+    fields: &[HeaderSpan],
+    has_options: bool,
+    to: &mut Arena,
+) -> Result<(), Full>
+    requires spans { AreSpansGood text.now head.now fields.now }
+    requires named { All (HasGoodName text.now) fields.now }
+    requires options { has_options ≡ has_field (codes "connection") (map (header_bytes text.now) fields.now) }
+    requires empty { to.old.blocks ≡ [] }
+    ensures ok { OnOk result (to.new.blocks ≡ head_blocks (received_head (span_parts text.now head.now fields.now))) }
+    ensures full { OnErr result (to.old.size < load (head_blocks (received_head (span_parts text.now head.now fields.now)))) }
+    ensures size { to.new.size ≡ to.old.size }
+{
+    to.insert_line(
+        0,
+        Kind::RequestLine,
+        head.method.of(text),
+        head.path.of(text),
+        version_text(head.version),
+    )?;
+    push_fields(text, fields, has_options, to)?;
+    let at = to.len();
+    to.insert_end(at, Kind::EndHeaders)
+}

@@ -1,0 +1,73 @@
+//! The rows that a head has to pass before it is weighed, asked of what its fields say.
+ghost use Rattle.std.specs.Prelude.{◌≡◌, ◌≤◌};
+ghost use Rattle.h1_head.specs.Rows.{framing_by};
+ghost use Rattle.h1_head.specs.Survey.{are_one, are_chunked, declared_by, hosts_are_good, framing_fails, row_of};
+
+use crate::HeadWhy;
+use crate::survey::{Codings, Lengths, Survey};
+use http_model::Framing;
+
+impl Survey {
+    /// Whether there are as many Host fields as the version asks for.
+    fn has_good_hosts(&self, minor: u8) -> bool
+        ensures { result ≡ hosts_are_good minor self.now }
+    {
+        if minor == 1 {
+            self.hosts == 1
+        } else {
+            self.hosts < 2
+        }
+    }
+
+    /// The length that is declared.
+    pub fn declared(&self) -> Option<u64>
+        ensures { result ≡ declared_by self.now.lengths }
+    {
+        match self.lengths {
+            Lengths::One(n) => Some(n),
+            Lengths::Unread | Lengths::Differing => None,
+        }
+    }
+
+    /// Whether the fields that frame the body contradict each other or the version.
+    fn has_bad_framing(&self, minor: u8) -> bool
+        ensures { result ≡ framing_fails minor self.now }
+    {
+        if self.has_coding && (minor == 0 || self.has_length) {
+            return true;
+        }
+        self.has_length && !matches!(self.lengths, Lengths::One(_))
+    }
+
+    /// The first row that applies.
+    pub fn refusal(&self, method: &[u8], minor: u8) -> Option<HeadWhy>
+        ensures { result ≡ row_of method.now minor self.now }
+    {
+        if self.long_name {
+            Some(HeadWhy::Name)
+        } else if !self.has_good_hosts(minor) {
+            Some(HeadWhy::Host)
+        } else if method == b"CONNECT".as_slice() {
+            Some(HeadWhy::Method)
+        } else if self.has_bad_framing(minor) {
+            Some(HeadWhy::Framing)
+        } else if self.has_coding && self.codings != Codings::Chunked {
+            Some(HeadWhy::Coding)
+        } else {
+            None
+        }
+    }
+
+    /// How the body is framed.
+    pub fn framing(&self) -> Framing
+        ensures { result ≡ framing_by self.now.has_coding (declared_by self.now.lengths) }
+    {
+        if self.has_coding {
+            return Framing::Chunked;
+        }
+        match self.declared() {
+            Some(n) => Framing::Length(n),
+            None => Framing::Absent,
+        }
+    }
+}
