@@ -48,7 +48,7 @@ within_is cfg head old e w =
     let ruled : load (head_blocks (set_field cfg.name cfg.value head)) ≤ cfg.limits.bufsize = subst P e.ruled w.ruled in
     let finished : load (head_blocks (sent_head cfg head)) ≤ cfg.limits.bufsize = subst P e.finished w.finished in (
       ap (λ (b : Bool). cond (b && nat_le (load (head_blocks (set_field cfg.name cfg.value head))) cfg.limits.bufsize) (Pass (set_field cfg.name cfg.value head) tt) Fail) (le-leb (length cfg.value) cfg.limits.bufsize w.text)
-      ∙ ap (λ (b : Bool). cond b (Pass (set_field cfg.name cfg.value head) tt) Fail) (le-leb (load (head_blocks (set_field cfg.name cfg.value head))) cfg.limits.bufsize ruled),
+          ∙ ap (λ (b : Bool). cond b (Pass (set_field cfg.name cfg.value head) tt) Fail) (le-leb (load (head_blocks (set_field cfg.name cfg.value head))) cfg.limits.bufsize ruled),
       le-leb (load (head_blocks (sent_head cfg head))) cfg.limits.bufsize finished,
     )
 

@@ -13,7 +13,7 @@ use Rattle.h1_head.specs.Rows.{Parts, decision}
 use Rattle.h1_head.specs.Request.{behind, BeginsWith, HasNoHead, IsHeadless, HasRefusedHead, RequestOf, parts_of}
 use Rattle.h1_head.specs.Plain.{is_plain, IsPlain}
 use Rattle.forward_core.specs.Unbuilt.{BeginsEmpty, HasOtherHead, IsUnbuilt}
-use Rattle.forward_core.proofs.Forwarded.{plain_received, IsPlainHead}
+use Rattle.forward_core.specs.Client.{plain_received, IsPlainHead}
 use Rattle.forward_core.proofs.Plains.{plain_decision}
 
 -- ---- the front

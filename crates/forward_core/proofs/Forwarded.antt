@@ -25,6 +25,7 @@ use Rattle.session_model.specs.Asking.{Asker, Request, Asked, Nothing, Refused, 
 use Rattle.session_model.specs.Answering.{Answered, Answers, AnswersFrom, AnswersWith}
 use Rattle.session_model.specs.Session.{Session, Exchange, Over, Next, Out, ClientGets, ServerGets}
 use Rattle.forward_core.specs.Texts.{answer_text}
+use Rattle.forward_core.specs.Client.{plain_received, IsPlainHead}
 use Rattle.forward_core.specs.Asked.{sent_head}
 use Rattle.forward_core.specs.First.{first_rule, meaning_of, first_response, first_received, IsFirstServer, closed}
 
@@ -43,10 +44,6 @@ refused cfg client code text asks spelled =
 
 -- ---- a request that is sent
 
--- what is kept of a head without a body
-abbrev pub plain_received : Head → Received
-plain_received head = record { head = head; framing = Absent; declared = None; close = false }
-
 -- the request as it goes to the server, behind which the client's bytes end
 abbrev pub sent_request : First → Head → Asker → Request (Unit {0})
 sent_request cfg head asker =
@@ -61,12 +58,6 @@ sent_request cfg head asker =
 -- who asks by a GET of HTTP/1.1 and keeps the connection
 abbrev pub good_asker : List ℕ → Asker
 good_asker method = record { method = method; head_asked = false; is_http_11 = true; keep = true }
-
--- the facts of a plain head that its answer rests on
-pub record IsPlainHead (head : Head) : Type 0 where
-  pub http_11 : is_http_11 head ≡ true
-  pub not_head : is_head_request head ≡ false
-  pub keep : keeps (plain_received head) ≡ true
 
 asker_is : (head edited : Head) → IsPlainHead head → asker_of (plain_received head) edited ≡ good_asker (method_of edited.line)
 asker_is head edited h =

@@ -20,7 +20,7 @@ use Rattle.h1_head.specs.Rows.{Parts, received, received_head, folded, is_kept, 
 use Rattle.h1_head.specs.Plain.{is_plain}
 use Rattle.px_bytes.specs.Values.{values_in}
 use Rattle.session_model.specs.Meaning.{keeps, is_head_request, is_http_11}
-use Rattle.forward_core.proofs.Forwarded.{plain_received, IsPlainHead}
+use Rattle.forward_core.specs.Client.{plain_received, IsPlainHead}
 
 -- ---- tests on Bool
 

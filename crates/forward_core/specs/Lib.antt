@@ -8,3 +8,5 @@ pub mod Texts
 pub mod First
 pub mod Unbuilt
 pub mod Asked
+pub mod Client
+pub mod Out

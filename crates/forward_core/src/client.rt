@@ -1,13 +1,13 @@
 //! What a client of the first form asks for.
-ghost use Rattle.std.specs.Prelude.{◌≡◌, ◌≤◌, ◌↔◌, ⊥, length, IsTrue};
+ghost use Rattle.std.specs.Prelude.{◌≡◌, ◌≤◌, ◌↔◌, ◌<◌, [], length, IsTrue};
 ghost use Rattle.forward_core.specs.Unbuilt.{BeginsEmpty, IsUnbuilt};
-ghost use Rattle.forward_core.specs.Client.{IfPlain, IfRefused, IfUnserved, ReadsPlain};
+ghost use Rattle.forward_core.specs.Client.{IfPlain, IfRefused, IfServed, IfUnserved, ReadsPlain};
 ghost use Rattle.h1_head.specs.Request.{RequestOf};
 ghost use Rattle.http_model.specs.Reading.{Refused};
 
 use h1_head::{HeadRead, HeadWhy, is_plain_request, read_request};
-use htx_arena::Arena;
 use http_model::Limits;
+use htx_arena::Arena;
 
 /// What a client asks for.
 #[derive(Clone, Copy, Debug, PartialEq, Eq)]

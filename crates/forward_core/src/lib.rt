@@ -3,8 +3,12 @@
 
 mod answer;
 mod ask;
+mod client;
+mod exchange;
 mod refusal;
 mod text;
 
+pub use exchange::{ExchangeFault, One, one_exchange};
+pub use first_config::FirstConfig;
 pub use http_model::{End, Limits, OutOfMemory};
 pub use px_link::Bytes;

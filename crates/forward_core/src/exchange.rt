@@ -1,0 +1,105 @@
+//! One exchange of the first form.
+ghost use Rattle.std.specs.Prelude.{◌≡◌, ◌≤◌, ◌+◌, length, IfOk, OnOk, OnErr, IsErrOf, Some, None};
+ghost use Rattle.http_model.specs.declared.End.TheVariants as end;
+ghost use Rattle.http_model.specs.Refusal.{refusal, closing};
+ghost use Rattle.http_model.specs.Spelling.{Spells};
+ghost use Rattle.first_config.specs.Form.{seen};
+ghost use Rattle.session_model.specs.Session.{Session};
+ghost use Rattle.forward_core.specs.First.{meaning_of, IsFirstServer, closed};
+ghost use Rattle.forward_core.specs.Unbuilt.{IsUnbuilt};
+
+use crate::answer::answer_text;
+use crate::ask::ask;
+use crate::client::{ClientAsks, read_client};
+use crate::refusal::refusal_text;
+use crate::text::head_text;
+use first_config::FirstConfig;
+use http_model::{End, OutOfMemory};
+use htx_arena::Arena;
+use px_link::Bytes;
+use std::alloc::Global;
+
+/// What one exchange puts out: the text of the server, where one was opened, the client's text, and how the session
+/// ended.
+#[derive(Drop)]
+pub struct One {
+    pub to_server: Option<Bytes>,
+    pub to_client: Bytes,
+    pub end: End,
+}
+
+/// Why there was no exchange.
+#[derive(Clone, Copy, Debug, PartialEq, Eq)]
+pub enum ExchangeFault {
+    /// The client asks for something that is not served yet.
+    Unbuilt,
+    OutOfMemory,
+}
+
+impl From<OutOfMemory> for ExchangeFault {
+    ghost use Rattle.std.specs.Prelude.{◌≡◌};
+    ghost use Rattle.forward_core.specs.declared.exchange.ExchangeFault.TheVariants as fault;
+
+    ghost from_gives = { λ _ e. e ≡ fault.OutOfMemory };
+
+    fn from(_: OutOfMemory) -> Self {
+        ExchangeFault::OutOfMemory
+    }
+}
+
+ghost use Rattle.forward_core.specs.Out.{servers_by, out_of_one, IsRefused, IsForwarded};
+
+/// A refusal, with no server.
+fn refuse(alloc: Global, code: u16) -> Result<One, OutOfMemory>
+    ensures { IfOk result (IsRefused code) }
+{
+    Ok(One {
+        to_server: None,
+        to_client: refusal_text(alloc, code)?,
+        end: End::Closed,
+    })
+}
+
+/// The request in the array goes to the server, and its answer comes back.
+fn forward(alloc: Global, msg: &Arena, server: &[u8]) -> Result<One, OutOfMemory>
+    requires { IsFirstServer server.now }
+    ensures { IfOk result (IsForwarded msg.now.blocks server.now) }
+{
+    Ok(One {
+        to_server: Some(head_text(alloc, msg)?),
+        to_client: answer_text(alloc, server)?,
+        end: End::Done,
+    })
+}
+
+/// One exchange, which is the whole session: the client's bytes are one request, and the server's are one answer.
+pub fn one_exchange(
+    alloc: Global,
+    cfg: &FirstConfig<'_>,
+    client: &[u8],
+    server: &[u8],
+) -> Result<One, ExchangeFault>
+    requires least { 1024 ≤ cfg.now.limits.bufsize }
+    requires most { cfg.now.limits.bufsize ≤ 262144 }
+    requires reserve { cfg.now.limits.maxrewrite + 512 ≤ cfg.now.limits.bufsize }
+    requires named { 1 ≤ length cfg.now.name.now }
+    requires short { length cfg.now.name.now ≤ 255 }
+    requires server { IsFirstServer server.now }
+
+    // What is put out is a session of the configuration on the client's stream and the server that was connected.
+    ensures session { IfOk result (λ one. Session (meaning_of (seen cfg.now)) tt (closed client.now) (servers_by one.to_server server.now) (out_of_one one)) }
+
+    // Every client is served but for those that are named.
+    ensures served { OnOk result (IsUnbuilt cfg.now.limits client.now → ⊥) }
+    ensures unbuilt { IsErrOf result ExchangeFault.Unbuilt → IsUnbuilt cfg.now.limits client.now }
+{
+    let mut msg = Arena::new(alloc, cfg.limits.bufsize)?;
+    match read_client(client, cfg.limits, &mut msg) {
+        ClientAsks::Unserved => Err(ExchangeFault::Unbuilt),
+        ClientAsks::Refused(code) => Ok(refuse(alloc, code)?),
+        ClientAsks::Plain => match ask(cfg, &mut msg) {
+            Ok(()) => Ok(forward(alloc, &msg, server)?),
+            Err(_) => Ok(refuse(alloc, 500)?),
+        },
+    }
+}

@@ -1,0 +1,81 @@
+-- What `replay` does with its two files.
+use Rattle.std.specs.Prelude.{◌≡◌, ℕ, ◌+◌, ◌-◌, ◌≤◌, List, [], ◌∷◌, ◌++◌, ◌⊎◌, ⊤, false, length, take, replicate, Option, Some, None}
+use Rattle.px_link.specs.Told.{NamedBytes, content_of}
+use Rattle.first_config.specs.Form.{First, first_config_of}
+use Rattle.rec_format.specs.Record.{IsFirstRecord, server_text}
+use Rattle.rec_format.specs.Report.{report_of}
+use Rattle.session_model.specs.Stream.{Server, NotThere, Open}
+use Rattle.session_model.specs.Session.{Out, Session}
+use Rattle.forward_core.specs.First.{meaning_of, closed}
+use Rattle.forward_core.specs.Unbuilt.{IsUnbuilt}
+use Rattle.htx_proxy.specs.Command.{IsReplay}
+
+-- the text is a configuration of the first form, of at most 1048576 bytes
+pub record IsFirstConfig (text : List ℕ) (cfg : First) : Type 0 where
+  pub short : length text ≤ 1048576
+  pub says : first_config_of text ≡ Some cfg
+
+-- what the files are, where they are told
+abbrev pub IfTold : Option (List NamedBytes) → (List NamedBytes → Type 0) → Type 0
+IfTold None P = ⊤
+IfTold (Some files) P = P files
+
+-- the property holds of what is in the file of this name
+abbrev pub Holds : List NamedBytes → (name : List ℕ) → (List ℕ → Type 0) → Type 0
+Holds files name P = (text : List ℕ) × (content_of files name ≡ Some text) × P text
+
+-- the two files say this
+pub record Say (files : List NamedBytes) (cfg_name rec_name : List ℕ) (cfg : First) (client body : List ℕ) : Type 0 where
+  pub configuration : Holds files cfg_name (λ text. IsFirstConfig text cfg)
+  pub recorded : Holds files rec_name (λ text. IsFirstRecord text client body)
+
+-- Of the servers of a record, those that so many connects found: past the record's list there is none.
+abbrev pub connected : List Server → ℕ → List Server
+connected servers connects = take connects servers ++ replicate (connects - length servers) NotThere
+
+-- the one server of a record of the first form, which takes all that it is sent
+abbrev pub recorded_servers : List ℕ → List Server
+recorded_servers body = Open (closed (server_text body)) false ∷ []
+
+-- The text is the report of what the configuration makes of the client's stream and of the servers that were connected,
+-- with no request cut.
+pub record Reports (cfg : First) (client body text : List ℕ) : Type 0 where
+  pub out : Out
+  pub connects : ℕ
+  pub session : Session (meaning_of cfg) tt (closed client) (connected (recorded_servers body) connects) out
+  pub bit : out.cut ≡ None
+  pub report : text ≡ report_of out
+  pub served : IsUnbuilt cfg.limits client → ⊥
+
+-- the words name two files that say this, where files are told, and the text is the report of it
+pub record IsAnswer (words : List (List ℕ)) (files : Option (List NamedBytes)) (text : List ℕ) : Type 0 where
+  pub cfg_name : List ℕ
+  pub rec_name : List ℕ
+  pub replay : IsReplay words cfg_name rec_name
+  pub cfg : First
+  pub client : List ℕ
+  pub body : List ℕ
+  pub say : IfTold files (λ fs. Say fs cfg_name rec_name cfg client body)
+  pub reports : Reports cfg client body text
+
+-- the configuration isn't in the first form
+abbrev pub NoConfig : List NamedBytes → List ℕ → Type 0
+NoConfig files cfg_name = Holds files cfg_name (λ text. (cfg : First) → IsFirstConfig text cfg → ⊥)
+
+-- the configuration is in the first form, and the record isn't
+abbrev pub NoRecord : List NamedBytes → (cfg_name rec_name : List ℕ) → Type 0
+NoRecord files cfg_name rec_name =
+    Holds files cfg_name (λ text. (cfg : First) × IsFirstConfig text cfg)
+    × Holds files rec_name (λ text. (client body : List ℕ) → IsFirstRecord text client body → ⊥)
+
+-- both are, and the client isn't served yet
+abbrev pub NoService : List NamedBytes → (cfg_name rec_name : List ℕ) → Type 0
+NoService files cfg_name rec_name =
+    (cfg : First) × (client : List ℕ) × (body : List ℕ) × Say files cfg_name rec_name cfg client body × IsUnbuilt cfg.limits client
+
+-- what isn't built yet, in the order in which it is found
+abbrev pub UnbuiltBy : List (List ℕ) → Option (List NamedBytes) → Type 0
+UnbuiltBy words files =
+    ((cfg_name rec_name : List ℕ) → IsReplay words cfg_name rec_name → ⊥)
+    ⊎ ((cfg_name : List ℕ) × (rec_name : List ℕ) × IsReplay words cfg_name rec_name
+    × IfTold files (λ fs. NoConfig fs cfg_name ⊎ NoRecord fs cfg_name rec_name ⊎ NoService fs cfg_name rec_name))

@@ -1,0 +1,8 @@
+//! The program's one call: a command, its files, and what is written.
+#![tactic(auto)]
+
+mod command;
+mod report;
+mod top;
+
+pub use top::{Status, htx_proxy};
