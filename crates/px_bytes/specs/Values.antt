@@ -1,7 +1,6 @@
 -- The values of a field that holds a list (RFC 9110, sections 5.6.1 and 5.6.4).
 use Rattle.std.specs.Prelude.{◌≡◌, ℕ, ◌+◌, ◌≤◌, List, [], ◌∷◌, Bool, false, if◌then◌else◌, ◌==◌, length, drop, slice_range, nat_le, map}
 use Rattle.std.specs.List.{flat_map, onto_first, prefix_len}
-use Rattle.std.specs.Borrow.{RattleType}
 use denote.Ref.{Bor}
 use Rattle.px_bytes.specs.declared.pieces.Place.{Place}
 use Rattle.px_bytes.specs.declared.pieces.Place.TheVariants.{Outside, Quoted, Escaped}

@@ -1,7 +1,15 @@
 //! Numbers read from digits.
-ghost use Rattle.std.specs.Prelude.{◌≡◌, ◌≤◌, ◌<◌, ◌^◌, true, false, IfSome, IfNone};
+ghost use Rattle.std.specs.Prelude.{◌≡◌, ◌≤◌, ◌<◌, ◌^◌, ◌↔◌, length, true, false, IsTrue, IfSome, IfNone};
 ghost use Rattle.std.specs.Char.{digit_value, is_ascii_hexdigit};
 ghost use Rattle.px_bytes.specs.Numbers.{decimal_of, hex_of};
+
+/// Whether there are 1 to `digits` bytes.
+#[inline]
+fn has_len(bytes: &[u8], digits: u32) -> bool
+    ensures { IsTrue result ↔ ((1 ≤ length bytes.now) × (length bytes.now ≤ digits)) }
+{
+    1 <= bytes.len() && bytes.len() <= digits as usize
+}
 
 /// The number that 1 to `digits` decimal digits write, where `digits` is at most 18. Leading zeros
 /// are digits; a sign, a blank or one digit more gives `None`.
@@ -10,7 +18,7 @@ pub fn read_decimal(bytes: &[u8], digits: u32) -> Option<u64>
     ensures value { result ≡ decimal_of digits bytes.now }
     ensures small { IfSome result (λ n. n < 10 ^ digits) }
 {
-    if bytes.is_empty() || bytes.len() > digits as usize {
+    if !has_len(bytes, digits) {
         return None;
     }
     let mut number: u64 = 0;
@@ -43,7 +51,7 @@ pub fn read_hex(bytes: &[u8], digits: u32) -> Option<u64>
     ensures value { result ≡ hex_of digits bytes.now }
     ensures small { IfSome result (λ n. n < 16 ^ digits) }
 {
-    if bytes.is_empty() || bytes.len() > digits as usize {
+    if !has_len(bytes, digits) {
         return None;
     }
     let mut number: u64 = 0;

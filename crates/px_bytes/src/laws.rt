@@ -1,14 +1,21 @@
 //! What the definitions say together.
-ghost use Rattle.std.specs.Prelude.{◌≡◌, ◌≢◌, ◌+◌, ◌<◌, ◌≤◌, ◌^◌, ℕ, List, [], ◌∷◌, ◌++◌, length, map, All, Some, false};
-ghost use Rattle.std.specs.List.{join_with_byte};
+ghost use Rattle.std.specs.Prelude.{◌≡◌, ◌≢◌, ◌+◌, ◌-◌, ◌<◌, ◌≤◌, ◌^◌, ℕ, List, [], ◌∷◌, ◌++◌, length, slice_index, map, All, Some, false};
+ghost use Rattle.std.specs.List.{join_with_byte, AllPass};
 ghost use Rattle.std.specs.Fmt.{decimal, digits};
-ghost use Rattle.px_bytes.specs.Blanks.{trimmed};
+ghost use Rattle.px_bytes.specs.Blanks.{is_blank, trimmed};
 ghost use Rattle.px_bytes.specs.Numbers.{decimal_of, hex_of};
 ghost use Rattle.px_bytes.specs.Values.{pieces_of, values_of, values_in, placed_values, value_at, IsClosed};
 
 /// The pieces of a field, joined by commas, are the field again: nothing is lost and nothing is moved.
 pub fn pieces_join()
     ensures { (bytes : List ℕ) → join_with_byte 44 (pieces_of bytes) ≡ bytes }
+{}
+
+/// What begins and ends with no blank is what is left of it between blanks.
+pub fn trims()
+    ensures { (front value behind : List ℕ) → AllPass is_blank front → AllPass is_blank behind → 0 < length value
+        → is_blank (slice_index value 0) ≡ false → is_blank (slice_index value (length value - 1)) ≡ false
+        → trimmed (front ++ (value ++ behind)) ≡ value }
 {}
 
 /// There is always a value, and at most one more than there are bytes.
