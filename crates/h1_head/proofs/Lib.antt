@@ -10,3 +10,4 @@ pub mod Trimmed
 pub mod Soundness
 pub mod Judging
 pub mod Parsed
+pub mod Plainly
