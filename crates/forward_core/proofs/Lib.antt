@@ -3,3 +3,5 @@ pub mod Forwarded
 pub mod Plains
 pub mod Asks
 pub mod Clients
+pub mod Windows
+pub mod Sessions

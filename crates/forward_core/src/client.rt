@@ -1,8 +1,10 @@
 //! What a client of the first form asks for.
-ghost use Rattle.std.specs.Prelude.{◌≡◌, ◌≤◌, ◌↔◌, ◌<◌, [], length, IsTrue};
+ghost use Rattle.std.specs.Prelude.{◌≡◌, ◌≤◌, ◌<◌, ◌+◌, ◌↔◌, ℕ, Bool, List, [], length, IsTrue, IsFalse};
 ghost use Rattle.forward_core.specs.Unbuilt.{BeginsEmpty, IsUnbuilt};
 ghost use Rattle.forward_core.specs.Client.{IfPlain, IfRefused, IfServed, IfUnserved, ReadsPlain};
-ghost use Rattle.h1_head.specs.Request.{RequestOf};
+ghost use Rattle.h1_head.specs.Request.{RequestOf, HasRefusedHead};
+ghost use Rattle.h1_head.specs.Window.{RefusesFor, IsHopeless};
+ghost use Rattle.http_model.specs.declared.Limits.{Limits as Sizes};
 ghost use Rattle.http_model.specs.Reading.{Refused};
 
 use h1_head::{HeadRead, HeadWhy, is_plain_request, read_request};
@@ -27,9 +29,20 @@ fn begins_empty(client: &[u8]) -> bool
     client.is_empty() || client[0] == b'\r' || client[0] == b'\n'
 }
 
-/// Whether the text has no head within the limits, as this reason for its refusal says.
-fn is_headless(why: HeadWhy) -> bool {
-    matches!(why, HeadWhy::Grammar | HeadWhy::Long)
+/// Whether a window is refused for this reason because no head within the limits begins it.
+fn is_headless(why: HeadWhy) -> bool
+    ensures headless { IsTrue result → (limits : Sizes) (whole : Bool) (window : List ℕ) → RefusesFor limits whole window why → IsHopeless limits whole window }
+    ensures headed { IsFalse result → (limits : Sizes) (whole : Bool) (window : List ℕ) → RefusesFor limits whole window why → HasRefusedHead limits window why }
+{
+    match why {
+        HeadWhy::Grammar | HeadWhy::Long => true,
+        HeadWhy::Name
+        | HeadWhy::Host
+        | HeadWhy::Method
+        | HeadWhy::Framing
+        | HeadWhy::Coding
+        | HeadWhy::Receive => false,
+    }
 }
 
 /// How many of the client's bytes are looked at: all, or as many as the array has.
@@ -58,18 +71,23 @@ pub fn read_client(client: &[u8], limits: Limits, msg: &mut Arena) -> ClientAsks
         return ClientAsks::Unserved;
     }
     let (window, more) = client.split_at(window_len(client, limits));
-    let read = read_request(window, more.is_empty(), limits, msg);
-    if let HeadRead::Refuse { code, why } = read {
-        if is_headless(why) {
-            return ClientAsks::Refused(code);
+    match read_request(window, more.is_empty(), limits, msg) {
+        HeadRead::Refuse { code, why } => {
+            if is_headless(why) {
+                ClientAsks::Refused(code)
+            } else if is_plain_request(client, limits) {
+                ClientAsks::Refused(code)
+            } else {
+                ClientAsks::Unserved
+            }
         }
-    }
-    if !is_plain_request(client, limits) {
-        return ClientAsks::Unserved;
-    }
-    match read {
-        HeadRead::Head { .. } => ClientAsks::Plain,
-        HeadRead::Refuse { code, why: _ } => ClientAsks::Refused(code),
+        HeadRead::Head { .. } => {
+            if is_plain_request(client, limits) {
+                ClientAsks::Plain
+            } else {
+                ClientAsks::Unserved
+            }
+        }
         HeadRead::More { .. } => unreachable!(),
     }
 }
