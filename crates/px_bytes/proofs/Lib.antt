@@ -1,0 +1,5 @@
+pub mod BlankLemmas
+pub mod DigitLemmas
+pub mod HexLemmas
+pub mod PieceLemmas
+pub mod ValueLemmas

@@ -1,0 +1,29 @@
+-- What was read in front of the first piece of what is left.
+use Rattle.std.proofs.Common.{◌≡◌, ℕ, List, [], ◌∷◌, ◌++◌, sym, ap, refl, append_assoc}
+use Rattle.std.proofs.Common.{Bool, true, false, cond}
+use Rattle.std.specs.List.{onto_first}
+use Rattle.px_bytes.specs.declared.pieces.Place.{Place}
+use Rattle.px_bytes.specs.declared.pieces.Place.TheVariants.{Outside}
+use Rattle.px_bytes.specs.Values.{pieces_from, separates, next_place}
+
+-- the bytes in front of the first of the pieces
+abbrev pub in_front : List ℕ → List (List ℕ) → List (List ℕ)
+in_front front [] = front ∷ []
+in_front front (piece ∷ pieces) = (front ++ piece) ∷ pieces
+
+pub in_front-onto_first : (front : List ℕ) (b : ℕ) (pieces : List (List ℕ)) → in_front front (onto_first b pieces) ≡ in_front (front ++ b ∷ []) pieces
+in_front-onto_first front b [] = refl
+in_front-onto_first front b (piece ∷ pieces) = ap (λ p. p ∷ pieces) (sym (append_assoc front (b ∷ []) piece))
+
+-- nothing in front changes no pieces, since there is always one
+pub in_front-nil : (place : Place) (bytes : List ℕ) → pieces_from place bytes ≡ in_front [] (pieces_from place bytes)
+in_front-nil place [] = refl
+in_front-nil place (b ∷ bytes) = by_test (separates place b) (pieces_from Outside bytes) (pieces_from (next_place place b) bytes)
+  where
+    with_onto : (b : ℕ) (ps : List (List ℕ)) → onto_first b ps ≡ in_front [] (onto_first b ps)
+    with_onto b [] = refl
+    with_onto b (p ∷ ps) = refl
+
+    by_test : (t : Bool) (ps qs : List (List ℕ)) → cond t ([] ∷ ps) (onto_first b qs) ≡ in_front [] (cond t ([] ∷ ps) (onto_first b qs))
+    by_test true ps qs = refl
+    by_test false ps qs = with_onto b qs

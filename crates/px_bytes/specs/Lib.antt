@@ -1,0 +1,4 @@
+pub mod Tokens
+pub mod Blanks
+pub mod Numbers
+pub mod Values
