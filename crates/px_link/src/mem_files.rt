@@ -2,7 +2,7 @@
 ghost use Rattle.std.specs.Prelude.{◌≡◌, ◌∷◌, [], true, Some, take, IfOk, IsErr, IsErrOf, OnOk, OnErr};
 ghost use Rattle.std.specs.Option.{option_copied};
 ghost use Rattle.px_link.specs.Told.{Counts, Reads, content_of, last_name};
-ghost use Rattle.px_link.specs.Calls.{next_call};
+ghost use Rattle.px_link.specs.Calls.{next_call, faults_after};
 ghost use Rattle.px_link.specs.MemFiles.{fails_next};
 ghost use Rattle.px_link.specs.NamedFiles.{named_bytes};
 
@@ -100,6 +100,7 @@ impl MemFiles {
         ensures files { self.new.files ≡ self.old.files }
         ensures failing { self.new.failing ≡ self.old.failing }
         ensures calls { self.new.calls ≡ self.old.calls }
+        ensures faults { self.new.faults ≡ faults_after result self.old.faults }
     {
         let alloc = *self.files.allocator();
         self.last_failed = Bytes::copy(alloc, name)?;
@@ -149,6 +150,7 @@ impl Files for MemFiles {
         ensures fails { fails_next self.old name.now ≡ true → IsErr result }
         ensures only { IsErrOf result Fault.Failed → fails_next self.old name.now ≡ true }
         ensures calls { self.new.calls ≡ next_call self.old.calls }
+        ensures faults { self.new.faults ≡ faults_after result self.old.faults }
         ensures failing { self.new.failing ≡ self.old.failing }
     {
         self.calls = self.calls.saturating_add(1);

@@ -1,7 +1,7 @@
 //! A sink in memory, of which writes of chosen numbers fail.
 ghost use Rattle.std.specs.Prelude.{◌≡◌, [], true, Some, OnOk, OnErr, IsErrOf};
 ghost use Rattle.px_link.specs.Told.{Counts, Gains, GainsFront};
-ghost use Rattle.px_link.specs.Calls.{next_call};
+ghost use Rattle.px_link.specs.Calls.{next_call, faults_after};
 ghost use Rattle.px_link.specs.MemSink.{fails_next};
 
 use crate::{Fault, Sink, calls};
@@ -80,6 +80,7 @@ impl Sink for MemSink {
         ensures fails { fails_next self.old ≡ true → IsErrOf result Fault.Failed }
         ensures only { IsErrOf result Fault.Failed → fails_next self.old ≡ true }
         ensures calls { self.new.calls ≡ next_call self.old.calls }
+        ensures faults { self.new.faults ≡ faults_after result self.old.faults }
         ensures failing { self.new.failing ≡ self.old.failing }
     {
         self.calls = self.calls.saturating_add(1);

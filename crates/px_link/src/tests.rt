@@ -102,6 +102,10 @@ fn bytes_and_lists_grow(rt: HostRuntime) -> Result<(), Fail> {
     assert_eq!(rt; list.len(), 3);
     assert_eq!(rt; *list.get(0), 7);
     assert_eq!(rt; *list.get(2), 9);
+    let mut names = ItemList::new(rt.alloc());
+    names.push(Bytes::copy(rt.alloc(), b"host")?)?;
+    assert_eq!(rt; names.len(), 1);
+    assert_eq!(rt; names.get(0).as_slice(), b"host".as_slice());
     Ok(())
 }
 

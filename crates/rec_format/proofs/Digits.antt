@@ -1,17 +1,18 @@
 -- The digits in front of a text, and the numbers that they mean.
-use Rattle.std.proofs.Common.{◌≡◌, ℕ, ◌+◌, ◌<◌, ◌≤◌, ◌^◌, Bool, true, false, not, ◌&&◌, List, [], ◌∷◌, ◌++◌, length, get_or, take, drop, sym, ◌∙◌, ap, refl, cond, arith, suc, zero, ◌-◌, ◌*◌, lit<, lit≤, decimal}
-use Rattle.std.specs.List.{prefix_len}
-use Rattle.std.specs.Char.{is_ascii_digit, digit_value}
-use Rattle.std.specs.Int.{IsInRange}
+use Rattle.std.proofs.Common.{◌≡◌, ℕ, ◌+◌, ◌<◌, ◌≤◌, ◌^◌, Bool, true, false, not, ◌&&◌, List, [], ◌∷◌, ◌++◌, length, get_or, take, drop, sym, ◌∙◌, ap, refl, cond, arith, suc, zero, lit<, decimal, subst, Some, None}
+use Rattle.std.specs.Prelude.{nat_le}
+use Rattle.std.specs.List.{prefix_len, list_all}
+use Rattle.std.specs.Char.{is_ascii_digit}
 use Rattle.std.specs.Str.{all_ascii_digits}
 use Rattle.std.specs.Str.Parse.{digits_value}
-use Rattle.std.proofs.lemmas.Str.Parse.{IsNumeralModel, numerals_by_value, tells_all_ascii_digits, digits_value_short, digits_value-take-le, digit_at}
+use Rattle.std.proofs.lemmas.Str.Parse.{IsNumeralModel, numerals_by_value, tells_all_ascii_digits, digits_value_short}
 use Rattle.std.proofs.lemmas.Fmt.{digits_decimal, decimal_nonempty, first_decimal, decimal_digit, length-decimal-le, decimal-digits_value, decimal_injective}
-use Rattle.std.proofs.lemmas.Int.Digits.{digits_value_more}
-use Rattle.std.proofs.lemmas.Str.{digit_value_digit}
+use Rattle.std.proofs.lemmas.Bool.{leb-true, le-leb}
+use Rattle.std.proofs.lemmas.Option.{cond_some, none-some}
+use Rattle.px_bytes.specs.Numbers.{has_digits, decimal_of}
 use Rattle.std.proofs.lemmas.List.{take-append-drop}
 use Rattle.std.proofs.Math.Seq.{take-append_seam, drop-append_seam}
-use Rattle.rec_format.specs.Front.{ends_number, DigitsFront, IsNumeral, NumberFront}
+use Rattle.rec_format.specs.Front.{ends_number, DigitsFront, NumberFront}
 
 -- std's words for digits and their value
 pub own : IsNumeralModel (λ ds. all_ascii_digits ds ≡ true) (digits_value 10)
@@ -103,50 +104,48 @@ no_zero : (n : ℕ) → n < 2 ^ 64 → get_or (decimal n) 0 0 ≡ 48 → length 
 no_zero zero fits first = ap length (decimal_digit 0 (lit< tt))
 no_zero (suc n) fits first = absurd (omega (arith, first_decimal (suc n) (omega arith) fits, first))
 
--- a number of at most eight digits is a numeral
-pub IsNumeral-decimal : (n : ℕ) → n < 10 ^ 8 → IsNumeral (decimal n)
-IsNumeral-decimal n short =
+-- several digits of which the first is `0` are no number in front
+pub zero_first : (text digits rest : List ℕ) → DigitsFront text digits rest → 1 < length digits → get_or digits 0 0 ≡ 48 → (n : ℕ) (r : List ℕ) → NumberFront text n r → ⊥
+zero_first text digits rest front several first n r number =
+    let fits : n < 2 ^ 64 = omega (arith, number.short) in
+    let is : digits ≡ decimal n = (digits_unique text digits (decimal n) rest r front (number_digits text n r number)).0 in
+    let one : length digits ≡ 1 = subst (λ ds. get_or ds 0 0 ≡ 48 → length ds ≡ 1) (sym is) (no_zero n fits) first in
+    omega (arith, several, one)
+
+-- std's two words for a text of digits
+each_digit : (ds : List ℕ) → list_all is_ascii_digit ds ≡ all_ascii_digits ds
+each_digit [] = refl
+each_digit (d ∷ ds) = ap (λ b. is_ascii_digit d && b) (each_digit ds)
+
+-- the digits of a number of at most eight digits are read
+reads_decimal : (n : ℕ) → n < 10 ^ 8 → (v : ℕ) × (decimal_of 8 (decimal n) ≡ Some v)
+reads_decimal n short =
     let fits : n < 2 ^ 64 = omega (arith, short) in
+    let least = le-leb 1 (length (decimal n)) (decimal_nonempty n fits) in
+    let most = le-leb (length (decimal n)) 8 (length-decimal-le 8 n (lit< tt) short fits) in
+    let all = each_digit (decimal n) ∙ digits_decimal own n fits in
+    let has : has_digits is_ascii_digit 8 (decimal n) ≡ true = and_true _ _ (and_true _ _ least most) all in
+    (digits_value 10 (decimal n), ap (λ b. cond b (Some (digits_value 10 (decimal n))) None) has)
+
+-- digits that are not read are no number in front
+pub unread : (text digits rest : List ℕ) → DigitsFront text digits rest → None ≡ decimal_of 8 digits → (n : ℕ) (r : List ℕ) → NumberFront text n r → ⊥
+unread text digits rest front none n r number =
+    let is : digits ≡ decimal n = (digits_unique text digits (decimal n) rest r front (number_digits text n r number)).0 in
+    let read = reads_decimal n number.short in
+    none-some read.0 (none ∙ ap (decimal_of 8) is ∙ read.1)
+
+-- digits that are read, with no leading zero, are the number that they mean
+pub number_of_digits : (text digits rest : List ℕ) (n : ℕ) → DigitsFront text digits rest → (get_or digits 0 0 ≡ 48 → length digits ≤ 1) → Some n ≡ decimal_of 8 digits → NumberFront text n rest
+number_of_digits text digits rest n front no_zero_first read =
+    let parts = cond_some (has_digits is_ascii_digit 8 digits) (digits_value 10 digits) n (sym read) in
+    let lens = both (nat_le 1 (length digits) && nat_le (length digits) 8) (list_all is_ascii_digit digits) parts.0 in
+    let bounds = both (nat_le 1 (length digits)) (nat_le (length digits) 8) lens.0 in
+    let least : 1 ≤ length digits = leb-true 1 (length digits) bounds.0 in
+    let most : length digits ≤ 8 = leb-true (length digits) 8 bounds.1 in
+    let lt : digits_value 10 digits < 10 ^ 8 = digits_value_short own digits 8 front.digits_only most in
+    let is : decimal (digits_value 10 digits) ≡ digits = decimal-digits_value own digits front.digits_only least (λ first. omega (arith, no_zero_first first, least)) (omega (arith, lt)) in
     record {
-      some = decimal_nonempty n fits;
-      short = length-decimal-le 8 n (lit< tt) short fits;
-      no_leading_zero = no_zero n fits;
+      spelled = front.spelled ∙ ap (λ l. l ++ rest) (sym (ap decimal (sym parts.1) ∙ is));
+      short = omega (arith, lt, parts.1);
+      ended = front.ended;
     }
-
--- the value of eight digits
-pub value_lt : (ds : List ℕ) → all_ascii_digits ds ≡ true → length ds ≤ 8 → digits_value 10 ds < 10 ^ 8
-value_lt ds all short = digits_value_short own ds 8 all short
-
--- a numeral is its value in decimal
-pub decimal-value : (ds : List ℕ) → all_ascii_digits ds ≡ true → IsNumeral ds → decimal (digits_value 10 ds) ≡ ds
-decimal-value ds all numeral =
-    let lt = value_lt ds all numeral.short in
-    decimal-digits_value own ds all numeral.some numeral.no_leading_zero (omega (arith, lt))
-
--- digits in front that are a numeral are the number that they mean
-pub number_of_digits : (text digits rest : List ℕ) (value : ℕ) → DigitsFront text digits rest → IsNumeral digits → value ≡ digits_value 10 digits → NumberFront text value rest
-number_of_digits text digits rest value front numeral is = record {
-  spelled = front.spelled ∙ ap (λ l. l ++ rest) (sym (ap decimal is ∙ decimal-value digits front.digits_only numeral));
-  short = rw is (value_lt digits front.digits_only numeral.short);
-  ended = front.ended;
-}
-
--- a digit is a digit's code
-pub digit_range : (ds : List ℕ) (i : ℕ) → all_ascii_digits ds ≡ true → i < length ds → IsInRange 48 57 (get_or ds i 0)
-digit_range ds i all within = digit_at ds i (own.to ds all) within
-
--- one more digit
-pub value_more : (ds : List ℕ) (i value digit : ℕ) → all_ascii_digits ds ≡ true → i < length ds → value ≡ digits_value 10 (take i ds) → digit ≡ get_or ds i 0 - 48 → value * 10 + digit ≡ digits_value 10 (take (i + 1) ds)
-value_more ds i value digit all within so_far is =
-    let range = digit_range ds i all within in
-    let d : digit_value (get_or ds i 0) ≡ digit = omega (arith, digit_value_digit (get_or ds i 0) range, is, range.0) in
-    let step = digits_value_more 10 ds i within in
-    ap (λ v. v * 10 + digit) so_far ∙ ap (λ v. digits_value 10 (take i ds) * 10 + v) (sym d) ∙ sym step
-
--- and it still fits
-pub value_more_lt : (ds : List ℕ) (i value digit : ℕ) → all_ascii_digits ds ≡ true → length ds ≤ 8 → i < length ds → value ≡ digits_value 10 (take i ds) → digit ≡ get_or ds i 0 - 48 → value * 10 + digit < 10 ^ 8
-value_more_lt ds i value digit all short within so_far is =
-    let step = value_more ds i value digit all within so_far is in
-    let part = digits_value-take-le 10 ds (i + 1) (lit≤ tt) in
-    let lt = value_lt ds all short in
-    omega (arith, step, part, lt)

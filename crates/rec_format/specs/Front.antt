@@ -1,5 +1,5 @@
 -- What stands in front of a text.
-use Rattle.std.specs.Prelude.{◌≡◌, ◌<◌, ◌≤◌, ◌^◌, slice_index, ℕ, Bool, true, not, List, [], ◌∷◌, ◌++◌, decimal, length}
+use Rattle.std.specs.Prelude.{◌≡◌, ◌<◌, ◌^◌, ℕ, Bool, true, not, List, [], ◌∷◌, ◌++◌, decimal, length}
 use Rattle.std.specs.Char.{is_ascii_digit}
 use Rattle.std.specs.Str.{all_ascii_digits}
 
@@ -13,12 +13,6 @@ pub record DigitsFront (text digits rest : List ℕ) : Type 0 where
   pub spelled : text ≡ digits ++ rest
   pub digits_only : all_ascii_digits digits ≡ true
   pub ended : ends_number rest ≡ true
-
--- the digits are at least one and at most eight, and the first of several isn't `0`
-pub record IsNumeral (digits : List ℕ) : Type 0 where
-  pub some : 0 < length digits
-  pub short : length digits ≤ 8
-  pub no_leading_zero : slice_index digits 0 ≡ 48 → length digits ≡ 1
 
 -- the text begins with this number of at most eight digits, and no digit comes next
 pub record NumberFront (text : List ℕ) (n : ℕ) (rest : List ℕ) : Type 0 where

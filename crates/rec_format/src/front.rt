@@ -1,13 +1,11 @@
 //! What stands in front of a text: fixed bytes, and numbers without leading zeros.
-ghost use Rattle.std.specs.Prelude.{◌≡◌, ◌≤◌, ◌<◌, ◌^◌, ℕ, List, true, false, decimal, ◌++◌, ◌∷◌, length, IfSome, IfNone};
+ghost use Rattle.std.specs.Prelude.{◌≡◌, ◌≤◌, ◌<◌, ◌^◌, ℕ, List, true, false, ◌++◌, ◌∷◌, length, slice_index, IfSome, IfNone};
 ghost use Rattle.std.specs.List.{prefix_len};
 ghost use Rattle.std.specs.Char.{is_ascii_digit};
-ghost use Rattle.std.specs.Str.{all_ascii_digits};
-ghost use Rattle.std.specs.Str.Parse.{digits_value};
-ghost use Rattle.rec_format.specs.Front.{ends_number, DigitsFront, IsNumeral, NumberFront, CountedFront, SideFront};
+ghost use Rattle.rec_format.specs.Front.{ends_number, DigitsFront, NumberFront, CountedFront, SideFront};
 
 /// The longest number that is read.
-const MOST_DIGITS: usize = 8;
+const MOST_DIGITS: u32 = 8;
 
 /// What comes behind these bytes.
 pub(crate) fn behind<'a>(text: &'a [u8], front: &[u8]) -> Option<&'a [u8]>
@@ -33,46 +31,29 @@ fn digit_count(text: &[u8]) -> usize
     text.iter().take_while(|byte| byte.is_ascii_digit()).count()
 }
 
-/// Whether digits are a number of at most eight digits without leading zeros.
-fn is_numeral(digits: &[u8]) -> bool
-    requires { all_ascii_digits digits.now ≡ true }
-    ensures yes { result ≡ true → IsNumeral digits.now }
-    ensures no { result ≡ false → (n : ℕ) → n < 10 ^ 8 → digits.now ≡ decimal n → ⊥ }
+/// Whether digits are several and the first is `0`.
+fn has_leading_zero(digits: &[u8]) -> bool
+    ensures yes { result ≡ true → (1 < length digits.now) × (slice_index digits.now 0 ≡ 48) }
+    ensures no { result ≡ false → slice_index digits.now 0 ≡ 48 → length digits.now ≤ 1 }
 {
-    if digits.is_empty() || digits.len() > MOST_DIGITS {
-        return false;
-    }
-    digits.len() == 1 || digits[0] != b'0'
-}
-
-/// The number that these digits mean.
-fn value_of(digits: &[u8]) -> u32
-    requires digits { all_ascii_digits digits.now ≡ true }
-    requires short { length digits.now ≤ 8 }
-    ensures { result ≡ digits_value 10 digits.now }
-{
-    let mut value = 0;
-    for digit in digits {
-        value = value * 10 + u32::from(*digit - b'0');
-    }
-    value
+    digits.len() > 1 && digits[0] == b'0'
 }
 
 /// The number in front, which has no leading zeros and at most eight digits, and what comes behind it.
-pub(crate) fn number(text: &[u8]) -> Option<(u32, &[u8])>
+pub(crate) fn number(text: &[u8]) -> Option<(u64, &[u8])>
     ensures some { IfSome result (λ found. NumberFront text.now found.0 found.1.now) }
     ensures none { IfNone result ((n : ℕ) (rest : List ℕ) → NumberFront text.now n rest → ⊥) }
 {
     let (digits, rest) = split_digits(text);
-    if is_numeral(digits) {
-        Some((value_of(digits), rest))
-    } else {
-        None
+    if has_leading_zero(digits) {
+        return None;
     }
+    let n = px_bytes::read_decimal(digits, MOST_DIGITS)?;
+    Some((n, rest))
 }
 
 /// The number between these bytes, and what comes behind them.
-pub(crate) fn counted<'a>(text: &'a [u8], front: &[u8], back: &[u8]) -> Option<(u32, &'a [u8])>
+pub(crate) fn counted<'a>(text: &'a [u8], front: &[u8], back: &[u8]) -> Option<(u64, &'a [u8])>
     requires ends { (rest : List ℕ) → ends_number (back.now ++ rest) ≡ true }
     ensures some { IfSome result (λ found. CountedFront text.now front.now back.now found.0 found.1.now) }
     ensures none { IfNone result ((n : ℕ) (rest : List ℕ) → CountedFront text.now front.now back.now n rest → ⊥) }

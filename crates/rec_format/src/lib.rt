@@ -5,6 +5,8 @@
 mod first_record;
 mod front;
 mod report;
+#[cfg(test)]
+mod tests;
 
 pub use first_record::{FirstRecord, read_first_record};
 pub use report::{Report, Sent, write_report};
