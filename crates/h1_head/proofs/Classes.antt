@@ -42,20 +42,46 @@ by_names : (P : List ℕ → Type 0) → P (codes "host") → P (codes "content-
     → P (codes "keep-alive") → P (codes "proxy-connection") → P (codes "te") → P (codes "upgrade") → P (codes "expect")
     → ((low : List ℕ) → IsNone low → P low) → (low : List ℕ) → P low
 by_names P p1 p2 p3 p4 p5 p6 p7 p8 p9 none low =
-    elim (is_or_not low (codes "host")) [ is e ↦ subst P (sym e) p1 | other e1 ↦
-    elim (is_or_not low (codes "content-length")) [ is e ↦ subst P (sym e) p2 | other e2 ↦
-    elim (is_or_not low (codes "transfer-encoding")) [ is e ↦ subst P (sym e) p3 | other e3 ↦
-    elim (is_or_not low (codes "connection")) [ is e ↦ subst P (sym e) p4 | other e4 ↦
-    elim (is_or_not low (codes "keep-alive")) [ is e ↦ subst P (sym e) p5 | other e5 ↦
-    elim (is_or_not low (codes "proxy-connection")) [ is e ↦ subst P (sym e) p6 | other e6 ↦
-    elim (is_or_not low (codes "te")) [ is e ↦ subst P (sym e) p7 | other e7 ↦
-    elim (is_or_not low (codes "upgrade")) [ is e ↦ subst P (sym e) p8 | other e8 ↦
-    elim (is_or_not low (codes "expect")) [ is e ↦ subst P (sym e) p9 | other e9 ↦
-    none low (record { host = e1; len = e2; coding = e3; connection = e4; alive = e5; proxy = e6; te = e7; upgrade = e8; expect = e9 })
-    ] ] ] ] ] ] ] ] ]
+    elim (is_or_not low (codes "host")) [
+      | is e ↦ subst P (sym e) p1
+      | other e1 ↦
+          elim (is_or_not low (codes "content-length")) [
+            | is e ↦ subst P (sym e) p2
+            | other e2 ↦
+                elim (is_or_not low (codes "transfer-encoding")) [
+                  | is e ↦ subst P (sym e) p3
+                  | other e3 ↦
+                      elim (is_or_not low (codes "connection")) [
+                        | is e ↦ subst P (sym e) p4
+                        | other e4 ↦
+                            elim (is_or_not low (codes "keep-alive")) [
+                              | is e ↦ subst P (sym e) p5
+                              | other e5 ↦
+                                  elim (is_or_not low (codes "proxy-connection")) [
+                                    | is e ↦ subst P (sym e) p6
+                                    | other e6 ↦
+                                        elim (is_or_not low (codes "te")) [
+                                          | is e ↦ subst P (sym e) p7
+                                          | other e7 ↦
+                                              elim (is_or_not low (codes "upgrade")) [
+                                                | is e ↦ subst P (sym e) p8
+                                                | other e8 ↦
+                                                    elim (is_or_not low (codes "expect")) [
+                                                      | is e ↦ subst P (sym e) p9
+                                                      | other e9 ↦
+                                                          none low (record { host = e1; len = e2; coding = e3; connection = e4; alive = e5; proxy = e6; te = e7; upgrade = e8; expect = e9 })
+                                                    ]
+                                              ]
+                                        ]
+                                  ]
+                            ]
+                      ]
+                ]
+          ]
+    ]
 
 -- the class of bytes in lower case
-abbrev class_low : List ℕ → NameClass
+abbrev pub class_low : List ℕ → NameClass
 class_low low =
     cond (bytes_eq low (codes "host")) Host
     (cond (bytes_eq low (codes "content-length")) ContentLength

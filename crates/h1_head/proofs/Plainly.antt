@@ -43,7 +43,7 @@ behind_method h rest = 32 ∷ (h.target ++ 32 ∷ (print_version h.minor ++ (pri
 unled_alone : (text : List ℕ) (h : RequestHead) (rest : List ℕ) → ReadsRequest text h rest → h.blank ≡ [] → behind text ≡ text
 unled_alone text h rest reads none =
     let is : text ≡ h.method ++ behind_method h rest =
-        reads.1 ∙ print_request-append h rest ∙ ap (λ b. print_blank b ++ (h.method ++ behind_method h rest)) none in
+    reads.1 ∙ print_request-append h rest ∙ ap (λ b. print_blank b ++ (h.method ++ behind_method h rest)) none in
     subst (λ (t : List ℕ). behind t ≡ t) (sym is) (token_first h.method (behind_method h rest) reads.0.method)
 
 pub plain_alone : (limits : Limits) (window : List ℕ) → IsPlain limits window → behind window ≡ window

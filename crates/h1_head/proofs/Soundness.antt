@@ -52,7 +52,7 @@ pub names_passed : (p : Parts) → refusal_of p ≡ None → has_long_name p.fie
 names_passed p e = row_passed (has_long_name p.fields) why.Name _ e
 
 pub at_most : (n m : ℕ) → nat_lt n m ≡ false → m ≤ n
-at_most n m e = elim (cases_lt n m) [ | inl lt ↦ absurd (both_ways (nat_lt n m) e (lt-ltb n m lt)) | inr le ↦ le ]
+at_most n m e = elim (cases_lt n m) [ inl lt ↦ absurd (both_ways (nat_lt n m) e (lt-ltb n m lt)) | inr le ↦ le ]
 
 pub short_names : (fs : List Field) → has_long_name fs ≡ false → All (λ f. length f.0 ≤ 255) fs
 short_names [] e = All-nil (λ f. length f.0 ≤ 255)
@@ -98,13 +98,19 @@ received_head_is limits bytes h rest b unrefused light =
     let p : Parts = parts_of h in
     let is = b.reads.0 in
     let all : All (λ f. IsReceivedField (folded f)) p.fields =
-        All-map (λ f. IsReceivedField (folded f)) name_and_value h.fields
-        (all_received h.fields is.fields (short_again h.fields (names_passed p unrefused))) in
+    All-map (λ f. IsReceivedField (folded f)) name_and_value h.fields
+    (all_received h.fields is.fields (short_again h.fields (names_passed p unrefused))) in
     let few : length h.fields ≤ 100 = b.few in
     record {
       line = record {
-        method = h.method; target = h.target; minor = h.minor; is = refl;
-        token = is.method; some = is.target.0; visible = is.target.1; known = is.minor;
+        method = h.method;
+        target = h.target;
+        minor = h.minor;
+        is = refl;
+        token = is.method;
+        some = is.target.0;
+        visible = is.target.1;
+        known = is.minor;
       };
       few = omega (arith, length-map (filter (is_kept p.fields) p.fields) folded, length-filter (is_kept p.fields) p.fields, count_by-le-length (is_kept p.fields) p.fields, length-map h.fields name_and_value);
       fields = All-map IsReceivedField folded (filter (is_kept p.fields) p.fields) (All-filter (is_kept p.fields) (λ f. IsReceivedField (folded f)) p.fields all);

@@ -15,7 +15,7 @@ use Rattle.h1_head.specs.declared.survey.Codings.{Codings}
 use Rattle.h1_head.specs.declared.survey.Codings.TheVariants.{Unnamed, Chunked, Unknown}
 use Rattle.h1_head.specs.declared.survey.Survey.{Survey}
 use Rattle.h1_head.specs.Rows.{Parts, elements_named, has_option, has_long_name, host_is_good, is_length, is_number, if_all_are, one_length, declared_length, is_none, framing_is_bad, is_chunked_alone, is_nonempty, coding_is_unknown, refusal_of}
-use Rattle.h1_head.specs.Survey.{by_number, next_length, lengths_after, by_coding, next_coding, codings_after, has_value, has_option_in, add_field, survey_after, no_survey, survey_of, are_one, are_chunked, declared_by, hosts_are_good, framing_fails, row_of}
+use Rattle.h1_head.specs.Survey.{by_number, next_length, lengths_after, by_coding, next_coding, codings_after, has_value, has_option_in, has_taking, removes_some, add_field, survey_after, no_survey, survey_of, are_one, are_chunked, declared_by, hosts_are_good, framing_fails, row_of}
 
 or_false : (a : Bool) → (a || false) ≡ a
 or_false true = refl
@@ -71,11 +71,6 @@ surveyed_coded s [] = sym (or_false s.has_coding)
 surveyed_coded s (f ∷ fs) =
     surveyed_coded (add_field s f) fs ∙ mark_step (is_named (codes "transfer-encoding") f) s.has_coding (has_field (codes "transfer-encoding") fs)
 
-surveyed_linked : (s : Survey) (fs : List Field) → (survey_after s fs).has_options ≡ (s.has_options || has_field (codes "connection") fs)
-surveyed_linked s [] = sym (or_false s.has_options)
-surveyed_linked s (f ∷ fs) =
-    surveyed_linked (add_field s f) fs ∙ mark_step (is_named (codes "connection") f) s.has_options (has_field (codes "connection") fs)
-
 length_step : (t : Bool) (f : Field) (rest : List Field) (l : Lengths)
     → lengths_after (cond t (lengths_after l (values_of f.1)) l) (elements rest) ≡ lengths_after l (elements (cond t (f ∷ rest) rest))
 length_step true f rest l = sym (lengths-append l (values_of f.1) (elements rest))
@@ -121,6 +116,12 @@ surveyed_close s [] = sym (or_false s.close)
 surveyed_close s (f ∷ fs) =
     surveyed_close (add_field s f) fs
     ∙ close_step (is_named (codes "connection") f) s.close (has_value (codes "close") f.1) (has_option_in (codes "close") fs)
+
+surveyed_removes : (s : Survey) (fs : List Field) → (survey_after s fs).removes ≡ (s.removes || removes_some fs)
+surveyed_removes s [] = sym (or_false s.removes)
+surveyed_removes s (f ∷ fs) =
+    surveyed_removes (add_field s f) fs
+    ∙ close_step (is_named (codes "connection") f) s.removes (has_taking f.1) (removes_some fs)
 
 -- ---- lengths
 
@@ -225,13 +226,13 @@ pub record Tells (s : Survey) (fields : List Field) : Type 0 where
   pub none : not (are_one s.lengths) ≡ is_none (declared_length fields)
   pub coded : s.has_coding ≡ has_field (codes "transfer-encoding") fields
   pub chunked : are_chunked s.codings ≡ is_chunked_alone (filter is_nonempty (elements_named (codes "transfer-encoding") fields))
-  pub linked : s.has_options ≡ has_field (codes "connection") fields
+  pub removes : s.removes ≡ removes_some fields
   pub close : s.close ≡ has_option (codes "close") fields
 
 pub tells : (fields : List Field) → Tells (survey_of fields) fields
 tells fields =
     let declared : declared_by (survey_of fields).lengths ≡ declared_length fields =
-        ap declared_by (surveyed_lengths no_survey fields) ∙ declared_after (elements_named (codes "content-length") fields) in
+    ap declared_by (surveyed_lengths no_survey fields) ∙ declared_after (elements_named (codes "content-length") fields) in
     record {
       long = surveyed_long no_survey fields;
       hosts = surveyed_hosts no_survey fields ∙ zero-add (length (fields_named (codes "host") fields));
@@ -240,7 +241,7 @@ tells fields =
       none = none_or_one (survey_of fields).lengths ∙ ap is_none declared;
       coded = surveyed_coded no_survey fields;
       chunked = ap are_chunked (surveyed_codings no_survey fields) ∙ chunked_after (elements_named (codes "transfer-encoding") fields);
-      linked = surveyed_linked no_survey fields;
+      removes = surveyed_removes no_survey fields;
       close = surveyed_close no_survey fields ∙ option_in (codes "close") fields;
     }
 

@@ -13,6 +13,7 @@ use Rattle.h1_head.specs.declared.survey.Lengths.TheVariants.{Unread, One, Diffe
 use Rattle.h1_head.specs.declared.survey.Codings.{Codings}
 use Rattle.h1_head.specs.declared.survey.Codings.TheVariants.{Unnamed, Chunked, Unknown}
 use Rattle.h1_head.specs.declared.survey.Survey.{Survey}
+use Rattle.h1_head.specs.Names.{class_of, is_lasting_class}
 use Rattle.h1_head.specs.Rows.{is_nonempty}
 
 -- ---- elements of Content-Length
@@ -54,9 +55,21 @@ codings_after codings (element ∷ elements) = codings_after (next_coding coding
 abbrev pub has_value : List ℕ → List ℕ → Bool
 has_value word list = list_any (λ element. same_name element word) (values_of list)
 
+-- the element takes a field away, if one has its name
+abbrev pub is_taking : List ℕ → Bool
+is_taking element = not (is_lasting_class (class_of element))
+
+-- some value of the list takes fields away
+abbrev pub has_taking : List ℕ → Bool
+has_taking list = list_any is_taking (values_of list)
+
 -- some field of Connection has this word as an element
 abbrev pub has_option_in : List ℕ → List Field → Bool
 has_option_in word fields = list_any (λ field. is_named (codes "connection") field && has_value word field.1) fields
+
+-- some element of Connection takes fields away
+abbrev pub removes_some : List Field → Bool
+removes_some fields = list_any (λ field. is_named (codes "connection") field && has_taking field.1) fields
 
 -- ---- fields
 
@@ -70,7 +83,7 @@ add_field_as host sized coded linked s field =
       lengths = if sized then lengths_after s.lengths (values_of field.1) else s.lengths;
       has_coding = if coded then true else s.has_coding;
       codings = if coded then codings_after s.codings (values_of field.1) else s.codings;
-      has_options = if linked then true else s.has_options;
+      removes = if linked then s.removes || has_taking field.1 else s.removes;
       close = if linked then s.close || has_value (codes "close") field.1 else s.close;
     }
 
@@ -78,7 +91,7 @@ add_field_as host sized coded linked s field =
 abbrev pub add_field : Survey → Field → Survey
 add_field s field =
     add_field_as (is_named (codes "host") field) (is_named (codes "content-length") field)
-        (is_named (codes "transfer-encoding") field) (is_named (codes "connection") field) s field
+    (is_named (codes "transfer-encoding") field) (is_named (codes "connection") field) s field
 
 abbrev pub survey_after : Survey → List Field → Survey
 survey_after s [] = s
@@ -94,7 +107,7 @@ no_survey =
       lengths = Unread;
       has_coding = false;
       codings = Unnamed;
-      has_options = false;
+      removes = false;
       close = false;
     }
 

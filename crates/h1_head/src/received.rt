@@ -9,7 +9,7 @@ ghost use Rattle.http_model.specs.Head.{header_block, head_blocks};
 ghost use Rattle.http_model.specs.Fields.{has_field};
 ghost use Rattle.h1_head.specs.Rows.{is_kept, folded, received_head};
 ghost use Rattle.h1_head.specs.Spans.{received_fields};
-ghost use Rattle.h1_head.specs.Survey.{has_option_in};
+ghost use Rattle.h1_head.specs.Survey.{has_option_in, removes_some};
 ghost use Rattle.h1_head.specs.Spans.{span_parts, AreSpansGood, HasGoodName};
 
 use crate::names::{NameClass, class_of, is_lasting};
@@ -36,14 +36,14 @@ fn has_option(text: &[u8], fields: &[HeaderSpan], word: &[u8]) -> bool
     false
 }
 
-/// Whether a field of the head stays, where the head has Connection fields or none.
-fn is_kept(text: &[u8], fields: &[HeaderSpan], has_options: bool, field: &HeaderSpan) -> bool
+/// Whether a field of the head stays, where some element of Connection is no lasting name or none is.
+fn is_kept(text: &[u8], fields: &[HeaderSpan], removes: bool, field: &HeaderSpan) -> bool
     requires within { All (IsHeaderWithin (length text.now)) fields.now }
     requires inside { IsHeaderWithin (length text.now) field.now }
-    requires options { has_options ≡ has_field (codes "connection") (map (header_bytes text.now) fields.now) }
+    requires removes { removes ≡ removes_some (map (header_bytes text.now) fields.now) }
     ensures { result ≡ is_kept (map (header_bytes text.now) fields.now) (header_bytes text.now field.now) }
 {
-    if !has_options {
+    if !removes {
         return true;
     }
     let name = field.name.of(text);
@@ -70,18 +70,18 @@ fn push_field(name: &[u8], value: &[u8], to: &mut Arena) -> Result<(), Full>
 fn push_fields(
     text: &[u8],
     fields: &[HeaderSpan],
-    has_options: bool,
+    removes: bool,
     to: &mut Arena,
 ) -> Result<(), Full>
     requires within { All (IsHeaderWithin (length text.now)) fields.now }
     requires named { All (HasGoodName text.now) fields.now }
-    requires options { has_options ≡ has_field (codes "connection") (map (header_bytes text.now) fields.now) }
+    requires removes { removes ≡ removes_some (map (header_bytes text.now) fields.now) }
     ensures ok { OnOk result (to.new.blocks ≡ to.old.blocks ++ received_fields (map (header_bytes text.now) fields.now)) }
     ensures full { OnErr result (to.old.size < load (to.old.blocks ++ received_fields (map (header_bytes text.now) fields.now))) }
     ensures size { to.new.size ≡ to.old.size }
 {
     for field in fields {
-        if is_kept(text, fields, has_options, field) {
+        if is_kept(text, fields, removes, field) {
             push_field(field.name.of(text), field.value.of(text), to)?;
         }
     }
@@ -101,12 +101,12 @@ pub fn push_head(
     text: &[u8],
     head: &RequestSpans,
     fields: &[HeaderSpan],
-    has_options: bool,
+    removes: bool,
     to: &mut Arena,
 ) -> Result<(), Full>
     requires spans { AreSpansGood text.now head.now fields.now }
     requires named { All (HasGoodName text.now) fields.now }
-    requires options { has_options ≡ has_field (codes "connection") (map (header_bytes text.now) fields.now) }
+    requires removes { removes ≡ removes_some (map (header_bytes text.now) fields.now) }
     requires empty { to.old.blocks ≡ [] }
     ensures ok { OnOk result (to.new.blocks ≡ head_blocks (received_head (span_parts text.now head.now fields.now))) }
     ensures full { OnErr result (to.old.size < load (head_blocks (received_head (span_parts text.now head.now fields.now)))) }
@@ -119,7 +119,7 @@ pub fn push_head(
         head.path.of(text),
         version_text(head.version),
     )?;
-    push_fields(text, fields, has_options, to)?;
+    push_fields(text, fields, removes, to)?;
     let at = to.len();
     to.insert_end(at, Kind::EndHeaders)
 }

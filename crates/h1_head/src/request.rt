@@ -59,7 +59,7 @@ fn receive(
     if let Some(why) = survey.refusal(head.method.of(text), head.version) {
         return Err(why);
     }
-    let pushed = push_head(text, head, fields, survey.has_options, to);
+    let pushed = push_head(text, head, fields, survey.removes, to);
     if pushed.is_err() || to.load() > limits.bufsize - limits.maxrewrite {
         to.clear();
         return Err(HeadWhy::Receive);

@@ -2,9 +2,9 @@
 ghost use Rattle.std.specs.Prelude.{◌≡◌, ◌≤◌, length, map, All};
 ghost use Rattle.httparse.specs.Spans.{IsHeaderWithin, header_bytes};
 ghost use Rattle.px_bytes.specs.Values.{values_of};
-ghost use Rattle.h1_head.specs.Survey.{add_field, survey_of, no_survey, next_length, lengths_after, next_coding, codings_after, has_value};
+ghost use Rattle.h1_head.specs.Survey.{add_field, survey_of, no_survey, next_length, lengths_after, next_coding, codings_after, has_value, has_taking};
 
-use crate::names::{NameClass, class_of};
+use crate::names::{NameClass, class_of, is_lasting};
 use httparse::spans::HeaderSpan;
 use px_bytes::{eq_fold, read_decimal, values};
 
@@ -36,8 +36,8 @@ pub struct Survey {
     pub lengths: Lengths,
     pub has_coding: bool,
     pub codings: Codings,
-    /// There is a Connection field.
-    pub has_options: bool,
+    /// An element of Connection is no lasting name, so that fields of its name are left out.
+    pub removes: bool,
     /// An element of Connection is `close`.
     pub close: bool,
 }
@@ -118,6 +118,18 @@ pub fn has_value(list: &[u8], word: &[u8]) -> bool
     false
 }
 
+/// Whether some value of a list of Connection is no lasting name.
+fn has_taking(list: &[u8]) -> bool
+    ensures { result ≡ has_taking list.now }
+{
+    for element in values(list) {
+        if !is_lasting(class_of(element)) {
+            return true;
+        }
+    }
+    false
+}
+
 impl Survey {
     /// What is known behind one more field.
     #[tactic(auto, using(crate::proofs::Adds::added))]
@@ -145,7 +157,7 @@ impl Survey {
                 ..known
             },
             NameClass::Connection => Survey {
-                has_options: true,
+                removes: known.removes || has_taking(value),
                 close: known.close || has_value(value, b"close"),
                 ..known
             },
@@ -167,7 +179,7 @@ pub fn survey_fields(text: &[u8], fields: &[HeaderSpan]) -> Survey
         lengths: Lengths::Unread,
         has_coding: false,
         codings: Codings::Unnamed,
-        has_options: false,
+        removes: false,
         close: false,
     };
     for field in fields {

@@ -1,7 +1,7 @@
 //! Heads whose answers are known from outside.
 use crate::{HeadRead, HeadWhy, is_plain_request, read_request};
-use htx_arena::{Arena, Kind};
 use http_model::{Framing, Limits};
+use htx_arena::{Arena, Kind};
 use std::test::Fail;
 
 const LIMITS: Limits = Limits {
@@ -35,10 +35,7 @@ fn refuses_malformed_heads(rt: HostRuntime) -> Result<(), Fail> {
             b"POST /u HTTP/1.1\r\nHost: h\r\nHost: h\r\nTransfer-Encoding: chunked\r\n\r\n",
             refused(400, HeadWhy::Host),
         ),
-        (
-            b"CONNECT h:1 HTTP/1.1\r\n\r\n",
-            refused(400, HeadWhy::Host),
-        ),
+        (b"CONNECT h:1 HTTP/1.1\r\n\r\n", refused(400, HeadWhy::Host)),
         (
             b"CONNECT h:1 HTTP/1.1\r\nHost: h\r\n\r\n",
             refused(501, HeadWhy::Method),
@@ -138,7 +135,8 @@ fn decides_on_an_open_stream(rt: HostRuntime) -> Result<(), Fail> {
 #[test]
 fn keeps_what_connection_does_not_name(rt: HostRuntime) -> Result<(), Fail> {
     let mut arena = Arena::new(rt.alloc(), 1024)?;
-    let window = b"GET /a HTTP/1.1\r\nHost: h\r\nX-A: \t1 2 \r\nx-b: 3\r\nConnection: x-B, Host,Close\r\n\r\n";
+    let window =
+        b"GET /a HTTP/1.1\r\nHost: h\r\nX-A: \t1 2 \r\nx-b: 3\r\nConnection: x-B, Host,Close\r\n\r\n";
     assert_eq!(rt;
         read_request(window, true, LIMITS, &mut arena),
         HeadRead::Head {

@@ -6,10 +6,10 @@ use Rattle.h1_head.specs.Names.{is_lasting_class}
 use Rattle.h1_head.proofs.Keeping.{keeps_all, kept_free, kept_lasting}
 use Rattle.h1_head.proofs.received.is_kept.Goals as goal
 
-pub returns-then-not-has_options : goal.returns-then-not-has_options
-returns-then-not-has_options c =
+pub returns-then-not-removes : goal.returns-then-not-removes
+returns-then-not-removes c =
     let fs : List Field = map (header_bytes c.args.text.now) c.args.fields.now in
-    sym (keeps_all fs (header_bytes c.args.text.now c.args.field.now) (sym c.requires.options ∙ c.if-not-has_options.true))
+    sym (keeps_all fs (header_bytes c.args.text.now c.args.field.now) (sym c.requires.removes ∙ c.if-not-removes.true))
 
 pub returns-then-not-has_option : goal.returns-then-not-has_option
 returns-then-not-has_option c =

@@ -73,7 +73,7 @@ returns-in-Head-clause-head c =
     let text : List ℕ = take (length w - skip) (drop skip w) in
     let at : text ≡ drop skip w = rest_is skip w in
     let kept : KeepsHead c.args.limits c.args.whole text c.read_text.new.to.blocks c.in-Head.used c.in-Head.framing c.in-Head.declared c.in-Head.close
-        = rw c.in-Head.is at c.read_text.ensures.head in
+    = rw c.in-Head.is at c.read_text.ensures.head in
     let some : text ≢ [] = some_of c.is_empty.result text c.is_empty.ensures c.if-is_empty.false in
     keeps_window c.args.limits c.args.whole w text c.read_text.new.to.blocks skip c.in-Head.used c.in-Head.framing c.in-Head.declared c.in-Head.close
     at c.empty_lines-skip.ensures.behind (ap behind at ∙ c.empty_lines-skip.ensures.alone ∙ sym at) c.empty_lines-skip.ensures.within some

@@ -21,20 +21,20 @@ pub push_head-pushed-requires-clause-named : goal.push_head-pushed-requires-clau
 push_head-pushed-requires-clause-named c =
     let p : Parts = span_parts c.args.text.now c.args.head.now c.args.fields.now in
     let none : refusal_of p ≡ None =
-        sym (row_is p c.survey_fields-survey.result c.of.result.now c.survey_fields-survey.ensures c.of.ensures) ∙ sym c.refusal.ensures ∙ c.in_default.is in
+    sym (row_is p c.survey_fields-survey.result c.of.result.now c.survey_fields-survey.ensures c.of.ensures) ∙ sym c.refusal.ensures ∙ c.in_default.is in
     good_names c.args.text.now c.args.fields.now c.requires.spans.named (names_passed p none)
 
-pub push_head-pushed-requires-clause-options : goal.push_head-pushed-requires-clause-options
-push_head-pushed-requires-clause-options c =
+pub push_head-pushed-requires-clause-removes : goal.push_head-pushed-requires-clause-removes
+push_head-pushed-requires-clause-removes c =
     let p : Parts = span_parts c.args.text.now c.args.head.now c.args.fields.now in
     let told = tells p.fields in
-    ap (λ s. s.has_options) c.survey_fields-survey.ensures ∙ told.linked
+    ap (λ s. s.removes) c.survey_fields-survey.ensures ∙ told.removes
 
 pub returns-then-is_err-clause-refused : goal.returns-then-is_err-clause-refused
 returns-then-is_err-clause-refused c =
     let p : Parts = span_parts c.args.text.now c.args.head.now c.args.fields.now in
     let none : refusal_of p ≡ None =
-        sym (row_is p c.survey_fields-survey.result c.of.result.now c.survey_fields-survey.ensures c.of.ensures) ∙ sym c.refusal.ensures ∙ c.in_default.is in
+    sym (row_is p c.survey_fields-survey.result c.of.result.now c.survey_fields-survey.ensures c.of.ensures) ∙ sym c.refusal.ensures ∙ c.in_default.is in
     elim c.then-is_err.branch [
       | then-is_err-via-then-is_err w ↦
           let past : c.args.to.now.size < weight_of p = search rules in
@@ -51,7 +51,7 @@ pub returns-clause-kept : goal.returns-clause-kept
 returns-clause-kept c =
     let p : Parts = span_parts c.args.text.now c.args.head.now c.args.fields.now in
     let none : refusal_of p ≡ None =
-        sym (row_is p c.survey_fields-survey.result c.of.result.now c.survey_fields-survey.ensures c.of.ensures) ∙ sym c.refusal.ensures ∙ c.in_default.is in
+    sym (row_is p c.survey_fields-survey.result c.of.result.now c.survey_fields-survey.ensures c.of.ensures) ∙ sym c.refusal.ensures ∙ c.in_default.is in
     let blocks : c.push_head-pushed.new.to.blocks ≡ head_blocks (received_head p) = search rules in
     kept_is c.args.limits p c.survey_fields-survey.result c.push_head-pushed.new.to.blocks c.framing.result c.declared.result c.survey_fields-survey.result.close
     c.survey_fields-survey.ensures none blocks (search rules) c.framing.ensures c.declared.ensures (search rules)
