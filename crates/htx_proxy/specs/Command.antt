@@ -7,10 +7,13 @@ IsFileWord [] = ⊥
 IsFileWord (b ∷ bytes) = b ≢ 45
 
 -- the words are `replay CFG REC`
-pub record IsReplay (words : List (List ℕ)) (cfg rec : List ℕ) : Type 0 where
-  pub words_are : words ≡ codes "replay" ∷ cfg ∷ rec ∷ []
-  pub configuration : IsFileWord cfg
-  pub recorded : IsFileWord rec
+abbrev pub IsReplay : List (List ℕ) → (cfg rec : List ℕ) → Type 0
+IsReplay [] cfg rec = ⊥
+IsReplay (command ∷ []) cfg rec = ⊥
+IsReplay (command ∷ first ∷ []) cfg rec = ⊥
+IsReplay (command ∷ first ∷ second ∷ []) cfg rec =
+    (command ≡ codes "replay") × (first ≡ cfg) × (second ≡ rec) × IsFileWord cfg × IsFileWord rec
+IsReplay (command ∷ first ∷ second ∷ other ∷ words) cfg rec = ⊥
 
 -- the name is a file word of the command
 abbrev pub NamesFile : List (List ℕ) → List ℕ → Type 0

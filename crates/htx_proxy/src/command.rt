@@ -1,5 +1,5 @@
 //! The words of the command line.
-ghost use Rattle.std.specs.Prelude.{◌≡◌, ◌↔◌, ⊥, ℕ, List, map, IsTrue, IfSome, IfNone, string_bytes};
+ghost use Rattle.std.specs.Prelude.{◌≡◌, ◌↔◌, ℕ, List, map, IsTrue, IfSome, IfNone, string_bytes};
 ghost use Rattle.htx_proxy.specs.Command.{IsFileWord, IsReplay};
 
 /// Whether a word may name a file: it isn't empty, and no dash stands in front.

@@ -1,7 +1,8 @@
 -- Lines that are written one after another.
 use Rattle.std.proofs.Common.{◌≡◌, ℕ, List, [], ◌∷◌, ◌++◌, ◌∙◌, sym, refl, ap, codes, append_assoc}
 use Rattle.rec_format.specs.Lines.{text_of_lines}
-use Rattle.rec_format.specs.Report.{Out, report_of, session_lines, server_lines, sent_words}
+use Rattle.session_model.specs.Session.{Out}
+use Rattle.rec_format.specs.Report.{report_of, session_lines, server_lines, sent_words}
 
 -- the four lines in front of the sides
 pub session_text : (text one two three four exchanges end cut : List ℕ)

@@ -4,22 +4,9 @@ use Rattle.http_model.specs.declared.Close.{Close}
 use Rattle.http_model.specs.declared.Close.TheVariants.{Clean, Failed}
 use Rattle.http_model.specs.declared.End.{End}
 use Rattle.http_model.specs.declared.End.TheVariants.{Done, Closed, Cut}
+use Rattle.session_model.specs.Stream.{Sent}
+use Rattle.session_model.specs.Session.{Out}
 use Rattle.rec_format.specs.Lines.{text_of_lines}
-
--- what was sent to one side, and how its link was closed
-pub record Sent : Type 0 where
-  pub bytes : List ℕ
-  pub close : Close
-
--- what a session came to: how many exchanges it had, how it ended, whether a request was cut and then whether
--- its answer had begun, and what was sent to the client and to each server in the order of the connects, none
--- to a refused one
-pub record Out : Type 0 where
-  pub exchanges : ℕ
-  pub how : End
-  pub cut : Option Bool
-  pub client : Sent
-  pub servers : List (Option Sent)
 
 -- the word for how a link was closed
 abbrev pub close_word : Close → List ℕ

@@ -1,0 +1,76 @@
+//! What `replay` makes of a configuration and a record.
+ghost use Rattle.std.specs.Prelude.{◌≡◌, ◌≤◌, ◌+◌, ◌<◌, ℕ, List, length, take, IfOk, IfSome, IfNone, OnOk, IsErrOf, Some};
+ghost use Rattle.first_config.specs.Form.{First, seen};
+ghost use Rattle.rec_format.specs.Record.{IsFirstRecord};
+ghost use Rattle.forward_core.specs.Unbuilt.{IsUnbuilt};
+ghost use Rattle.http_model.specs.declared.Close.TheVariants as close;
+ghost use Rattle.rec_format.specs.ReportParts.{out_of, sent_of};
+ghost use Rattle.forward_core.specs.Out.{out_of_one};
+ghost use Rattle.htx_proxy.specs.Replay.{IsFirstConfig, Reports};
+
+use first_config::{FirstConfig, read_first_config};
+use forward_core::{ExchangeFault, One, one_exchange};
+use http_model::OutOfMemory;
+use px_link::{Bytes, Close};
+use rec_format::{FirstRecord, Report, Sent, write_report};
+use std::alloc::{AllocError, Global};
+
+/// The most bytes of a configuration.
+pub const MOST_CONFIG: usize = 1048576;
+
+/// The configuration that a text says, where it is in the first form.
+pub fn config_of(text: &[u8]) -> Option<FirstConfig<'_>>
+    ensures some { IfSome result (λ cfg. IsFirstConfig text.now (seen cfg)) }
+    ensures none { IfNone result ((cfg : First) → IsFirstConfig text.now cfg → ⊥) }
+{
+    if text.len() > MOST_CONFIG {
+        return None;
+    }
+    read_first_config(text)
+}
+
+/// One link that was closed in order.
+fn clean(bytes: Bytes) -> Sent
+    ensures { sent_of result ≡ record { bytes = bytes; close = close.Clean } }
+{
+    Sent {
+        bytes,
+        close: Close::Clean,
+    }
+}
+
+/// The report of one exchange.
+fn report_of(alloc: Global, one: One) -> Result<Report, OutOfMemory>
+    ensures { IfOk result (λ report. out_of report ≡ out_of_one one) }
+{
+    let One {
+        to_server,
+        to_client,
+        end,
+    } = one;
+    let mut servers = Vec::new(alloc);
+    if let Some(bytes) = to_server {
+        servers.push(Some(clean(bytes)))?;
+    }
+    Ok(Report {
+        exchanges: 1,
+        end,
+        cut: None,
+        client: clean(to_client),
+        servers,
+    })
+}
+
+/// The report of the session that a record holds.
+pub fn replayed(
+    alloc: Global,
+    cfg: &FirstConfig<'_>,
+    record: &FirstRecord<'_>,
+) -> Result<Bytes, ExchangeFault>
+    ensures reports { IfOk result (Reports (seen cfg.now) record.now.client.now record.now.body.now) }
+    ensures unbuilt { IsErrOf result ExchangeFault.Unbuilt → IsUnbuilt cfg.now.limits record.now.client.now }
+{
+    let one = one_exchange(alloc, cfg, record.client, record.server)?;
+    let report = report_of(alloc, one)?;
+    Ok(write_report(alloc, &report)?)
+}
