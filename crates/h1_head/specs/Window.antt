@@ -10,6 +10,7 @@ use Rattle.h1_head.specs.Request.{behind, HasNoHead, IsHeadless, HasRefusedHead}
 abbrev pub OnEachStream : (whole : Bool) → (List ℕ → Type 0) → Type 0
 OnEachStream whole P = (more : List ℕ) → (whole ≡ true → more ≡ []) → P more
 
+-- the byte that ends a line
 abbrev pub is_line_feed : ℕ → Bool
 is_line_feed b = b == 10
 
