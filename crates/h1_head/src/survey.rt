@@ -133,7 +133,7 @@ fn has_taking(list: &[u8]) -> bool
 impl Survey {
     /// What is known behind one more field.
     #[tactic(auto, using(crate::proofs::Adds::added))]
-    fn and(self, name: &[u8], value: &[u8]) -> Survey
+    fn with_field(self, name: &[u8], value: &[u8]) -> Survey
         requires { self.hosts ≤ 100 }
         ensures { result ≡ add_field self (name.now, value.now) }
     {
@@ -183,7 +183,7 @@ pub fn survey_fields(text: &[u8], fields: &[HeaderSpan]) -> Survey
         close: false,
     };
     for field in fields {
-        survey = survey.and(field.name.of(text), field.value.of(text));
+        survey = survey.with_field(field.name.of(text), field.value.of(text));
     }
     survey
 }
