@@ -1,16 +1,14 @@
 -- What stays true of a head when more of the stream comes, and how many lines a head has.
 use Rattle.std.proofs.Common.{◌≡◌, ◌≢◌, ℕ, ◌+◌, ◌<◌, ◌≤◌, ◌⊎◌, inl, inr, true, false, Bool, List, [], ◌∷◌, ◌++◌, length, get_or, take, drop, refl, sym, ap, ◌∙◌, subst, zero-add, arith, append_assoc, length-append}
-use Rattle.std.specs.Prelude.{◌==◌, codes, count_by, IsTrue, All, ◌&&◌, cond, Ok, map}
+use Rattle.std.specs.Prelude.{◌==◌, codes, count_by, IsTrue, All, ◌&&◌, cond}
 use Rattle.std.specs.List.{flat_map}
 use Rattle.std.proofs.lemmas.List.Elements.{All-head, All-tail}
 use Rattle.std.proofs.lemmas.List.Sums.{sum_by-append}
-use Rattle.std.proofs.lemmas.List.{take-append-drop, take-append-le, drop-append-le, append-nil, drop-drop, length-map, length-take}
+use Rattle.std.proofs.lemmas.List.{take-append-drop, take-append-le, drop-append-le, append-nil}
 use Rattle.std.proofs.Math.Seq.{take-append_seam}
 use Rattle.std.proofs.lemmas.Bool.{false_from_ne_true, both_ways, eqb-true, eq-eqb, ne_eqb, and_parts, and_from, cases_lt}
-use Rattle.httparse.specs.Grammar.{LineEnd, crlf, lf, print_end, print_blank, print_version, Field, print_field, print_section, IsField, RequestHead, print_request, IsRequestHead, ReadsRequest, HasNoRequest, NeverHasRequest, AllPass, is_token_byte, is_uri_byte, is_value_byte}
-use Rattle.httparse.specs.declared.spans.HeaderSpan.{HeaderSpan}
-use Rattle.httparse.specs.declared.spans.RequestSpans.{RequestSpans}
-use Rattle.httparse.specs.Spans.{RequestOverflows, IsRequestWithin, IsRequestAt, header_bytes, span_bytes, name_and_value}
+use Rattle.httparse.specs.Grammar.{LineEnd, crlf, lf, print_end, print_blank, print_version, Field, print_field, print_section, IsField, RequestHead, print_request, IsRequestHead, ReadsRequest, HasNoRequest, AllPass, is_token_byte, is_uri_byte, is_value_byte}
+use Rattle.httparse.specs.Spans.{RequestOverflows}
 use Rattle.httparse.proofs.GrammarLemmas.{print_request-append, ReadsRequest-append}
 use Rattle.http_model.specs.declared.Limits.{Limits}
 use Rattle.h1_head.specs.Request.{BeginsWith, HasNoHead, behind}

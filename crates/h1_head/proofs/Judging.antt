@@ -1,6 +1,6 @@
 -- What the rows and the weight decide.
-use Rattle.std.proofs.Common.{◌≡◌, ℕ, ◌-◌, ◌<◌, ◌≤◌, Bool, true, false, cond, List, [], ◌∷◌, length, refl, sym, ◌∙◌, ap, subst}
-use Rattle.std.specs.Prelude.{All, codes, map, nat_lt, Option, Some, None, Result, Ok, Err}
+use Rattle.std.proofs.Common.{◌≡◌, ℕ, ◌-◌, ◌<◌, ◌≤◌, Bool, true, false, cond, List, [], ◌∷◌, length, sym, ◌∙◌, ap, subst}
+use Rattle.std.specs.Prelude.{All, codes, map, nat_lt, Option, Some, None, Ok, Err}
 use Rattle.std.proofs.lemmas.Bool.{or_parts, le-ltb, lt-ltb}
 use Rattle.std.proofs.lemmas.List.Elements.{All-nil, All-cons, All-head, All-tail}
 use Rattle.httparse.specs.declared.spans.HeaderSpan.{HeaderSpan}
@@ -11,7 +11,6 @@ use Rattle.http_model.specs.declared.Framing.{Framing}
 use Rattle.http_model.specs.declared.Limits.{Limits}
 use Rattle.http_model.specs.Head.{head_blocks}
 use Rattle.http_model.specs.Fields.{has_field}
-use Rattle.http_model.specs.Reading.{Received}
 use Rattle.h1_head.specs.declared.answer.HeadWhy.{HeadWhy}
 use Rattle.h1_head.specs.declared.answer.HeadWhy.TheVariants as why
 use Rattle.h1_head.specs.declared.survey.Survey.{Survey}
@@ -19,7 +18,7 @@ use Rattle.h1_head.specs.Answers.{IsKept}
 use Rattle.h1_head.specs.Rows.{Parts, has_long_name, received_head, received, refusal_of, is_heavy, unless_refused, decision, framing_by}
 use Rattle.h1_head.specs.Spans.{IsNamed, HasGoodName}
 use Rattle.h1_head.specs.Survey.{survey_of, declared_by, row_of}
-use Rattle.h1_head.proofs.Soundness.{at_most, names_passed}
+use Rattle.h1_head.proofs.Soundness.{at_most}
 use Rattle.h1_head.proofs.Surveyed.{Tells, tells, surveyed_row}
 
 abbrev pub weight_of : Parts → ℕ

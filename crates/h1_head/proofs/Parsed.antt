@@ -8,7 +8,7 @@ use Rattle.httparse.specs.declared.spans.HeaderSpan.{HeaderSpan}
 use Rattle.httparse.specs.declared.spans.RequestSpans.{RequestSpans}
 use Rattle.httparse.specs.Grammar as grammar
 use Rattle.httparse.specs.Grammar.{RequestHead, print_request, IsField}
-use Rattle.httparse.specs.Spans.{IsRequestWithin, IsRequestAt, IsRequestOf, IsHeaderWithin, header_bytes, span_bytes, name_and_value}
+use Rattle.httparse.specs.Spans.{IsRequestWithin, IsRequestAt, IsRequestOf, IsHeaderWithin, header_bytes, name_and_value}
 use Rattle.htx_model.specs.Block.{Block}
 use Rattle.http_model.specs.declared.Framing.{Framing}
 use Rattle.http_model.specs.declared.Limits.{Limits}

@@ -1,19 +1,18 @@
 -- When a window is a request that is nothing but its head.
-use Rattle.std.proofs.Common.{◌≡◌, ◌≢◌, ℕ, ◌-◌, ◌≤◌, ◌<◌, Bool, true, false, List, [], ◌∷◌, ◌++◌, length, take, drop, refl, sym, ◌∙◌, ap, subst, arith, get_or, length-drop}
-use Rattle.std.specs.Prelude.{IsTrue, All}
+use Rattle.std.proofs.Common.{◌≡◌, ◌≢◌, ℕ, ◌-◌, ◌≤◌, true, false, List, [], ◌∷◌, ◌++◌, length, take, drop, refl, sym, ◌∙◌, ap, subst, arith, length-drop}
+use Rattle.std.specs.Prelude.{IsTrue}
 use Rattle.std.proofs.lemmas.Bool.{both_ways}
 use Rattle.std.proofs.lemmas.List.Elements.{All-head}
 use Rattle.std.proofs.lemmas.List.{append-nil}
 use Rattle.std.proofs.Math.Seq.{drop-length}
 use Rattle.httparse.specs.declared.spans.HeaderSpan.{HeaderSpan}
 use Rattle.httparse.specs.declared.spans.RequestSpans.{RequestSpans}
-use Rattle.httparse.specs.Grammar.{RequestHead, ReadsRequest, LineEnd, IsToken, is_token_byte, print_blank, print_version, print_end, print_section, print_request}
-use Rattle.httparse.specs.Spans.{IsRequestWithin, IsRequestAt, IsRequestOf}
+use Rattle.httparse.specs.Grammar.{RequestHead, ReadsRequest, IsToken, is_token_byte, print_blank, print_version, print_end, print_section, print_request}
+use Rattle.httparse.specs.Spans.{IsRequestWithin, IsRequestOf}
 use Rattle.httparse.proofs.GrammarLemmas.{request_unique, print_request-append}
 use Rattle.http_model.specs.declared.Limits.{Limits}
 use Rattle.h1_head.specs.Plain.{is_plain, IsPlain}
 use Rattle.h1_head.specs.Request.{behind, BeginsWith, parts_of}
-use Rattle.h1_head.specs.Rows.{Parts}
 use Rattle.h1_head.specs.Spans.{span_parts}
 use Rattle.h1_head.proofs.Heads.{behind_stop}
 use Rattle.h1_head.proofs.Parsed.{begins_at, parts_at}

@@ -1,7 +1,6 @@
 -- What the rows leave of a head, and what holds of each head that is received.
-use Rattle.std.proofs.Common.{◌≡◌, ℕ, ◌+◌, ◌-◌, ◌<◌, ◌≤◌, Bool, true, false, cond, List, [], ◌∷◌, ◌++◌, length, get_or, refl, sym, ◌∙◌, ap, subst, arith, inl, inr}
-use Rattle.std.specs.Prelude.{All, filter, map, nat_lt, Option, Some, None, Result, Ok, Err, ◌||◌, not}
-use Rattle.std.specs.List.{list_any}
+use Rattle.std.proofs.Common.{◌≡◌, ℕ, ◌-◌, ◌<◌, ◌≤◌, Bool, true, false, cond, List, [], ◌∷◌, length, get_or, refl, ◌∙◌, ap, subst, arith, inl, inr}
+use Rattle.std.specs.Prelude.{All, filter, map, nat_lt, Option, Some, None, Ok, Err}
 use Rattle.std.specs.Str.{str_to_ascii_lowercase}
 use Rattle.std.specs.Char.{to_ascii_lowercase}
 use Rattle.std.proofs.lemmas.Bool.{or_parts, cases_lt, lt-ltb, both_ways}
@@ -10,7 +9,7 @@ use Rattle.std.proofs.lemmas.List.Elements.{All-nil, All-cons, All-map, All-filt
 use Rattle.std.proofs.lemmas.List.Sums.{length-filter, count_by-le-length}
 use Rattle.std.proofs.lemmas.Str.Ascii.{lowercase-lowercase}
 use Rattle.httparse.specs.Grammar as grammar
-use Rattle.httparse.specs.Grammar.{RequestHead, IsField, print_version}
+use Rattle.httparse.specs.Grammar.{RequestHead, IsField, print_version, is_value_byte}
 use Rattle.httparse.specs.Spans.{name_and_value}
 use Rattle.htx_model.specs.Blocks.{load}
 use Rattle.http_model.specs.declared.Limits.{Limits}
@@ -18,9 +17,10 @@ use Rattle.http_model.specs.Head.{Field, head_blocks}
 use Rattle.http_model.specs.Reading.{Received, Begins}
 use Rattle.h1_head.specs.declared.answer.HeadWhy.{HeadWhy}
 use Rattle.h1_head.specs.declared.answer.HeadWhy.TheVariants as why
-use Rattle.h1_head.specs.Received.{IsRequestLine, IsReceivedField, IsReceived}
+use Rattle.h1_head.specs.Received.{IsReceivedField, IsReceived}
 use Rattle.h1_head.specs.Request.{BeginsWith, parts_of, RequestOf}
 use Rattle.h1_head.specs.Rows.{Parts, has_long_name, is_kept, folded, received_head, received, refusal_of, is_heavy, unless_refused, decision}
+use Rattle.httparse.proofs.TrimLemmas.{AllPass-trim_ows}
 use Rattle.h1_head.proofs.Trimmed.{trimmed_twice}
 
 -- ---- a decision that keeps
@@ -75,6 +75,7 @@ received_field g is short =
       short = omega arith;
       lower = lower_twice g.name;
       trim = trimmed_twice g.raw;
+      clean = AllPass-trim_ows is_value_byte g.raw is.raw;
     }
 
 -- the names of fields of a head, seen by their parts

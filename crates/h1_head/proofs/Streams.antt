@@ -1,7 +1,7 @@
 -- What is read of a window is read of each stream that begins with it.
-use Rattle.std.proofs.Common.{◌≡◌, ◌≢◌, ℕ, ◌+◌, ◌<◌, ◌≤◌, ◌⊎◌, inl, inr, true, false, Bool, List, [], ◌∷◌, ◌++◌, length, drop, refl, sym, ap, ◌∙◌, subst, arith, append_assoc}
-use Rattle.std.specs.Prelude.{count_by, Ok, Err, Result}
-use Rattle.std.proofs.lemmas.List.{append-nil, drop-drop}
+use Rattle.std.proofs.Common.{◌≡◌, ◌≢◌, ℕ, ◌<◌, ◌≤◌, ◌⊎◌, inl, inr, true, false, Bool, List, [], ◌∷◌, ◌++◌, length, refl, sym, ap, ◌∙◌, subst, arith}
+use Rattle.std.specs.Prelude.{count_by, Ok, Err}
+use Rattle.std.proofs.lemmas.List.{append-nil}
 use Rattle.httparse.specs.Grammar.{RequestHead, ReadsRequest, HasNoRequest, NeverHasRequest}
 use Rattle.httparse.specs.Spans.{RequestOverflows}
 use Rattle.httparse.proofs.GrammarLemmas.{request_unique, ReadsRequest-append}
@@ -12,7 +12,7 @@ use Rattle.h1_head.specs.declared.answer.HeadWhy.TheVariants as why
 use Rattle.h1_head.specs.Rows.{decision, request_code}
 use Rattle.h1_head.specs.Request.{behind, BeginsWith, HasNoHead, parts_of, HasRefusedHead, IsHeadless, RequestOf}
 use Rattle.h1_head.specs.Window.{OnEachStream, is_line_feed, MayWait, IsHopeless, RefusesFor}
-use Rattle.h1_head.proofs.Heads.{feeds, behind-append, no_room_left, overflowing, no_short_head, at_least_two}
+use Rattle.h1_head.proofs.Heads.{feeds, behind-append, no_room_left, overflowing, no_short_head}
 
 -- ---- a stream is read by what stands behind its empty lines
 

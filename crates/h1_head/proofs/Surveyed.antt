@@ -1,21 +1,18 @@
 -- What one pass over the fields gathers is what the rows ask of them.
-use Rattle.std.proofs.Common.{◌≡◌, ℕ, ◌+◌, Bool, true, false, cond, List, [], ◌∷◌, ◌++◌, length, refl, sym, ◌∙◌, ap, arith, zero-add, append_assoc}
-use Rattle.std.specs.Prelude.{codes, filter, map, not, ◌&&◌, ◌||◌, ◌==◌, nat_lt, Option, Some, None}
+use Rattle.std.proofs.Common.{◌≡◌, ℕ, ◌+◌, Bool, true, false, cond, List, [], ◌∷◌, ◌++◌, length, refl, sym, ◌∙◌, ap, arith, zero-add}
+use Rattle.std.specs.Prelude.{codes, filter, map, not, ◌&&◌, ◌||◌, nat_lt, Option, Some, None}
 use Rattle.std.specs.List.{list_any, list_all}
-use Rattle.std.specs.Str.{bytes_eq}
 use Rattle.http_model.specs.Head.{Field}
 use Rattle.http_model.specs.Fields.{same_name, is_named, has_field, fields_named}
 use Rattle.px_bytes.specs.Numbers.{decimal_of}
 use Rattle.px_bytes.specs.Values.{values_of, values_in}
-use Rattle.h1_head.specs.declared.answer.HeadWhy.{HeadWhy}
-use Rattle.h1_head.specs.declared.answer.HeadWhy.TheVariants as why
 use Rattle.h1_head.specs.declared.survey.Lengths.{Lengths}
 use Rattle.h1_head.specs.declared.survey.Lengths.TheVariants.{Unread, One, Differing}
 use Rattle.h1_head.specs.declared.survey.Codings.{Codings}
 use Rattle.h1_head.specs.declared.survey.Codings.TheVariants.{Unnamed, Chunked, Unknown}
 use Rattle.h1_head.specs.declared.survey.Survey.{Survey}
-use Rattle.h1_head.specs.Rows.{Parts, elements_named, has_option, has_long_name, host_is_good, is_length, is_number, if_all_are, one_length, declared_length, is_none, framing_is_bad, is_chunked_alone, is_nonempty, coding_is_unknown, refusal_of}
-use Rattle.h1_head.specs.Survey.{by_number, next_length, lengths_after, by_coding, next_coding, codings_after, has_value, has_option_in, has_taking, removes_some, add_field, survey_after, no_survey, survey_of, are_one, are_chunked, declared_by, hosts_are_good, framing_fails, row_of}
+use Rattle.h1_head.specs.Rows.{Parts, elements_named, has_option, has_long_name, is_length, is_number, if_all_are, one_length, declared_length, is_none, is_chunked_alone, is_nonempty, refusal_of}
+use Rattle.h1_head.specs.Survey.{by_number, next_length, lengths_after, by_coding, next_coding, codings_after, has_value, has_option_in, has_taking, removes_some, add_field, survey_after, no_survey, survey_of, are_one, are_chunked, declared_by, row_of}
 
 or_false : (a : Bool) → (a || false) ≡ a
 or_false true = refl

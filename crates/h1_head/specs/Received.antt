@@ -1,7 +1,7 @@
 -- What holds of each request head that is received.
 use Rattle.std.specs.Prelude.{◌≡◌, ℕ, ◌-◌, ◌≤◌, ◌<◌, List, length, All}
 use Rattle.std.specs.Str.{str_to_ascii_lowercase}
-use Rattle.httparse.specs.Grammar.{IsToken, AllPass, is_uri_byte, print_version}
+use Rattle.httparse.specs.Grammar.{IsToken, AllPass, is_uri_byte, is_value_byte, print_version}
 use Rattle.htx_model.specs.Blocks.{load}
 use Rattle.http_model.specs.declared.Limits.{Limits}
 use Rattle.http_model.specs.Head.{Field, StartLine, RequestLine, Head, head_blocks}
@@ -18,12 +18,13 @@ pub record IsRequestLine (line : StartLine) : Type 0 where
   pub visible : AllPass is_uri_byte target
   pub known : minor ≤ 1
 
--- a field's name is 1 to 255 bytes in lower case, and its value has no blanks around it
+-- a field's name is 1 to 255 bytes in lower case, and its value has no blanks around it and no control byte but tabs
 pub record IsReceivedField (field : Field) : Type 0 where
   pub named : 1 ≤ length field.0
   pub short : length field.0 ≤ 255
   pub lower : str_to_ascii_lowercase field.0 ≡ field.0
   pub trim : trimmed field.1 ≡ field.1
+  pub clean : AllPass is_value_byte field.1
 
 -- a request line, at most 100 such fields, and room left for rules
 pub record IsReceived (limits : Limits) (head : Head) : Type 0 where

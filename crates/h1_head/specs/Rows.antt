@@ -44,6 +44,7 @@ host_is_good p =
     let hosts = length (fields_named (codes "host") p.fields) in
     if p.minor == 1 then hosts == 1 else nat_lt hosts 2
 
+-- there is a number, and it is this one
 abbrev pub is_number : ℕ → Option ℕ → Bool
 is_number n None = false
 is_number n (Some m) = n == m
@@ -66,6 +67,7 @@ one_length (element ∷ elements) = if_all_are (decimal_of 18 element) elements
 abbrev pub declared_length : List Field → Option ℕ
 declared_length fields = one_length (elements_named (codes "content-length") fields)
 
+-- there is no number
 abbrev pub is_none : Option ℕ → Bool
 is_none None = true
 is_none (Some n) = false
@@ -82,6 +84,7 @@ is_chunked_alone [] = false
 is_chunked_alone (coding ∷ []) = same_name coding (codes "chunked")
 is_chunked_alone (coding ∷ other ∷ codings) = false
 
+-- the element has a byte
 abbrev pub is_nonempty : List ℕ → Bool
 is_nonempty element = nat_lt 0 (length element)
 
@@ -141,6 +144,7 @@ refusal_of p =
 abbrev pub is_heavy : Limits → Parts → Bool
 is_heavy limits p = nat_lt (limits.bufsize - limits.maxrewrite) (load (head_blocks (received_head p)))
 
+-- the refusal where there is one, else what follows
 abbrev pub unless_refused : Option HeadWhy → Result Received HeadWhy → Result Received HeadWhy
 unless_refused None otherwise = otherwise
 unless_refused (Some why) otherwise = Err why

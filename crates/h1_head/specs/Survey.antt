@@ -18,6 +18,7 @@ use Rattle.h1_head.specs.Rows.{is_nonempty}
 
 -- ---- elements of Content-Length
 
+-- what is known behind one more element that is this number, or no length
 abbrev pub by_number : Lengths → Option ℕ → Lengths
 by_number lengths None = Differing
 by_number Unread (Some n) = One n
@@ -28,12 +29,14 @@ by_number Differing (Some n) = Differing
 abbrev pub next_length : Lengths → List ℕ → Lengths
 next_length lengths element = by_number lengths (decimal_of 18 element)
 
+-- what is known behind these elements
 abbrev pub lengths_after : Lengths → List (List ℕ) → Lengths
 lengths_after lengths [] = lengths
 lengths_after lengths (element ∷ elements) = lengths_after (next_length lengths element) elements
 
 -- ---- elements of Transfer-Encoding
 
+-- what is known behind one more element that is `chunked` or not
 abbrev pub by_coding : Codings → Bool → Codings
 by_coding Unnamed true = Chunked
 by_coding Unnamed false = Unknown
@@ -45,6 +48,7 @@ abbrev pub next_coding : Codings → List ℕ → Codings
 next_coding codings element =
     if is_nonempty element then by_coding codings (same_name element (codes "chunked")) else codings
 
+-- what is known behind these elements of Transfer-Encoding
 abbrev pub codings_after : Codings → List (List ℕ) → Codings
 codings_after codings [] = codings
 codings_after codings (element ∷ elements) = codings_after (next_coding codings element) elements
@@ -93,6 +97,7 @@ add_field s field =
     add_field_as (is_named (codes "host") field) (is_named (codes "content-length") field)
     (is_named (codes "transfer-encoding") field) (is_named (codes "connection") field) s field
 
+-- what is known behind these fields
 abbrev pub survey_after : Survey → List Field → Survey
 survey_after s [] = s
 survey_after s (field ∷ fields) = survey_after (add_field s field) fields
@@ -117,11 +122,13 @@ survey_of fields = survey_after no_survey fields
 
 -- ---- the rows, asked of a survey
 
+-- there is one length
 abbrev pub are_one : Lengths → Bool
 are_one Unread = false
 are_one (One n) = true
 are_one Differing = false
 
+-- there is one coding, `chunked`
 abbrev pub are_chunked : Codings → Bool
 are_chunked Unnamed = false
 are_chunked Chunked = true
@@ -133,9 +140,11 @@ declared_by Unread = None
 declared_by (One n) = Some n
 declared_by Differing = None
 
+-- as many Host fields as the version asks for
 abbrev pub hosts_are_good : ℕ → Survey → Bool
 hosts_are_good minor s = if minor == 1 then s.hosts == 1 else nat_lt s.hosts 2
 
+-- the fields that frame the body contradict each other or the version
 abbrev pub framing_fails : ℕ → Survey → Bool
 framing_fails minor s =
     s.has_coding && (minor == 0 || s.has_length) || s.has_length && not (are_one s.lengths)

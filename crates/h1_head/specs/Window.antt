@@ -1,15 +1,16 @@
 -- What a window says of each stream that begins with it.
-use Rattle.std.specs.Prelude.{◌≡◌, ◌≢◌, ℕ, ◌<◌, List, [], ◌++◌, Bool, true, ◌==◌, length, count_by}
+use Rattle.std.specs.Prelude.{◌≡◌, ℕ, ◌<◌, List, [], ◌++◌, Bool, true, ◌==◌, length, count_by}
 use Rattle.httparse.specs.Grammar.{HasNoRequest}
 use Rattle.http_model.specs.declared.Limits.{Limits}
 use Rattle.h1_head.specs.declared.answer.HeadWhy.{HeadWhy}
 use Rattle.h1_head.specs.declared.answer.HeadWhy.TheVariants as why
-use Rattle.h1_head.specs.Request.{behind, HasNoHead, IsHeadless, HasRefusedHead}
+use Rattle.h1_head.specs.Request.{behind, IsHeadless, HasRefusedHead}
 
 -- P of whatever may follow a window: of nothing alone where the window is the whole stream
 abbrev pub OnEachStream : (whole : Bool) → (List ℕ → Type 0) → Type 0
 OnEachStream whole P = (more : List ℕ) → (whole ≡ true → more ≡ []) → P more
 
+-- the byte that ends a line
 abbrev pub is_line_feed : ℕ → Bool
 is_line_feed b = b == 10
 

@@ -24,7 +24,7 @@ pub fn refusal_stays()
 {}
 
 /// Each head that a stream begins with has a request line, at most 100 fields, names of 1 to 255 bytes in
-/// lower case, trimmed values, and a load of at most `bufsize - maxrewrite`.
+/// lower case, trimmed values without control bytes but tabs, and a load of at most `bufsize - maxrewrite`.
 pub fn is_received()
     ensures { (limits : Limits) (stream : List ℕ) (got : Received) (rest : List ℕ) → RequestOf limits stream (Begins got rest) → IsReceived limits got.head }
 {}

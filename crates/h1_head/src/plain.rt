@@ -1,5 +1,5 @@
 //! Whether a window is a request that is nothing but its head. Its answer is asked for where a head was refused.
-ghost use Rattle.std.specs.Prelude.{◌≡◌, ◌≤◌, ◌↔◌, length, map, All, not, IsTrue};
+ghost use Rattle.std.specs.Prelude.{◌≡◌, ◌↔◌, length, map, All, IsTrue};
 ghost use Rattle.std.specs.List.{list_any};
 ghost use Rattle.httparse.specs.Spans.{IsWithin, IsHeaderWithin, header_bytes};
 ghost use Rattle.http_model.specs.Fields.{is_named_among};

@@ -1,12 +1,9 @@
 //! The received head, put straight into the array.
-ghost use Rattle.std.specs.Prelude.{◌≡◌, ◌≤◌, ◌<◌, ◌++◌, ◌∷◌, [], List, ℕ, length, map, codes, All, OnOk, OnErr};
-ghost use Rattle.std.specs.Str.{str_to_ascii_lowercase};
+ghost use Rattle.std.specs.Prelude.{◌≡◌, ◌≤◌, ◌<◌, ◌++◌, ◌∷◌, [], length, map, All, OnOk, OnErr};
 ghost use Rattle.httparse.specs.Grammar.{print_version};
-ghost use Rattle.httparse.specs.Spans.{IsWithin, IsHeaderWithin, header_bytes};
-ghost use Rattle.htx_model.specs.Block.{Header};
+ghost use Rattle.httparse.specs.Spans.{IsHeaderWithin, header_bytes};
 ghost use Rattle.htx_model.specs.Blocks.{load};
 ghost use Rattle.http_model.specs.Head.{header_block, head_blocks};
-ghost use Rattle.http_model.specs.Fields.{has_field};
 ghost use Rattle.h1_head.specs.Rows.{is_kept, folded, received_head};
 ghost use Rattle.h1_head.specs.Spans.{received_fields};
 ghost use Rattle.h1_head.specs.Survey.{has_option_in, removes_some};

@@ -1,7 +1,7 @@
 //! The rows that a head has to pass before it is weighed, asked of what its fields say.
-ghost use Rattle.std.specs.Prelude.{◌≡◌, ◌≤◌};
+ghost use Rattle.std.specs.Prelude.{◌≡◌};
 ghost use Rattle.h1_head.specs.Rows.{framing_by};
-ghost use Rattle.h1_head.specs.Survey.{are_one, are_chunked, declared_by, hosts_are_good, framing_fails, row_of};
+ghost use Rattle.h1_head.specs.Survey.{declared_by, hosts_are_good, framing_fails, row_of};
 
 use crate::HeadWhy;
 use crate::survey::{Codings, Lengths, Survey};

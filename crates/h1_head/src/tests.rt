@@ -77,8 +77,8 @@ fn refuses_malformed_heads(rt: HostRuntime) -> Result<(), Fail> {
             refused(501, HeadWhy::Coding),
         ),
     ];
-    let mut arena = Arena::new(rt.alloc(), 1024)?;
     for (window, answer) in cases {
+        let mut arena = Arena::new(rt.alloc(), 1024)?;
         assert_eq!(rt; read_request(window, true, LIMITS, &mut arena), answer);
         assert!(rt; arena.len() == 0);
     }

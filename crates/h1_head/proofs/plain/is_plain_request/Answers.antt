@@ -1,5 +1,4 @@
 use Rattle.std.proofs.Common.{◌≡◌, ◌≤◌, ◌-◌, List, ℕ, length, drop, length-drop, sym, ◌∙◌, ap, rules, arith}
-use Rattle.h1_head.specs.Plain.{IsPlain}
 use Rattle.h1_head.specs.Request.{behind}
 use Rattle.h1_head.proofs.Plainly.{plain_alone, plain_from, plain_to}
 use Rattle.h1_head.proofs.plain.is_plain_request.Goals as goal

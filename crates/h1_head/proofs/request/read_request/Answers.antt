@@ -1,5 +1,5 @@
-use Rattle.std.proofs.Common.{◌≡◌, ◌≢◌, ◌<◌, ◌≤◌, ◌-◌, ◌++◌, ℕ, List, [], ◌∷◌, sym, ◌∙◌, ap, subst, rules, arith, take, drop, length, length-drop, true, false, refl}
-use Rattle.std.specs.Prelude.{count_by, Bool, ◌==◌}
+use Rattle.std.proofs.Common.{◌≡◌, ◌≢◌, ◌-◌, ◌++◌, ℕ, List, [], ◌∷◌, sym, ◌∙◌, ap, subst, rules, arith, take, drop, length, false, refl}
+use Rattle.std.specs.Prelude.{Bool, ◌==◌}
 use Rattle.std.proofs.lemmas.Bool.{eq-eqb, both_ways}
 use Rattle.std.proofs.lemmas.List.{nil_from_length}
 use Rattle.http_model.specs.declared.Limits.{Limits}

@@ -1,4 +1,4 @@
-use Rattle.std.proofs.Common.{◌≡◌, ◌≤◌, length, rules}
+use Rattle.std.proofs.Common.{◌≤◌, length, rules}
 use Rattle.h1_head.specs.declared.answer.HeadWhy.TheVariants.{Long, Grammar}
 use Rattle.h1_head.specs.Rows.{request_code}
 use Rattle.h1_head.specs.Window.{RefusesFor}
