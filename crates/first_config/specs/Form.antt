@@ -1,5 +1,5 @@
 -- The first form of a configuration.
-use Rattle.std.specs.Prelude.{◌≡◌, ℕ, ◌+◌, List, [], ◌∷◌, Bool, true, false, ◌&&◌, ◌||◌, not, ◌==◌, if◌then◌else◌, nat_le, length, codes, Option, Some, None}
+use Rattle.std.specs.Prelude.{◌≡◌, ◌≤◌, ℕ, ◌+◌, List, [], ◌∷◌, Bool, true, false, ◌&&◌, ◌||◌, not, ◌==◌, if◌then◌else◌, nat_le, length, codes, Option, Some, None}
 use Rattle.std.specs.List.{list_all, list_any}
 use Rattle.std.specs.Option.{option_and_then}
 use Rattle.std.specs.Str.{bytes_eq}
@@ -17,6 +17,14 @@ pub record First : Type 0 where
 
 abbrev pub seen : FirstConfig → First
 seen cfg = record { limits = cfg.limits; name = cfg.name.now; value = cfg.value.now }
+
+-- sizes within their bounds, and a name of 1 to 255 bytes
+pub record IsValid (cfg : First) : Type 0 where
+  pub least : 1024 ≤ cfg.limits.bufsize
+  pub most : cfg.limits.bufsize ≤ 262144
+  pub reserve : cfg.limits.maxrewrite + 512 ≤ cfg.limits.bufsize
+  pub named : 1 ≤ length cfg.name
+  pub short : length cfg.name ≤ 255
 
 -- a lower-case letter or a dash
 abbrev pub is_name_byte : ℕ → Bool

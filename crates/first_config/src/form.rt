@@ -1,10 +1,10 @@
 //! The whole form.
-ghost use Rattle.std.specs.Prelude.{◌≡◌, ◌≤◌, ◌+◌, option_map, IfSome, ◌&&◌, nat_le, length};
+ghost use Rattle.std.specs.Prelude.{◌≡◌, ◌≤◌, ◌+◌, option_map, IfSome, IsTrue, ◌&&◌, nat_le, length};
 ghost use Rattle.std.specs.List.{list_any, list_all};
 ghost use Rattle.std.specs.Char.{is_ascii_alphanumeric};
 ghost use Rattle.std.specs.Str.{bytes_eq};
 ghost use Rattle.http_model.specs.Finish.{framing_names};
-ghost use Rattle.first_config.specs.Form.{is_name_byte, is_name, is_value, rule_of, limits_by, sizes_of, limits_of, ruled, first_config_of, seen};
+ghost use Rattle.first_config.specs.Form.{is_name_byte, is_name, is_value, rule_of, limits_by, sizes_of, limits_of, ruled, IsValid, first_config_of, seen};
 
 use crate::lines::{behind_line, behind_words, cut_at, first_line, number_behind};
 use http_model::Limits;
@@ -39,7 +39,9 @@ fn is_framing(name: &[u8]) -> bool
 
 /// Whether there are 1 to so many bytes.
 fn is_sized(bytes: &[u8], most: usize) -> bool
-    ensures { result ≡ (nat_le 1 (length bytes.now) && nat_le (length bytes.now) most) }
+    ensures test { result ≡ (nat_le 1 (length bytes.now) && nat_le (length bytes.now) most) }
+    ensures some { IsTrue result → 1 ≤ length bytes.now }
+    ensures short { IsTrue result → length bytes.now ≤ most }
 {
     !bytes.is_empty() && bytes.len() <= most
 }
@@ -60,7 +62,9 @@ fn has_value_bytes(bytes: &[u8]) -> bool
 
 /// Whether the bytes are a name of the first form.
 fn is_name(name: &[u8]) -> bool
-    ensures { result ≡ is_name name.now }
+    ensures test { result ≡ is_name name.now }
+    ensures some { IsTrue result → 1 ≤ length name.now }
+    ensures short { IsTrue result → length name.now ≤ 255 }
 {
     is_sized(name, 255) && has_name_bytes(name) && !is_framing(name)
 }
@@ -74,7 +78,9 @@ fn is_value(value: &[u8]) -> bool
 
 /// The header that a line sets.
 fn rule_of(line: &[u8]) -> Option<(&[u8], &[u8])>
-    ensures { option_map (λ rule. (rule.0.now, rule.1.now)) result ≡ rule_of line.now }
+    ensures rule { option_map (λ rule. (rule.0.now, rule.1.now)) result ≡ rule_of line.now }
+    ensures some { IfSome result (λ rule. 1 ≤ length rule.0.now) }
+    ensures short { IfSome result (λ rule. length rule.0.now ≤ 255) }
 {
     let (name, value) = cut_at(behind_words(b"http-request set-header ", line)?, b' ');
     if is_name(name) && is_value(value) {
@@ -86,7 +92,10 @@ fn rule_of(line: &[u8]) -> Option<(&[u8], &[u8])>
 
 /// Sizes that are within their bounds.
 fn limits_by(bufsize: u64, maxrewrite: u64) -> Option<Limits>
-    ensures { result ≡ limits_by bufsize maxrewrite }
+    ensures limits { result ≡ limits_by bufsize maxrewrite }
+    ensures least { IfSome result (λ limits. 1024 ≤ limits.bufsize) }
+    ensures most { IfSome result (λ limits. limits.bufsize ≤ 262144) }
+    ensures reserve { IfSome result (λ limits. limits.maxrewrite + 512 ≤ limits.bufsize) }
 {
     if bufsize >= 1024 && bufsize <= 262144 && maxrewrite <= 262144 && maxrewrite + 512 <= bufsize {
         Some(Limits {
@@ -100,7 +109,10 @@ fn limits_by(bufsize: u64, maxrewrite: u64) -> Option<Limits>
 
 /// The sizes that two lines tell, and no more lines.
 fn sizes_of(text: &[u8]) -> Option<Limits>
-    ensures { result ≡ sizes_of text.now }
+    ensures limits { result ≡ sizes_of text.now }
+    ensures least { IfSome result (λ limits. 1024 ≤ limits.bufsize) }
+    ensures most { IfSome result (λ limits. limits.bufsize ≤ 262144) }
+    ensures reserve { IfSome result (λ limits. limits.maxrewrite + 512 ≤ limits.bufsize) }
 {
     let (first, rest) = first_line(text);
     let (second, rest) = first_line(rest);
@@ -114,7 +126,10 @@ fn sizes_of(text: &[u8]) -> Option<Limits>
 
 /// The sizes that the text behind the rule tells.
 fn limits_of(text: &[u8]) -> Option<Limits>
-    ensures { result ≡ limits_of text.now }
+    ensures limits { result ≡ limits_of text.now }
+    ensures least { IfSome result (λ limits. 1024 ≤ limits.bufsize) }
+    ensures most { IfSome result (λ limits. limits.bufsize ≤ 262144) }
+    ensures reserve { IfSome result (λ limits. limits.maxrewrite + 512 ≤ limits.bufsize) }
 {
     if text.is_empty() {
         return Some(DEFAULT_LIMITS);
@@ -124,7 +139,8 @@ fn limits_of(text: &[u8]) -> Option<Limits>
 
 /// The rule and the sizes.
 fn ruled(text: &[u8]) -> Option<FirstConfig<'_>>
-    ensures { option_map seen result ≡ ruled text.now }
+    ensures says { option_map seen result ≡ ruled text.now }
+    ensures valid { IfSome result (λ cfg. IsValid (seen cfg)) }
 {
     let (line, rest) = first_line(text);
     let (name, value) = rule_of(line)?;
@@ -139,7 +155,8 @@ fn ruled(text: &[u8]) -> Option<FirstConfig<'_>>
 /// What a text in the first form says, and none where it isn't in that form.
 #[tactic(auto, unfolding(crate::specs::Form::first_config_of))]
 pub fn read_first_config(text: &[u8]) -> Option<FirstConfig<'_>>
-    ensures { option_map seen result ≡ first_config_of text.now }
+    ensures says { option_map seen result ≡ first_config_of text.now }
+    ensures valid { IfSome result (λ cfg. IsValid (seen cfg)) }
 {
     let text = behind_line(b"listen p", text)?;
     let text = behind_line(b"bind 127.0.0.1:8080", text)?;

@@ -47,16 +47,18 @@ pub record Reports (cfg : First) (client body text : List ℕ) : Type 0 where
   pub report : text ≡ report_of out
   pub served : IsUnbuilt cfg.limits client → ⊥
 
--- the words name two files that say this, where files are told, and the text is the report of it
-pub record IsAnswer (words : List (List ℕ)) (files : Option (List NamedBytes)) (text : List ℕ) : Type 0 where
-  pub cfg_name : List ℕ
-  pub rec_name : List ℕ
-  pub replay : IsReplay words cfg_name rec_name
+-- the text is the report of what the two files say, where files are told
+pub record IsReportOf (files : Option (List NamedBytes)) (cfg_name rec_name text : List ℕ) : Type 0 where
   pub cfg : First
   pub client : List ℕ
   pub body : List ℕ
   pub say : IfTold files (λ fs. Say fs cfg_name rec_name cfg client body)
   pub reports : Reports cfg client body text
+
+-- the words are `replay CFG REC`, and the text is the report of what the two files say
+abbrev pub IsAnswer : List (List ℕ) → Option (List NamedBytes) → (text : List ℕ) → Type 0
+IsAnswer words files text =
+    (cfg_name : List ℕ) × (rec_name : List ℕ) × IsReplay words cfg_name rec_name × IsReportOf files cfg_name rec_name text
 
 -- the configuration isn't in the first form
 abbrev pub NoConfig : List NamedBytes → List ℕ → Type 0
@@ -73,9 +75,13 @@ abbrev pub NoService : List NamedBytes → (cfg_name rec_name : List ℕ) → Ty
 NoService files cfg_name rec_name =
     (cfg : First) × (client : List ℕ) × (body : List ℕ) × Say files cfg_name rec_name cfg client body × IsUnbuilt cfg.limits client
 
--- what isn't built yet, in the order in which it is found
+-- what the files say isn't built yet, where they are told
+abbrev pub FilesUnbuilt : Option (List NamedBytes) → (cfg_name rec_name : List ℕ) → Type 0
+FilesUnbuilt files cfg_name rec_name =
+    IfTold files (λ fs. NoConfig fs cfg_name ⊎ (NoRecord fs cfg_name rec_name ⊎ NoService fs cfg_name rec_name))
+
+-- what isn't built yet: other words, or what the files say
 abbrev pub UnbuiltBy : List (List ℕ) → Option (List NamedBytes) → Type 0
 UnbuiltBy words files =
     ((cfg_name rec_name : List ℕ) → IsReplay words cfg_name rec_name → ⊥)
-    ⊎ ((cfg_name : List ℕ) × (rec_name : List ℕ) × IsReplay words cfg_name rec_name
-    × IfTold files (λ fs. NoConfig fs cfg_name ⊎ NoRecord fs cfg_name rec_name ⊎ NoService fs cfg_name rec_name))
+    ⊎ ((cfg_name : List ℕ) × (rec_name : List ℕ) × IsReplay words cfg_name rec_name × FilesUnbuilt files cfg_name rec_name)

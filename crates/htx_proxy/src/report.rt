@@ -1,7 +1,7 @@
 //! What `replay` makes of a configuration and a record.
 ghost use Rattle.std.specs.Prelude.{◌≡◌, ◌≤◌, ◌+◌, ◌<◌, ℕ, List, length, take, IfOk, IfSome, IfNone, OnOk, IsErrOf, Some};
-ghost use Rattle.first_config.specs.Form.{First, seen};
-ghost use Rattle.rec_format.specs.Record.{IsFirstRecord};
+ghost use Rattle.first_config.specs.Form.{First, IsValid, seen};
+ghost use Rattle.rec_format.specs.Record.{server_text};
 ghost use Rattle.forward_core.specs.Unbuilt.{IsUnbuilt};
 ghost use Rattle.http_model.specs.declared.Close.TheVariants as close;
 ghost use Rattle.rec_format.specs.ReportParts.{out_of, sent_of};
@@ -22,6 +22,7 @@ pub const MOST_CONFIG: usize = 1048576;
 pub fn config_of(text: &[u8]) -> Option<FirstConfig<'_>>
     ensures some { IfSome result (λ cfg. IsFirstConfig text.now (seen cfg)) }
     ensures none { IfNone result ((cfg : First) → IsFirstConfig text.now cfg → ⊥) }
+    ensures valid { IfSome result (λ cfg. IsValid (seen cfg)) }
 {
     if text.len() > MOST_CONFIG {
         return None;
@@ -65,12 +66,15 @@ fn report_of(alloc: Global, one: One) -> Result<Report, OutOfMemory>
 pub fn replayed(
     alloc: Global,
     cfg: &FirstConfig<'_>,
-    record: &FirstRecord<'_>,
+    recorded: &FirstRecord<'_>,
 ) -> Result<Bytes, ExchangeFault>
-    ensures reports { IfOk result (Reports (seen cfg.now) record.now.client.now record.now.body.now) }
-    ensures unbuilt { IsErrOf result ExchangeFault.Unbuilt → IsUnbuilt cfg.now.limits record.now.client.now }
+    requires valid { IsValid (seen cfg.now) }
+    requires server { recorded.now.server.now ≡ server_text recorded.now.body.now }
+    requires body { length recorded.now.body.now ≤ 65536 }
+    ensures reports { IfOk result (Reports (seen cfg.now) recorded.now.client.now recorded.now.body.now) }
+    ensures unbuilt { IsErrOf result ExchangeFault.Unbuilt → IsUnbuilt cfg.now.limits recorded.now.client.now }
 {
-    let one = one_exchange(alloc, cfg, record.client, record.server)?;
+    let one = one_exchange(alloc, cfg, recorded.client, recorded.server)?;
     let report = report_of(alloc, one)?;
     Ok(write_report(alloc, &report)?)
 }

@@ -1,16 +1,13 @@
 //! The program's one call.
-ghost use Rattle.std.specs.Prelude.{◌≡◌, ◌≢◌, ◌⊎◌, ◌∷◌, ◌++◌, [], ℕ, List, map, string_bytes, IfOk, IfSome, IfNone, Some};
+ghost use Rattle.std.specs.Prelude.{◌≡◌, ◌⊎◌, ℕ, List, map, string_bytes, Some};
 ghost use Rattle.px_link.specs.Told.{NamedBytes, Rose, Gains, GainsFront};
 ghost use Rattle.first_config.specs.Form.{First};
-ghost use Rattle.forward_core.specs.Unbuilt.{IsUnbuilt};
 ghost use Rattle.htx_proxy.specs.Command.{IsReplay, NamesFile};
-ghost use Rattle.htx_proxy.specs.Replay.{IsAnswer, UnbuiltBy, Say};
+ghost use Rattle.htx_proxy.specs.Replay.{IsAnswer, UnbuiltBy, NoService, Say};
 
+use crate::answer::{Stop, answer};
 use crate::command::replay_files;
-use crate::report::{MOST_CONFIG, config_of, replayed};
-use forward_core::ExchangeFault;
-use px_link::{Bytes, Fault, Files, Sink};
-use rec_format::read_first_record;
+use px_link::{Fault, Files, Sink};
 use std::alloc::Global;
 
 /// How the program ended. The process ends with the number.
@@ -27,10 +24,35 @@ pub enum Status {
     Unbuilt = 8,
 }
 
-/// The most bytes of a record.
-const MOST_RECORD: usize = 67108864;
+/// Runs the command. Every clause but the one on completeness is here.
+fn run<F: Files, K: Sink>(alloc: Global, words: &[String], files: &mut F, out: &mut K) -> Status
+    ensures good { result ≡ Status.Good → (text : List ℕ) × IsAnswer (map string_bytes words.now) (F.files files.old) text
+        × Gains (K.written out.old) (K.written out.new) text }
+    ensures file_fault { result ≡ Status.FileFault → Rose (F.faults files.old) (F.faults files.new) }
+    ensures file_name { result ≡ Status.FileFault → NamesFile (map string_bytes words.now) (F.last_failed files.new) }
+    ensures out_fault { result ≡ Status.OutFault → Rose (K.faults out.old) (K.faults out.new) }
+    ensures front { result ≡ Status.OutFault → (text : List ℕ) × IsAnswer (map string_bytes words.now) (F.files files.old) text
+        × GainsFront (K.written out.old) (K.written out.new) text }
+    ensures unbuilt { result ≡ Status.Unbuilt → UnbuiltBy (map string_bytes words.now) (F.files files.old) }
+    ensures silent { (result ≡ Status.Unbuilt) ⊎ (result ≡ Status.FileFault) → K.written out.new ≡ K.written out.old }
+{
+    let Some((cfg_name, rec_name)) = replay_files(words) else {
+        return Status::Unbuilt;
+    };
+    let report = match answer(alloc, files, cfg_name, rec_name) {
+        Ok(report) => report,
+        Err(Stop::FileFault) => return Status::FileFault,
+        Err(Stop::Unbuilt) => return Status::Unbuilt,
+        Err(Stop::OutOfMemory) => return Status::OutOfMemory,
+    };
+    match out.write_all(report.as_slice()) {
+        Ok(()) => Status::Good,
+        Err(Fault::Failed) => Status::OutFault,
+        Err(Fault::OutOfMemory) => Status::OutOfMemory,
+    }
+}
 
-/// The program.
+/// The program: `replay CFG REC` reads a configuration and a record, runs the recorded session, and writes its report.
 pub fn htx_proxy<F: Files, K: Sink>(
     alloc: Global,
     words: &[String],
@@ -59,37 +81,9 @@ pub fn htx_proxy<F: Files, K: Sink>(
     // Where nothing failed, only memory is in the way of a first form.
     ensures complete { (cfg_name rec_name : List ℕ) → IsReplay (map string_bytes words.now) cfg_name rec_name
         → (fs : List NamedBytes) → F.files files.old ≡ Some fs
-        → (cfg : First) (client body : List ℕ) → Say fs cfg_name rec_name cfg client body → (IsUnbuilt cfg.limits client → ⊥)
+        → (cfg : First) (client body : List ℕ) → Say fs cfg_name rec_name cfg client body → (NoService fs cfg_name rec_name → ⊥)
         → (Rose (F.faults files.old) (F.faults files.new) → ⊥) → (Rose (K.faults out.old) (K.faults out.new) → ⊥)
         → (result ≡ Status.Good) ⊎ (result ≡ Status.OutOfMemory) }
 {
-    let Some((cfg_name, rec_name)) = replay_files(words) else {
-        return Status::Unbuilt;
-    };
-    let cfg_text = match files.read_file(alloc, cfg_name, MOST_CONFIG + 1) {
-        Ok(text) => text,
-        Err(Fault::Failed) => return Status::FileFault,
-        Err(Fault::OutOfMemory) => return Status::OutOfMemory,
-    };
-    let Some(cfg) = config_of(cfg_text.as_slice()) else {
-        return Status::Unbuilt;
-    };
-    let rec_text = match files.read_file(alloc, rec_name, MOST_RECORD + 1) {
-        Ok(text) => text,
-        Err(Fault::Failed) => return Status::FileFault,
-        Err(Fault::OutOfMemory) => return Status::OutOfMemory,
-    };
-    let Some(record) = read_first_record(rec_text.as_slice()) else {
-        return Status::Unbuilt;
-    };
-    let report = match replayed(alloc, &cfg, &record) {
-        Ok(report) => report,
-        Err(ExchangeFault::Unbuilt) => return Status::Unbuilt,
-        Err(ExchangeFault::OutOfMemory) => return Status::OutOfMemory,
-    };
-    match out.write_all(report.as_slice()) {
-        Ok(()) => Status::Good,
-        Err(Fault::Failed) => Status::OutFault,
-        Err(Fault::OutOfMemory) => Status::OutOfMemory,
-    }
+    run(alloc, words, files, out)
 }
