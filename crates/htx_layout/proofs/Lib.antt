@@ -1,0 +1,13 @@
+pub mod PieceLemmas
+pub mod RawLemmas
+pub mod ScanLemmas
+pub mod MoveLemmas
+pub mod PackLemmas
+pub mod SpotLemmas
+pub mod EachLemmas
+pub mod SinkLemmas
+pub mod CarryLemmas
+pub mod GrowLemmas
+pub mod ExtendLemmas
+pub mod RoomLemmas
+pub mod ChangeLemmas
