@@ -11,3 +11,6 @@ pub mod GrowLemmas
 pub mod ExtendLemmas
 pub mod RoomLemmas
 pub mod ChangeLemmas
+pub mod CodeLemmas
+pub mod HeldLemmas
+pub mod ValueLemmas

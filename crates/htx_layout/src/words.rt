@@ -64,12 +64,21 @@ fn code_of(kind: Kind) -> u32
     }
 }
 
-/// The info word of a type and its low bits.
-pub fn info(kind: Kind, lengths: u32) -> u32
-    requires { lengths < 2 ^ 28 }
-    ensures { result ≡ 2 ^ 28 * code_of kind + lengths }
+/// The info word of a block that is no field.
+pub fn info(kind: Kind, len: u32) -> u32
+    requires { len < 2 ^ 28 }
+    ensures { result ≡ 2 ^ 28 * code_of kind + len }
 {
-    0x1000_0000 * code_of(kind) + lengths
+    0x1000_0000 * code_of(kind) + len
+}
+
+/// The info word of a field.
+pub fn field_info(kind: Kind, name: u32, value: u32) -> u32
+    requires name { name ≤ 255 }
+    requires value { value < 2 ^ 20 }
+    ensures { result ≡ 2 ^ 28 * code_of kind + (256 * value + name) }
+{
+    0x1000_0000 * code_of(kind) + (256 * value + name)
 }
 
 /// The lengths of a start line's parts, as they begin its payload.

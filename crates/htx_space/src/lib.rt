@@ -4,4 +4,4 @@ mod lend;
 mod space;
 
 pub use htx_model::OutOfMemory;
-pub use space::{Desc, Space};
+pub use space::{Desc, Space, word};

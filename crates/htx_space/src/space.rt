@@ -136,8 +136,9 @@ impl Space {
 
 ghost use Rattle.htx_space.specs.Windows.{word_at};
 
+/// The little-endian word at a place.
 #[tactic(auto, unfolding(crate::specs::Windows::word_at))]
-fn word(bytes: &[u8], at: usize) -> u32
+pub fn word(bytes: &[u8], at: usize) -> u32
     requires { at + 4 ≤ length bytes.now }
     ensures { result ≡ word_at bytes.now at }
 {
