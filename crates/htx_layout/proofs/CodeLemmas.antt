@@ -1,7 +1,7 @@
 -- A block's info word and payload tell the block again.
-use Rattle.std.proofs.Common.{◌≡◌, ℕ, ◌+◌, ◌*◌, ◌/◌, ◌%◌, ◌^◌, ◌<◌, ◌≤◌, List, [], ◌++◌, length, take, drop, refl, ap, sym, ◌∙◌, arith, length-append}
+use Rattle.std.proofs.Common.{◌≡◌, ℕ, ◌+◌, ◌*◌, ◌/◌, ◌%◌, ◌^◌, ◌<◌, ◌≤◌, List, [], ◌∷◌, ◌++◌, length, take, drop, refl, subst, ap, sym, ◌∙◌, arith, length-append}
 use Rattle.std.proofs.Math.Seq.{take-append_seam, drop-append_seam, drop-append-add, take-length}
-use Rattle.htx_model.specs.Block.{Block, RequestLine, ResponseLine, Header, EndHeaders, Data, Trailer, EndTrailers, block, kind_of, name_of, payload_len}
+use Rattle.htx_model.specs.Block.{Block, RequestLine, ResponseLine, Header, EndHeaders, Data, Trailer, EndTrailers, block, kind_of, name_of, payload_len, IsFieldKind, IsLineKind, IsEndKind}
 use Rattle.htx_model.specs.declared.Kind.{Kind}
 use Rattle.htx_model.specs.declared.Kind.TheVariants as kinds
 use Rattle.htx_space.specs.Windows.{window, word_at}
@@ -11,6 +11,7 @@ use Rattle.htx_layout.specs.Raw.{code_of, lengths_of, info_of, line_head, payloa
 -- what an array of at most 262144 bytes can hold
 pub record IsSmall (b : Block) : Type 0 where
   pub named : length (name_of b) ≤ 255
+  pub some : IsFieldKind (kind_of b) → 1 ≤ length (name_of b)
   pub small : payload_len b ≤ 262144
 
 pub record IsCoded (b : Block) : Type 0 where
@@ -157,7 +158,71 @@ coded b h =
       long = payload_long b;
     }
 
+name_by : (b : Block) → IsSmall b → IsFieldKind (kind_of b) → name_len (info_of b) ≡ length (name_of b)
+name_by (RequestLine a b c) h g = absurd g
+name_by (ResponseLine a b c) h g = absurd g
+name_by (Header n v) h g = field_name 2 (length n) (length v) h.named
+name_by EndHeaders h g = absurd g
+name_by (Data p) h g = absurd g
+name_by (Trailer n v) h g = field_name 5 (length n) (length v) h.named
+name_by EndTrailers h g = absurd g
+
+named_by : (b : Block) → IsSmall b → IsFieldKind (info_kind (info_of b)) → 1 ≤ name_len (info_of b)
+named_by b h g =
+    let field : IsFieldKind (kind_of b) = subst IsFieldKind (info_kind_is b h) g in
+    let some = h.some field in
+    omega (arith, name_by b h field)
+
 pub tells : (b : Block) → IsSmall b → Tells (info_of b) (payload_of b)
 tells b h =
     let c = coded b h in
-    record { len = ap payload_len c.is ∙ sym c.len; code = sym (ap info_of c.is); bytes = sym (ap payload_of c.is) }
+    record { len = ap payload_len c.is ∙ sym c.len; code = sym (ap info_of c.is); bytes = sym (ap payload_of c.is); named = named_by b h }
+
+-- a block that an info word and a payload tell, which are its own
+pub record IsMade (b : Block) (info : ℕ) (p : List ℕ) : Type 0 where
+  pub tells : Tells info p
+  pub is : block_of info p ≡ b
+  pub long : length p ≡ payload_len b
+  pub len : info_len info ≡ payload_len b
+
+pub made : (b : Block) (info : ℕ) (p : List ℕ) → info ≡ info_of b → p ≡ payload_of b → IsSmall b → IsMade b info p
+made b info p e f h =
+    let c = coded b h in
+    record {
+      tells = subst (λ (i : ℕ). Tells i p) (sym e) (subst (λ (q : List ℕ). Tells (info_of b) q) (sym f) (tells b h));
+      is = (λ j. block_of (e j) (f j)) ∙ c.is;
+      long = ap length f ∙ c.long;
+      len = ap info_len e ∙ c.len;
+    }
+
+-- ---- the blocks that calls make of their arguments
+
+pub field_made : (k : Kind) (n v : List ℕ) (info : ℕ) (p : List ℕ) → IsFieldKind k → 1 ≤ length n → length n ≤ 255 → length n + length v ≤ 262144 → info ≡ 2 ^ 28 * code_of k + (256 * length v + length n) → p ≡ n ++ v → IsMade (block k n v []) info p
+field_made kinds.RequestLine n v info p h some named small e f = absurd h
+field_made kinds.ResponseLine n v info p h some named small e f = absurd h
+field_made kinds.Header n v info p h some named small e f = made (Header n v) info p e f (record { named = named; some = λ g. some; small = small })
+field_made kinds.EndHeaders n v info p h some named small e f = absurd h
+field_made kinds.Data n v info p h some named small e f = absurd h
+field_made kinds.Trailer n v info p h some named small e f = made (Trailer n v) info p e f (record { named = named; some = λ g. some; small = small })
+field_made kinds.EndTrailers n v info p h some named small e f = absurd h
+
+pub line_made : (k : Kind) (a b c : List ℕ) (info : ℕ) (p : List ℕ) → IsLineKind k → 12 + length a + length b + length c ≤ 262144 → info ≡ 2 ^ 28 * code_of k + (12 + length a + length b + length c) → p ≡ line_head (length a) (length b) (length c) ++ (a ++ (b ++ c)) → IsMade (block k a b c) info p
+line_made kinds.RequestLine a b c info p h small e f = made (RequestLine a b c) info p e f (record { named = omega arith; some = λ g. absurd g; small = small })
+line_made kinds.ResponseLine a b c info p h small e f = made (ResponseLine a b c) info p e f (record { named = omega arith; some = λ g. absurd g; small = small })
+line_made kinds.Header a b c info p h small e f = absurd h
+line_made kinds.EndHeaders a b c info p h small e f = absurd h
+line_made kinds.Data a b c info p h small e f = absurd h
+line_made kinds.Trailer a b c info p h small e f = absurd h
+line_made kinds.EndTrailers a b c info p h small e f = absurd h
+
+pub end_made : (k : Kind) (info : ℕ) (p : List ℕ) → IsEndKind k → info ≡ 2 ^ 28 * code_of k + 1 → p ≡ 0 ∷ [] → IsMade (block k [] [] []) info p
+end_made kinds.RequestLine info p h e f = absurd h
+end_made kinds.ResponseLine info p h e f = absurd h
+end_made kinds.Header info p h e f = absurd h
+end_made kinds.EndHeaders info p h e f = made EndHeaders info p e f (record { named = omega arith; some = λ g. absurd g; small = omega arith })
+end_made kinds.Data info p h e f = absurd h
+end_made kinds.Trailer info p h e f = absurd h
+end_made kinds.EndTrailers info p h e f = made EndTrailers info p e f (record { named = omega arith; some = λ g. absurd g; small = omega arith })
+
+pub data_made : (q : List ℕ) (info : ℕ) (p : List ℕ) → length q ≤ 262144 → info ≡ 2 ^ 28 * 4 + length q → p ≡ q → IsMade (Data q) info p
+data_made q info p small e f = made (Data q) info p e f (record { named = omega arith; some = λ g. absurd g; small = small })

@@ -14,3 +14,7 @@ pub mod ChangeLemmas
 pub mod CodeLemmas
 pub mod HeldLemmas
 pub mod ValueLemmas
+pub mod LentLemmas
+pub mod TellLemmas
+pub mod StayLemmas
+pub mod FrontLemmas

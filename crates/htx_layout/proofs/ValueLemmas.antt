@@ -2,7 +2,7 @@
 use Rattle.std.proofs.Common.{◌≡◌, ◌≢◌, ℕ, ◌+◌, ◌*◌, ◌^◌, ◌%◌, ◌<◌, ◌≤◌, inl, inr, List, [], length, set, take, drop, refl, ap, sym, ◌∙◌, subst, arith}
 use Rattle.std.proofs.lemmas.List.{take-append-drop, take_all, take-take, drop-take, drop-drop}
 use Rattle.std.proofs.lemmas.Bool.{cases_lt, cases_eq}
-use Rattle.htx_model.specs.Block.{Block, RequestLine, ResponseLine, Header, EndHeaders, Data, Trailer, EndTrailers, block, kind_of, value_of, payload_len, HasValue, with_value}
+use Rattle.htx_model.specs.Block.{Block, RequestLine, ResponseLine, Header, EndHeaders, Data, Trailer, EndTrailers, block, kind_of, value_of, payload_len, HasValue, IsFieldKind, with_value}
 use Rattle.htx_model.specs.declared.Kind.{Kind}
 use Rattle.htx_model.specs.declared.Kind.TheVariants as kinds
 use Rattle.htx_space.specs.declared.space.Desc.{Desc}
@@ -198,6 +198,7 @@ told_here raw n i w can e told =
       len = ap payload_len is ∙ payload-with_value b w e ∙ old.len ∙ sym (ap info_len info);
       code = info ∙ old.code ∙ sym (info-with_value b w e) ∙ sym (ap info_of is);
       bytes = bytes_of (desc_at new i).info (payload_in new i) (subst HasValue (sym kind) can.valued);
+      named = subst (λ (m : ℕ). IsFieldKind (info_kind m) → 1 ≤ name_len m) (sym info) old.named;
     }
 
 pub IsTold-over : (raw : List ℕ) (n i : ℕ) (w : List ℕ) → CanWrite raw n i w → length w ≡ length (value_of (block_in raw i)) → IsTold raw n → IsTold (over raw i w) n

@@ -66,3 +66,20 @@ settled_by (Some l) front = front
 -- `front` is 0 where no payload stands at or above it
 abbrev pub settled : ℕ → List ℕ → ℕ
 settled front addrs = settled_by (low front addrs) front
+
+-- a payload that ends at the top may have `len` more bytes, as one of `count` blocks
+abbrev pub grown_at_top : ℕ → ℕ → ℕ → ℕ → ℕ → Option ℕ
+grown_at_top size end len top count =
+    if nat_eq end top then (if nat_le (end + len + 8 * count) size then Some 0 else None) else None
+
+-- one that ends at `front` may have them in front of the least address there
+abbrev pub grown_at_front : ℕ → ℕ → ℕ → ℕ → ℕ → ℕ → Option ℕ → Option ℕ
+grown_at_front size front end len top count None = None
+grown_at_front size front end len top count (Some low) =
+    if nat_eq end front then (if nat_le (end + len) low then (if nat_le (top + 8 * count) size then Some (front + len) else None) else None) else None
+
+-- `front` once a payload that ends here has `len` more bytes where it stands, if it may have them
+abbrev pub stays : ℕ → List Block → List ℕ → ℕ → ℕ → ℕ → Option ℕ
+stays size blocks addrs front end len =
+    if nat_eq front 0 then grown_at_top size end len (top blocks addrs) (length blocks)
+    else grown_at_front size front end len (top blocks addrs) (length blocks) (low front addrs)

@@ -1,8 +1,8 @@
 -- The array's bytes read by number: descriptors, payloads, blocks (HTX API, "data representation").
-use Rattle.std.specs.Prelude.{ℕ, ◌+◌, ◌*◌, ◌/◌, ◌%◌, ◌^◌, ◌≡◌, List, [], ◌∷◌, ◌++◌, length, take, drop, map, nat_eq, if◌then◌else◌}
+use Rattle.std.specs.Prelude.{ℕ, ◌+◌, ◌*◌, ◌/◌, ◌%◌, ◌^◌, ◌≡◌, ◌≤◌, List, [], ◌∷◌, ◌++◌, length, take, drop, map, nat_eq, if◌then◌else◌}
 use Rattle.std.specs.List.{range_with_len}
 use Rattle.std.specs.Int.{to_le_bytes, w32}
-use Rattle.htx_model.specs.Block.{Block, RequestLine, ResponseLine, Header, EndHeaders, Data, Trailer, EndTrailers, block, kind_of, payload_len}
+use Rattle.htx_model.specs.Block.{Block, RequestLine, ResponseLine, Header, EndHeaders, Data, Trailer, EndTrailers, block, kind_of, payload_len, IsFieldKind}
 use Rattle.htx_model.specs.declared.Kind.{Kind}
 use Rattle.htx_model.specs.declared.Kind.TheVariants as kinds
 use Rattle.htx_space.specs.Windows.{window, word_at, desc_at}
@@ -91,11 +91,12 @@ block_by kind info p = block kind (window p 12 (word_at p 0)) (window p (12 + wo
 unfoldable pub block_of : ℕ → List ℕ → Block
 block_of info p = block_by (info_kind info) info p
 
--- an info word and a payload are those of the block that they tell
+-- an info word and a payload are those of the block that they tell, and a field has a name
 pub record Tells (info : ℕ) (p : List ℕ) : Type 0 where
   pub len : payload_len (block_of info p) ≡ info_len info
   pub code : info ≡ info_of (block_of info p)
   pub bytes : p ≡ payload_of (block_of info p)
+  pub named : IsFieldKind (info_kind info) → 1 ≤ name_len info
 
 -- ---- the array
 

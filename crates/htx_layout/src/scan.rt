@@ -1,9 +1,10 @@
-ghost use Rattle.std.specs.Prelude.{◌≡◌, ◌+◌, ◌-◌, ◌*◌, ◌^◌, ◌<◌, ◌≤◌, length, min};
+ghost use Rattle.std.specs.Prelude.{◌≡◌, ◌+◌, ◌-◌, ◌*◌, ◌^◌, ◌<◌, ◌≤◌, length, drop, min};
 ghost use Rattle.std.specs.Option.{option_map_or};
-ghost use Rattle.htx_layout.specs.Raw.{blocks_of, addrs_of, addr_in, block_in};
+ghost use Rattle.htx_layout.specs.Raw.{blocks_of, addrs_of, addr_in, len_in, block_in};
 ghost use Rattle.htx_layout.specs.Sound.{IsSound, IsTold};
-ghost use Rattle.htx_layout.specs.Place.{top, low, spot, before as before_spot};
+ghost use Rattle.htx_layout.specs.Place.{top, low, spot, stays, grown_at_top as top_growth, grown_at_front as front_growth, before as before_spot};
 ghost use Rattle.htx_model.specs.Block.{payload_len};
+ghost use Rattle.htx_model.specs.Blocks.{load};
 
 use crate::words;
 use htx_space::Space;
@@ -111,4 +112,84 @@ pub fn spot_of(space: &Space, count: u32, front: u32, len: u32) -> Option<Spot>
         len,
         end + 8 * (count + 1) <= size,
     )
+}
+
+/// What the blocks from a number on weigh.
+pub fn weight_from(space: &Space, count: u32, from: u32) -> u32
+    requires sound { IsSound space.now count }
+    requires told { IsTold space.now count }
+    requires most { load (blocks_of space.now count) ≤ 262144 }
+    requires within { from ≤ count }
+    ensures { result ≡ load (drop from (blocks_of space.now count)) }
+{
+    let mut weight = 0;
+    for i in from..count {
+        weight += 8 + words::len_of(space.descriptor(i).info);
+    }
+    weight
+}
+
+/// Whether a payload that ends here may have `len` more bytes at the top.
+fn grown_at_top(size: u32, end: u32, len: u32, top: u32, count: u32) -> Option<u32>
+    requires { end + len + 8 * count < 2 ^ 32 }
+    ensures { result ≡ top_growth size end len top count }
+{
+    if end != top {
+        return None;
+    }
+    if end + len + 8 * count <= size {
+        Some(0)
+    } else {
+        None
+    }
+}
+
+/// Whether a payload that ends here may have `len` more bytes behind `front`.
+fn grown_at_front(
+    size: u32,
+    front: u32,
+    end: u32,
+    len: u32,
+    top: u32,
+    count: u32,
+    low: Option<u32>,
+) -> Option<u32>
+    requires len { end + len < 2 ^ 32 }
+    requires front { front + len < 2 ^ 32 }
+    requires top { top + 8 * count < 2 ^ 32 }
+    ensures { result ≡ front_growth size front end len top count low }
+{
+    let low = low?;
+    if end != front {
+        return None;
+    }
+    if end + len > low {
+        return None;
+    }
+    if top + 8 * count <= size {
+        Some(front + len)
+    } else {
+        None
+    }
+}
+
+/// `front` once a payload has `len` more bytes where it stands, if it may have them.
+#[tactic(auto, using(crate::proofs::RawLemmas::raws))]
+pub fn room_behind(space: &Space, count: u32, front: u32, index: u32, len: u32) -> Option<u32>
+    requires sound { IsSound space.now count }
+    requires told { IsTold space.now count }
+    requires within { index < count }
+    requires len { len ≤ 262144 }
+    requires small { length space.now ≤ 262144 }
+    requires front { front ≤ 262144 }
+    ensures { result ≡ stays (length space.now) (blocks_of space.now count) (addrs_of space.now count) front (addr_in space.now index + payload_len (block_in space.now index)) len }
+{
+    let size = space.size();
+    let end = end_at(space, count, index);
+    let top = top_of(space, count);
+    if front == 0 {
+        grown_at_top(size, end, len, top, count)
+    } else {
+        grown_at_front(size, front, end, len, top, count, low_of(space, count, front))
+    }
 }

@@ -43,6 +43,9 @@ pub fn settle(space: &Space, count: u32, front: u32) -> u32
     ensures value { result ≡ settled front (addrs_of space.now count) }
     ensures parted { IsParted space.now count result }
 {
+    if front == 0 {
+        return 0;
+    }
     match scan::low_of(space, count, front) {
         Some(_) => front,
         None => 0,
