@@ -49,6 +49,10 @@ overhead-other (b ∷ []) (suc i) h ne = absurd (omega arith)
 overhead-other (b ∷ c ∷ bs) zero h ne = absurd (omega arith)
 overhead-other (b ∷ c ∷ bs) (suc i) h ne = overhead-other (c ∷ bs) i (omega arith) ne
 
+pub overhead-none : (bs : List Block) → length bs ≡ 0 → data_overhead bs ≡ 8
+overhead-none [] h = refl
+overhead-none (b ∷ bs) h = absurd (omega arith)
+
 -- ---- data at the end
 
 -- a block of its own

@@ -63,9 +63,9 @@ impl Arena {
         let info = self.space.descriptor(at).info;
         if n < words::len_of(info) {
             self.trim(at, n, info - n);
-        } else {
-            self.remove(at);
+            return;
         }
+        self.remove(at);
     }
 
     /// Drops the first bytes of a payload, and not all.

@@ -30,9 +30,10 @@ impl Arena {
         let info = words::field_info(kind, name, value.len() as u32);
         if name + value.len() as u32 <= old_len {
             self.rewrite(at, name, info, &Payload::one(value));
-        } else {
-            self.extend_anew(at, words::field_info(kind, name, 0), info, value);
+            return Ok(());
         }
+        let kept = words::field_info(kind, name, 0);
+        self.extend_anew(at, kept, info, value);
         Ok(())
     }
 
@@ -62,9 +63,9 @@ impl Arena {
         let payload = Payload::new(&head, a, b, c);
         if len as u32 <= old_len {
             self.rewrite(at, 0, info, &payload);
-        } else {
-            self.place_anew(at, info, &payload);
+            return Ok(());
         }
+        self.place_anew(at, info, &payload);
         Ok(())
     }
 

@@ -41,5 +41,5 @@ returns c =
     let small : i < a.count = omega arith in
     let kind = line_kind a c.args.self.now i c.self.view_is small c.requires.line in
     let P = c.payload.result.now in
-    let parts : (c.line-a.result.0.now, c.line-a.result.1.now, c.line-a.result.2.now) ≡ cut P = λ j. (c.line-a.ensures.first j, c.line-a.ensures.second j, c.line-a.ensures.third j) in
+    let parts : (c.line.result.0.now, c.line.result.1.now, c.line.result.2.now) ≡ cut P = λ j. (c.line.ensures.first j, c.line.ensures.second j, c.line.ensures.third j) in
     parts ∙ ap cut c.payload.ensures ∙ sym (line_told (desc_at a.space i).info (payload_in a.space i) kind) ∙ sym (ap line_of (block_told a.space a.count i small)) ∙ ap (λ (s : Contents). line_of (block_at s.blocks i)) c.self.view_is

@@ -25,5 +25,5 @@ returns c =
     let n = numbers a c.args.self.now c.self.invariant c.self.view_is in
     let count = n.count in
     let within = c.requires.within in
-    let field = name-requires-clause-field c in
+    let field = subst IsFieldKind (sym (ap (λ (s : Contents). kind_of (block_at s.blocks i)) c.self.view_is) ∙ ap kind_of (block_told a.space a.count i (omega arith)) ∙ kind_told (desc_at a.space i).info (payload_in a.space i)) c.requires.field in
     c.name.ensures ∙ sym (name_told (desc_at a.space i).info (payload_in a.space i) field) ∙ sym (ap name_of (block_told a.space a.count i (omega arith))) ∙ ap (λ (s : Contents). name_of (block_at s.blocks i)) c.self.view_is

@@ -1,6 +1,7 @@
 use Rattle.std.proofs.Common.{subst, sym, List, ℕ}
 use Rattle.htx_layout.specs.Held.{held}
 use Rattle.htx_layout.specs.Raw.{blocks_of, addrs_of}
+use Rattle.htx_layout.specs.Raw.{blocks_of, addrs_of}
 use Rattle.htx_layout.proofs.HeldLemmas.{laid_held}
 use Rattle.htx_arena.specs.Contents.{Contents}
 use Rattle.htx_arena.proofs.arena.Arena.raw.Goals as goal

@@ -20,14 +20,11 @@ overflow_sub-self-2 c =
     let is = c.len_of-len.ensures ∙ ap (λ (d : Desc). info_len d.info) c.descriptor.ensures in
     omega arith
 
-laid : (c : goal.After-unlist) → IsLaid c.unlist.new.space (c.self.inside.count - 1) c.self.inside.front
-laid c =
+pub settle-self-inside-requires-clause-parted : goal.settle-self-inside-requires-clause-parted
+settle-self-inside-requires-clause-parted c =
     let a = c.self.inside in
     let t = at a c.args.self.now c.args.at c.self.invariant c.self.view_is c.requires in
-    subst (λ (x : List ℕ). IsLaid x (a.count - 1) a.front) (sym c.unlist.ensures.is) (IsLaid-unlisted a.space a.count c.args.at a.front c.self.invariant.laid t.small)
-
-pub settle-self-inside-requires-clause-parted : goal.settle-self-inside-requires-clause-parted
-settle-self-inside-requires-clause-parted c = ?
+    (subst (λ (x : List ℕ). IsLaid x (a.count - 1) a.front) (sym c.unlist.ensures.is) (IsLaid-unlisted a.space a.count c.args.at a.front c.self.invariant.laid t.small)).parted
 
 pub invariant_of-self : goal.invariant_of-self
 invariant_of-self c =
@@ -46,4 +43,4 @@ invariant_of-self c =
     let now = ap load c.unlist.ensures.blocks in
     let size = c.unlist.ensures.size in
     let fits = c.self.invariant.fits in
-    record { laid = laid_settled new (a.count - 1) a.front c.settle.result laid1 c.settle.ensures.value; loaded = omega arith; fits = omega arith }
+    record { laid = laid_settled new (a.count - 1) a.front c.settle-self-inside.result laid1 c.settle-self-inside.ensures.value; loaded = omega arith; fits = omega arith }

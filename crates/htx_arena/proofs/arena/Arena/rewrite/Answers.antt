@@ -22,8 +22,25 @@ overflow_sub-gone c =
     let shorter = c.requires.shorter in
     omega arith
 
-pub rewrite-self-inside-requires-clause-can : goal.rewrite-self-inside-requires-clause-can
-rewrite-self-inside-requires-clause-can c =
+pub overflow_sub-gone-2 : goal.overflow_sub-gone-2
+overflow_sub-gone-2 c =
+    let t = at c.self.inside c.args.self.now c.args.at c.self.invariant c.self.view_is c.requires.within in
+    let len = t.len in
+    let is = c.len_of.ensures ∙ ap (λ (d : Desc). info_len d.info) c.descriptor.ensures in
+    let shorter = c.requires.shorter in
+    let more = c.len.ensures in
+    omega arith
+
+pub overflow_sub-self : goal.overflow_sub-self
+overflow_sub-self c =
+    let t = at c.self.inside c.args.self.now c.args.at c.self.invariant c.self.view_is c.requires.within in
+    let len = t.len in
+    let is = c.len_of.ensures ∙ ap (λ (d : Desc). info_len d.info) c.descriptor.ensures in
+    let weighs = t.weighs in
+    omega arith
+
+pub rewrite-requires-clause-can : goal.rewrite-requires-clause-can
+rewrite-requires-clause-can c =
     let a = c.self.inside in
     let i = c.args.at in
     let t = at a c.args.self.now i c.self.invariant c.self.view_is c.requires.within in
@@ -32,6 +49,13 @@ rewrite-self-inside-requires-clause-can c =
     let now = c.requires.len in
     let laid = c.self.invariant.laid in
     within_own a.space a.count i (record { addr = addr_in a.space i; info = c.args.info }) laid.sound laid.most t.small (omega arith) (omega arith)
+
+pub rewrite-requires-clause-part : goal.rewrite-requires-clause-part
+rewrite-requires-clause-part c =
+    let t = at c.self.inside c.args.self.now c.args.at c.self.invariant c.self.view_is c.requires.within in
+    let len = t.len in
+    let shorter = c.requires.shorter in
+    omega arith
 
 pub invariant_of-self : goal.invariant_of-self
 invariant_of-self c =

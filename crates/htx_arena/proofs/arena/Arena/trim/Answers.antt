@@ -14,6 +14,20 @@ use Rattle.htx_arena.specs.Whole.{IsWhole}
 use Rattle.htx_arena.proofs.WholeLemmas.{numbers, at, whole_set}
 use Rattle.htx_arena.proofs.arena.Arena.trim.Goals as goal
 
+pub trim-requires-clause-part : goal.trim-requires-clause-part
+trim-requires-clause-part c =
+    let t = at c.self.inside c.args.self.now c.args.at c.self.invariant c.self.view_is c.requires.within in
+    let len = t.len in
+    let part = c.requires.part in
+    omega arith
+
+pub trim-requires-clause-len : goal.trim-requires-clause-len
+trim-requires-clause-len c =
+    let t = at c.self.inside c.args.self.now c.args.at c.self.invariant c.self.view_is c.requires.within in
+    let len = t.len in
+    let now = c.requires.len in
+    omega arith
+
 pub invariant_of-self : goal.invariant_of-self
 invariant_of-self c =
     let a = c.self.inside in

@@ -39,7 +39,7 @@ invariant_of-self c =
     let loaded = c.self.invariant.loaded in
     let now = ap load (listed-take (block_in a.space) a.count i (omega arith)) in
     let fits = c.self.invariant.fits in
-    record { laid = laid_settled a.space i a.front c.settle.result laid1 c.settle.ensures.value; loaded = omega arith; fits = omega arith }
+    record { laid = laid_settled a.space i a.front c.settle-self-inside.result laid1 c.settle-self-inside.ensures.value; loaded = omega arith; fits = omega arith }
 
 pub returns : goal.returns
 returns c =
@@ -53,5 +53,5 @@ returns c =
       blocks = listed-take (block_in a.space) a.count i (omega arith) ∙ ap (λ (s : Contents). take i s.blocks) c.self.view_is;
       size = ap (λ (s : Contents). s.size) c.self.view_is;
       addrs = addrs;
-      front = c.settle.ensures.value ∙ (λ j. settled ((ap (λ (s : Contents). s.front) c.self.view_is) j) (addrs j));
+      front = c.settle-self-inside.ensures.value ∙ (λ j. settled ((ap (λ (s : Contents). s.front) c.self.view_is) j) (addrs j));
     }
