@@ -15,9 +15,9 @@ settled_by_small (Some l) front = omega arith
 pub settled_zero : (addrs : List ℕ) → settled 0 addrs ≡ 0
 settled_zero addrs = zero_by (low 0 addrs)
   where
-  zero_by : (o : Option ℕ) → settled_by o 0 ≡ 0
-  zero_by None = refl
-  zero_by (Some l) = refl
+    zero_by : (o : Option ℕ) → settled_by o 0 ≡ 0
+    zero_by None = refl
+    zero_by (Some l) = refl
 
 pub laid_settled : (raw : List ℕ) (n front f : ℕ) → IsLaid raw n front → f ≡ settled front (addrs_of raw n) → IsLaid raw n f
 laid_settled raw n front f laid e =

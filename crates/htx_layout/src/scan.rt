@@ -190,6 +190,14 @@ pub fn room_behind(space: &Space, count: u32, front: u32, index: u32, len: u32) 
     if front == 0 {
         grown_at_top(size, end, len, top, count)
     } else {
-        grown_at_front(size, front, end, len, top, count, low_of(space, count, front))
+        grown_at_front(
+            size,
+            front,
+            end,
+            len,
+            top,
+            count,
+            low_of(space, count, front),
+        )
     }
 }

@@ -1,5 +1,5 @@
 ghost use Rattle.std.specs.Prelude.{◌≡◌, ◌+◌, ◌<◌, ◌≤◌, [], length, take, drop, remove, slice_index, slice_set};
-ghost use Rattle.htx_model.specs.Block.{kind_of, payload_len};
+ghost use Rattle.htx_model.specs.Block.{kind_of, value_of, payload_len};
 ghost use Rattle.htx_model.specs.Blocks.{block_at, cut_front};
 ghost use Rattle.htx_model.specs.declared.Kind.TheVariants.{Data};
 ghost use Rattle.htx_layout.specs.Raw.{block_of, info_len, payload_of, Tells};
@@ -54,7 +54,7 @@ impl Arena {
     pub fn cut_front(&mut self, at: u32, n: u32)
         requires within { at < length self.old.blocks }
         requires kind { kind_of (block_at self.old.blocks at) ≡ Data }
-        requires part { n ≤ payload_len (block_at self.old.blocks at) }
+        requires part { n ≤ length (value_of (block_at self.old.blocks at)) }
         ensures blocks { self.new.blocks ≡ cut_front self.old.blocks at n }
         ensures size { self.new.size ≡ self.old.size }
         ensures addrs { self.new.addrs ≡ (cut_to self.old at n).addrs }

@@ -104,14 +104,7 @@ impl Arena {
         ensures addrs { self.new.addrs ≡ (inserted self.old at (length payload.now)).addrs }
         ensures front { self.new.front ≡ (inserted self.old at (length payload.now)).front }
     {
-        self.front = sites::add(
-            &mut self.space,
-            self.count,
-            self.front,
-            at,
-            info,
-            payload,
-        );
+        self.front = sites::add(&mut self.space, self.count, self.front, at, info, payload);
         self.count += 1;
         self.load += 8 + payload.len();
     }

@@ -99,14 +99,7 @@ impl Arena {
         ensures front { self.new.front ≡ (placed_anew self.old at (length payload.now)).front }
     {
         let more = payload.len() - words::len_of(self.space.descriptor(at).info);
-        self.front = sites::replace(
-            &mut self.space,
-            self.count,
-            self.front,
-            at,
-            info,
-            payload,
-        );
+        self.front = sites::replace(&mut self.space, self.count, self.front, at, info, payload);
         self.load += more;
     }
 
