@@ -1,9 +1,10 @@
-pub mod Descriptor
-pub mod Held
+pub mod Whole
 pub mod Contents
+pub mod Addresses
 pub use Rattle.htx_model.specs.Block
 pub use Rattle.htx_model.specs.Blocks
+pub use Rattle.htx_layout.specs.Held
+pub use Rattle.htx_layout.specs.Place
 pub mod Written
 pub mod Lending
-pub mod RunLends
 pub mod Fields

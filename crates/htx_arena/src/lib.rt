@@ -2,9 +2,6 @@
 
 mod arena;
 mod fields;
-mod laid;
-mod lend;
-mod payload;
 #[cfg(test)]
 mod tests;
 

@@ -1,11 +1,11 @@
 -- The load after data was appended, and how much of it fits.
-use Rattle.std.proofs.Common.{◌≡◌, ℕ, zero, suc, ◌+◌, ◌-◌, ◌<◌, ◌≤◌, ◌⊎◌, inl, inr, List, [], ◌∷◌, ◌++◌, length, take, refl, ap, sym, ◌∙◌, arith, length-append, min, true, false, cond, Bool}
-use Rattle.std.specs.Prelude.{nat_le, if◌then◌else◌}
+use Rattle.std.proofs.Common.{◌≡◌, ℕ, zero, suc, ◌+◌, ◌-◌, ◌*◌, ◌<◌, ◌≤◌, ◌⊎◌, inl, inr, List, [], ◌∷◌, ◌++◌, length, take, drop, set, sum_by, refl, ap, sym, ◌∙◌, arith, length-append, min, true, false, cond, Bool}
+use Rattle.std.specs.Prelude.{nat_le, insert, remove, if◌then◌else◌}
 use Rattle.std.proofs.lemmas.List.{length-take-le, take_all}
-use Rattle.std.proofs.lemmas.List.Sums.{sum_by-cons}
+use Rattle.std.proofs.lemmas.List.Sums.{sum_by-cons, sum_by-append, sum_by-insert, sum_by-remove, sum_by-set, sum_by-take-drop}
 use Rattle.std.proofs.lemmas.Bool.{cases_lt, le-leb, lt-leb}
-use Rattle.htx_model.specs.Block.{Block, RequestLine, ResponseLine, Header, EndHeaders, Data, Trailer, EndTrailers, weight}
-use Rattle.htx_model.specs.Blocks.{load, append_data, extend_last, followed, data_overhead, taken, taken_of}
+use Rattle.htx_model.specs.Block.{Block, RequestLine, ResponseLine, Header, EndHeaders, Data, Trailer, EndTrailers, weight, payload_len}
+use Rattle.htx_model.specs.Blocks.{load, block_at, append_data, extend_last, followed, data_overhead, taken, taken_of}
 
 load-followed : (b : Block) (p : List ℕ) → load (followed b p) ≡ load (b ∷ []) + data_overhead (b ∷ []) + length p
 load-followed (RequestLine x y z) p = omega arith
@@ -39,3 +39,25 @@ taken_of_is (suc k) bs size p h =
 -- as many bytes as there is room for
 pub taken_is : (bs : List Block) (size : ℕ) (p : List ℕ) → taken bs size p ≡ min (length p) (size - (load bs + data_overhead bs))
 taken_is bs size p = taken_of_is (length p) bs size p (omega arith)
+
+-- ---- the load after an edit
+
+-- all payloads, and eight bytes for each descriptor
+pub load-payloads : (bs : List Block) → load bs ≡ sum_by payload_len bs + 8 * length bs
+load-payloads [] = omega arith
+load-payloads (b ∷ bs) = omega (arith, sum_by-cons weight b bs, sum_by-cons payload_len b bs, load-payloads bs)
+
+pub load-append : (bs cs : List Block) → load (bs ++ cs) ≡ load bs + load cs
+load-append bs cs = sum_by-append weight bs cs
+
+pub load-insert : (bs : List Block) (at : ℕ) (b : Block) → load (insert bs at b) ≡ load bs + weight b
+load-insert bs at b = sum_by-insert weight bs at b
+
+pub load-remove : (bs : List Block) (at : ℕ) → at < length bs → load (remove bs at) + weight (block_at bs at) ≡ load bs
+load-remove bs at h = sum_by-remove weight bs at EndHeaders h
+
+pub load-set : (bs : List Block) (at : ℕ) (b : Block) → at < length bs → load (set bs at b) + weight (block_at bs at) ≡ load bs + weight b
+load-set bs at b h = sum_by-set weight bs at b EndHeaders h
+
+pub load-take_drop : (bs : List Block) (at : ℕ) → load (take at bs) + load (drop at bs) ≡ load bs
+load-take_drop bs at = sum_by-take-drop weight bs at

@@ -1,0 +1,141 @@
+-- A block is put back with more bytes behind its first.
+use Rattle.std.proofs.Common.{refl, ◌≡◌, ℕ, zero, suc, ◌+◌, ◌*◌, ◌-◌, ◌^◌, ◌<◌, ◌≤◌, inl, inr, List, [], ◌∷◌, length, ap, sym, ◌∙◌, arith, set, sum_by}
+use Rattle.std.specs.Prelude.{insert, remove}
+use Rattle.std.proofs.lemmas.Bool.{cases_lt}
+use Rattle.std.proofs.lemmas.List.Sums.{sum_by-cons}
+use Rattle.htx_model.specs.Block.{Block, payload_len}
+use Rattle.htx_space.specs.declared.space.Desc.{Desc}
+use Rattle.htx_space.specs.Windows.{window, desc_at}
+use Rattle.htx_space.proofs.WindowLemmas.{length-window, window-overwritten_below}
+use Rattle.htx_layout.specs.Raw.{Tells, addr_in, len_in, block_in, block_of, info_len, blocks_of, addrs_of, payload_in}
+use Rattle.htx_layout.specs.Steps.{unlisted, placed}
+use Rattle.htx_layout.specs.Sound.{IsSound, end_of, IsTold, IsFilled, IsLaid}
+use Rattle.htx_layout.specs.Moves.{CanPlace, IsKept, IsOpen, IsSite}
+use Rattle.htx_layout.specs.declared.scan.Spot.{Spot}
+use Rattle.htx_layout.proofs.RawLemmas.{had, length-unlisted, desc_at-placed_here, blocks_of-placed, addrs_of-placed, length-placed}
+use Rattle.htx_layout.proofs.EachLemmas.{payload_in-placed_here, can_place, IsLaid-placed, IsLaid-unlisted}
+use Rattle.htx_layout.proofs.MoveLemmas.{listed-same, Tells-same}
+use Rattle.htx_layout.proofs.GrowLemmas.{kept_open, kept_sound}
+
+pub set-insert : {X : Type 0} (xs : List X) (i : ℕ) (x y : X) → i ≤ length xs → set (insert xs i x) i y ≡ insert xs i y
+set-insert xs zero x y h = refl
+set-insert [] (suc i) x y h = absurd (omega arith)
+set-insert {X} (z ∷ zs) (suc i) x y h = let f : List X → List X = λ ws. z ∷ ws in ap f (set-insert zs i x y (omega arith))
+
+pub remove-insert : {X : Type 0} (xs : List X) (i : ℕ) (x : X) → i ≤ length xs → remove (insert xs i x) i ≡ xs
+remove-insert xs zero x h = refl
+remove-insert [] (suc i) x h = absurd (omega arith)
+remove-insert {X} (z ∷ zs) (suc i) x h = let f : List X → List X = λ ws. z ∷ ws in ap f (remove-insert zs i x (omega arith))
+
+pub sum-insert : (bs : List Block) (i : ℕ) (b : Block) → i ≤ length bs → sum_by payload_len (insert bs i b) ≡ sum_by payload_len bs + payload_len b
+sum-insert bs zero b h = let whole = sum_by-cons payload_len b bs in omega arith
+sum-insert [] (suc i) b h = absurd (omega arith)
+sum-insert (z ∷ zs) (suc i) b h =
+    let whole = sum_by-cons payload_len z zs in
+    let more = sum_by-cons payload_len z (insert zs i b) in
+    let rest = sum-insert zs i b (omega arith) in
+    omega arith
+
+pub kept_block : (raw new : List ℕ) (n : ℕ) → IsKept raw new n → (j : ℕ) → j < n → block_in new j ≡ block_in raw j
+kept_block raw new n is j small = ap (λ (d : Desc). block_of d.info (payload_in new j)) (is.desc j small) ∙ ap (block_of (desc_at raw j).info) (is.payload j small)
+
+pub kept_blocks : (raw new : List ℕ) (n : ℕ) → IsKept raw new n → blocks_of new n ≡ blocks_of raw n
+kept_blocks raw new n is = listed-same (block_in raw) (block_in new) n (kept_block raw new n is)
+
+pub kept_addrs : (raw new : List ℕ) (n : ℕ) → IsKept raw new n → addrs_of new n ≡ addrs_of raw n
+kept_addrs raw new n is = listed-same (addr_in raw) (addr_in new) n (λ j small. ap (λ (d : Desc). d.addr) (is.desc j small))
+
+pub kept_told : (raw new : List ℕ) (n : ℕ) → IsKept raw new n → IsTold raw n → IsTold new n
+kept_told raw new n is told = record { told = λ j small. Tells-same _ _ _ _ (ap (λ (d : Desc). d.info) (is.desc j small)) (is.payload j small) (told.told j small) }
+
+pub kept_filled : (raw new : List ℕ) (n : ℕ) → IsKept raw new n → IsFilled raw n → IsFilled new n
+kept_filled raw new n is filled = record { filled = λ j small. let e = ap (λ (d : Desc). info_len d.info) (is.desc j small) in let h = filled.filled j small in omega arith }
+
+pub kept_site : (raw new : List ℕ) (n len : ℕ) (s : Spot) → IsKept raw new n → IsSite raw n len s → IsSite new n len s
+kept_site raw new n len s is site =
+    let size = is.size in
+    let small = site.small in
+    record {
+      opens = kept_open raw new n s.addr len is site.opens;
+      parted = record { parted = λ j within. let e = ap end_of (is.desc j within) in let a = ap (λ (d : Desc). d.addr) (is.desc j within) in elim (site.parted.parted j within) [ inl h ↦ inl (omega arith) | inr h ↦ inr (omega arith) ] };
+      beside = site.beside;
+      small = omega arith;
+    }
+
+pub own_site : (raw : List ℕ) (n from len : ℕ) → IsOpen raw n from len → IsSite raw n len (record { addr = from; front = 0 })
+own_site raw n from len opens = record { opens = opens; parted = record { parted = λ j within. inr (omega arith) }; beside = inr (omega arith); small = omega arith }
+
+pub free_can : (raw new : List ℕ) (n i len info : ℕ) (s : Spot) → IsSound raw n → IsKept raw new n → IsSite raw n len s → i ≤ n → info_len info ≡ len → s.addr < 2 ^ 32 → info < 2 ^ 32 → CanPlace new n i (record { addr = s.addr; info = info }) (window new s.addr (info_len info))
+free_can raw new n i len info s sound is site within e addr_fits info_fits =
+    let size = is.size in
+    let room = site.opens.room in
+    let long : length (window new s.addr (info_len info)) ≡ info_len info = length-window new s.addr (info_len info) (omega arith) in
+    can_place new n i len info (window new s.addr (info_len info)) s (kept_sound raw new n is sound) (kept_site raw new n len s is site) within (sym long) (omega arith) addr_fits info_fits
+
+pub kept_self : (raw : List ℕ) (n : ℕ) → IsKept raw raw n
+kept_self raw n = record { size = refl; desc = λ j small. refl; payload = λ j small. refl }
+
+-- what holds once a block is put back whose bytes stand there
+pub record IsRelisted (raw new : List ℕ) (n i from kept : ℕ) : Type 0 where
+  pub laid : IsLaid new (n + 1) 0
+  pub blocks : blocks_of new (n + 1) ≡ insert (blocks_of raw n) i (block_of kept (window raw from (info_len kept)))
+  pub addrs : addrs_of new (n + 1) ≡ insert (addrs_of raw n) i from
+  pub len : len_in new i ≡ info_len kept
+  pub payload : payload_in new i ≡ window raw from (info_len kept)
+  pub size : length new ≡ length raw
+
+pub relisted : (raw : List ℕ) (n i from kept : ℕ) → IsSound raw n → IsTold raw n → IsFilled raw n → length raw ≤ 262144 → IsOpen raw n from (info_len kept) → i ≤ n → 0 < info_len kept → Tells kept (window raw from (info_len kept)) → kept < 2 ^ 32 →
+    IsRelisted raw (placed raw n i (record { addr = from; info = kept }) (window raw from (info_len kept))) n i from kept
+relisted raw n i from kept sound told filled most opens within some tells fits =
+    let d : Desc = record { addr = from; info = kept } in
+    let s : Spot = record { addr = from; front = 0 } in
+    let piece = window raw from (info_len kept) in
+    let room = opens.room in
+    let site = own_site raw n from (info_len kept) opens in
+    let long : length piece ≡ info_len kept = length-window raw from (info_len kept) (omega arith) in
+    let can = free_can raw raw n i (info_len kept) kept s sound (kept_self raw n) site within refl (omega arith) fits in
+    record {
+      laid = IsLaid-placed raw n i (info_len kept) kept 0 piece s site can told filled most (sym long) (omega arith) tells;
+      blocks = blocks_of-placed raw n i d piece can;
+      addrs = addrs_of-placed raw n i d piece can;
+      len = ap (λ (e : Desc). info_len e.info) (desc_at-placed_here raw n i d piece can);
+      payload = payload_in-placed_here raw n i i d piece can (desc_at-placed_here raw n i d piece can);
+      size = length-placed raw n i d piece can;
+    }
+
+-- ---- a block that was taken out
+
+pub record IsGone (raw new : List ℕ) (n i front keep : ℕ) : Type 0 where
+  pub laid : IsLaid new (n - 1) front
+  pub opens : IsOpen new (n - 1) (addr_in raw i) keep
+  pub own : window new (addr_in raw i) keep ≡ window raw (addr_in raw i) keep
+  pub size : length new ≡ length raw
+
+pub gone : (raw : List ℕ) (n i front keep : ℕ) → IsLaid raw n front → i < n → keep ≤ len_in raw i → IsGone raw (unlisted raw n i) n i front keep
+gone raw n i front keep laid small part =
+    let new = unlisted raw n i in
+    let room = laid.sound.room in
+    let long = length-unlisted raw n i room small in
+    let ends = laid.sound.within i small in
+    let piece = window raw (length raw - 8 * n) (8 * (n - i - 1)) in
+    record {
+      laid = IsLaid-unlisted raw n i front laid small;
+      opens = record {
+        room = omega arith;
+        below = λ j within.
+            let old = had raw n i j room small within in
+            let e = ap end_of old.same in
+            let h = laid.sound.within old.number old.small in
+            omega arith;
+        free = λ j within.
+            let old = had raw n i j room small within in
+            let e = ap end_of old.same in
+            let a = ap (λ (d : Desc). d.addr) old.same in
+            elim (cases_lt j i) [
+              | inl lt ↦ let is = old.below lt in elim (laid.sound.apart old.number i (omega arith) small) [ inl h ↦ inr (omega arith) | inr h ↦ inl (omega arith) ]
+              | inr ge ↦ let is = old.above ge in elim (laid.sound.apart i old.number (omega arith) old.small) [ inl h ↦ inl (omega arith) | inr h ↦ inr (omega arith) ]
+            ];
+      };
+      own = window-overwritten_below raw (length raw - 8 * n + 8) piece (addr_in raw i) keep (omega arith) (omega arith);
+      size = long;
+    }

@@ -1,0 +1,42 @@
+-- An array between two calls holds its blocks at their addresses.
+use Rattle.std.proofs.Common.{◌≡◌, ℕ, ◌<◌, inl, inr, List, get_or, length, ap, sym, ◌∙◌, arith}
+use Rattle.htx_model.specs.Block.{EndHeaders, payload_len}
+use Rattle.htx_model.specs.Blocks.{block_at}
+use Rattle.htx_space.specs.declared.space.Desc.{Desc}
+use Rattle.htx_space.specs.Windows.{window, desc_at}
+use Rattle.htx_layout.specs.Raw.{addr_in, len_in, block_in, info_of, payload_of, blocks_of, addrs_of}
+use Rattle.htx_layout.specs.Sound.{IsLaid}
+use Rattle.htx_layout.specs.Held.{held}
+use Rattle.htx_layout.proofs.RawLemmas.{length-listed, get_or-listed}
+
+desc_of : (d : Desc) (a i : ℕ) → d.addr ≡ a → d.info ≡ i → d ≡ record { addr = a; info = i }
+desc_of d a i e f = let F : ℕ → ℕ → Desc = λ x y. record { addr = x; info = y } in λ j. F (e j) (f j)
+
+pub laid_held : (raw : List ℕ) (n front : ℕ) → IsLaid raw n front → held raw (blocks_of raw n) (addrs_of raw n)
+laid_held raw n front laid =
+    let bs = blocks_of raw n in
+    let xs = addrs_of raw n in
+    let count : length bs ≡ n = length-listed (block_in raw) n in
+    let addr : (i : ℕ) → i < n → get_or xs i 0 ≡ addr_in raw i = λ i h. get_or-listed (addr_in raw) n i 0 h in
+    let at : (i : ℕ) → i < n → block_at bs i ≡ block_in raw i = λ i h. get_or-listed (block_in raw) n i EndHeaders h in
+    let len : (i : ℕ) → i < n → payload_len (block_at bs i) ≡ len_in raw i = λ i h. ap payload_len (at i h) ∙ (laid.told.told i h).len in
+    record {
+      same_length = length-listed (addr_in raw) n ∙ sym count;
+      descriptor = λ i small.
+          let h : i < n = omega arith in
+          desc_of (desc_at raw i) (get_or xs i 0) (info_of (block_at bs i)) (sym (addr i h)) ((laid.told.told i h).code ∙ sym (ap info_of (at i h)));
+      payload = λ i small.
+          let h : i < n = omega arith in
+          (λ j. window raw (addr i h j) (len i h j)) ∙ (laid.told.told i h).bytes ∙ sym (ap payload_of (at i h));
+      within = λ i small.
+          let h : i < n = omega arith in
+          let ends = laid.sound.within i h in
+          omega (arith, addr i h, len i h);
+      apart = λ i k lt small.
+          let h : i < n = omega arith in
+          let g : k < n = omega arith in
+          elim (laid.sound.apart i k lt g) [
+            | inl d ↦ inl (omega (arith, addr i h, len i h, addr k g, len k g))
+            | inr d ↦ inr (omega (arith, addr i h, len i h, addr k g, len k g))
+          ];
+    }

@@ -1,0 +1,203 @@
+ghost use Rattle.std.specs.Prelude.{◌≡◌, ◌+◌, ◌-◌, ◌*◌, ◌^◌, ◌<◌, ◌≤◌, length, drop, min};
+ghost use Rattle.std.specs.Option.{option_map_or};
+ghost use Rattle.htx_layout.specs.Raw.{blocks_of, addrs_of, addr_in, len_in, block_in};
+ghost use Rattle.htx_layout.specs.Sound.{IsSound, IsTold};
+ghost use Rattle.htx_layout.specs.Place.{top, low, spot, stays, grown_at_top as top_growth, grown_at_front as front_growth, before as before_spot};
+ghost use Rattle.htx_model.specs.Block.{payload_len};
+ghost use Rattle.htx_model.specs.Blocks.{load};
+
+use crate::words;
+use htx_space::Space;
+
+/// Where a payload goes, and the front then.
+#[derive(Clone, Copy)]
+pub struct Spot {
+    pub addr: u32,
+    pub front: u32,
+}
+
+/// Where the payload of this number ends.
+fn end_at(space: &Space, count: u32, index: u32) -> u32
+    requires sound { IsSound space.now count }
+    requires told { IsTold space.now count }
+    requires small { length space.now ≤ 262144 }
+    requires within { index < count }
+    ensures value { result ≡ addr_in space.now index + payload_len (block_in space.now index) }
+    ensures small { result ≤ 262144 }
+{
+    let desc = space.descriptor(index);
+    desc.addr + words::len_of(desc.info)
+}
+
+/// The greatest end of a payload, or 0.
+pub fn top_of(space: &Space, count: u32) -> u32
+    requires sound { IsSound space.now count }
+    requires told { IsTold space.now count }
+    requires small { length space.now ≤ 262144 }
+    ensures value { result ≡ top (blocks_of space.now count) (addrs_of space.now count) }
+    ensures small { result ≤ 262144 }
+{
+    let mut end = 0;
+    for i in 0..count {
+        end = end.max(end_at(space, count, i));
+    }
+    end
+}
+
+/// The lesser of two addresses, of which one may not be there.
+fn lesser(low: Option<u32>, addr: u32) -> u32
+    ensures { result ≡ option_map_or (λ l. min l addr) low addr }
+{
+    match low {
+        Some(l) => l.min(addr),
+        None => addr,
+    }
+}
+
+/// The least address at or above a place.
+pub fn low_of(space: &Space, count: u32, from: u32) -> Option<u32>
+    requires { IsSound space.now count }
+    ensures { result ≡ low from (addrs_of space.now count) }
+{
+    let mut low = None;
+    for i in 0..count {
+        let addr = space.descriptor(i).addr;
+        if from <= addr {
+            low = Some(lesser(low, addr));
+        }
+    }
+    low
+}
+
+/// A place in front of the least address at or above `front`.
+fn before(low: Option<u32>, front: u32, len: u32, room: bool) -> Option<Spot>
+    requires { front + len < 2 ^ 32 }
+    ensures { result ≡ before_spot low front len room }
+{
+    let low = low?;
+    if front + len > low {
+        return None;
+    }
+    if !room {
+        return None;
+    }
+    Some(Spot {
+        addr: front,
+        front: front + len,
+    })
+}
+
+/// Where a payload goes, if the array isn't defragmented before.
+pub fn spot_of(space: &Space, count: u32, front: u32, len: u32) -> Option<Spot>
+    requires sound { IsSound space.now count }
+    requires told { IsTold space.now count }
+    requires len { len ≤ 262144 }
+    requires small { length space.now ≤ 262144 }
+    requires front { front ≤ 262144 }
+    ensures { result ≡ spot (length space.now) (blocks_of space.now count) (addrs_of space.now count) front len (count + 1) }
+{
+    let size = space.size();
+    let end = top_of(space, count);
+    if front == 0 {
+        if end + len + 8 * (count + 1) <= size {
+            return Some(Spot {
+                addr: end,
+                front: 0,
+            });
+        }
+    }
+    before(
+        low_of(space, count, front),
+        front,
+        len,
+        end + 8 * (count + 1) <= size,
+    )
+}
+
+/// What the blocks from a number on weigh.
+pub fn weight_from(space: &Space, count: u32, from: u32) -> u32
+    requires sound { IsSound space.now count }
+    requires told { IsTold space.now count }
+    requires most { load (blocks_of space.now count) ≤ 262144 }
+    requires within { from ≤ count }
+    ensures { result ≡ load (drop from (blocks_of space.now count)) }
+{
+    let mut weight = 0;
+    for i in from..count {
+        weight += 8 + words::len_of(space.descriptor(i).info);
+    }
+    weight
+}
+
+/// Whether a payload that ends here may have `len` more bytes at the top.
+fn grown_at_top(size: u32, end: u32, len: u32, top: u32, count: u32) -> Option<u32>
+    requires { end + len + 8 * count < 2 ^ 32 }
+    ensures { result ≡ top_growth size end len top count }
+{
+    if end != top {
+        return None;
+    }
+    if end + len + 8 * count <= size {
+        Some(0)
+    } else {
+        None
+    }
+}
+
+/// Whether a payload that ends here may have `len` more bytes behind `front`.
+fn grown_at_front(
+    size: u32,
+    front: u32,
+    end: u32,
+    len: u32,
+    top: u32,
+    count: u32,
+    low: Option<u32>,
+) -> Option<u32>
+    requires len { end + len < 2 ^ 32 }
+    requires front { front + len < 2 ^ 32 }
+    requires top { top + 8 * count < 2 ^ 32 }
+    ensures { result ≡ front_growth size front end len top count low }
+{
+    let low = low?;
+    if end != front {
+        return None;
+    }
+    if end + len > low {
+        return None;
+    }
+    if top + 8 * count <= size {
+        Some(front + len)
+    } else {
+        None
+    }
+}
+
+/// `front` once a payload has `len` more bytes where it stands, if it may have them.
+#[tactic(auto, using(crate::proofs::RawLemmas::raws))]
+pub fn room_behind(space: &Space, count: u32, front: u32, index: u32, len: u32) -> Option<u32>
+    requires sound { IsSound space.now count }
+    requires told { IsTold space.now count }
+    requires within { index < count }
+    requires len { len ≤ 262144 }
+    requires small { length space.now ≤ 262144 }
+    requires front { front ≤ 262144 }
+    ensures { result ≡ stays (length space.now) (blocks_of space.now count) (addrs_of space.now count) front (addr_in space.now index + payload_len (block_in space.now index)) len }
+{
+    let size = space.size();
+    let end = end_at(space, count, index);
+    let top = top_of(space, count);
+    if front == 0 {
+        grown_at_top(size, end, len, top, count)
+    } else {
+        grown_at_front(
+            size,
+            front,
+            end,
+            len,
+            top,
+            count,
+            low_of(space, count, front),
+        )
+    }
+}
