@@ -1,3 +1,4 @@
 pub mod Loads
 pub mod Ends
+pub mod Removals
 mod Heads
