@@ -1,16 +1,15 @@
 -- Data and fields at an index, and where appended data goes.
-use Rattle.std.proofs.Common.{◌≡◌, ℕ, zero, suc, ◌+◌, ◌*◌, ◌-◌, ◌^◌, ◌%◌, ◌<◌, ◌≤◌, List, [], ◌∷◌, ◌++◌, length, get_or, set, take, refl, subst, ap, sym, ◌∙◌, arith}
-use Rattle.std.specs.Prelude.{nat_eq, nat_le, if◌then◌else◌, Bool, true, false}
+use Rattle.std.proofs.Common.{◌≡◌, ℕ, zero, suc, ◌+◌, ◌*◌, ◌-◌, ◌^◌, ◌%◌, ◌<◌, ◌≤◌, List, [], ◌++◌, length, get_or, set, refl, subst, ap, sym, ◌∙◌, arith}
+use Rattle.std.specs.Prelude.{nat_eq, if◌then◌else◌, Bool, true, false}
 use Rattle.std.proofs.lemmas.Bool.{eq-eqb, ne_eqb, le-leb, lt-leb, lt-ltb, le-ltb}
 use Rattle.std.proofs.lemmas.List.{length-take-le}
-use Rattle.std.proofs.Math.Seq.{take-append_seam}
 use Rattle.htx_model.specs.Block.{Block, RequestLine, ResponseLine, Header, EndHeaders, Data, Trailer, EndTrailers, block, kind_of, name_of, value_of, payload_len, with_value, IsFieldKind, IsLineKind}
-use Rattle.htx_model.specs.Blocks.{load, block_at, data_overhead}
+use Rattle.htx_model.specs.Blocks.{block_at, data_overhead}
 use Rattle.htx_model.specs.declared.Kind.{Kind}
 use Rattle.htx_model.specs.declared.Kind.TheVariants as kinds
 use Rattle.htx_model.proofs.Edits.{data_is, overhead-data}
 use Rattle.htx_space.specs.Windows.{desc_at}
-use Rattle.htx_layout.specs.Raw.{Tells, info_of, info_kind, info_len, len_by, name_len, len_in, payload_in, payload_of, block_in}
+use Rattle.htx_layout.specs.Raw.{info_of, info_kind, info_len, len_by, name_len, payload_in, payload_of}
 use Rattle.htx_layout.proofs.TellLemmas.{kind_told, name_told, length-payload_in}
 use Rattle.htx_arena.specs.Contents.{Contents}
 use Rattle.htx_arena.specs.Whole.{IsWhole}

@@ -1,17 +1,16 @@
 -- The arena once a lent value was written.
-use Rattle.std.proofs.Common.{◌≡◌, ℕ, ◌+◌, ◌<◌, ◌≤◌, List, length, set, take, drop, refl, subst, ap, sym, ◌∙◌, arith, length-drop}
+use Rattle.std.proofs.Common.{◌≡◌, ℕ, ◌<◌, List, length, drop, refl, ap, sym, arith}
 use Rattle.std.specs.Prelude.{slice_set}
-use Rattle.std.proofs.lemmas.List.{take_at, length-take-le}
+use Rattle.std.proofs.lemmas.List.{take_at}
 use Rattle.std.specs.List.{refill, length_refill}
 use Rattle.htx_model.specs.Block.{Block, RequestLine, ResponseLine, Header, EndHeaders, Data, Trailer, EndTrailers, kind_of, value_of, payload_len, HasValue, with_value}
 use Rattle.htx_model.specs.Blocks.{load, block_at}
 use Rattle.htx_model.proofs.Loads.{load-set}
 use Rattle.htx_space.specs.Windows.{window, overwritten}
-use Rattle.htx_layout.specs.Raw.{block_in, blocks_of, len_in}
+use Rattle.htx_layout.specs.Raw.{block_in, blocks_of}
 use Rattle.htx_layout.specs.Values.{value_start, value_length}
 use Rattle.htx_layout.proofs.RawLemmas.{length-listed}
-use Rattle.htx_layout.proofs.LentLemmas.{window_is_value, blocks_lent, addrs_lent, laid_lent}
-use Rattle.htx_layout.proofs.TellLemmas.{len_told}
+use Rattle.htx_layout.proofs.LentLemmas.{blocks_lent, addrs_lent, laid_lent}
 use Rattle.htx_arena.specs.Contents.{Contents}
 use Rattle.htx_arena.specs.Written.{written}
 use Rattle.htx_arena.specs.Whole.{IsWhole}

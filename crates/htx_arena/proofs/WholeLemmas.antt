@@ -1,6 +1,6 @@
 -- What holds of an arena between two calls.
-use Rattle.std.proofs.Common.{◌≡◌, ℕ, ◌+◌, ◌*◌, ◌≤◌, ◌<◌, List, length, set, get_or, sum_by, subst, ap, sym, ◌∙◌, arith}
-use Rattle.htx_model.specs.Block.{Block, EndHeaders, payload_len, weight}
+use Rattle.std.proofs.Common.{◌≡◌, ℕ, ◌+◌, ◌*◌, ◌≤◌, ◌<◌, List, length, set, get_or, sum_by, ap, sym, ◌∙◌, arith}
+use Rattle.htx_model.specs.Block.{Block, payload_len, weight}
 use Rattle.htx_model.specs.Blocks.{load, block_at}
 use Rattle.htx_model.proofs.Loads.{load-payloads, load-set, load-remove}
 use Rattle.htx_layout.specs.Raw.{addr_in, block_in, payload_in, payload_of, len_in, blocks_of, addrs_of}

@@ -1,7 +1,6 @@
 -- An array with another `front`, with fewer blocks, or defragmented, is laid out too.
-use Rattle.std.proofs.Common.{refl, subst, sym, ap, ◌≡◌, ℕ, ◌+◌, ◌*◌, ◌<◌, ◌≤◌, inl, inr, List, length, arith, Option, Some, None}
-use Rattle.htx_space.specs.Windows.{desc_at}
-use Rattle.htx_layout.specs.Raw.{addr_in, addrs_of}
+use Rattle.std.proofs.Common.{refl, subst, sym, ◌≡◌, ℕ, ◌≤◌, inr, List, arith, Option, Some, None}
+use Rattle.htx_layout.specs.Raw.{addrs_of}
 use Rattle.htx_layout.specs.Sound.{IsSound, IsLaid}
 use Rattle.htx_layout.specs.Place.{low, settled, settled_by}
 use Rattle.htx_layout.specs.Moves.{IsShifted}

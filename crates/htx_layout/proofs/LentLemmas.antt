@@ -1,12 +1,12 @@
 -- What a caller sees after a write behind the window that is a block's value.
-use Rattle.std.proofs.Common.{◌≡◌, ℕ, ◌+◌, ◌<◌, ◌≤◌, ◌⊎◌, List, length, set, drop, refl, ap, sym, ◌∙◌, subst, arith, length-drop}
+use Rattle.std.proofs.Common.{◌≡◌, ℕ, ◌<◌, ◌≤◌, ◌⊎◌, List, length, set, drop, refl, ap, sym, ◌∙◌, subst, arith, length-drop}
 use Rattle.std.proofs.lemmas.List.{length-take-le}
 use Rattle.std.specs.List.{refill, length_refill}
 use Rattle.htx_model.specs.Block.{Block, EndHeaders, kind_of, value_of, HasValue, with_value}
 use Rattle.htx_model.specs.Blocks.{block_at}
 use Rattle.htx_space.specs.declared.space.Desc.{Desc}
-use Rattle.htx_space.specs.Windows.{window, overwritten, desc_at}
-use Rattle.htx_layout.specs.Raw.{addr_in, len_in, info_len, block_in, blocks_of, addrs_of}
+use Rattle.htx_space.specs.Windows.{window, overwritten}
+use Rattle.htx_layout.specs.Raw.{info_len, block_in, blocks_of, addrs_of}
 use Rattle.htx_layout.specs.Sound.{IsSound, IsLaid, end_of}
 use Rattle.htx_layout.specs.Values.{value_start, value_length}
 use Rattle.htx_layout.proofs.RawLemmas.{length-listed, get_or-listed}

@@ -1,8 +1,7 @@
 -- A payload may grow where `stays` says so.
-use Rattle.std.proofs.Common.{refl, subst, sym, ap, ◌≡◌, ◌≢◌, ℕ, ◌+◌, ◌*◌, ◌<◌, ◌≤◌, ◌⊎◌, inl, inr, List, length, arith, nat_le, nat_eq, if◌then◌else◌, Option, Some, None, Bool, true, false}
+use Rattle.std.proofs.Common.{refl, sym, ap, ◌≡◌, ◌≢◌, ℕ, ◌+◌, ◌*◌, ◌<◌, ◌≤◌, ◌⊎◌, inl, inr, List, length, arith, nat_le, nat_eq, if◌then◌else◌, Option, Some, None, Bool, true, false}
 use Rattle.std.proofs.lemmas.Bool.{leb-true, eqb-true}
 use Rattle.std.proofs.lemmas.Option.{none-some}
-use Rattle.htx_space.specs.declared.space.Desc.{Desc}
 use Rattle.htx_space.specs.Windows.{desc_at}
 use Rattle.htx_layout.specs.Raw.{addr_in, len_in, info_len, block_in, blocks_of, addrs_of}
 use Rattle.htx_layout.specs.Sound.{IsLaid, end_of}

@@ -1,14 +1,14 @@
 -- What descriptors and payloads tell of their blocks.
-use Rattle.std.proofs.Common.{◌≡◌, ℕ, ◌+◌, ◌*◌, ◌-◌, ◌^◌, ◌<◌, ◌≤◌, List, ◌++◌, length, get_or, take, map, refl, subst, ap, sym, ◌∙◌, arith}
+use Rattle.std.proofs.Common.{◌≡◌, ℕ, ◌+◌, ◌^◌, ◌<◌, ◌≤◌, List, ◌++◌, length, get_or, take, refl, ap, sym, ◌∙◌, arith}
 use Rattle.std.proofs.lemmas.List.{same_lists, length-take-le, get_or-take}
-use Rattle.htx_model.specs.Block.{Block, RequestLine, ResponseLine, EndHeaders, kind_of, name_of, line_of, payload_len, IsFieldKind, IsLineKind}
+use Rattle.htx_model.specs.Block.{EndHeaders, kind_of, name_of, line_of, payload_len, IsFieldKind, IsLineKind}
 use Rattle.htx_model.specs.Blocks.{block_at}
 use Rattle.htx_model.specs.declared.Kind.{Kind}
 use Rattle.htx_model.specs.declared.Kind.TheVariants as kinds
-use Rattle.htx_space.specs.Windows.{window, word_at, desc_at}
+use Rattle.htx_space.specs.Windows.{window, word_at}
 use Rattle.htx_space.proofs.WindowLemmas.{word_at_is, length-window}
 use Rattle.htx_layout.specs.Raw.{Tells, info_kind, info_len, name_len, line_head, payload_of, block_by, block_of, block_in, payload_in, addr_in, len_in, listed, blocks_of, addrs_of}
-use Rattle.htx_layout.specs.Sound.{IsSound, IsTold, IsLaid}
+use Rattle.htx_layout.specs.Sound.{IsSound, IsTold}
 use Rattle.htx_layout.proofs.RawLemmas.{length-listed, get_or-listed}
 
 -- ---- the type

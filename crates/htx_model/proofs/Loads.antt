@@ -1,7 +1,7 @@
 -- The load after data was appended, and how much of it fits.
-use Rattle.std.proofs.Common.{◌≡◌, ℕ, zero, suc, ◌+◌, ◌-◌, ◌*◌, ◌<◌, ◌≤◌, ◌⊎◌, inl, inr, List, [], ◌∷◌, ◌++◌, length, take, drop, set, sum_by, refl, ap, sym, ◌∙◌, arith, length-append, min, true, false, cond, Bool}
-use Rattle.std.specs.Prelude.{nat_le, insert, remove, if◌then◌else◌}
-use Rattle.std.proofs.lemmas.List.{length-take-le, take_all}
+use Rattle.std.proofs.Common.{◌≡◌, ℕ, zero, suc, ◌+◌, ◌-◌, ◌*◌, ◌<◌, ◌≤◌, inl, inr, List, [], ◌∷◌, ◌++◌, length, take, drop, set, sum_by, ◌∙◌, arith, length-append, min}
+use Rattle.std.specs.Prelude.{insert, remove}
+use Rattle.std.proofs.lemmas.List.{length-take-le}
 use Rattle.std.proofs.lemmas.List.Sums.{sum_by-cons, sum_by-append, sum_by-insert, sum_by-remove, sum_by-set, sum_by-take-drop}
 use Rattle.std.proofs.lemmas.Bool.{cases_lt, le-leb, lt-leb}
 use Rattle.htx_model.specs.Block.{Block, RequestLine, ResponseLine, Header, EndHeaders, Data, Trailer, EndTrailers, weight, payload_len}

@@ -1,5 +1,6 @@
 //! A table of edits on one array, against a list of types and addresses.
 
+use crate::tests::set_value;
 use crate::{Arena, Kind};
 use std::process::Abort;
 use std::test::Fail;
@@ -43,10 +44,8 @@ fn apply(arena: &mut Arena, edit: Edit, rt: &impl Abort) {
             arena.remove(at);
         }
         Edit::Value(at, value) => {
-            assert!(rt; at < arena.len());
-            assert!(rt; arena.kind(at) == Kind::Header);
             assert!(rt; value <= 1024);
-            let _ = arena.replace_value(at, &VALUE[..value]);
+            let _ = set_value(arena, at, &VALUE[..value], rt);
         }
         Edit::Data(len) => {
             assert!(rt; len <= 1024);

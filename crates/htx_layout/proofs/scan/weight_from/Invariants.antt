@@ -1,4 +1,4 @@
-use Rattle.std.proofs.Common.{◌≡◌, ◌+◌, ◌≤◌, drop}
+use Rattle.std.proofs.Common.{◌≡◌, ◌+◌, drop}
 use Rattle.htx_model.specs.Blocks.{load}
 use Rattle.htx_layout.specs.Raw.{blocks_of}
 use Rattle.htx_layout.proofs.scan.weight_from.Given as goal

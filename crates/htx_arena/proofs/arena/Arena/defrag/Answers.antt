@@ -1,6 +1,5 @@
-use Rattle.std.proofs.Common.{◌≡◌, ◌∙◌, ap, sym, arith, List, ℕ, length}
+use Rattle.std.proofs.Common.{◌∙◌, ap, arith}
 use Rattle.htx_model.specs.Blocks.{load}
-use Rattle.htx_layout.specs.Raw.{blocks_of}
 use Rattle.htx_layout.proofs.MoveLemmas.{shifted_blocks}
 use Rattle.htx_layout.proofs.FrontLemmas.{laid_shifted}
 use Rattle.htx_arena.specs.Contents.{Contents}

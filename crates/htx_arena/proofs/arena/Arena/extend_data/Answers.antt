@@ -1,20 +1,17 @@
-use Rattle.std.proofs.Common.{◌≡◌, ◌+◌, ◌-◌, ◌*◌, ◌^◌, ◌++◌, ◌<◌, ◌≤◌, ◌∙◌, ap, sym, subst, arith, refl, min, suc, List, ℕ, [], length, set, get_or, take, drop, length-append, length-drop, Some, None}
-use Rattle.std.specs.Prelude.{insert, remove}
-use Rattle.std.proofs.lemmas.List.{take_all, length-take-le}
-use Rattle.htx_model.specs.Block.{Block, Data, block, kind_of, name_of, value_of, payload_len, with_value}
-use Rattle.htx_model.specs.Blocks.{load, block_at, append_data, taken}
-use Rattle.htx_model.proofs.Loads.{taken_is, load-set}
-use Rattle.htx_model.proofs.Edits.{cut-set, cut-remove, append-insert, append-set, overhead-data, overhead-other}
+use Rattle.std.proofs.Common.{◌≡◌, ◌+◌, ◌++◌, ◌∙◌, ap, sym, subst, arith, List, ℕ, length, set, get_or, take, length-append}
+use Rattle.std.proofs.lemmas.List.{take_all}
+use Rattle.htx_model.specs.Block.{Data, value_of, payload_len}
+use Rattle.htx_model.specs.Blocks.{block_at}
 use Rattle.htx_space.specs.declared.space.Desc.{Desc}
 use Rattle.htx_space.specs.Windows.{desc_at}
-use Rattle.htx_layout.specs.Raw.{Tells, info_len, addr_in, len_in, block_in, block_of, payload_in, payload_of, blocks_of, addrs_of}
+use Rattle.htx_layout.specs.Raw.{Tells, info_len, addr_in, len_in, block_in, block_of, payload_of}
 use Rattle.htx_layout.specs.Place.{stays}
-use Rattle.htx_layout.proofs.CodeLemmas.{IsMade, field_made, line_made, data_made}
-use Rattle.htx_layout.proofs.TellLemmas.{length-payload_in, kind_told}
+use Rattle.htx_layout.proofs.CodeLemmas.{IsMade, data_made}
+use Rattle.htx_layout.proofs.TellLemmas.{length-payload_in}
 use Rattle.htx_arena.specs.Contents.{Contents}
-use Rattle.htx_arena.specs.Addresses.{Places, placed_anew, inserted, replaced, appended, extended, extended_by}
+use Rattle.htx_arena.specs.Addresses.{Places, placed_anew, extended, extended_by}
 use Rattle.htx_arena.proofs.WholeLemmas.{numbers, at}
-use Rattle.htx_arena.proofs.DataLemmas.{data_at, field_at, with_value_is, cut_to-part, cut_to-all, appended-data, appended-other, replaced-shorter, replaced-longer}
+use Rattle.htx_arena.proofs.DataLemmas.{data_at}
 use Rattle.htx_arena.proofs.arena.Arena.extend_data.Goals as goal
 
 pub overflow_cast-len : goal.overflow_cast-len

@@ -1,23 +1,17 @@
-use Rattle.std.proofs.Common.{refl, ◌≡◌, ◌≢◌, ◌+◌, ◌*◌, ◌-◌, ◌++◌, ◌<◌, ◌≤◌, ◌∙◌, ◌⊎◌, inl, inr, ap, sym, subst, arith, List, ℕ, length, set, get_or, take, drop, sum_by, Some, None}
-use Rattle.std.specs.Prelude.{insert, remove}
-use Rattle.std.proofs.lemmas.List.{take-take, take_all}
-use Rattle.std.proofs.lemmas.List.Sums.{sum_by-remove}
-use Rattle.htx_model.specs.Block.{Block, EndHeaders, payload_len}
-use Rattle.htx_model.specs.Blocks.{load, block_at}
+use Rattle.std.proofs.Common.{refl, ◌≡◌, ◌+◌, ◌++◌, ◌∙◌, ap, sym, subst, arith, List, ℕ, length, set, get_or, take, Some}
+use Rattle.std.proofs.lemmas.List.{take_all}
+use Rattle.htx_model.specs.Block.{payload_len}
+use Rattle.htx_model.specs.Blocks.{block_at}
 use Rattle.htx_space.specs.declared.space.Desc.{Desc}
-use Rattle.htx_space.specs.Windows.{desc_at, window}
-use Rattle.htx_layout.specs.Raw.{Tells, info_len, addr_in, len_in, block_in, block_of, payload_in, payload_of, blocks_of, addrs_of}
-use Rattle.htx_layout.specs.Sound.{IsLaid, end_of}
+use Rattle.htx_space.specs.Windows.{desc_at}
+use Rattle.htx_layout.specs.Raw.{Tells, info_len, addr_in, len_in, block_of, payload_in, blocks_of, addrs_of}
+use Rattle.htx_layout.specs.Sound.{end_of}
 use Rattle.htx_layout.specs.Place.{stays}
-use Rattle.htx_layout.specs.Moves.{CanRenew, IsRenewed}
-use Rattle.htx_layout.proofs.RawLemmas.{length-listed}
-use Rattle.htx_layout.proofs.TellLemmas.{len_told, length-payload_in}
-use Rattle.htx_layout.proofs.StayLemmas.{MayGrow, stays_grows}
-use Rattle.htx_layout.proofs.RoomLemmas.{within_own}
-use Rattle.htx_layout.proofs.GrowLemmas.{renewed_blocks, renewed_addrs, stayed_addrs, renewed_laid}
+use Rattle.htx_layout.specs.Moves.{IsRenewed}
+use Rattle.htx_layout.proofs.TellLemmas.{length-payload_in}
+use Rattle.htx_layout.proofs.StayLemmas.{stays_grows}
+use Rattle.htx_layout.proofs.GrowLemmas.{renewed_blocks, stayed_addrs, renewed_laid}
 use Rattle.htx_arena.specs.Contents.{Contents}
-use Rattle.htx_arena.specs.Whole.{IsWhole}
-use Rattle.htx_arena.specs.Addresses.{placed_anew}
 use Rattle.htx_arena.proofs.WholeLemmas.{numbers, at, whole_set}
 use Rattle.htx_arena.proofs.arena.Arena.extend_here.Goals as goal
 

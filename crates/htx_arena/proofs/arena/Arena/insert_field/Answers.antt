@@ -1,9 +1,8 @@
-use Rattle.std.proofs.Common.{◌≡◌, ◌+◌, ◌++◌, ◌∙◌, ap, sym, subst, arith, List, ℕ, [], ◌∷◌, length}
+use Rattle.std.proofs.Common.{◌++◌, ◌∙◌, ap, sym, arith, List, ℕ, []}
 use Rattle.std.specs.Prelude.{insert}
 use Rattle.std.proofs.lemmas.List.{append-nil}
-use Rattle.htx_model.specs.Block.{Block, block}
-use Rattle.htx_layout.specs.Raw.{info_len}
-use Rattle.htx_layout.proofs.CodeLemmas.{IsMade, field_made, line_made, end_made, data_made}
+use Rattle.htx_model.specs.Block.{block}
+use Rattle.htx_layout.proofs.CodeLemmas.{IsMade, field_made}
 use Rattle.htx_arena.proofs.arena.Arena.insert_field.Goals as goal
 
 pub put-requires-clause-len : goal.put-requires-clause-len

@@ -5,7 +5,6 @@ use Rattle.htx_space.specs.Windows.{desc_at, word_at, window}
 use Rattle.htx_layout.specs.Raw.{payload_in, info_kind}
 use Rattle.htx_layout.proofs.TellLemmas.{kind_told, line_told, line_fits, block_told, length-payload_in}
 use Rattle.htx_arena.specs.Contents.{Contents}
-use Rattle.htx_arena.specs.Whole.{IsWhole}
 use Rattle.htx_arena.specs.declared.arena.Arena.TheInside.{Inside}
 use Rattle.htx_arena.proofs.WholeLemmas.{numbers, seen_of}
 use Rattle.htx_arena.proofs.arena.Arena.line.Goals as goal

@@ -2,7 +2,7 @@ use Rattle.std.proofs.Common.{◌∙◌, ap, sym, subst, arith}
 use Rattle.htx_model.specs.Block.{kind_of, name_of, IsFieldKind}
 use Rattle.htx_model.specs.Blocks.{block_at}
 use Rattle.htx_space.specs.Windows.{desc_at}
-use Rattle.htx_layout.specs.Raw.{payload_in, blocks_of}
+use Rattle.htx_layout.specs.Raw.{payload_in}
 use Rattle.htx_layout.proofs.TellLemmas.{kind_told, name_told, block_told}
 use Rattle.htx_arena.specs.Contents.{Contents}
 use Rattle.htx_arena.proofs.WholeLemmas.{numbers}

@@ -1,15 +1,14 @@
-use Rattle.std.proofs.Common.{◌≡◌, ◌+◌, ◌-◌, ◌∙◌, ap, sym, subst, arith, List, ℕ, length}
-use Rattle.htx_model.specs.Block.{Block, weight}
-use Rattle.htx_model.specs.Blocks.{load, block_at}
+use Rattle.std.proofs.Common.{◌-◌, ◌∙◌, ap, sym, subst, arith, List, ℕ}
+use Rattle.htx_model.specs.Blocks.{load}
 use Rattle.htx_model.proofs.Loads.{load-remove}
 use Rattle.htx_space.specs.declared.space.Desc.{Desc}
-use Rattle.htx_layout.specs.Raw.{info_len, len_in, block_in, blocks_of}
+use Rattle.htx_layout.specs.Raw.{info_len, block_in, blocks_of}
 use Rattle.htx_layout.specs.Sound.{IsLaid}
 use Rattle.htx_layout.proofs.RawLemmas.{length-listed}
 use Rattle.htx_layout.proofs.TellLemmas.{len_told}
 use Rattle.htx_layout.proofs.EachLemmas.{IsLaid-unlisted}
 use Rattle.htx_layout.proofs.FrontLemmas.{laid_settled}
-use Rattle.htx_arena.proofs.WholeLemmas.{numbers, at}
+use Rattle.htx_arena.proofs.WholeLemmas.{at}
 use Rattle.htx_arena.proofs.arena.Arena.remove.Goals as goal
 
 pub overflow_sub-self-2 : goal.overflow_sub-self-2

@@ -1,21 +1,15 @@
-use Rattle.std.proofs.Common.{◌≡◌, ◌+◌, ◌-◌, ◌*◌, ◌%◌, ◌^◌, ◌++◌, ◌<◌, ◌≤◌, ◌∙◌, ap, sym, subst, arith, refl, min, suc, List, ℕ, [], length, set, get_or, take, drop, length-append, length-drop, Some, None}
-use Rattle.std.specs.Prelude.{insert, remove}
-use Rattle.std.proofs.lemmas.List.{take_all, length-take-le, append-nil}
+use Rattle.std.proofs.Common.{◌≡◌, ◌+◌, ◌*◌, ◌%◌, ◌^◌, ◌++◌, ◌∙◌, ap, sym, subst, arith, refl, List, ℕ, [], length, set, take}
+use Rattle.std.proofs.lemmas.List.{append-nil}
 use Rattle.std.proofs.Math.Seq.{take-append_seam}
-use Rattle.htx_model.specs.Block.{Block, Data, block, kind_of, name_of, value_of, payload_len, with_value}
-use Rattle.htx_model.specs.Blocks.{load, block_at, append_data, taken}
-use Rattle.htx_model.proofs.Loads.{taken_is, load-set}
-use Rattle.htx_model.proofs.Edits.{cut-set, cut-remove, append-insert, append-set, overhead-data, overhead-other}
+use Rattle.htx_model.specs.Block.{block, kind_of, name_of, value_of, payload_len, with_value}
+use Rattle.htx_model.specs.Blocks.{block_at}
+use Rattle.htx_model.proofs.Loads.{load-set}
 use Rattle.htx_space.specs.declared.space.Desc.{Desc}
-use Rattle.htx_space.specs.Windows.{desc_at}
-use Rattle.htx_layout.specs.Raw.{code_of, info_kind, Tells, info_len, addr_in, len_in, block_in, block_of, payload_in, payload_of, blocks_of, addrs_of}
-use Rattle.htx_layout.specs.Place.{stays}
-use Rattle.htx_layout.proofs.CodeLemmas.{IsMade, field_made, line_made, data_made}
-use Rattle.htx_layout.proofs.TellLemmas.{length-payload_in, kind_told}
-use Rattle.htx_arena.specs.Contents.{Contents}
-use Rattle.htx_arena.specs.Addresses.{Places, placed_anew, inserted, replaced, appended, extended, extended_by}
+use Rattle.htx_layout.specs.Raw.{code_of, info_kind, Tells, info_len, payload_of}
+use Rattle.htx_layout.proofs.CodeLemmas.{IsMade, field_made}
+use Rattle.htx_arena.specs.Addresses.{Places, placed_anew}
 use Rattle.htx_arena.proofs.WholeLemmas.{numbers, at}
-use Rattle.htx_arena.proofs.DataLemmas.{not_true, field_len, line_len, data_at, field_at, with_value_is, cut_to-part, cut_to-all, appended-data, appended-other, replaced-shorter, replaced-longer}
+use Rattle.htx_arena.proofs.DataLemmas.{not_true, field_len, field_at, with_value_is, replaced-shorter, replaced-longer}
 use Rattle.htx_arena.proofs.arena.Arena.replace_value.Goals as goal
 
 pub returns-then-value-free-clause-fits : goal.returns-then-value-free-clause-fits

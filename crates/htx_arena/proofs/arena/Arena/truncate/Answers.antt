@@ -1,8 +1,7 @@
-use Rattle.std.proofs.Common.{◌≡◌, ◌+◌, ◌-◌, ◌∙◌, ap, sym, subst, arith, List, ℕ, length, take, drop}
-use Rattle.htx_model.specs.Block.{Block}
+use Rattle.std.proofs.Common.{◌∙◌, ap, arith, take}
 use Rattle.htx_model.specs.Blocks.{load}
 use Rattle.htx_model.proofs.Loads.{load-take_drop}
-use Rattle.htx_layout.specs.Raw.{block_in, addr_in, blocks_of, addrs_of}
+use Rattle.htx_layout.specs.Raw.{block_in, addr_in, blocks_of}
 use Rattle.htx_layout.specs.Place.{settled}
 use Rattle.htx_layout.proofs.TellLemmas.{listed-take}
 use Rattle.htx_layout.proofs.FrontLemmas.{laid_settled, laid_first}

@@ -1,4 +1,4 @@
-use Rattle.std.proofs.Common.{refl, ap, sym, subst, ◌∙◌, arith}
+use Rattle.std.proofs.Common.{refl, ap, subst, ◌∙◌, arith}
 use Rattle.htx_model.specs.Block.{kind_of, value_of, HasValue}
 use Rattle.htx_model.specs.Blocks.{block_at}
 use Rattle.htx_layout.proofs.ValueLemmas.{value_fits}
