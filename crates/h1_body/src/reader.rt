@@ -1,41 +1,23 @@
 //! The reader of a body.
-ghost use Rattle.std.specs.Prelude.{◌≡◌, ◌≤◌, ◌<◌, ◌+◌, ◌⊎◌, ◌++◌, [], length, take, drop, List, ℕ};
+ghost use Rattle.std.specs.Prelude.{◌≡◌, ◌≤◌, ◌<◌, ◌+◌, ◌++◌, [], length, take, drop, true, false, IsTrue, Some, List, ℕ, IfSome};
+ghost use Rattle.httparse.specs.Grammar as grammar;
 ghost use Rattle.http_model.specs.declared.Framing.{Framing};
-ghost use Rattle.h1_body.specs.declared.reader.Stage.TheVariants as stage;
-ghost use Rattle.h1_body.specs.Stands.{Feeds, HasRead, IsSectionSpan, Waits, state_of, ends_at_close};
+ghost use Rattle.http_model.specs.declared.Limits.{Limits};
+ghost use Rattle.h1_body.specs.Section.{BeginsFields};
+ghost use Rattle.h1_body.specs.BodyOf.{StateTells, ClosedIsWhole, ClosedIsCut};
+ghost use Rattle.h1_body.specs.Stands.{HasRead, Waits, state_at, state_of, ends_at, bytes_of};
 
-use crate::line::{LineRead, read_line};
-use http_model::Framing;
-use httparse::Status;
-use httparse::spans::{EMPTY_HEADER_SPAN, parse_headers};
-use std::marker::Model;
-
-/// Where the reader stands, always between two lines, ends of lines or pieces of data.
-#[derive(Clone, Copy, Debug, PartialEq, Eq)]
-pub enum Stage {
-    /// So many bytes are to come.
-    Left(u64),
-    /// All bytes are data.
-    UntilClose,
-    /// A chunk line is next.
-    Line,
-    /// So many bytes of a chunk are to come.
-    Data(u32),
-    /// The end of a chunk is next.
-    LineEnd,
-    /// The trailer section is next.
-    Section,
-    /// The body is whole.
-    Over,
-    /// No continuation is a body.
-    Dead,
-}
+use crate::stages::{Fed, Stage, feed_at};
+use http_model::{Framing, Limits};
 
 /// What a step tells of the body.
 #[derive(Clone, Copy, Debug, PartialEq, Eq)]
 pub enum BodyState {
+    /// It is not whole yet.
     More,
+    /// It is whole.
     Whole,
+    /// Whatever follows, the bytes are no body.
     Bad,
 }
 
@@ -49,190 +31,18 @@ pub struct Span {
 /// What a step used, and what it found.
 #[derive(Clone, Copy, Debug, PartialEq, Eq)]
 pub struct BodyStep {
+    /// The bytes used, from the front of the window. The caller drops them.
     pub used: usize,
+    /// The bytes of the body among them.
     pub piece: Span,
+    /// The trailer section, where this step read it: for `add_trailers`, before the bytes are dropped.
     pub trailers: Option<Span>,
     pub state: BodyState,
 }
 
-/// What a stage makes of a window: the next stage, the bytes used, and how many of them are data.
-#[derive(Clone, Copy)]
-pub struct Fed {
-    stage: Stage,
-    used: usize,
-    len: usize,
-}
-
-/// How many bytes of the window there is room for.
-fn fitting(window: usize, room: u32) -> usize
-    ensures within { (result ≤ window) × (result ≤ room) }
-    ensures most { (result ≡ window) ⊎ (result ≡ room) }
-{
-    if window <= room as usize {
-        window
-    } else {
-        room as usize
-    }
-}
-
-/// How many bytes of data a step takes.
-fn data_len(left: u64, window: usize, room: u32) -> usize
-    ensures within { (result ≤ left) × (result ≤ window) × (result ≤ room) }
-    ensures most { (result ≡ left) ⊎ ((result ≡ window) ⊎ (result ≡ room)) }
-{
-    let most = fitting(window, room);
-    if (most as u64) <= left {
-        most
-    } else {
-        left as usize
-    }
-}
-
-fn feed_left(left: u64, window: &[u8], room: u32) -> Fed
-    ensures { Feeds (stage.Left left) window.now room result }
-{
-    let len = data_len(left, window.len(), room);
-    let stage = if len as u64 == left {
-        Stage::Over
-    } else {
-        Stage::Left(left - len as u64)
-    };
-    Fed {
-        stage,
-        used: len,
-        len,
-    }
-}
-
-fn feed_until_close(window: &[u8], room: u32) -> Fed
-    ensures { Feeds stage.UntilClose window.now room result }
-{
-    let len = fitting(window.len(), room);
-    Fed {
-        stage: Stage::UntilClose,
-        used: len,
-        len,
-    }
-}
-
-fn feed_data(left: u32, window: &[u8], room: u32) -> Fed
-    ensures { Feeds (stage.Data left) window.now room result }
-{
-    let len = data_len(left as u64, window.len(), room);
-    let stage = if len as u64 == left as u64 {
-        Stage::LineEnd
-    } else {
-        Stage::Data(left - len as u32)
-    };
-    Fed {
-        stage,
-        used: len,
-        len,
-    }
-}
-
-fn feed_line(window: &[u8], room: u32) -> Fed
-    ensures { Feeds stage.Line window.now room result }
-{
-    match read_line(window) {
-        LineRead::Line(used, size) => {
-            if size == 0 {
-                Fed {
-                    stage: Stage::Section,
-                    used,
-                    len: 0,
-                }
-            } else {
-                Fed {
-                    stage: Stage::Data(size),
-                    used,
-                    len: 0,
-                }
-            }
-        }
-        LineRead::More => Fed {
-            stage: Stage::Line,
-            used: 0,
-            len: 0,
-        },
-        LineRead::Bad(used) => Fed {
-            stage: Stage::Dead,
-            used,
-            len: 0,
-        },
-    }
-}
-
-fn feed_line_end(window: &[u8], room: u32) -> Fed
-    ensures { Feeds stage.LineEnd window.now room result }
-{
-    let (stage, used) = match window {
-        [] => (Stage::LineEnd, 0),
-        [b'\r'] => (Stage::LineEnd, 0),
-        [b'\r', b'\n', ..] => (Stage::Line, 2),
-        [b'\r', _, ..] => (Stage::Dead, 2),
-        [_, ..] => (Stage::Dead, 1),
-    };
-    Fed {
-        stage,
-        used,
-        len: 0,
-    }
-}
-
-fn feed_section(window: &[u8], room: u32) -> Fed
-    ensures { Feeds stage.Section window.now room result }
-{
-    let mut headers = [EMPTY_HEADER_SPAN; 100];
-    match parse_headers(window, &mut headers) {
-        Ok(Status::Complete((used, _count))) => Fed {
-            stage: Stage::Over,
-            used,
-            len: 0,
-        },
-        Ok(Status::Partial) => Fed {
-            stage: Stage::Section,
-            used: 0,
-            len: 0,
-        },
-        Err(_) => Fed {
-            stage: Stage::Dead,
-            used: window.len(),
-            len: 0,
-        },
-    }
-}
-
-fn stay(stage: Stage, window: &[u8], room: u32) -> Fed
-    requires { Waits stage window.now room }
-    ensures { Feeds stage window.now room result }
-{
-    Fed {
-        stage,
-        used: 0,
-        len: 0,
-    }
-}
-
-/// What a stage makes of a window.
-fn feed_at(stage: Stage, window: &[u8], room: u32) -> Fed
-    ensures { Feeds stage window.now room result }
-{
-    match stage {
-        Stage::Left(left) => feed_left(left, window, room),
-        Stage::UntilClose => feed_until_close(window, room),
-        Stage::Line => feed_line(window, room),
-        Stage::Data(left) => feed_data(left, window, room),
-        Stage::LineEnd => feed_line_end(window, room),
-        Stage::Section => feed_section(window, room),
-        Stage::Over => stay(Stage::Over, window, room),
-        Stage::Dead => stay(Stage::Dead, window, room),
-    }
-}
-
 /// What the stage tells of the body.
 fn tell(stage: Stage) -> BodyState
-    ensures { result ≡ state_of stage }
+    ensures { result ≡ state_at stage }
 {
     match stage {
         Stage::Over => BodyState::Whole,
@@ -241,29 +51,39 @@ fn tell(stage: Stage) -> BodyState
     }
 }
 
-/// Where the trailer section lies, once it was read.
-fn section_of(old: Stage, fed: Fed) -> Option<Span>
-    ensures { IsSectionSpan old fed.stage fed.used result }
+/// Whether a closed stream makes the body whole.
+fn ends(stage: Stage) -> bool
+    ensures { result ≡ ends_at stage }
 {
-    match (old, fed.stage) {
-        (Stage::Section, Stage::Over) => Some(Span {
-            from: 0,
-            len: fed.used,
-        }),
-        _ => None,
-    }
+    matches!(stage, Stage::UntilClose | Stage::Over)
 }
 
-/// A reader of a body.
+/// Where the trailer section lies, where one was read.
+fn section_of(fed: Fed) -> Option<Span>
+    ensures bytes { (window : List ℕ) → bytes_of window result ≡ take fed.section window }
+    ensures some { IfSome result (λ span. (0 < span.len) × (span.from + span.len ≡ fed.section)) }
+{
+    if fed.section == 0 {
+        return None;
+    }
+    Some(Span {
+        from: 0,
+        len: fed.section,
+    })
+}
+
+/// A reader of a body, whose bytes come in any pieces (RFC 9112 sections 6 to 8). It takes no memory.
 #[derive(Clone, Copy, Debug, PartialEq, Eq)]
 pub struct BodyReader {
     stage: Stage,
+    section_limit: u32,
 }
 
 impl BodyReader {
     /// A reader of a body that has not begun.
-    pub fn new(framing: Framing) -> BodyReader
-        ensures { HasRead framing [] [] result.stage }
+    pub fn new(framing: Framing, limits: Limits) -> BodyReader
+        requires { 1024 ≤ limits.bufsize }
+        ensures { HasRead limits framing [] [] [] result }
     {
         let stage = match framing {
             Framing::Absent => Stage::Over,
@@ -272,32 +92,36 @@ impl BodyReader {
             Framing::Chunked => Stage::Line,
             Framing::ToClose => Stage::UntilClose,
         };
-        BodyReader { stage }
+        BodyReader {
+            stage,
+            section_limit: limits.bufsize / 2,
+        }
     }
 
     /// Whether the body is whole where the stream is closed here.
     pub fn ended(&self) -> bool
-        ensures { result ≡ ends_at_close self.now.stage }
+        ensures closed { result ≡ true → ClosedIsWhole self.now }
+        ensures cut { result ≡ false → ClosedIsCut self.now }
     {
-        match self.stage {
-            Stage::UntilClose => true,
-            Stage::Over => true,
-            _ => false,
-        }
+        ends(self.stage)
     }
 
-    /// Takes the next part of the body from the window.
+    /// Takes the next part of the body from the front of the window, and at most `room` bytes of data. The window is
+    /// the bytes of the stream that were not used yet.
     pub fn feed(&mut self, window: &[u8], room: u32) -> BodyStep
         ensures used { result.used ≤ length window.now }
         ensures piece { (result.piece.len ≤ room) × (result.piece.from + result.piece.len ≤ result.used) }
-        ensures leads { (framing : Framing) (bytes found : List ℕ) → HasRead framing bytes found self.old.stage
-            → HasRead framing (bytes ++ take result.used window.now) (found ++ take result.piece.len (drop result.piece.from window.now)) self.new.stage }
-        ensures state { result.state ≡ state_of self.new.stage }
-        ensures trailers { IsSectionSpan self.old.stage self.new.stage result.used result.trailers }
-        ensures waits { (framing : Framing) (bytes found : List ℕ) → HasRead framing bytes found self.old.stage → result.used ≡ 0 → Waits self.new.stage window.now room }
+        ensures section { IfSome result.trailers (λ span. (0 < span.len) × (span.from + span.len ≤ result.used)) }
+        ensures fields { IfSome result.trailers (λ span. (fields : List grammar.Field) × BeginsFields (bytes_of window.now (Some span)) fields []) }
+        ensures leads { (limits : Limits) (framing : Framing) (bytes found section : List ℕ) → HasRead limits framing bytes found section self.old
+            → HasRead limits framing (bytes ++ take result.used window.now) (found ++ bytes_of window.now (Some result.piece)) (section ++ bytes_of window.now result.trailers) self.new }
+        ensures told { (limits : Limits) (framing : Framing) (bytes found section : List ℕ) → HasRead limits framing bytes found section self.old
+            → StateTells limits framing (bytes ++ take result.used window.now) (found ++ bytes_of window.now (Some result.piece)) (section ++ bytes_of window.now result.trailers) result.state }
+        ensures state { result.state ≡ state_of self.new }
+        ensures waits { (limits : Limits) (framing : Framing) (bytes found section : List ℕ) → HasRead limits framing bytes found section self.old
+            → result.used ≡ 0 → Waits self.new window.now room }
     {
-        let old = self.stage;
-        let fed = feed_at(old, window, room);
+        let fed = feed_at(self.stage, window, room, self.section_limit);
         self.stage = fed.stage;
         BodyStep {
             used: fed.used,
@@ -305,7 +129,7 @@ impl BodyReader {
                 from: 0,
                 len: fed.len,
             },
-            trailers: section_of(old, fed),
+            trailers: section_of(fed),
             state: tell(fed.stage),
         }
     }

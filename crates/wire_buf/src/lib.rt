@@ -59,7 +59,7 @@ impl Window {
     pub fn room(&self) -> usize
         ensures { result + length self.now.items ≡ self.now.capacity }
     {
-        self.ring.capacity() - self.ring.len()
+        self.ring.capacity() - self.len()
     }
 
     /// Takes the longest prefix that fits, and answers its length.
@@ -104,7 +104,8 @@ impl Window {
         };
     }
 
-    /// All the bytes, in one slice. They are moved where they reach past the end of the ring.
+    /// All the bytes, in one slice. They are moved where they reach past the end of the ring. A caller hands the
+    /// slice on at once, or keeps it as a `&[u8]`; what is written into it stands in the window.
     pub fn bytes(&mut self) -> &mut [u8]
         ensures* back { sem 𝓛 (LendsBytes self.entry result) }
         ensures value { result.now ≡ self.old.items }
