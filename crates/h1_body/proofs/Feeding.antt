@@ -1,12 +1,11 @@
 -- What the stages make of a window.
-use Rattle.std.proofs.Common.{◌≡◌, ℕ, ◌+◌, ◌-◌, ◌<◌, ◌≤◌, ◌⊎◌, inl, inr, List, [], ◌++◌, refl, sym, ap, ◌∙◌, arith, length, take, drop, subst}
+use Rattle.std.proofs.Common.{◌≡◌, ℕ, ◌+◌, ◌-◌, ◌<◌, ◌≤◌, ◌⊎◌, inl, inr, List, [], ◌++◌, refl, sym, ap, ◌∙◌, arith, length, take, subst}
 use Rattle.std.proofs.lemmas.List.{length-take-le}
 use Rattle.std.proofs.Math.Seq.{take-length}
 use Rattle.httparse.specs.Grammar as grammar
 use Rattle.httparse.specs.Grammar.{HasNoSection}
 use Rattle.http_model.specs.declared.Framing.{Framing}
 use Rattle.http_model.specs.declared.Limits.{Limits}
-use Rattle.h1_body.specs.declared.stages.Stage.{Stage}
 use Rattle.h1_body.specs.declared.stages.Stage.TheVariants as stage
 use Rattle.h1_body.specs.declared.stages.Fed.{Fed}
 use Rattle.h1_body.specs.declared.reader.BodyReader.{BodyReader}

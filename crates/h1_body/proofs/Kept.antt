@@ -1,5 +1,5 @@
 -- What the parser says of the section of which trailers are made.
-use Rattle.std.proofs.Common.{◌≡◌, ◌++◌, ◌<◌, ◌≤◌, ℕ, List, [], refl, sym, ap, ◌∙◌, arith, length, take, drop, subst, get_or, inl, inr, ◌⊎◌, length-append}
+use Rattle.std.proofs.Common.{◌≡◌, ◌++◌, ◌<◌, ℕ, List, [], refl, sym, ap, ◌∙◌, arith, length, take, drop, subst, get_or, inl, inr, length-append}
 use Rattle.std.specs.Prelude.{map, All, Result, Ok, Err, OnOk, OnErr, IsOk}
 use Rattle.htx_model.specs.Block.{Block}
 use Rattle.htx_model.specs.Blocks.{load, Fits}
@@ -11,7 +11,7 @@ use Rattle.httparse.specs.declared.spans.HeaderSpan.{HeaderSpan}
 use Rattle.httparse.specs.Outcome.{IfComplete}
 use Rattle.httparse.specs.Grammar as grammar
 use Rattle.httparse.specs.Grammar.{LineEnd, IsField, print_section}
-use Rattle.httparse.specs.Spans.{AreFieldsAt, IsSectionOf, IsSectionAt, header_bytes, span_bytes, name_and_value}
+use Rattle.httparse.specs.Spans.{IsSectionOf, IsSectionAt, header_bytes, span_bytes, name_and_value}
 use Rattle.httparse.proofs.GrammarLemmas.{section_unique}
 use Rattle.http_model.specs.Head.{Field}
 use Rattle.h1_body.specs.Section.{HasShortName, BeginsFields, HasTrailers, trailers_of}

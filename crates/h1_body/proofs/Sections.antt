@@ -1,10 +1,10 @@
 -- What the parser of fields says of a section.
-use Rattle.std.proofs.Common.{◌≡◌, ℕ, suc, ◌+◌, ◌-◌, ◌<◌, ◌≤◌, List, [], ◌∷◌, ◌++◌, refl, sym, ap, ◌∙◌, arith, length, take, drop, subst, get_or, length-append, length-take, length-drop, append_assoc}
+use Rattle.std.proofs.Common.{◌≡◌, ℕ, suc, ◌+◌, ◌<◌, ◌≤◌, List, [], ◌∷◌, ◌++◌, refl, sym, ap, ◌∙◌, arith, length, take, drop, subst, get_or, length-append, length-take, length-drop}
 use Rattle.std.specs.Prelude.{map, All, true, false, ◌&&◌}
 use Rattle.std.specs.List.{list_all, flat_map}
 use Rattle.std.proofs.lemmas.Bool.{leb-true, le-leb}
 use Rattle.std.proofs.lemmas.List.Sums.{AllPass-from_list_all}
-use Rattle.std.proofs.lemmas.List.{length-map, append-nil, get_or-map, take-append-drop, take-append-le, drop-append-le}
+use Rattle.std.proofs.lemmas.List.{length-map, append-nil, get_or-map, take-append-drop, take-append-le}
 use Rattle.std.proofs.Math.Nat.{min-le_right}
 use Rattle.std.proofs.Math.Seq.{take-append_seam}
 use Rattle.httparse.specs.declared.spans.HeaderSpan.{HeaderSpan}
@@ -12,9 +12,8 @@ use Rattle.httparse.specs.Grammar as grammar
 use Rattle.httparse.specs.Grammar.{LineEnd, print_end, print_field, print_section, ReadsSection, HasNoSection}
 use Rattle.httparse.specs.Spans.{AreFieldsAt, IsSectionOf, IsSectionAt, SectionOverflows, header_bytes, name_and_value}
 use Rattle.httparse.proofs.GrammarLemmas.{section_unique, ReadsSection-append}
-use Rattle.http_model.specs.Head.{Field}
 use Rattle.h1_body.specs.Read.{is_short}
-use Rattle.h1_body.specs.Section.{HasShortName, BeginsFields, BeginsSection, HasNoSectionWithin, IsHopelessSection}
+use Rattle.h1_body.specs.Section.{HasShortName, BeginsSection, IsHopelessSection}
 
 fields_few : (w : List ℕ) (headers : List HeaderSpan) (count : ℕ) (fields : List grammar.Field) → AreFieldsAt w headers count fields → length headers ≡ 64 → length fields ≤ 64
 fields_few w headers count fields are room =

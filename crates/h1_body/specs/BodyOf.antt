@@ -1,9 +1,8 @@
 -- The body that bytes come to (RFC 9112, sections 6.3, 7.1 and 8).
-use Rattle.std.specs.Prelude.{◌≡◌, ℕ, ◌++◌, ◌<◌, ◌≤◌, List, [], Option, Some, None}
+use Rattle.std.specs.Prelude.{◌≡◌, ℕ, ◌++◌, List, [], Option, Some, None}
 use Rattle.httparse.specs.Grammar as grammar
 use Rattle.http_model.specs.declared.Limits.{Limits}
 use Rattle.http_model.specs.declared.Framing.{Framing}
-use Rattle.http_model.specs.declared.Framing.TheVariants as framing
 use Rattle.http_model.specs.declared.Ending.{Ending}
 use Rattle.http_model.specs.declared.Ending.TheVariants as ending
 use Rattle.http_model.specs.Head.{Field}
@@ -14,7 +13,7 @@ use Rattle.h1_body.specs.Section.{section_limit, BeginsSection, HasNoSectionWith
 use Rattle.h1_body.specs.declared.reader.BodyReader.{BodyReader}
 use Rattle.h1_body.specs.declared.reader.BodyState.{BodyState}
 use Rattle.h1_body.specs.declared.reader.BodyState.TheVariants as state
-use Rattle.h1_body.specs.Stands.{start_of, state_of, HasRead}
+use Rattle.h1_body.specs.Stands.{start_of, HasRead}
 
 -- what bytes come to: a reading that no further byte changes, or a body that is still to be whole
 pub data BodyRead : Type 0 where

@@ -1,6 +1,3 @@
-use Rattle.std.proofs.Common.{◌≡◌, ◌++◌, ◌≤◌, List, ℕ, ap, sym, ◌∙◌, take, subst, arith}
-use Rattle.std.specs.Prelude.{map}
-use Rattle.httparse.specs.Spans.{header_bytes}
 use Rattle.h1_body.proofs.Kept.{good_names_of, blocks_are, fitting, added, section_at}
 use Rattle.h1_body.proofs.trailers.add_trailers.Goals as goal
 
@@ -16,7 +13,7 @@ returns-else-is_err-clause-fits c = λ trailers has.
     let parsed = c.in-Ok-Complete in
     let pushed = c.push_section-pushed in
     let found = section_at c.args.section.now c.parse_headers.new.headers parsed._used parsed.count parsed.field-0 parsed.field-0-is parsed.ensures.complete in
-    fitting pushed.result c.args.to.now.blocks pushed.new.to.blocks _ _ c.args.to.now.size pushed.new.to.size
+    fitting pushed.result _ pushed.new.to.blocks _ _ c.args.to.now.size pushed.new.to.size
     (blocks_are c.args.section.now c.parse_headers.new.headers parsed._used parsed.count found c.requires.0 c.requires.1 trailers has)
     pushed.ensures.size pushed.ensures.ok pushed.ensures.fits pushed.ensures.full
 

@@ -1,4 +1,4 @@
-use Rattle.std.proofs.Common.{◌≡◌, ◌≤◌, take, length, ℕ}
+use Rattle.std.proofs.Common.{◌≡◌, ◌≤◌, take, length}
 use Rattle.h1_body.proofs.trailers.cut_back.Given as goal
 
 abbrev pub invariant-loop-to : goal.invariant-loop-to

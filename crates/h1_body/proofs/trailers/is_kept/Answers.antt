@@ -1,4 +1,4 @@
-use Rattle.std.proofs.Common.{◌≡◌, List, ℕ, ap, ◌∙◌}
+use Rattle.std.proofs.Common.{List, ℕ, ap, ◌∙◌}
 use Rattle.std.specs.Prelude.{not}
 use Rattle.httparse.specs.Spans.{header_bytes}
 use Rattle.http_model.specs.Fields.{is_named_among}

@@ -1,4 +1,4 @@
-use Rattle.std.proofs.Common.{◌≡◌, sym, ◌∙◌}
+use Rattle.std.proofs.Common.{sym, ◌∙◌}
 use Rattle.h1_body.proofs.Told.{closed_whole, closed_cut}
 use Rattle.h1_body.proofs.reader.BodyReader.ended.Goals as goal
 
