@@ -1,7 +1,7 @@
 //! A window of bytes: what has come from a stream and is not used yet.
 #![tactic(auto)]
 
-ghost use Rattle.std.specs.Prelude.{◌≡◌, ◌≤◌, ◌+◌, ◌-◌, ◌++◌, [], length, take, drop, min, IfOk, List, ℕ};
+ghost use Rattle.std.specs.Prelude.{◌≡◌, ◌≤◌, ◌<◌, ◌+◌, ◌-◌, ◌++◌, [], length, take, drop, min, IfOk, List, ℕ};
 
 use circular_buffer::HeapCircularBuffer;
 use htx_model::OutOfMemory;
@@ -30,6 +30,38 @@ impl Model for Window {
     ghost view = { λ w. w.ring };
 
     ghost invariant = { IsPlaced };
+}
+
+/// How many bytes are moved at once.
+const BLOCK: usize = 256;
+
+/// Moves up to `left` bytes, and at most a block, from the front of a ring to its end, and answers their number.
+fn turn_block(ring: &mut HeapCircularBuffer<u8>, left: usize) -> usize
+    requires left { left ≤ length ring.old.items }
+    requires held { length ring.old.items ≤ ring.old.capacity }
+    ensures some { 0 < left → 0 < result }
+    ensures within { result ≤ left }
+    ensures items { ring.new.items ≡ drop result ring.old.items ++ take result ring.old.items }
+    ensures capacity { ring.new.capacity ≡ ring.old.capacity }
+{
+    let mut block = [0; BLOCK];
+    let part = &mut block[..left.min(BLOCK)];
+    let count = ring.read_into(part);
+    ring.fill_from_slice(part);
+    count
+}
+
+/// Moves the first `len` bytes of a ring to its end.
+fn turn(ring: &mut HeapCircularBuffer<u8>, len: usize)
+    requires len { len ≤ length ring.old.items }
+    requires held { length ring.old.items ≤ ring.old.capacity }
+    ensures items { ring.new.items ≡ drop len ring.old.items ++ take len ring.old.items }
+    ensures capacity { ring.new.capacity ≡ ring.old.capacity }
+{
+    let mut left = len;
+    while left > 0 {
+        left -= turn_block(ring, left);
+    }
 }
 
 impl Window {
@@ -62,30 +94,34 @@ impl Window {
         self.ring.capacity() - self.len()
     }
 
-    /// Takes the longest prefix that fits, and answers its length.
+    /// Takes the longest prefix that fits, and answers its length. Where the bytes would reach past the end of the ring,
+    /// those in the window are moved to its front first.
     pub fn push(&mut self, bytes: &[u8]) -> usize
         ensures count { result ≡ min (length bytes.now) (self.old.capacity - length self.old.items) }
         ensures items { self.new.items ≡ self.old.items ++ take result bytes.now }
         ensures capacity { self.new.capacity ≡ self.old.capacity }
     {
-        if self.ring.is_empty() {
-            self.rewind(bytes);
+        let (len, capacity, begin) = (self.ring.len(), self.ring.capacity(), self.begin);
+        if begin <= capacity - len {
+            let behind = capacity - len - begin;
+            if behind < bytes.len() && behind < capacity - len {
+                self.rewind(&bytes[..behind]);
+            }
         }
         self.ring.fill_from_slice(bytes)
     }
 
-    /// Lets an empty ring begin anew, so that the bytes stand in one piece. The bytes run up to its end and are dropped.
-    fn rewind(&mut self, bytes: &[u8])
-        requires { self.old.items ≡ [] }
-        ensures items { self.new.items ≡ [] }
+    /// Moves the bytes to the front of the ring: `run_up` fills it to its end, and the bytes follow behind it.
+    fn rewind(&mut self, run_up: &[u8])
+        requires { length self.old.items + length run_up.now ≤ self.old.capacity }
+        ensures items { self.new.items ≡ self.old.items }
         ensures capacity { self.new.capacity ≡ self.old.capacity }
     {
-        let behind = self.ring.capacity() - self.begin;
-        if behind < bytes.len() {
-            self.ring.fill_from_slice(&bytes[..behind]);
-            self.ring.clear();
-            self.begin = 0;
-        }
+        let len = self.len();
+        self.ring.fill_from_slice(run_up);
+        turn(&mut self.ring, len);
+        self.ring.truncate_front(len);
+        self.begin = 0;
     }
 
     /// Drops the first `n` bytes.
@@ -104,13 +140,12 @@ impl Window {
         };
     }
 
-    /// All the bytes, in one slice. They are moved where they reach past the end of the ring. A caller hands the
-    /// slice on at once, or keeps it as a `&[u8]`; what is written into it stands in the window.
+    /// All the bytes, in one slice. A caller hands the slice on at once, or keeps it as a `&[u8]`; what is written into
+    /// it stands in the window.
     pub fn bytes(&mut self) -> &mut [u8]
         ensures* back { sem 𝓛 (LendsBytes self.entry result) }
         ensures value { result.now ≡ self.old.items }
     {
-        self.begin = self.begin.min(self.ring.capacity() - self.ring.len());
         self.ring.make_contiguous()
     }
 }
