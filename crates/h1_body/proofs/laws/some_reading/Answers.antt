@@ -1,0 +1,5 @@
+use Rattle.h1_body.proofs.Told as lemmas
+use Rattle.h1_body.proofs.laws.some_reading.Goals as goal
+
+pub returns : goal.returns
+returns c = lemmas.some_reading

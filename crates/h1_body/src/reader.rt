@@ -1,0 +1,136 @@
+//! The reader of a body.
+ghost use Rattle.std.specs.Prelude.{◌≡◌, ◌≤◌, ◌<◌, ◌+◌, ◌++◌, [], length, take, drop, true, false, IsTrue, Some, List, ℕ, IfSome};
+ghost use Rattle.httparse.specs.Grammar as grammar;
+ghost use Rattle.http_model.specs.declared.Framing.{Framing};
+ghost use Rattle.http_model.specs.declared.Limits.{Limits};
+ghost use Rattle.h1_body.specs.Section.{BeginsFields};
+ghost use Rattle.h1_body.specs.BodyOf.{StateTells, ClosedIsWhole, ClosedIsCut};
+ghost use Rattle.h1_body.specs.Stands.{HasRead, Waits, state_at, state_of, ends_at, bytes_of};
+
+use crate::stages::{Fed, Stage, feed_at};
+use http_model::{Framing, Limits};
+
+/// What a step tells of the body.
+#[derive(Clone, Copy, Debug, PartialEq, Eq)]
+pub enum BodyState {
+    /// It is not whole yet.
+    More,
+    /// It is whole.
+    Whole,
+    /// Whatever follows, the bytes are no body.
+    Bad,
+}
+
+/// A part of a window.
+#[derive(Clone, Copy, Debug, PartialEq, Eq)]
+pub struct Span {
+    pub from: usize,
+    pub len: usize,
+}
+
+/// What a step used, and what it found.
+#[derive(Clone, Copy, Debug, PartialEq, Eq)]
+pub struct BodyStep {
+    /// The bytes used, from the front of the window. The caller drops them.
+    pub used: usize,
+    /// The bytes of the body among them.
+    pub piece: Span,
+    /// The trailer section, where this step read it: for `add_trailers`, before the bytes are dropped.
+    pub trailers: Option<Span>,
+    pub state: BodyState,
+}
+
+/// What the stage tells of the body.
+fn tell(stage: Stage) -> BodyState
+    ensures { result ≡ state_at stage }
+{
+    match stage {
+        Stage::Over => BodyState::Whole,
+        Stage::Dead => BodyState::Bad,
+        _ => BodyState::More,
+    }
+}
+
+/// Whether a closed stream makes the body whole.
+fn ends(stage: Stage) -> bool
+    ensures { result ≡ ends_at stage }
+{
+    matches!(stage, Stage::UntilClose | Stage::Over)
+}
+
+/// Where the trailer section lies, where one was read.
+fn section_of(fed: Fed) -> Option<Span>
+    ensures bytes { (window : List ℕ) → bytes_of window result ≡ take fed.section window }
+    ensures some { IfSome result (λ span. (0 < span.len) × (span.from + span.len ≡ fed.section)) }
+{
+    if fed.section == 0 {
+        return None;
+    }
+    Some(Span {
+        from: 0,
+        len: fed.section,
+    })
+}
+
+/// A reader of a body, whose bytes come in any pieces (RFC 9112 sections 6 to 8). It takes no memory.
+#[derive(Clone, Copy, Debug, PartialEq, Eq)]
+pub struct BodyReader {
+    stage: Stage,
+    section_limit: u32,
+}
+
+impl BodyReader {
+    /// A reader of a body that has not begun.
+    pub fn new(framing: Framing, limits: Limits) -> BodyReader
+        requires { 1024 ≤ limits.bufsize }
+        ensures { HasRead limits framing [] [] [] result }
+    {
+        let stage = match framing {
+            Framing::Absent => Stage::Over,
+            Framing::Length(0) => Stage::Over,
+            Framing::Length(len) => Stage::Left(len),
+            Framing::Chunked => Stage::Line,
+            Framing::ToClose => Stage::UntilClose,
+        };
+        BodyReader {
+            stage,
+            section_limit: limits.bufsize / 2,
+        }
+    }
+
+    /// Whether the body is whole where the stream is closed here.
+    pub fn ended(&self) -> bool
+        ensures closed { result ≡ true → ClosedIsWhole self.now }
+        ensures cut { result ≡ false → ClosedIsCut self.now }
+    {
+        ends(self.stage)
+    }
+
+    /// Takes the next part of the body from the front of the window, and at most `room` bytes of data. The window is
+    /// the bytes of the stream that were not used yet.
+    pub fn feed(&mut self, window: &[u8], room: u32) -> BodyStep
+        ensures used { result.used ≤ length window.now }
+        ensures piece { (result.piece.len ≤ room) × (result.piece.from + result.piece.len ≤ result.used) }
+        ensures section { IfSome result.trailers (λ span. (0 < span.len) × (span.from + span.len ≤ result.used)) }
+        ensures fields { IfSome result.trailers (λ span. (fields : List grammar.Field) × BeginsFields (bytes_of window.now (Some span)) fields []) }
+        ensures leads { (limits : Limits) (framing : Framing) (bytes found section : List ℕ) → HasRead limits framing bytes found section self.old
+            → HasRead limits framing (bytes ++ take result.used window.now) (found ++ bytes_of window.now (Some result.piece)) (section ++ bytes_of window.now result.trailers) self.new }
+        ensures told { (limits : Limits) (framing : Framing) (bytes found section : List ℕ) → HasRead limits framing bytes found section self.old
+            → StateTells limits framing (bytes ++ take result.used window.now) (found ++ bytes_of window.now (Some result.piece)) (section ++ bytes_of window.now result.trailers) result.state }
+        ensures state { result.state ≡ state_of self.new }
+        ensures waits { (limits : Limits) (framing : Framing) (bytes found section : List ℕ) → HasRead limits framing bytes found section self.old
+            → result.used ≡ 0 → Waits self.new window.now room }
+    {
+        let fed = feed_at(self.stage, window, room, self.section_limit);
+        self.stage = fed.stage;
+        BodyStep {
+            used: fed.used,
+            piece: Span {
+                from: 0,
+                len: fed.len,
+            },
+            trailers: section_of(fed),
+            state: tell(fed.stage),
+        }
+    }
+}

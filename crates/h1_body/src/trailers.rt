@@ -1,0 +1,137 @@
+//! Trailers, put into the array.
+ghost use Rattle.std.specs.Prelude.{◌≡◌, ◌≤◌, ◌<◌, ◌++◌, ◌∷◌, ◌↔◌, [], List, ℕ, length, map, take, All, not, OnOk, OnErr, IsOk};
+ghost use Rattle.std.specs.List.{list_any};
+ghost use Rattle.httparse.specs.Grammar as grammar;
+ghost use Rattle.httparse.specs.Spans.{IsHeaderWithin, header_bytes};
+ghost use Rattle.htx_model.specs.Blocks.{load, Fits};
+ghost use Rattle.http_model.specs.Fields.{is_named_among};
+ghost use Rattle.http_model.specs.Head.{Field};
+ghost use Rattle.h1_body.specs.Section.{BeginsFields, HasTrailers, folded, is_kept, dropped_names};
+ghost use Rattle.h1_body.specs.Trailers.{trailer_block, trailer_blocks, ended_trailers, kept_blocks, HasGoodName};
+
+use crate::section::{MAX_FIELDS, MAX_NAME};
+use httparse::Status;
+use httparse::spans::{EMPTY_HEADER_SPAN, HeaderSpan, parse_headers};
+use htx_arena::{Arena, Full, Kind};
+use px_bytes::{eq_fold, fold};
+
+/// Whether a trailer of this name is dropped: it frames a body or speaks of a connection.
+fn is_dropped(name: &[u8]) -> bool
+    ensures { (value : List ℕ) → result ≡ is_named_among dropped_names (name.now, value) }
+{
+    eq_fold(name, b"host")
+        || eq_fold(name, b"content-length")
+        || eq_fold(name, b"transfer-encoding")
+        || eq_fold(name, b"connection")
+        || eq_fold(name, b"keep-alive")
+        || eq_fold(name, b"proxy-connection")
+        || eq_fold(name, b"te")
+        || eq_fold(name, b"upgrade")
+}
+
+/// Whether a field of the section stays.
+fn is_kept(section: &[u8], field: &HeaderSpan) -> bool
+    requires { IsHeaderWithin (length section.now) field.now }
+    ensures { result ≡ is_kept (header_bytes section.now field.now) }
+{
+    !is_dropped(field.name.of(section))
+}
+
+/// Adds a trailer behind the other blocks, with its name in lower case.
+fn push_trailer(name: &[u8], value: &[u8], to: &mut Arena) -> Result<(), Full>
+    requires named { 1 ≤ length name.now }
+    requires short { length name.now ≤ 255 }
+    ensures ok { OnOk result (to.new.blocks ≡ to.old.blocks ++ trailer_block (folded (name.now, value.now)) ∷ []) }
+    ensures fits { IsOk result ↔ Fits (to.old.blocks ++ trailer_block (folded (name.now, value.now)) ∷ []) to.old.size }
+    ensures full { OnErr result (to.new ≡ to.old) }
+    ensures size { to.new.size ≡ to.old.size }
+{
+    let mut buffer = [0; MAX_NAME];
+    let lower = &mut buffer[..name.len()];
+    lower.copy_from_slice(name);
+    fold(lower);
+    let at = to.len();
+    to.insert_field(at, Kind::Trailer, lower, value)
+}
+
+/// Adds the trailers that stay.
+fn push_trailers(section: &[u8], fields: &[HeaderSpan], to: &mut Arena) -> Result<(), Full>
+    requires within { All (IsHeaderWithin (length section.now)) fields.now }
+    requires named { All (HasGoodName section.now) fields.now }
+    ensures ok { OnOk result (to.new.blocks ≡ to.old.blocks ++ kept_blocks (map (header_bytes section.now) fields.now)) }
+    ensures full { OnErr result (to.old.size < load (to.old.blocks ++ kept_blocks (map (header_bytes section.now) fields.now))) }
+    ensures front { take (length to.old.blocks) to.new.blocks ≡ to.old.blocks }
+    ensures enough { length to.old.blocks ≤ length to.new.blocks }
+    ensures size { to.new.size ≡ to.old.size }
+{
+    for field in fields {
+        if is_kept(section, field) {
+            push_trailer(field.name.of(section), field.value.of(section), to)?;
+        }
+    }
+    Ok(())
+}
+
+/// What an array has, it holds.
+fn held(to: &Arena)
+    ensures { Fits to.now.blocks to.now.size }
+{
+    let _room = to.room();
+}
+
+/// Adds the trailers that stay, and their end where there is one.
+fn push_section(section: &[u8], fields: &[HeaderSpan], to: &mut Arena) -> Result<(), Full>
+    requires within { All (IsHeaderWithin (length section.now)) fields.now }
+    requires named { All (HasGoodName section.now) fields.now }
+    ensures ok { OnOk result (to.new.blocks ≡ to.old.blocks ++ ended_trailers (kept_blocks (map (header_bytes section.now) fields.now))) }
+    ensures full { OnErr result (to.old.size < load (to.old.blocks ++ ended_trailers (kept_blocks (map (header_bytes section.now) fields.now)))) }
+    ensures fits { OnOk result (Fits to.new.blocks to.new.size) }
+    ensures front { take (length to.old.blocks) to.new.blocks ≡ to.old.blocks }
+    ensures enough { length to.old.blocks ≤ length to.new.blocks }
+    ensures size { to.new.size ≡ to.old.size }
+{
+    let before = to.len();
+    push_trailers(section, fields, to)?;
+    let len = to.len();
+    if len == before {
+        held(to);
+        return Ok(());
+    }
+    to.insert_end(len, Kind::EndTrailers)
+}
+
+/// Takes out the blocks behind the first `len`.
+fn cut_back(to: &mut Arena, len: u32)
+    requires { len ≤ length to.old.blocks }
+    ensures blocks { to.new.blocks ≡ take len to.old.blocks }
+    ensures size { to.new.size ≡ to.old.size }
+{
+    while to.len() > len {
+        let last = to.len() - 1;
+        to.remove(last);
+    }
+}
+
+/// Adds the trailers of a section that `feed` gave behind the other blocks, and the end of trailers; nothing where no
+/// field is left. Names are in lower case, values have no blanks around them, and the fields named `host`,
+/// `content-length`, `transfer-encoding`, `connection`, `keep-alive`, `proxy-connection`, `te` and `upgrade` are
+/// dropped (RFC 9110 section 6.5.1). Full where the blocks do not fit all together; then none is added.
+pub fn add_trailers(section: &[u8], to: &mut Arena) -> Result<(), Full>
+    requires { (fields : List grammar.Field) × BeginsFields section.now fields [] }
+    ensures ok { (trailers : List Field) → HasTrailers section.now trailers → OnOk result (to.new.blocks ≡ to.old.blocks ++ trailer_blocks trailers) }
+    ensures fits { (trailers : List Field) → HasTrailers section.now trailers → (IsOk result ↔ Fits (to.old.blocks ++ trailer_blocks trailers) to.old.size) }
+    ensures full { OnErr result (to.new ≡ to.old) }
+    ensures size { to.new.size ≡ to.old.size }
+{
+    let mut spans = [EMPTY_HEADER_SPAN; MAX_FIELDS];
+    let count = match parse_headers(section, &mut spans) {
+        Ok(Status::Complete((_used, count))) => count,
+        _ => unreachable!(),
+    };
+    let before = to.len();
+    let pushed = push_section(section, &spans[..count], to);
+    if pushed.is_err() {
+        cut_back(to, before);
+    }
+    pushed
+}

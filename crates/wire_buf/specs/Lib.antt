@@ -1,0 +1,3 @@
+pub use Rattle.circular_buffer.specs.Buffer
+pub mod Lends
+pub mod Inside
