@@ -1,7 +1,7 @@
 -- The groups of captures are those of the match.
-use Rattle.std.proofs.Common.{false, ◌≡◌, ℕ, zero, suc, ◌+◌, ◌≤◌, List, Option, Some, None, option_map, refl, ap, sym, ◌∙◌, arith}
+use Rattle.std.proofs.Common.{false, ◌≡◌, ℕ, zero, suc, List, Option, Some, option_map, refl, ap, sym, ◌∙◌, arith}
 use Rattle.std.proofs.lemmas.Bool.{ne_eqb}
-use Rattle.regex.specs.Patterns.{Match, span}
+use Rattle.regex.specs.Patterns.{Match}
 use Rattle.regex.specs.Writes.{group_of}
 use Rattle.regex.specs.Search.{group_span}
 use Rattle.regex.specs.Bytes.{captures_span, match_span, IsCapturesOf}

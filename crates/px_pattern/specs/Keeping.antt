@@ -1,5 +1,5 @@
 -- What contracts see of the builders of this crate.
-use Rattle.std.specs.Prelude.{ℕ, ◌+◌, ◌-◌, ◌^◌, min, Bool, ◌==◌, Option, None, Some}
+use Rattle.std.specs.Prelude.{ℕ, ◌+◌, ◌-◌, ◌^◌, min, Option, None, Some}
 use Rattle.px_pattern.specs.Refusals.{Kept}
 use Rattle.px_pattern.specs.declared.kept.KeptText.{KeptText}
 
