@@ -1,3 +1,6 @@
+ghost use Rattle.std.specs.Prelude.{length, IfOk};
+ghost use Rattle.px_pattern.specs.Groups.{LieIn};
+
 use crate::{Buf, Conv, Groups, Sample, Text, convert, expand};
 use px_pattern::{Patterns, RealPatterns};
 use std::alloc::Global;
@@ -6,12 +9,16 @@ use std::test::Fail;
 /// `(a)(x)?(.*)` in `-ab12`: the groups are `ab12`, `a`, none, `b12`.
 const TEXT: &[u8; 5] = b"-ab12";
 
-fn groups(alloc: Global) -> Result<Groups, Fail> {
+fn groups(alloc: Global, text: &[u8]) -> Result<Groups, Fail>
+    ensures { IfOk result (LieIn (length text.now)) }
+{
     let Ok(pat) = RealPatterns::new().build(alloc, b"(a)(x)?(.*)", false) else {
         return Err(Fail::from("no pattern"));
     };
-    let found = pat.find_groups(alloc, TEXT)?.ok_or("no match")?;
-    Ok(found)
+    match pat.find_groups(alloc, text)? {
+        Some(groups) => Ok(groups),
+        None => Err(Fail::from("no match")),
+    }
 }
 
 #[test]
@@ -35,7 +42,7 @@ fn expands_templates(rt: HostRuntime) -> Result<(), Fail> {
         (b"a\\", b"a\\"),
         (b"\xFF\\1\x00", b"\xFFa\x00"),
     ];
-    let groups = groups(rt.alloc())?;
+    let groups = groups(rt.alloc(), TEXT)?;
     for (template, text) in cases {
         let mut into = Buf::new(rt.alloc(), 20)?;
         assert!(rt; into.push(b"z"));
@@ -48,7 +55,7 @@ fn expands_templates(rt: HostRuntime) -> Result<(), Fail> {
 
 #[test]
 fn whole_or_nothing(rt: HostRuntime) -> Result<(), Fail> {
-    let groups = groups(rt.alloc())?;
+    let groups = groups(rt.alloc(), TEXT)?;
     for (cap, fits) in [(7, true), (6, false), (3, false), (2, false)] {
         let mut into = Buf::new(rt.alloc(), cap)?;
         assert!(rt; into.push(b"zz"));
@@ -59,353 +66,90 @@ fn whole_or_nothing(rt: HostRuntime) -> Result<(), Fail> {
     Ok(())
 }
 
-/// A converter, a sample with the bytes of its buffer, and what comes of it in a buffer of 8 bytes. The values follow
-/// from the Configuration Manual's rules by hand.
+/// What a converter makes of a sample in a buffer of 8 bytes.
+fn made(alloc: Global, conv: &Conv, sample: Sample, held: &[u8]) -> Result<(Sample, Buf), Fail> {
+    let mut buf = Buf::new(alloc, 8)?;
+    let mut spare = Buf::new(alloc, 8)?;
+    let _ = buf.push(held);
+    let sample = convert(alloc, conv, sample, &mut buf, &mut spare)?;
+    Ok((sample, buf))
+}
+
+const MIN: i64 = i64::MIN;
+
+const MAX: i64 = i64::MAX;
+
+/// A converter (`add`, `sub`, `mul`, `div`, `mod`, `neg`), its argument, a number and the result, by hand.
+static NUMBERS: [(u8, i64, i64, i64); 19] = [
+    (0, 1, MAX, MAX),
+    (0, -1, MIN, MIN),
+    (0, 5, 7, 12),
+    (1, 1, MIN, MIN),
+    (1, MIN, 0, MAX),
+    (1, 7, -3, -10),
+    (2, 2, MAX, MAX),
+    (2, -1, MIN, MAX),
+    (2, 2, MIN, MIN),
+    (2, -3, 5, -15),
+    (3, 0, -7, MAX),
+    (3, -1, MIN, MAX),
+    (3, 2, -7, -3),
+    (3, -2, 7, -3),
+    (4, 0, 7, 0),
+    (4, 2, -7, -1),
+    (4, -2, 7, 1),
+    (4, -1, MIN, 0),
+    (5, 0, MIN, MAX),
+];
+
 #[test]
-fn converts(rt: HostRuntime) -> Result<(), Fail> {
-    const MIN: i64 = i64::MIN;
-    const MAX: i64 = i64::MAX;
-    let cases: [(Conv, Sample, &[u8], Sample, &[u8]); 64] = [
-        (
-            Conv::Lower,
-            Sample::InBuf,
-            b"AbZ[@1",
-            Sample::InBuf,
-            b"abz[@1",
-        ),
-        (Conv::Lower, Sample::InBuf, b"", Sample::InBuf, b""),
-        (
-            Conv::Lower,
-            Sample::InBuf,
-            b"ABCDEFGH",
-            Sample::InBuf,
-            b"abcdefgh",
-        ),
-        (
-            Conv::Lower,
-            Sample::InBuf,
-            b"\xC3\x89X",
-            Sample::InBuf,
-            b"\xC3\x89x",
-        ),
-        (Conv::Lower, Sample::Number(-5), b"X", Sample::InBuf, b"-5"),
-        (Conv::Lower, Sample::Absent, b"X", Sample::Absent, b""),
-        (
-            Conv::Upper,
-            Sample::InBuf,
-            b"abz{`1",
-            Sample::InBuf,
-            b"ABZ{`1",
-        ),
-        (
-            Conv::Upper,
-            Sample::InBuf,
-            b"\xE9a",
-            Sample::InBuf,
-            b"\xE9A",
-        ),
-        (Conv::Upper, Sample::Truth(true), b"", Sample::InBuf, b"1"),
-        (Conv::Upper, Sample::Absent, b"", Sample::Absent, b""),
-        (Conv::Length, Sample::InBuf, b"", Sample::Number(0), b""),
-        (Conv::Length, Sample::InBuf, b"a", Sample::Number(1), b""),
-        (
-            Conv::Length,
-            Sample::InBuf,
-            b"abcdefgh",
-            Sample::Number(8),
-            b"",
-        ),
-        (
-            Conv::Length,
-            Sample::Number(-17),
-            b"",
-            Sample::Number(3),
-            b"",
-        ),
-        (
-            Conv::Length,
-            Sample::Number(123456789),
-            b"",
-            Sample::Absent,
-            b"",
-        ),
-        (Conv::Length, Sample::Absent, b"", Sample::Absent, b""),
-        (
-            Conv::Bytes(1, Some(2)),
-            Sample::InBuf,
-            b"abcd",
-            Sample::InBuf,
-            b"bc",
-        ),
-        (
-            Conv::Bytes(2, None),
-            Sample::InBuf,
-            b"abcd",
-            Sample::InBuf,
-            b"cd",
-        ),
-        (
-            Conv::Bytes(0, None),
-            Sample::InBuf,
-            b"abcdefgh",
-            Sample::InBuf,
-            b"abcdefgh",
-        ),
-        (
-            Conv::Bytes(4, None),
-            Sample::InBuf,
-            b"abcd",
-            Sample::InBuf,
-            b"",
-        ),
-        (
-            Conv::Bytes(9, Some(1)),
-            Sample::InBuf,
-            b"abcd",
-            Sample::InBuf,
-            b"",
-        ),
-        (
-            Conv::Bytes(0, Some(0)),
-            Sample::InBuf,
-            b"abcd",
-            Sample::InBuf,
-            b"",
-        ),
-        (
-            Conv::Bytes(3, Some(MAX)),
-            Sample::InBuf,
-            b"abcd",
-            Sample::InBuf,
-            b"d",
-        ),
-        (
-            Conv::Bytes(MAX, Some(MAX)),
-            Sample::InBuf,
-            b"abcd",
-            Sample::InBuf,
-            b"",
-        ),
-        (
-            Conv::Bytes(1, Some(1)),
-            Sample::Number(305),
-            b"",
-            Sample::InBuf,
-            b"0",
-        ),
-        (
-            Conv::Bytes(0, None),
-            Sample::Absent,
-            b"abcd",
-            Sample::Absent,
-            b"",
-        ),
-        (
-            Conv::Add(1),
-            Sample::Number(MAX),
-            b"",
-            Sample::Number(MAX),
-            b"",
-        ),
-        (
-            Conv::Add(-1),
-            Sample::Number(MIN),
-            b"",
-            Sample::Number(MIN),
-            b"",
-        ),
-        (Conv::Add(5), Sample::InBuf, b"7", Sample::Number(12), b""),
-        (Conv::Add(5), Sample::InBuf, b"x", Sample::Absent, b""),
-        (
-            Conv::Add(2),
-            Sample::Truth(true),
-            b"",
-            Sample::Number(3),
-            b"",
-        ),
-        (Conv::Add(2), Sample::Absent, b"1", Sample::Absent, b""),
-        (
-            Conv::Sub(1),
-            Sample::Number(MIN),
-            b"",
-            Sample::Number(MIN),
-            b"",
-        ),
-        (
-            Conv::Sub(MIN),
-            Sample::Number(0),
-            b"",
-            Sample::Number(MAX),
-            b"",
-        ),
-        (Conv::Sub(7), Sample::InBuf, b"-3", Sample::Number(-10), b""),
-        (Conv::Sub(0), Sample::Absent, b"", Sample::Absent, b""),
-        (
-            Conv::Mul(2),
-            Sample::Number(MAX),
-            b"",
-            Sample::Number(MAX),
-            b"",
-        ),
-        (
-            Conv::Mul(-1),
-            Sample::Number(MIN),
-            b"",
-            Sample::Number(MAX),
-            b"",
-        ),
-        (
-            Conv::Mul(2),
-            Sample::Number(MIN),
-            b"",
-            Sample::Number(MIN),
-            b"",
-        ),
-        (
-            Conv::Mul(-3),
-            Sample::Number(5),
-            b"",
-            Sample::Number(-15),
-            b"",
-        ),
-        (Conv::Mul(0), Sample::InBuf, b"", Sample::Absent, b""),
-        (
-            Conv::Div(0),
-            Sample::Number(7),
-            b"",
-            Sample::Number(MAX),
-            b"",
-        ),
-        (
-            Conv::Div(0),
-            Sample::Number(-7),
-            b"",
-            Sample::Number(MAX),
-            b"",
-        ),
-        (
-            Conv::Div(-1),
-            Sample::Number(MIN),
-            b"",
-            Sample::Number(MAX),
-            b"",
-        ),
-        (
-            Conv::Div(2),
-            Sample::Number(-7),
-            b"",
-            Sample::Number(-3),
-            b"",
-        ),
-        (
-            Conv::Div(-2),
-            Sample::Number(7),
-            b"",
-            Sample::Number(-3),
-            b"",
-        ),
-        (Conv::Div(0), Sample::Absent, b"", Sample::Absent, b""),
-        (Conv::Mod(0), Sample::Number(7), b"", Sample::Number(0), b""),
-        (
-            Conv::Mod(2),
-            Sample::Number(-7),
-            b"",
-            Sample::Number(-1),
-            b"",
-        ),
-        (
-            Conv::Mod(-2),
-            Sample::Number(7),
-            b"",
-            Sample::Number(1),
-            b"",
-        ),
-        (
-            Conv::Mod(-1),
-            Sample::Number(MIN),
-            b"",
-            Sample::Number(0),
-            b"",
-        ),
-        (
-            Conv::Neg,
-            Sample::Number(MIN),
-            b"",
-            Sample::Number(MAX),
-            b"",
-        ),
-        (Conv::Neg, Sample::Number(0), b"", Sample::Number(0), b""),
-        (Conv::Neg, Sample::InBuf, b"-3", Sample::Number(3), b""),
-        (Conv::Neg, Sample::Absent, b"", Sample::Absent, b""),
-        (Conv::Not, Sample::InBuf, b"0", Sample::Truth(true), b""),
-        (Conv::Not, Sample::InBuf, b"x", Sample::Absent, b""),
-        (
-            Conv::Not,
-            Sample::Truth(true),
-            b"",
-            Sample::Truth(false),
-            b"",
-        ),
-        (
-            Conv::Not,
-            Sample::Number(-1),
-            b"",
-            Sample::Truth(false),
-            b"",
-        ),
-        (
-            Conv::Bool,
-            Sample::Number(-2),
-            b"",
-            Sample::Truth(true),
-            b"",
-        ),
-        (Conv::Bool, Sample::InBuf, b"00", Sample::Truth(false), b""),
-        (Conv::Bool, Sample::InBuf, b"", Sample::Absent, b""),
-        (
-            Conv::Bool,
-            Sample::Truth(false),
-            b"",
-            Sample::Truth(false),
-            b"",
-        ),
-        (Conv::Bool, Sample::Absent, b"1", Sample::Absent, b""),
-    ];
-    for (conv, sample, held, made, text) in cases {
-        let mut buf = Buf::new(rt.alloc(), 8)?;
-        let mut spare = Buf::new(rt.alloc(), 8)?;
-        assert!(rt; buf.push(held));
-        let result = convert(rt.alloc(), &conv, sample, &mut buf, &mut spare)?;
-        assert_eq!(rt; result, made, "{conv:?} of {sample:?} {held:?}");
-        if made == Sample::InBuf {
-            assert_eq!(rt; buf.bytes(), text, "{conv:?} of {sample:?} {held:?}");
-        }
+fn numbers(rt: HostRuntime) -> Result<(), Fail> {
+    for (kind, n, number, result) in NUMBERS {
+        let conv = match kind {
+            0 => Conv::Add(n),
+            1 => Conv::Sub(n),
+            2 => Conv::Mul(n),
+            3 => Conv::Div(n),
+            4 => Conv::Mod(n),
+            _ => Conv::Neg,
+        };
+        let (sample, _) = made(rt.alloc(), &conv, Sample::Number(number), b"")?;
+        assert_eq!(rt; sample, Sample::Number(result), "{conv:?} of {number}");
+        let (absent, _) = made(rt.alloc(), &conv, Sample::InBuf, b"x")?;
+        assert_eq!(rt; absent, Sample::Absent, "{conv:?} of x");
     }
     Ok(())
 }
 
 #[test]
-fn chooses_between_texts(rt: HostRuntime) -> Result<(), Fail> {
-    let conv = Conv::Iif(
-        Text::copy(rt.alloc(), b"on")?,
-        Text::copy(rt.alloc(), b"nine long")?,
-    );
-    let cases: [(Sample, &[u8], Option<&[u8]>); 5] = [
-        (Sample::Truth(true), b"", Some(b"on")),
-        (Sample::Truth(false), b"", None),
-        (Sample::InBuf, b"12", Some(b"on")),
-        (Sample::InBuf, b"y", None),
-        (Sample::Absent, b"1", None),
-    ];
-    for (sample, held, text) in cases {
-        let mut buf = Buf::new(rt.alloc(), 8)?;
-        let mut spare = Buf::new(rt.alloc(), 8)?;
-        assert!(rt; buf.push(held));
-        let made = convert(rt.alloc(), &conv, sample, &mut buf, &mut spare)?;
-        match text {
-            Some(text) => assert_eq!(rt; buf.bytes(), text, "{sample:?} {held:?}"),
-            None => assert_eq!(rt; made, Sample::Absent, "{sample:?} {held:?}"),
-        }
-    }
+fn bytes(rt: HostRuntime) -> Result<(), Fail> {
+    let (_, buf) = made(rt.alloc(), &Conv::Lower, Sample::InBuf, b"AbZ[@\xC3\x89")?;
+    assert_eq!(rt; buf.bytes(), b"abz[@\xC3\x89".as_slice());
+    let (_, buf) = made(rt.alloc(), &Conv::Upper, Sample::InBuf, b"abz{`\xE9A")?;
+    assert_eq!(rt; buf.bytes(), b"ABZ{`\xE9A".as_slice());
+    let (sample, _) = made(rt.alloc(), &Conv::Length, Sample::Number(-17), b"")?;
+    assert_eq!(rt; sample, Sample::Number(3));
+    let (sample, _) = made(rt.alloc(), &Conv::Length, Sample::Number(123456789), b"")?;
+    assert_eq!(rt; sample, Sample::Absent);
+    let (_, buf) = made(rt.alloc(), &Conv::Bytes(1, Some(2)), Sample::InBuf, b"abcd")?;
+    assert_eq!(rt; buf.bytes(), b"bc".as_slice());
+    let (_, buf) = made(rt.alloc(), &Conv::Bytes(MAX, None), Sample::InBuf, b"abcd")?;
+    assert_eq!(rt; buf.bytes(), b"".as_slice());
+    Ok(())
+}
+
+#[test]
+fn truths(rt: HostRuntime) -> Result<(), Fail> {
+    let (sample, _) = made(rt.alloc(), &Conv::Not, Sample::InBuf, b"0")?;
+    assert_eq!(rt; sample, Sample::Truth(true));
+    let (sample, _) = made(rt.alloc(), &Conv::Bool, Sample::Number(-2), b"")?;
+    assert_eq!(rt; sample, Sample::Truth(true));
+    let yes = Text::copy(rt.alloc(), b"on")?;
+    let no = Text::copy(rt.alloc(), b"nine long")?;
+    let conv = Conv::Iif(yes, no);
+    let (_, buf) = made(rt.alloc(), &conv, Sample::Truth(true), b"")?;
+    assert_eq!(rt; buf.bytes(), b"on".as_slice());
+    let (sample, _) = made(rt.alloc(), &conv, Sample::Truth(false), b"")?;
+    assert_eq!(rt; sample, Sample::Absent);
     Ok(())
 }
