@@ -1,0 +1,32 @@
+use px_sample::Text;
+
+/// A converter with its arguments (Configuration Manual, section 7.3.1).
+#[derive(Debug, Drop)]
+pub enum Conv {
+    /// `lower`: ASCII letters in lower case.
+    Lower,
+    /// `upper`: ASCII letters in upper case.
+    Upper,
+    /// `length`: the number of bytes.
+    Length,
+    /// `bytes(offset[,length])`: bytes from an offset on, at most so many.
+    Bytes(i64, Option<i64>),
+    /// `iif(true,false)`: the first text where the sample is true, else the second.
+    Iif(Text, Text),
+    /// `add(number)`, which stays within 64 bits, as the next three do.
+    Add(i64),
+    /// `sub(number)`.
+    Sub(i64),
+    /// `mul(number)`.
+    Mul(i64),
+    /// `div(number)`: towards 0; by zero the greatest number.
+    Div(i64),
+    /// `mod(number)`: the remainder of `div`; by zero 0.
+    Mod(i64),
+    /// `neg`: the number with the other sign.
+    Neg,
+    /// `not`: the other truth value.
+    Not,
+    /// `bool`: the truth value.
+    Bool,
+}

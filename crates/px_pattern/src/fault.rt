@@ -1,0 +1,8 @@
+/// Why a pattern was not built.
+#[derive(Clone, Copy, Debug, PartialEq, Eq)]
+pub enum PatFault {
+    /// The text is no pattern, or one that is too big.
+    Refused,
+    /// The machine has no memory left.
+    OutOfMemory,
+}

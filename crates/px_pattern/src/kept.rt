@@ -1,0 +1,6 @@
+/// A text that was refused, and whether its pattern was to ignore case.
+#[derive(Drop)]
+pub struct KeptText {
+    pub text: Vec<u8>,
+    pub icase: bool,
+}

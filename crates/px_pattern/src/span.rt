@@ -1,0 +1,6 @@
+/// Bytes of a text: where they begin, and how many they are.
+#[derive(Clone, Copy, Debug, PartialEq, Eq)]
+pub struct Span {
+    pub from: usize,
+    pub len: usize,
+}

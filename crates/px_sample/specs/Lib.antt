@@ -1,0 +1,10 @@
+pub mod Sample
+pub mod Buffer
+pub mod Cast
+pub mod Entry
+pub mod Shape
+pub mod Slot
+pub mod Held
+pub mod Variables
+pub mod Fetched
+pub mod Laws

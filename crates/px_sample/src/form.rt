@@ -1,0 +1,9 @@
+/// What the bytes of a stored value stand for.
+#[derive(Clone, Copy, PartialEq, Eq)]
+pub enum Form {
+    /// One byte: 1 or 0.
+    Truth,
+    /// Eight bytes, little-endian.
+    Number,
+    Bytes,
+}

@@ -1,0 +1,29 @@
+//! Samples, variables, and what gives samples: the words that converters, expressions, formats and conditions
+//! share. Nothing here knows of a message; what a fetch gives is the meaning of an `Env`.
+#![tactic(auto)]
+
+mod buf;
+mod cast;
+mod env;
+mod fetch;
+mod form;
+pub mod laws;
+mod sample;
+mod scope;
+mod shelf;
+mod slot;
+mod spot;
+#[cfg(test)]
+mod tests;
+mod text;
+mod vars;
+
+pub use buf::Buf;
+pub use cast::{into_text, number_in, truth_in};
+pub use env::Env;
+pub use fetch::Fetch;
+pub use htx_model::OutOfMemory;
+pub use sample::Sample;
+pub use scope::Scope;
+pub use text::Text;
+pub use vars::Vars;
