@@ -1,4 +1,6 @@
 pub mod Loads
 pub mod Ends
 pub mod Removals
+pub mod Listed
+pub mod Parts
 mod Heads

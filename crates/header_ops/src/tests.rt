@@ -1,0 +1,1 @@
+//! Each call against a plain list of names and values.
