@@ -3,4 +3,5 @@ pub mod Ends
 pub mod Removals
 pub mod Listed
 pub mod Parts
+pub mod Frames
 mod Heads

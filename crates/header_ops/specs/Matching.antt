@@ -1,5 +1,6 @@
 -- Headers by a part of their name, without regard to case (RFC 9110 section 5.1).
 use Rattle.std.specs.Prelude.{ℕ, ◌-◌, List, [], ◌∷◌, Bool, false, ◌&&◌, ◌||◌, not, nat_le, length, take, drop, filter}
+use Rattle.http_model.specs.Head.{Field}
 use Rattle.http_model.specs.Fields.{same_name, is_named_among}
 use Rattle.http_model.specs.Finish.{framing_names}
 use Rattle.http_model.specs.Block.{Block, Header}
@@ -26,9 +27,13 @@ is_match (Beg part) name = begins_with name part.now
 is_match (End part) name = ends_with name part.now
 is_match (Sub part) name = has_part name part.now
 
--- the block is a header whose name matches, and none that frames the message or speaks of its connection
+-- the field's name is one of those, and none that frames the message or speaks of its connection
+abbrev pub is_field_matching : NameMatch → Field → Bool
+is_field_matching which field = is_match which field.0 && not (is_named_among framing_names field)
+
+-- the block is a header of such a field
 abbrev pub is_header_matching : NameMatch → Block → Bool
-is_header_matching which (Header n v) = is_match which n && not (is_named_among framing_names (n, v))
+is_header_matching which (Header n v) = is_field_matching which (n, v)
 is_header_matching which block = false
 
 -- each such header goes

@@ -65,6 +65,7 @@ pub fn remove_named(msg: &mut Arena, name: &[u8]) -> u32
 pub fn remove_where(msg: &mut Arena, which: &NameMatch<'_>) -> u32
     ensures blocks { msg.new.blocks ≡ without_matching which.now msg.old.blocks }
     ensures count { result ≡ count_by (is_header_matching which.now) msg.old.blocks }
+    ensures framing { filter is_framing_header msg.new.blocks ≡ filter is_framing_header msg.old.blocks }
     ensures end { HasEnd msg.old.blocks → HasEnd msg.new.blocks }
     ensures size { msg.new.size ≡ msg.old.size }
 {

@@ -10,6 +10,6 @@ loop-at-preserved c =
     let name : List ℕ = c.args.name.now in
     let whole : take (length name - at) (drop at name) ≡ drop at name = take_all (length name - at) (drop at name) (omega (arith, length-drop at name)) in
     let here : begins_with (drop at name) c.args.part.now ≡ false =
-        ap (λ (xs : List ℕ). begins_with xs c.args.part.now) (sym whole) ∙ sym c.begins_with.ensures ∙ c.if-begins_with.false
+    ap (λ (xs : List ℕ). begins_with xs c.args.part.now) (sym whole) ∙ sym c.begins_with.ensures ∙ c.if-begins_with.false
     in
     past name c.args.part.now at (omega arith) here ∙ c.loop-at.invariant

@@ -15,8 +15,8 @@ within c =
     let is : left ≡ (c.in-Some.field-0-0, c.in-Some.field.now, c.in-Some.value.now) ∷ behind = search rules in
     let same : same_name c.in-Some.field.now name ≡ true = sym c.eq_fold.ensures ∙ c.if-eq_fold.true in
     let parts : length (values_among name left) ≡ length (values_of c.in-Some.value.now) + length (values_among name behind) =
-        ap (λ (fs : List (ℕ × List ℕ × List ℕ)). length (values_among name fs)) is
-        ∙ among_here name (c.in-Some.field-0-0, c.in-Some.field.now, c.in-Some.value.now) behind same
+    ap (λ (fs : List (ℕ × List ℕ × List ℕ)). length (values_among name fs)) is
+    ∙ among_here name (c.in-Some.field-0-0, c.in-Some.field.now, c.in-Some.value.now) behind same
     in
     let all : c.loop-field.count + length (values_among name left) ≡ length (values_named name c.args.msg.now.blocks) = c.loop-field.invariant in
     omega (arith, parts, all, c.count_in.ensures, few_values name c.args.msg.now.blocks)
