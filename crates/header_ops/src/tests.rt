@@ -1,5 +1,7 @@
 //! Each call against a plain list of names and values.
 
+ghost use Rattle.header_ops.specs.Headers.{HasEnd};
+
 use crate::{
     NameMatch, add_field, count_values, has_named, nth_value, remove_framing, remove_named,
     remove_where, set_field,
@@ -24,7 +26,10 @@ static FIELDS: [Pair; 7] = [
 static VALUE: [u8; 1024] = [b'v'; 1024];
 
 /// Makes the message a head of these fields, with a trailer behind it.
-fn put(msg: &mut Arena, fields: &[Pair], rt: &impl Abort) {
+#[tactic(auto, using(crate::proofs::Ends::made))]
+fn put(msg: &mut Arena, fields: &[Pair], rt: &impl Abort)
+    ensures { HasEnd msg.new.blocks }
+{
     msg.clear();
     assert_eq!(rt;
         msg.insert_line(0, Kind::RequestLine, b"GET", b"/", b"HTTP/1.1"),
@@ -40,9 +45,8 @@ fn put(msg: &mut Arena, fields: &[Pair], rt: &impl Abort) {
         );
     }
     let end = msg.len();
-    assert_eq!(rt; msg.insert_end(end, Kind::EndHeaders), Ok(()));
-    let end = msg.len();
     assert_eq!(rt; msg.insert_field(end, Kind::Trailer, b"x-a", b"t"), Ok(()));
+    assert_eq!(rt; msg.insert_end(end, Kind::EndHeaders), Ok(()));
 }
 
 /// The headers are these fields, and the trailer stands.
@@ -129,13 +133,15 @@ fn reads_the_values_of_lists(rt: HostRuntime) -> Result<(), Fail> {
 fn is_full_at_the_last_byte(rt: HostRuntime) -> Result<(), Fail> {
     let mut msg = Arena::new(rt.alloc(), 1024)?;
     put(&mut msg, &[("a", "old"), ("A", "older")], &rt);
-    let steps = [(962, Ok(()), 0), (963, Err(Full), 0), (0, Ok(()), 962)];
-    for (len, answer, room) in steps {
-        assert!(rt; len <= 1024);
-        assert_eq!(rt; set_field(&mut msg, b"a", &VALUE[..len]), answer);
-        assert_eq!(rt; msg.room(), room);
-        assert_eq!(rt; count_values(&msg, b"a"), 1);
-    }
+    assert_eq!(rt; set_field(&mut msg, b"a", &VALUE[..963]), Err(Full));
+    assert_fields(&msg, &[("a", "old"), ("A", "older")], &rt);
+    assert_eq!(rt; set_field(&mut msg, b"a", &VALUE[..962]), Ok(()));
+    assert_eq!(rt; msg.room(), 0);
+    assert_eq!(rt; count_values(&msg, b"a"), 1);
+    assert_eq!(rt; set_field(&mut msg, b"A", &VALUE[..963]), Err(Full));
+    assert_eq!(rt; msg.room(), 0);
+    assert_eq!(rt; set_field(&mut msg, b"a", b""), Ok(()));
+    assert_eq!(rt; msg.room(), 962);
     assert_eq!(rt; add_field(&mut msg, b"b", &VALUE[..954]), Err(Full));
     assert_fields(&msg, &[("a", "")], &rt);
     assert_eq!(rt; add_field(&mut msg, b"b", &VALUE[..953]), Ok(()));
