@@ -1,9 +1,13 @@
 -- The end of the headers, and what a header in front of it weighs.
-use Rattle.std.proofs.Common.{◌≡◌, ℕ, ◌+◌, List, [], ◌∷◌, Bool, true, false, cond, not, filter, length, refl, arith}
+use Rattle.std.proofs.Common.{◌≡◌, ℕ, zero, suc, ◌+◌, List, [], ◌∷◌, Bool, true, false, cond, not, filter, length, refl, arith}
+use Rattle.std.specs.Prelude.{insert}
 use Rattle.std.proofs.lemmas.List.Sums.{sum_by-cons}
 use Rattle.http_model.specs.Block.{Block, RequestLine, ResponseLine, Header, EndHeaders, Data, Trailer, EndTrailers, weight}
 use Rattle.http_model.specs.Blocks.{load}
-use Rattle.header_ops.specs.Headers.{is_header_named, is_framing_header, without_headers, without_framing, with_header, set_header, HasEnd}
+use Rattle.header_ops.specs.Headers.{is_header_named, without_headers, with_header, set_header, HasEnd}
+use Rattle.header_ops.specs.Removal.{is_taken, without_taken}
+use Rattle.header_ops.specs.declared.remove.Taken.{Taken}
+use Rattle.header_ops.specs.declared.remove.Taken.TheVariants.{Named, Framing, Matching}
 
 in_front : (b : Block) (bs : List Block) → HasEnd bs → HasEnd (b ∷ bs)
 in_front (RequestLine x y z) bs h = h
@@ -33,9 +37,14 @@ kept_end p end (EndTrailers ∷ bs) h = either_way (p EndTrailers) EndTrailers (
 pub HasEnd-without : (name : List ℕ) (bs : List Block) → HasEnd bs → HasEnd (without_headers name bs)
 HasEnd-without name bs h = kept_end (λ b. not (is_header_named name b)) refl bs h
 
--- no header that frames is the end
-pub HasEnd-without_framing : (bs : List Block) → HasEnd bs → HasEnd (without_framing bs)
-HasEnd-without_framing bs h = kept_end (λ b. not (is_framing_header b)) refl bs h
+-- no header that goes is the end
+pub HasEnd-without_taken : (taken : Taken) (bs : List Block) → HasEnd bs → HasEnd (without_taken taken bs)
+HasEnd-without_taken taken bs h = kept_end (λ b. not (is_taken taken b)) (by_kind taken) bs h
+  where
+    by_kind : (t : Taken) → not (is_taken t EndHeaders) ≡ true
+    by_kind (Named name) = refl
+    by_kind Framing = refl
+    by_kind (Matching which) = refl
 
 -- a block in front of the end leaves the end
 pub HasEnd-with_header : (n v : List ℕ) (bs : List Block) → HasEnd bs → HasEnd (with_header (Header n v) bs)
@@ -67,4 +76,13 @@ pub load-set_header : (name value : List ℕ) (bs : List Block) → HasEnd bs �
 load-set_header name value bs h =
     omega (arith, load-with_header (Header name value) (without_headers name bs) (HasEnd-without name bs h))
 
-pub ruleset ends = (HasEnd-without, HasEnd-without_framing, HasEnd-with_header, load-set_header)
+pub ruleset ends = (HasEnd-without, HasEnd-with_header, load-set_header)
+
+-- an end that is put in is there
+pub HasEnd-insert_end : (bs : List Block) (i : ℕ) → HasEnd (insert bs i EndHeaders)
+HasEnd-insert_end [] zero = tt
+HasEnd-insert_end [] (suc i) = tt
+HasEnd-insert_end (b ∷ bs) zero = tt
+HasEnd-insert_end (b ∷ bs) (suc i) = in_front b (insert bs i EndHeaders) (HasEnd-insert_end bs i)
+
+pub ruleset made = (HasEnd-insert_end)

@@ -1,8 +1,12 @@
 -- Edits of the blocks of a head.
 use Rattle.std.proofs.Common.{◌≡◌, ℕ, List, [], ◌∷◌, ◌++◌, Bool, true, false, cond, not, map, filter, refl, ap, ◌∙◌}
-use Rattle.http_model.specs.Block.{Block, Header, EndHeaders}
+use Rattle.http_model.specs.Block.{Block, Header, EndHeaders, value_of}
+use Rattle.px_bytes.specs.Values.{values_in}
+use Rattle.header_ops.specs.Lists.{fulls_named, values_named}
+use Rattle.header_ops.specs.Matching.{is_header_matching, is_field_matching, without_matching}
+use Rattle.header_ops.specs.declared.matching.NameMatch.{NameMatch}
 use Rattle.http_model.specs.Head.{Field, StartLine, RequestLine, StatusLine, Head, line_block, header_block, head_blocks}
-use Rattle.http_model.specs.Fields.{is_named, is_named_among, without, without_each, set_field, add_field}
+use Rattle.http_model.specs.Fields.{is_named, is_named_among, fields_named, without, without_each, set_field, add_field}
 use Rattle.http_model.specs.Finish.{framing_names}
 use Rattle.header_ops.specs.Headers.{is_header_named, is_framing_header, without_framing, without_headers, with_header, set_header, HasEnd}
 
@@ -65,3 +69,31 @@ framing-head_blocks head = by_line head.line
     by_line : (line : StartLine) → without_framing (line_block line ∷ (map header_block head.fields ++ EndHeaders ∷ [])) ≡ line_block line ∷ (map header_block (without_each framing_names head.fields) ++ EndHeaders ∷ [])
     by_line (RequestLine a b c) = ap (λ t. line_block (RequestLine a b c) ∷ t) (framing-ended head.fields)
     by_line (StatusLine a b c) = ap (λ t. line_block (StatusLine a b c) ∷ t) (framing-ended head.fields)
+
+matching-ended : (which : NameMatch) (fs : List Field) → without_matching which (map header_block fs ++ EndHeaders ∷ []) ≡ map header_block (filter (λ f. not (is_field_matching which f)) fs) ++ EndHeaders ∷ []
+matching-ended which fs = filter-ended (λ b. not (is_header_matching which b)) (λ f. not (is_field_matching which f)) (λ f. refl) refl fs
+
+pub matching-head_blocks : (which : NameMatch) (head : Head) → without_matching which (head_blocks head) ≡ head_blocks (record head { fields = filter (λ f. not (is_field_matching which f)) head.fields })
+matching-head_blocks which head = by_line head.line
+  where
+    by_line : (line : StartLine) → without_matching which (line_block line ∷ (map header_block head.fields ++ EndHeaders ∷ [])) ≡ line_block line ∷ (map header_block (filter (λ f. not (is_field_matching which f)) head.fields) ++ EndHeaders ∷ [])
+    by_line (RequestLine a b c) = ap (λ t. line_block (RequestLine a b c) ∷ t) (matching-ended which head.fields)
+    by_line (StatusLine a b c) = ap (λ t. line_block (StatusLine a b c) ∷ t) (matching-ended which head.fields)
+
+fulls-ended : (name : List ℕ) (fs : List Field) → fulls_named name (map header_block fs ++ EndHeaders ∷ []) ≡ map (λ (f : Field). f.1) (fields_named name fs)
+fulls-ended name [] = refl
+fulls-ended name (f ∷ fs) = by_test (is_named name f) (filter (is_header_named name) (map header_block fs ++ EndHeaders ∷ [])) (fields_named name fs) (fulls-ended name fs)
+  where
+    by_test : (t : Bool) (bs : List Block) (rest : List Field) → map value_of bs ≡ map (λ (g : Field). g.1) rest → map value_of (cond t (header_block f ∷ bs) bs) ≡ map (λ (g : Field). g.1) (cond t (f ∷ rest) rest)
+    by_test true bs rest e = ap (λ l. f.1 ∷ l) e
+    by_test false bs rest e = e
+
+pub fulls-head_blocks : (name : List ℕ) (head : Head) → fulls_named name (head_blocks head) ≡ map (λ (f : Field). f.1) (fields_named name head.fields)
+fulls-head_blocks name head = by_line head.line
+  where
+    by_line : (line : StartLine) → fulls_named name (line_block line ∷ (map header_block head.fields ++ EndHeaders ∷ [])) ≡ map (λ (f : Field). f.1) (fields_named name head.fields)
+    by_line (RequestLine a b c) = fulls-ended name head.fields
+    by_line (StatusLine a b c) = fulls-ended name head.fields
+
+pub values-head_blocks : (name : List ℕ) (head : Head) → values_named name (head_blocks head) ≡ values_in (map (λ (f : Field). f.1) (fields_named name head.fields))
+values-head_blocks name head = ap values_in (fulls-head_blocks name head)

@@ -1,4 +1,7 @@
 pub mod Loads
 pub mod Ends
 pub mod Removals
+pub mod Listed
+pub mod Parts
+pub mod Frames
 mod Heads

@@ -1,6 +1,8 @@
 -- A block that goes, in a pass over a list.
 use Rattle.std.proofs.Common.{◌≡◌, ℕ, zero, suc, ◌+◌, ◌<◌, ◌≤◌, List, [], ◌∷◌, ◌++◌, Bool, true, false, cond, not, length, take, drop, filter, refl, ap, sym, ◌∙◌, arith}
-use Rattle.std.specs.Prelude.{remove}
+use Rattle.std.proofs.lemmas.List.Filters.{length-filter_both}
+use Rattle.std.proofs.lemmas.List.Sums.{length-filter}
+use Rattle.std.specs.Prelude.{remove, count_by}
 use Rattle.http_model.specs.Block.{Block}
 use Rattle.http_model.specs.Blocks.{block_at}
 
@@ -16,3 +18,7 @@ pub removed_within : (bs : List Block) (i : ℕ) → i < length bs → i ≤ len
 removed_within [] i h = absurd (omega arith)
 removed_within (b ∷ bs) zero h = omega arith
 removed_within (b ∷ bs) (suc i) h = omega (arith, removed_within bs i (omega arith))
+
+-- those that go and those that stay are all
+pub gone_and_kept : (p : Block → Bool) (bs : List Block) → count_by p bs + length (filter (λ b. not (p b)) bs) ≡ length bs
+gone_and_kept p bs = omega (arith, length-filter_both p (λ b. not (p b)) (λ b. refl) bs, length-filter p bs)

@@ -1,1 +1,4 @@
 pub mod Headers
+pub mod Matching
+pub mod Removal
+pub mod Lists

@@ -5,24 +5,8 @@ ghost use Rattle.htx_arena.specs.Blocks.{load, Fits, block_at};
 ghost use Rattle.header_ops.specs.Headers.{is_header_named, weight_if_named, without_headers, with_header, set_header, HasEnd};
 
 use crate::names::is_named;
+use crate::remove::remove_named;
 use htx_arena::{Arena, Full, Kind};
-
-/// Removes each header of this name, without regard to case.
-#[tactic(auto, using(crate::proofs::Ends::ends))]
-pub fn remove_named(msg: &mut Arena, name: &[u8])
-    ensures blocks { msg.new.blocks ≡ without_headers name.now msg.old.blocks }
-    ensures end { HasEnd msg.old.blocks → HasEnd msg.new.blocks }
-    ensures size { msg.new.size ≡ msg.old.size }
-{
-    let mut at = 0;
-    while at < msg.len() {
-        if is_named(msg, at, name) {
-            msg.remove(at);
-        } else {
-            at += 1;
-        }
-    }
-}
 
 /// What the block at an index weighs where it is a header of this name, else 0.
 #[tactic(auto, using(crate::proofs::Loads::weights))]

@@ -1,12 +1,19 @@
-//! Edits of the header fields of a message in an array. Each is an edit of the list of blocks, in one step: where it
-//! doesn't fit, nothing was changed. No call takes memory.
+//! Edits of the header fields of a message in an array, and the values of its lists. Each edit is an edit of the list of
+//! blocks, in one step: where it doesn't fit, nothing was changed. No call takes memory.
 #![tactic(auto)]
 
 mod edits;
 mod framing;
 pub mod laws;
+mod matching;
 mod names;
+mod remove;
+#[cfg(test)]
+mod tests;
+mod values;
 
-pub use edits::{add_field, remove_named, set_field};
-pub use framing::remove_framing;
+pub use edits::{add_field, set_field};
+pub use matching::NameMatch;
 pub use names::has_named;
+pub use remove::{remove_framing, remove_named, remove_where};
+pub use values::{count_values, nth_value};

@@ -1,18 +1,11 @@
 //! Header fields by name.
 ghost use Rattle.std.specs.Prelude.{◌≡◌, ◌<◌, length};
 ghost use Rattle.std.specs.List.{list_any};
-ghost use Rattle.http_model.specs.Fields.{same_name};
 ghost use Rattle.htx_arena.specs.Blocks.{block_at};
 ghost use Rattle.header_ops.specs.Headers.{is_header_named};
 
 use htx_arena::{Arena, Kind};
-
-/// Whether two names are one but for case (RFC 9110 section 5.1).
-pub fn same_name(a: &[u8], b: &[u8]) -> bool
-    ensures { result ≡ same_name a.now b.now }
-{
-    a.eq_ignore_ascii_case(b)
-}
+use px_bytes::eq_fold;
 
 /// Whether the block at an index is a header of this name.
 pub fn is_named(msg: &Arena, at: u32, name: &[u8]) -> bool
@@ -20,7 +13,7 @@ pub fn is_named(msg: &Arena, at: u32, name: &[u8]) -> bool
     ensures { result ≡ is_header_named name.now (block_at msg.now.blocks at) }
 {
     match msg.kind(at) {
-        Kind::Header => same_name(msg.name(at), name),
+        Kind::Header => eq_fold(msg.name(at), name),
         _ => false,
     }
 }

@@ -1,12 +1,12 @@
 use Rattle.std.proofs.Common.{◌≡◌, ◌≤◌, ◌-◌, ◌++◌, take, drop, length}
-use Rattle.header_ops.specs.Headers.{without_headers}
-use Rattle.header_ops.proofs.edits.remove_named.Given as goal
+use Rattle.header_ops.specs.Removal.{without_taken}
+use Rattle.header_ops.proofs.remove.remove_taken.Given as goal
 
 -- the blocks so far are those that stay, and those that are left are as they were
 abbrev pub invariant-loop-at : goal.invariant-loop-at
 invariant-loop-at l = record {
   within : l.at ≤ length l.msg.blocks;
-  rest : take l.at l.msg.blocks ++ without_headers l.name (drop l.at l.msg.blocks) ≡ without_headers l.name l.initial.msg.blocks;
+  rest : take l.at l.msg.blocks ++ without_taken l.taken (drop l.at l.msg.blocks) ≡ without_taken l.taken l.initial.msg.blocks;
   size : l.msg.size ≡ l.initial.msg.size;
 }
 
