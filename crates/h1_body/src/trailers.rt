@@ -43,7 +43,7 @@ fn push_trailer(name: &[u8], value: &[u8], to: &mut Arena) -> Result<(), Full>
     requires short { length name.now ≤ 255 }
     ensures ok { OnOk result (to.new.blocks ≡ to.old.blocks ++ trailer_block (folded (name.now, value.now)) ∷ []) }
     ensures fits { IsOk result ↔ Fits (to.old.blocks ++ trailer_block (folded (name.now, value.now)) ∷ []) to.old.size }
-    ensures full { OnErr result (to.new ≡ to.old) }
+    ensures full { OnErr result (to.new.blocks ≡ to.old.blocks) }
     ensures size { to.new.size ≡ to.old.size }
 {
     let mut buffer = [0; MAX_NAME];
@@ -120,7 +120,7 @@ pub fn add_trailers(section: &[u8], to: &mut Arena) -> Result<(), Full>
     requires { (fields : List grammar.Field) × BeginsFields section.now fields [] }
     ensures ok { (trailers : List Field) → HasTrailers section.now trailers → OnOk result (to.new.blocks ≡ to.old.blocks ++ trailer_blocks trailers) }
     ensures fits { (trailers : List Field) → HasTrailers section.now trailers → (IsOk result ↔ Fits (to.old.blocks ++ trailer_blocks trailers) to.old.size) }
-    ensures full { OnErr result (to.new ≡ to.old) }
+    ensures full { OnErr result (to.new.blocks ≡ to.old.blocks) }
     ensures size { to.new.size ≡ to.old.size }
 {
     let mut spans = [EMPTY_HEADER_SPAN; MAX_FIELDS];
