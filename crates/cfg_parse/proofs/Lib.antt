@@ -1,0 +1,5 @@
+pub mod ListLemmas
+pub mod SizeLemmas
+pub mod LineLemmas
+pub mod TextLemmas
+pub mod SoundLemmas

@@ -1,0 +1,84 @@
+use cfg_lex::LineFault;
+use px_link::OutOfMemory;
+use std::alloc::{AllocError, AllocFailed};
+
+/// What is wrong in a configuration. The numbers are those of the product; 11 goes once all is built.
+#[derive(Clone, Copy, Debug, PartialEq, Eq)]
+pub enum CfgKind {
+    /// A malformed word: a quote without end, `\x` without two hexadecimal digits, a backslash at the end of the
+    /// line, an unescaped `$` in double quotes, a NUL.
+    Word = 1,
+    /// `frontend`, `backend`, a second `listen`, or a line before any section.
+    Section = 2,
+    /// A first word that the section does not know, or an unknown action.
+    Keyword = 3,
+    /// A missing, extra or malformed argument.
+    Argument = 4,
+    /// A malformed expression or format.
+    Expr = 5,
+    /// A malformed condition.
+    Acl = 6,
+    /// A pattern that could not be built.
+    Pattern = 7,
+    /// A rule that makes a field which frames a message.
+    FramingName = 8,
+    /// A number, a length or a count beyond its limit.
+    Limit = 9,
+    /// No `listen`, `bind` or `server`.
+    Missing = 10,
+    /// A line of the product that is not built yet.
+    Unbuilt = 11,
+}
+
+/// Why a text is no configuration.
+#[derive(Clone, Copy, Debug, PartialEq, Eq)]
+pub enum CfgFault {
+    /// The first refused line, counted from 1, and what is wrong there; line 0 is the text as a whole.
+    Refused { line: u32, kind: CfgKind },
+    /// The machine has no memory left.
+    OutOfMemory,
+}
+
+/// Why a line is refused, or could not be read.
+#[derive(Clone, Copy, Debug, PartialEq, Eq)]
+pub enum LineRefusal {
+    Refused(CfgKind),
+    OutOfMemory,
+}
+
+impl From<OutOfMemory> for LineRefusal {
+    ghost use Rattle.std.specs.Prelude.{◌≡◌};
+    ghost use Rattle.cfg_parse.specs.declared.fault.LineRefusal.TheVariants as refusals;
+
+    ghost from_gives = { λ _ fault. fault ≡ refusals.OutOfMemory };
+
+    fn from(_: OutOfMemory) -> Self {
+        LineRefusal::OutOfMemory
+    }
+}
+
+impl From<AllocError> for LineRefusal {
+    ghost use Rattle.std.specs.Prelude.{◌≡◌};
+    ghost use Rattle.cfg_parse.specs.declared.fault.LineRefusal.TheVariants as refusals;
+
+    ghost from_gives = { λ _ fault. fault ≡ refusals.OutOfMemory };
+
+    fn from(_: AllocError) -> Self {
+        LineRefusal::OutOfMemory
+    }
+}
+
+impl From<LineFault> for LineRefusal {
+    ghost use Rattle.std.specs.Prelude.{◌≡◌};
+    ghost use Rattle.cfg_parse.specs.Reading.{refusal_of};
+
+    ghost from_gives = { λ fault refusal. refusal ≡ refusal_of fault };
+
+    fn from(fault: LineFault) -> Self {
+        match fault {
+            LineFault::Word => LineRefusal::Refused(CfgKind::Word),
+            LineFault::Limit => LineRefusal::Refused(CfgKind::Limit),
+            LineFault::OutOfMemory => LineRefusal::OutOfMemory,
+        }
+    }
+}

@@ -1,0 +1,65 @@
+//! What the lines come to, once all are read.
+
+ghost use Rattle.std.specs.Prelude.{◌≡◌};
+ghost use Rattle.cfg_parse.specs.Reading.{Gives};
+ghost use Rattle.cfg_parse.specs.Draft.{start};
+ghost use Rattle.cfg_parse.specs.Whole.{limits_of, whole};
+
+use crate::draft::{Draft, Section};
+use crate::fault::{CfgKind, LineRefusal};
+use http_rules::{Config, Limits, Rules};
+use std::alloc::Global;
+
+/// Before the first line.
+pub fn start(alloc: Global) -> Draft
+    ensures { result ≡ start }
+{
+    Draft {
+        section: Section::Before,
+        has_listen: false,
+        bufsize: None,
+        maxrewrite: None,
+        bind: None,
+        server: None,
+        request: Rules::new(alloc),
+    }
+}
+
+/// The sizes, with what they are where no line gives them.
+fn limits_of(draft: &Draft) -> Limits
+    ensures { result ≡ limits_of draft.now }
+{
+    let bufsize = draft.bufsize.unwrap_or(16384);
+    let maxrewrite = draft.maxrewrite.unwrap_or((bufsize / 2).min(1024));
+    Limits {
+        bufsize,
+        maxrewrite,
+    }
+}
+
+/// The configuration of all lines.
+#[tactic(auto, unfolding(crate::specs::Whole::whole))]
+pub fn whole(draft: Draft) -> Result<Config, LineRefusal>
+    ensures { Gives (λ config. config) result (whole draft) }
+{
+    let limits = limits_of(&draft);
+    if limits.maxrewrite > limits.bufsize.saturating_sub(512) {
+        return Err(LineRefusal::Refused(CfgKind::Limit));
+    }
+    let Draft {
+        has_listen,
+        bind,
+        server,
+        request,
+        ..
+    } = draft;
+    match (bind, server) {
+        (Some(bind), Some(server)) if has_listen => Ok(Config {
+            limits,
+            bind,
+            server,
+            request,
+        }),
+        _ => Err(LineRefusal::Refused(CfgKind::Missing)),
+    }
+}

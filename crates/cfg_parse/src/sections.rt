@@ -1,0 +1,39 @@
+ghost use Rattle.cfg_parse.specs.Reading.{Leaves};
+ghost use Rattle.cfg_parse.specs.Lines.{section_line};
+
+use crate::arguments::Arguments;
+use crate::draft::{Draft, Section};
+use crate::fault::{CfgKind, LineRefusal};
+use crate::keywords::SectionWord;
+
+/// A line that begins a section.
+#[tactic(auto, unfolding(crate::specs::Lines::section_line))]
+pub fn begin_section(
+    draft: &mut Draft,
+    word: SectionWord,
+    arguments: Arguments<'_>,
+) -> Result<(), LineRefusal>
+    ensures { Leaves result draft.new (section_line draft.old word arguments.entry) }
+{
+    match word {
+        SectionWord::Global => {
+            arguments.no_more()?;
+            draft.section = Section::Global;
+        }
+        SectionWord::Defaults => {
+            arguments.no_more()?;
+            draft.section = Section::Defaults;
+        }
+        SectionWord::Listen => {
+            if draft.has_listen {
+                return Err(LineRefusal::Refused(CfgKind::Section));
+            }
+            let (_name, arguments) = arguments.argument()?;
+            arguments.no_more()?;
+            draft.section = Section::Listen;
+            draft.has_listen = true;
+        }
+        SectionWord::Other => return Err(LineRefusal::Refused(CfgKind::Section)),
+    }
+    Ok(())
+}

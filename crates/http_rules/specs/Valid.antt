@@ -1,0 +1,49 @@
+-- Which configurations are valid: those that loading gives, and that the layers above take.
+use Rattle.std.specs.Prelude.{◌≡◌, ℕ, ◌+◌, ◌≤◌, List, length, true, false, codes}
+use Rattle.std.specs.List.{list_any, AllByRecursion}
+use Rattle.std.specs.Str.{bytes_eq, str_to_ascii_lowercase}
+use Rattle.http_model.specs.declared.Limits.{Limits}
+use Rattle.http_model.specs.Finish.{framing_names}
+use Rattle.px_bytes.specs.Tokens.{is_token}
+use Rattle.px_link.specs.declared.address.Address.{Address}
+use Rattle.http_rules.specs.declared.rule.Action.{Action}
+use Rattle.http_rules.specs.declared.rule.Action.TheVariants.{Allow, AddHeader, SetHeader}
+use Rattle.http_rules.specs.declared.config.Config.{Config}
+
+-- sizes within their limits, of which a received head leaves at least 512 bytes
+pub record AreLimits (limits : Limits) : Type 0 where
+  pub least : 1024 ≤ limits.bufsize
+  pub most : limits.bufsize ≤ 262144
+  pub leaves : limits.maxrewrite + 512 ≤ limits.bufsize
+
+-- a name of a field that a rule may make: a token of 1 to 255 bytes in lower case that frames no message
+pub record IsMadeName (name : List ℕ) : Type 0 where
+  pub some : 1 ≤ length name
+  pub short : length name ≤ 255
+  pub token : is_token name ≡ true
+  pub lower : str_to_ascii_lowercase name ≡ name
+  pub free : list_any (λ framing. bytes_eq framing name) framing_names ≡ false
+
+-- the action's name may be made
+abbrev pub IsGoodAction : Action → Type 0
+IsGoodAction Allow = Unit {0}
+IsGoodAction (AddHeader name text) = IsMadeName name
+IsGoodAction (SetHeader name text) = IsMadeName name
+
+-- an address with a port
+pub record HasPort (address : Address) : Type 0 where
+  pub least : 1 ≤ address.port
+  pub most : address.port ≤ 65535
+
+-- an address that a connection can be made to
+pub record HasHost (address : Address) : Type 0 where
+  pub some : 1 ≤ length address.host
+  pub one : bytes_eq address.host (codes "*") ≡ false
+
+pub record IsValid (config : Config) : Type 0 where
+  pub limits : AreLimits config.limits
+  pub bind_port : HasPort config.bind
+  pub server_port : HasPort config.server
+  pub server_host : HasHost config.server
+  pub rules : AllByRecursion (λ rule. IsGoodAction rule.action) config.request
+  pub few : length config.request ≤ 1024

@@ -1,0 +1,16 @@
+//! A configuration as the proxy holds it, and its rules. What the rules make of a head is in `specs/`.
+#![tactic(auto)]
+
+mod config;
+mod laws;
+mod rule;
+mod run;
+#[cfg(test)]
+mod tests;
+
+pub use config::Config;
+pub use http_model::Limits;
+pub use laws::{allow_ends_the_rules, rules_go_on};
+pub use px_link::{Address, Bytes, OutOfMemory};
+pub use rule::{Action, Rule, Rules, Why};
+pub use run::{Verdict, run_request};
