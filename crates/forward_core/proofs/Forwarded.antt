@@ -18,7 +18,7 @@ use Rattle.http_model.specs.Spelling.{Spells, head_text}
 use Rattle.http_model.specs.Reading.{Received}
 use Rattle.http_model.specs.Reading as reading
 use Rattle.h1_head.specs.Request.{RequestOf}
-use Rattle.first_config.specs.Form.{First}
+use Rattle.http_rules.specs.declared.config.Config.{Config}
 use Rattle.session_model.specs.Stream.{Stream, Server, Open, Sent}
 use Rattle.session_model.specs.Meaning.{keeps, is_head_request, is_http_11, method_of, Pass}
 use Rattle.session_model.specs.Asking.{Asker, Request, Asked, Nothing, Refused, Sends, Asks, asker_of}
@@ -26,13 +26,13 @@ use Rattle.session_model.specs.Answering.{Answered, Answers, AnswersFrom, Answer
 use Rattle.session_model.specs.Session.{Session, Exchange, Over, Next, Out, ClientGets, ServerGets}
 use Rattle.forward_core.specs.Texts.{answer_text}
 use Rattle.forward_core.specs.Client.{plain_received, IsPlainHead}
-use Rattle.forward_core.specs.Asked.{sent_head}
-use Rattle.forward_core.specs.First.{first_rule, meaning_of, first_response, first_received, IsFirstServer, closed}
+use Rattle.forward_core.specs.Asked.{ruled, sent_head}
+use Rattle.forward_core.specs.First.{meaning_of, first_response, first_received, IsFirstServer, closed}
 
 -- ---- a refusal
 
 -- a client whose request is refused, with no server
-pub refused : (cfg : First) (client : List ℕ) (code : ℕ) (text : List ℕ) → Asks (meaning_of cfg) tt (closed client) (Refused code false)
+pub refused : (cfg : Config) (client : List ℕ) (code : ℕ) (text : List ℕ) → Asks (meaning_of cfg) tt (closed client) (Refused code false)
     → Spells true false (closing (refusal code)) text
     → Session (meaning_of cfg) tt (closed client) [] (record { exchanges = 1; how = end.Closed; cut = None; client = record { bytes = text; close = Clean }; servers = [] })
 refused cfg client code text asks spelled =
@@ -45,10 +45,10 @@ refused cfg client code text asks spelled =
 -- ---- a request that is sent
 
 -- the request as it goes to the server, behind which the client's bytes end
-abbrev pub sent_request : First → Head → Asker → Request (Unit {0})
-sent_request cfg head asker =
+abbrev pub sent_request : Head → Asker → Request (Unit {0})
+sent_request edited asker =
     record {
-      message = record { head = sent_head cfg head; framing = Absent; body = []; trailers = [] };
+      message = record { head = sent_head edited; framing = Absent; body = []; trailers = [] };
       cut = None;
       asker = asker;
       rest = closed [];
@@ -87,16 +87,16 @@ spells_answer n body =
     }
 
 -- the finished head of an answer weighs little
-answer_fits : (cfg : First) (n : ℕ) (body : List ℕ) → n ≤ 65536 → 1024 ≤ cfg.limits.bufsize → nat_le (load (head_blocks (answer_message n body).head)) cfg.limits.bufsize ≡ true
+answer_fits : (cfg : Config) (n : ℕ) (body : List ℕ) → n ≤ 65536 → 1024 ≤ cfg.limits.bufsize → nat_le (load (head_blocks (answer_message n body).head)) cfg.limits.bufsize ≡ true
 answer_fits cfg n body few size =
     le-leb (load (head_blocks (answer_message n body).head)) cfg.limits.bufsize
     (omega (arith, length-decimal-le 6 n (lit< tt) (omega arith) (omega arith)))
 
 -- the client of a request of the first form gets the answer of the first form
-pub client_gets : (cfg : First) (head : Head) (method server answer body : List ℕ) → 1024 ≤ cfg.limits.bufsize → length body ≤ 65536
+pub client_gets : (cfg : Config) (edited : Head) (method server answer body : List ℕ) → 1024 ≤ cfg.limits.bufsize → length body ≤ 65536
     → server ≡ first_response (length body) ++ body → answer ≡ answer_text (length body) body
-    → ClientGets (meaning_of cfg) (sent_request cfg head (good_asker method)) true (closed server) answer (Next (closed []) tt)
-client_gets cfg head method server answer body size few gives is =
+    → ClientGets (meaning_of cfg) (sent_request edited (good_asker method)) true (closed server) answer (Next (closed []) tt)
+client_gets cfg edited method server answer body size few gives is =
     record {
       answered = record { interim = []; final = Answers (answer_message (length body) body) false; vars = tt };
       answers = record {
@@ -120,46 +120,46 @@ client_gets cfg head method server answer body size few gives is =
         (reading.Whole body [] [], inl (body, [], sym (append-nil body), refl, refl), refl)
 
 -- a request of the first form is asked for
-pub asks_for : (cfg : First) (client : List ℕ) (head : Head) (asker : Asker) → RequestOf cfg.limits client (reading.Begins (plain_received head) [])
-    → first_rule cfg head ≡ Pass (set_field cfg.name cfg.value head) tt
-    → nat_le (load (head_blocks (sent_head cfg head))) cfg.limits.bufsize ≡ true
-    → asker_of (plain_received head) (set_field cfg.name cfg.value head) ≡ asker
-    → Asks (meaning_of cfg) tt (closed client) (Sends (sent_request cfg head asker))
-asks_for cfg client head asker reads rule fits is =
+pub asks_for : (cfg : Config) (client : List ℕ) (head edited : Head) (asker : Asker) → RequestOf cfg.limits client (reading.Begins (plain_received head) [])
+    → ruled cfg head ≡ Pass edited tt
+    → nat_le (load (head_blocks (sent_head edited))) cfg.limits.bufsize ≡ true
+    → asker_of (plain_received head) edited ≡ asker
+    → Asks (meaning_of cfg) tt (closed client) (Sends (sent_request edited asker))
+asks_for cfg client head edited asker reads rule fits is =
     record {
       head = reading.Begins (plain_received head) [];
       reads = reads;
-      asks = rw rule (rw fits (reading.Whole [] [] [], refl, ap (λ (a : Asker). Sends (sent_request cfg head a)) (sym is)));
+      asks = rw rule (rw fits (reading.Whole [] [] [], refl, ap (λ (a : Asker). Sends (sent_request edited a)) (sym is)));
     }
 
 -- the session of a request of the first form, whose server gives an answer of the first form
-pub forwarded : (cfg : First) (client server text answer body : List ℕ) (head : Head) → RequestOf cfg.limits client (reading.Begins (plain_received head) [])
-    → IsPlainHead head → first_rule cfg head ≡ Pass (set_field cfg.name cfg.value head) tt
-    → nat_le (load (head_blocks (sent_head cfg head))) cfg.limits.bufsize ≡ true
-    → 1024 ≤ cfg.limits.bufsize → text ≡ head_text (sent_head cfg head)
+pub forwarded : (cfg : Config) (client server text answer body : List ℕ) (head edited : Head) → RequestOf cfg.limits client (reading.Begins (plain_received head) [])
+    → IsPlainHead head → ruled cfg head ≡ Pass edited tt
+    → nat_le (load (head_blocks (sent_head edited))) cfg.limits.bufsize ≡ true
+    → 1024 ≤ cfg.limits.bufsize → text ≡ head_text (sent_head edited)
     → length body ≤ 65536 → server ≡ first_response (length body) ++ body → answer ≡ answer_text (length body) body
     → Session (meaning_of cfg) tt (closed client) (Open (closed server) false ∷ [])
     (record { exchanges = 1; how = end.Done; cut = None; client = record { bytes = answer; close = Clean }; servers = Some (record { bytes = text; close = Clean }) ∷ [] })
-forwarded cfg client server text answer body head reads plain rule fits size is few gives answers =
-    let method : List ℕ = method_of head.line in
-    let request : Request (Unit {0}) = sent_request cfg head (good_asker method) in
+forwarded cfg client server text answer body head edited reads plain rule fits size is few gives answers =
+    let method : List ℕ = method_of edited.line in
+    let request : Request (Unit {0}) = sent_request edited (good_asker method) in
     record {
       exchanges = record { connects = Some (record { bytes = text; close = Clean }) ∷ []; client = answer; bit = None; after = Next (closed []) tt } ∷ [];
       follow = (
         Sends request,
         [],
-        asks_for cfg client head (good_asker method) reads rule fits (asker_is head (set_field cfg.name cfg.value head) plain),
+        asks_for cfg client head edited (good_asker method) reads rule fits (asker_is head edited plain),
         (
           refl,
           (
             record {
               text = text;
               taken = text;
-              spelled = record { body = []; spelled = is ∙ sym (append-nil (head_text (sent_head cfg head))); spells_body = refl };
+              spelled = record { body = []; spelled = is ∙ sym (append-nil (head_text (sent_head edited))); spells_body = refl };
               takes = refl;
               connected = refl;
             },
-            client_gets cfg head method server answer body size few gives answers,
+            client_gets cfg edited method server answer body size few gives answers,
           ),
         ),
         (record { head = reading.Nothing; reads = refl; asks = refl }, refl, refl),

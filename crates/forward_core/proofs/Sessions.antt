@@ -15,13 +15,13 @@ use Rattle.http_model.specs.Spelling.{head_text, line_text, field_text, fields_t
 use Rattle.http_model.specs.Reading.{Begins}
 use Rattle.http_model.specs.Reading as reading
 use Rattle.h1_head.specs.Request.{RequestOf}
-use Rattle.first_config.specs.Form.{First}
+use Rattle.http_rules.specs.declared.config.Config.{Config}
 use Rattle.session_model.specs.Stream.{Server, Open, Sent}
 use Rattle.session_model.specs.Meaning.{Pass, Fail, is_head_request}
 use Rattle.session_model.specs.Asking.{Asks, Refused}
 use Rattle.session_model.specs.Session.{Session, Out}
-use Rattle.forward_core.specs.First.{first_rule, meaning_of, first_response, IsFirstServer, closed}
-use Rattle.forward_core.specs.Asked.{sent_head, sent_fits}
+use Rattle.forward_core.specs.First.{meaning_of, first_response, IsFirstServer, closed}
+use Rattle.forward_core.specs.Asked.{ruled, sent_head, sent_fits}
 use Rattle.forward_core.specs.Client.{plain_received, IsPlainHead, ReadsPlain}
 use Rattle.forward_core.specs.Texts.{block_text, blocks_text, answer_text}
 use Rattle.forward_core.specs.Out.{servers_by, sent_by, out_of_one, IsRefused, IsForwarded}
@@ -44,17 +44,17 @@ text_of_blocks h = by_line h.line
 -- ---- what is asked
 
 -- a refused head is a refusal
-pub asks_refused : (cfg : First) (client : List ℕ) (code : ℕ) → RequestOf cfg.limits client (reading.Refused code) → Asks (meaning_of cfg) tt (closed client) (Refused code false)
+pub asks_refused : (cfg : Config) (client : List ℕ) (code : ℕ) → RequestOf cfg.limits client (reading.Refused code) → Asks (meaning_of cfg) tt (closed client) (Refused code false)
 asks_refused cfg client code reads = record { head = reading.Refused code; reads = reads; asks = refl }
 
 -- a rule that fails, and a finished head that doesn't fit, are the refusal 500
-pub asks_fails : (cfg : First) (client : List ℕ) (head : Head) → RequestOf cfg.limits client (Begins (plain_received head) []) → IsPlainHead head
-    → (first_rule cfg head ≡ Fail) ⊎ ((first_rule cfg head ≡ Pass (set_field cfg.name cfg.value head) tt) × (sent_fits cfg head ≡ false))
+pub asks_fails : (cfg : Config) (client : List ℕ) (head : Head) → RequestOf cfg.limits client (Begins (plain_received head) []) → IsPlainHead head
+    → (ruled cfg head ≡ Fail) ⊎ ((edited : Head) × (ruled cfg head ≡ Pass edited tt) × (sent_fits cfg edited ≡ false))
     → Asks (meaning_of cfg) tt (closed client) (Refused 500 false)
 asks_fails cfg client head reads plain (inl fails) =
     record { head = Begins (plain_received head) []; reads = reads; asks = rw fails (ap (λ (b : Bool). Refused 500 b) (sym plain.not_head)) }
 asks_fails cfg client head reads plain (inr over) =
-    record { head = Begins (plain_received head) []; reads = reads; asks = rw over.0 (rw over.1 (ap (λ (b : Bool). Refused 500 b) (sym plain.not_head))) }
+    record { head = Begins (plain_received head) []; reads = reads; asks = rw over.1 (rw over.2 (ap (λ (b : Bool). Refused 500 b) (sym plain.not_head))) }
 
 -- ---- sessions
 
@@ -65,7 +65,7 @@ out_is one server how is ends =
     sym (ap (λ (s : Option (List ℕ)). record { exchanges = 1; how = one.end; cut = None; client = record { bytes = one.to_client; close = Clean }; servers = sent_by s }) is
     ∙ ap (λ (e : End). record { exchanges = 1; how = e; cut = None; client = record { bytes = one.to_client; close = Clean }; servers = sent_by server }) ends)
 
-session_by : (cfg : First) (client server : List ℕ) (one : One) (text : Option (List ℕ)) (how : End) → one.to_server ≡ text → one.end ≡ how
+session_by : (cfg : Config) (client server : List ℕ) (one : One) (text : Option (List ℕ)) (how : End) → one.to_server ≡ text → one.end ≡ how
     → Session (meaning_of cfg) tt (closed client) (servers_by text server) (record { exchanges = 1; how = how; cut = None; client = record { bytes = one.to_client; close = Clean }; servers = sent_by text })
     → Session (meaning_of cfg) tt (closed client) (servers_by one.to_server server) (out_of_one one)
 session_by cfg client server one text how is ends s =
@@ -73,17 +73,17 @@ session_by cfg client server one text how is ends s =
     (subst (λ (o : Out). Session (meaning_of cfg) tt (closed client) (servers_by text server) o) (out_is one text how is ends) s)
 
 -- a refusal is a session with no server
-pub refused_session : (cfg : First) (client server : List ℕ) (code : ℕ) (one : One) → Asks (meaning_of cfg) tt (closed client) (Refused code false) → IsRefused code one
+pub refused_session : (cfg : Config) (client server : List ℕ) (code : ℕ) (one : One) → Asks (meaning_of cfg) tt (closed client) (Refused code false) → IsRefused code one
     → Session (meaning_of cfg) tt (closed client) (servers_by one.to_server server) (out_of_one one)
 refused_session cfg client server code one asks r =
     session_by cfg client server one None end.Closed r.server r.how (refused cfg client code one.to_client asks r.client)
 
 -- a request that was sent and answered is a session with one server
-pub forwarded_session : (cfg : First) (client server : List ℕ) (blocks sent : List Block) (one : One) → 1024 ≤ cfg.limits.bufsize → IsFirstServer server
-    → (x : ReadsPlain cfg.limits client blocks) → first_rule cfg x.head ≡ Pass (set_field cfg.name cfg.value x.head) tt → sent_fits cfg x.head ≡ true
-    → sent ≡ head_blocks (sent_head cfg x.head) → IsForwarded sent server one
+pub forwarded_session : (cfg : Config) (client server : List ℕ) (blocks sent : List Block) (one : One) → 1024 ≤ cfg.limits.bufsize → IsFirstServer server
+    → (x : ReadsPlain cfg.limits client blocks) (edited : Head) → ruled cfg x.head ≡ Pass edited tt → sent_fits cfg edited ≡ true
+    → sent ≡ head_blocks (sent_head edited) → IsForwarded sent server one
     → Session (meaning_of cfg) tt (closed client) (servers_by one.to_server server) (out_of_one one)
-forwarded_session cfg client server blocks sent one size first x rule fits is f =
+forwarded_session cfg client server blocks sent one size first x edited rule fits is f =
     session_by cfg client server one (Some (blocks_text sent)) end.Done f.server f.how
-    (forwarded cfg client server (blocks_text sent) one.to_client first.0 x.head x.reads x.plain rule fits size
-    (ap blocks_text is ∙ text_of_blocks (sent_head cfg x.head)) first.1 first.2 (f.client first.0 first.2))
+    (forwarded cfg client server (blocks_text sent) one.to_client first.0 x.head edited x.reads x.plain rule fits size
+    (ap blocks_text is ∙ text_of_blocks (sent_head edited)) first.1 first.2 (f.client first.0 first.2))

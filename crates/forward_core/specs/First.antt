@@ -1,4 +1,4 @@
--- The meaning that a configuration of the first form gives to a session.
+-- The meaning that a configuration gives to a session, as far as it is built.
 use Rattle.std.specs.Prelude.{◌≡◌, ℕ, ◌<◌, ◌≤◌, List, [], ◌∷◌, ◌++◌, Bool, true, false, ◌&&◌, if◌then◌else◌, nat_lt, nat_le, length, codes, decimal, Option, Some, None, ◌⊎◌}
 use Rattle.http_model.specs.declared.Framing.{Framing}
 use Rattle.http_model.specs.declared.Framing.TheVariants.{Absent, Length, Chunked, ToClose}
@@ -13,14 +13,8 @@ use Rattle.http_model.specs.Reading as reading
 use Rattle.h1_head.specs.Request.{RequestOf}
 use Rattle.session_model.specs.Stream.{Stream}
 use Rattle.session_model.specs.Meaning.{Meaning, Verdict, Pass, Fail, no_filters}
-use Rattle.first_config.specs.Form.{First}
-
--- the one rule of the first form: a text that is longer than the buffer fails, and so does a list that doesn't fit
-abbrev pub first_rule : First → Head → Verdict (Unit {0})
-first_rule cfg head =
-    if nat_le (length cfg.value) cfg.limits.bufsize && nat_le (load (head_blocks (set_field cfg.name cfg.value head))) cfg.limits.bufsize
-    then Pass (set_field cfg.name cfg.value head) tt
-    else Fail
+use Rattle.http_rules.specs.declared.config.Config.{Config}
+use Rattle.http_rules.specs.Rules.{rules_of}
 
 -- a body that isn't in chunks (RFC 9112 section 6.3)
 abbrev pub PlainBody : Framing → List ℕ → Ending → BodyReading → Type 0
@@ -53,8 +47,8 @@ abbrev pub FirstResponse : List ℕ → HeadReading → Type 0
 FirstResponse bytes r =
     (n : ℕ) × (rest : List ℕ) × (bytes ≡ first_response n ++ rest) × (r ≡ reading.Begins (first_received n) rest)
 
--- Requests are read in full; responses and bodies as far as the first form has them.
-abbrev pub meaning_of : First → Meaning
+-- Requests are read in full and ruled; responses and bodies as far as the first form has them.
+abbrev pub meaning_of : Config → Meaning
 meaning_of cfg =
     record {
       limits = cfg.limits;
@@ -63,7 +57,7 @@ meaning_of cfg =
       reads_request = RequestOf cfg.limits;
       reads_response = λ head_asked. FirstResponse;
       reads_body = PlainBody;
-      request_rules = λ vars. first_rule cfg;
+      request_rules = rules_of cfg.limits cfg.request;
       response_rules = λ vars method head. Pass head vars;
       request_filters = no_filters;
       response_filters = no_filters;

@@ -3,7 +3,8 @@ pub use Rattle.session_model.specs.Meaning
 pub use Rattle.session_model.specs.Asking
 pub use Rattle.session_model.specs.Answering
 pub use Rattle.session_model.specs.Session
-pub use Rattle.first_config.specs.Form
+pub use Rattle.http_rules.specs.Rules
+pub use Rattle.http_rules.specs.Valid
 pub mod Texts
 pub mod First
 pub mod Unbuilt

@@ -3,7 +3,7 @@ ghost use Rattle.std.specs.Prelude.{◌≡◌, ◌≤◌, ◌+◌, length, IfOk,
 ghost use Rattle.http_model.specs.declared.End.TheVariants as end;
 ghost use Rattle.http_model.specs.Refusal.{refusal, closing};
 ghost use Rattle.http_model.specs.Spelling.{Spells};
-ghost use Rattle.first_config.specs.Form.{seen};
+ghost use Rattle.http_rules.specs.Valid.{IsValid};
 ghost use Rattle.session_model.specs.Session.{Session};
 ghost use Rattle.forward_core.specs.First.{meaning_of, IsFirstServer, closed};
 ghost use Rattle.forward_core.specs.Unbuilt.{IsUnbuilt};
@@ -13,8 +13,8 @@ use crate::ask::ask;
 use crate::client::{ClientAsks, read_client};
 use crate::refusal::refusal_text;
 use crate::text::head_text;
-use first_config::FirstConfig;
 use http_model::{End, OutOfMemory};
+use http_rules::Config;
 use htx_arena::Arena;
 use px_link::Bytes;
 use std::alloc::Global;
@@ -75,19 +75,15 @@ fn forward(alloc: Global, msg: &Arena, server: &[u8]) -> Result<One, OutOfMemory
 /// One exchange, which is the whole session: the client's bytes are one request, and the server's are one answer.
 pub fn one_exchange(
     alloc: Global,
-    cfg: &FirstConfig<'_>,
+    cfg: &Config,
     client: &[u8],
     server: &[u8],
 ) -> Result<One, ExchangeFault>
-    requires least { 1024 ≤ cfg.now.limits.bufsize }
-    requires most { cfg.now.limits.bufsize ≤ 262144 }
-    requires reserve { cfg.now.limits.maxrewrite + 512 ≤ cfg.now.limits.bufsize }
-    requires named { 1 ≤ length cfg.now.name.now }
-    requires short { length cfg.now.name.now ≤ 255 }
+    requires valid { IsValid cfg.now }
     requires server { IsFirstServer server.now }
 
     // What is put out is a session of the configuration on the client's stream and the server that was connected.
-    ensures session { IfOk result (λ one. Session (meaning_of (seen cfg.now)) tt (closed client.now) (servers_by one.to_server server.now) (out_of_one one)) }
+    ensures session { IfOk result (λ one. Session (meaning_of cfg.now) tt (closed client.now) (servers_by one.to_server server.now) (out_of_one one)) }
 
     // Every client is served but for those that are named.
     ensures served { OnOk result (IsUnbuilt cfg.now.limits client.now → ⊥) }

@@ -9,6 +9,6 @@ mod refusal;
 mod text;
 
 pub use exchange::{ExchangeFault, One, one_exchange};
-pub use first_config::FirstConfig;
 pub use http_model::{End, Limits, OutOfMemory};
+pub use http_rules::Config;
 pub use px_link::Bytes;

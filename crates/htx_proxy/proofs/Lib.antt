@@ -1,4 +1,4 @@
 pub mod Reported
 pub mod Words
 pub mod Told
-pub mod Complete
+pub mod Replies

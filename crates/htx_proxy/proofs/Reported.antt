@@ -1,7 +1,7 @@
 -- The report of one exchange.
 use Rattle.std.proofs.Common.{◌≡◌, ℕ, ◌≤◌, List, [], ◌∷◌, ◌++◌, refl, sym, ap, ◌∙◌, subst, length}
 use Rattle.std.specs.Prelude.{Option, Some, None}
-use Rattle.first_config.specs.Form.{First}
+use Rattle.http_rules.specs.declared.config.Config.{Config}
 use Rattle.rec_format.specs.Record.{server_text}
 use Rattle.rec_format.specs.Report.{report_of}
 use Rattle.rec_format.specs.ReportParts.{out_of}
@@ -28,7 +28,7 @@ connected_is : (text : Option (List ℕ)) (body : List ℕ) → servers_by text 
 connected_is None body = refl
 connected_is (Some text) body = refl
 
-pub reported : (cfg : First) (client server body text : List ℕ) (one : One) (report : Report) → server ≡ server_text body
+pub reported : (cfg : Config) (client server body text : List ℕ) (one : One) (report : Report) → server ≡ server_text body
     → Session (meaning_of cfg) tt (closed client) (servers_by one.to_server server) (out_of_one one)
     → out_of report ≡ out_of_one one → text ≡ report_of (out_of report) → (IsUnbuilt cfg.limits client → ⊥) → Reports cfg client body text
 reported cfg client server body text one report is session made wrote served =

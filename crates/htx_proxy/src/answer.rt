@@ -1,52 +1,88 @@
-//! The report that a command's files ask for.
-ghost use Rattle.std.specs.Prelude.{◌≡◌, ◌≤◌, ◌⊎◌, ℕ, List, IfOk, IsErrOf};
-ghost use Rattle.px_link.specs.Told.{Reads, Rose};
-ghost use Rattle.first_config.specs.Form.{First, IsValid, seen};
+//! What a command's files come to.
+ghost use Rattle.std.specs.Prelude.{◌≡◌, ◌≢◌, ◌≤◌, ◌⊎◌, ℕ, List, Ok, Err, IfOk, IsErrOf};
+ghost use Rattle.px_link.specs.Told.{Rose};
+ghost use Rattle.http_rules.specs.Valid.{IsValid};
+ghost use Rattle.cfg_parse.specs.declared.fault.CfgKind.{CfgKind};
 ghost use Rattle.rec_format.specs.Record.{IsFirstRecord};
 ghost use Rattle.forward_core.specs.Unbuilt.{IsUnbuilt};
-ghost use Rattle.htx_proxy.specs.Replay.{Reports, IsReportOf, FilesUnbuilt};
+ghost use Rattle.htx_proxy.specs.Replay.{IfTold, Configured, Reports, IsCheckOf, IsReportOf, FilesUnbuilt};
 
-use crate::report::{MOST_CONFIG, config_of, replayed};
-use first_config::FirstConfig;
+use crate::lines::accepted_line;
+use crate::report::replayed;
+use cfg_parse::{CfgFault, CfgKind, Config, MAX_TEXT, load};
 use forward_core::ExchangeFault;
+use http_model::OutOfMemory;
 use px_link::{Bytes, Fault, Files};
 use rec_format::read_first_record;
 use std::alloc::Global;
 
 /// The most bytes of a record.
-const MOST_RECORD: usize = 67108864;
+const MAX_RECORD: usize = 67108864;
 
-/// Why there is no report.
+/// Why there is no answer.
 #[derive(Clone, Copy, Debug, PartialEq, Eq)]
 pub enum Stop {
-    FileFault,
+    /// The file of the configuration could not be read.
+    ConfigFile,
+    /// The file of the record could not be read.
+    RecordFile,
+    /// The configuration is refused at this line.
+    Refused { line: u32, kind: CfgKind },
     Unbuilt,
     OutOfMemory,
 }
 
-/// A file's first bytes.
-fn read<F: Files>(alloc: Global, files: &mut F, name: &str, limit: usize) -> Result<Bytes, Stop>
-    ensures bytes { IfOk result (Reads (F.files files.old) name.now limit) }
+/// The configuration that a file says.
+fn configuration<F: Files>(alloc: Global, files: &mut F, name: &str) -> Result<Config, Stop>
+    ensures accepted { IfOk result (λ cfg. IfTold (F.files files.old) (λ fs. Configured fs name.now (Ok cfg))) }
+    ensures valid { IfOk result IsValid }
+    ensures refused { (line : ℕ) (kind : CfgKind) → IsErrOf result (Stop.Refused line kind)
+        → IfTold (F.files files.old) (λ fs. Configured fs name.now (Err (line, kind))) }
     ensures files { F.files files.new ≡ F.files files.old }
     ensures grows { F.faults files.old ≤ F.faults files.new }
-    ensures fault { IsErrOf result Stop.FileFault → Rose (F.faults files.old) (F.faults files.new) }
-    ensures name { IsErrOf result Stop.FileFault → F.last_failed files.new ≡ name.now }
-    ensures built { IsErrOf result Stop.Unbuilt → ⊥ }
+    ensures fault { IsErrOf result Stop.ConfigFile → Rose (F.faults files.old) (F.faults files.new) }
+    ensures name { IsErrOf result Stop.ConfigFile → F.last_failed files.new ≡ name.now }
+    ensures built { (result ≢ Err Stop.Unbuilt) × (result ≢ Err Stop.RecordFile) }
 {
-    match files.read_file(alloc, name, limit) {
-        Ok(bytes) => Ok(bytes),
-        Err(Fault::Failed) => Err(Stop::FileFault),
-        Err(Fault::OutOfMemory) => Err(Stop::OutOfMemory),
+    let text = match files.read_file(alloc, name, MAX_TEXT + 1) {
+        Ok(text) => text,
+        Err(Fault::Failed) => return Err(Stop::ConfigFile),
+        Err(Fault::OutOfMemory) => return Err(Stop::OutOfMemory),
+    };
+    match load(alloc, text.as_slice()) {
+        Ok(cfg) => Ok(cfg),
+        Err(CfgFault::Refused { line, kind }) => Err(Stop::Refused { line, kind }),
+        Err(CfgFault::OutOfMemory) => Err(Stop::OutOfMemory),
+    }
+}
+
+/// The line of `check` for an accepted configuration.
+pub fn checked<F: Files>(alloc: Global, files: &mut F, cfg_name: &str) -> Result<Bytes, Stop>
+    ensures line { IfOk result (IsCheckOf (F.files files.old) cfg_name.now) }
+    ensures refused { (line : ℕ) (kind : CfgKind) → IsErrOf result (Stop.Refused line kind)
+        → IfTold (F.files files.old) (λ fs. Configured fs cfg_name.now (Err (line, kind))) }
+    ensures fault { IsErrOf result Stop.ConfigFile → Rose (F.faults files.old) (F.faults files.new) }
+    ensures name { IsErrOf result Stop.ConfigFile → F.last_failed files.new ≡ cfg_name.now }
+    ensures built { (result ≢ Err Stop.Unbuilt) × (result ≢ Err Stop.RecordFile) }
+{
+    let cfg = match configuration(alloc, files, cfg_name) {
+        Ok(cfg) => cfg,
+        Err(stop) => return Err(stop),
+    };
+    match accepted_line(alloc, cfg.request.len()) {
+        Ok(line) => Ok(line),
+        Err(OutOfMemory) => Err(Stop::OutOfMemory),
     }
 }
 
 /// The report of what a configuration makes of the record that a text says.
-fn report_by(alloc: Global, cfg: &FirstConfig<'_>, text: &[u8]) -> Result<Bytes, Stop>
-    requires { IsValid (seen cfg.now) }
-    ensures report { IfOk result (λ report. (client : List ℕ) × (body : List ℕ) × IsFirstRecord text.now client body × Reports (seen cfg.now) client body report) }
+fn report_by(alloc: Global, cfg: &Config, text: &[u8]) -> Result<Bytes, Stop>
+    requires { IsValid cfg.now }
+    ensures report { IfOk result (λ report. (client : List ℕ) × (body : List ℕ) × IsFirstRecord text.now client body × Reports cfg.now client body report) }
     ensures unbuilt { IsErrOf result Stop.Unbuilt → ((client body : List ℕ) → IsFirstRecord text.now client body → ⊥)
         ⊎ ((client : List ℕ) × (body : List ℕ) × IsFirstRecord text.now client body × IsUnbuilt cfg.now.limits client) }
-    ensures read { IsErrOf result Stop.FileFault → ⊥ }
+    ensures read { (result ≢ Err Stop.ConfigFile) × (result ≢ Err Stop.RecordFile) }
+    ensures accepted { (line : ℕ) (kind : CfgKind) → IsErrOf result (Stop.Refused line kind) → ⊥ }
 {
     let Some(record) = read_first_record(text) else {
         return Err(Stop::Unbuilt);
@@ -67,20 +103,22 @@ pub fn answer<F: Files>(
     rec_name: &str,
 ) -> Result<Bytes, Stop>
     ensures report { IfOk result (IsReportOf (F.files files.old) cfg_name.now rec_name.now) }
-    ensures fault { IsErrOf result Stop.FileFault → Rose (F.faults files.old) (F.faults files.new) }
-    ensures name { IsErrOf result Stop.FileFault → (F.last_failed files.new ≡ cfg_name.now) ⊎ (F.last_failed files.new ≡ rec_name.now) }
+    ensures refused { (line : ℕ) (kind : CfgKind) → IsErrOf result (Stop.Refused line kind)
+        → IfTold (F.files files.old) (λ fs. Configured fs cfg_name.now (Err (line, kind))) }
+    ensures config_fault { IsErrOf result Stop.ConfigFile → Rose (F.faults files.old) (F.faults files.new) }
+    ensures config_name { IsErrOf result Stop.ConfigFile → F.last_failed files.new ≡ cfg_name.now }
+    ensures record_fault { IsErrOf result Stop.RecordFile → Rose (F.faults files.old) (F.faults files.new) }
+    ensures record_name { IsErrOf result Stop.RecordFile → F.last_failed files.new ≡ rec_name.now }
     ensures unbuilt { IsErrOf result Stop.Unbuilt → FilesUnbuilt (F.files files.old) cfg_name.now rec_name.now }
 {
-    let cfg_text = match read(alloc, files, cfg_name, MOST_CONFIG + 1) {
-        Ok(text) => text,
+    let cfg = match configuration(alloc, files, cfg_name) {
+        Ok(cfg) => cfg,
         Err(stop) => return Err(stop),
     };
-    let Some(cfg) = config_of(cfg_text.as_slice()) else {
-        return Err(Stop::Unbuilt);
-    };
-    let rec_text = match read(alloc, files, rec_name, MOST_RECORD + 1) {
+    let rec_text = match files.read_file(alloc, rec_name, MAX_RECORD + 1) {
         Ok(text) => text,
-        Err(stop) => return Err(stop),
+        Err(Fault::Failed) => return Err(Stop::RecordFile),
+        Err(Fault::OutOfMemory) => return Err(Stop::OutOfMemory),
     };
     report_by(alloc, &cfg, rec_text.as_slice())
 }

@@ -4,7 +4,11 @@
 mod answer;
 mod command;
 mod edges;
+mod help;
+mod lines;
+mod reply;
 mod report;
+mod status;
 #[cfg(test)]
 mod tests;
 mod top;

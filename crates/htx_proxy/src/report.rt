@@ -1,34 +1,19 @@
 //! What `replay` makes of a configuration and a record.
 ghost use Rattle.std.specs.Prelude.{◌≡◌, ◌≤◌, ◌+◌, ◌<◌, ℕ, List, length, take, IfOk, IfSome, IfNone, OnOk, IsErrOf, Some};
-ghost use Rattle.first_config.specs.Form.{First, IsValid, seen};
+ghost use Rattle.http_rules.specs.Valid.{IsValid};
 ghost use Rattle.rec_format.specs.Record.{server_text};
 ghost use Rattle.forward_core.specs.Unbuilt.{IsUnbuilt};
 ghost use Rattle.http_model.specs.declared.Close.TheVariants as close;
 ghost use Rattle.rec_format.specs.ReportParts.{out_of, sent_of};
 ghost use Rattle.forward_core.specs.Out.{out_of_one};
-ghost use Rattle.htx_proxy.specs.Replay.{IsFirstConfig, Reports};
+ghost use Rattle.htx_proxy.specs.Replay.{Reports};
 
-use first_config::{FirstConfig, read_first_config};
+use cfg_parse::Config;
 use forward_core::{ExchangeFault, One, one_exchange};
 use http_model::OutOfMemory;
 use px_link::{Bytes, Close};
 use rec_format::{FirstRecord, Report, Sent, write_report};
 use std::alloc::{AllocError, Global};
-
-/// The most bytes of a configuration.
-pub const MOST_CONFIG: usize = 1048576;
-
-/// The configuration that a text says, where it is in the first form.
-pub fn config_of(text: &[u8]) -> Option<FirstConfig<'_>>
-    ensures some { IfSome result (λ cfg. IsFirstConfig text.now (seen cfg)) }
-    ensures none { IfNone result ((cfg : First) → IsFirstConfig text.now cfg → ⊥) }
-    ensures valid { IfSome result (λ cfg. IsValid (seen cfg)) }
-{
-    if text.len() > MOST_CONFIG {
-        return None;
-    }
-    read_first_config(text)
-}
 
 /// One link that was closed in order.
 fn clean(bytes: Bytes) -> Sent
@@ -65,13 +50,13 @@ fn report_of(alloc: Global, one: One) -> Result<Report, OutOfMemory>
 /// The report of the session that a record holds.
 pub fn replayed(
     alloc: Global,
-    cfg: &FirstConfig<'_>,
+    cfg: &Config,
     recorded: &FirstRecord<'_>,
 ) -> Result<Bytes, ExchangeFault>
-    requires valid { IsValid (seen cfg.now) }
+    requires valid { IsValid cfg.now }
     requires server { recorded.now.server.now ≡ server_text recorded.now.body.now }
     requires body { length recorded.now.body.now ≤ 65536 }
-    ensures reports { IfOk result (Reports (seen cfg.now) recorded.now.client.now recorded.now.body.now) }
+    ensures reports { IfOk result (Reports cfg.now recorded.now.client.now recorded.now.body.now) }
     ensures unbuilt { IsErrOf result ExchangeFault.Unbuilt → IsUnbuilt cfg.now.limits recorded.now.client.now }
 {
     let one = one_exchange(alloc, cfg, recorded.client, recorded.server)?;

@@ -1,0 +1,29 @@
+-- The lines that the program writes itself.
+use Rattle.std.specs.Prelude.{ℕ, List, ◌++◌, codes, decimal}
+use Rattle.cfg_parse.specs.declared.fault.CfgKind.{CfgKind}
+use Rattle.cfg_parse.specs.declared.fault.CfgKind.TheVariants.{Word, Section, Keyword, Argument, Expr, Acl, Pattern, FramingName, Limit, Missing, Unbuilt}
+
+abbrev pub kind_name : CfgKind → List ℕ
+kind_name Word = codes "Word"
+kind_name Section = codes "Section"
+kind_name Keyword = codes "Keyword"
+kind_name Argument = codes "Argument"
+kind_name Expr = codes "Expr"
+kind_name Acl = codes "Acl"
+kind_name Pattern = codes "Pattern"
+kind_name FramingName = codes "FramingName"
+kind_name Limit = codes "Limit"
+kind_name Missing = codes "Missing"
+kind_name Unbuilt = codes "Unbuilt"
+
+-- a configuration with so many request rules is accepted
+unfoldable pub accepted_line : ℕ → List ℕ
+accepted_line rules = codes "config ok: request rules " ++ decimal rules ++ codes ", response rules 0, filters 0\n"
+
+-- a configuration is refused at this line
+unfoldable pub refused_line : ℕ → CfgKind → List ℕ
+refused_line line kind = codes "config: line " ++ decimal line ++ codes ": " ++ kind_name kind ++ codes "\n"
+
+-- the file of this name could not be read
+unfoldable pub file_line : List ℕ → List ℕ
+file_line name = codes "file: " ++ name ++ codes "\n"

@@ -1,0 +1,17 @@
+/// How the program ended. The process ends with the number.
+#[derive(Clone, Copy, Debug, PartialEq, Eq)]
+pub enum Status {
+    /// The command did what it was asked to.
+    Good = 0,
+    /// The words are no command.
+    Usage = 1,
+    /// The configuration is refused.
+    Config = 2,
+    /// A file could not be read.
+    FileFault = 4,
+    /// The output could not be written.
+    OutFault = 5,
+    OutOfMemory = 7,
+    /// The command, or what its files say, isn't built yet. Nothing is written.
+    Unbuilt = 8,
+}
