@@ -56,9 +56,10 @@ pub serve_words : (ws : List (String Global)) (a b d : String Global) (result : 
     → string_bytes a ≡ codes "serve" → IsFileWord (string_bytes b) → (IsTrue result → IsNumber 1 1000000 (string_bytes d)) → (IsNumber 1 1000000 (string_bytes d) → IsTrue result)
     → (IsTrue result → IsLater (map string_bytes ws)) × (IsLater (map string_bytes ws) → IsTrue result)
 serve_words ws a b d result least most p q r verb file to from =
-    let is : ws ≡ a ∷ b ∷ d ∷ [] = three ws a b d least most p q r in
-    (λ t. subst (λ (l : List (String Global)). IsLater (map string_bytes l)) (sym is) (inl (verb, file, to t)),
-    λ later. by (subst (λ (l : List (String Global)). IsLater (map string_bytes l)) is later))
+    let is : ws ≡ a ∷ b ∷ d ∷ [] = three ws a b d least most p q r in (
+      λ t. subst (λ (l : List (String Global)). IsLater (map string_bytes l)) (sym is) (inl (verb, file, to t)),
+      λ later. by (subst (λ (l : List (String Global)). IsLater (map string_bytes l)) is later),
+    )
   where
     by : IsLater (map string_bytes (a ∷ b ∷ d ∷ [])) → IsTrue result
     by (inl serve) = from serve.2
@@ -69,9 +70,10 @@ pub drill_words : (ws : List (String Global)) (a b d : String Global) (result : 
     → string_bytes a ≡ codes "drill" → IsNumber 0 2147483647 (string_bytes b) → (IsTrue result → IsNumber 0 4000 (string_bytes d)) → (IsNumber 0 4000 (string_bytes d) → IsTrue result)
     → (IsTrue result → IsLater (map string_bytes ws)) × (IsLater (map string_bytes ws) → IsTrue result)
 drill_words ws a b d result least most p q r verb seed to from =
-    let is : ws ≡ a ∷ b ∷ d ∷ [] = three ws a b d least most p q r in
-    (λ t. subst (λ (l : List (String Global)). IsLater (map string_bytes l)) (sym is) (inr (verb, seed, to t)),
-    λ later. by (subst (λ (l : List (String Global)). IsLater (map string_bytes l)) is later))
+    let is : ws ≡ a ∷ b ∷ d ∷ [] = three ws a b d least most p q r in (
+      λ t. subst (λ (l : List (String Global)). IsLater (map string_bytes l)) (sym is) (inr (verb, seed, to t)),
+      λ later. by (subst (λ (l : List (String Global)). IsLater (map string_bytes l)) is later),
+    )
   where
     by : IsLater (map string_bytes (a ∷ b ∷ d ∷ [])) → IsTrue result
     by (inr drill) = from drill.2
