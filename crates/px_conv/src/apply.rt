@@ -9,7 +9,8 @@ use std::alloc::Global;
 
 /// What a converter makes of a sample, whose bytes stand in `buf` and stand there again afterwards. A result of
 /// more bytes than the buffer holds is absent, and so is what is made of a sample that is absent or can't be cast.
-/// `spare` has the buffer's size; what it holds afterwards is left open.
+/// `spare` has the buffer's size; what it holds afterwards is left open. `regsub` alone takes memory, and where none
+/// is left, what the buffers hold is left open.
 pub fn convert(
     alloc: Global,
     conv: &Conv,

@@ -27,13 +27,7 @@ enum Left<'a> {
 }
 
 /// Puts in what is in front of the match, and the template in its place.
-fn put_front(
-    template: &[u8],
-    groups: &Groups,
-    from: usize,
-    text: &[u8],
-    into: &mut Buf,
-) -> bool
+fn put_front(template: &[u8], groups: &Groups, from: usize, text: &[u8], into: &mut Buf) -> bool
     requires inside { LieIn (length text.now) groups.now }
     requires from { from ≤ length text.now }
     ensures fits { IsTrue result ↔ (length into.old.bytes + length (take from text.now ++ expanded groups.now text.now template.now) ≤ into.old.cap) }

@@ -57,7 +57,13 @@ fn replaces(rt: HostRuntime) -> Result<(), Fail> {
         (b"x?", b"-", true, b"axb", b"-a--b-"),
         (b"\\bab", b"X", true, b"abab", b"XX"),
         (b"", b"X", true, b"\xC3\xA9", b"X\xC3X\xA9X"),
-        (b"\xC3\xA9", b"\xFF", true, b"\xC3\xA9a\xC3\xA9", b"\xFFa\xFF"),
+        (
+            b"\xC3\xA9",
+            b"\xFF",
+            true,
+            b"\xC3\xA9a\xC3\xA9",
+            b"\xFFa\xFF",
+        ),
         (b".", b"X", true, b"\xFFa", b"\xFFX"),
         (b"(?-u:.)", b"X", true, b"\xFFa", b"XX"),
         (b"\\x00", b"\x00\x00", false, b"a\x00b", b"a\x00\x00b"),
@@ -65,7 +71,11 @@ fn replaces(rt: HostRuntime) -> Result<(), Fail> {
     for (pattern, template, all, text, result) in cases {
         let made = made(rt.alloc(), (pattern, template, all), Sample::InBuf, text)?;
         let made = made.ok_or("absent")?;
-        assert_eq!(rt; made.bytes(), result, "{pattern:?} to {template:?} in {text:?}, all: {all}");
+        assert_eq!(rt;
+            made.bytes(),
+            result,
+            "{pattern:?} to {template:?} in {text:?}, all: {all}"
+        );
     }
     Ok(())
 }
