@@ -1,5 +1,5 @@
 -- What one step leaves, put together from its parts.
-use Rattle.std.proofs.Common.{inl, inr, ◌≡◌, ℕ, ◌+◌, ◌-◌, ◌<◌, ◌≤◌, Bool, eqb, leb, List, ◌++◌, length, take, drop, Option, Some, None, refl, ap, ap₂, sym, subst, ◌∙◌, arith, append_assoc, length-append, length-drop}
+use Rattle.std.proofs.Common.{inl, inr, ◌≡◌, ℕ, ◌+◌, ◌-◌, ◌<◌, ◌≤◌, Bool, eqb, leb, List, ◌++◌, length, take, drop, Option, Some, None, ap, ap₂, sym, subst, ◌∙◌, arith, append_assoc, length-append, length-drop}
 use Rattle.std.proofs.lemmas.Bool.{cases_eq, eq-eqb, ne_eqb, le-leb, lt-leb, cond-true, cond-false}
 use Rattle.std.proofs.lemmas.List.{take_all}
 use Rattle.std.proofs.lemmas.Option.{same_Some}
@@ -10,7 +10,7 @@ use Rattle.px_sample.specs.Buffer.{Buffer}
 use Rattle.px_sample.specs.Sample.{Value, Bytes, within}
 use Rattle.px_conv.specs.Template.{expanded}
 use Rattle.px_conv.specs.Regsub.{groups_of, behind, replaced, one_step, regsub}
-use Rattle.px_conv.specs.Replacing.{Came, IsBelow}
+use Rattle.px_conv.specs.Replacing.{Came}
 use Rattle.px_conv.specs.declared.regsub.Left.{Left}
 use Rattle.px_conv.specs.declared.regsub.Left.TheVariants as lefts
 use Rattle.px_conv.proofs.RegsubLemmas.{expanded_of_match, found_within, regsub_law}

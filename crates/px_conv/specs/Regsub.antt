@@ -1,5 +1,5 @@
 -- The converter `regsub`: matches of a pattern replaced by a template (Configuration Manual, section 7.3.1).
-use Rattle.std.specs.Prelude.{ℕ, zero, suc, ◌+◌, ◌==◌, Bool, true, false, List, [], ◌∷◌, ◌++◌, map, length, take, drop, Option, Some, None, option_map, if◌then◌else◌}
+use Rattle.std.specs.Prelude.{ℕ, zero, suc, ◌+◌, ◌==◌, Bool, true, false, List, [], ◌∷◌, ◌++◌, map, length, take, drop, Option, Some, None, option_map}
 use Rattle.std.specs.List.{range_with_len}
 use Rattle.regex.specs.Patterns.{Re, Match, find}
 use Rattle.px_pattern.specs.Groups.{span_between, group_of_match}

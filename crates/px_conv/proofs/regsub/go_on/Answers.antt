@@ -1,5 +1,4 @@
-use Rattle.std.proofs.Common.{◌≡◌, List, ℕ, length, true, false, rules, sym, subst, arith}
-use Rattle.std.proofs.lemmas.Bool.{eqb-true}
+use Rattle.std.proofs.Common.{◌≡◌, List, ℕ, length, true, false, rules, sym, subst}
 use Rattle.px_conv.specs.Replacing.{Came}
 use Rattle.px_conv.proofs.RegsubLemmas.{behind_first, behind_end}
 use Rattle.px_conv.proofs.regsub.go_on.Goals as goal
