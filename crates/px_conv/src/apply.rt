@@ -3,6 +3,7 @@ ghost use Rattle.px_sample.specs.Sample.{value_in};
 ghost use Rattle.px_conv.specs.Conv.{converted};
 
 use crate::conv::Conv;
+use crate::fields::{self, Kind};
 use crate::{bytes, number, truth};
 use px_sample::{Buf, OutOfMemory, Sample, number_in, truth_in};
 use std::alloc::Global;
@@ -32,6 +33,22 @@ pub fn convert(
             sample,
             bytes::count_of(*from),
             bytes::count_of(*len),
+            buf,
+        ),
+        Conv::Field(index, separators, n) => fields::part(
+            Kind::Field,
+            sample,
+            *index,
+            separators.as_slice(),
+            bytes::count_of(*n),
+            buf,
+        ),
+        Conv::Word(index, separators, n) => fields::part(
+            Kind::Word,
+            sample,
+            *index,
+            separators.as_slice(),
+            bytes::count_of(*n),
             buf,
         ),
         Conv::Iif(yes, no) => truth::choose(truth_in(sample, buf), yes, no, buf),

@@ -11,6 +11,11 @@ pub enum Conv {
     Length,
     /// `bytes(offset[,length])`: bytes from an offset on, at most so many.
     Bytes(i64, Option<i64>),
+    /// `field(index,separators[,count])`: fields between bytes of these, at most so many, or all that are left for 0;
+    /// an index below 0 counts from the back, and so do the fields behind it.
+    Field(i64, Text, i64),
+    /// `word(index,separators[,count])`: the same of the fields that aren't empty.
+    Word(i64, Text, i64),
     /// `iif(true,false)`: the first text where the sample is true, else the second.
     Iif(Text, Text),
     /// `add(number)`, which stays within 64 bits, as the next three do.
