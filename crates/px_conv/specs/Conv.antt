@@ -13,9 +13,9 @@ use Rattle.px_conv.specs.declared.conv.Conv.TheVariants as convs
 abbrev pub of_bytes : ℕ → (List ℕ → Value) → Value → Option Value
 of_bytes cap f v = if nat_le (length (text_of v)) cap then Some (f (text_of v)) else None
 
--- a converter of bytes that may give nothing
-abbrev pub of_bytes_or_none : ℕ → (List ℕ → Option Value) → Value → Option Value
-of_bytes_or_none cap f v = if nat_le (length (text_of v)) cap then f (text_of v) else None
+-- a converter of bytes to bytes that may give none, and never more than it was given
+abbrev pub of_bytes_or_none : ℕ → (List ℕ → Option (List ℕ)) → Value → Option Value
+of_bytes_or_none cap f v = if nat_le (length (text_of v)) cap then option_map Bytes (f (text_of v)) else None
 
 -- a converter of numbers
 abbrev pub of_number : (ℤ → ℤ) → Option ℤ → Option Value
@@ -55,8 +55,8 @@ converted_value cap convs.Lower v = of_bytes cap (λ bytes. Bytes (str_to_ascii_
 converted_value cap convs.Upper v = of_bytes cap (λ bytes. Bytes (str_to_ascii_uppercase bytes)) v
 converted_value cap convs.Length v = of_bytes cap (λ bytes. Number (pos (length bytes))) v
 converted_value cap (convs.Bytes from len) v = of_bytes cap (λ bytes. Bytes (part from len bytes)) v
-converted_value cap (convs.Field index separators n) v = of_bytes_or_none cap (λ bytes. option_map Bytes (field index separators (count n) bytes)) v
-converted_value cap (convs.Word index separators n) v = of_bytes_or_none cap (λ bytes. option_map Bytes (word index separators (count n) bytes)) v
+converted_value cap (convs.Field index separators n) v = of_bytes_or_none cap (field index separators (count n)) v
+converted_value cap (convs.Word index separators n) v = of_bytes_or_none cap (word index separators (count n)) v
 converted_value cap (convs.Iif yes' no') v = of_truth (λ b. bounded cap (Bytes (if b then yes' else no'))) (truth_of v)
 converted_value cap (convs.Add n) v = of_number (λ x. saturated (x +ℤ n)) (number_of v)
 converted_value cap (convs.Sub n) v = of_number (λ x. saturated (x -ℤ n)) (number_of v)

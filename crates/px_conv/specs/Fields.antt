@@ -55,11 +55,11 @@ abbrev pub part : Kind → ℤ → List ℕ → ℕ → List ℕ → Option (Lis
 part kind index separators n text = option_map (bytes_at text) (whole (chosen index n (parts kind separators text)))
 
 -- the converter `field`
-abbrev pub field : ℤ → List ℕ → ℕ → List ℕ → Option (List ℕ)
+unfoldable pub field : ℤ → List ℕ → ℕ → List ℕ → Option (List ℕ)
 field index separators n text = part kinds.Field index separators n text
 
 -- the converter `word`
-abbrev pub word : ℤ → List ℕ → ℕ → List ℕ → Option (List ℕ)
+unfoldable pub word : ℤ → List ℕ → ℕ → List ℕ → Option (List ℕ)
 word index separators n text = part kinds.Word index separators n text
 
 -- a row of parts is these of all of them; no row is none

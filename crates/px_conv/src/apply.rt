@@ -3,8 +3,7 @@ ghost use Rattle.px_sample.specs.Sample.{value_in};
 ghost use Rattle.px_conv.specs.Conv.{converted};
 
 use crate::conv::Conv;
-use crate::fields::{self, Kind};
-use crate::{bytes, number, truth};
+use crate::{bytes, fields, number, truth};
 use px_sample::{Buf, OutOfMemory, Sample, number_in, truth_in};
 use std::alloc::Global;
 
@@ -35,22 +34,8 @@ pub fn convert(
             bytes::count_of(*len),
             buf,
         ),
-        Conv::Field(index, separators, n) => fields::part(
-            Kind::Field,
-            sample,
-            *index,
-            separators.as_slice(),
-            bytes::count_of(*n),
-            buf,
-        ),
-        Conv::Word(index, separators, n) => fields::part(
-            Kind::Word,
-            sample,
-            *index,
-            separators.as_slice(),
-            bytes::count_of(*n),
-            buf,
-        ),
+        Conv::Field(index, separators, n) => fields::field(sample, *index, separators, *n, buf),
+        Conv::Word(index, separators, n) => fields::word(sample, *index, separators, *n, buf),
         Conv::Iif(yes, no) => truth::choose(truth_in(sample, buf), yes, no, buf),
         Conv::Add(n) => number::add(number_in(sample, buf), *n),
         Conv::Sub(n) => number::sub(number_in(sample, buf), *n),

@@ -1,19 +1,20 @@
 //! The converters `field` and `word`: parts of a text between separators (Configuration Manual, section 7.3.1).
-ghost use Rattle.std.specs.Prelude.{◌≡◌, ◌+◌, ◌-◌, ◌<◌, ◌≤◌, ℕ, List, length, drop, reverse, slice_get, unsigned_abs, option_map, option_and_then, if◌then◌else◌};
-ghost use Rattle.px_sample.specs.Sample.{Bytes, value_in};
-ghost use Rattle.px_conv.specs.Conv.{of_bytes_or_none};
-ghost use Rattle.px_conv.specs.Fields.{separates, counts, parts, at_most, chosen, whole, part, IsRow};
+ghost use Rattle.std.specs.Prelude.{◌≡◌, ◌+◌, ◌-◌, ◌<◌, ◌≤◌, ℕ, List, length, drop, reverse, slice_get, unsigned_abs, IfSome, option_and_then};
+ghost use Rattle.px_sample.specs.Sample.{value_in};
+ghost use Rattle.px_conv.specs.Conv.{of_bytes_or_none, count};
+ghost use Rattle.px_conv.specs.Fields.{separates, counts, parts, at_most, chosen, whole, part, field, word, IsRow};
 
-use px_sample::{Buf, Sample, into_text};
+use crate::bytes::count_of;
+use px_sample::{Buf, Sample, Text, into_text};
 
-/// Where a part lies: from its first byte to before its last.
+/// Where a part lies: its bytes begin at `from` and end before `to`.
 #[derive(Clone, Copy, Debug)]
 pub struct Extent {
     pub from: usize,
     pub to: usize,
 }
 
-/// Which fields an index counts: all, or those that have bytes.
+/// The parts that an index counts: all fields, or those that have bytes.
 #[derive(Clone, Copy, Debug)]
 pub enum Kind {
     Field,
@@ -94,7 +95,8 @@ fn part_after(kind: Kind, separators: &[u8], text: &[u8], skipped: usize) -> Opt
 
 /// The row of at most `n` parts behind those that are skipped, or of all that are left for 0.
 fn row_behind(skipped: usize, n: usize, total: usize) -> Option<Row>
-    ensures { (all : List Extent) → length all ≡ total → IsRow all (at_most n (drop skipped all)) result }
+    ensures row { (all : List Extent) → length all ≡ total → IsRow all (at_most n (drop skipped all)) result }
+    ensures within { IfSome result (λ row. row.first + row.len ≤ total) }
 {
     if skipped >= total {
         return None;
@@ -113,7 +115,7 @@ fn row_before(skipped: usize, n: usize, total: usize) -> Option<Row>
 {
     let row = row_behind(skipped, n, total)?;
     Some(Row {
-        first: total - skipped - row.len,
+        first: total - (row.first + row.len),
         len: row.len,
     })
 }
@@ -148,7 +150,7 @@ fn extent_of(kind: Kind, index: i64, separators: &[u8], n: usize, text: &[u8]) -
 
 /// The bytes of the parts at an index, at most `n` of them or all that are left for 0, with what separates them.
 /// Absent where there is no such part.
-pub fn part(
+fn part(
     kind: Kind,
     sample: Sample,
     index: i64,
@@ -156,7 +158,7 @@ pub fn part(
     n: usize,
     buf: &mut Buf,
 ) -> Sample
-    ensures value { value_in result buf.new.bytes ≡ option_and_then (of_bytes_or_none buf.old.cap (λ bytes. option_map Bytes (part kind index separators.now n bytes))) (value_in sample buf.old.bytes) }
+    ensures value { value_in result buf.new.bytes ≡ option_and_then (of_bytes_or_none buf.old.cap (part kind index separators.now n)) (value_in sample buf.old.bytes) }
     ensures cap { buf.new.cap ≡ buf.old.cap }
 {
     if into_text(sample, buf) != Sample::InBuf {
@@ -167,4 +169,34 @@ pub fn part(
     };
     buf.keep(extent.from, extent.to.saturating_sub(extent.from));
     Sample::InBuf
+}
+
+#[tactic(auto, unfolding(crate::specs::Fields::field))]
+pub fn field(sample: Sample, index: i64, separators: &Text, n: i64, buf: &mut Buf) -> Sample
+    ensures value { value_in result buf.new.bytes ≡ option_and_then (of_bytes_or_none buf.old.cap (field index separators.now (count n))) (value_in sample buf.old.bytes) }
+    ensures cap { buf.new.cap ≡ buf.old.cap }
+{
+    part(
+        Kind::Field,
+        sample,
+        index,
+        separators.as_slice(),
+        count_of(n),
+        buf,
+    )
+}
+
+#[tactic(auto, unfolding(crate::specs::Fields::word))]
+pub fn word(sample: Sample, index: i64, separators: &Text, n: i64, buf: &mut Buf) -> Sample
+    ensures value { value_in result buf.new.bytes ≡ option_and_then (of_bytes_or_none buf.old.cap (word index separators.now (count n))) (value_in sample buf.old.bytes) }
+    ensures cap { buf.new.cap ≡ buf.old.cap }
+{
+    part(
+        Kind::Word,
+        sample,
+        index,
+        separators.as_slice(),
+        count_of(n),
+        buf,
+    )
 }
