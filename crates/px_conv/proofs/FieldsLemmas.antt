@@ -1,5 +1,5 @@
 -- Rows of parts: one that is counted from the back, and what one spans.
-use Rattle.std.proofs.Common.{◌≡◌, ℕ, zero, suc, ◌+◌, ◌-◌, ◌<◌, ◌≤◌, List, [], ◌∷◌, length, take, drop, reverse, get_or, slice_get, Option, Some, None, refl, ap, sym, ◌∙◌, arith}
+use Rattle.std.proofs.Common.{◌≡◌, ℕ, zero, suc, ◌+◌, ◌-◌, ◌<◌, ◌≤◌, List, [], ◌∷◌, length, take, drop, reverse, get_or, slice_get, Some, ap, sym, ◌∙◌, arith}
 use Rattle.std.proofs.lemmas.List.{same_lists, length-take, length-drop, length-reverse, get_or-take, get_or-drop, get_or-reverse}
 use Rattle.px_conv.specs.declared.fields.Extent.{Extent}
 use Rattle.px_conv.specs.Fields.{end_of, whole}
