@@ -4,6 +4,7 @@
 mod apply;
 mod bytes;
 mod conv;
+mod fields;
 mod number;
 mod regsub;
 #[cfg(test)]
