@@ -1,2 +1,3 @@
 pub mod Template
 pub mod Conv
+pub mod Encode

@@ -29,4 +29,10 @@ pub enum Conv {
     Not,
     /// `bool`: the truth value.
     Bool,
+    /// `base64`: the standard alphabet with padding (RFC 4648, section 4).
+    Base64,
+    /// `hex`: two hexadecimal digits a byte, in upper case.
+    Hex,
+    /// `url_dec`: escapes of `%` and two digits decoded; anything else stays.
+    UrlDec,
 }
