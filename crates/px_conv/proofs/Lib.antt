@@ -1,1 +1,2 @@
 pub mod TemplateLemmas
+pub mod EncodeLemmas

@@ -6,14 +6,14 @@ use Rattle.hex.specs.Hex.{encode_upper}
 use Rattle.percent_encoding.specs.Percent.{percent_decode}
 
 -- the standard alphabet, with padding (RFC 4648, section 4)
-abbrev pub base64_text : List ℕ → List ℕ
+unfoldable pub base64_text : List ℕ → List ℕ
 base64_text bytes = encode_of standard bytes
 
 -- two hexadecimal digits a byte, the high four bits first, letters in upper case
-abbrev pub hex_text : List ℕ → List ℕ
+unfoldable pub hex_text : List ℕ → List ℕ
 hex_text bytes = encode_upper bytes
 
 -- each `%` with two hexadecimal digits behind it is their byte, and all else stays, another `%` and each `+` too
 -- (URL Standard, section 1.3)
-abbrev pub url_decoded : List ℕ → List ℕ
+unfoldable pub url_decoded : List ℕ → List ℕ
 url_decoded bytes = percent_decode bytes

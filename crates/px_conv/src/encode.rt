@@ -23,7 +23,10 @@ fn write_base64(bytes: &[u8], into: &mut Buf) -> bool
     let Some(len) = encoded_len(bytes.len(), true) else {
         return false;
     };
-    into.resize(len) && STANDARD.encode_slice(bytes, into.bytes_mut()).is_ok()
+    if !into.resize(len) {
+        return false;
+    }
+    STANDARD.encode_slice(bytes, into.bytes_mut()).is_ok()
 }
 
 /// Writes the hexadecimal digits of some bytes over what a buffer holds: false where they don't fit.
@@ -44,6 +47,7 @@ fn write_hex(bytes: &[u8], into: &mut Buf) -> bool
 }
 
 /// Writes what the escapes of some bytes stand for over what a buffer holds: false where it doesn't fit.
+#[tactic(auto, unfolding(crate::specs::Encode::url_decoded))]
 fn write_decoded(bytes: &[u8], into: &mut Buf) -> bool
     ensures fits { IsTrue result ↔ (length (url_decoded bytes.now) ≤ into.old.cap) }
     ensures written { OnTrue result (into.new.bytes ≡ url_decoded bytes.now) }
@@ -58,39 +62,51 @@ fn write_decoded(bytes: &[u8], into: &mut Buf) -> bool
     true
 }
 
+#[tactic(auto, using(crate::proofs::EncodeLemmas::anew))]
 pub fn base64(sample: Sample, buf: &mut Buf, spare: &mut Buf) -> Sample
     requires { spare.old.cap ≡ buf.old.cap }
     ensures value { value_in result buf.new.bytes ≡ option_and_then (of_bytes_anew buf.old.cap base64_text) (value_in sample buf.old.bytes) }
     ensures cap { buf.new.cap ≡ buf.old.cap }
     ensures spare_cap { spare.new.cap ≡ buf.old.cap }
 {
-    if !hold(sample, buf) || !write_base64(buf.bytes(), spare) {
+    if !hold(sample, buf) {
+        return Sample::Absent;
+    }
+    if !write_base64(buf.bytes(), spare) {
         return Sample::Absent;
     }
     mem::swap(buf, spare);
     Sample::InBuf
 }
 
+#[tactic(auto, using(crate::proofs::EncodeLemmas::anew))]
 pub fn hex(sample: Sample, buf: &mut Buf, spare: &mut Buf) -> Sample
     requires { spare.old.cap ≡ buf.old.cap }
     ensures value { value_in result buf.new.bytes ≡ option_and_then (of_bytes_anew buf.old.cap hex_text) (value_in sample buf.old.bytes) }
     ensures cap { buf.new.cap ≡ buf.old.cap }
     ensures spare_cap { spare.new.cap ≡ buf.old.cap }
 {
-    if !hold(sample, buf) || !write_hex(buf.bytes(), spare) {
+    if !hold(sample, buf) {
+        return Sample::Absent;
+    }
+    if !write_hex(buf.bytes(), spare) {
         return Sample::Absent;
     }
     mem::swap(buf, spare);
     Sample::InBuf
 }
 
+#[tactic(auto, using(crate::proofs::EncodeLemmas::anew))]
 pub fn url_dec(sample: Sample, buf: &mut Buf, spare: &mut Buf) -> Sample
     requires { spare.old.cap ≡ buf.old.cap }
     ensures value { value_in result buf.new.bytes ≡ option_and_then (of_bytes_anew buf.old.cap url_decoded) (value_in sample buf.old.bytes) }
     ensures cap { buf.new.cap ≡ buf.old.cap }
     ensures spare_cap { spare.new.cap ≡ buf.old.cap }
 {
-    if !hold(sample, buf) || !write_decoded(buf.bytes(), spare) {
+    if !hold(sample, buf) {
+        return Sample::Absent;
+    }
+    if !write_decoded(buf.bytes(), spare) {
         return Sample::Absent;
     }
     mem::swap(buf, spare);

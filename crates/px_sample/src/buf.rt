@@ -71,6 +71,7 @@ impl Buf {
     pub fn resize(&mut self, len: usize) -> bool
         ensures fits { IsTrue result ↔ (len ≤ self.old.cap) }
         ensures resized { OnTrue result (self.new.bytes ≡ take len self.old.bytes ++ replicate (len - length self.old.bytes) 0) }
+        ensures len { OnTrue result (length self.new.bytes ≡ len) }
         ensures unchanged { OnFalse result (self.new ≡ self.old) }
         ensures cap { self.new.cap ≡ self.old.cap }
     {
