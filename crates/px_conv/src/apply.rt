@@ -3,7 +3,7 @@ ghost use Rattle.px_sample.specs.Sample.{value_in};
 ghost use Rattle.px_conv.specs.Conv.{converted, has_pattern};
 
 use crate::conv::Conv;
-use crate::{bytes, fields, number, regsub, truth};
+use crate::{bytes, encode, fields, number, regsub, truth};
 use px_sample::{Buf, OutOfMemory, Sample, number_in, truth_in};
 use std::alloc::Global;
 
@@ -46,6 +46,9 @@ pub fn convert(
         Conv::Neg => number::neg(number_in(sample, buf)),
         Conv::Not => truth::negate(truth_in(sample, buf), buf),
         Conv::Bool => truth::sample_of(truth_in(sample, buf), buf),
+        Conv::Base64 => encode::base64(sample, buf, spare),
+        Conv::Hex => encode::hex(sample, buf, spare),
+        Conv::UrlDec => encode::url_dec(sample, buf, spare),
         Conv::Regsub(pat, template, all) => {
             regsub::substitute(alloc, pat, template.as_slice(), *all, sample, buf, spare)?
         }

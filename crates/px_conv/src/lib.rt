@@ -4,11 +4,10 @@
 mod apply;
 mod bytes;
 mod conv;
+mod encode;
 mod fields;
 mod number;
 mod regsub;
-#[cfg(test)]
-mod regsub_tests;
 mod template;
 #[cfg(test)]
 mod tests;

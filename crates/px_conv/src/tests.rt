@@ -1,7 +1,9 @@
 ghost use Rattle.std.specs.Prelude.{length, IfOk};
 ghost use Rattle.px_pattern.specs.Groups.{LieIn};
 
+mod encode;
 mod fields;
+mod regsub;
 
 use crate::{Buf, Conv, Groups, Sample, Text, convert, expand};
 use px_pattern::{Patterns, RealPatterns};
