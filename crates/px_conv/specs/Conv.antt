@@ -1,5 +1,5 @@
 -- What a converter makes of a sample (Configuration Manual, section 7.3.1).
-use Rattle.std.specs.Prelude.{ℕ, ℤ, pos, neg_ℤ, int_div, int_rem, ◌+ℤ◌, ◌-ℤ◌, ◌*ℤ◌, ◌-◌, ◌^◌, Bool, not, List, length, take, drop, nat_le, Option, Some, None, option_and_then, if◌then◌else◌}
+use Rattle.std.specs.Prelude.{ℕ, ℤ, pos, neg_ℤ, int_div, int_rem, ◌+ℤ◌, ◌-ℤ◌, ◌*ℤ◌, ◌-◌, ◌^◌, Bool, false, not, List, length, take, drop, nat_le, Option, Some, None, option_and_then, if◌then◌else◌}
 use Rattle.std.specs.Int.{w64, saturate_signed}
 use Rattle.std.specs.Ordering.{int_eq}
 use Rattle.std.specs.Str.{str_to_ascii_lowercase, str_to_ascii_uppercase}
@@ -64,3 +64,8 @@ converted_value cap convs.Bool v = of_truth (λ b. Some (Truth b)) (truth_of v)
 abbrev pub converted : ℕ → Conv → Option Value → Option Value
 converted cap conv None = None
 converted cap conv (Some v) = converted_value cap conv v
+
+-- the converter holds a pattern, and a search for it may want memory
+abbrev pub has_pattern : Conv → Bool
+has_pattern convs.Lower = false
+has_pattern _ = false

@@ -1,6 +1,6 @@
-ghost use Rattle.std.specs.Prelude.{◌≡◌, IsOk, IfOk};
+ghost use Rattle.std.specs.Prelude.{◌≡◌, false, IsOk, IfOk};
 ghost use Rattle.px_sample.specs.Sample.{value_in};
-ghost use Rattle.px_conv.specs.Conv.{converted};
+ghost use Rattle.px_conv.specs.Conv.{converted, has_pattern};
 
 use crate::conv::Conv;
 use crate::{bytes, number, truth};
@@ -19,7 +19,7 @@ pub fn convert(
 ) -> Result<Sample, OutOfMemory>
     requires { spare.old.cap ≡ buf.old.cap }
     ensures value { IfOk result (λ made. value_in made buf.new.bytes ≡ converted buf.old.cap conv.now (value_in sample buf.old.bytes)) }
-    ensures succeeds { IsOk result }
+    ensures succeeds { has_pattern conv.now ≡ false → IsOk result }
     ensures cap { buf.new.cap ≡ buf.old.cap }
     ensures spare_cap { spare.new.cap ≡ buf.old.cap }
 {
