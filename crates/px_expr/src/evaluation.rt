@@ -26,8 +26,8 @@ fn convert_all(
 {
     let mut made = first;
     for at in 0..convs.len() {
-        if made == Sample::Absent {
-            return Ok(made);
+        if let Sample::Absent = made {
+            return Ok(Sample::Absent);
         }
         made = convert(alloc, convs.get(at), made, buf, spare)?;
     }

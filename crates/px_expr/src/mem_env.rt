@@ -1,5 +1,5 @@
 //! An environment in memory, for tests of what stands on `Env`.
-ghost use Rattle.std.specs.Prelude.{◌≡◌, ◌<◌, ◌^◌, ◌∷◌, [], length, slice_get, option_map};
+ghost use Rattle.std.specs.Prelude.{◌≡◌, ◌<◌, ◌^◌, ◌∷◌, [], length, map, slice_get, option_map};
 ghost use Rattle.px_sample.specs.Sample.{value_in, within};
 ghost use Rattle.px_expr.specs.MemEnv.{value_of, samples_in};
 
@@ -50,6 +50,16 @@ fn hand(given: Given<'_>, into: &mut Buf) -> Sample
     }
 }
 
+/// The sample of this number of those that are handed in.
+fn nth_given<'b>(given: &[Given<'b>], nth: u32) -> Option<Given<'b>>
+    ensures { option_map value_of result ≡ slice_get (map value_of given.now) nth }
+{
+    match given.get(nth as usize) {
+        Some(given) => Some(*given),
+        None => None,
+    }
+}
+
 impl MemEnv<'_> {
     /// What there is of this number.
     fn nth_of<'b>(&'b self, fetch: &'b Fetch, nth: u32) -> Option<Given<'b>>
@@ -61,7 +71,7 @@ impl MemEnv<'_> {
             Fetch::Bool(truth) => one(Given::Truth(*truth), nth),
             Fetch::AlwaysTrue => one(Given::Truth(true), nth),
             Fetch::AlwaysFalse => one(Given::Truth(false), nth),
-            _ => self.given.get(nth as usize).copied(),
+            _ => nth_given(self.given, nth),
         }
     }
 }
