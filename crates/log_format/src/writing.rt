@@ -74,7 +74,8 @@ pub fn format<E: Env>(
 {
     into.clear();
     for at in 0..fmt.parts.len() {
-        if !put_part(alloc, fmt.parts.get(at), env, into, buf, spare)? {
+        let fits = put_part(alloc, fmt.parts.get(at), env, into, buf, spare)?;
+        if !fits {
             into.clear();
             return Ok(false);
         }
