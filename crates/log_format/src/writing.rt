@@ -18,10 +18,9 @@ fn put_sample(made: Sample, buf: &mut Buf, into: &mut Buf) -> bool
     ensures cap { into.new.cap ≡ into.old.cap }
     ensures buf_cap { buf.new.cap ≡ buf.old.cap }
 {
-    if into_text(made, buf) == Sample::InBuf {
-        into.push(buf.bytes())
-    } else {
-        true
+    match into_text(made, buf) {
+        Sample::InBuf => into.push(buf.bytes()),
+        _ => true,
     }
 }
 
@@ -76,7 +75,7 @@ pub fn format<E: Env>(
     for at in 0..fmt.parts.len() {
         let fits = put_part(alloc, fmt.parts.get(at), env, into, buf, spare)?;
         if !fits {
-            into.clear();
+            into.truncate(0);
             return Ok(false);
         }
     }

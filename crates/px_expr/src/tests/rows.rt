@@ -106,37 +106,46 @@ fn env_of(from: From) -> Result<MemEnv<'static>, Fail> {
     Ok(MemEnv { given })
 }
 
-/// Checks each row, in buffers of so many bytes.
-pub fn check(
+/// Checks the sample of an expression, made in buffers of so many bytes.
+pub fn check_one(
     rt: &(impl Abort + AllocGlobal),
     cap: u32,
-    rows: &'static [Row],
+    from: From,
+    convs: &[C],
+    made: Given<'static>,
 ) -> Result<(), Fail> {
+    let expr = expr_of(rt.alloc(), from, convs)?;
+    let env = env_of(from)?;
+    let mut buf = Buf::new(rt.alloc(), cap)?;
+    let mut spare = Buf::new(rt.alloc(), cap)?;
+    let sample = eval(rt.alloc(), &expr, &env, &mut buf, &mut spare)?;
+    assert_eq!(rt; seen(sample, &buf), made, "{from:?} {convs:?}");
+    Ok(())
+}
+
+/// Checks each row.
+pub fn check(rt: &(impl Abort + AllocGlobal), cap: u32, rows: &'static [Row]) -> Result<(), Fail> {
     for (from, convs, made) in rows {
-        let expr = expr_of(rt.alloc(), *from, convs)?;
-        let env = env_of(*from)?;
-        let mut buf = Buf::new(rt.alloc(), cap)?;
-        let mut spare = Buf::new(rt.alloc(), cap)?;
-        let sample = eval(rt.alloc(), &expr, &env, &mut buf, &mut spare)?;
-        assert_eq!(rt; seen(sample, &buf), *made, "{from:?} {convs:?}");
+        check_one(rt, cap, *from, convs, *made)?;
     }
     Ok(())
 }
 
 /// Checks each sample of each row, and that there are no more.
-pub fn check_many(
-    rt: &(impl Abort + AllocGlobal),
-    rows: &'static [Many],
-) -> Result<(), Fail> {
+pub fn check_many(rt: &(impl Abort + AllocGlobal), rows: &'static [Many]) -> Result<(), Fail> {
     for (from, convs, made) in rows {
         let expr = expr_of(rt.alloc(), *from, convs)?;
         let env = env_of(*from)?;
-        let mut buf = Buf::new(rt.alloc(), CAP)?;
-        let mut spare = Buf::new(rt.alloc(), CAP)?;
         for nth in 0..9u32 {
+            let mut buf = Buf::new(rt.alloc(), CAP)?;
+            let mut spare = Buf::new(rt.alloc(), CAP)?;
             let sample = eval_nth(rt.alloc(), &expr, nth, &env, &mut buf, &mut spare)?;
             let seen = sample.map(|sample| seen(sample, &buf));
-            assert_eq!(rt; seen, made.get(nth as usize).copied(), "{nth} of {from:?} {convs:?}");
+            assert_eq!(rt;
+                seen,
+                made.get(nth as usize).copied(),
+                "{nth} of {from:?} {convs:?}"
+            );
         }
     }
     Ok(())

@@ -6,7 +6,7 @@ use Rattle.log_format.proofs.writing.format.Given as goal
 -- what is joined, with the texts of the parts that are left, is the whole
 abbrev pub invariant-loop-at : goal.invariant-loop-at
 invariant-loop-at g l = record {
-  into_cap : l.into.cap ≡ l.initial.into.cap;
+  into_cap : l.into.cap ≡ l.fn.into.cap;
   cap : l.buf.cap ≡ l.initial.buf.cap;
   spare_cap : l.spare.cap ≡ l.initial.buf.cap;
   within : length l.into.bytes ≤ l.into.cap;

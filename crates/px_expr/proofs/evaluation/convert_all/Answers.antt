@@ -15,6 +15,6 @@ loop-at-preserved c =
       cap = c.in_ok-made.ensures.cap ∙ c.loop-at.invariant.cap;
       spare_cap = c.in_ok-made.ensures.spare_cap ∙ c.loop-at.invariant.cap;
       left =
-        goes_on c.args.buf.now.cap c.loop-at.buf.cap c.args.convs.now c.loop-at.at c.get.result.now (value_in c.loop-at.made c.loop-at.buf.bytes) (value_in c.in_ok-made.made c.convert.new.buf.bytes) _
-        c.get.ensures c.loop-at.invariant.cap c.in_ok-made.ensures.value c.loop-at.invariant.left;
+          goes_on c.args.buf.now.cap c.loop-at.buf.cap c.args.convs.now c.loop-at.at c.get.result.now (value_in c.loop-at.made c.loop-at.buf.bytes) (value_in c.in_ok-made.made c.convert.new.buf.bytes) _
+          c.get.ensures c.loop-at.invariant.cap c.in_ok-made.ensures.value c.loop-at.invariant.left;
     }
