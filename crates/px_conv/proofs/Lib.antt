@@ -1,1 +1,3 @@
 pub mod TemplateLemmas
+pub mod RegsubLemmas
+pub mod ReplacingLemmas

@@ -1,10 +1,12 @@
 -- What a converter makes of a sample (Configuration Manual, section 7.3.1).
-use Rattle.std.specs.Prelude.{ℕ, ℤ, pos, neg_ℤ, int_div, int_rem, ◌+ℤ◌, ◌-ℤ◌, ◌*ℤ◌, ◌-◌, ◌^◌, Bool, false, not, List, length, take, drop, nat_le, Option, Some, None, option_and_then, if◌then◌else◌}
+use Rattle.std.specs.Prelude.{ℕ, ℤ, pos, neg_ℤ, int_div, int_rem, ◌+ℤ◌, ◌-ℤ◌, ◌*ℤ◌, ◌-◌, ◌^◌, Bool, true, false, not, List, length, take, drop, nat_le, Option, Some, None, if◌then◌else◌}
 use Rattle.std.specs.Int.{w64, saturate_signed}
 use Rattle.std.specs.Ordering.{int_eq}
 use Rattle.std.specs.Str.{str_to_ascii_lowercase, str_to_ascii_uppercase}
-use Rattle.px_sample.specs.Sample.{Value, Truth, Number, Bytes, bounded}
+use Rattle.px_sample.specs.Sample.{Value, Truth, Number, Bytes, bounded, within}
 use Rattle.px_sample.specs.Cast.{number_of, truth_of, text_of}
+use Rattle.px_pattern.specs.Meaning.{pattern_of}
+use Rattle.px_conv.specs.Regsub.{regsub}
 use Rattle.px_conv.specs.declared.conv.Conv.{Conv}
 use Rattle.px_conv.specs.declared.conv.Conv.TheVariants as convs
 
@@ -59,13 +61,15 @@ converted_value cap (convs.Mod n) v = of_number (λ x. remainder x n) (number_of
 converted_value cap convs.Neg v = of_number (λ x. saturated (neg_ℤ x)) (number_of v)
 converted_value cap convs.Not v = of_truth (λ b. Some (Truth (not b))) (truth_of v)
 converted_value cap convs.Bool v = of_truth (λ b. Some (Truth b)) (truth_of v)
+converted_value cap (convs.Regsub pat template g) v =
+    within cap (of_bytes cap (λ bytes. Bytes (regsub (pattern_of pat) template g bytes)) v)
 
 -- what a converter makes of a sample: nothing of an absent one
 abbrev pub converted : ℕ → Conv → Option Value → Option Value
 converted cap conv None = None
 converted cap conv (Some v) = converted_value cap conv v
 
--- the converter holds a pattern, and a search for it may want memory
+-- the converter searches for a pattern, which takes memory
 abbrev pub has_pattern : Conv → Bool
-has_pattern convs.Lower = false
+has_pattern (convs.Regsub pat template g) = true
 has_pattern _ = false

@@ -1,2 +1,4 @@
 pub mod Template
+pub mod Regsub
+pub mod Replacing
 pub mod Conv

@@ -3,15 +3,16 @@ ghost use Rattle.px_sample.specs.Sample.{value_in};
 ghost use Rattle.px_conv.specs.Conv.{converted, has_pattern};
 
 use crate::conv::Conv;
-use crate::{bytes, number, truth};
+use crate::{bytes, number, regsub, truth};
 use px_sample::{Buf, OutOfMemory, Sample, number_in, truth_in};
 use std::alloc::Global;
 
 /// What a converter makes of a sample, whose bytes stand in `buf` and stand there again afterwards. A result of
 /// more bytes than the buffer holds is absent, and so is what is made of a sample that is absent or can't be cast.
-/// `spare` has the buffer's size; what it holds afterwards is left open.
+/// `spare` has the buffer's size; what it holds afterwards is left open. `regsub` alone takes memory, and where none
+/// is left, what the buffers hold is left open.
 pub fn convert(
-    _alloc: Global,
+    alloc: Global,
     conv: &Conv,
     sample: Sample,
     buf: &mut Buf,
@@ -43,6 +44,9 @@ pub fn convert(
         Conv::Neg => number::neg(number_in(sample, buf)),
         Conv::Not => truth::negate(truth_in(sample, buf), buf),
         Conv::Bool => truth::sample_of(truth_in(sample, buf), buf),
+        Conv::Regsub(pat, template, all) => {
+            regsub::substitute(alloc, pat, template.as_slice(), *all, sample, buf, spare)?
+        }
     };
     Ok(made)
 }

@@ -7,7 +7,7 @@ ghost use Rattle.px_conv.specs.Conv.{of_bytes, count};
 use px_sample::{Buf, Sample, into_text};
 
 /// Makes bytes of the sample in the buffer; false where there is none, or where they are too many.
-fn hold(sample: Sample, buf: &mut Buf) -> bool
+pub fn hold(sample: Sample, buf: &mut Buf) -> bool
     ensures value { (f : List ℕ → Value) → option_and_then (of_bytes buf.old.cap f) (value_in sample buf.old.bytes) ≡ (if result then Some (f buf.new.bytes) else None) }
     ensures cap { buf.new.cap ≡ buf.old.cap }
 {

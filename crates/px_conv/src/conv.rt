@@ -1,3 +1,4 @@
+use px_pattern::Pat;
 use px_sample::Text;
 
 /// A converter with its arguments (Configuration Manual, section 7.3.1).
@@ -29,4 +30,6 @@ pub enum Conv {
     Not,
     /// `bool`: the truth value.
     Bool,
+    /// `regsub(pattern,template[,flags])`: the first match replaced by the template, with the flag `g` each match.
+    Regsub(Pat, Text, bool),
 }

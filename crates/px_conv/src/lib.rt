@@ -5,6 +5,9 @@ mod apply;
 mod bytes;
 mod conv;
 mod number;
+mod regsub;
+#[cfg(test)]
+mod regsub_tests;
 mod template;
 #[cfg(test)]
 mod tests;

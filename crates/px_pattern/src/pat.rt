@@ -8,7 +8,7 @@ use std::alloc::Global;
 use std::rc::Rc;
 
 /// A pattern that was built. It does not change, and may be shared.
-#[derive(Drop)]
+#[derive(Debug, Drop)]
 pub struct Pat {
     regex: Rc<Regex>,
 }

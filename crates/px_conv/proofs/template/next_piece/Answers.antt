@@ -1,4 +1,4 @@
-use Rattle.std.proofs.Common.{◌∙◌, sym, arith}
+use Rattle.std.proofs.Common.{arith}
 use Rattle.std.proofs.lemmas.List.Sums.{prefix_len-le-length}
 use Rattle.px_conv.proofs.TemplateLemmas.{expanded_plain, is_plain}
 use Rattle.px_conv.proofs.template.next_piece.Goals as goal
