@@ -1,3 +1,4 @@
 pub mod TemplateLemmas
 pub mod RegsubLemmas
 pub mod ReplacingLemmas
+pub mod EncodeLemmas

@@ -7,12 +7,17 @@ use Rattle.px_sample.specs.Sample.{Value, Truth, Number, Bytes, bounded, within}
 use Rattle.px_sample.specs.Cast.{number_of, truth_of, text_of}
 use Rattle.px_pattern.specs.Meaning.{pattern_of}
 use Rattle.px_conv.specs.Regsub.{regsub}
+use Rattle.px_conv.specs.Encode.{base64_text, hex_text, url_decoded}
 use Rattle.px_conv.specs.declared.conv.Conv.{Conv}
 use Rattle.px_conv.specs.declared.conv.Conv.TheVariants as convs
 
 -- a converter of bytes: the sample as bytes, which are at most so many, and absent where they are more
 abbrev pub of_bytes : ℕ → (List ℕ → Value) → Value → Option Value
 of_bytes cap f v = if nat_le (length (text_of v)) cap then Some (f (text_of v)) else None
+
+-- a converter that writes bytes anew: absent too where the result is more than so many
+abbrev pub of_bytes_anew : ℕ → (List ℕ → List ℕ) → Value → Option Value
+of_bytes_anew cap f v = within cap (of_bytes cap (λ bytes. Bytes (f bytes)) v)
 
 -- a converter of numbers
 abbrev pub of_number : (ℤ → ℤ) → Option ℤ → Option Value
@@ -63,6 +68,9 @@ converted_value cap convs.Not v = of_truth (λ b. Some (Truth (not b))) (truth_o
 converted_value cap convs.Bool v = of_truth (λ b. Some (Truth b)) (truth_of v)
 converted_value cap (convs.Regsub pat template g) v =
     within cap (of_bytes cap (λ bytes. Bytes (regsub (pattern_of pat) template g bytes)) v)
+converted_value cap convs.Base64 v = of_bytes_anew cap base64_text v
+converted_value cap convs.Hex v = of_bytes_anew cap hex_text v
+converted_value cap convs.UrlDec v = of_bytes_anew cap url_decoded v
 
 -- what a converter makes of a sample: nothing of an absent one
 abbrev pub converted : ℕ → Conv → Option Value → Option Value

@@ -2,3 +2,4 @@ pub mod Template
 pub mod Regsub
 pub mod Replacing
 pub mod Conv
+pub mod Encode

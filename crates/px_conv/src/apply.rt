@@ -3,7 +3,7 @@ ghost use Rattle.px_sample.specs.Sample.{value_in};
 ghost use Rattle.px_conv.specs.Conv.{converted, has_pattern};
 
 use crate::conv::Conv;
-use crate::{bytes, number, regsub, truth};
+use crate::{bytes, encode, number, regsub, truth};
 use px_sample::{Buf, OutOfMemory, Sample, number_in, truth_in};
 use std::alloc::Global;
 
@@ -47,6 +47,9 @@ pub fn convert(
         Conv::Regsub(pat, template, all) => {
             regsub::substitute(alloc, pat, template.as_slice(), *all, sample, buf, spare)?
         }
+        Conv::Base64 => encode::base64(sample, buf, spare),
+        Conv::Hex => encode::hex(sample, buf, spare),
+        Conv::UrlDec => encode::url_dec(sample, buf, spare),
     };
     Ok(made)
 }

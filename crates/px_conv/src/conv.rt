@@ -32,4 +32,10 @@ pub enum Conv {
     Bool,
     /// `regsub(pattern,template[,flags])`: the first match replaced by the template, with the flag `g` each match.
     Regsub(Pat, Text, bool),
+    /// `base64`: the standard alphabet with padding (RFC 4648, section 4).
+    Base64,
+    /// `hex`: two hexadecimal digits a byte, in upper case.
+    Hex,
+    /// `url_dec`: escapes of `%` and two digits decoded; anything else stays.
+    UrlDec,
 }

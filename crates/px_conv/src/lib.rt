@@ -4,6 +4,9 @@
 mod apply;
 mod bytes;
 mod conv;
+mod encode;
+#[cfg(test)]
+mod encode_tests;
 mod number;
 mod regsub;
 #[cfg(test)]

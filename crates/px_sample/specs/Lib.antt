@@ -1,5 +1,6 @@
 pub mod Sample
 pub mod Buffer
+pub mod Lending
 pub mod Cast
 pub mod Entry
 pub mod Shape

@@ -1,4 +1,4 @@
-ghost use Rattle.std.specs.Prelude.{◌≡◌, ◌+◌, ◌≤◌, ◌↔◌, ◌++◌, [], length, take, drop, IfOk, IsTrue};
+ghost use Rattle.std.specs.Prelude.{◌≡◌, ◌+◌, ◌-◌, ◌≤◌, ◌↔◌, ◌++◌, ◌∷◌, [], length, take, drop, replicate, IfOk, IsTrue};
 ghost use Rattle.std.specs.Str.{str_to_ascii_lowercase, str_to_ascii_uppercase};
 ghost use Rattle.std.specs.Bool.{OnTrue, OnFalse};
 
@@ -25,6 +25,9 @@ impl Model for Buf {
 }
 
 impl Buf {
+    ghost use Rattle.std.specs.Borrow.{sem};
+    ghost use Rattle.px_sample.specs.Lending.{LendsBytes};
+
     /// An empty buffer for so many bytes. This call alone takes memory.
     pub fn new(alloc: Global, cap: u32) -> Result<Buf, OutOfMemory>
         ensures cap { IfOk result (λ buf. buf.cap ≡ cap) }
@@ -47,6 +50,35 @@ impl Buf {
             return false;
         }
         self.bytes.extend_from_slice(bytes).unwrap();
+        true
+    }
+
+    /// Puts one byte behind the others: false where it doesn't fit.
+    pub fn push_byte(&mut self, byte: u8) -> bool
+        ensures fits { IsTrue result ↔ (length self.old.bytes + 1 ≤ self.old.cap) }
+        ensures pushed { OnTrue result (self.new.bytes ≡ self.old.bytes ++ byte ∷ []) }
+        ensures unchanged { OnFalse result (self.new ≡ self.old) }
+        ensures cap { self.new.cap ≡ self.old.cap }
+    {
+        if self.bytes.len() == self.cap as usize {
+            return false;
+        }
+        self.bytes.push(byte).unwrap();
+        true
+    }
+
+    /// Makes it `len` bytes long, with zeros behind those that it holds: false where so many don't fit.
+    pub fn resize(&mut self, len: usize) -> bool
+        ensures fits { IsTrue result ↔ (len ≤ self.old.cap) }
+        ensures resized { OnTrue result (self.new.bytes ≡ take len self.old.bytes ++ replicate (len - length self.old.bytes) 0) }
+        ensures len { OnTrue result (length self.new.bytes ≡ len) }
+        ensures unchanged { OnFalse result (self.new ≡ self.old) }
+        ensures cap { self.new.cap ≡ self.old.cap }
+    {
+        if len > self.cap as usize {
+            return false;
+        }
+        self.bytes.resize(len, 0).unwrap();
         true
     }
 
@@ -100,6 +132,14 @@ impl Buf {
         ensures within { length self.now.bytes ≤ self.now.cap }
     {
         &self.bytes
+    }
+
+    /// The bytes for writing; how many there are stays.
+    pub fn bytes_mut(&mut self) -> &mut [u8]
+        ensures* back { sem 𝓛 (LendsBytes self.entry result) }
+        ensures value { result.now ≡ self.old.bytes }
+    {
+        &mut self.bytes
     }
 
     /// How many bytes it can hold.

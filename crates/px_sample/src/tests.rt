@@ -27,6 +27,49 @@ fn buffer_takes_all_or_nothing(rt: HostRuntime) -> Result<(), Fail> {
 }
 
 #[test]
+fn buffer_takes_single_bytes(rt: HostRuntime) -> Result<(), Fail> {
+    let mut buf = filled(&rt, 3, b"a")?;
+    for (byte, fits, held) in [
+        (b'\xFF', true, b"a\xFF".as_slice()),
+        (0, true, b"a\xFF\x00"),
+        (b'b', false, b"a\xFF\x00"),
+    ] {
+        assert_eq!(rt; buf.push_byte(byte), fits);
+        assert_eq!(rt; buf.bytes(), held);
+    }
+    Ok(())
+}
+
+#[test]
+fn buffer_of_a_length(rt: HostRuntime) -> Result<(), Fail> {
+    let cases: [(usize, bool, &[u8]); 7] = [
+        (0, true, b""),
+        (1, true, b"a"),
+        (2, true, b"ab"),
+        (3, true, b"ab\x00"),
+        (5, true, b"ab\x00\x00\x00"),
+        (6, false, b"ab"),
+        (usize::MAX, false, b"ab"),
+    ];
+    for (len, fits, held) in cases {
+        let mut buf = filled(&rt, 5, b"ab")?;
+        assert_eq!(rt; buf.resize(len), fits, "{len}");
+        assert_eq!(rt; buf.bytes(), held, "{len}");
+    }
+    Ok(())
+}
+
+#[test]
+fn buffer_lends_its_bytes(rt: HostRuntime) -> Result<(), Fail> {
+    let mut buf = filled(&rt, 5, b"abc")?;
+    buf.bytes_mut()[1..].copy_from_slice(b"yz");
+    assert_eq!(rt; buf.bytes(), b"ayz".as_slice());
+    assert!(rt; buf.push(b"de"));
+    assert_eq!(rt; buf.bytes(), b"ayzde".as_slice());
+    Ok(())
+}
+
+#[test]
 fn text_grows(rt: HostRuntime) -> Result<(), Fail> {
     let mut text = Text::copy(rt.alloc(), b"x-")?;
     text.push(b"a")?;
