@@ -2,3 +2,4 @@ pub mod TemplateLemmas
 pub mod RegsubLemmas
 pub mod ReplacingLemmas
 pub mod EncodeLemmas
+pub mod FieldsLemmas

@@ -1,5 +1,5 @@
 -- What a converter makes of a sample (Configuration Manual, section 7.3.1).
-use Rattle.std.specs.Prelude.{ℕ, ℤ, pos, neg_ℤ, int_div, int_rem, ◌+ℤ◌, ◌-ℤ◌, ◌*ℤ◌, ◌-◌, ◌^◌, Bool, true, false, not, List, length, take, drop, nat_le, Option, Some, None, if◌then◌else◌}
+use Rattle.std.specs.Prelude.{ℕ, ℤ, pos, neg_ℤ, int_div, int_rem, ◌+ℤ◌, ◌-ℤ◌, ◌*ℤ◌, ◌-◌, ◌^◌, Bool, true, false, not, List, length, take, drop, nat_le, Option, Some, None, option_map, if◌then◌else◌}
 use Rattle.std.specs.Int.{w64, saturate_signed}
 use Rattle.std.specs.Ordering.{int_eq}
 use Rattle.std.specs.Str.{str_to_ascii_lowercase, str_to_ascii_uppercase}
@@ -8,6 +8,7 @@ use Rattle.px_sample.specs.Cast.{number_of, truth_of, text_of}
 use Rattle.px_pattern.specs.Meaning.{pattern_of}
 use Rattle.px_conv.specs.Regsub.{regsub}
 use Rattle.px_conv.specs.Encode.{base64_text, hex_text, url_decoded}
+use Rattle.px_conv.specs.Fields.{field, word}
 use Rattle.px_conv.specs.declared.conv.Conv.{Conv}
 use Rattle.px_conv.specs.declared.conv.Conv.TheVariants as convs
 
@@ -18,6 +19,10 @@ of_bytes cap f v = if nat_le (length (text_of v)) cap then Some (f (text_of v)) 
 -- a converter that writes bytes anew: absent too where the result is more than so many
 abbrev pub of_bytes_anew : ℕ → (List ℕ → List ℕ) → Value → Option Value
 of_bytes_anew cap f v = within cap (of_bytes cap (λ bytes. Bytes (f bytes)) v)
+
+-- a converter of bytes to bytes that may give none, and never more than it was given
+abbrev pub of_bytes_or_none : ℕ → (List ℕ → Option (List ℕ)) → Value → Option Value
+of_bytes_or_none cap f v = if nat_le (length (text_of v)) cap then option_map Bytes (f (text_of v)) else None
 
 -- a converter of numbers
 abbrev pub of_number : (ℤ → ℤ) → Option ℤ → Option Value
@@ -57,6 +62,8 @@ converted_value cap convs.Lower v = of_bytes cap (λ bytes. Bytes (str_to_ascii_
 converted_value cap convs.Upper v = of_bytes cap (λ bytes. Bytes (str_to_ascii_uppercase bytes)) v
 converted_value cap convs.Length v = of_bytes cap (λ bytes. Number (pos (length bytes))) v
 converted_value cap (convs.Bytes from len) v = of_bytes cap (λ bytes. Bytes (part from len bytes)) v
+converted_value cap (convs.Field index separators n) v = of_bytes_or_none cap (field index separators (count n)) v
+converted_value cap (convs.Word index separators n) v = of_bytes_or_none cap (word index separators (count n)) v
 converted_value cap (convs.Iif yes' no') v = of_truth (λ b. bounded cap (Bytes (if b then yes' else no'))) (truth_of v)
 converted_value cap (convs.Add n) v = of_number (λ x. saturated (x +ℤ n)) (number_of v)
 converted_value cap (convs.Sub n) v = of_number (λ x. saturated (x -ℤ n)) (number_of v)

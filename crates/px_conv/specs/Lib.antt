@@ -3,3 +3,4 @@ pub mod Regsub
 pub mod Replacing
 pub mod Conv
 pub mod Encode
+pub mod Fields

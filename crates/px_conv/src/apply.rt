@@ -3,7 +3,7 @@ ghost use Rattle.px_sample.specs.Sample.{value_in};
 ghost use Rattle.px_conv.specs.Conv.{converted, has_pattern};
 
 use crate::conv::Conv;
-use crate::{bytes, encode, number, regsub, truth};
+use crate::{bytes, encode, fields, number, regsub, truth};
 use px_sample::{Buf, OutOfMemory, Sample, number_in, truth_in};
 use std::alloc::Global;
 
@@ -35,6 +35,8 @@ pub fn convert(
             bytes::count_of(*len),
             buf,
         ),
+        Conv::Field(index, separators, n) => fields::field(sample, *index, separators, *n, buf),
+        Conv::Word(index, separators, n) => fields::word(sample, *index, separators, *n, buf),
         Conv::Iif(yes, no) => truth::choose(truth_in(sample, buf), yes, no, buf),
         Conv::Add(n) => number::add(number_in(sample, buf), *n),
         Conv::Sub(n) => number::sub(number_in(sample, buf), *n),

@@ -12,6 +12,12 @@ pub enum Conv {
     Length,
     /// `bytes(offset[,length])`: bytes from an offset on, at most so many.
     Bytes(i64, Option<i64>),
+    /// `field(index,separators[,count])`: the fields between these bytes from an index on, so many of them, or all that
+    /// are left for 0. From 1 on the index counts from the front, from -1 on from the back, and so do the fields that
+    /// are taken with it. The count is 1 where none is written.
+    Field(i64, Text, i64),
+    /// `word(index,separators[,count])`: the same of the fields that aren't empty.
+    Word(i64, Text, i64),
     /// `iif(true,false)`: the first text where the sample is true, else the second.
     Iif(Text, Text),
     /// `add(number)`, which stays within 64 bits, as the next three do.

@@ -7,6 +7,7 @@ mod conv;
 mod encode;
 #[cfg(test)]
 mod encode_tests;
+mod fields;
 mod number;
 mod regsub;
 #[cfg(test)]

@@ -1,6 +1,8 @@
 ghost use Rattle.std.specs.Prelude.{length, IfOk};
 ghost use Rattle.px_pattern.specs.Groups.{LieIn};
 
+mod fields;
+
 use crate::{Buf, Conv, Groups, Sample, Text, convert, expand};
 use px_pattern::{Patterns, RealPatterns};
 use std::alloc::Global;
