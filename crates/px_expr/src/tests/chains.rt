@@ -3,7 +3,7 @@ use crate::Given;
 use crate::tests::rows::{C, CAP, From, Row, check, check_one};
 use std::test::Fail;
 
-static ONE: [C; 16] = [
+const ONE: &[C] = &[
     C::Length,
     C::Add(5),
     C::Mul(-3),
@@ -22,7 +22,7 @@ static ONE: [C; 16] = [
     C::Not,
 ];
 
-static TWO: [C; 16] = [
+const TWO: &[C] = &[
     C::Mul(1000),
     C::Add(1),
     C::Bytes(1, Some(3)),
@@ -41,7 +41,7 @@ static TWO: [C; 16] = [
     C::Bool,
 ];
 
-static KEEP: [C; 16] = [
+const KEEP: &[C] = &[
     C::Lower,
     C::Upper,
     C::Lower,
@@ -96,22 +96,22 @@ static LOST: [C; 31] = [
 ];
 
 static ROWS: [Row; 23] = [
-    (From::Str(b""), &ONE, Given::Truth(false)),
+    (From::Str(b""), ONE, Given::Truth(false)),
     (
         From::Str(b"ABCdef-012\x00\xC3\x89\xFFxyzXYZ[{@`"),
-        &ONE,
+        ONE,
         Given::Truth(false),
     ),
-    (From::Str(b"1234567890"), &ONE, Given::Truth(false)),
-    (From::Int(i64::MIN), &ONE, Given::Truth(false)),
-    (From::Int(12), &TWO, Given::Truth(true)),
-    (From::Int(i64::MAX), &TWO, Given::Truth(true)),
-    (From::Str(b"7"), &TWO, Given::Truth(true)),
-    (From::Str(b"x"), &TWO, Given::Absent),
-    (From::Truth(true), &TWO, Given::Truth(true)),
-    (From::Int(i64::MIN), &TWO, Given::Truth(true)),
-    (From::Path(&[Given::Absent]), &ONE, Given::Absent),
-    (From::Path(&[]), &ONE, Given::Absent),
+    (From::Str(b"1234567890"), ONE, Given::Truth(false)),
+    (From::Int(i64::MIN), ONE, Given::Truth(false)),
+    (From::Int(12), TWO, Given::Truth(true)),
+    (From::Int(i64::MAX), TWO, Given::Truth(true)),
+    (From::Str(b"7"), TWO, Given::Truth(true)),
+    (From::Str(b"x"), TWO, Given::Absent),
+    (From::Truth(true), TWO, Given::Truth(true)),
+    (From::Int(i64::MIN), TWO, Given::Truth(true)),
+    (From::Path(&[Given::Absent]), ONE, Given::Absent),
+    (From::Path(&[]), ONE, Given::Absent),
     (
         From::Str(b"ab"),
         &[C::Upper, C::Bytes(1, None)],
@@ -138,7 +138,7 @@ static ROWS: [Row; 23] = [
     (From::Int(3), &[C::Mul(2), C::Div(2)], Given::Number(3)),
     (From::Int(2), &[C::Not, C::Add(1)], Given::Number(1)),
     (From::Int(2), &[C::Add(1), C::Not], Given::Truth(false)),
-    (From::Str(b"kept"), &KEEP, Given::Bytes(b"KEPT")),
+    (From::Str(b"kept"), KEEP, Given::Bytes(b"KEPT")),
 ];
 
 #[test]

@@ -1,5 +1,6 @@
 //! Rows of a table of expressions, and what is made of them.
-use crate::{Buf, Conv, ConvList, Expr, Fetch, Given, MemEnv, Sample, Text, eval, eval_nth};
+use crate::{Buf, Conv, ConvList, Expr, Fetch, Given, MemEnv, Pat, Sample, Text, eval, eval_nth};
+use px_pattern::{Patterns, RealPatterns};
 use std::alloc::Global;
 use std::process::Abort;
 use std::test::Fail;
@@ -11,6 +12,8 @@ pub enum C {
     Upper,
     Length,
     Bytes(i64, Option<i64>),
+    Field(i64, &'static [u8], i64),
+    Word(i64, &'static [u8], i64),
     Iif(&'static [u8], &'static [u8]),
     Add(i64),
     Sub(i64),
@@ -20,6 +23,10 @@ pub enum C {
     Neg,
     Not,
     Bool,
+    Regsub(&'static [u8], &'static [u8], bool),
+    Base64,
+    Hex,
+    UrlDec,
 }
 
 /// What an expression begins with.
@@ -41,12 +48,21 @@ pub type Many = (From, &'static [C], &'static [Given<'static>]);
 /// How many bytes the buffers hold.
 pub const CAP: u32 = 24;
 
+fn pat_of(alloc: Global, pattern: &[u8]) -> Result<Pat, Fail> {
+    match RealPatterns::new().build(alloc, pattern, false) {
+        Ok(pat) => Ok(pat),
+        Err(_) => Err(Fail::from("no pattern")),
+    }
+}
+
 fn conv_of(alloc: Global, conv: C) -> Result<Conv, Fail> {
     let made = match conv {
         C::Lower => Conv::Lower,
         C::Upper => Conv::Upper,
         C::Length => Conv::Length,
         C::Bytes(from, len) => Conv::Bytes(from, len),
+        C::Field(index, separators, n) => Conv::Field(index, Text::copy(alloc, separators)?, n),
+        C::Word(index, separators, n) => Conv::Word(index, Text::copy(alloc, separators)?, n),
         C::Iif(yes, no) => Conv::Iif(Text::copy(alloc, yes)?, Text::copy(alloc, no)?),
         C::Add(n) => Conv::Add(n),
         C::Sub(n) => Conv::Sub(n),
@@ -56,6 +72,12 @@ fn conv_of(alloc: Global, conv: C) -> Result<Conv, Fail> {
         C::Neg => Conv::Neg,
         C::Not => Conv::Not,
         C::Bool => Conv::Bool,
+        C::Regsub(pattern, template, all) => {
+            Conv::Regsub(pat_of(alloc, pattern)?, Text::copy(alloc, template)?, all)
+        }
+        C::Base64 => Conv::Base64,
+        C::Hex => Conv::Hex,
+        C::UrlDec => Conv::UrlDec,
     };
     Ok(made)
 }

@@ -1,10 +1,10 @@
-//! Fetches of several samples and of none, and samples that are more than a buffer holds.
+//! Fetches of several samples and of none.
 use crate::Given;
 use crate::tests::rows::{C, CAP, From, Many, Row, check, check_many};
 use std::test::Fail;
 
 /// The last of them is taken.
-static LASTS: [Row; 35] = [
+static LASTS: [Row; 48] = [
     (From::Path(&[]), &[], Given::Absent),
     (From::Path(&[]), &[C::Length], Given::Absent),
     (From::Path(&[Given::Absent]), &[], Given::Absent),
@@ -144,6 +144,59 @@ static LASTS: [Row; 35] = [
     (From::Path(&[Given::Absent]), &[C::Neg], Given::Absent),
     (From::Path(&[Given::Absent]), &[C::Not], Given::Absent),
     (From::Path(&[Given::Absent]), &[C::Bool], Given::Absent),
+    (
+        From::Path(&[Given::Absent]),
+        &[C::Field(1, b"_", 1)],
+        Given::Absent,
+    ),
+    (
+        From::Path(&[Given::Absent]),
+        &[C::Word(1, b"_", 1)],
+        Given::Absent,
+    ),
+    (
+        From::Path(&[Given::Absent]),
+        &[C::Regsub(b".*", b"x", false)],
+        Given::Absent,
+    ),
+    (
+        From::Path(&[Given::Absent]),
+        &[C::Regsub(b"", b"x", true)],
+        Given::Absent,
+    ),
+    (From::Path(&[Given::Absent]), &[C::Base64], Given::Absent),
+    (From::Path(&[Given::Absent]), &[C::Hex], Given::Absent),
+    (From::Path(&[Given::Absent]), &[C::UrlDec], Given::Absent),
+    (
+        From::Str(b"ABCdef-012\x00\xC3\x89\xFFxyzXYZ[{@`!"),
+        &[C::Field(1, b"_", 1)],
+        Given::Absent,
+    ),
+    (
+        From::Str(b"ABCdef-012\x00\xC3\x89\xFFxyzXYZ[{@`!"),
+        &[C::Word(1, b"_", 1)],
+        Given::Absent,
+    ),
+    (
+        From::Str(b"ABCdef-012\x00\xC3\x89\xFFxyzXYZ[{@`!"),
+        &[C::Regsub(b"^.*$", b"x", false)],
+        Given::Absent,
+    ),
+    (
+        From::Str(b"ABCdef-012\x00\xC3\x89\xFFxyzXYZ[{@`!"),
+        &[C::Base64],
+        Given::Absent,
+    ),
+    (
+        From::Str(b"ABCdef-012\x00\xC3\x89\xFFxyzXYZ[{@`!"),
+        &[C::Hex],
+        Given::Absent,
+    ),
+    (
+        From::Str(b"ABCdef-012\x00\xC3\x89\xFFxyzXYZ[{@`!"),
+        &[C::UrlDec],
+        Given::Absent,
+    ),
 ];
 
 /// Each of them, as a condition tries them.
@@ -212,54 +265,6 @@ static MANY: [Many; 12] = [
     ),
 ];
 
-/// In buffers of 4 bytes.
-static FOUR: [Row; 20] = [
-    (From::Str(b"abcd"), &[C::Lower], Given::Bytes(b"abcd")),
-    (From::Str(b"abcd"), &[C::Length], Given::Number(4)),
-    (
-        From::Str(b"abcd"),
-        &[C::Bytes(0, None)],
-        Given::Bytes(b"abcd"),
-    ),
-    (
-        From::Str(b"abcd"),
-        &[C::Bytes(1, None)],
-        Given::Bytes(b"bcd"),
-    ),
-    (From::Str(b"abcde"), &[C::Lower], Given::Absent),
-    (From::Str(b"abcde"), &[C::Length], Given::Absent),
-    (From::Str(b"abcde"), &[C::Bytes(0, None)], Given::Absent),
-    (From::Int(1234), &[C::Lower], Given::Bytes(b"1234")),
-    (From::Int(-123), &[C::Length], Given::Number(4)),
-    (From::Int(12345), &[C::Length], Given::Absent),
-    (From::Int(12345), &[C::Add(1)], Given::Number(12346)),
-    (
-        From::Int(12345),
-        &[C::Neg, C::Bytes(0, Some(1))],
-        Given::Absent,
-    ),
-    (From::Int(12345), &[C::Not], Given::Truth(false)),
-    (
-        From::Truth(true),
-        &[C::Iif(b"four", b"seven")],
-        Given::Bytes(b"four"),
-    ),
-    (
-        From::Truth(false),
-        &[C::Iif(b"four", b"seven")],
-        Given::Absent,
-    ),
-    (From::Int(999), &[C::Add(1), C::Length], Given::Number(4)),
-    (From::Int(999), &[C::Mul(11), C::Length], Given::Absent),
-    (From::Int(999), &[C::Mul(10), C::Length], Given::Number(4)),
-    (From::Int(999), &[C::Mul(100), C::Length], Given::Absent),
-    (
-        From::Int(999),
-        &[C::Mul(100), C::Add(1)],
-        Given::Number(99901),
-    ),
-];
-
 #[test]
 fn last_is_taken(rt: HostRuntime) -> Result<(), Fail> {
     check(&rt, CAP, &LASTS)
@@ -268,9 +273,4 @@ fn last_is_taken(rt: HostRuntime) -> Result<(), Fail> {
 #[test]
 fn each_is_tried(rt: HostRuntime) -> Result<(), Fail> {
     check_many(&rt, &MANY)
-}
-
-#[test]
-fn four_bytes(rt: HostRuntime) -> Result<(), Fail> {
-    check(&rt, 4, &FOUR)
 }
