@@ -1,0 +1,21 @@
+use px_expr::Expr;
+use px_link::ItemList;
+use px_sample::Text;
+
+/// A part of a format (Configuration Manual, section 8.2.6).
+#[derive(Drop)]
+pub enum Part {
+    /// A text as it is.
+    Literal(Text),
+    /// `%[..]`: the sample of an expression, as bytes.
+    Sample(Expr),
+}
+
+/// Parts, in their order.
+pub type PartList = ItemList<Part>;
+
+/// A format: its parts, which are joined.
+#[derive(Drop)]
+pub struct Fmt {
+    pub parts: PartList,
+}

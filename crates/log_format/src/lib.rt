@@ -1,0 +1,11 @@
+//! Formats: texts and the samples of expressions, joined.
+#![tactic(auto)]
+
+mod fmt;
+#[cfg(test)]
+mod tests;
+mod writing;
+
+pub use fmt::{Fmt, Part, PartList};
+pub use px_expr::{Buf, Env, Expr, OutOfMemory, Text};
+pub use writing::format;

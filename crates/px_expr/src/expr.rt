@@ -1,0 +1,13 @@
+use px_conv::Conv;
+use px_link::ItemList;
+use px_sample::Fetch;
+
+/// Converters, in their order.
+pub type ConvList = ItemList<Conv>;
+
+/// A fetch and the converters of its sample (Configuration Manual, section 7.1).
+#[derive(Drop)]
+pub struct Expr {
+    pub fetch: Fetch,
+    pub convs: ConvList,
+}
