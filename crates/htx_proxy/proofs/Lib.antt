@@ -1,4 +1,3 @@
 pub mod Reported
-pub mod Words
 pub mod Told
 pub mod Replies

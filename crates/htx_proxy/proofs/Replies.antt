@@ -3,7 +3,7 @@ use Rattle.std.proofs.Common.{◌≡◌, ◌≢◌, ℕ, List, ◌⊎◌, inl, i
 use Rattle.std.specs.Prelude.{Option, Result, Ok, Err, IfOk}
 use Rattle.px_link.specs.Told.{NamedBytes}
 use Rattle.cfg_parse.specs.declared.fault.CfgKind.{CfgKind}
-use Rattle.htx_proxy.specs.Command.{IsCheck, IsReplay, NamesFile}
+use Rattle.px_command.specs.Command.{IsCheck, IsReplay, NamesFile}
 use Rattle.htx_proxy.specs.Lines.{file_line}
 use Rattle.htx_proxy.specs.Replay.{IfTold, Configured, IsAnswer, IsStopped}
 use Rattle.htx_proxy.specs.declared.status.Status.{Status}

@@ -10,7 +10,7 @@ use Rattle.session_model.specs.Stream.{Server, NotThere, Open}
 use Rattle.session_model.specs.Session.{Out, Session}
 use Rattle.forward_core.specs.First.{meaning_of, closed}
 use Rattle.forward_core.specs.Unbuilt.{IsUnbuilt}
-use Rattle.htx_proxy.specs.Command.{IsCheck, IsReplay, IsLater, IsHelp, IsVersion, IsUsage, NamesConfig, NamesFile}
+use Rattle.px_command.specs.Command.{IsCheck, IsReplay, IsLater, IsHelp, IsVersion, IsUsage, NamesConfig, NamesFile}
 use Rattle.htx_proxy.specs.Lines.{accepted_line, refused_line, file_line}
 use Rattle.htx_proxy.specs.declared.status.Status.{Status}
 use Rattle.htx_proxy.specs.declared.status.Status.TheVariants.{Good, Usage, FileFault, OutFault, OutOfMemory, Unbuilt}

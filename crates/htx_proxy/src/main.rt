@@ -2,9 +2,7 @@
 #![tactic(auto)]
 
 mod answer;
-mod command;
 mod edges;
-mod help;
 mod lines;
 mod reply;
 mod report;

@@ -1,15 +1,14 @@
 //! What is written, and the status with it.
 ghost use Rattle.std.specs.Prelude.{◌≡◌, ◌≢◌, ◌⊎◌, ℕ, List, Ok, Err, map, string_bytes, IfOk, IsErrOf};
 ghost use Rattle.px_link.specs.Told.{Rose};
-ghost use Rattle.htx_proxy.specs.Command.{IsCheck, IsReplay};
+ghost use Rattle.px_command.specs.Command.{IsCheck, IsReplay};
 ghost use Rattle.htx_proxy.specs.Replay.{IsAnswer, IsStopped, FilesUnbuilt, UnbuiltBy};
 
 use crate::answer::{Stop, answer, checked};
-use crate::command::{check_file, is_alone, is_later, replay_files};
-use crate::help::{USAGE, VERSION};
 use crate::lines::{file_line, refused_line};
 use crate::status::Status;
 use http_model::OutOfMemory;
+use px_command::{Asked, asked_by, help_text, version_text};
 use px_link::{Bytes, Files};
 use std::alloc::Global;
 
@@ -90,20 +89,16 @@ pub fn reply_to<F: Files>(alloc: Global, words: &[String], files: &mut F) -> Res
     ensures fault { IfOk result (λ reply. reply.status ≡ Status.FileFault → Rose (F.faults files.old) (F.faults files.new)) }
     ensures unbuilt { result ≡ Err Silent.Unbuilt → UnbuiltBy (map string_bytes words.now) (F.files files.old) }
 {
-    if let Some(cfg_name) = check_file(words) {
-        return check_reply(alloc, files, cfg_name);
+    let asked = match asked_by(alloc, words) {
+        Ok(asked) => asked,
+        Err(OutOfMemory) => return Err(Silent::OutOfMemory),
+    };
+    match asked {
+        Asked::Check { cfg } => check_reply(alloc, files, cfg),
+        Asked::Replay { cfg, rec } => replay_reply(alloc, files, cfg, rec),
+        Asked::Later => Err(Silent::Unbuilt),
+        Asked::Help => with(Status::Good, help_text(alloc)),
+        Asked::Version => with(Status::Good, version_text(alloc)),
+        Asked::Usage { text } => with(Status::Usage, Ok(text)),
     }
-    if let Some((cfg_name, rec_name)) = replay_files(words) {
-        return replay_reply(alloc, files, cfg_name, rec_name);
-    }
-    if is_later(words) {
-        return Err(Silent::Unbuilt);
-    }
-    if is_alone(words, "--help") {
-        return with(Status::Good, Bytes::copy(alloc, USAGE.as_bytes()));
-    }
-    if is_alone(words, "--version") {
-        return with(Status::Good, Bytes::copy(alloc, VERSION.as_bytes()));
-    }
-    with(Status::Usage, Bytes::copy(alloc, USAGE.as_bytes()))
 }

@@ -1,7 +1,7 @@
 //! The program's one call.
 ghost use Rattle.std.specs.Prelude.{◌≡◌, ◌⊎◌, ℕ, List, map, string_bytes, Some};
 ghost use Rattle.px_link.specs.Told.{NamedBytes, Rose, Gains, GainsFront};
-ghost use Rattle.htx_proxy.specs.Command.{IsUsage, NamesConfig, NamesFile};
+ghost use Rattle.px_command.specs.Command.{IsUsage, NamesConfig, NamesFile};
 ghost use Rattle.htx_proxy.specs.Lines.{file_line};
 ghost use Rattle.htx_proxy.specs.Replay.{IsGood, IsAnswer, IsDue, IsRefusedOf, UnbuiltBy};
 

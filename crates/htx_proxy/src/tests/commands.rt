@@ -31,12 +31,73 @@ fn names_the_cause(rt: HostRuntime) -> Result<(), Fail> {
         (["replay", "--", "c", "r"].as_slice(), Status::Usage),
         (["check", "c", "r"].as_slice(), Status::Usage),
         (["check"].as_slice(), Status::Usage),
+        (["check", "--", "c"].as_slice(), Status::Usage),
+        (["check", "c", "--"].as_slice(), Status::Usage),
+        (["check", "--", "--help"].as_slice(), Status::Usage),
+        (["replay", "c", "--", "r"].as_slice(), Status::Usage),
+        (["replay", "c", "r", "--"].as_slice(), Status::Usage),
+        (["serve", "--", "c", "1"].as_slice(), Status::Usage),
+        (["--", "check", "c"].as_slice(), Status::Usage),
+        (["--"].as_slice(), Status::Usage),
+        (["check", "--help"].as_slice(), Status::Usage),
+        (["check", "c", "--help"].as_slice(), Status::Usage),
+        (["check", "-h"].as_slice(), Status::Usage),
+        (["--help", "check"].as_slice(), Status::Usage),
+        (["--help", "--help"].as_slice(), Status::Usage),
+        (["--version", "x"].as_slice(), Status::Usage),
+        (["--vers"].as_slice(), Status::Usage),
+        (["-h"].as_slice(), Status::Usage),
+        (["-V"].as_slice(), Status::Usage),
+        (["help"].as_slice(), Status::Usage),
+        (["help", "check"].as_slice(), Status::Usage),
+        (["chec", "c"].as_slice(), Status::Usage),
+        (["check", ""].as_slice(), Status::Usage),
+        (["", "c"].as_slice(), Status::Usage),
+        ([""].as_slice(), Status::Usage),
+        (["serve", "c"].as_slice(), Status::Usage),
+        (["serve", "c", "1", "1"].as_slice(), Status::Usage),
+        (["serve", "c", "+1"].as_slice(), Status::Usage),
+        (["drill", "-1", "0"].as_slice(), Status::Usage),
         ([].as_slice(), Status::Usage),
     ] {
         let mut out = MemSink::new(alloc);
         let words = words(alloc, texts)?;
         assert_eq!(rt; htx_proxy(alloc, &words, &mut files, &mut out), status);
         assert_eq!(rt; out.written().is_empty(), status == Status::Unbuilt);
+    }
+    Ok(())
+}
+
+#[test]
+fn writes_texts_of_help(rt: HostRuntime) -> Result<(), Fail> {
+    let alloc = rt.alloc();
+    let mut files = MemFiles::new(alloc);
+    for (texts, status, front) in [
+        (
+            ["--version"].as_slice(),
+            Status::Good,
+            b"htx_proxy 0.1.0\n".as_slice(),
+        ),
+        (
+            ["--help"].as_slice(),
+            Status::Good,
+            b"Rewrites HTTP exchanges by the rules of a configuration\n\nUsage: htx_proxy <COMMAND>\n",
+        ),
+        (
+            ["help"].as_slice(),
+            Status::Usage,
+            b"error: unrecognized subcommand 'help'\n\nRewrites HTTP exchanges ",
+        ),
+        (
+            ["check", "--", "c"].as_slice(),
+            Status::Usage,
+            b"error: a word is empty or out of bounds, or `--` is among the words\n\nRewrites HTTP exchanges ",
+        ),
+    ] {
+        let mut out = MemSink::new(alloc);
+        let words = words(alloc, texts)?;
+        assert_eq!(rt; htx_proxy(alloc, &words, &mut files, &mut out), status);
+        assert!(rt; out.written().starts_with(front));
     }
     Ok(())
 }

@@ -1,7 +1,7 @@
 use Rattle.std.proofs.Common.{rules, ◌≡◌, ℕ, List, sym, subst, ◌∙◌, IsTrue}
 use Rattle.std.specs.Prelude.{string_bytes}
-use Rattle.htx_proxy.proofs.Words.{alone_word}
-use Rattle.htx_proxy.proofs.command.is_alone.Goals as goal
+use Rattle.px_command.proofs.Items.{alone_word}
+use Rattle.px_command.proofs.words.is_alone.Goals as goal
 
 pub returns-in-len1 : goal.returns-in-len1
 returns-in-len1 c =

@@ -1,0 +1,60 @@
+-- What `clap` reads of the command line's builder, and what it makes of words.
+use Rattle.std.specs.Prelude.{◌≡◌, [], List, true, Some, codes}
+use Rattle.clap.specs.Words.{App, HasMatchesOf, Row, Rule, Text, first_of, new_app, new_rule, subcommand_rows_of, with_rule, with_subcommand}
+use Rattle.clap.specs.Words.{HasKind, fault_of}
+use Rattle.clap.specs.Simple.{on_top}
+use Rattle.clap.specs.declared.builder.action.ArgAction.{ArgAction}
+use Rattle.clap.specs.declared.builder.action.ArgAction.TheVariants.{Help, Version}
+use Rattle.clap.specs.declared.error.Error.{Error}
+use Rattle.clap.specs.declared.parser.matches.ArgMatches.{ArgMatches}
+
+-- a word that must be given
+abbrev pub word_rule : (name : Text) → Rule
+word_rule name = record (new_rule name) { required = true }
+
+-- a flag that asks for a text
+abbrev pub flag_rule : (name : Text) → ArgAction → Rule
+flag_rule name action = record (new_rule name) { long = Some name; action = Some action }
+
+-- a command without flags, with one word, and with two
+abbrev pub no_flag : (name : Text) → App
+no_flag name = on_top (λ s. record s { disable_help_flag = true }) (new_app name)
+
+abbrev pub one_word : (name first : Text) → App
+one_word name first = with_rule (no_flag name) (word_rule first)
+
+abbrev pub two_words : (name first second : Text) → App
+two_words name first second = with_rule (one_word name first) (word_rule second)
+
+-- the program's own level: words stand without the program's name, and a command must be there
+abbrev pub top_level : App
+top_level = on_top (λ s. record s {
+  no_binary_name = true;
+  disable_help_flag = true;
+  disable_help_subcommand = true;
+  disable_version_flag = true;
+  has_version = true;
+  subcommand_required = true;
+}) (new_app (codes "htx_proxy"))
+
+-- the flags and the commands of the program
+abbrev pub parser : App
+parser =
+    let flags = with_rule (with_rule top_level (flag_rule (codes "help") Help)) (flag_rule (codes "version") Version) in
+    let check = with_subcommand flags (one_word (codes "check") (codes "CFG")).top in
+    let replay = with_subcommand check (two_words (codes "replay") (codes "CFG") (codes "REC")).top in
+    let serve = with_subcommand replay (two_words (codes "serve") (codes "CFG") (codes "COUNT")).top in
+    with_subcommand serve (two_words (codes "drill") (codes "SEED") (codes "COUNT")).top
+
+-- `clap` took the words, and these are the matches
+abbrev pub IsTaken : List Text → ArgMatches → Type 0
+IsTaken words matches = HasMatchesOf parser words matches × (fault_of parser words ≡ [])
+
+-- `clap` refused the words with this error
+abbrev pub IsRefused : List Text → Error → Type 0
+IsRefused words error = HasKind (fault_of parser words) error
+
+-- `clap` gives this value for a word of a command
+abbrev pub Gives : ArgMatches → (command word value : Text) → Type 0
+Gives matches command word value =
+    (rows : List Row) × (subcommand_rows_of matches ≡ Some (command, rows)) × (first_of word rows ≡ Some value)

@@ -1,0 +1,81 @@
+//! What the words ask for.
+ghost use Rattle.std.specs.Prelude.{IfOk, map, string_bytes};
+ghost use Rattle.px_command.specs.Asked.{IsAsked};
+ghost use Rattle.px_command.specs.Parser.{IsTaken, IsRefused};
+
+use crate::lists::{check_file, is_later, replay_files};
+use crate::parser::command;
+use crate::texts::{error_text, unlisted_text};
+use crate::words::is_alone;
+use clap::error::ErrorKind;
+use clap::{ArgMatches, Error};
+use http_model::OutOfMemory;
+use px_link::Bytes;
+use std::alloc::Global;
+
+/// What the words of a command line ask for.
+#[derive(Drop)]
+pub enum Asked<'a> {
+    /// `check CFG`.
+    Check { cfg: &'a str },
+    /// `replay CFG REC`.
+    Replay { cfg: &'a str, rec: &'a str },
+    /// `serve CFG COUNT` or `drill SEED COUNT`, which aren't built yet.
+    Later,
+    /// `--help`.
+    Help,
+    /// `--version`.
+    Version,
+    /// The words are no command. The text says what is wrong with them.
+    Usage { text: Bytes },
+}
+
+/// What words ask for that `clap` took.
+fn taken<'a>(
+    alloc: Global,
+    words: &[String],
+    matches: &ArgMatches<'a>,
+) -> Result<Asked<'a>, OutOfMemory>
+    requires { IsTaken (map string_bytes words.now) matches.now }
+    ensures { IfOk result (IsAsked (map string_bytes words.now)) }
+{
+    if let Some(cfg) = check_file(words, matches) {
+        return Ok(Asked::Check { cfg });
+    }
+    if let Some((cfg, rec)) = replay_files(words, matches) {
+        return Ok(Asked::Replay { cfg, rec });
+    }
+    if is_later(words, matches) {
+        return Ok(Asked::Later);
+    }
+    let text = unlisted_text(alloc)?;
+    Ok(Asked::Usage { text })
+}
+
+/// What words ask for that `clap` refused.
+fn refused<'a>(alloc: Global, words: &[String], error: &Error) -> Result<Asked<'a>, OutOfMemory>
+    requires { IsRefused (map string_bytes words.now) error.now }
+    ensures { IfOk result (IsAsked (map string_bytes words.now)) }
+{
+    if error.kind() == ErrorKind::OutOfMemory {
+        return Err(OutOfMemory);
+    }
+    if is_alone(words, "--help") {
+        return Ok(Asked::Help);
+    }
+    if is_alone(words, "--version") {
+        return Ok(Asked::Version);
+    }
+    let text = error_text(alloc, error)?;
+    Ok(Asked::Usage { text })
+}
+
+/// What words ask for: `clap` reads them, and then the lists of words decide.
+pub fn asked_by<'a>(alloc: Global, words: &'a [String]) -> Result<Asked<'a>, OutOfMemory>
+    ensures { IfOk result (IsAsked (map string_bytes words.now)) }
+{
+    match command(alloc)?.try_get_matches_from(words) {
+        Ok(matches) => taken(alloc, words, &matches),
+        Err(error) => refused(alloc, words, &error),
+    }
+}

@@ -1,0 +1,15 @@
+//! What the words of the command line ask for. `clap` reads them, and then the lists of words that the program takes
+//! decide.
+#![tactic(auto)]
+
+mod ask;
+mod lists;
+mod parser;
+#[cfg(test)]
+mod tests;
+mod texts;
+mod values;
+mod words;
+
+pub use ask::{Asked, asked_by};
+pub use texts::{help_text, version_text};

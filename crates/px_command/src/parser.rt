@@ -1,0 +1,123 @@
+//! The command line as `clap` reads it: the names of commands and their words, with what help says of them.
+ghost use Rattle.std.specs.Prelude.{◌≡◌, ℕ, List, IfOk, false, codes};
+ghost use Rattle.clap.specs.Words.{app_of, rule_of};
+ghost use Rattle.clap.specs.declared.builder.command.Command.TheViews.{out-Command};
+ghost use Rattle.px_command.specs.Parser.{word_rule, flag_rule, no_flag, one_word, two_words, top_level, parser};
+
+use clap::{Arg, ArgAction, Command};
+use std::alloc::{AllocError, Global};
+
+/// A word that must be given.
+fn word<'a>(alloc: Global, name: &'a str, help: &'a str) -> Arg<'a>
+    ensures rule { rule_of result ≡ word_rule name.now }
+    ensures local { result.global ≡ false }
+{
+    Arg::new(alloc, name).required(true).help(help)
+}
+
+/// The file of a configuration.
+fn cfg_word<'a>(alloc: Global) -> Arg<'a>
+    ensures rule { rule_of result ≡ word_rule (codes "CFG") }
+    ensures local { result.global ≡ false }
+{
+    word(alloc, "CFG", "The file of the configuration")
+}
+
+/// A flag that asks for a text.
+fn flag<'a>(alloc: Global, name: &'a str, action: ArgAction, help: &'a str) -> Arg<'a>
+    ensures rule { rule_of result ≡ flag_rule name.now action }
+    ensures local { result.global ≡ false }
+{
+    Arg::new(alloc, name).long(name).action(action).help(help)
+}
+
+/// A command without flags.
+fn plain_command<'a>(alloc: Global, name: &'a str) -> Command<'a>
+    ensures app { app_of result ≡ no_flag name.now }
+    ensures local { (out-Command result).has_globals ≡ false }
+{
+    Command::new(alloc, name).disable_help_flag(true)
+}
+
+/// `check CFG`.
+pub fn check_command<'a>(alloc: Global) -> Result<Command<'a>, AllocError>
+    ensures app { IfOk result (λ c. app_of c ≡ one_word (codes "check") (codes "CFG")) }
+    ensures local { IfOk result (λ c. (out-Command c).has_globals ≡ false) }
+{
+    plain_command(alloc, "check")
+        .about(
+            "Reads a configuration, and says how many rules it has or what is wrong in which line",
+        )
+        .arg(cfg_word(alloc))
+}
+
+/// `replay CFG REC`.
+pub fn replay_command<'a>(alloc: Global) -> Result<Command<'a>, AllocError>
+    ensures app { IfOk result (λ c. app_of c ≡ two_words (codes "replay") (codes "CFG") (codes "REC")) }
+    ensures local { IfOk result (λ c. (out-Command c).has_globals ≡ false) }
+{
+    plain_command(alloc, "replay")
+        .about("Runs the session that a record holds, and writes the report of what was sent")
+        .arg(cfg_word(alloc))?
+        .arg(word(alloc, "REC", "The file of the record"))
+}
+
+/// `serve CFG COUNT`.
+pub fn serve_command<'a>(alloc: Global) -> Result<Command<'a>, AllocError>
+    ensures app { IfOk result (λ c. app_of c ≡ two_words (codes "serve") (codes "CFG") (codes "COUNT")) }
+    ensures local { IfOk result (λ c. (out-Command c).has_globals ≡ false) }
+{
+    plain_command(alloc, "serve")
+        .about("Serves connections (not built yet)")
+        .arg(cfg_word(alloc))?
+        .arg(word(alloc, "COUNT", "How many connections, 1 to 1000000"))
+}
+
+/// `drill SEED COUNT`.
+pub fn drill_command<'a>(alloc: Global) -> Result<Command<'a>, AllocError>
+    ensures app { IfOk result (λ c. app_of c ≡ two_words (codes "drill") (codes "SEED") (codes "COUNT")) }
+    ensures local { IfOk result (λ c. (out-Command c).has_globals ≡ false) }
+{
+    plain_command(alloc, "drill")
+        .about("Runs generated sessions (not built yet)")
+        .arg(word(alloc, "SEED", "Where generating begins, 0 to 2147483647"))?
+        .arg(word(alloc, "COUNT", "How many sessions, 0 to 4000"))
+}
+
+/// The program's own level.
+fn top_command<'a>(alloc: Global) -> Command<'a>
+    ensures app { app_of result ≡ top_level }
+    ensures local { (out-Command result).has_globals ≡ false }
+{
+    Command::new(alloc, "htx_proxy")
+        .version("0.1.0")
+        .about("Rewrites HTTP exchanges by the rules of a configuration")
+        .no_binary_name(true)
+        .disable_help_flag(true)
+        .disable_help_subcommand(true)
+        .disable_version_flag(true)
+        .subcommand_required(true)
+}
+
+/// The program's flags and commands.
+pub fn command<'a>(alloc: Global) -> Result<Command<'a>, AllocError>
+    ensures { IfOk result (λ c. app_of c ≡ parser) }
+{
+    top_command(alloc)
+        .arg(flag(
+            alloc,
+            "help",
+            ArgAction::Help,
+            "Writes this text; stands alone",
+        ))?
+        .arg(flag(
+            alloc,
+            "version",
+            ArgAction::Version,
+            "Writes the version; stands alone",
+        ))?
+        .subcommand(check_command(alloc)?)?
+        .subcommand(replay_command(alloc)?)?
+        .subcommand(serve_command(alloc)?)?
+        .subcommand(drill_command(alloc)?)
+}
