@@ -1,9 +1,6 @@
 -- What the parser says of the section of which trailers are made.
-use Rattle.std.proofs.Common.{◌≡◌, ◌++◌, ◌<◌, ℕ, List, [], refl, sym, ap, ◌∙◌, arith, length, take, drop, subst, get_or, inl, inr, length-append}
-use Rattle.std.specs.Prelude.{map, All, Result, Ok, Err, OnOk, OnErr, IsOk}
-use Rattle.htx_model.specs.Block.{Block}
-use Rattle.htx_model.specs.Blocks.{load, Fits}
-use Rattle.htx_arena.specs.declared.arena.Full.{Full}
+use Rattle.std.proofs.Common.{◌≡◌, ◌++◌, ◌<◌, ℕ, List, [], sym, ap, ◌∙◌, arith, length, take, drop, subst, get_or, inl, inr, length-append}
+use Rattle.std.specs.Prelude.{map, All, Ok}
 use Rattle.std.proofs.lemmas.List.{length-map, get_or-map}
 use Rattle.httparse.specs.declared.Error.{Error}
 use Rattle.httparse.specs.declared.Status.{Status}
