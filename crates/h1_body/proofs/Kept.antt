@@ -1,9 +1,6 @@
 -- What the parser says of the section of which trailers are made.
-use Rattle.std.proofs.Common.{◌≡◌, ◌++◌, ◌<◌, ℕ, List, [], refl, sym, ap, ◌∙◌, arith, length, take, drop, subst, get_or, inl, inr, length-append}
-use Rattle.std.specs.Prelude.{map, All, Result, Ok, Err, OnOk, OnErr, IsOk}
-use Rattle.htx_model.specs.Block.{Block}
-use Rattle.htx_model.specs.Blocks.{load, Fits}
-use Rattle.htx_arena.specs.declared.arena.Full.{Full}
+use Rattle.std.proofs.Common.{◌≡◌, ◌++◌, ◌<◌, ℕ, List, [], sym, ap, ◌∙◌, arith, length, take, drop, subst, get_or, inl, inr, length-append}
+use Rattle.std.specs.Prelude.{map, All, Ok}
 use Rattle.std.proofs.lemmas.List.{length-map, get_or-map}
 use Rattle.httparse.specs.declared.Error.{Error}
 use Rattle.httparse.specs.declared.Status.{Status}
@@ -67,16 +64,3 @@ pub blocks_are : (w : List ℕ) (headers : List HeaderSpan) (used count : ℕ) �
     → (trailers : List Field) → HasTrailers w trailers → ended_trailers (kept_blocks (map (header_bytes w) (take count headers))) ≡ trailer_blocks trailers
 blocks_are w headers used count h fields b trailers has =
     ap (λ fs. ended_trailers (kept_blocks fs)) (are_fields w headers used count h fields b) ∙ sym (ap trailer_blocks (trailers_are w fields b trailers has))
-
-pub added : (r : Result (Unit {0}) Full) (old new blocks more : List Block) → blocks ≡ more → OnOk r (new ≡ old ++ blocks) → OnOk r (new ≡ old ++ more)
-added (Ok u) old new blocks more same ok = ok ∙ ap (λ bs. old ++ bs) same
-added (Err e) old new blocks more same ok = tt
-
-pub fitting : (r : Result (Unit {0}) Full) (old new blocks more : List Block) (size after : ℕ) → blocks ≡ more → after ≡ size → OnOk r (new ≡ old ++ blocks) → OnOk r (Fits new after)
-    → OnErr r (size < load (old ++ blocks)) → (IsOk r → Fits (old ++ more) size) × (Fits (old ++ more) size → IsOk r)
-fitting (Ok u) old new blocks more size after same kept ok fits full =
-    let is : new ≡ old ++ more = ok ∙ ap (λ bs. old ++ bs) same in
-    (λ _. subst (λ (n : ℕ). Fits (old ++ more) n) kept (subst (λ (bs : List Block). Fits bs after) is fits), λ _. refl)
-fitting (Err e) old new blocks more size after same kept ok fits full =
-    let over : size < load (old ++ more) = subst (λ (bs : List Block). size < load (old ++ bs)) same full in
-    (λ h. cc, λ holds. absurd (omega arith))

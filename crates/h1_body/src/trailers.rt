@@ -1,14 +1,14 @@
 //! Trailers, put into the array.
-ghost use Rattle.std.specs.Prelude.{◌≡◌, ◌≤◌, ◌<◌, ◌++◌, ◌∷◌, ◌↔◌, [], List, ℕ, length, map, take, All, not, OnOk, OnErr, IsOk};
-ghost use Rattle.std.specs.List.{list_any};
+ghost use Rattle.std.specs.Prelude.{◌≡◌, ◌≤◌, ◌++◌, ◌∷◌, ◌↔◌, [], List, ℕ, length, map, All, OnOk, OnErr, IsOk};
 ghost use Rattle.httparse.specs.Grammar as grammar;
 ghost use Rattle.httparse.specs.Spans.{IsHeaderWithin, header_bytes};
-ghost use Rattle.htx_model.specs.Blocks.{load, Fits};
+ghost use Rattle.htx_model.specs.Blocks.{Fits};
 ghost use Rattle.http_model.specs.Fields.{is_named_among};
 ghost use Rattle.http_model.specs.Head.{Field};
 ghost use Rattle.h1_body.specs.Section.{BeginsFields, HasTrailers, folded, is_kept, dropped_names};
 ghost use Rattle.h1_body.specs.Trailers.{trailer_block, trailer_blocks, ended_trailers, kept_blocks, HasGoodName};
 
+use crate::room::has_room;
 use crate::section::{MAX_FIELDS, MAX_NAME};
 use httparse::Status;
 use httparse::spans::{EMPTY_HEADER_SPAN, HeaderSpan, parse_headers};
@@ -30,7 +30,7 @@ fn is_dropped(name: &[u8]) -> bool
 }
 
 /// Whether a field of the section stays.
-fn is_kept(section: &[u8], field: &HeaderSpan) -> bool
+pub(crate) fn is_kept(section: &[u8], field: &HeaderSpan) -> bool
     requires { IsHeaderWithin (length section.now) field.now }
     ensures { result ≡ is_kept (header_bytes section.now field.now) }
 {
@@ -38,12 +38,11 @@ fn is_kept(section: &[u8], field: &HeaderSpan) -> bool
 }
 
 /// Adds a trailer behind the other blocks, with its name in lower case.
-fn push_trailer(name: &[u8], value: &[u8], to: &mut Arena) -> Result<(), Full>
+fn push_trailer(name: &[u8], value: &[u8], to: &mut Arena)
     requires named { 1 ≤ length name.now }
     requires short { length name.now ≤ 255 }
-    ensures ok { OnOk result (to.new.blocks ≡ to.old.blocks ++ trailer_block (folded (name.now, value.now)) ∷ []) }
-    ensures fits { IsOk result ↔ Fits (to.old.blocks ++ trailer_block (folded (name.now, value.now)) ∷ []) to.old.size }
-    ensures full { OnErr result (to.new.blocks ≡ to.old.blocks) }
+    requires room { Fits (to.old.blocks ++ trailer_block (folded (name.now, value.now)) ∷ []) to.old.size }
+    ensures blocks { to.new.blocks ≡ to.old.blocks ++ trailer_block (folded (name.now, value.now)) ∷ [] }
     ensures size { to.new.size ≡ to.old.size }
 {
     let mut buffer = [0; MAX_NAME];
@@ -51,32 +50,22 @@ fn push_trailer(name: &[u8], value: &[u8], to: &mut Arena) -> Result<(), Full>
     lower.copy_from_slice(name);
     fold(lower);
     let at = to.len();
-    to.insert_field(at, Kind::Trailer, lower, value)
+    to.insert_field(at, Kind::Trailer, lower, value).unwrap();
 }
 
 /// Adds the trailers that stay.
-fn push_trailers(section: &[u8], fields: &[HeaderSpan], to: &mut Arena) -> Result<(), Full>
+fn push_trailers(section: &[u8], fields: &[HeaderSpan], to: &mut Arena)
     requires within { All (IsHeaderWithin (length section.now)) fields.now }
     requires named { All (HasGoodName section.now) fields.now }
-    ensures ok { OnOk result (to.new.blocks ≡ to.old.blocks ++ kept_blocks (map (header_bytes section.now) fields.now)) }
-    ensures full { OnErr result (to.old.size < load (to.old.blocks ++ kept_blocks (map (header_bytes section.now) fields.now))) }
-    ensures front { take (length to.old.blocks) to.new.blocks ≡ to.old.blocks }
-    ensures enough { length to.old.blocks ≤ length to.new.blocks }
+    requires room { Fits (to.old.blocks ++ kept_blocks (map (header_bytes section.now) fields.now)) to.old.size }
+    ensures blocks { to.new.blocks ≡ to.old.blocks ++ kept_blocks (map (header_bytes section.now) fields.now) }
     ensures size { to.new.size ≡ to.old.size }
 {
     for field in fields {
         if is_kept(section, field) {
-            push_trailer(field.name.of(section), field.value.of(section), to)?;
+            push_trailer(field.name.of(section), field.value.of(section), to);
         }
     }
-    Ok(())
-}
-
-/// What an array has, it holds.
-fn held(to: &Arena)
-    ensures { Fits to.now.blocks to.now.size }
-{
-    let _room = to.room();
 }
 
 /// Adds the trailers that stay, and their end where there is one.
@@ -84,43 +73,31 @@ fn push_section(section: &[u8], fields: &[HeaderSpan], to: &mut Arena) -> Result
     requires within { All (IsHeaderWithin (length section.now)) fields.now }
     requires named { All (HasGoodName section.now) fields.now }
     ensures ok { OnOk result (to.new.blocks ≡ to.old.blocks ++ ended_trailers (kept_blocks (map (header_bytes section.now) fields.now))) }
-    ensures full { OnErr result (to.old.size < load (to.old.blocks ++ ended_trailers (kept_blocks (map (header_bytes section.now) fields.now)))) }
-    ensures fits { OnOk result (Fits to.new.blocks to.new.size) }
-    ensures front { take (length to.old.blocks) to.new.blocks ≡ to.old.blocks }
-    ensures enough { length to.old.blocks ≤ length to.new.blocks }
+    ensures fits { IsOk result ↔ Fits (to.old.blocks ++ ended_trailers (kept_blocks (map (header_bytes section.now) fields.now))) to.old.size }
+    ensures full { OnErr result (to.new ≡ to.old) }
     ensures size { to.new.size ≡ to.old.size }
 {
+    if !has_room(section, fields, to.room() as usize) {
+        return Err(Full);
+    }
     let before = to.len();
-    push_trailers(section, fields, to)?;
+    push_trailers(section, fields, to);
     let len = to.len();
-    if len == before {
-        held(to);
-        return Ok(());
+    if len > before {
+        to.insert_end(len, Kind::EndTrailers).unwrap();
     }
-    to.insert_end(len, Kind::EndTrailers)
-}
-
-/// Takes out the blocks behind the first `len`.
-fn cut_back(to: &mut Arena, len: u32)
-    requires { len ≤ length to.old.blocks }
-    ensures blocks { to.new.blocks ≡ take len to.old.blocks }
-    ensures size { to.new.size ≡ to.old.size }
-{
-    while to.len() > len {
-        let last = to.len() - 1;
-        to.remove(last);
-    }
+    Ok(())
 }
 
 /// Adds the trailers of a section that `feed` gave behind the other blocks, and the end of trailers; nothing where no
 /// field is left. Names are in lower case, values have no blanks around them, and the fields named `host`,
 /// `content-length`, `transfer-encoding`, `connection`, `keep-alive`, `proxy-connection`, `te` and `upgrade` are
-/// dropped (RFC 9110 section 6.5.1). Full where the blocks do not fit all together; then none is added.
+/// dropped (RFC 9110 section 6.5.1). Full where the blocks do not fit all together; then the array is as it was.
 pub fn add_trailers(section: &[u8], to: &mut Arena) -> Result<(), Full>
     requires { (fields : List grammar.Field) × BeginsFields section.now fields [] }
     ensures ok { (trailers : List Field) → HasTrailers section.now trailers → OnOk result (to.new.blocks ≡ to.old.blocks ++ trailer_blocks trailers) }
     ensures fits { (trailers : List Field) → HasTrailers section.now trailers → (IsOk result ↔ Fits (to.old.blocks ++ trailer_blocks trailers) to.old.size) }
-    ensures full { OnErr result (to.new.blocks ≡ to.old.blocks) }
+    ensures full { OnErr result (to.new ≡ to.old) }
     ensures size { to.new.size ≡ to.old.size }
 {
     let mut spans = [EMPTY_HEADER_SPAN; MAX_FIELDS];
@@ -128,10 +105,5 @@ pub fn add_trailers(section: &[u8], to: &mut Arena) -> Result<(), Full>
         Ok(Status::Complete((_used, count))) => count,
         _ => unreachable!(),
     };
-    let before = to.len();
-    let pushed = push_section(section, &spans[..count], to);
-    if pushed.is_err() {
-        cut_back(to, before);
-    }
-    pushed
+    push_section(section, &spans[..count], to)
 }
