@@ -19,6 +19,7 @@ of_bytes cap f v = if nat_le (length (text_of v)) cap then Some (f (text_of v)) 
 -- a converter of bytes to bytes that may give none, and never more than it was given
 abbrev pub of_bytes_or_none : ℕ → (List ℕ → Option (List ℕ)) → Value → Option Value
 of_bytes_or_none cap f v = if nat_le (length (text_of v)) cap then option_map Bytes (f (text_of v)) else None
+
 -- a converter that writes bytes anew: absent too where the result is more than so many
 abbrev pub of_bytes_anew : ℕ → (List ℕ → List ℕ) → Value → Option Value
 of_bytes_anew cap f v = within cap (of_bytes cap (λ bytes. Bytes (f bytes)) v)

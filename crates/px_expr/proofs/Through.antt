@@ -1,8 +1,12 @@
 -- A sample on its way through converters.
-use Rattle.std.proofs.Common.{◌≡◌, ℕ, zero, suc, ◌+◌, List, [], ◌∷◌, drop, refl, sym, ap, ◌∙◌, add-one, Option, Some, None}
+use Rattle.std.proofs.Common.{inl, inr, ◌≡◌, ℕ, zero, suc, false, ◌+◌, List, [], ◌∷◌, drop, refl, sym, ap, ◌∙◌, add-one, Option, Some, None}
 use Rattle.std.specs.Prelude.{slice_get}
+use Rattle.std.specs.List.{list_any}
+use Rattle.std.proofs.lemmas.Bool.{cases_Bool, false≢true}
+use Rattle.std.proofs.lemmas.Option.{slice_get_within, get_or_from_slice_get}
+use Rattle.std.proofs.lemmas.List.Folds.{list_any_at}
 use Rattle.px_sample.specs.Sample.{Value}
-use Rattle.px_conv.specs.Conv.{converted}
+use Rattle.px_conv.specs.Conv.{converted, has_pattern}
 use Rattle.px_conv.specs.declared.conv.Conv.{Conv}
 use Rattle.px_expr.specs.Expr.{put_through}
 
@@ -29,3 +33,14 @@ goes_on size now convs at conv old new whole is same made left =
 pub stops : (size : ℕ) (convs : List Conv) (made whole : Option Value) → made ≡ None → put_through size convs made ≡ whole → None ≡ whole
 stops size convs made whole none left =
     sym (absent_stays size convs) ∙ (ap (λ (v : Option Value). put_through size convs v) (sym none) ∙ left)
+
+-- where none of them holds a pattern, this one doesn't
+pub not_this_one : (convs : List Conv) (at : ℕ) (conv : Conv) → slice_get convs at ≡ Some conv → list_any has_pattern convs ≡ false → has_pattern conv ≡ false
+not_this_one convs at conv is none =
+    elim (cases_Bool (has_pattern conv)) [
+      | inl holds ↦
+          let here = get_or_from_slice_get convs at conv conv is in
+          let any = list_any_at has_pattern convs at conv (slice_get_within convs at conv is) (ap has_pattern here ∙ holds) in
+          absurd (false≢true (sym none ∙ any))
+      | inr other ↦ other
+    ]
