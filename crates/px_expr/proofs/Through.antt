@@ -1,7 +1,10 @@
 -- A sample on its way through converters.
-use Rattle.std.proofs.Common.{◌≡◌, ℕ, zero, suc, ◌+◌, Bool, true, false, List, [], ◌∷◌, drop, refl, sym, ap, ◌∙◌, add-one, Option, Some, None}
-use Rattle.std.specs.Prelude.{slice_get, ◌||◌}
+use Rattle.std.proofs.Common.{inl, inr, ◌≡◌, ℕ, zero, suc, false, ◌+◌, List, [], ◌∷◌, drop, refl, sym, ap, ◌∙◌, add-one, Option, Some, None}
+use Rattle.std.specs.Prelude.{slice_get}
 use Rattle.std.specs.List.{list_any}
+use Rattle.std.proofs.lemmas.Bool.{cases_Bool, false≢true}
+use Rattle.std.proofs.lemmas.Option.{slice_get_within, get_or_from_slice_get}
+use Rattle.std.proofs.lemmas.List.Folds.{list_any_at}
 use Rattle.px_sample.specs.Sample.{Value}
 use Rattle.px_conv.specs.Conv.{converted, has_pattern}
 use Rattle.px_conv.specs.declared.conv.Conv.{Conv}
@@ -31,18 +34,13 @@ pub stops : (size : ℕ) (convs : List Conv) (made whole : Option Value) → mad
 stops size convs made whole none left =
     sym (absent_stays size convs) ∙ (ap (λ (v : Option Value). put_through size convs v) (sym none) ∙ left)
 
-off_left : (a b : Bool) → (a || b) ≡ false → a ≡ false
-off_left false b h = refl
-off_left true b h = h
-
-off_right : (a b : Bool) → (a || b) ≡ false → b ≡ false
-off_right false b h = h
-off_right true b h = cc
-
--- where none of the converters holds a pattern, the one at a place holds none
-pub holds_none : (convs : List Conv) (at : ℕ) (conv : Conv) → slice_get convs at ≡ Some conv → list_any has_pattern convs ≡ false → has_pattern conv ≡ false
-holds_none [] at conv is none = cc
-holds_none (c ∷ convs) zero conv is none =
-    let same : c ≡ conv = cc in
-    ap has_pattern (sym same) ∙ off_left (has_pattern c) (list_any has_pattern convs) none
-holds_none (c ∷ convs) (suc at) conv is none = holds_none convs at conv is (off_right (has_pattern c) (list_any has_pattern convs) none)
+-- where none of them holds a pattern, this one doesn't
+pub not_this_one : (convs : List Conv) (at : ℕ) (conv : Conv) → slice_get convs at ≡ Some conv → list_any has_pattern convs ≡ false → has_pattern conv ≡ false
+not_this_one convs at conv is none =
+    elim (cases_Bool (has_pattern conv)) [
+      | inl holds ↦
+          let here = get_or_from_slice_get convs at conv conv is in
+          let any = list_any_at has_pattern convs at conv (slice_get_within convs at conv is) (ap has_pattern here ∙ holds) in
+          absurd (false≢true (sym none ∙ any))
+      | inr other ↦ other
+    ]

@@ -1,16 +1,18 @@
-use Rattle.std.proofs.Common.{rules, ◌≡◌, false, ◌∙◌, ap, drop}
-use Rattle.std.specs.Prelude.{IsOk}
-use Rattle.std.specs.List.{list_any}
-use Rattle.px_conv.specs.Conv.{has_pattern}
+use Rattle.std.proofs.Common.{◌∙◌, ap, drop}
 use Rattle.px_sample.specs.Sample.{value_in}
 use Rattle.px_sample.specs.declared.sample.Sample.{Sample}
-use Rattle.px_expr.proofs.Through.{goes_on, stops, holds_none}
+use Rattle.std.proofs.lemmas.Bool.{false≢true}
+use Rattle.px_expr.proofs.Through.{goes_on, stops, not_this_one}
 use Rattle.px_expr.proofs.evaluation.convert_all.Goals as goal
 
 pub returns-in-Absent-clause-value : goal.returns-in-Absent-clause-value
 returns-in-Absent-clause-value c =
     let none = ap (λ (made : Sample). value_in made c.loop-at.buf.bytes) c.in-Absent.is in
     stops c.args.buf.now.cap (drop c.loop-at.at c.args.convs.now) (value_in c.loop-at.made c.loop-at.buf.bytes) _ none c.loop-at.invariant.left
+
+pub returns-in_err-made-clause-succeeds : goal.returns-in_err-made-clause-succeeds
+returns-in_err-made-clause-succeeds c =
+    λ none. absurd (false≢true (c.in_err-made.ensures.succeeds (not_this_one c.args.convs.now c.loop-at.at c.get.result.now c.get.ensures none)))
 
 pub loop-at-preserved : goal.loop-at-preserved
 loop-at-preserved c =
@@ -21,9 +23,3 @@ loop-at-preserved c =
           goes_on c.args.buf.now.cap c.loop-at.buf.cap c.args.convs.now c.loop-at.at c.get.result.now (value_in c.loop-at.made c.loop-at.buf.bytes) (value_in c.in_ok-made.made c.convert.new.buf.bytes) _
           c.get.ensures c.loop-at.invariant.cap c.in_ok-made.ensures.value c.loop-at.invariant.left;
     }
-
-pub returns-in_err-made : goal.returns-in_err-made
-returns-in_err-made c =
-    let succeeds : list_any has_pattern c.args.convs.now ≡ false → IsOk c.convert.result =
-        λ none. c.convert.ensures.succeeds (holds_none c.args.convs.now c.loop-at.at c.get.result.now c.get.ensures none) in
-    search rules
