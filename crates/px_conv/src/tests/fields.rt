@@ -7,7 +7,7 @@ const MIN: i64 = i64::MIN;
 
 const MAX: i64 = i64::MAX;
 
-const FIVE: &[u8; 12] = b"f1_f2_f3__f5";
+const FIVE: &[u8] = b"f1_f2_f3__f5";
 
 /// What is made of a sample in a buffer of 16 bytes.
 fn made(alloc: Global, conv: &Conv, sample: Sample, held: &[u8]) -> Result<(Sample, Buf), Fail> {
@@ -19,76 +19,77 @@ fn made(alloc: Global, conv: &Conv, sample: Sample, held: &[u8]) -> Result<(Samp
 }
 
 /// A text, an index, separators, a count, the fields and the words.
-type Case<'a> = (
-    &'a [u8],
+type Case = (
+    &'static [u8],
     i64,
-    &'a [u8],
+    &'static [u8],
     i64,
-    Option<&'a [u8]>,
-    Option<&'a [u8]>,
+    Option<&'static [u8]>,
+    Option<&'static [u8]>,
 );
+
+static CASES: [Case; 38] = [
+    (FIVE, 1, b"_", 1, Some(b"f1"), Some(b"f1")),
+    (FIVE, 4, b"_", 1, Some(b""), Some(b"f5")),
+    (FIVE, 5, b"_", 1, Some(b"f5"), None),
+    (FIVE, 6, b"_", 1, None, None),
+    (FIVE, 0, b"_", 1, None, None),
+    (FIVE, 0, b"_", 0, None, None),
+    (FIVE, 2, b"_", 2, Some(b"f2_f3"), Some(b"f2_f3")),
+    (FIVE, 3, b"_", 2, Some(b"f3_"), Some(b"f3__f5")),
+    (FIVE, 3, b"_", 0, Some(b"f3__f5"), Some(b"f3__f5")),
+    (FIVE, 2, b"_", -1, Some(b"f2_f3__f5"), Some(b"f2_f3__f5")),
+    (FIVE, -1, b"_", 1, Some(b"f5"), Some(b"f5")),
+    (FIVE, -2, b"_", 1, Some(b""), Some(b"f3")),
+    (FIVE, -2, b"_", 2, Some(b"f3_"), Some(b"f2_f3")),
+    (FIVE, -3, b"_", 0, Some(b"f1_f2_f3"), Some(b"f1_f2")),
+    (FIVE, -3, b"_", 2, Some(b"f2_f3"), Some(b"f1_f2")),
+    (FIVE, -4, b"_", 1, Some(b"f2"), Some(b"f1")),
+    (FIVE, -5, b"_", 9, Some(b"f1"), None),
+    (FIVE, -6, b"_", 0, None, None),
+    (FIVE, MAX, b"_", 0, None, None),
+    (FIVE, MIN, b"_", 0, None, None),
+    (FIVE, 2, b"_", MAX, Some(b"f2_f3__f5"), Some(b"f2_f3__f5")),
+    (FIVE, -1, b"_", MAX, Some(FIVE), Some(FIVE)),
+    (FIVE, 1, b"", 1, Some(FIVE), Some(FIVE)),
+    (FIVE, 2, b"", 1, None, None),
+    (b"", 1, b"_", 1, Some(b""), None),
+    (b"", -1, b"", 0, Some(b""), None),
+    (b"", 2, b"_", 1, None, None),
+    (b"a", 1, b",", 1, Some(b"a"), Some(b"a")),
+    (b",", 2, b",", 1, Some(b""), None),
+    (b",", -1, b",", 0, Some(b","), None),
+    (b",,a,,", 1, b",", 1, Some(b""), Some(b"a")),
+    (b",,a,,", 3, b",", 1, Some(b"a"), None),
+    (b",,a,,", -1, b",", 0, Some(b",,a,,"), Some(b"a")),
+    (b"a, b;c", 2, b", ;", 1, Some(b""), Some(b"b")),
+    (b"a, b;c", 2, b"; ,,", 2, Some(b" b"), Some(b"b;c")),
+    (
+        b"\xC3\xA9\xFF\x00b",
+        2,
+        b"\xFF",
+        1,
+        Some(b"\x00b"),
+        Some(b"\x00b"),
+    ),
+    (b"\xC3\xA9b", 1, b"\xA9", 1, Some(b"\xC3"), Some(b"\xC3")),
+    (
+        b"a\x00\xFFb",
+        -1,
+        b"\x00\xFF",
+        2,
+        Some(b"\xFFb"),
+        Some(b"a\x00\xFFb"),
+    ),
+];
 
 #[test]
 fn fields_and_words(rt: HostRuntime) -> Result<(), Fail> {
-    let cases: [Case; 38] = [
-        (FIVE, 1, b"_", 1, Some(b"f1"), Some(b"f1")),
-        (FIVE, 4, b"_", 1, Some(b""), Some(b"f5")),
-        (FIVE, 5, b"_", 1, Some(b"f5"), None),
-        (FIVE, 6, b"_", 1, None, None),
-        (FIVE, 0, b"_", 1, None, None),
-        (FIVE, 0, b"_", 0, None, None),
-        (FIVE, 2, b"_", 2, Some(b"f2_f3"), Some(b"f2_f3")),
-        (FIVE, 3, b"_", 2, Some(b"f3_"), Some(b"f3__f5")),
-        (FIVE, 3, b"_", 0, Some(b"f3__f5"), Some(b"f3__f5")),
-        (FIVE, 2, b"_", -1, Some(b"f2_f3__f5"), Some(b"f2_f3__f5")),
-        (FIVE, -1, b"_", 1, Some(b"f5"), Some(b"f5")),
-        (FIVE, -2, b"_", 1, Some(b""), Some(b"f3")),
-        (FIVE, -2, b"_", 2, Some(b"f3_"), Some(b"f2_f3")),
-        (FIVE, -3, b"_", 0, Some(b"f1_f2_f3"), Some(b"f1_f2")),
-        (FIVE, -3, b"_", 2, Some(b"f2_f3"), Some(b"f1_f2")),
-        (FIVE, -4, b"_", 1, Some(b"f2"), Some(b"f1")),
-        (FIVE, -5, b"_", 9, Some(b"f1"), None),
-        (FIVE, -6, b"_", 0, None, None),
-        (FIVE, MAX, b"_", 0, None, None),
-        (FIVE, MIN, b"_", 0, None, None),
-        (FIVE, 2, b"_", MAX, Some(b"f2_f3__f5"), Some(b"f2_f3__f5")),
-        (FIVE, -1, b"_", MAX, Some(FIVE), Some(FIVE)),
-        (FIVE, 1, b"", 1, Some(FIVE), Some(FIVE)),
-        (FIVE, 2, b"", 1, None, None),
-        (b"", 1, b"_", 1, Some(b""), None),
-        (b"", -1, b"", 0, Some(b""), None),
-        (b"", 2, b"_", 1, None, None),
-        (b"a", 1, b",", 1, Some(b"a"), Some(b"a")),
-        (b",", 2, b",", 1, Some(b""), None),
-        (b",", -1, b",", 0, Some(b","), None),
-        (b",,a,,", 1, b",", 1, Some(b""), Some(b"a")),
-        (b",,a,,", 3, b",", 1, Some(b"a"), None),
-        (b",,a,,", -1, b",", 0, Some(b",,a,,"), Some(b"a")),
-        (b"a, b;c", 2, b", ;", 1, Some(b""), Some(b"b")),
-        (b"a, b;c", 2, b"; ,,", 2, Some(b" b"), Some(b"b;c")),
-        (
-            b"\xC3\xA9\xFF\x00b",
-            2,
-            b"\xFF",
-            1,
-            Some(b"\x00b"),
-            Some(b"\x00b"),
-        ),
-        (b"\xC3\xA9b", 1, b"\xA9", 1, Some(b"\xC3"), Some(b"\xC3")),
-        (
-            b"a\x00\xFFb",
-            -1,
-            b"\x00\xFF",
-            2,
-            Some(b"\xFFb"),
-            Some(b"a\x00\xFFb"),
-        ),
-    ];
-    for (text, index, separators, n, field, word) in cases {
+    for (text, index, separators, n, field, word) in &CASES {
         let list = Text::copy(rt.alloc(), separators)?;
         let (sample, buf) = made(
             rt.alloc(),
-            &Conv::Field(index, list, n),
+            &Conv::Field(*index, list, *n),
             Sample::InBuf,
             text,
         )?;
@@ -97,15 +98,20 @@ fn fields_and_words(rt: HostRuntime) -> Result<(), Fail> {
         } else {
             None
         };
-        assert_eq!(rt; result, field, "field {index} {n} of {text:?}");
+        assert_eq!(rt; result, *field, "field {index} {n} of {text:?}");
         let list = Text::copy(rt.alloc(), separators)?;
-        let (sample, buf) = made(rt.alloc(), &Conv::Word(index, list, n), Sample::InBuf, text)?;
+        let (sample, buf) = made(
+            rt.alloc(),
+            &Conv::Word(*index, list, *n),
+            Sample::InBuf,
+            text,
+        )?;
         let result = if sample == Sample::InBuf {
             Some(buf.bytes())
         } else {
             None
         };
-        assert_eq!(rt; result, word, "word {index} {n} of {text:?}");
+        assert_eq!(rt; result, *word, "word {index} {n} of {text:?}");
     }
     Ok(())
 }

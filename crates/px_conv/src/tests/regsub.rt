@@ -26,81 +26,83 @@ fn made(
 
 /// A pattern, a template, whether each match is replaced, a text and the result: by a Python model of the sentences
 /// that define the converter, the last five by hand.
+static CASES: [(&[u8], &[u8], bool, &[u8], &[u8]); 32] = [
+    (b"X", b"-", false, b"aXbX", b"a-bX"),
+    (b"X", b"-", true, b"aXbX", b"a-b-"),
+    (b".*", b"X", true, b"abc", b"XX"),
+    (b".*", b"X", false, b"abc", b"X"),
+    (b"a*", b"X", true, b"aab", b"XXbX"),
+    (b"a*", b"X", false, b"aab", b"Xb"),
+    (b"", b"X", false, b"ab", b"Xab"),
+    (b"", b"X", true, b"ab", b"XaXbX"),
+    (b"", b"X", true, b"", b"X"),
+    (b"", b"X", false, b"", b"X"),
+    (b"a", b"X", true, b"", b""),
+    (b"q", b"X", true, b"abc", b"abc"),
+    (b"q", b"X", false, b"abc", b"abc"),
+    (b"^a", b"X", true, b"aaa", b"XXX"),
+    (b"^a", b"X", false, b"aaa", b"Xaa"),
+    (b"a$", b"X", true, b"aaa", b"aaX"),
+    (b"^", b"X", true, b"ab", b"XaXbX"),
+    (b"$", b"X", true, b"ab", b"abX"),
+    (b"(a)(b)?", b"[\\2\\1]", true, b"abac", b"[ba][a]c"),
+    (b"(b+)", b"<\\1>", true, b"abbcb", b"a<bb>c<b>"),
+    (b"[0-9]+", b"{\\0}", true, b"a1b22", b"a{1}b{22}"),
+    (b"b", b"\\\\\\9\\", false, b"abc", b"a\\\\c"),
+    (b"/+", b"/", true, b"//a///b/", b"/a/b/"),
+    (b"a", b"", true, b"banana", b"bnn"),
+    (b"a|ab", b"X", true, b"abab", b"XbXb"),
+    (b"x?", b"-", true, b"axb", b"-a--b-"),
+    (b"\\bab", b"X", true, b"abab", b"XX"),
+    (b"", b"X", true, b"\xC3\xA9", b"X\xC3X\xA9X"),
+    (
+        b"\xC3\xA9",
+        b"\xFF",
+        true,
+        b"\xC3\xA9a\xC3\xA9",
+        b"\xFFa\xFF",
+    ),
+    (b".", b"X", true, b"\xFFa", b"\xFFX"),
+    (b"(?-u:.)", b"X", true, b"\xFFa", b"XX"),
+    (b"\\x00", b"\x00\x00", false, b"a\x00b", b"a\x00\x00b"),
+];
+
 #[test]
 fn replaces(rt: HostRuntime) -> Result<(), Fail> {
-    let cases: [(&[u8], &[u8], bool, &[u8], &[u8]); 32] = [
-        (b"X", b"-", false, b"aXbX", b"a-bX"),
-        (b"X", b"-", true, b"aXbX", b"a-b-"),
-        (b".*", b"X", true, b"abc", b"XX"),
-        (b".*", b"X", false, b"abc", b"X"),
-        (b"a*", b"X", true, b"aab", b"XXbX"),
-        (b"a*", b"X", false, b"aab", b"Xb"),
-        (b"", b"X", false, b"ab", b"Xab"),
-        (b"", b"X", true, b"ab", b"XaXbX"),
-        (b"", b"X", true, b"", b"X"),
-        (b"", b"X", false, b"", b"X"),
-        (b"a", b"X", true, b"", b""),
-        (b"q", b"X", true, b"abc", b"abc"),
-        (b"q", b"X", false, b"abc", b"abc"),
-        (b"^a", b"X", true, b"aaa", b"XXX"),
-        (b"^a", b"X", false, b"aaa", b"Xaa"),
-        (b"a$", b"X", true, b"aaa", b"aaX"),
-        (b"^", b"X", true, b"ab", b"XaXbX"),
-        (b"$", b"X", true, b"ab", b"abX"),
-        (b"(a)(b)?", b"[\\2\\1]", true, b"abac", b"[ba][a]c"),
-        (b"(b+)", b"<\\1>", true, b"abbcb", b"a<bb>c<b>"),
-        (b"[0-9]+", b"{\\0}", true, b"a1b22", b"a{1}b{22}"),
-        (b"b", b"\\\\\\9\\", false, b"abc", b"a\\\\c"),
-        (b"/+", b"/", true, b"//a///b/", b"/a/b/"),
-        (b"a", b"", true, b"banana", b"bnn"),
-        (b"a|ab", b"X", true, b"abab", b"XbXb"),
-        (b"x?", b"-", true, b"axb", b"-a--b-"),
-        (b"\\bab", b"X", true, b"abab", b"XX"),
-        (b"", b"X", true, b"\xC3\xA9", b"X\xC3X\xA9X"),
-        (
-            b"\xC3\xA9",
-            b"\xFF",
-            true,
-            b"\xC3\xA9a\xC3\xA9",
-            b"\xFFa\xFF",
-        ),
-        (b".", b"X", true, b"\xFFa", b"\xFFX"),
-        (b"(?-u:.)", b"X", true, b"\xFFa", b"XX"),
-        (b"\\x00", b"\x00\x00", false, b"a\x00b", b"a\x00\x00b"),
-    ];
-    for (pattern, template, all, text, result) in cases {
-        let made = made(rt.alloc(), (pattern, template, all), Sample::InBuf, text)?;
+    for (pattern, template, all, text, result) in &CASES {
+        let made = made(rt.alloc(), (pattern, template, *all), Sample::InBuf, text)?;
         let made = made.ok_or("absent")?;
         assert_eq!(rt;
             made.bytes(),
-            result,
+            *result,
             "{pattern:?} to {template:?} in {text:?}, all: {all}"
         );
     }
     Ok(())
 }
 
-/// The same with a result of exactly 9 bytes, or of more, which no buffer of 9 bytes holds.
+/// The same, and whether the result has exactly 9 bytes; else it has more, which no buffer of 9 bytes holds.
+static SIZES: [(&[u8], &[u8], bool, &[u8], bool); 12] = [
+    (b"X", b"1234567", false, b"aXb", true),
+    (b"X", b"12345678", false, b"aXb", false),
+    (b"X", b"1", false, b"12345678X", true),
+    (b"X", b"12", false, b"12345678X", false),
+    (b"X", b"1", false, b"X23456789", true),
+    (b"X", b"12", false, b"X23456789", false),
+    (b"X", b"123", true, b"XXX", true),
+    (b"X", b"123", true, b"XXXX", false),
+    (b"", b"1", true, b"1234", true),
+    (b"", b"1", true, b"12345", false),
+    (b"X", b"\\0\\0\\0", true, b"XXX", true),
+    (b"q", b"1", true, b"123456789", true),
+];
+
 #[test]
 fn whole_or_absent(rt: HostRuntime) -> Result<(), Fail> {
-    let cases: [(&[u8], &[u8], bool, &[u8], bool); 12] = [
-        (b"X", b"1234567", false, b"aXb", true),
-        (b"X", b"12345678", false, b"aXb", false),
-        (b"X", b"1", false, b"12345678X", true),
-        (b"X", b"12", false, b"12345678X", false),
-        (b"X", b"1", false, b"X23456789", true),
-        (b"X", b"12", false, b"X23456789", false),
-        (b"X", b"123", true, b"XXX", true),
-        (b"X", b"123", true, b"XXXX", false),
-        (b"", b"1", true, b"1234", true),
-        (b"", b"1", true, b"12345", false),
-        (b"X", b"\\0\\0\\0", true, b"XXX", true),
-        (b"q", b"1", true, b"123456789", true),
-    ];
-    for (pattern, template, all, text, fits) in cases {
-        let made = made(rt.alloc(), (pattern, template, all), Sample::InBuf, text)?;
+    for (pattern, template, all, text, fits) in &SIZES {
+        let made = made(rt.alloc(), (pattern, template, *all), Sample::InBuf, text)?;
         let len = made.map(|buf| buf.bytes().len());
-        let whole = if fits { Some(9) } else { None };
+        let whole = if *fits { Some(9) } else { None };
         assert_eq!(rt; len, whole, "{template:?} in {text:?}, all: {all}");
     }
     Ok(())
