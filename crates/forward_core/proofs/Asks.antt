@@ -1,6 +1,6 @@
 -- What the rules and the finish make of a head, by the edits of its blocks.
-use Rattle.std.proofs.Common.{◌≡◌, ℕ, ◌≤◌, List, [], ◌∷◌, ◌++◌, ◌⊎◌, inl, inr, Bool, true, false, refl, sym, ap, ◌∙◌, subst}
-use Rattle.std.specs.Prelude.{nat_le, ◌↔◌, Result, Ok, Err, OnOk, IsOk}
+use Rattle.std.proofs.Common.{◌≡◌, ℕ, ◌≤◌, List, inr, Bool, true, false, refl, sym, ap, ◌∙◌, subst}
+use Rattle.std.specs.Prelude.{◌↔◌, Result, Ok, Err, OnOk, IsOk}
 use Rattle.std.proofs.lemmas.Bool.{le-leb, leb-true}
 use Rattle.http_model.specs.declared.Framing.TheVariants.{Absent}
 use Rattle.http_model.specs.Block.{Block, Header}

@@ -1,18 +1,16 @@
 -- Which clients are served, by the head that their bytes begin with.
-use Rattle.std.proofs.Common.{◌≡◌, ℕ, ◌<◌, ◌≤◌, List, [], ◌∷◌, ◌++◌, ◌⊎◌, inl, inr, Bool, true, false, cond, refl, sym, ap, ◌∙◌, subst, length, take, drop, arith}
+use Rattle.std.proofs.Common.{◌≡◌, ℕ, List, [], ◌∷◌, inl, inr, Bool, true, false, cond, refl, sym, ap, ◌∙◌, subst}
 use Rattle.std.specs.Prelude.{◌&&◌, ◌==◌}
 use Rattle.std.specs.Str.{bytes_eq}
 use Rattle.std.proofs.lemmas.Bool.{ne_eqb}
 use Rattle.std.proofs.lemmas.Slice.Eq.{bytes_eq-Decides}
 use Rattle.httparse.specs.Grammar.{RequestHead}
-use Rattle.httparse.proofs.GrammarLemmas.{request_unique, ReadsRequest-append}
+use Rattle.httparse.proofs.GrammarLemmas.{request_unique}
 use Rattle.http_model.specs.declared.Limits.{Limits}
-use Rattle.http_model.specs.Reading.{Received, Begins, Refused}
-use Rattle.h1_head.specs.declared.answer.HeadWhy.{HeadWhy}
-use Rattle.h1_head.specs.Rows.{Parts, decision}
-use Rattle.h1_head.specs.Request.{behind, BeginsWith, HasNoHead, IsHeadless, HasRefusedHead, RequestOf, parts_of}
+use Rattle.http_model.specs.Reading.{Received, Begins}
+use Rattle.h1_head.specs.Request.{behind, BeginsWith, IsHeadless, RequestOf, parts_of}
 use Rattle.h1_head.specs.Plain.{is_plain, IsPlain}
-use Rattle.forward_core.specs.Unbuilt.{BeginsEmpty, HasOtherHead, IsUnbuilt}
+use Rattle.forward_core.specs.Unbuilt.{BeginsEmpty, HasOtherHead}
 use Rattle.forward_core.specs.Client.{plain_received, IsPlainHead}
 use Rattle.forward_core.proofs.Plains.{plain_decision}
 

@@ -1,33 +1,30 @@
 -- A session of one exchange: a request that is sent, or a refusal.
-use Rattle.std.proofs.Common.{◌≡◌, ℕ, ◌+◌, ◌≤◌, List, [], ◌∷◌, ◌++◌, inl, inr, Bool, true, false, cond, not, refl, sym, ap, ◌∙◌, subst, append_assoc, arith, lit<, length, take, drop}
-use Rattle.std.specs.Prelude.{codes, decimal, Option, Some, None, nat_le, ◌&&◌, map}
-use Rattle.std.specs.Str.{bytes_eq}
+use Rattle.std.proofs.Common.{◌≡◌, ℕ, ◌≤◌, List, [], ◌∷◌, ◌++◌, inl, Bool, true, false, refl, sym, ap, ◌∙◌, subst, append_assoc, arith, lit<, length}
+use Rattle.std.specs.Prelude.{codes, decimal, Some, None, nat_le}
 use Rattle.std.proofs.lemmas.List.{append-nil}
 use Rattle.std.proofs.lemmas.Bool.{le-leb}
 use Rattle.std.proofs.lemmas.Fmt.{length-decimal-le}
 use Rattle.http_model.specs.declared.Close.TheVariants.{Clean}
 use Rattle.http_model.specs.declared.End.TheVariants as end
-use Rattle.http_model.specs.declared.Ending.TheVariants.{Closed}
 use Rattle.http_model.specs.declared.Framing.TheVariants.{Absent, Length}
 use Rattle.http_model.specs.Blocks.{load}
 use Rattle.http_model.specs.Head.{Head, Message, head_blocks}
-use Rattle.http_model.specs.Fields.{set_field, has_field}
-use Rattle.http_model.specs.Finish.{finish_request, finish_interim, length_field}
+use Rattle.http_model.specs.Finish.{length_field}
 use Rattle.http_model.specs.Refusal.{refusal, closing}
 use Rattle.http_model.specs.Spelling.{Spells, head_text}
 use Rattle.http_model.specs.Reading.{Received}
 use Rattle.http_model.specs.Reading as reading
 use Rattle.h1_head.specs.Request.{RequestOf}
 use Rattle.http_rules.specs.declared.config.Config.{Config}
-use Rattle.session_model.specs.Stream.{Stream, Server, Open, Sent}
-use Rattle.session_model.specs.Meaning.{keeps, is_head_request, is_http_11, method_of, Pass}
-use Rattle.session_model.specs.Asking.{Asker, Request, Asked, Nothing, Refused, Sends, Asks, asker_of}
-use Rattle.session_model.specs.Answering.{Answered, Answers, AnswersFrom, AnswersWith}
-use Rattle.session_model.specs.Session.{Session, Exchange, Over, Next, Out, ClientGets, ServerGets}
+use Rattle.session_model.specs.Stream.{Open}
+use Rattle.session_model.specs.Meaning.{keeps, is_http_11, method_of, Pass}
+use Rattle.session_model.specs.Asking.{Asker, Request, Refused, Sends, Asks, asker_of}
+use Rattle.session_model.specs.Answering.{Answers, AnswersWith}
+use Rattle.session_model.specs.Session.{Session, Over, Next, ClientGets}
 use Rattle.forward_core.specs.Texts.{answer_text}
 use Rattle.forward_core.specs.Client.{plain_received, IsPlainHead}
 use Rattle.forward_core.specs.Asked.{ruled, sent_head}
-use Rattle.forward_core.specs.First.{meaning_of, first_response, first_received, IsFirstServer, closed}
+use Rattle.forward_core.specs.First.{meaning_of, first_response, first_received, closed}
 
 -- ---- a refusal
 

@@ -1,6 +1,6 @@
 -- What is kept of a plain GET: no framing, no declared length, a connection that is kept.
-use Rattle.std.proofs.Common.{◌≡◌, ℕ, List, [], ◌∷◌, ◌++◌, Bool, true, false, cond, not, refl, sym, ap, ◌∙◌, subst}
-use Rattle.std.specs.Prelude.{codes, Option, Some, None, Result, Ok, Err, ◌&&◌, ◌||◌, ◌==◌, map, filter}
+use Rattle.std.proofs.Common.{◌≡◌, ℕ, List, [], ◌∷◌, ◌++◌, Bool, true, false, cond, not, refl, ap, ◌∙◌, subst}
+use Rattle.std.specs.Prelude.{codes, Option, Some, None, Ok, Err, ◌&&◌, ◌||◌, ◌==◌, map, filter}
 use Rattle.std.specs.List.{list_any}
 use Rattle.std.specs.Str.{bytes_eq, str_to_ascii_lowercase}
 use Rattle.std.specs.Char.{to_ascii_lowercase}
@@ -10,16 +10,16 @@ use Rattle.std.proofs.lemmas.Bool.{eqb-true}
 use Rattle.httparse.specs.Grammar.{print_version}
 use Rattle.http_model.specs.declared.Framing.TheVariants.{Absent}
 use Rattle.http_model.specs.declared.Limits.{Limits}
-use Rattle.http_model.specs.Head.{Field, Head}
+use Rattle.http_model.specs.Head.{Field}
 use Rattle.http_model.specs.Fields.{same_name, is_named, is_named_among, has_field, fields_named}
 use Rattle.http_model.specs.Reading.{Received}
 use Rattle.h1_head.specs.declared.answer.HeadWhy.{HeadWhy}
 use Rattle.h1_head.specs.declared.answer.HeadWhy.TheVariants as why
 use Rattle.h1_head.specs.Names.{steering_names}
-use Rattle.h1_head.specs.Rows.{Parts, received, received_head, folded, is_kept, has_option, declared_length, one_length, framing_by, elements_named, decision, unless_refused, refusal_of, is_heavy}
+use Rattle.h1_head.specs.Rows.{Parts, received, received_head, folded, is_kept, has_option, one_length, framing_by, elements_named, decision, unless_refused, refusal_of, is_heavy}
 use Rattle.h1_head.specs.Plain.{is_plain}
 use Rattle.px_bytes.specs.Values.{values_in}
-use Rattle.session_model.specs.Meaning.{keeps, is_head_request, is_http_11}
+use Rattle.session_model.specs.Meaning.{is_http_11}
 use Rattle.forward_core.specs.Client.{plain_received, IsPlainHead}
 
 -- ---- tests on Bool

@@ -1,9 +1,8 @@
 -- The text of a refusal, line by line.
-use Rattle.std.proofs.Common.{◌≡◌, ℕ, List, [], ◌∷◌, ◌++◌, refl, true, false, sym, ap, ◌∙◌, append_assoc}
+use Rattle.std.proofs.Common.{◌≡◌, ℕ, List, [], ◌++◌, refl, true, false, ap, ◌∙◌, append_assoc}
 use Rattle.std.specs.Prelude.{codes, decimal, length}
 use Rattle.std.proofs.lemmas.List.{append-nil}
 use Rattle.http_model.specs.Head as head
-use Rattle.http_model.specs.Finish.{close_field}
 use Rattle.http_model.specs.Refusal.{reason_of, refusal, refusal_body, closing}
 use Rattle.http_model.specs.Spelling.{line_text, field_text, Spells}
 use Rattle.forward_core.specs.Texts.{parts_text}

@@ -1,29 +1,26 @@
 -- What one exchange puts out, as a session.
-use Rattle.std.proofs.Common.{◌≡◌, ℕ, ◌≤◌, List, [], ◌∷◌, ◌++◌, ◌⊎◌, inl, inr, Bool, true, false, refl, sym, ap, ◌∙◌, subst, length, append_assoc}
-use Rattle.std.specs.Prelude.{codes, decimal, map, Option, Some, None, nat_le, ◌&&◌}
+use Rattle.std.proofs.Common.{◌≡◌, ℕ, ◌≤◌, List, [], ◌∷◌, ◌++◌, ◌⊎◌, inl, inr, Bool, true, false, refl, sym, ap, ◌∙◌, subst, append_assoc}
+use Rattle.std.specs.Prelude.{codes, map, Option, Some, None}
 use Rattle.std.proofs.lemmas.List.{append-nil}
 use Rattle.http_model.specs.declared.Close.TheVariants.{Clean}
 use Rattle.http_model.specs.declared.End.{End}
 use Rattle.http_model.specs.declared.End.TheVariants as end
-use Rattle.http_model.specs.declared.Framing.TheVariants.{Absent}
 use Rattle.http_model.specs.Block.{Block}
 use Rattle.http_model.specs.Block as block
 use Rattle.http_model.specs.Head.{Head, Field, StartLine, line_block, header_block, head_blocks}
 use Rattle.http_model.specs.Head as head
-use Rattle.http_model.specs.Fields.{set_field}
 use Rattle.http_model.specs.Spelling.{head_text, line_text, field_text, fields_text}
 use Rattle.http_model.specs.Reading.{Begins}
 use Rattle.http_model.specs.Reading as reading
 use Rattle.h1_head.specs.Request.{RequestOf}
 use Rattle.http_rules.specs.declared.config.Config.{Config}
-use Rattle.session_model.specs.Stream.{Server, Open, Sent}
-use Rattle.session_model.specs.Meaning.{Pass, Fail, is_head_request}
+use Rattle.session_model.specs.Meaning.{Pass, Fail}
 use Rattle.session_model.specs.Asking.{Asks, Refused}
 use Rattle.session_model.specs.Session.{Session, Out}
-use Rattle.forward_core.specs.First.{meaning_of, first_response, IsFirstServer, closed}
+use Rattle.forward_core.specs.First.{meaning_of, IsFirstServer, closed}
 use Rattle.forward_core.specs.Asked.{ruled, sent_head, sent_fits}
 use Rattle.forward_core.specs.Client.{plain_received, IsPlainHead, ReadsPlain}
-use Rattle.forward_core.specs.Texts.{block_text, blocks_text, answer_text}
+use Rattle.forward_core.specs.Texts.{blocks_text}
 use Rattle.forward_core.specs.Out.{servers_by, sent_by, out_of_one, IsRefused, IsForwarded}
 use Rattle.forward_core.specs.declared.exchange.One.{One}
 use Rattle.forward_core.proofs.Forwarded.{refused, forwarded}

@@ -1,11 +1,11 @@
 -- What a window of the client's bytes says of all of them.
-use Rattle.std.proofs.Common.{◌≡◌, ℕ, zero, suc, ◌+◌, ◌<◌, ◌≤◌, List, [], ◌∷◌, ◌++◌, ◌⊎◌, inl, inr, Bool, true, false, refl, sym, ap, ◌∙◌, subst, length, take, drop, arith}
+use Rattle.std.proofs.Common.{◌≡◌, ℕ, zero, suc, ◌+◌, ◌<◌, ◌≤◌, List, [], ◌∷◌, ◌++◌, inl, inr, Bool, true, false, refl, sym, ap, ◌∙◌, subst, length, take, drop, arith}
 use Rattle.std.specs.Prelude.{◌==◌}
-use Rattle.std.proofs.lemmas.Bool.{eqb-true, eq-eqb}
+use Rattle.std.proofs.lemmas.Bool.{eqb-true}
 use Rattle.std.proofs.lemmas.List.{take-append-drop}
 use Rattle.http_model.specs.declared.Limits.{Limits}
 use Rattle.http_model.specs.Block.{Block}
-use Rattle.http_model.specs.Reading.{Received, HeadReading, Begins, Refused}
+use Rattle.http_model.specs.Reading.{Received, Begins, Refused}
 use Rattle.http_model.specs.declared.Framing.{Framing}
 use Rattle.std.specs.Prelude.{Option}
 use Rattle.h1_head.specs.declared.answer.HeadWhy.{HeadWhy}
@@ -14,8 +14,8 @@ use Rattle.h1_head.specs.Request.{behind, BeginsWith, HasRefusedHead, IsHeadless
 use Rattle.httparse.proofs.GrammarLemmas.{ReadsRequest-append}
 use Rattle.h1_head.specs.Window.{OnEachStream, IsHopeless, MayWait}
 use Rattle.h1_head.specs.Plain.{IsPlain}
-use Rattle.forward_core.specs.Unbuilt.{BeginsEmpty, HasOtherHead, IsUnbuilt}
-use Rattle.forward_core.specs.Client.{ReadsPlain, plain_received}
+use Rattle.forward_core.specs.Unbuilt.{BeginsEmpty, IsUnbuilt}
+use Rattle.forward_core.specs.Client.{ReadsPlain}
 use Rattle.forward_core.proofs.Clients.{behind_is, other_head, no_other_head, headless, plain_reading}
 
 -- the client's bytes are a window and more; the window is all of them, or as many as the array has

@@ -1,5 +1,5 @@
 -- What the rules and the finish make of a head.
-use Rattle.std.specs.Prelude.{◌≡◌, ℕ, List, Bool, true, false, ◌⊎◌, nat_le, Result, Ok, Err}
+use Rattle.std.specs.Prelude.{◌≡◌, List, Bool, true, false, ◌⊎◌, nat_le, Result, Ok, Err}
 use Rattle.http_model.specs.declared.Framing.TheVariants.{Absent}
 use Rattle.http_model.specs.Block.{Block}
 use Rattle.http_model.specs.Blocks.{load}

@@ -1,18 +1,15 @@
 -- The meaning that a configuration gives to a session, as far as it is built.
-use Rattle.std.specs.Prelude.{◌≡◌, ℕ, ◌<◌, ◌≤◌, List, [], ◌∷◌, ◌++◌, Bool, true, false, ◌&&◌, if◌then◌else◌, nat_lt, nat_le, length, codes, decimal, Option, Some, None, ◌⊎◌}
+use Rattle.std.specs.Prelude.{◌≡◌, ℕ, ◌<◌, ◌≤◌, List, [], ◌∷◌, ◌++◌, false, length, codes, decimal, Some, ◌⊎◌}
 use Rattle.http_model.specs.declared.Framing.{Framing}
 use Rattle.http_model.specs.declared.Framing.TheVariants.{Absent, Length, Chunked, ToClose}
-use Rattle.http_model.specs.declared.Limits.{Limits}
 use Rattle.http_model.specs.declared.Ending.{Ending}
 use Rattle.http_model.specs.declared.Ending.TheVariants.{Closed, Broke}
-use Rattle.http_model.specs.Blocks.{load}
-use Rattle.http_model.specs.Head.{Head, StatusLine, head_blocks}
-use Rattle.http_model.specs.Fields.{set_field}
+use Rattle.http_model.specs.Head.{StatusLine}
 use Rattle.http_model.specs.Reading.{Received, HeadReading, BodyReading}
 use Rattle.http_model.specs.Reading as reading
 use Rattle.h1_head.specs.Request.{RequestOf}
 use Rattle.session_model.specs.Stream.{Stream}
-use Rattle.session_model.specs.Meaning.{Meaning, Verdict, Pass, Fail, no_filters}
+use Rattle.session_model.specs.Meaning.{Meaning, Pass, no_filters}
 use Rattle.http_rules.specs.declared.config.Config.{Config}
 use Rattle.http_rules.specs.Rules.{rules_of}
 

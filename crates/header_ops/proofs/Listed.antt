@@ -11,7 +11,7 @@ use Rattle.px_bytes.specs.Blanks.{trimmed}
 use Rattle.px_bytes.specs.Values.{pieces_of, values_of, values_in}
 use Rattle.px_bytes.proofs.ValueLemmas.{length-pieces_from}
 use Rattle.header_ops.specs.Headers.{is_header_named}
-use Rattle.header_ops.specs.Lists.{fulls_named, values_named}
+use Rattle.header_ops.specs.Lists.{values_named}
 
 -- the values of those of these headers that have the name
 abbrev pub values_among : List ℕ → List (ℕ × List ℕ × List ℕ) → List (List ℕ)

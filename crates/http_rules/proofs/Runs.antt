@@ -1,19 +1,17 @@
 -- A run of rules, rule by rule.
-use Rattle.std.proofs.Common.{◌≡◌, ℕ, zero, suc, ◌+◌, ◌<◌, ◌≤◌, List, [], ◌∷◌, refl, sym, ap, ◌∙◌, subst, length, drop, arith}
-use Rattle.std.specs.Prelude.{slice_get, Option, Some, None}
+use Rattle.std.proofs.Common.{◌≡◌, ℕ, zero, suc, ◌+◌, ◌≤◌, List, [], ◌∷◌, sym, ap, ◌∙◌, subst, length, drop, arith}
+use Rattle.std.specs.Prelude.{slice_get, Some}
 use Rattle.std.specs.List.{AllByRecursion}
 use Rattle.std.proofs.Math.ListN.{drop_of_length-le}
 use Rattle.http_model.specs.declared.Limits.{Limits}
 use Rattle.http_model.specs.Block.{Block}
 use Rattle.http_model.specs.Head.{Head, head_blocks}
-use Rattle.session_model.specs.Meaning.{Verdict, Pass, Fail}
 use Rattle.http_rules.specs.declared.rule.Rule.{Rule}
 use Rattle.http_rules.specs.declared.rule.Why.{Why}
-use Rattle.http_rules.specs.declared.run.Step.{Step}
 use Rattle.http_rules.specs.declared.run.Step.TheVariants as step
 use Rattle.http_rules.specs.declared.run.Verdict.TheVariants as verdict
 use Rattle.http_rules.specs.Rules.{Outcome, Next, Stop, Failed, act, behind, rules_of}
-use Rattle.http_rules.specs.Run.{Steps, Runs, IsHead}
+use Rattle.http_rules.specs.Run.{Steps, Runs}
 
 -- the rules from a place on begin with the one that stands there
 drop_get : (rules : List Rule) (at : ℕ) (rule : Rule) → slice_get rules at ≡ Some rule → drop at rules ≡ rule ∷ drop (suc at) rules

@@ -1,12 +1,11 @@
 -- What a run of rules leaves in an array.
-use Rattle.std.specs.Prelude.{◌≡◌, ℕ, List, Result, Ok, Err}
+use Rattle.std.specs.Prelude.{◌≡◌, List, Result, Ok, Err}
 use Rattle.http_model.specs.declared.Limits.{Limits}
 use Rattle.http_model.specs.Block.{Block}
 use Rattle.http_model.specs.Head.{Head, head_blocks}
 use Rattle.session_model.specs.Meaning.{Pass, Fail}
 use Rattle.htx_arena.specs.declared.arena.Full.{Full}
 use Rattle.http_rules.specs.declared.rule.Rule.{Rule}
-use Rattle.http_rules.specs.declared.rule.Why.{Why}
 use Rattle.http_rules.specs.declared.rule.Why.TheVariants.{Room}
 use Rattle.http_rules.specs.declared.run.Step.{Step}
 use Rattle.http_rules.specs.declared.run.Step.TheVariants as step

@@ -1,5 +1,5 @@
 -- What is written for a stop, as an answer of its command.
-use Rattle.std.proofs.Common.{◌≡◌, ◌≢◌, ℕ, List, ◌⊎◌, inl, inr, refl, sym, ap, ◌∙◌, subst}
+use Rattle.std.proofs.Common.{◌≡◌, ℕ, List, inl, inr, refl, sym, ap, ◌∙◌, subst}
 use Rattle.std.specs.Prelude.{Option, Result, Ok, Err, IfOk}
 use Rattle.px_link.specs.Told.{NamedBytes}
 use Rattle.cfg_parse.specs.declared.fault.CfgKind.{CfgKind}

@@ -1,5 +1,5 @@
 -- The report of one exchange.
-use Rattle.std.proofs.Common.{◌≡◌, ℕ, ◌≤◌, List, [], ◌∷◌, ◌++◌, refl, sym, ap, ◌∙◌, subst, length}
+use Rattle.std.proofs.Common.{◌≡◌, ℕ, ◌≤◌, List, refl, ap, ◌∙◌, subst, length}
 use Rattle.std.specs.Prelude.{Option, Some, None}
 use Rattle.http_rules.specs.declared.config.Config.{Config}
 use Rattle.rec_format.specs.Record.{server_text}
@@ -8,7 +8,7 @@ use Rattle.rec_format.specs.ReportParts.{out_of}
 use Rattle.rec_format.specs.declared.report.Report.{Report}
 use Rattle.session_model.specs.Stream.{Server}
 use Rattle.session_model.specs.Session.{Session}
-use Rattle.forward_core.specs.First.{meaning_of, IsFirstServer, closed, first_response}
+use Rattle.forward_core.specs.First.{meaning_of, IsFirstServer, closed}
 use Rattle.forward_core.specs.Out.{servers_by, out_of_one}
 use Rattle.forward_core.specs.Unbuilt.{IsUnbuilt}
 use Rattle.forward_core.specs.declared.exchange.One.{One}

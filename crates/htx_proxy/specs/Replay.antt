@@ -1,5 +1,5 @@
 -- What `replay` does with its two files.
-use Rattle.std.specs.Prelude.{◌≡◌, ℕ, ◌+◌, ◌-◌, ◌≤◌, List, [], ◌∷◌, ◌++◌, ◌⊎◌, ⊤, false, length, take, replicate, Option, Some, None, Result, Ok, Err}
+use Rattle.std.specs.Prelude.{◌≡◌, ℕ, ◌-◌, List, [], ◌∷◌, ◌++◌, ◌⊎◌, ⊤, false, length, take, replicate, Option, Some, None, Result, Ok, Err}
 use Rattle.px_link.specs.Told.{NamedBytes, content_of}
 use Rattle.http_rules.specs.declared.config.Config.{Config}
 use Rattle.cfg_parse.specs.declared.fault.CfgKind.{CfgKind}

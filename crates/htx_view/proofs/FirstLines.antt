@@ -1,5 +1,5 @@
 -- The first block by its type.
-use Rattle.std.proofs.Common.{◌≡◌, ◌≢◌, ℕ, ◌<◌, List, [], ◌∷◌, length, Option, Some, None, refl, arith}
+use Rattle.std.proofs.Common.{◌≡◌, ◌≢◌, ◌<◌, List, [], ◌∷◌, length, Some, None, refl, arith}
 use Rattle.htx_model.specs.Block.{Block, RequestLine, ResponseLine, Header, EndHeaders, Data, Trailer, EndTrailers, kind_of, line_of}
 use Rattle.htx_model.specs.Blocks.{block_at}
 use Rattle.htx_model.specs.declared.Kind.TheVariants as kinds

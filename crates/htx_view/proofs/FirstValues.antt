@@ -1,5 +1,5 @@
 -- The first header of a name, by the list of headers.
-use Rattle.std.proofs.Common.{◌≡◌, ℕ, ◌+◌, List, [], ◌∷◌, Bool, true, false, cond, Option, Some, None, refl, ap}
+use Rattle.std.proofs.Common.{◌≡◌, ℕ, ◌+◌, List, [], ◌∷◌, cond, Option, Some, None, refl, ap}
 use Rattle.htx_model.specs.Block.{Block, RequestLine, ResponseLine, Header, EndHeaders, Data, Trailer, EndTrailers}
 use Rattle.http_model.specs.Fields.{same_name}
 use Rattle.htx_arena.specs.Fields.{fields_from, fields_of}

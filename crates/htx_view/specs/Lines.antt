@@ -1,5 +1,5 @@
 -- What the first of a list of blocks says (RFC 9112 sections 3 and 4).
-use Rattle.std.specs.Prelude.{ℕ, ◌==◌, List, [], ◌∷◌, length, Option, Some, None, unwrap_or, if◌then◌else◌}
+use Rattle.std.specs.Prelude.{ℕ, ◌==◌, List, ◌∷◌, length, Option, Some, None, unwrap_or, if◌then◌else◌}
 use Rattle.htx_model.specs.Block.{Block, RequestLine, ResponseLine}
 use Rattle.htx_arena.specs.declared.arena.Line.{Line}
 use Rattle.px_bytes.specs.Numbers.{decimal_of}

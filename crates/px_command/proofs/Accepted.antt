@@ -1,6 +1,6 @@
 -- The lists that the program takes, as equations.
-use Rattle.std.proofs.Common.{◌≡◌, ◌≢◌, ◌⊎◌, inl, inr, ℕ, List, [], ◌∷◌, refl, sym, ap, ◌∙◌, subst, get_or, codes, Bool, true, false, cond, ◌&&◌, length}
-use Rattle.std.specs.Prelude.{Option, Some, None, is_some, nat_le}
+use Rattle.std.proofs.Common.{◌≡◌, ◌⊎◌, inl, inr, ℕ, List, [], ◌∷◌, refl, sym, ap, subst, codes, Bool, true, false, cond, ◌&&◌, length}
+use Rattle.std.specs.Prelude.{Some, None, is_some, nat_le}
 use Rattle.std.specs.Str.Parse.{digits_value}
 use Rattle.std.proofs.lemmas.Bool.{false≢true}
 use Rattle.px_bytes.specs.Numbers.{decimal_of}

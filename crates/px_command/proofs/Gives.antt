@@ -1,5 +1,5 @@
 -- What `clap` makes of the lists that the program takes.
-use Rattle.std.proofs.Common.{◌≡◌, ◌≢◌, ◌==◌, ◌⊎◌, inl, inr, ℕ, List, [], ◌∷◌, Bool, true, false, refl, sym, ap, ◌∙◌, subst, codes}
+use Rattle.std.proofs.Common.{◌≡◌, ◌≢◌, ◌==◌, ◌⊎◌, inl, inr, ℕ, List, [], ◌∷◌, true, false, refl, sym, ap, ◌∙◌, subst, codes}
 use Rattle.std.specs.Prelude.{Option, Some, None, is_some, option_map}
 use Rattle.std.specs.Borrow.{Bor}
 use Rattle.std.proofs.lemmas.Bool.{ne_eqb, false≢true}
@@ -13,7 +13,7 @@ use Rattle.clap.specs.declared.parser.matches.ArgMatches.{ArgMatches}
 use Rattle.clap.specs.declared.parser.matches.Found.{Found}
 use Rattle.clap.proofs.OnLiterals.{clap_on_literals}
 use Rattle.clap.proofs.WalkLemmas.{first_value-rows}
-use Rattle.px_command.specs.Command.{IsFileWord, IsNumber, IsCheck, IsReplay, IsLater, IsHelp, IsVersion, IsUsage}
+use Rattle.px_command.specs.Command.{IsFileWord, IsCheck, IsReplay, IsLater, IsHelp, IsVersion, IsUsage}
 use Rattle.px_command.specs.Later.{IsServe, IsDrill}
 use Rattle.px_command.specs.Parser.{Gives, IsRefused, IsTaken, parser}
 use Rattle.px_command.proofs.Accepted.{check_is, replay_is, later_is, number_word}

@@ -1,5 +1,5 @@
 -- What an environment in memory gives.
-use Rattle.std.specs.Prelude.{ℕ, true, false, List, [], ◌∷◌, map, Option, Some, None}
+use Rattle.std.specs.Prelude.{true, false, List, [], ◌∷◌, map, Option, Some, None}
 use Rattle.px_sample.specs.Sample.{Value, Truth, Number, Bytes}
 use Rattle.px_sample.specs.declared.fetch.Fetch.{Fetch}
 use Rattle.px_sample.specs.declared.fetch.Fetch.TheVariants as fetches

@@ -1,5 +1,5 @@
 -- What a client's stream asks for next.
-use Rattle.std.specs.Prelude.{◌≡◌, ℕ, List, [], Bool, true, false, not, ◌&&◌, nat_le, Option, Some, None}
+use Rattle.std.specs.Prelude.{◌≡◌, ℕ, List, [], Bool, true, false, ◌&&◌, nat_le, Option, Some, None}
 use Rattle.http_model.specs.declared.Ending.{Ending}
 use Rattle.http_model.specs.Blocks.{load}
 use Rattle.http_model.specs.Head.{Field, Head, Message, head_blocks}

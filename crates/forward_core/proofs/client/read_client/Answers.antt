@@ -1,8 +1,6 @@
 use Rattle.std.proofs.Common.{◌≡◌, ℕ, List, Bool, true, false, sym, ◌∙◌}
 use Rattle.http_model.specs.declared.Limits.{Limits}
-use Rattle.h1_head.specs.Plain.{IsPlain}
-use Rattle.forward_core.specs.Unbuilt.{BeginsEmpty}
-use Rattle.forward_core.proofs.Windows.{Parted, parted, hopeless_served, refused_unserved, plain_served, refused_whole, plain_kept, kept_unserved}
+use Rattle.forward_core.proofs.Windows.{parted, hopeless_served, refused_unserved, plain_served, refused_whole, plain_kept, kept_unserved}
 use Rattle.forward_core.proofs.client.read_client.Goals as goal
 
 -- a test that failed says that what it tests is not so

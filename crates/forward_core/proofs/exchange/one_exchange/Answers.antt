@@ -1,4 +1,3 @@
-use Rattle.std.proofs.Common.{◌≡◌, ℕ, List}
 use Rattle.forward_core.proofs.Sessions.{asks_refused, asks_fails, refused_session, forwarded_session}
 use Rattle.forward_core.proofs.exchange.one_exchange.Goals as goal
 

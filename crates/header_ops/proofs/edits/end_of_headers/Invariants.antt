@@ -1,4 +1,4 @@
-use Rattle.std.proofs.Common.{◌≡◌, ◌≤◌, ◌<◌, ◌+◌, ◌-◌, ◌++◌, ◌∷◌, take, drop, length}
+use Rattle.std.proofs.Common.{◌≡◌, ◌++◌, take, drop}
 use Rattle.http_model.specs.Block.{Block}
 use Rattle.header_ops.specs.Headers.{with_header, HasEnd}
 use Rattle.header_ops.proofs.edits.end_of_headers.Given as goal

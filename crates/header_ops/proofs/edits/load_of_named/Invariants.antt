@@ -1,4 +1,4 @@
-use Rattle.std.proofs.Common.{◌≡◌, ◌≤◌, ◌+◌, ◌-◌, take, length}
+use Rattle.std.proofs.Common.{◌≡◌, ◌≤◌, ◌+◌, take, length}
 use Rattle.http_model.specs.Blocks.{load}
 use Rattle.header_ops.specs.Headers.{without_headers}
 use Rattle.header_ops.proofs.edits.load_of_named.Given as goal

@@ -1,4 +1,4 @@
-use Rattle.std.proofs.Common.{◌≡◌, ◌-◌, drop, length}
+use Rattle.std.proofs.Common.{◌≡◌, drop}
 use Rattle.std.specs.List.{list_any}
 use Rattle.header_ops.specs.Headers.{is_header_named}
 use Rattle.header_ops.proofs.names.has_named.Given as goal

@@ -1,4 +1,4 @@
-use Rattle.std.proofs.Common.{arith, ◌≡◌, ◌≤◌, ◌++◌, List, Bool, false, not, ap, ◌∙◌, sym, subst, length, take, drop}
+use Rattle.std.proofs.Common.{arith, ◌≡◌, ◌≤◌, ◌++◌, List, false, not, ap, ◌∙◌, sym, subst, length, take, drop}
 use Rattle.std.proofs.lemmas.Grind.{common_steps}
 use Rattle.http_model.specs.Block.{Block}
 use Rattle.http_model.specs.Blocks.{block_at}

@@ -1,7 +1,7 @@
-use Rattle.std.proofs.Common.{◌≡◌, ℕ, List, sym, ap, ◌∙◌, subst}
-use Rattle.std.specs.Prelude.{Option, Ok, Err, IfOk}
+use Rattle.std.proofs.Common.{ℕ, List, sym, subst}
+use Rattle.std.specs.Prelude.{Option, Ok, Err}
 use Rattle.px_link.specs.Told.{NamedBytes, Reads}
-use Rattle.cfg_parse.specs.Whole.{config_of, Configures}
+use Rattle.cfg_parse.specs.Whole.{config_of}
 use Rattle.htx_proxy.proofs.Told.{configured, refused_is, stated}
 use Rattle.htx_proxy.proofs.answer.configuration.Goals as goal
 

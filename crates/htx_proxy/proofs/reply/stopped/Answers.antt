@@ -1,4 +1,4 @@
-use Rattle.std.proofs.Common.{◌≡◌, ℕ, List, sym, subst}
+use Rattle.std.proofs.Common.{sym, subst}
 use Rattle.std.proofs.lemmas.Result.{IfOk-weaker}
 use Rattle.htx_proxy.specs.Lines.{file_line, refused_line}
 use Rattle.htx_proxy.specs.Replay.{IsStopped}

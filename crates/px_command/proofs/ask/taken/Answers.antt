@@ -1,4 +1,4 @@
-use Rattle.std.proofs.Common.{rules, List, map}
+use Rattle.std.proofs.Common.{rules, map}
 use Rattle.std.specs.Prelude.{string_bytes}
 use Rattle.px_command.specs.Command.{IsLater}
 use Rattle.px_command.proofs.Gives.{taken_usage}

@@ -1,6 +1,5 @@
-use Rattle.std.proofs.Common.{rules, refl, inl, inr, List, map, IsTrue}
+use Rattle.std.proofs.Common.{rules, refl, inl, inr, map, IsTrue}
 use Rattle.std.specs.Prelude.{string_bytes}
-use Rattle.clap.specs.Words.{Text}
 use Rattle.px_command.specs.Later.{IsServe, IsDrill}
 use Rattle.px_command.proofs.Accepted.{is_later, later_is, right_of}
 use Rattle.px_command.proofs.lists.is_later.Goals as goal

@@ -1,7 +1,6 @@
-use Rattle.std.proofs.Common.{List, map}
+use Rattle.std.proofs.Common.{map}
 use Rattle.std.specs.Prelude.{string_bytes}
 use Rattle.std.proofs.lemmas.Bool.{false≢true}
-use Rattle.clap.specs.Words.{Text}
 use Rattle.px_command.proofs.Gives.{serve_gives}
 use Rattle.px_command.proofs.lists.is_serve.Goals as goal
 

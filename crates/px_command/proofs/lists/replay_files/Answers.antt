@@ -1,6 +1,5 @@
-use Rattle.std.proofs.Common.{List, map}
+use Rattle.std.proofs.Common.{map}
 use Rattle.std.specs.Prelude.{string_bytes}
-use Rattle.clap.specs.Words.{Text}
 use Rattle.px_command.proofs.Gives.{replay_gives}
 use Rattle.px_command.proofs.lists.replay_files.Goals as goal
 

@@ -1,4 +1,4 @@
-use Rattle.std.proofs.Common.{rules, ◌≡◌, ◌∙◌, sym, ap, ap₂, ℕ, List, [], ◌∷◌, map}
+use Rattle.std.proofs.Common.{rules, ◌≡◌, ◌∙◌, sym, ap₂, ℕ, List, [], ◌∷◌, map}
 use Rattle.std.specs.Prelude.{string_bytes}
 use Rattle.px_command.proofs.Gives.{none_is, some_is}
 use Rattle.px_command.proofs.values.two_values.Goals as goal

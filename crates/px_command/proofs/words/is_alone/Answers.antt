@@ -1,5 +1,4 @@
-use Rattle.std.proofs.Common.{rules, ◌≡◌, ℕ, List, sym, subst, ◌∙◌, IsTrue}
-use Rattle.std.specs.Prelude.{string_bytes}
+use Rattle.std.proofs.Common.{rules, ◌≡◌, sym, ◌∙◌, IsTrue}
 use Rattle.px_command.proofs.Items.{alone_word}
 use Rattle.px_command.proofs.words.is_alone.Goals as goal
 

@@ -1,5 +1,4 @@
 use Rattle.std.proofs.Common.{rules, ◌≡◌, ◌∙◌, sym, false, IsTrue}
-use Rattle.std.specs.Prelude.{string_bytes}
 use Rattle.std.proofs.lemmas.Bool.{false≢true}
 use Rattle.px_command.proofs.Items.{triple_words}
 use Rattle.px_command.proofs.words.is_triple.Goals as goal

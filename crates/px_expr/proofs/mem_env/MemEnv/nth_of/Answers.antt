@@ -1,5 +1,3 @@
-use Rattle.std.proofs.Common.{◌∙◌, sym, ap}
-use Rattle.std.specs.Prelude.{slice_get}
 use Rattle.px_expr.proofs.GivenLemmas.{of_message}
 use Rattle.px_expr.proofs.mem_env.MemEnv.nth_of.Goals as goal
 
