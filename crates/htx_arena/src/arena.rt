@@ -5,6 +5,7 @@ ghost use Rattle.htx_layout.specs.Held.{held};
 
 mod cut;
 mod data;
+mod front;
 mod insert;
 mod lend;
 mod replace;
