@@ -11,6 +11,10 @@ framing_names =
     codes "connection" ∷ codes "keep-alive" ∷ codes "proxy-connection" ∷ codes "te" ∷ codes "upgrade"
     ∷ codes "transfer-encoding" ∷ codes "content-length" ∷ []
 
+-- the names that no element of Connection takes away, and that no trailer brings
+abbrev pub own_names : List (List ℕ)
+own_names = codes "host" ∷ framing_names
+
 abbrev pub length_field : ℕ → Field
 length_field n = (codes "content-length", decimal n)
 

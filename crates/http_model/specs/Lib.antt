@@ -1,5 +1,6 @@
 pub use Rattle.htx_model.specs.Block
 pub use Rattle.htx_model.specs.Blocks
+pub mod Sizes
 pub mod Head
 pub mod Fields
 pub mod Finish

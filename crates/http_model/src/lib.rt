@@ -2,7 +2,19 @@
 //! share, and in `specs/` the head and the message, edits of fields, finishing, refusals and spelling.
 #![tactic(auto)]
 
+mod framing_names;
+
+pub use framing_names::{FRAMING_NAMES, is_framing_name};
 pub use htx_model::{Kind, OutOfMemory};
+
+/// The most bytes of an array of blocks.
+pub const MAX_BUFSIZE: u32 = 262144;
+
+/// The least bytes of an array of blocks.
+pub const MIN_BUFSIZE: u32 = 1024;
+
+/// The most bytes of a field's name.
+pub const MAX_NAME: usize = 255;
 
 /// How the body of a message is found (RFC 9112 section 6.3).
 #[derive(Clone, Copy, Debug, PartialEq, Eq)]
@@ -24,6 +36,15 @@ pub struct Limits {
     pub bufsize: u32,
     /// At most `bufsize - 512`.
     pub maxrewrite: u32,
+}
+
+/// Why a step of a rule failed.
+#[derive(Clone, Copy, Debug, PartialEq, Eq)]
+pub enum Why {
+    /// The list of blocks after the step would not fit the buffer.
+    Room,
+    /// A text of more bytes than the buffer has, or a byte that may not stand where the rule would put it.
+    Bytes,
 }
 
 /// How a stream of bytes ended.

@@ -7,5 +7,5 @@ mod tests;
 mod writing;
 
 pub use fmt::{Fmt, Part, PartList};
-pub use px_expr::{Buf, Env, Expr, OutOfMemory, Text};
+pub use px_expr::{Buf, Env, Expr, OutOfMemory, Searchers, Text};
 pub use writing::format;

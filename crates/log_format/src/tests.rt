@@ -1,5 +1,5 @@
 //! Formats over an environment in memory, with texts by hand.
-use crate::{Fmt, Part, PartList, format};
+use crate::{Fmt, Part, PartList, Searchers, format};
 use px_expr::{Buf, Conv, ConvList, Expr, Fetch, Given, MemEnv, Text};
 use std::alloc::Global;
 use std::test::Fail;
@@ -207,7 +207,15 @@ fn texts_of_formats(rt: HostRuntime) -> Result<(), Fail> {
         // What stood there before goes.
         let _ = into.push(b"o");
         let _ = buf.push(b"left");
-        let fits = format(rt.alloc(), &fmt, &env, &mut into, &mut buf, &mut spare)?;
+        let fits = format(
+            rt.alloc(),
+            &mut Searchers::new(rt.alloc()),
+            &fmt,
+            &env,
+            &mut into,
+            &mut buf,
+            &mut spare,
+        )?;
         assert_eq!(rt; fits, text.is_some(), "{cap} {parts:?} {given:?}");
         assert_eq!(rt;
             into.bytes(),

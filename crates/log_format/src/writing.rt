@@ -6,7 +6,7 @@ ghost use Rattle.px_expr.specs.Expr.{sample};
 ghost use Rattle.log_format.specs.Format.{bytes_of, part_text, text, part_holds_pattern, holds_pattern};
 
 use crate::fmt::{Fmt, Part};
-use px_expr::eval;
+use px_expr::{Searchers, eval};
 use px_sample::{Buf, Env, OutOfMemory, Sample, into_text};
 use std::alloc::Global;
 
@@ -25,9 +25,10 @@ fn put_sample(made: Sample, buf: &mut Buf, into: &mut Buf) -> bool
 }
 
 /// Puts the text of a part behind what `into` holds; false where it doesn't fit.
-fn put_part<E: Env>(
+fn put_part<'c, E: Env>(
     alloc: Global,
-    part: &Part,
+    searchers: &mut Searchers<'c>,
+    part: &'c Part,
     env: &E,
     into: &mut Buf,
     buf: &mut Buf,
@@ -45,7 +46,7 @@ fn put_part<E: Env>(
     match part {
         Part::Literal(text) => Ok(into.push(text.as_slice())),
         Part::Sample(expr) => {
-            let made = eval(alloc, expr, env, buf, spare)?;
+            let made = eval(alloc, searchers, expr, env, buf, spare)?;
             Ok(put_sample(made, buf, into))
         }
     }
@@ -55,9 +56,10 @@ fn put_part<E: Env>(
 /// holds, and then `into` is empty. Samples are made in `buf`, so one whose text is longer than `buf` holds adds
 /// nothing. `spare` has the size of `buf`; what these two hold afterwards is left open, and so is `into` after a
 /// want of memory.
-pub fn format<E: Env>(
+pub fn format<'c, E: Env>(
     alloc: Global,
-    fmt: &Fmt,
+    searchers: &mut Searchers<'c>,
+    fmt: &'c Fmt,
     env: &E,
     into: &mut Buf,
     buf: &mut Buf,
@@ -73,7 +75,7 @@ pub fn format<E: Env>(
 {
     into.clear();
     for at in 0..fmt.parts.len() {
-        let fits = put_part(alloc, fmt.parts.get(at), env, into, buf, spare)?;
+        let fits = put_part(alloc, searchers, fmt.parts.get(at), env, into, buf, spare)?;
         if !fits {
             into.truncate(0);
             return Ok(false);

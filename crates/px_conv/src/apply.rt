@@ -4,6 +4,7 @@ ghost use Rattle.px_conv.specs.Conv.{converted, has_pattern};
 
 use crate::conv::Conv;
 use crate::{bytes, encode, fields, number, regsub, truth};
+use px_pattern::Searchers;
 use px_sample::{Buf, OutOfMemory, Sample, number_in, truth_in};
 use std::alloc::Global;
 
@@ -11,9 +12,10 @@ use std::alloc::Global;
 /// more bytes than the buffer holds is absent, and so is what is made of a sample that is absent or can't be cast.
 /// `spare` has the buffer's size; what it holds afterwards is left open. `regsub` alone takes memory, and where none
 /// is left, what the buffers hold is left open.
-pub fn convert(
+pub fn convert<'c>(
     alloc: Global,
-    conv: &Conv,
+    searchers: &mut Searchers<'c>,
+    conv: &'c Conv,
     sample: Sample,
     buf: &mut Buf,
     spare: &mut Buf,
@@ -50,7 +52,16 @@ pub fn convert(
         Conv::Hex => encode::hex(sample, buf, spare),
         Conv::UrlDec => encode::url_dec(sample, buf, spare),
         Conv::Regsub(pat, template, all) => {
-            regsub::substitute(alloc, pat, template.as_slice(), *all, sample, buf, spare)?
+            regsub::substitute(
+                alloc,
+                searchers,
+                pat,
+                template.as_slice(),
+                *all,
+                sample,
+                buf,
+                spare,
+            )?
         }
     };
     Ok(made)

@@ -15,6 +15,6 @@ mod truth;
 
 pub use apply::convert;
 pub use conv::Conv;
-pub use px_pattern::{Groups, Pat};
+pub use px_pattern::{Groups, Pat, Searchers};
 pub use px_sample::{Buf, OutOfMemory, Sample, Text};
 pub use template::expand;

@@ -2,7 +2,7 @@
 ghost use Rattle.std.specs.Prelude.{◌≡◌, ℕ, ◌+◌, ◌≤◌, ◌↔◌, ◌++◌, List, length, take, option_and_then, IfOk, IsTrue, if◌then◌else◌};
 ghost use Rattle.std.specs.Bool.{OnTrue};
 ghost use Rattle.px_pattern.specs.Groups.{LieIn};
-ghost use Rattle.px_pattern.specs.Meaning.{pattern_of, sought_by};
+ghost use Rattle.px_pattern.specs.Meaning.{pattern_of};
 ghost use Rattle.px_sample.specs.Sample.{Bytes, value_in, within};
 ghost use Rattle.px_conv.specs.Conv.{of_bytes};
 ghost use Rattle.px_conv.specs.Template.{expanded};
@@ -11,7 +11,7 @@ ghost use Rattle.px_conv.specs.Replacing.{Came, IsBelow};
 
 use crate::bytes::hold;
 use crate::template::expand;
-use px_pattern::{Groups, Pat, Searcher};
+use px_pattern::{Groups, Pat, Searchers};
 use px_sample::{Buf, OutOfMemory, Sample};
 use std::alloc::Global;
 use std::mem;
@@ -76,20 +76,20 @@ fn go_on<'a>(all: bool, was_empty: bool, rest: &'a [u8], into: &mut Buf) -> Left
 }
 
 /// Replaces the first match in the text.
-fn replace_one<'a>(
+fn replace_one<'a, 'c>(
     alloc: Global,
-    searcher: &mut Searcher<'_>,
+    searchers: &mut Searchers<'c>,
+    pat: &'c Pat,
     template: &[u8],
     all: bool,
     text: &'a [u8],
     into: &mut Buf,
 ) -> Result<Left<'a>, OutOfMemory>
-    ensures came { IfOk result (λ left. (on : List ℕ → List ℕ) → Came on into.old into.new (one_step on (sought_by searcher.old) template.now all text.now) left) }
+    ensures came { IfOk result (λ left. (on : List ℕ → List ℕ) → Came on into.old into.new (one_step on (pattern_of pat.now) template.now all text.now) left) }
     ensures below { IfOk result (IsBelow (length text.now)) }
-    ensures same { sought_by searcher.new ≡ sought_by searcher.old }
     ensures cap { into.new.cap ≡ into.old.cap }
 {
-    let Some(groups) = searcher.find_groups(alloc, text)? else {
+    let Some(groups) = searchers.find_groups(alloc, pat, text)? else {
         return Ok(put_last(text, into));
     };
     let place = groups.span(0).unwrap();
@@ -101,21 +101,22 @@ fn replace_one<'a>(
 }
 
 /// Replaces the first match in the text, or all, behind what the buffer holds; false where the whole does not fit.
-fn replace(
+fn replace<'c>(
     alloc: Global,
-    searcher: &mut Searcher<'_>,
+    searchers: &mut Searchers<'c>,
+    pat: &'c Pat,
     template: &[u8],
     all: bool,
     text: &[u8],
     into: &mut Buf,
 ) -> Result<bool, OutOfMemory>
-    ensures fits { IfOk result (λ fits. IsTrue fits ↔ (length into.old.bytes + length (regsub (sought_by searcher.old) template.now all text.now) ≤ into.old.cap)) }
-    ensures replaced { IfOk result (λ fits. OnTrue fits (into.new.bytes ≡ into.old.bytes ++ regsub (sought_by searcher.old) template.now all text.now)) }
+    ensures fits { IfOk result (λ fits. IsTrue fits ↔ (length into.old.bytes + length (regsub (pattern_of pat.now) template.now all text.now) ≤ into.old.cap)) }
+    ensures replaced { IfOk result (λ fits. OnTrue fits (into.new.bytes ≡ into.old.bytes ++ regsub (pattern_of pat.now) template.now all text.now)) }
     ensures cap { into.new.cap ≡ into.old.cap }
 {
     let mut rest = text;
     'matches: loop {
-        match replace_one(alloc, searcher, template, all, rest, into)? {
+        match replace_one(alloc, searchers, pat, template, all, rest, into)? {
             Left::Text(after) => rest = after,
             Left::Nothing => return Ok(true),
             Left::TooLong => return Ok(false),
@@ -124,9 +125,10 @@ fn replace(
 }
 
 /// The sample with the first match replaced by the template, or all matches.
-pub fn substitute(
+pub fn substitute<'c>(
     alloc: Global,
-    pat: &Pat,
+    searchers: &mut Searchers<'c>,
+    pat: &'c Pat,
     template: &[u8],
     all: bool,
     sample: Sample,
@@ -141,9 +143,8 @@ pub fn substitute(
     if !hold(sample, buf) {
         return Ok(Sample::Absent);
     }
-    let mut searcher = pat.searcher(alloc)?;
     spare.clear();
-    if !replace(alloc, &mut searcher, template, all, buf.bytes(), spare)? {
+    if !replace(alloc, searchers, pat, template, all, buf.bytes(), spare)? {
         return Ok(Sample::Absent);
     }
     mem::swap(buf, spare);

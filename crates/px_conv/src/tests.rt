@@ -5,7 +5,7 @@ mod encode;
 mod fields;
 mod regsub;
 
-use crate::{Buf, Conv, Groups, Sample, Text, convert, expand};
+use crate::{Buf, Conv, Groups, Sample, Searchers, Text, convert, expand};
 use px_pattern::{Patterns, RealPatterns};
 use std::alloc::Global;
 use std::test::Fail;
@@ -75,7 +75,14 @@ fn made(alloc: Global, conv: &Conv, sample: Sample, held: &[u8]) -> Result<(Samp
     let mut buf = Buf::new(alloc, 8)?;
     let mut spare = Buf::new(alloc, 8)?;
     let _ = buf.push(held);
-    let sample = convert(alloc, conv, sample, &mut buf, &mut spare)?;
+    let sample = convert(
+        alloc,
+        &mut Searchers::new(alloc),
+        conv,
+        sample,
+        &mut buf,
+        &mut spare,
+    )?;
     Ok((sample, buf))
 }
 

@@ -6,14 +6,15 @@ ghost use Rattle.px_conv.specs.Conv.{has_pattern};
 ghost use Rattle.px_expr.specs.Expr.{put_through, sample, samples, holds_pattern};
 
 use crate::expr::{ConvList, Expr};
-use px_conv::convert;
+use px_conv::{Searchers, convert};
 use px_sample::{Buf, Env, OutOfMemory, Sample};
 use std::alloc::Global;
 
 /// Puts a sample through converters, up to one that makes nothing of it.
-fn convert_all(
+fn convert_all<'c>(
     alloc: Global,
-    convs: &ConvList,
+    searchers: &mut Searchers<'c>,
+    convs: &'c ConvList,
     first: Sample,
     buf: &mut Buf,
     spare: &mut Buf,
@@ -29,7 +30,7 @@ fn convert_all(
         if let Sample::Absent = made {
             return Ok(Sample::Absent);
         }
-        made = convert(alloc, convs.get(at), made, buf, spare)?;
+        made = convert(alloc, searchers, convs.get(at), made, buf, spare)?;
     }
     Ok(made)
 }
@@ -37,9 +38,10 @@ fn convert_all(
 /// The sample of an expression: the last of its fetch, put through the converters. Its bytes stand in `buf`, and a
 /// sample of more bytes than `buf` holds is absent. `spare` has the size of `buf`; what it holds afterwards is left
 /// open, and so is `buf` after a want of memory.
-pub fn eval<E: Env>(
+pub fn eval<'c, E: Env>(
     alloc: Global,
-    expr: &Expr,
+    searchers: &mut Searchers<'c>,
+    expr: &'c Expr,
     env: &E,
     buf: &mut Buf,
     spare: &mut Buf,
@@ -51,14 +53,15 @@ pub fn eval<E: Env>(
     ensures spare_cap { spare.new.cap ≡ buf.old.cap }
 {
     let last = env.last(&expr.fetch, buf);
-    convert_all(alloc, &expr.convs, last, buf, spare)
+    convert_all(alloc, searchers, &expr.convs, last, buf, spare)
 }
 
 /// The sample of this number, counted from 0, of those that a condition tries: each of the fetch, put through the
 /// converters. None past the last, and then `buf` is unchanged. Else as `eval`.
-pub fn eval_nth<E: Env>(
+pub fn eval_nth<'c, E: Env>(
     alloc: Global,
-    expr: &Expr,
+    searchers: &mut Searchers<'c>,
+    expr: &'c Expr,
     nth: u32,
     env: &E,
     buf: &mut Buf,
@@ -73,7 +76,7 @@ pub fn eval_nth<E: Env>(
     ensures spare_cap { spare.new.cap ≡ buf.old.cap }
 {
     match env.fetch(&expr.fetch, nth, buf) {
-        Some(first) => Ok(Some(convert_all(alloc, &expr.convs, first, buf, spare)?)),
+        Some(first) => Ok(Some(convert_all(alloc, searchers, &expr.convs, first, buf, spare)?)),
         None => Ok(None),
     }
 }

@@ -11,5 +11,5 @@ mod tests;
 pub use evaluation::{eval, eval_nth};
 pub use expr::{ConvList, Expr};
 pub use mem_env::{Given, MemEnv};
-pub use px_conv::{Conv, Pat};
+pub use px_conv::{Conv, Pat, Searchers};
 pub use px_sample::{Buf, Env, Fetch, OutOfMemory, Sample, Scope, Text};

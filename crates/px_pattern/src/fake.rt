@@ -1,7 +1,7 @@
 ghost use Rattle.std.specs.Prelude.{◌≡◌, None, IsOk, IfOk, IsErr};
+ghost use Rattle.px_pattern.specs.Meaning.{IsPattern};
 ghost use Rattle.px_pattern.specs.Refusals.{CountsRefusals, kept_after};
 ghost use Rattle.px_pattern.specs.Keeping.{next_build};
-ghost use Rattle.px_pattern.specs.Meaning.{IsBuiltFrom};
 
 use crate::patterns::Patterns;
 use crate::real::RealPatterns;
@@ -47,7 +47,8 @@ impl Patterns for FakePatterns {
     ghost last_refused = { λ patterns. patterns.last };
 
     fn build(&mut self, alloc: Global, text: &[u8], icase: bool) -> Result<Pat, PatFault>
-        ensures built { IfOk result (IsBuiltFrom text.now icase) }
+        ensures built { IfOk result (λ pat. pat ≡ record { text = text.now; icase = icase }) }
+        ensures read { IfOk result IsPattern }
         ensures by_number { next_build self.old.builds ≡ self.old.refuse → IsErr result }
         ensures counts { CountsRefusals self.old.refusals self.new.refusals result }
         ensures kept { self.new.last ≡ kept_after result text.now icase self.old.last }

@@ -9,6 +9,7 @@ mod kept;
 mod pat;
 mod patterns;
 mod real;
+mod searchers;
 mod span;
 #[cfg(test)]
 mod tests;
@@ -20,4 +21,5 @@ pub use htx_model::OutOfMemory;
 pub use pat::{Pat, Searcher};
 pub use patterns::Patterns;
 pub use real::RealPatterns;
+pub use searchers::Searchers;
 pub use span::Span;

@@ -1,52 +1,113 @@
-ghost use Rattle.std.specs.Prelude.{◌≡◌, is_some, length, IfOk, IsSomeAnd, IfSome};
+ghost use Rattle.std.specs.Prelude.{◌≡◌, is_some, length, IfOk, IfSome, IsTrue};
 ghost use Rattle.regex.specs.Patterns.{find};
+ghost use Rattle.regex.specs.Bytes.{regex_source, regex_config, matcher_pattern, IsReadFromSource};
+ghost use Rattle.px_pattern.specs.Groups.{LieIn};
+ghost use Rattle.px_pattern.specs.Meaning.{options, pattern_of, IsPattern, IsFoundBy};
 
 use crate::Groups;
 use htx_model::OutOfMemory;
 use regex::bytes::{Matcher, Regex};
 use std::alloc::Global;
+use std::marker::Model;
 use std::rc::Rc;
 
-/// A pattern that was built. It does not change, and may be shared.
+/// A pattern that was built. It does not change, and may be shared. Contracts see its text and whether it ignores case.
+/// The number that its builder gave it says where a searcher for it is kept, and nothing else.
 #[derive(Debug, Drop)]
 pub struct Pat {
     regex: Rc<Regex>,
+    icase: bool,
+    number: u32,
+}
+
+impl Model for Pat {
+    ghost use Rattle.px_pattern.specs.Pattern.{Pattern};
+
+    ghost Value = { Pattern };
+
+    ghost use Rattle.px_pattern.specs.Building.{pattern_in, IsBuilt};
+
+    ghost view = { pattern_in };
+
+    ghost invariant = { IsBuilt };
 }
 
 /// What searches for a pattern, text after text. To make one costs more than a search does.
 #[derive(Drop)]
 pub struct Searcher<'p> {
+    pat: &'p Pat,
     matcher: Matcher<'p>,
 }
 
-impl Pat {
-    ghost use Rattle.px_pattern.specs.Groups.{LieIn};
-    ghost use Rattle.px_pattern.specs.Meaning.{regex_of, pattern_of, sought_by, IsFoundBy};
+impl<'p> Model for Searcher<'p> {
+    ghost use Rattle.px_pattern.specs.Pattern.{Pattern};
 
-    pub(crate) fn new(alloc: Global, regex: Regex) -> Result<Pat, OutOfMemory>
-        ensures { IfOk result (λ pat. regex_of pat ≡ regex) }
+    ghost Value = { Pattern };
+
+    ghost use Rattle.px_pattern.specs.Seeking.{sought_in, Seeks};
+
+    ghost view = { sought_in };
+
+    ghost invariant = { Seeks };
+}
+
+impl Pat {
+    pub(crate) fn new(
+        alloc: Global,
+        regex: Regex,
+        icase: bool,
+        number: u32,
+    ) -> Result<Pat, OutOfMemory>
+        requires config { regex_config regex ≡ options icase }
+        requires source { IsReadFromSource regex }
+        ensures value { IfOk result (λ pat. pat ≡ record { text = regex_source regex; icase = icase }) }
+        ensures read { IfOk result IsPattern }
     {
+        let regex = Rc::new(alloc, regex)?;
         Ok(Pat {
-            regex: Rc::new(alloc, regex)?,
+            regex,
+            icase,
+            number,
         })
     }
 
     /// The same pattern again, which is not built anew.
     pub fn share(&self) -> Result<Pat, OutOfMemory>
-        ensures { IfOk result (λ pat. regex_of pat ≡ regex_of self.now) }
+        ensures { IfOk result (λ pat. pat ≡ self.now) }
     {
+        let regex = self.regex.clone()?;
         Ok(Pat {
-            regex: self.regex.clone()?,
+            regex,
+            icase: self.icase,
+            number: self.number,
         })
+    }
+
+    /// Its text.
+    pub fn text(&self) -> &[u8]
+        ensures { result.now ≡ self.now.text }
+    {
+        self.regex.as_str().as_bytes()
+    }
+
+    /// Whether it ignores case.
+    pub fn ignores_case(&self) -> bool
+        ensures { result ≡ self.now.icase }
+    {
+        self.icase
+    }
+
+    /// Where a searcher for it is kept.
+    pub(crate) fn number(&self) -> usize {
+        self.number as usize
     }
 
     /// What searches for the pattern in several texts.
     pub fn searcher(&self, alloc: Global) -> Result<Searcher<'_>, OutOfMemory>
-        ensures { IfOk result (λ searcher. sought_by searcher ≡ pattern_of self.now) }
+        ensures { IfOk result (λ searcher. searcher ≡ self.now) }
     {
-        Ok(Searcher {
-            matcher: self.regex.matcher(alloc)?,
-        })
+        let matcher = self.regex.matcher(alloc)?;
+        Ok(Searcher { pat: self, matcher })
     }
 
     /// The leftmost match in one text, with its groups; of several alternatives the first counts.
@@ -59,26 +120,44 @@ impl Pat {
 }
 
 impl<'p> Searcher<'p> {
-    ghost use Rattle.px_pattern.specs.Groups.{LieIn};
-    ghost use Rattle.px_pattern.specs.Meaning.{sought_by, IsFoundBy};
+    /// Whether it searches for this pattern, or for one with the same text and case.
+    pub fn is_for(&self, pat: &Pat) -> bool
+        ensures { IsTrue result → self.now ≡ pat.now }
+    {
+        let own = self.pat;
+        own.ignores_case() == pat.ignores_case() && own.text() == pat.text()
+    }
 
     /// Whether the pattern matches somewhere in the text. It takes no memory that can be refused.
     pub fn is_match(&mut self, text: &[u8]) -> bool
-        ensures found { result ≡ is_some (find (sought_by self.old) text.now 0) }
-        ensures same { sought_by self.new ≡ sought_by self.old }
+        ensures found { result ≡ is_some (find (pattern_of self.old) text.now 0) }
+        ensures same { self.new ≡ self.old }
     {
         self.matcher.is_match(text)
     }
 
     /// As `Pat::find_groups`.
     pub fn find_groups(&mut self, alloc: Global, text: &[u8]) -> Result<Option<Groups>, OutOfMemory>
-        ensures found { IfOk result (IsFoundBy (sought_by self.old) text.now) }
+        ensures found { IfOk result (IsFoundBy (pattern_of self.old) text.now) }
         ensures within { IfOk result (λ found. IfSome found (LieIn (length text.now))) }
-        ensures same { sought_by self.new ≡ sought_by self.old }
+        ensures same { self.new ≡ self.old }
     {
-        match self.matcher.captures(text) {
-            Some(captures) => Ok(Some(Groups::of(alloc, &captures)?)),
-            None => Ok(None),
-        }
+        groups_by(alloc, &mut self.matcher, text)
+    }
+}
+
+/// The groups of the leftmost match, by what the matcher looks for.
+fn groups_by(
+    alloc: Global,
+    matcher: &mut Matcher<'_>,
+    text: &[u8],
+) -> Result<Option<Groups>, OutOfMemory>
+    ensures found { IfOk result (IsFoundBy (matcher_pattern matcher.old) text.now) }
+    ensures within { IfOk result (λ found. IfSome found (LieIn (length text.now))) }
+    ensures same { matcher_pattern matcher.new ≡ matcher_pattern matcher.old }
+{
+    match matcher.captures(text) {
+        Some(captures) => Ok(Some(Groups::of(alloc, &captures)?)),
+        None => Ok(None),
     }
 }

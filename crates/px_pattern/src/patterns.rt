@@ -1,6 +1,6 @@
 ghost use Rattle.std.specs.Prelude.{◌≡◌, ℕ, IfOk};
+ghost use Rattle.px_pattern.specs.Meaning.{IsPattern};
 ghost use Rattle.px_pattern.specs.Refusals.{CountsRefusals, Kept, kept_after};
-ghost use Rattle.px_pattern.specs.Meaning.{IsBuiltFrom};
 
 use crate::{Pat, PatFault};
 use std::alloc::Global;
@@ -15,7 +15,8 @@ pub trait Patterns {
 
     /// Builds the pattern of a text, which is to ignore case or not.
     fn build(&mut self, alloc: Global, text: &[u8], icase: bool) -> Result<Pat, PatFault>
-        ensures built { IfOk result (IsBuiltFrom text.now icase) }
+        ensures built { IfOk result (λ pat. pat ≡ record { text = text.now; icase = icase }) }
+        ensures read { IfOk result IsPattern }
         ensures counts { CountsRefusals (refusals self.old) (refusals self.new) result }
         ensures kept { last_refused self.new ≡ kept_after result text.now icase (last_refused self.old) };
 }

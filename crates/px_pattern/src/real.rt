@@ -1,6 +1,6 @@
 ghost use Rattle.std.specs.Prelude.{◌≡◌, None, IsOk, IsErr, IfOk, IsUtf8};
+ghost use Rattle.px_pattern.specs.Meaning.{IsPattern};
 ghost use Rattle.px_pattern.specs.Refusals.{CountsRefusals, kept_after};
-ghost use Rattle.px_pattern.specs.Meaning.{IsBuiltFrom};
 
 use crate::kept::KeptText;
 use crate::patterns::Patterns;
@@ -14,6 +14,7 @@ use std::marker::Model;
 /// ends with want of memory and is no refusal.
 #[derive(Drop)]
 pub struct RealPatterns {
+    next: u32,
     refusals: u64,
     last: Option<KeptText>,
 }
@@ -33,6 +34,7 @@ impl RealPatterns {
         ensures last { result.last ≡ None }
     {
         RealPatterns {
+            next: 0,
             refusals: 0,
             last: None,
         }
@@ -59,14 +61,13 @@ impl RealPatterns {
 }
 
 impl Patterns for RealPatterns {
-    ghost use Rattle.px_pattern.specs.Meaning.{IsBuiltFrom};
-
     ghost refusals = { λ patterns. patterns.refusals };
 
     ghost last_refused = { λ patterns. patterns.last };
 
     fn build(&mut self, alloc: Global, text: &[u8], icase: bool) -> Result<Pat, PatFault>
-        ensures built { IfOk result (IsBuiltFrom text.now icase) }
+        ensures built { IfOk result (λ pat. pat ≡ record { text = text.now; icase = icase }) }
+        ensures read { IfOk result IsPattern }
         ensures utf8 { IsOk result → IsUtf8 text.now }
         ensures counts { CountsRefusals self.old.refusals self.new.refusals result }
         ensures kept { self.new.last ≡ kept_after result text.now icase self.old.last }
@@ -74,9 +75,11 @@ impl Patterns for RealPatterns {
         let Ok(source) = std::str::from_utf8(text) else {
             return self.refuse(alloc, text, icase);
         };
+        let number = self.next;
+        self.next = number.saturating_add(1);
         let builder = RegexBuilder::new(source).case_insensitive(icase);
         match builder.build_bytes(alloc) {
-            Ok(regex) => match Pat::new(alloc, regex) {
+            Ok(regex) => match Pat::new(alloc, regex, icase, number) {
                 Ok(pat) => Ok(pat),
                 Err(_) => Err(PatFault::OutOfMemory),
             },

@@ -1,4 +1,4 @@
-use crate::{FakePatterns, PatFault, Patterns, RealPatterns, Span};
+use crate::{FakePatterns, PatFault, Patterns, RealPatterns, Searchers, Span};
 use std::test::Fail;
 
 const NONE: Option<Span> = None;
@@ -193,5 +193,23 @@ fn refuses_by_number(rt: HostRuntime) -> Result<(), Fail> {
     assert_eq!(rt; found.span(2), NONE);
     let mut none = FakePatterns::new(0);
     assert!(rt; none.build(rt.alloc(), b"a", false).is_ok());
+    Ok(())
+}
+
+/// Two builders give two patterns one number, so each takes the other's place.
+#[test]
+fn keeps_searchers(rt: HostRuntime) -> Result<(), Fail> {
+    let alloc = rt.alloc();
+    let (mut left, mut right) = (RealPatterns::new(), RealPatterns::new());
+    let a = left.build(alloc, b"a+", false).map_err(|_| Refusal)?;
+    let b = right.build(alloc, b"b(c)", true).map_err(|_| Refusal)?;
+    let mut searchers = Searchers::new(alloc);
+    for round in 0..3 {
+        let found = searchers.find_groups(alloc, &a, b"xaabc")?.ok_or("no a")?;
+        assert_eq!(rt; found.span(0), at(1, 2), "round {round}");
+        let found = searchers.find_groups(alloc, &b, b"xaaBC")?.ok_or("no b")?;
+        assert_eq!(rt; found.span(1), at(4, 1), "round {round}");
+        assert!(rt; !searchers.is_match(alloc, &b, b"xaa")?, "round {round}");
+    }
     Ok(())
 }

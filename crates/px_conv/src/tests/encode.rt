@@ -1,4 +1,4 @@
-use crate::{Buf, Conv, Sample, convert};
+use crate::{Buf, Conv, Sample, Searchers, convert};
 use std::alloc::Global;
 use std::test::Fail;
 
@@ -14,7 +14,14 @@ fn made(
     let mut spare = Buf::new(alloc, cap)?;
     let _ = buf.push(held);
     let _ = spare.push(b"left");
-    let sample = convert(alloc, conv, sample, &mut buf, &mut spare)?;
+    let sample = convert(
+        alloc,
+        &mut Searchers::new(alloc),
+        conv,
+        sample,
+        &mut buf,
+        &mut spare,
+    )?;
     Ok((sample, buf))
 }
 

@@ -1,5 +1,5 @@
 //! `field` and `word`. The values were worked out by hand, and are those that a few lines of Python give.
-use crate::{Buf, Conv, Sample, Text, convert};
+use crate::{Buf, Conv, Sample, Searchers, Text, convert};
 use std::alloc::Global;
 use std::test::Fail;
 
@@ -14,7 +14,14 @@ fn made(alloc: Global, conv: &Conv, sample: Sample, held: &[u8]) -> Result<(Samp
     let mut buf = Buf::new(alloc, 16)?;
     let mut spare = Buf::new(alloc, 16)?;
     let _ = buf.push(held);
-    let sample = convert(alloc, conv, sample, &mut buf, &mut spare)?;
+    let sample = convert(
+        alloc,
+        &mut Searchers::new(alloc),
+        conv,
+        sample,
+        &mut buf,
+        &mut spare,
+    )?;
     Ok((sample, buf))
 }
 

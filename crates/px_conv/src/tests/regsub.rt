@@ -1,4 +1,4 @@
-use crate::{Buf, Conv, Sample, Text, convert};
+use crate::{Buf, Conv, Sample, Searchers, Text, convert};
 use px_pattern::{Patterns, RealPatterns};
 use std::alloc::Global;
 use std::test::Fail;
@@ -18,7 +18,14 @@ fn made(
     let mut spare = Buf::new(alloc, 9)?;
     let _ = buf.push(held);
     let _ = spare.push(b"left over");
-    match convert(alloc, &conv, sample, &mut buf, &mut spare)? {
+    match convert(
+        alloc,
+        &mut Searchers::new(alloc),
+        &conv,
+        sample,
+        &mut buf,
+        &mut spare,
+    )? {
         Sample::InBuf => Ok(Some(buf)),
         _ => Ok(None),
     }

@@ -1,5 +1,7 @@
 //! Rows of a table of expressions, and what is made of them.
-use crate::{Buf, Conv, ConvList, Expr, Fetch, Given, MemEnv, Pat, Sample, Text, eval, eval_nth};
+use crate::{
+    Buf, Conv, ConvList, Expr, Fetch, Given, MemEnv, Pat, Sample, Searchers, Text, eval, eval_nth,
+};
 use px_pattern::{Patterns, RealPatterns};
 use std::alloc::Global;
 use std::process::Abort;
@@ -140,7 +142,14 @@ pub fn check_one(
     let env = env_of(from)?;
     let mut buf = Buf::new(rt.alloc(), cap)?;
     let mut spare = Buf::new(rt.alloc(), cap)?;
-    let sample = eval(rt.alloc(), &expr, &env, &mut buf, &mut spare)?;
+    let sample = eval(
+        rt.alloc(),
+        &mut Searchers::new(rt.alloc()),
+        &expr,
+        &env,
+        &mut buf,
+        &mut spare,
+    )?;
     assert_eq!(rt; seen(sample, &buf), made, "{from:?} {convs:?}");
     Ok(())
 }
@@ -161,7 +170,15 @@ pub fn check_many(rt: &(impl Abort + AllocGlobal), rows: &'static [Many]) -> Res
         for nth in 0..9u32 {
             let mut buf = Buf::new(rt.alloc(), CAP)?;
             let mut spare = Buf::new(rt.alloc(), CAP)?;
-            let sample = eval_nth(rt.alloc(), &expr, nth, &env, &mut buf, &mut spare)?;
+            let sample = eval_nth(
+                rt.alloc(),
+                &mut Searchers::new(rt.alloc()),
+                &expr,
+                nth,
+                &env,
+                &mut buf,
+                &mut spare,
+            )?;
             let seen = sample.map(|sample| seen(sample, &buf));
             assert_eq!(rt;
                 seen,

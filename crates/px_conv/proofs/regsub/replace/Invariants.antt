@@ -1,5 +1,5 @@
 use Rattle.std.proofs.Common.{◌≡◌, ◌++◌, length}
-use Rattle.px_pattern.specs.Meaning.{sought_by}
+use Rattle.px_pattern.specs.Meaning.{pattern_of}
 use Rattle.px_conv.specs.Regsub.{regsub}
 use Rattle.px_conv.proofs.regsub.replace.Given as goal
 
@@ -7,8 +7,7 @@ use Rattle.px_conv.proofs.regsub.replace.Given as goal
 abbrev pub invariant-matches : goal.invariant-matches
 invariant-matches l = record {
   cap : l.into.cap ≡ l.initial.into.cap;
-  sought : sought_by l.searcher ≡ sought_by l.initial.searcher;
-  whole : l.into.bytes ++ regsub (sought_by l.initial.searcher) l.template l.all l.rest ≡ l.initial.into.bytes ++ regsub (sought_by l.initial.searcher) l.template l.all l.text;
+  whole : l.into.bytes ++ regsub (pattern_of l.pat) l.template l.all l.rest ≡ l.initial.into.bytes ++ regsub (pattern_of l.pat) l.template l.all l.text;
 }
 
 abbrev pub decreases-matches : goal.decreases-matches

@@ -1,6 +1,6 @@
 use Rattle.std.proofs.Common.{◌≡◌, ◌++◌, List, ℕ, length, ap, ap₂, arith, true, rules, ◌∙◌}
 use Rattle.std.proofs.lemmas.Bool.{both_ways, OnTrue_at}
-use Rattle.px_pattern.specs.Meaning.{pattern_of, sought_by}
+use Rattle.px_pattern.specs.Meaning.{pattern_of}
 use Rattle.px_sample.specs.Buffer.{Buffer}
 use Rattle.px_sample.specs.Sample.{Bytes}
 use Rattle.px_conv.specs.Regsub.{regsub}
@@ -10,8 +10,8 @@ use Rattle.px_conv.proofs.regsub.substitute.Goals as goal
 pub returns-then-not-branch-clause-value : goal.returns-then-not-branch-clause-value
 returns-then-not-branch-clause-value c =
     let held = c.if-not-hold.ensures.value (λ bytes. Bytes (regsub (pattern_of c.args.pat.now) c.args.template.now c.args.all bytes)) in
-    let same : regsub (sought_by c.in_ok-searcher.searcher) c.args.template.now c.args.all c.bytes.result.now ≡ regsub (pattern_of c.args.pat.now) c.args.template.now c.args.all c.hold.new.buf.bytes =
-    ap₂ (λ p bytes. regsub p c.args.template.now c.args.all bytes) c.in_ok-searcher.ensures c.bytes.ensures.bytes in
+    let same : regsub (pattern_of c.args.pat.now) c.args.template.now c.args.all c.bytes.result.now ≡ regsub (pattern_of c.args.pat.now) c.args.template.now c.args.all c.hold.new.buf.bytes =
+    ap (λ bytes. regsub (pattern_of c.args.pat.now) c.args.template.now c.args.all bytes) c.bytes.ensures.bytes in
     let empty : length c.clear.new.self.bytes ≡ 0 = ap length c.clear.ensures.bytes in
     bounded_too_long _ _ _ held (over_cap (λ fits. both_ways _ c.if-not-branch.true (c.in_ok-replace.ensures.fits.1
     (omega (arith, fits, ap length same, empty, c.clear.ensures.cap, c.requires)))))
@@ -19,8 +19,8 @@ returns-then-not-branch-clause-value c =
 pub returns-clause-value : goal.returns-clause-value
 returns-clause-value c =
     let held = c.if-not-hold.ensures.value (λ bytes. Bytes (regsub (pattern_of c.args.pat.now) c.args.template.now c.args.all bytes)) in
-    let same : regsub (sought_by c.in_ok-searcher.searcher) c.args.template.now c.args.all c.bytes.result.now ≡ regsub (pattern_of c.args.pat.now) c.args.template.now c.args.all c.hold.new.buf.bytes =
-    ap₂ (λ p bytes. regsub p c.args.template.now c.args.all bytes) c.in_ok-searcher.ensures c.bytes.ensures.bytes in
+    let same : regsub (pattern_of c.args.pat.now) c.args.template.now c.args.all c.bytes.result.now ≡ regsub (pattern_of c.args.pat.now) c.args.template.now c.args.all c.hold.new.buf.bytes =
+    ap (λ bytes. regsub (pattern_of c.args.pat.now) c.args.template.now c.args.all bytes) c.bytes.ensures.bytes in
     let empty : length c.clear.new.self.bytes ≡ 0 = ap length c.clear.ensures.bytes in
     let whole : c.in_ok-replace.field-0 ≡ true = search rules in
     let fits = c.in_ok-replace.ensures.fits.0 whole in

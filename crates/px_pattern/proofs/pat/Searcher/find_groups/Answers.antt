@@ -1,7 +1,8 @@
-use Rattle.px_pattern.proofs.GroupLemmas.{groups_of_captures}
+use Rattle.std.proofs.Common.{arith}
+use Rattle.std.proofs.lemmas.Result.{IfOk-weaker}
+use Rattle.px_pattern.proofs.Alike.{found_alike}
 use Rattle.px_pattern.proofs.pat.Searcher.find_groups.Goals as goal
 
-pub returns-in_ok-of-in-Some-clause-found : goal.returns-in_ok-of-in-Some-clause-found
-returns-in_ok-of-in-Some-clause-found c =
-    let found = c.in-Some.ensures.found in
-    (found.0, found.1, groups_of_captures c.args.text.now found.0 c.in-Some.captures c.in_ok-of-in-Some.field-0 found.2 c.in_ok-of-in-Some.ensures.spans)
+pub returns-clause-found : goal.returns-clause-found
+returns-clause-found c =
+    rw (← c.self.view_is) (IfOk-weaker _ _ _ (found_alike c.self.invariant c.args.text.now (λ k. omega (arith, c.type_inv.text k))) c.groups_by.ensures.found)

@@ -1,0 +1,8 @@
+//! Conditions: whether some group of terms has only terms that hold, over the samples of any `Env`. Nothing here knows of
+//! a message or of the text of a rule.
+#![tactic(auto)]
+
+mod condition;
+
+pub use condition::{Cond, GroupList, Match, Term, TermList, Test, TestList, TestValue, ValueList};
+pub use px_expr::{Buf, Env, Expr, OutOfMemory, Pat, Searchers, Text};

@@ -1,0 +1,11 @@
+pub mod Keeping
+pub mod Searching
+pub mod Tables
+pub mod Holding
+pub mod Machines
+pub mod Limits
+pub mod Pairing
+pub mod Chains
+pub mod Later
+pub mod Ending
+pub mod KeptBack

@@ -1,0 +1,12 @@
+pub mod Filter
+pub mod Kept
+pub mod Feeding
+pub mod Held
+pub mod Machines
+pub mod Stages
+pub mod Pairs
+pub mod Sources
+pub mod Valid
+pub mod Chain
+pub mod KeptBack
+pub mod Laws

@@ -1,0 +1,117 @@
+ghost use Rattle.std.specs.Prelude.{◌≡◌, ◌<◌, is_some, length, IfOk, IfSome};
+ghost use Rattle.regex.specs.Patterns.{find};
+ghost use Rattle.px_pattern.specs.Groups.{LieIn};
+ghost use Rattle.px_pattern.specs.Meaning.{pattern_of, IsFoundBy};
+
+use crate::{Groups, Pat, Searcher};
+use htx_model::OutOfMemory;
+use std::alloc::Global;
+
+/// So many patterns have a searcher that is kept; a pattern with a greater number is searched for with a new one.
+const MOST: usize = 65536;
+
+/// Searchers for patterns, each made when its pattern is first searched for, and kept. What they find is what new ones
+/// would find.
+#[derive(Drop)]
+pub struct Searchers<'c> {
+    kept: Vec<Option<Box<Searcher<'c>>>>,
+}
+
+/// Searches with the searcher of a place, which is made where there is none for the pattern.
+fn groups_at<'c>(
+    slot: &mut Option<Box<Searcher<'c>>>,
+    alloc: Global,
+    pat: &'c Pat,
+    text: &[u8],
+) -> Result<Option<Groups>, OutOfMemory>
+    ensures found { IfOk result (IsFoundBy (pattern_of pat.now) text.now) }
+    ensures within { IfOk result (λ found. IfSome found (LieIn (length text.now))) }
+{
+    if let Some(searcher) = slot {
+        if searcher.is_for(pat) {
+            return searcher.find_groups(alloc, text);
+        }
+    }
+    let mut searcher = pat.searcher(alloc)?;
+    let found = searcher.find_groups(alloc, text)?;
+    *slot = Some(Box::new(alloc, searcher)?);
+    Ok(found)
+}
+
+/// The same for whether there is a match.
+fn match_at<'c>(
+    slot: &mut Option<Box<Searcher<'c>>>,
+    alloc: Global,
+    pat: &'c Pat,
+    text: &[u8],
+) -> Result<bool, OutOfMemory>
+    ensures found { IfOk result (λ found. found ≡ is_some (find (pattern_of pat.now) text.now 0)) }
+{
+    if let Some(searcher) = slot {
+        if searcher.is_for(pat) {
+            return Ok(searcher.is_match(text));
+        }
+    }
+    let mut searcher = pat.searcher(alloc)?;
+    let found = searcher.is_match(text);
+    *slot = Some(Box::new(alloc, searcher)?);
+    Ok(found)
+}
+
+impl<'c> Searchers<'c> {
+    /// None yet.
+    pub fn new(alloc: Global) -> Searchers<'c> {
+        Searchers {
+            kept: Vec::new(alloc),
+        }
+    }
+
+    /// Makes places up to this one.
+    fn grow(&mut self, at: usize) -> Result<(), OutOfMemory>
+        requires { at < 65536 }
+    {
+        for _place in self.kept.len()..at + 1 {
+            self.kept.push(None)?;
+        }
+        Ok(())
+    }
+
+    /// As `Pat::find_groups`.
+    pub fn find_groups(
+        &mut self,
+        alloc: Global,
+        pat: &'c Pat,
+        text: &[u8],
+    ) -> Result<Option<Groups>, OutOfMemory>
+        ensures found { IfOk result (IsFoundBy (pattern_of pat.now) text.now) }
+        ensures within { IfOk result (λ found. IfSome found (LieIn (length text.now))) }
+    {
+        let at = pat.number();
+        if at < MOST && at >= self.kept.len() {
+            self.grow(at)?;
+        }
+        match self.kept.get_mut(at) {
+            Some(slot) => groups_at(slot, alloc, pat, text),
+            None => pat.find_groups(alloc, text),
+        }
+    }
+
+    /// Whether the pattern matches somewhere in the text.
+    pub fn is_match(
+        &mut self,
+        alloc: Global,
+        pat: &'c Pat,
+        text: &[u8],
+    ) -> Result<bool, OutOfMemory>
+        ensures found { IfOk result (λ found. found ≡ is_some (find (pattern_of pat.now) text.now 0)) }
+    {
+        let at = pat.number();
+        if at < MOST && at >= self.kept.len() {
+            self.grow(at)?;
+        }
+        match self.kept.get_mut(at) {
+            Some(slot) => match_at(slot, alloc, pat, text),
+            None => Ok(pat.searcher(alloc)?.is_match(text)),
+        }
+    }
+}

@@ -1,0 +1,90 @@
+#!/usr/bin/env bash
+# gate-price.sh: what the gate costs from nothing. It copies what is committed into a folder of its own, runs `rt ci --anew` there, and
+# looks ten times a second at the processor time of each process of the prover below that run. It prints the minutes of the crates' own
+# proofs, of their tests and of their must-fail edits, and the ten dearest of each. It changes nothing here. With the name of a log of
+# samples that an earlier run wrote as its word, it prints that run's table again.
+set -eu
+here="$(cd "$(dirname "$0")/.." && pwd)"
+exec python3 - "$here" "$@" <<'PY'
+import collections, json, os, re, subprocess, sys, tempfile, time
+
+TICKS = os.sysconf("SC_CLK_TCK")
+
+
+def processes():
+    """Each process of this machine: its number and start, its parent, its processor seconds."""
+    for name in filter(str.isdigit, os.listdir("/proc")):
+        try:
+            with open(f"/proc/{name}/stat") as it:
+                fields = it.read().rpartition(")")[2].split()
+        except OSError:
+            continue
+        yield int(name), fields[19], int(fields[1]), (int(fields[11]) + int(fields[12])) / TICKS
+
+
+def kind_of(pid):
+    """What a process of the prover works on: a crate's proof, its tests, one of its edits, or a build; and the crate."""
+    try:
+        with open(f"/proc/{pid}/cmdline") as it:
+            words = it.read().split("\0")
+        folder = os.readlink(f"/proc/{pid}/cwd")
+    except OSError:
+        return None
+    if not words[0].endswith("/rattle") or "--crate-name" not in words:
+        return None
+    crate = words[words.index("--crate-name") + 1]
+    if re.search(r"/rt-edit-", folder):
+        return "edits", crate
+    if "--test" in words:
+        return "tests", crate
+    return ("proofs" if words[1] == "check" else "builds"), crate
+
+
+def measured(top):
+    """Runs the gate in the folder, and gives the processor seconds of each process of the prover."""
+    log = open(f"{top}.log", "w")
+    run = subprocess.Popen(["rt", "ci", "--anew"], cwd=top, stdout=log, stderr=subprocess.STDOUT, stdin=subprocess.DEVNULL)
+    seen, kinds, began = {}, {}, time.time()
+    while run.poll() is None:
+        now = list(processes())
+        below, more = {run.pid}, True
+        while more:
+            more = {pid for pid, _, parent, _ in now if parent in below} - below
+            below |= more
+        for pid, start, _, seconds in now:
+            key = f"{pid}-{start}"
+            if pid not in below:
+                continue
+            # (a process that was just made has its parent's words until it begins its own program)
+            if not kinds.get(key):
+                kinds[key] = kind_of(pid)
+            if kinds[key]:
+                seen[key] = [*kinds[key], seconds]
+        time.sleep(0.1)
+    return {"status": run.returncode, "wall": time.time() - began, "processors": os.cpu_count(), "seen": list(seen.values()), "log": log.name}
+
+
+def table(run):
+    by = collections.defaultdict(lambda: collections.defaultdict(float))
+    for kind, crate, seconds in run["seen"]:
+        by[kind][crate] += seconds
+    total = sum(sum(crates.values()) for crates in by.values())
+    print(f"gate: status {run['status']}, {run['wall'] / 60:.1f} minutes on {run['processors']} processors, {total / 60:.1f} processor minutes")
+    for kind in ("proofs", "tests", "edits", "builds"):
+        crates = sorted(by[kind].items(), key=lambda it: -it[1])
+        print(f"{kind}: {sum(by[kind].values()) / 60:.1f} processor minutes; dearest, in seconds: " + ", ".join(f"{name} {seconds:.0f}" for name, seconds in crates[:10]))
+
+
+if len(sys.argv) > 2:
+    table(json.load(open(sys.argv[2])))
+    sys.exit()
+room = tempfile.mkdtemp(prefix="gate-price-")
+top = f"{room}/repo"
+subprocess.run(["git", "clone", "-q", "--no-hardlinks", sys.argv[1], top], check=True)
+run = measured(top)
+with open(f"{room}/samples.json", "w") as it:
+    json.dump(run, it)
+table(run)
+print(f"what the gate printed: {run['log']}; the samples: {room}/samples.json")
+sys.exit(run["status"])
+PY
