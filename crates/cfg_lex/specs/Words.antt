@@ -8,6 +8,14 @@ use Rattle.cfg_lex.specs.declared.fault.LineFault.{LineFault}
 use Rattle.cfg_lex.specs.declared.fault.LineFault.TheVariants as faults
 use Rattle.cfg_lex.specs.Items.{item_at, backslash}
 
+-- the most bytes of a line
+abbrev pub most_bytes : ℕ
+most_bytes = 4096
+
+-- the most words of a line
+abbrev pub most_words : ℕ
+most_words = 64
+
 -- where the line ends: a quote without end is a fault
 abbrev pub end_parts : Quotes → List Part
 end_parts Outside = []
@@ -51,10 +59,10 @@ with_part so_far Fault = record { whole = so_far.whole; begun = Some (begun_byte
 abbrev pub nothing : Sofar
 nothing = record { whole = []; begun = None; faulty = false }
 
--- the words of a line of at most 4096 bytes: more than 64 words come before a word fault
+-- the words of a line that isn't too long: too many words come before a word fault
 unfoldable pub verdict : Sofar → Result (List (List ℕ)) LineFault
 verdict so_far =
-    if nat_lt 64 (length (all_words so_far)) then Err faults.Limit
+    if nat_lt most_words (length (all_words so_far)) then Err faults.Limit
     else (if so_far.faulty then Err faults.Word else Ok (all_words so_far))
 
 -- what all parts of a line come to
@@ -63,7 +71,7 @@ read_line line = fold with_part nothing (parts_behind 0 Outside line)
 
 -- the words of a line, given without its line feed and the carriage return in front of that
 unfoldable pub words_of : List ℕ → Result (List (List ℕ)) LineFault
-words_of line = if nat_lt 4096 (length line) then Err faults.Limit else verdict (read_line line)
+words_of line = if nat_lt most_bytes (length line) then Err faults.Limit else verdict (read_line line)
 
 -- what was returned is what the definition gives, unless memory ran out
 abbrev pub Gives : Result (List (List ℕ)) LineFault → Result (List (List ℕ)) LineFault → Type 0

@@ -1,3 +1,5 @@
+//! Why a line has no words.
+
 use htx_model::OutOfMemory;
 use std::alloc::{AllocError, AllocFailed};
 

@@ -1,3 +1,4 @@
+//! A line is read from left to right, part by part.
 ghost use Rattle.std.specs.Prelude.{◌≡◌, IfOk};
 ghost use Rattle.cfg_lex.specs.Words.{words_of, read_line, Gives};
 

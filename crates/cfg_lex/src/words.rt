@@ -1,5 +1,7 @@
+//! The words of a line, in one run of bytes.
 ghost use Rattle.std.specs.Prelude.{◌≡◌, ◌<◌, ◌≤◌, length, slice_get, Some, ◌↔◌, IsTrue, []};
 ghost use Rattle.cfg_lex.specs.Spans.{spans_bytes, AreWithin};
+ghost use Rattle.cfg_lex.specs.Words.{most_words};
 
 use std::marker::Model;
 
@@ -20,17 +22,18 @@ pub struct Words {
 impl Model for Words {
     ghost use Rattle.std.specs.Prelude.{List, ℕ, ◌≤◌, length};
     ghost use Rattle.cfg_lex.specs.Spans.{spans_bytes, AreWithin};
+    ghost use Rattle.cfg_lex.specs.Words.{most_words};
 
     ghost Value = { List (List ℕ) };
 
     ghost view = { λ words. spans_bytes words.bytes.items words.spans.items };
 
-    ghost invariant = { λ words. (length words.spans.items ≤ 64) × AreWithin words.bytes.items words.spans.items };
+    ghost invariant = { λ words. (length words.spans.items ≤ most_words) × AreWithin words.bytes.items words.spans.items };
 }
 
 impl Words {
     pub(crate) fn from_spans(bytes: Vec<u8>, spans: Vec<Span>) -> Words
-        requires few { length spans.items ≤ 64 }
+        requires few { length spans.items ≤ most_words }
         requires within { AreWithin bytes.items spans.items }
         ensures { result ≡ spans_bytes bytes.items spans.items }
     {
@@ -40,7 +43,7 @@ impl Words {
     /// How many words the line has.
     pub fn len(&self) -> u32
         ensures words { result ≡ length self.now }
-        ensures few { result ≤ 64 }
+        ensures few { result ≤ most_words }
     {
         self.spans.len() as u32
     }

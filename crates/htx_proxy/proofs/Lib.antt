@@ -1,3 +1,4 @@
+pub mod Causes
+pub mod Due
 pub mod Reported
 pub mod Told
-pub mod Replies

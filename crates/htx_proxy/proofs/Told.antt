@@ -1,16 +1,12 @@
 -- What is read of files that are told.
 use Rattle.std.proofs.Common.{◌≡◌, ℕ, ◌<◌, ◌≤◌, List, ◌⊎◌, inl, inr, refl, sym, ap, ◌∙◌, subst, length, take, arith}
-use Rattle.std.specs.Prelude.{Option, Some, None, Result, Ok, Err, IsErrOf}
+use Rattle.std.specs.Prelude.{Option, Some, None, Result, Ok, Err}
 use Rattle.std.proofs.lemmas.List.{take_all, length-take-le}
 use Rattle.std.proofs.lemmas.Bool.{cases_lt, lt-ltb}
 use Rattle.px_link.specs.Told.{NamedBytes, Reads}
 use Rattle.http_rules.specs.declared.config.Config.{Config}
-use Rattle.cfg_parse.specs.Whole.{config_of, Refusal, Configures}
-use Rattle.cfg_parse.specs.declared.fault.CfgFault.{CfgFault}
-use Rattle.cfg_parse.specs.declared.fault.CfgFault.TheVariants as faults
-use Rattle.cfg_parse.specs.declared.fault.CfgKind.{CfgKind}
+use Rattle.cfg_parse.specs.Whole.{config_of, Refusal}
 use Rattle.cfg_parse.specs.declared.fault.CfgKind.TheVariants.{Limit}
-use Rattle.htx_proxy.specs.declared.answer.Stop.TheVariants as stop
 use Rattle.rec_format.specs.Record.{IsFirstRecord}
 use Rattle.forward_core.specs.Unbuilt.{IsUnbuilt}
 use Rattle.htx_proxy.specs.Replay.{IfTold, Holds, Configured, Say, NoRecord, NoService, FilesUnbuilt, IsReportOf, Reports}
@@ -110,11 +106,3 @@ report_of_files files cfg_name rec_name rec_text text cfg is rr found =
       say = said files cfg_name rec_name rec_text cfg found.0 found.1 is rr found.2;
       reports = found.3;
     }
-
--- the line and the kind of a refusal that a stop tells
-pub refused_is : (r : Result Config Refusal) (line : ℕ) (kind : CfgKind) (l : ℕ) (k : CfgKind) → r ≡ Err (line, kind) → IsErrOf {T = Config} (Err (stop.Refused line kind)) (stop.Refused l k) → r ≡ Err (l, k)
-refused_is r line kind l k is same = cc
-
--- what a refusal of loading states
-pub stated : (fault : CfgFault) (line : ℕ) (kind : CfgKind) (r : Result Config Refusal) → fault ≡ faults.Refused line kind → Configures (Err fault) r → r ≡ Err (line, kind)
-stated fault line kind r is given = subst (λ (f : CfgFault). Configures (Err f) r) is given

@@ -7,6 +7,7 @@ mod lines;
 mod reply;
 mod report;
 mod status;
+mod stop;
 #[cfg(test)]
 mod tests;
 mod top;

@@ -1,7 +1,7 @@
 //! What `replay` makes of a configuration and a record.
-ghost use Rattle.std.specs.Prelude.{◌≡◌, ◌≤◌, ◌+◌, ◌<◌, ℕ, List, length, take, IfOk, IfSome, IfNone, OnOk, IsErrOf, Some};
+ghost use Rattle.std.specs.Prelude.{◌≡◌, ◌⊎◌, ℕ, List, IfOk, IsErrOf};
 ghost use Rattle.http_rules.specs.Valid.{IsValid};
-ghost use Rattle.rec_format.specs.Record.{server_text};
+ghost use Rattle.rec_format.specs.Record.{IsFirstRecord};
 ghost use Rattle.forward_core.specs.Unbuilt.{IsUnbuilt};
 ghost use Rattle.http_model.specs.declared.Close.TheVariants as close;
 ghost use Rattle.rec_format.specs.ReportParts.{out_of, sent_of};
@@ -12,7 +12,7 @@ use cfg_parse::Config;
 use forward_core::{ExchangeFault, One, one_exchange};
 use http_model::OutOfMemory;
 use px_link::{Bytes, Close};
-use rec_format::{FirstRecord, Report, Sent, write_report};
+use rec_format::{Report, Sent, read_first_record, write_report};
 use std::alloc::{AllocError, Global};
 
 /// One link that was closed in order.
@@ -47,19 +47,17 @@ fn report_of(alloc: Global, one: One) -> Result<Report, OutOfMemory>
     })
 }
 
-/// The report of the session that a record holds.
-pub fn replayed(
-    alloc: Global,
-    cfg: &Config,
-    recorded: &FirstRecord<'_>,
-) -> Result<Bytes, ExchangeFault>
-    requires valid { IsValid cfg.now }
-    requires server { recorded.now.server.now ≡ server_text recorded.now.body.now }
-    requires body { length recorded.now.body.now ≤ 65536 }
-    ensures reports { IfOk result (Reports cfg.now recorded.now.client.now recorded.now.body.now) }
-    ensures unbuilt { IsErrOf result ExchangeFault.Unbuilt → IsUnbuilt cfg.now.limits recorded.now.client.now }
+/// The report of what a configuration makes of the record that a text says.
+pub fn report_by(alloc: Global, cfg: &Config, text: &[u8]) -> Result<Bytes, ExchangeFault>
+    requires { IsValid cfg.now }
+    ensures report { IfOk result (λ report. (client : List ℕ) × (body : List ℕ) × IsFirstRecord text.now client body × Reports cfg.now client body report) }
+    ensures unbuilt { IsErrOf result ExchangeFault.Unbuilt → ((client body : List ℕ) → IsFirstRecord text.now client body → ⊥)
+        ⊎ ((client : List ℕ) × (body : List ℕ) × IsFirstRecord text.now client body × IsUnbuilt cfg.now.limits client) }
 {
-    let one = one_exchange(alloc, cfg, recorded.client, recorded.server)?;
+    let Some(record) = read_first_record(text) else {
+        return Err(ExchangeFault::Unbuilt);
+    };
+    let one = one_exchange(alloc, cfg, record.client, record.server)?;
     let report = report_of(alloc, one)?;
     Ok(write_report(alloc, &report)?)
 }

@@ -1,3 +1,5 @@
+//! How the program ends.
+
 /// How the program ended. The process ends with the number.
 #[derive(Clone, Copy, Debug, PartialEq, Eq)]
 pub enum Status {

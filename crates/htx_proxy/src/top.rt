@@ -1,38 +1,30 @@
 //! The program's one call.
 ghost use Rattle.std.specs.Prelude.{◌≡◌, ◌⊎◌, ℕ, List, map, string_bytes, Some};
-ghost use Rattle.px_link.specs.Told.{NamedBytes, Rose, Gains, GainsFront};
-ghost use Rattle.px_command.specs.Command.{IsUsage, NamesConfig, NamesFile};
+ghost use Rattle.px_link.specs.Told.{NamedBytes, Rose, Gains};
+ghost use Rattle.px_command.specs.Command.{IsUsage, NamesConfig};
 ghost use Rattle.htx_proxy.specs.Lines.{file_line};
-ghost use Rattle.htx_proxy.specs.Replay.{IsGood, IsAnswer, IsDue, IsRefusedOf, UnbuiltBy};
+ghost use Rattle.htx_proxy.specs.Answers.{IsGood, IsRefusedOf, DecidesBy, WritesFront, UnbuiltBy, IsDue};
+ghost use Rattle.htx_proxy.specs.Stops.{Ends};
 
-use crate::reply::{Silent, reply_to};
+use crate::reply::reply_to;
 use crate::status::Status;
-use px_link::{Fault, Files, Sink};
+use crate::stop::Stop;
+use px_link::{Files, Sink};
 use std::alloc::Global;
 
-/// Runs the command. Each status is told here with what was written.
-fn run<F: Files, K: Sink>(alloc: Global, words: &[String], files: &mut F, out: &mut K) -> Status
-    ensures written { (result ≡ Status.OutFault) ⊎ ((result ≡ Status.OutOfMemory) ⊎ ((result ≡ Status.Unbuilt)
-        ⊎ ((text : List ℕ) × IsAnswer (map string_bytes words.now) (F.files files.old) (F.last_failed files.new) result text
-        × Gains (K.written out.old) (K.written out.new) text))) }
-    ensures file_fault { result ≡ Status.FileFault → Rose (F.faults files.old) (F.faults files.new) }
-    ensures out_fault { result ≡ Status.OutFault → Rose (K.faults out.old) (K.faults out.new) }
-    ensures front { result ≡ Status.OutFault → (status : Status) × (text : List ℕ)
-        × IsAnswer (map string_bytes words.now) (F.files files.old) (F.last_failed files.new) status text
-        × GainsFront (K.written out.old) (K.written out.new) text }
-    ensures unbuilt { result ≡ Status.Unbuilt → UnbuiltBy (map string_bytes words.now) (F.files files.old) }
-    ensures silent { result ≡ Status.Unbuilt → K.written out.new ≡ K.written out.old }
+/// Runs the command, and writes what it came to.
+fn run<'a, F: Files, K: Sink>(
+    alloc: Global,
+    words: &'a [String],
+    files: &mut F,
+    out: &mut K,
+) -> Result<Status, Stop<'a>>
+    ensures { Ends (map string_bytes words.now) (F.files files.old) (F.last_failed files.new)
+        (F.faults files.old) (F.faults files.new) (K.faults out.old) (K.faults out.new) (K.written out.old) (K.written out.new) result }
 {
-    let reply = match reply_to(alloc, words, files) {
-        Ok(reply) => reply,
-        Err(Silent::Unbuilt) => return Status::Unbuilt,
-        Err(Silent::OutOfMemory) => return Status::OutOfMemory,
-    };
-    match out.write_all(reply.text.as_slice()) {
-        Ok(()) => reply.status,
-        Err(Fault::Failed) => Status::OutFault,
-        Err(Fault::OutOfMemory) => Status::OutOfMemory,
-    }
+    let reply = reply_to(alloc, words, files)?;
+    out.write_all(reply.text.as_slice())?;
+    Ok(reply.status)
 }
 
 /// The program: reads the words, runs the command that they name, and writes what it came to.
@@ -54,16 +46,20 @@ pub fn htx_proxy<F: Files, K: Sink>(
     ensures config { result ≡ Status.Config → (name : List ℕ) × NamesConfig (map string_bytes words.now) name
         × (text : List ℕ) × IsRefusedOf (F.files files.old) name text × Gains (K.written out.old) (K.written out.new) text }
 
-    // A fault has its cause in the object that was handed in.
+    // A fault has its cause in the object that was handed in. The file is the one that decides: the record's only where the
+    // configuration is accepted.
     ensures file_fault { result ≡ Status.FileFault → Rose (F.faults files.old) (F.faults files.new) }
-    ensures file_name { result ≡ Status.FileFault → NamesFile (map string_bytes words.now) (F.last_failed files.new) }
+    ensures file_name { result ≡ Status.FileFault → DecidesBy (map string_bytes words.now) (F.files files.old) (F.last_failed files.new) }
     ensures file_line { result ≡ Status.FileFault → Gains (K.written out.old) (K.written out.new) (file_line (F.last_failed files.new)) }
     ensures out_fault { result ≡ Status.OutFault → Rose (K.faults out.old) (K.faults out.new) }
 
     // With a fault of the output a front of what another status would have written was written.
-    ensures front { result ≡ Status.OutFault → (status : Status) × (text : List ℕ)
-        × IsAnswer (map string_bytes words.now) (F.files files.old) (F.last_failed files.new) status text
-        × GainsFront (K.written out.old) (K.written out.new) text }
+    ensures front { result ≡ Status.OutFault
+        → WritesFront (map string_bytes words.now) (F.files files.old) (F.last_failed files.new) (K.written out.old) (K.written out.new) }
+
+    // Where memory ran out, nothing or such a front was written.
+    ensures memory { result ≡ Status.OutOfMemory → (K.written out.new ≡ K.written out.old)
+        ⊎ WritesFront (map string_bytes words.now) (F.files files.old) (F.last_failed files.new) (K.written out.old) (K.written out.new) }
 
     // What isn't built yet is one of the cases that are named, and nothing is written.
     ensures unbuilt { result ≡ Status.Unbuilt → UnbuiltBy (map string_bytes words.now) (F.files files.old) }
@@ -75,5 +71,8 @@ pub fn htx_proxy<F: Files, K: Sink>(
         → (Rose (F.faults files.old) (F.faults files.new) → ⊥) → (Rose (K.faults out.old) (K.faults out.new) → ⊥)
         → (result ≡ status) ⊎ (result ≡ Status.OutOfMemory) }
 {
-    run(alloc, words, files, out)
+    match run(alloc, words, files, out) {
+        Ok(status) => status,
+        Err(stop) => stop.status(),
+    }
 }

@@ -1,22 +1,28 @@
 use Rattle.std.proofs.Common.{ℕ, List, sym, subst}
-use Rattle.std.specs.Prelude.{Option, Ok, Err}
+use Rattle.std.specs.Prelude.{Option, Ok}
 use Rattle.px_link.specs.Told.{NamedBytes, Reads}
-use Rattle.cfg_parse.specs.Whole.{config_of}
-use Rattle.htx_proxy.proofs.Told.{configured, refused_is, stated}
+use Rattle.cfg_parse.specs.declared.fault.CfgFault.{CfgFault}
+use Rattle.htx_proxy.specs.Stops.{StopsBy, stop_of_configuration}
+use Rattle.htx_proxy.proofs.Causes.{load_stops, passed_on}
+use Rattle.htx_proxy.proofs.Told.{configured}
 use Rattle.htx_proxy.proofs.answer.configuration.Goals as goal
 
-pub returns-in-Ok-load-clause-accepted : goal.returns-in-Ok-load-clause-accepted
-returns-in-Ok-load-clause-accepted g c =
+pub returns-in_err-cfg-clause-stop : goal.returns-in_err-cfg-clause-stop
+returns-in_err-cfg-clause-stop g c =
     let told : Option (List NamedBytes) = g.F.Files.files c.args.files.now in
     let text : List ℕ = c.as_slice.result.now in
-    let read : Reads told c.args.name.now 1048577 text = subst (λ (t : List ℕ). Reads told c.args.name.now 1048577 t) (sym c.as_slice.ensures) c.in-Ok.ensures.bytes in
-    configured told c.args.name.now text (Ok c.in-Ok-load.cfg) read c.in-Ok-load.ensures.configures
+    let read : Reads told c.args.name.now 1048577 text = subst (λ (t : List ℕ). Reads told c.args.name.now 1048577 t) (sym c.as_slice.ensures) c.in_ok-text.ensures.bytes in
+    let last : List ℕ = g.F.Files.last_failed c.read.new.files in
+    let before : ℕ = g.F.Files.faults c.args.files.now in
+    let now : ℕ = g.F.Files.faults c.read.new.files in
+    let fault : CfgFault = c.in_err-cfg.field-0.0 in
+    λ words named.
+    passed_on c.from_residual-in_err-cfg.result (stop_of_configuration fault) (StopsBy words told last before now) c.from_residual-in_err-cfg.ensures.1
+    (load_stops words told c.args.name.now last text before now fault named read c.in_err-cfg.ensures.configures)
 
-pub returns-in-Err-Refused-clause-refused : goal.returns-in-Err-Refused-clause-refused
-returns-in-Err-Refused-clause-refused g c =
+pub returns-clause-accepted : goal.returns-clause-accepted
+returns-clause-accepted g c =
     let told : Option (List NamedBytes) = g.F.Files.files c.args.files.now in
     let text : List ℕ = c.as_slice.result.now in
-    let read : Reads told c.args.name.now 1048577 text = subst (λ (t : List ℕ). Reads told c.args.name.now 1048577 t) (sym c.as_slice.ensures) c.in-Ok.ensures.bytes in
-    λ line kind is.
-    configured told c.args.name.now text (Err (line, kind)) read
-    (refused_is (config_of text) c.in-Err-Refused.line c.in-Err-Refused.kind line kind (stated c.in-Err-Refused.field-0 c.in-Err-Refused.line c.in-Err-Refused.kind (config_of text) c.in-Err-Refused.field-0-is c.in-Err-Refused.ensures.configures) is)
+    let read : Reads told c.args.name.now 1048577 text = subst (λ (t : List ℕ). Reads told c.args.name.now 1048577 t) (sym c.as_slice.ensures) c.in_ok-text.ensures.bytes in
+    configured told c.args.name.now text (Ok c.in_ok-cfg.cfg) read c.in_ok-cfg.ensures.configures
