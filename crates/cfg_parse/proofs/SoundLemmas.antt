@@ -9,6 +9,7 @@ use Rattle.std.specs.Str.Parse.{digits_value}
 use Rattle.std.proofs.lemmas.Bool.Decides.{nat_tests}
 use Rattle.std.proofs.lemmas.List.{length-map}
 use Rattle.std.proofs.lemmas.Bool.{cases_lt, ltb-false}
+use Rattle.http_model.specs.Sizes.{most_size}
 use Rattle.cfg_lex.specs.declared.fault.LineFault.{LineFault}
 use Rattle.cfg_lex.specs.declared.fault.LineFault.TheVariants as faults
 use Rattle.cfg_lex.specs.Words.{words_of}
@@ -33,7 +34,7 @@ use Rattle.cfg_parse.specs.declared.keywords.ActionName.{ActionName}
 use Rattle.cfg_parse.specs.declared.keywords.ActionName.TheVariants as actions
 use Rattle.cfg_parse.specs.Reading.{◌>>=◌, argument, no_more}
 use Rattle.cfg_parse.specs.Keywords.{first_word_of, action_name_of, is_framing_name, is_timeout_name}
-use Rattle.cfg_parse.specs.Numbers.{size_of, is_time, is_colon, as_port, port_of, address_at, address_of, server_address_of}
+use Rattle.cfg_parse.specs.Numbers.{number_up_to, size_of, is_time, is_colon, as_port, port_of, address_at, address_of, server_address_of}
 use Rattle.cfg_parse.specs.Draft.{start, is_before, belongs}
 use Rattle.cfg_parse.specs.Rules.{made_name, made_field, action_rule, rule_line}
 use Rattle.cfg_parse.specs.Lines.{section_line, bufsize_line, maxrewrite_line, mode_line, timeout_line, bind_line, server_line, setting_line, is_unbuilt, known_line, line_by, words_line, line_by_words, line_of}
@@ -79,12 +80,12 @@ not_false false e = absurd cc
 size_of-within : (least most : ℕ) (word : List ℕ) (n : ℕ) → size_of least most word ≡ Ok n → (least ≤ n) × (n ≤ most)
 unfolding size_of
 size_of-within least most word n e =
-    let first = guard_ok (eqb (length word) 0 || not (list_all is_ascii_digit word)) Argument _ n e in
-    let second = guard_ok (ltb (digits_value 10 word) least || ltb most (digits_value 10 word)) Limit _ n first.1 in
-    let tests = or_false (ltb (digits_value 10 word) least) (ltb most (digits_value 10 word)) second.0 in
-    let same : digits_value 10 word ≡ n = ok_is (digits_value 10 word) n second.1 in
-    let least-le : least ≤ digits_value 10 word = ltb-false _ _ tests.0 in
-    let most-le : digits_value 10 word ≤ most = ltb-false _ _ tests.1 in
+    let read = bind_ok (number_up_to (most + 1) word) _ n e in
+    let second = guard_ok (ltb read.0 least || ltb most read.0) Limit (given read.0) n read.1.1 in
+    let tests = or_false (ltb read.0 least) (ltb most read.0) second.0 in
+    let same : read.0 ≡ n = ok_is read.0 n second.1 in
+    let least-le : least ≤ read.0 = ltb-false _ _ tests.0 in
+    let most-le : read.0 ≤ most = ltb-false _ _ tests.1 in
     (omega arith, omega arith)
 
 as_port-within : (number : Option ℕ) (port : ℕ) → as_port number ≡ Ok port → (1 ≤ port) × (port ≤ 65535)
@@ -257,7 +258,7 @@ bufsize_line-sound draft arguments s =
 maxrewrite_line-sound : (draft : Draft) (arguments : List (List ℕ)) → IsSound draft → Keeps (maxrewrite_line draft arguments)
 unfolding maxrewrite_line
 maxrewrite_line-sound draft arguments s =
-    keeps_bind (argument arguments) _ (λ word is. keeps_bind (size_of 0 261632 word.0) _ (λ size size-is. keeps_bind (no_more word.1) _ (λ ended ends.
+    keeps_bind (argument arguments) _ (λ word is. keeps_bind (number_up_to most_size word.0) _ (λ size size-is. keeps_bind (no_more word.1) _ (λ ended ends.
     record { bufsize = s.bufsize; bind = s.bind; server = s.server; rules = s.rules; few = s.few })))
 
 mode_line-sound : (draft : Draft) (arguments : List (List ℕ)) → IsSound draft → Keeps (mode_line draft arguments)

@@ -2,7 +2,7 @@
 use Rattle.std.specs.Prelude.{ℕ, List, [], ◌∷◌, Bool, ◌||◌, ◌==◌, nat_eq, if◌then◌else◌, codes}
 use Rattle.std.specs.List.{list_any, starts_with}
 use Rattle.std.specs.Str.{bytes_eq}
-use Rattle.http_rules.specs.Finish.{framing_names}
+use Rattle.http_model.specs.Finish.{framing_names}
 use Rattle.cfg_parse.specs.declared.keywords.FirstWord.{FirstWord}
 use Rattle.cfg_parse.specs.declared.keywords.FirstWord.TheVariants.{Begins, Sets, Later, Unknown}
 use Rattle.cfg_parse.specs.declared.keywords.SectionWord.TheVariants.{Global, Defaults, Listen, Other}

@@ -2,6 +2,8 @@ pub mod Reading
 pub mod Keywords
 pub mod Numbers
 pub mod Draft
+pub mod Filters
+pub mod Limits
 pub mod Rules
 pub mod Lines
 pub mod Whole

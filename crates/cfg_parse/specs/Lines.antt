@@ -1,6 +1,7 @@
 -- What a line makes of the configuration so far (Configuration Manual, sections 2 to 4).
 use Rattle.std.specs.Prelude.{ℕ, List, [], ◌∷◌, Bool, true, false, not, if◌then◌else◌, Some, is_some, Result, Ok, Err, codes}
 use Rattle.std.specs.Str.{bytes_eq}
+use Rattle.http_model.specs.Sizes.{least_size, most_size}
 use Rattle.cfg_lex.specs.declared.fault.LineFault.{LineFault}
 use Rattle.cfg_lex.specs.declared.fault.LineFault.TheVariants as faults
 use Rattle.cfg_lex.specs.Words.{words_of}
@@ -16,7 +17,7 @@ use Rattle.cfg_parse.specs.declared.draft.Draft.{Draft}
 use Rattle.cfg_parse.specs.declared.draft.Section.TheVariants as sections
 use Rattle.cfg_parse.specs.Reading.{◌>>=◌, argument, no_more}
 use Rattle.cfg_parse.specs.Keywords.{first_word_of, is_timeout_name}
-use Rattle.cfg_parse.specs.Numbers.{size_of, is_time, address_of, server_address_of}
+use Rattle.cfg_parse.specs.Numbers.{number_up_to, size_of, is_time, address_of, server_address_of}
 use Rattle.cfg_parse.specs.Draft.{is_before, belongs}
 use Rattle.cfg_parse.specs.Rules.{is_unbuilt_rule, rule_line}
 
@@ -37,15 +38,16 @@ section_line draft Other arguments = Err Section
 unfoldable pub bufsize_line : Draft → List (List ℕ) → Result Draft CfgKind
 bufsize_line draft arguments = do
   word ← argument arguments
-  size ← size_of 1024 262144 word.0
+  size ← size_of least_size most_size word.0
   ended ← no_more word.1
   Ok (record draft { bufsize = Some size })
 
--- `tune.maxrewrite`: a later line replaces the earlier one; whether it suits the other size is seen after all lines
+-- `tune.maxrewrite`, any number: a later line replaces the earlier one. Whether it suits the buffer is seen after all lines; what
+-- is above the largest buffer suits none, and counts as that.
 unfoldable pub maxrewrite_line : Draft → List (List ℕ) → Result Draft CfgKind
 maxrewrite_line draft arguments = do
   word ← argument arguments
-  size ← size_of 0 261632 word.0
+  size ← number_up_to most_size word.0
   ended ← no_more word.1
   Ok (record draft { maxrewrite = Some size })
 

@@ -2,6 +2,7 @@
 use Rattle.std.specs.Prelude.{ℕ, ◌++◌, List, [], ◌∷◌, length, Bool, true, false, not, ◌&&◌, nat_le, nat_lt, if◌then◌else◌, Result, Ok, Err}
 use Rattle.std.specs.List.{list_any}
 use Rattle.std.specs.Str.{str_to_ascii_lowercase}
+use Rattle.http_model.specs.Sizes.{most_name}
 use Rattle.px_bytes.specs.Tokens.{is_token}
 use Rattle.http_rules.specs.declared.rule.Rule.{Rule}
 use Rattle.http_rules.specs.declared.rule.Action.TheVariants.{Allow, AddHeader, SetHeader}
@@ -10,6 +11,7 @@ use Rattle.cfg_parse.specs.declared.fault.CfgKind.TheVariants.{Argument, Keyword
 use Rattle.cfg_parse.specs.declared.keywords.ActionName.{ActionName}
 use Rattle.cfg_parse.specs.declared.keywords.ActionName.TheVariants as actions
 use Rattle.cfg_parse.specs.declared.draft.Draft.{Draft}
+use Rattle.cfg_parse.specs.Limits.{most_rules}
 use Rattle.cfg_parse.specs.Reading.{◌>>=◌, argument, no_more}
 use Rattle.cfg_parse.specs.Keywords.{action_name_of, is_framing_name, asks_for_more}
 
@@ -29,7 +31,7 @@ is_unbuilt_rule (action ∷ others) = is_unbuilt_action (action_name_of action) 
 -- the name of a field that a rule makes, in lower case
 unfoldable pub made_name : List ℕ → Result (List ℕ) CfgKind
 made_name word =
-    if not (is_token word && nat_le (length word) 255) then Err Argument
+    if not (is_token word && nat_le (length word) most_name) then Err Argument
     else (if is_framing_name (str_to_ascii_lowercase word) then Err FramingName
     else Ok (str_to_ascii_lowercase word))
 
@@ -55,4 +57,4 @@ unfoldable pub rule_line : Draft → List (List ℕ) → Result Draft CfgKind
 rule_line draft arguments = do
   action ← argument arguments
   rule ← action_rule (action_name_of action.0) action.1
-  if nat_lt (length draft.request) 1024 then Ok (record draft { request = draft.request ++ rule ∷ [] }) else Err Limit
+  if nat_lt (length draft.request) most_rules then Ok (record draft { request = draft.request ++ rule ∷ [] }) else Err Limit

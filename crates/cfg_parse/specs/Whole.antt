@@ -1,6 +1,7 @@
 -- The configuration of a text.
 use Rattle.std.specs.Prelude.{◌≡◌, ℕ, ◌+◌, ◌-◌, ◌/◌, min, List, [], ◌∷◌, length, nat_lt, if◌then◌else◌, Option, Some, None, unwrap_or, Result, Ok, Err}
 use Rattle.std.specs.Str.Lines.{lines}
+use Rattle.http_model.specs.Sizes.{least_head}
 use Rattle.http_model.specs.declared.Limits.{Limits}
 use Rattle.px_link.specs.declared.address.Address.{Address}
 use Rattle.http_rules.specs.declared.config.Config.{Config}
@@ -12,6 +13,7 @@ use Rattle.cfg_parse.specs.declared.fault.LineRefusal.{LineRefusal}
 use Rattle.cfg_parse.specs.declared.fault.LineRefusal.TheVariants as refusals
 use Rattle.cfg_parse.specs.declared.draft.Draft.{Draft}
 use Rattle.cfg_parse.specs.Draft.{start}
+use Rattle.cfg_parse.specs.Limits.{default_bufsize, default_maxrewrite, most_text}
 use Rattle.cfg_parse.specs.Lines.{line_of}
 
 -- a line, counted from 1, or 0 for the text as a whole, and what is wrong there
@@ -20,13 +22,13 @@ Refusal = ℕ × CfgKind
 
 -- ---- after all lines
 
--- the size of the buffer, 16384 bytes where no line gives it
+-- the size of the buffer
 abbrev pub bufsize_of : Draft → ℕ
-bufsize_of draft = unwrap_or draft.bufsize 16384
+bufsize_of draft = unwrap_or draft.bufsize default_bufsize
 
--- what a received head leaves free, 1024 bytes or half of the buffer where no line gives it
+-- what a received head leaves free; where no line gives it, at most half of the buffer
 abbrev pub maxrewrite_of : Draft → ℕ
-maxrewrite_of draft = unwrap_or draft.maxrewrite (min 1024 (bufsize_of draft / 2))
+maxrewrite_of draft = unwrap_or draft.maxrewrite (min default_maxrewrite (bufsize_of draft / 2))
 
 abbrev pub limits_of : Draft → Limits
 limits_of draft = record { bufsize = bufsize_of draft; maxrewrite = maxrewrite_of draft }
@@ -41,7 +43,7 @@ with_addresses draft None server = Err Missing
 -- the configuration of all lines: sizes that do not suit each other come before what is missing
 unfoldable pub whole : Draft → Result Config CfgKind
 whole draft =
-    if nat_lt (bufsize_of draft - 512) (maxrewrite_of draft) then Err Limit
+    if nat_lt (bufsize_of draft - least_head) (maxrewrite_of draft) then Err Limit
     else with_addresses draft draft.bind draft.server
 
 -- ---- lines in turn
@@ -69,7 +71,7 @@ after_lines (Err refusal) = Err refusal
 -- The configuration of a text, or its first refused line with what is wrong there. A line ends with a line feed, and one
 -- carriage return in front of that is dropped; a last line needs no line feed.
 unfoldable pub config_of : List ℕ → Result Config Refusal
-config_of text = if nat_lt 1048576 (length text) then Err (0, Limit) else after_lines (lines_from 1 start (lines text))
+config_of text = if nat_lt most_text (length text) then Err (0, Limit) else after_lines (lines_from 1 start (lines text))
 
 -- ---- what code gives
 

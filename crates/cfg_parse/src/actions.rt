@@ -10,16 +10,12 @@ use crate::arguments::Arguments;
 use crate::draft::Draft;
 use crate::fault::{CfgKind, LineRefusal};
 use crate::keywords::{ActionName, action_name_of, asks_for_more, is_framing_name};
+use crate::limits::MAX_RULES;
+use http_model::MAX_NAME;
 use http_rules::{Action, Rule};
 use px_bytes::{fold, is_token};
 use px_link::Bytes;
 use std::alloc::Global;
-
-/// The most rules of one direction.
-const MAX_RULES: u32 = 1024;
-
-/// The most bytes of a field name.
-const MAX_NAME: usize = 255;
 
 fn any_asks_for_more(mut arguments: Arguments<'_>) -> bool
     ensures { result ≡ list_any asks_for_more arguments.entry }

@@ -3,6 +3,7 @@ ghost use Rattle.cfg_parse.specs.Reading.{Gives};
 ghost use Rattle.cfg_parse.specs.Numbers.{is_colon, port_of, address_of, server_address_of};
 
 use crate::fault::{CfgKind, LineRefusal};
+use crate::limits::MAX_DIGITS;
 use px_bytes::read_decimal;
 use px_link::{Address, Bytes};
 use std::alloc::Global;
@@ -14,12 +15,12 @@ fn first_colon(word: &[u8]) -> Option<usize>
     word.iter().position(|byte| *byte == b':')
 }
 
-/// A port, 1 to 65535 in at most 18 digits.
+/// A port, 1 to 65535.
 #[tactic(auto, unfolding(crate::specs::Numbers::port_of))]
 fn port_of(digits: &[u8]) -> Result<u16, LineRefusal>
     ensures { Gives (λ port. port) result (port_of digits.now) }
 {
-    match read_decimal(digits, 18) {
+    match read_decimal(digits, MAX_DIGITS) {
         Some(port) if port >= 1 && port <= 65535 => Ok(port as u16),
         _ => Err(LineRefusal::Refused(CfgKind::Argument)),
     }

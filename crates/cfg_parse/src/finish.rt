@@ -7,6 +7,7 @@ ghost use Rattle.cfg_parse.specs.Whole.{limits_of, whole};
 
 use crate::draft::{Draft, Section};
 use crate::fault::{CfgKind, LineRefusal};
+use crate::limits::{DEFAULT_BUFSIZE, DEFAULT_MAXREWRITE, MIN_HEAD};
 use http_rules::{Config, Limits, Rules};
 use std::alloc::Global;
 
@@ -29,8 +30,10 @@ pub fn start(alloc: Global) -> Draft
 fn limits_of(draft: &Draft) -> Limits
     ensures { result ≡ limits_of draft.now }
 {
-    let bufsize = draft.bufsize.unwrap_or(16384);
-    let maxrewrite = draft.maxrewrite.unwrap_or((bufsize / 2).min(1024));
+    let bufsize = draft.bufsize.unwrap_or(DEFAULT_BUFSIZE);
+    let maxrewrite = draft
+        .maxrewrite
+        .unwrap_or((bufsize / 2).min(DEFAULT_MAXREWRITE));
     Limits {
         bufsize,
         maxrewrite,
@@ -43,7 +46,7 @@ pub fn whole(draft: Draft) -> Result<Config, LineRefusal>
     ensures { Gives (λ config. config) result (whole draft) }
 {
     let limits = limits_of(&draft);
-    if limits.maxrewrite > limits.bufsize.saturating_sub(512) {
+    if limits.maxrewrite > limits.bufsize.saturating_sub(MIN_HEAD) {
         return Err(LineRefusal::Refused(CfgKind::Limit));
     }
     let Draft {

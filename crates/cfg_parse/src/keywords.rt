@@ -5,6 +5,8 @@ ghost use Rattle.std.specs.List.{list_any};
 ghost use Rattle.std.specs.Str.{bytes_eq};
 ghost use Rattle.cfg_parse.specs.Keywords.{first_word_of, action_name_of, is_framing_name, is_timeout_name, is_later_action, holds_percent, asks_for_more};
 
+use http_model::FRAMING_NAMES;
+
 /// What a first word says of its line.
 #[derive(Clone, Copy, Debug, PartialEq, Eq)]
 pub enum FirstWord {
@@ -65,16 +67,6 @@ const LATER_ACTIONS: [&[u8]; 16] = [
     b"return",
     b"set-var",
     b"unset-var",
-];
-
-const FRAMING_NAMES: [&[u8]; 7] = [
-    b"connection",
-    b"keep-alive",
-    b"proxy-connection",
-    b"te",
-    b"upgrade",
-    b"transfer-encoding",
-    b"content-length",
 ];
 
 const TIMEOUT_NAMES: [&[u8]; 8] = [

@@ -7,8 +7,10 @@ mod address;
 mod arguments;
 mod draft;
 mod fault;
+mod filters;
 mod finish;
 mod keywords;
+mod limits;
 mod lines;
 mod sections;
 mod settings;
@@ -20,4 +22,5 @@ mod times;
 
 pub use fault::{CfgFault, CfgKind};
 pub use http_rules::Config;
-pub use text::{MAX_TEXT, load};
+pub use limits::MAX_TEXT;
+pub use text::load;

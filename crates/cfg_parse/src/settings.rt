@@ -9,8 +9,9 @@ use crate::arguments::Arguments;
 use crate::draft::Draft;
 use crate::fault::{CfgKind, LineRefusal};
 use crate::keywords::{Setting, is_timeout_name};
-use crate::sizes::size_of;
+use crate::sizes::{number_up_to, size_of};
 use crate::times::is_time;
+use http_model::{MAX_BUFSIZE, MIN_BUFSIZE};
 use std::alloc::Global;
 
 #[tactic(auto, unfolding(crate::specs::Lines::bufsize_line))]
@@ -18,7 +19,7 @@ fn set_bufsize(draft: &mut Draft, arguments: Arguments<'_>) -> Result<(), LineRe
     ensures { Leaves result draft.new (bufsize_line draft.old arguments.entry) }
 {
     let (word, arguments) = arguments.argument()?;
-    let size = size_of(word, 1024, 262144)?;
+    let size = size_of(word, MIN_BUFSIZE, MAX_BUFSIZE)?;
     arguments.no_more()?;
     draft.bufsize = Some(size);
     Ok(())
@@ -29,7 +30,7 @@ fn set_maxrewrite(draft: &mut Draft, arguments: Arguments<'_>) -> Result<(), Lin
     ensures { Leaves result draft.new (maxrewrite_line draft.old arguments.entry) }
 {
     let (word, arguments) = arguments.argument()?;
-    let size = size_of(word, 0, 261632)?;
+    let size = number_up_to(word, MAX_BUFSIZE)?;
     arguments.no_more()?;
     draft.maxrewrite = Some(size);
     Ok(())

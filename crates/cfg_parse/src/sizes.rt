@@ -1,28 +1,36 @@
-ghost use Rattle.std.specs.Prelude.{◌≤◌};
+//! Numbers of a `tune` line.
+ghost use Rattle.std.specs.Prelude.{◌≤◌, ◌<◌};
 ghost use Rattle.cfg_parse.specs.Reading.{Gives};
-ghost use Rattle.cfg_parse.specs.Numbers.{size_of};
+ghost use Rattle.cfg_parse.specs.Numbers.{number_up_to, size_of};
 
 use crate::fault::{CfgKind, LineRefusal};
 
-/// A size within limits, in any number of digits.
-#[tactic(auto, unfolding(crate::specs::Numbers::size_of))]
-pub fn size_of(word: &[u8], least: u32, most: u32) -> Result<u32, LineRefusal>
+/// A number in any number of digits, or `most` where it is larger.
+#[tactic(auto, unfolding(crate::specs::Numbers::number_up_to))]
+pub fn number_up_to(word: &[u8], most: u32) -> Result<u32, LineRefusal>
     requires { most ≤ 1000000 }
-    ensures { Gives (λ size. size) result (size_of least most word.now) }
+    ensures { Gives (λ number. number) result (number_up_to most word.now) }
 {
     if word.is_empty() {
         return Err(LineRefusal::Refused(CfgKind::Argument));
     }
-    let mut size: u32 = 0;
+    let mut number: u32 = 0;
     for byte in word {
         if !byte.is_ascii_digit() {
             return Err(LineRefusal::Refused(CfgKind::Argument));
         }
-        // A size beyond the limit stays beyond it, whatever digits follow.
-        if size <= most {
-            size = size * 10 + (*byte - b'0') as u32;
-        }
+        number = (number * 10 + (*byte - b'0') as u32).min(most);
     }
+    Ok(number)
+}
+
+/// A number within limits.
+#[tactic(auto, unfolding(crate::specs::Numbers::size_of))]
+pub fn size_of(word: &[u8], least: u32, most: u32) -> Result<u32, LineRefusal>
+    requires { most < 1000000 }
+    ensures { Gives (λ size. size) result (size_of least most word.now) }
+{
+    let size = number_up_to(word, most + 1)?;
     if size < least || size > most {
         return Err(LineRefusal::Refused(CfgKind::Limit));
     }

@@ -7,12 +7,10 @@ ghost use Rattle.cfg_parse.specs.Whole.{lines_from, config_of, fault_at, Drafts,
 use crate::draft::Draft;
 use crate::fault::{CfgFault, CfgKind, LineRefusal};
 use crate::finish::{start, whole};
+use crate::limits::MAX_TEXT;
 use crate::lines::read_line;
 use http_rules::Config;
 use std::alloc::Global;
-
-/// The most bytes of a text.
-pub const MAX_TEXT: usize = 1048576;
 
 /// The refusal of a line, or of the text as line 0.
 fn at_line(line: u32, refusal: LineRefusal) -> CfgFault

@@ -29,11 +29,11 @@ fn is_unit(name: &[u8]) -> bool
     }
 }
 
-/// A time: 1 to 18 digits, and a unit or nothing (Configuration Manual, section 2.5).
+/// A time: one or more digits, and a unit or nothing (Configuration Manual, section 2.5).
 #[tactic(auto, unfolding(crate::specs::Numbers::is_time))]
 pub fn is_time(word: &[u8]) -> bool
     ensures { result ≡ is_time word.now }
 {
     let digits = digits_in_front(word);
-    digits >= 1 && digits <= 18 && is_unit(&word[digits..])
+    digits >= 1 && is_unit(&word[digits..])
 }

@@ -1,0 +1,97 @@
+-- The lines of `filter`: a direction, and what is done to the bodies that pass in it.
+use Rattle.std.specs.Prelude.{ℕ, List, [], ◌∷◌, ◌++◌, length, Bool, true, false, not, ◌&&◌, nat_le, nat_lt, if◌then◌else◌, Option, Some, None, Result, Ok, Err, codes}
+use Rattle.std.specs.List.{list_any}
+use Rattle.std.specs.Str.{bytes_eq}
+use Rattle.px_bytes.specs.Numbers.{decimal_of}
+use Rattle.cfg_parse.specs.declared.fault.CfgKind.{CfgKind}
+use Rattle.cfg_parse.specs.declared.fault.CfgKind.TheVariants as kinds
+use Rattle.cfg_parse.specs.declared.filters.Direction.{Direction}
+use Rattle.cfg_parse.specs.declared.filters.Direction.TheVariants.{Request, Response}
+use Rattle.cfg_parse.specs.declared.filters.FilterName.{FilterName}
+use Rattle.cfg_parse.specs.declared.filters.FilterName.TheVariants as names
+use Rattle.body_filter.specs.declared.filter_spec.FilterSpec.{FilterSpec}
+use Rattle.body_filter.specs.declared.filter_spec.FilterSpec.TheVariants.{Limit, Deny, Replace}
+use Rattle.cfg_parse.specs.Limits.{most_digits, most_filters, most_needle}
+use Rattle.cfg_parse.specs.Reading.{◌>>=◌, argument, no_more}
+
+-- the filter of this name
+unfoldable pub filter_name_of : List ℕ → Result FilterName CfgKind
+filter_name_of word =
+    if bytes_eq word (codes "body-limit") then Ok names.Limit
+    else (if bytes_eq word (codes "body-deny") then Ok names.Deny
+    else (if bytes_eq word (codes "body-replace") then Ok names.Replace
+    else Err kinds.Keyword))
+
+-- `req` or `res`
+unfoldable pub direction_of : List ℕ → Result Direction CfgKind
+direction_of word =
+    if bytes_eq word (codes "req") then Ok Request
+    else (if bytes_eq word (codes "res") then Ok Response
+    else Err kinds.Argument)
+
+-- a number of bytes
+abbrev pub counted : Option ℕ → Result ℕ CfgKind
+counted (Some most) = Ok most
+counted None = Err kinds.Argument
+
+-- a number of bytes, in 1 to 18 digits
+unfoldable pub count_of : List ℕ → Result ℕ CfgKind
+count_of word = counted (decimal_of most_digits word)
+
+-- a text of at least so many bytes, and of no more than a needle may have
+unfoldable pub text_of : (least : ℕ) → List ℕ → Result (List ℕ) CfgKind
+text_of least word = if nat_le least (length word) && nat_le (length word) most_needle then Ok word else Err kinds.Argument
+
+-- `n`
+unfoldable pub limit_filter : List (List ℕ) → Result FilterSpec CfgKind
+limit_filter arguments = do
+  word ← argument arguments
+  most ← count_of word.0
+  ended ← no_more word.1
+  Ok (Limit most)
+
+-- `NEEDLE`
+unfoldable pub deny_filter : List (List ℕ) → Result FilterSpec CfgKind
+deny_filter arguments = do
+  word ← argument arguments
+  needle ← text_of 1 word.0
+  ended ← no_more word.1
+  Ok (Deny needle)
+
+-- `FROM TO`
+unfoldable pub replace_filter : List (List ℕ) → Result FilterSpec CfgKind
+replace_filter arguments = do
+  first ← argument arguments
+  from ← text_of 1 first.0
+  second ← argument first.1
+  to ← text_of 0 second.0
+  ended ← no_more second.1
+  Ok (Replace from to)
+
+-- what stands behind the direction
+abbrev pub named_filter : FilterName → List (List ℕ) → Result FilterSpec CfgKind
+named_filter names.Limit arguments = limit_filter arguments
+named_filter names.Deny arguments = deny_filter arguments
+named_filter names.Replace arguments = replace_filter arguments
+
+-- the words behind `filter`
+unfoldable pub filter_line : List (List ℕ) → Result (Direction × FilterSpec) CfgKind
+filter_line arguments = do
+  first ← argument arguments
+  name ← filter_name_of first.0
+  second ← argument first.1
+  direction ← direction_of second.0
+  filter ← named_filter name second.1
+  Ok (direction, filter)
+
+-- a filter that changes the length of a body
+abbrev pub is_replace : FilterSpec → Bool
+is_replace (Limit most) = false
+is_replace (Deny needle) = false
+is_replace (Replace from to) = true
+
+-- one more filter of a direction: of at most 8, and of them one body-replace
+unfoldable pub with_filter : List FilterSpec → FilterSpec → Result (List FilterSpec) CfgKind
+with_filter filters filter =
+    if nat_lt (length filters) most_filters && not (is_replace filter && list_any is_replace filters) then Ok (filters ++ filter ∷ [])
+    else Err kinds.Limit

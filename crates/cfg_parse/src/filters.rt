@@ -1,0 +1,175 @@
+//! The lines of `filter`: which body is changed, and how.
+ghost use Rattle.std.specs.Prelude.{◌≡◌};
+ghost use Rattle.std.specs.List.{list_any};
+ghost use Rattle.cfg_parse.specs.Reading.{Gives, Leaves};
+ghost use Rattle.cfg_parse.specs.Filters.{filter_name_of, direction_of, count_of, text_of, limit_filter, deny_filter, replace_filter, named_filter, filter_line, is_replace, with_filter};
+
+use crate::arguments::Arguments;
+use crate::fault::{CfgKind, LineRefusal};
+use crate::limits::{MAX_DIGITS, MAX_FILTERS, MAX_NEEDLE};
+use body_filter::FilterSpec;
+use px_bytes::read_decimal;
+use px_link::{Bytes, ItemList};
+use std::alloc::Global;
+
+/// Whose bodies a filter changes.
+#[derive(Clone, Copy, Debug, PartialEq, Eq)]
+pub enum Direction {
+    Request,
+    Response,
+}
+
+#[derive(Clone, Copy, Debug, PartialEq, Eq)]
+enum FilterName {
+    Limit,
+    Deny,
+    Replace,
+}
+
+#[tactic(auto, unfolding(crate::specs::Filters::filter_name_of))]
+fn filter_name_of(word: &[u8]) -> Result<FilterName, LineRefusal>
+    ensures { Gives (λ name. name) result (filter_name_of word.now) }
+{
+    if word == b"body-limit".as_slice() {
+        Ok(FilterName::Limit)
+    } else if word == b"body-deny".as_slice() {
+        Ok(FilterName::Deny)
+    } else if word == b"body-replace".as_slice() {
+        Ok(FilterName::Replace)
+    } else {
+        Err(LineRefusal::Refused(CfgKind::Keyword))
+    }
+}
+
+#[tactic(auto, unfolding(crate::specs::Filters::direction_of))]
+fn direction_of(word: &[u8]) -> Result<Direction, LineRefusal>
+    ensures { Gives (λ direction. direction) result (direction_of word.now) }
+{
+    if word == b"req".as_slice() {
+        Ok(Direction::Request)
+    } else if word == b"res".as_slice() {
+        Ok(Direction::Response)
+    } else {
+        Err(LineRefusal::Refused(CfgKind::Argument))
+    }
+}
+
+/// A number of bytes.
+#[tactic(auto, unfolding(crate::specs::Filters::count_of))]
+fn count_of(word: &[u8]) -> Result<u64, LineRefusal>
+    ensures { Gives (λ most. most) result (count_of word.now) }
+{
+    match read_decimal(word, MAX_DIGITS) {
+        Some(most) => Ok(most),
+        None => Err(LineRefusal::Refused(CfgKind::Argument)),
+    }
+}
+
+/// A text of at least so many bytes, and at most `MAX_NEEDLE`.
+#[tactic(auto, unfolding(crate::specs::Filters::text_of))]
+fn text_of(alloc: Global, least: usize, word: &[u8]) -> Result<Bytes, LineRefusal>
+    ensures { Gives (λ text. text) result (text_of least word.now) }
+{
+    if word.len() < least || word.len() > MAX_NEEDLE {
+        return Err(LineRefusal::Refused(CfgKind::Argument));
+    }
+    Ok(Bytes::copy(alloc, word)?)
+}
+
+/// `n`.
+#[tactic(auto, unfolding(crate::specs::Filters::limit_filter))]
+fn limit_filter(arguments: Arguments<'_>) -> Result<FilterSpec, LineRefusal>
+    ensures { Gives (λ filter. filter) result (limit_filter arguments.entry) }
+{
+    let (word, arguments) = arguments.argument()?;
+    let most = count_of(word)?;
+    arguments.no_more()?;
+    Ok(FilterSpec::Limit(most))
+}
+
+/// `NEEDLE`.
+#[tactic(auto, unfolding(crate::specs::Filters::deny_filter))]
+fn deny_filter(alloc: Global, arguments: Arguments<'_>) -> Result<FilterSpec, LineRefusal>
+    ensures { Gives (λ filter. filter) result (deny_filter arguments.entry) }
+{
+    let (word, arguments) = arguments.argument()?;
+    let needle = text_of(alloc, 1, word)?;
+    arguments.no_more()?;
+    Ok(FilterSpec::Deny(needle))
+}
+
+/// `FROM TO`.
+#[tactic(auto, unfolding(crate::specs::Filters::replace_filter))]
+fn replace_filter(alloc: Global, arguments: Arguments<'_>) -> Result<FilterSpec, LineRefusal>
+    ensures { Gives (λ filter. filter) result (replace_filter arguments.entry) }
+{
+    let (first, arguments) = arguments.argument()?;
+    let from = text_of(alloc, 1, first)?;
+    let (second, arguments) = arguments.argument()?;
+    let to = text_of(alloc, 0, second)?;
+    arguments.no_more()?;
+    Ok(FilterSpec::Replace(from, to))
+}
+
+/// What stands behind the direction.
+fn named_filter(
+    alloc: Global,
+    name: FilterName,
+    arguments: Arguments<'_>,
+) -> Result<FilterSpec, LineRefusal>
+    ensures { Gives (λ filter. filter) result (named_filter name arguments.entry) }
+{
+    match name {
+        FilterName::Limit => limit_filter(arguments),
+        FilterName::Deny => deny_filter(alloc, arguments),
+        FilterName::Replace => replace_filter(alloc, arguments),
+    }
+}
+
+/// The words behind `filter`.
+#[tactic(auto, unfolding(crate::specs::Filters::filter_line))]
+pub fn filter_line(
+    alloc: Global,
+    arguments: Arguments<'_>,
+) -> Result<(Direction, FilterSpec), LineRefusal>
+    ensures { Gives (λ taken. taken) result (filter_line arguments.entry) }
+{
+    let (first, arguments) = arguments.argument()?;
+    let name = filter_name_of(first)?;
+    let (second, arguments) = arguments.argument()?;
+    let direction = direction_of(second)?;
+    let filter = named_filter(alloc, name, arguments)?;
+    Ok((direction, filter))
+}
+
+fn is_replace(filter: &FilterSpec) -> bool
+    ensures { result ≡ is_replace filter.now }
+{
+    match filter {
+        FilterSpec::Limit(_) | FilterSpec::Deny(_) => false,
+        FilterSpec::Replace(_, _) => true,
+    }
+}
+
+fn has_replace(filters: &ItemList<FilterSpec>) -> bool
+    ensures { result ≡ list_any is_replace filters.now }
+{
+    for at in 0..filters.len() {
+        if is_replace(filters.get(at)) {
+            return true;
+        }
+    }
+    false
+}
+
+/// One more filter of a direction.
+#[tactic(auto, unfolding(crate::specs::Filters::with_filter))]
+pub fn add_filter(filters: &mut ItemList<FilterSpec>, filter: FilterSpec) -> Result<(), LineRefusal>
+    ensures { Leaves result filters.new (with_filter filters.old filter) }
+{
+    if filters.len() >= MAX_FILTERS || is_replace(&filter) && has_replace(filters) {
+        return Err(LineRefusal::Refused(CfgKind::Limit));
+    }
+    filters.push(filter)?;
+    Ok(())
+}

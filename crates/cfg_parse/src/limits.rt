@@ -1,0 +1,25 @@
+//! The numbers that limit a configuration, and what a size is where no line gives it.
+
+/// The most bytes of a text.
+pub const MAX_TEXT: usize = 1048576;
+
+/// The most rules of one direction.
+pub const MAX_RULES: u32 = 1024;
+
+/// The most filters of one direction.
+pub const MAX_FILTERS: u32 = 8;
+
+/// The most bytes of a needle, and of what replaces one.
+pub const MAX_NEEDLE: usize = 256;
+
+/// The most digits of a port, and of a number of rules and filters.
+pub const MAX_DIGITS: u32 = 18;
+
+/// What a received head may take at least.
+pub const MIN_HEAD: u32 = 512;
+
+/// The size of the buffer where no line gives it.
+pub const DEFAULT_BUFSIZE: u32 = 16384;
+
+/// The most that is left free of the buffer where no line says how much.
+pub const DEFAULT_MAXREWRITE: u32 = 1024;
