@@ -6,12 +6,7 @@ use Rattle.std.proofs.lemmas.Bool.{false≢true}
 use Rattle.px_bytes.specs.Numbers.{decimal_of}
 use Rattle.px_command.specs.Command.{IsFileWord, IsNumber, IsCheck, IsReplay, IsLater}
 use Rattle.px_command.specs.Later.{IsServe, IsDrill}
-
-two_are : (a b x y : List ℕ) → a ≡ x → b ≡ y → a ∷ b ∷ [] ≡ x ∷ y ∷ []
-two_are a b x y p q = cc
-
-three_are : (a b d x y z : List ℕ) → a ≡ x → b ≡ y → d ≡ z → a ∷ b ∷ d ∷ [] ≡ x ∷ y ∷ z ∷ []
-three_are a b d x y z p q r = cc
+use Rattle.px_command.proofs.Items.{two_are, three_are}
 
 pub check_is : (ws : List (List ℕ)) (cfg : List ℕ) → IsCheck ws cfg → (ws ≡ codes "check" ∷ cfg ∷ []) × IsFileWord cfg
 check_is [] cfg is = absurd is

@@ -11,14 +11,14 @@ one (x ∷ []) a least most p = cc
 one (x ∷ y ∷ ws) a least most p = absurd (omega arith)
 
 -- a list of two is its two items
-two : (ws : List (String Global)) (a b : String Global) → 2 ≤ length ws → length ws < 3 → a ≡ get_or ws 0 a → b ≡ get_or ws 1 b → ws ≡ a ∷ b ∷ []
+pub two : (ws : List (String Global)) (a b : String Global) → 2 ≤ length ws → length ws < 3 → a ≡ get_or ws 0 a → b ≡ get_or ws 1 b → ws ≡ a ∷ b ∷ []
 two [] a b least most p q = absurd (omega arith)
 two (x ∷ []) a b least most p q = absurd (omega arith)
 two (x ∷ y ∷ []) a b least most p q = cc
 two (x ∷ y ∷ z ∷ ws) a b least most p q = absurd (omega arith)
 
 -- a list of three is its three items
-three : (ws : List (String Global)) (a b d : String Global) → 3 ≤ length ws → length ws < 4 → a ≡ get_or ws 0 a → b ≡ get_or ws 1 b → d ≡ get_or ws 2 d → ws ≡ a ∷ b ∷ d ∷ []
+pub three : (ws : List (String Global)) (a b d : String Global) → 3 ≤ length ws → length ws < 4 → a ≡ get_or ws 0 a → b ≡ get_or ws 1 b → d ≡ get_or ws 2 d → ws ≡ a ∷ b ∷ d ∷ []
 three [] a b d least most p q r = absurd (omega arith)
 three (x ∷ []) a b d least most p q r = absurd (omega arith)
 three (x ∷ y ∷ []) a b d least most p q r = absurd (omega arith)
@@ -28,25 +28,16 @@ three (x ∷ y ∷ z ∷ w ∷ ws) a b d least most p q r = absurd (omega arith)
 head_is : (a b : List ℕ) → a ∷ [] ≡ b ∷ [] → a ≡ b
 head_is a b is = cc
 
-first_of_two : (a b x y : List ℕ) → a ∷ b ∷ [] ≡ x ∷ y ∷ [] → a ≡ x
+pub first_of_two : (a b x y : List ℕ) → a ∷ b ∷ [] ≡ x ∷ y ∷ [] → a ≡ x
 first_of_two a b x y is = cc
 
-second_of_two : (a b x y : List ℕ) → a ∷ b ∷ [] ≡ x ∷ y ∷ [] → b ≡ y
-second_of_two a b x y is = cc
-
-first_of_three : (a b d x y z : List ℕ) → a ∷ b ∷ d ∷ [] ≡ x ∷ y ∷ z ∷ [] → a ≡ x
+pub first_of_three : (a b d x y z : List ℕ) → a ∷ b ∷ d ∷ [] ≡ x ∷ y ∷ z ∷ [] → a ≡ x
 first_of_three a b d x y z is = cc
 
-second_of_three : (a b d x y z : List ℕ) → a ∷ b ∷ d ∷ [] ≡ x ∷ y ∷ z ∷ [] → b ≡ y
-second_of_three a b d x y z is = cc
-
-third_of_three : (a b d x y z : List ℕ) → a ∷ b ∷ d ∷ [] ≡ x ∷ y ∷ z ∷ [] → d ≡ z
-third_of_three a b d x y z is = cc
-
-two_are : (a b x y : List ℕ) → a ≡ x → b ≡ y → a ∷ b ∷ [] ≡ x ∷ y ∷ []
+pub two_are : (a b x y : List ℕ) → a ≡ x → b ≡ y → a ∷ b ∷ [] ≡ x ∷ y ∷ []
 two_are a b x y p q = cc
 
-three_are : (a b d x y z : List ℕ) → a ≡ x → b ≡ y → d ≡ z → a ∷ b ∷ d ∷ [] ≡ x ∷ y ∷ z ∷ []
+pub three_are : (a b d x y z : List ℕ) → a ≡ x → b ≡ y → d ≡ z → a ∷ b ∷ d ∷ [] ≡ x ∷ y ∷ z ∷ []
 three_are a b d x y z p q r = cc
 
 -- one word is alone where it is this one
@@ -56,28 +47,3 @@ pub alone_word : (ws : List (String Global)) (a : String Global) (word : List �
 alone_word ws a word result least most p to from =
     let is : map string_bytes ws ≡ string_bytes a ∷ [] = ap (map string_bytes) (one ws a least most p) in
     (λ t. is ∙ ap (λ (x : List ℕ). x ∷ []) (to t), λ all. from (head_is (string_bytes a) word (sym is ∙ all)))
-
--- two words are these where each is
-pub pair_words : (ws : List (String Global)) (a b : String Global) (x y : List ℕ) (result : Bool) → 2 ≤ length ws → length ws < 3 → a ≡ get_or ws 0 a → b ≡ get_or ws 1 b
-    → (IsTrue result → (string_bytes a ≡ x) × (string_bytes b ≡ y)) → (string_bytes a ≡ x → string_bytes b ≡ y → IsTrue result)
-    → (IsTrue result → map string_bytes ws ≡ x ∷ y ∷ []) × (map string_bytes ws ≡ x ∷ y ∷ [] → IsTrue result)
-pair_words ws a b x y result least most p q to from =
-    let is : map string_bytes ws ≡ string_bytes a ∷ string_bytes b ∷ [] = ap (map string_bytes) (two ws a b least most p q) in (
-      λ t. is ∙ two_are (string_bytes a) (string_bytes b) x y (to t).0 (to t).1,
-      λ all.
-          from (first_of_two (string_bytes a) (string_bytes b) x y (sym is ∙ all)) (second_of_two (string_bytes a) (string_bytes b) x y (sym is ∙ all)),
-    )
-
--- three words are these where each is
-pub triple_words : (ws : List (String Global)) (a b d : String Global) (x y z : List ℕ) (result : Bool) → 3 ≤ length ws → length ws < 4 → a ≡ get_or ws 0 a → b ≡ get_or ws 1 b → d ≡ get_or ws 2 d
-    → (IsTrue result → (string_bytes a ≡ x) × (string_bytes b ≡ y) × (string_bytes d ≡ z)) → (string_bytes a ≡ x → string_bytes b ≡ y → string_bytes d ≡ z → IsTrue result)
-    → (IsTrue result → map string_bytes ws ≡ x ∷ y ∷ z ∷ []) × (map string_bytes ws ≡ x ∷ y ∷ z ∷ [] → IsTrue result)
-triple_words ws a b d x y z result least most p q r to from =
-    let is : map string_bytes ws ≡ string_bytes a ∷ string_bytes b ∷ string_bytes d ∷ [] = ap (map string_bytes) (three ws a b d least most p q r) in (
-      λ t. is ∙ three_are (string_bytes a) (string_bytes b) (string_bytes d) x y z (to t).0 (to t).1 (to t).2,
-      λ all.
-          let same : string_bytes a ∷ string_bytes b ∷ string_bytes d ∷ [] ≡ x ∷ y ∷ z ∷ [] = sym is ∙ all in
-          from (first_of_three (string_bytes a) (string_bytes b) (string_bytes d) x y z same)
-          (second_of_three (string_bytes a) (string_bytes b) (string_bytes d) x y z same)
-          (third_of_three (string_bytes a) (string_bytes b) (string_bytes d) x y z same),
-    )

@@ -1,3 +1,3 @@
-pub mod Gives
-pub mod Items
 pub mod Accepted
+pub mod Items
+pub mod Passes

@@ -57,7 +57,3 @@ pub record IsUsage (words : List (List ℕ)) : Type 0 where
 -- the configuration of a command is in the file of this name
 abbrev pub NamesConfig : List (List ℕ) → List ℕ → Type 0
 NamesConfig words cfg = IsCheck words cfg ⊎ ((rec : List ℕ) × IsReplay words cfg rec)
-
--- the name is a file word of the command
-abbrev pub NamesFile : List (List ℕ) → List ℕ → Type 0
-NamesFile words name = NamesConfig words name ⊎ ((cfg : List ℕ) × IsReplay words cfg name)

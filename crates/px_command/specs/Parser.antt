@@ -1,12 +1,11 @@
--- What `clap` reads of the command line's builder, and what it makes of words.
+-- What `clap` reads of the command line's builder, and which words it takes.
 use Rattle.std.specs.Prelude.{◌≡◌, [], List, true, Some, codes}
-use Rattle.clap.specs.Words.{App, HasMatchesOf, Row, Rule, Text, first_of, new_app, new_rule, subcommand_rows_of, with_rule, with_subcommand}
+use Rattle.clap.specs.Words.{App, Rule, Text, new_app, new_rule, with_rule, with_subcommand}
 use Rattle.clap.specs.Words.{HasKind, fault_of}
 use Rattle.clap.specs.Simple.{on_top}
 use Rattle.clap.specs.declared.builder.action.ArgAction.{ArgAction}
 use Rattle.clap.specs.declared.builder.action.ArgAction.TheVariants.{Help, Version}
 use Rattle.clap.specs.declared.error.Error.{Error}
-use Rattle.clap.specs.declared.parser.matches.ArgMatches.{ArgMatches}
 
 -- a word that must be given
 abbrev pub word_rule : (name : Text) → Rule
@@ -46,15 +45,10 @@ parser =
     let serve = with_subcommand replay (two_words (codes "serve") (codes "CFG") (codes "COUNT")).top in
     with_subcommand serve (two_words (codes "drill") (codes "SEED") (codes "COUNT")).top
 
--- `clap` took the words, and these are the matches
-abbrev pub IsTaken : List Text → ArgMatches → Type 0
-IsTaken words matches = HasMatchesOf parser words matches × (fault_of parser words ≡ [])
+-- `clap` finds no fault in the words
+abbrev pub IsTaken : List Text → Type 0
+IsTaken words = fault_of parser words ≡ []
 
 -- `clap` refused the words with this error
 abbrev pub IsRefused : List Text → Error → Type 0
 IsRefused words error = HasKind (fault_of parser words) error
-
--- `clap` gives this value for a word of a command
-abbrev pub Gives : ArgMatches → (command word value : Text) → Type 0
-Gives matches command word value =
-    (rows : List Row) × (subcommand_rows_of matches ≡ Some (command, rows)) × (first_of word rows ≡ Some value)

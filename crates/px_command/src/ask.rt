@@ -7,8 +7,8 @@ use crate::lists::{check_file, is_later, replay_files};
 use crate::parser::command;
 use crate::texts::{error_text, unlisted_text};
 use crate::words::is_alone;
+use clap::Error;
 use clap::error::ErrorKind;
-use clap::{ArgMatches, Error};
 use http_model::OutOfMemory;
 use px_link::Bytes;
 use std::alloc::Global;
@@ -31,21 +31,17 @@ pub enum Asked<'a> {
 }
 
 /// What words ask for that `clap` took.
-fn taken<'a>(
-    alloc: Global,
-    words: &[String],
-    matches: &ArgMatches<'a>,
-) -> Result<Asked<'a>, OutOfMemory>
-    requires { IsTaken (map string_bytes words.now) matches.now }
+fn taken<'a>(alloc: Global, words: &'a [String]) -> Result<Asked<'a>, OutOfMemory>
+    requires { IsTaken (map string_bytes words.now) }
     ensures { IfOk result (IsAsked (map string_bytes words.now)) }
 {
-    if let Some(cfg) = check_file(words, matches) {
+    if let Some(cfg) = check_file(words) {
         return Ok(Asked::Check { cfg });
     }
-    if let Some((cfg, rec)) = replay_files(words, matches) {
+    if let Some((cfg, rec)) = replay_files(words) {
         return Ok(Asked::Replay { cfg, rec });
     }
-    if is_later(words, matches) {
+    if is_later(words) {
         return Ok(Asked::Later);
     }
     let text = unlisted_text(alloc)?;
@@ -75,7 +71,7 @@ pub fn asked_by<'a>(alloc: Global, words: &'a [String]) -> Result<Asked<'a>, Out
     ensures { IfOk result (IsAsked (map string_bytes words.now)) }
 {
     match command(alloc)?.try_get_matches_from(words) {
-        Ok(matches) => taken(alloc, words, &matches),
+        Ok(_) => taken(alloc, words),
         Err(error) => refused(alloc, words, &error),
     }
 }

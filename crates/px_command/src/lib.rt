@@ -8,7 +8,6 @@ mod parser;
 #[cfg(test)]
 mod tests;
 mod texts;
-mod values;
 mod words;
 
 pub use ask::{Asked, asked_by};

@@ -1,5 +1,5 @@
-//! Single words, and lists of words that are these.
-ghost use Rattle.std.specs.Prelude.{◌≡◌, ◌∷◌, ◌↔◌, [], map, IsTrue, string_bytes};
+//! Single words, and lists of words that begin with a command.
+ghost use Rattle.std.specs.Prelude.{◌≡◌, ◌∷◌, ◌↔◌, [], ℕ, List, map, IsTrue, IfSome, IfNone, string_bytes};
 ghost use Rattle.px_command.specs.Command.{IsFileWord, IsNumber};
 
 use px_bytes::read_decimal;
@@ -32,31 +32,30 @@ pub fn is_alone(words: &[String], word: &str) -> bool
     }
 }
 
-/// Whether the words are these two.
-pub fn is_pair(words: &[String], command: &str, first: &str) -> bool
-    ensures { IsTrue result ↔ map string_bytes words.now ≡ command.now ∷ first.now ∷ [] }
+/// The word behind a command, where it is the last.
+pub fn one_behind<'a>(words: &'a [String], command: &str) -> Option<&'a str>
+    ensures some { IfSome result (λ word. map string_bytes words.now ≡ command.now ∷ word.now ∷ []) }
+    ensures none { IfNone result ((word : List ℕ) → map string_bytes words.now ≡ command.now ∷ word ∷ [] → ⊥) }
 {
-    let [a, b] = words else {
-        return false;
+    let [name, word] = words else {
+        return None;
     };
-    if a.as_str() != command {
-        return false;
+    if name.as_str() != command {
+        return None;
     }
-    b.as_str() == first
+    Some(word.as_str())
 }
 
-/// Whether the words are these three.
-pub fn is_triple(words: &[String], command: &str, first: &str, second: &str) -> bool
-    ensures { IsTrue result ↔ map string_bytes words.now ≡ command.now ∷ first.now ∷ second.now ∷ [] }
+/// The two words behind a command, where they are the last.
+pub fn two_behind<'a>(words: &'a [String], command: &str) -> Option<(&'a str, &'a str)>
+    ensures some { IfSome result (λ both. map string_bytes words.now ≡ command.now ∷ both.0.now ∷ both.1.now ∷ []) }
+    ensures none { IfNone result ((first second : List ℕ) → map string_bytes words.now ≡ command.now ∷ first ∷ second ∷ [] → ⊥) }
 {
-    let [a, b, d] = words else {
-        return false;
+    let [name, first, second] = words else {
+        return None;
     };
-    if a.as_str() != command {
-        return false;
+    if name.as_str() != command {
+        return None;
     }
-    if b.as_str() != first {
-        return false;
-    }
-    d.as_str() == second
+    Some((first.as_str(), second.as_str()))
 }

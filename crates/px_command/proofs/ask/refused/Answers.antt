@@ -3,7 +3,7 @@ use Rattle.std.specs.Prelude.{string_bytes}
 use Rattle.clap.specs.Words.{kind_of}
 use Rattle.clap.specs.declared.error.kind.ErrorKind.TheVariants.{OutOfMemory}
 use Rattle.px_command.specs.Command.{IsHelp, IsVersion}
-use Rattle.px_command.proofs.Gives.{refused_usage}
+use Rattle.px_command.proofs.Passes.{refused_usage}
 use Rattle.px_command.proofs.ask.refused.Goals as goal
 
 pub returns : goal.returns

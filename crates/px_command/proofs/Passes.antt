@@ -1,0 +1,106 @@
+-- What `clap` makes of the lists that the program takes: it finds no fault in them.
+use Rattle.std.proofs.Common.{◌≡◌, ◌≢◌, ◌==◌, ◌⊎◌, inl, inr, ℕ, List, [], ◌∷◌, true, false, refl, sym, ap, ◌∙◌, subst, codes}
+use Rattle.std.proofs.lemmas.Bool.{ne_eqb}
+use Rattle.clap.specs.Words.{App, HasKind, IsAmong, is_simple_and_free, Text, fault_of, kind_of}
+use Rattle.clap.specs.declared.error.Error.{Error}
+use Rattle.clap.specs.declared.error.kind.ErrorKind.{ErrorKind}
+use Rattle.clap.specs.declared.error.kind.ErrorKind.TheVariants.{DisplayHelp, DisplayVersion, OutOfMemory}
+use Rattle.clap.proofs.OnLiterals.{clap_on_literals}
+use Rattle.px_command.specs.Command.{IsFileWord, IsCheck, IsReplay, IsLater, IsHelp, IsVersion, IsUsage}
+use Rattle.px_command.specs.Later.{IsServe, IsDrill}
+use Rattle.px_command.specs.Parser.{IsRefused, IsTaken, parser}
+use Rattle.px_command.proofs.Accepted.{check_is, replay_is, later_is, number_word}
+
+-- ---- by computing, with words of which no dash stands in front
+
+module _ (x : ℕ) (a : List ℕ) (dash : (x == 45) ≡ false) where
+  check_passes : fault_of parser (codes "check" ∷ (x ∷ a) ∷ []) ≡ []
+  unfolding clap_on_literals
+  check_passes = simp dash refl
+
+  module _ (y : ℕ) (b : List ℕ) (other : (y == 45) ≡ false) where
+    replay_passes : fault_of parser (codes "replay" ∷ (x ∷ a) ∷ (y ∷ b) ∷ []) ≡ []
+    unfolding clap_on_literals
+    replay_passes = simp (dash, other) refl
+
+    serve_passes : fault_of parser (codes "serve" ∷ (x ∷ a) ∷ (y ∷ b) ∷ []) ≡ []
+    unfolding clap_on_literals
+    serve_passes = simp (dash, other) refl
+
+    drill_passes : fault_of parser (codes "drill" ∷ (x ∷ a) ∷ (y ∷ b) ∷ []) ≡ []
+    unfolding clap_on_literals
+    drill_passes = simp (dash, other) refl
+
+help_fault : fault_of parser (codes "--help" ∷ []) ≡ DisplayHelp ∷ []
+unfolding clap_on_literals
+help_fault = refl
+
+version_fault : fault_of parser (codes "--version" ∷ []) ≡ DisplayVersion ∷ []
+unfolding clap_on_literals
+version_fault = refl
+
+-- ---- by lists
+
+not_dash : (x : ℕ) → x ≢ 45 → (x == 45) ≡ false
+not_dash x differs = ne_eqb x 45 differs
+
+one_passes : (a : Text) → IsFileWord a → fault_of parser (codes "check" ∷ a ∷ []) ≡ []
+one_passes [] file = absurd file
+one_passes (x ∷ a) file = check_passes x a (not_dash x file)
+
+two_pass : (a b : Text) → IsFileWord a → IsFileWord b → (fault_of parser (codes "replay" ∷ a ∷ b ∷ []) ≡ [])
+    × (fault_of parser (codes "serve" ∷ a ∷ b ∷ []) ≡ []) × (fault_of parser (codes "drill" ∷ a ∷ b ∷ []) ≡ [])
+two_pass [] b file other = absurd file
+two_pass (x ∷ a) [] file other = absurd other
+two_pass (x ∷ a) (y ∷ b) file other =
+    let p : (x == 45) ≡ false = not_dash x file in
+    let q : (y == 45) ≡ false = not_dash y other in (replay_passes x a p y b q, serve_passes x a p y b q, drill_passes x a p y b q)
+
+passes_check : (ws : List Text) (cfg : Text) → IsCheck ws cfg → fault_of parser ws ≡ []
+passes_check ws cfg is = let list = check_is ws cfg is in ap (fault_of parser) list.0 ∙ one_passes cfg list.1
+
+passes_replay : (ws : List Text) (cfg rec : Text) → IsReplay ws cfg rec → fault_of parser ws ≡ []
+passes_replay ws cfg rec is = let list = replay_is ws cfg rec is in ap (fault_of parser) list.0 ∙ (two_pass cfg rec list.1 list.2).0
+
+passes_later : (ws : List Text) → IsServe ws ⊎ IsDrill ws → fault_of parser ws ≡ []
+passes_later ws (inl is) = ap (fault_of parser) is.2 ∙ (two_pass is.0 is.1 is.3 (number_word 1 1000000 is.1 is.4)).1
+passes_later ws (inr is) =
+    ap (fault_of parser) is.2 ∙ (two_pass is.0 is.1 (number_word 0 2147483647 is.0 is.3) (number_word 0 4000 is.1 is.4)).2
+
+-- ---- from a parse
+
+pub taken_by : (a : App) (ws : List Text) → a ≡ parser → (is_simple_and_free a ≡ true → fault_of a ws ≡ []) → IsTaken ws
+taken_by a ws is passes = subst (λ (b : App). is_simple_and_free b ≡ true → fault_of b ws ≡ []) is passes refl
+
+pub refused_by : (a : App) (ws : List Text) (e : Error) → a ≡ parser → (is_simple_and_free a ≡ true → HasKind (fault_of a ws) e) → IsRefused ws e
+refused_by a ws e is fails = subst (λ (b : App). is_simple_and_free b ≡ true → HasKind (fault_of b ws) e) is fails refl
+
+only_memory : (ws : List Text) (e : Error) → IsRefused ws e → (kind_of e ≡ OutOfMemory → ⊥) → fault_of parser ws ≡ [] → ⊥
+only_memory ws e (inl memory) other passes = other memory
+only_memory ws e (inr among) other passes = subst (λ (kinds : List ErrorKind). IsAmong (kind_of e) kinds) passes among
+
+-- words that `clap` refused for another reason than memory, and that ask for no text
+pub refused_usage : (ws : List Text) (e : Error) → IsRefused ws e → (kind_of e ≡ OutOfMemory → ⊥) → (IsHelp ws → ⊥) → (IsVersion ws → ⊥) → IsUsage ws
+refused_usage ws e refused other help version =
+    record {
+      check = λ cfg is. only_memory ws e refused other (passes_check ws cfg is);
+      replay = λ cfg rec is. only_memory ws e refused other (passes_replay ws cfg rec is);
+      later = λ is. only_memory ws e refused other (passes_later ws (later_is ws is));
+      help = help;
+      version = version;
+    }
+
+abbrev is_empty : List ErrorKind → Type 0
+is_empty [] = Unit {0}
+is_empty (k ∷ kinds) = ⊥
+
+-- words that `clap` took ask for no text
+pub taken_usage : (ws : List Text) → IsTaken ws → ((cfg : Text) → IsCheck ws cfg → ⊥) → ((cfg rec : Text) → IsReplay ws cfg rec → ⊥) → (IsLater ws → ⊥) → IsUsage ws
+taken_usage ws taken check replay later =
+    record {
+      check = check;
+      replay = replay;
+      later = later;
+      help = λ is. subst is_empty (sym taken ∙ ap (fault_of parser) is ∙ help_fault) tt;
+      version = λ is. subst is_empty (sym taken ∙ ap (fault_of parser) is ∙ version_fault) tt;
+    }
