@@ -1,3 +1,4 @@
+//! A format: its parts.
 use px_expr::Expr;
 use px_link::ItemList;
 use px_sample::Text;

@@ -1,3 +1,4 @@
+//! An expression: a fetch and its converters.
 use px_conv::Conv;
 use px_link::ItemList;
 use px_sample::Fetch;
