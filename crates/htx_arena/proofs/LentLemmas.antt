@@ -10,6 +10,8 @@ use Rattle.htx_space.specs.Windows.{window, overwritten}
 use Rattle.htx_layout.specs.Raw.{block_in, blocks_of}
 use Rattle.htx_layout.specs.Values.{value_start, value_length}
 use Rattle.htx_layout.proofs.RawLemmas.{length-listed}
+use Rattle.htx_layout.proofs.TellLemmas.{len_told}
+use Rattle.htx_layout.proofs.TopLemmas.{top_same}
 use Rattle.htx_layout.proofs.LentLemmas.{blocks_lent, addrs_lent, laid_lent}
 use Rattle.htx_arena.specs.Contents.{Contents}
 use Rattle.htx_arena.specs.Written.{written}
@@ -47,4 +49,7 @@ whole_lent a i start len w whole small valued s l =
     let loaded = whole.loaded in
     let fits = whole.fits in
     let size = (addrs_lent raw n i start len w whole.laid.sound small valued s l).1 in
-    record { laid = laid_lent raw n a.front i start len w whole.laid small valued s l; loaded = omega arith; fits = omega arith }
+    let laid = laid_lent raw n a.front i start len w whole.laid small valued s l in
+    let old = len_told raw n i whole.laid.told small in
+    let topped = top_same raw (overwritten raw start (refill len (window raw start len) w)) n i a.top a.front (with_value (block_at bs i) (refill (length v) v w)) whole.laid.told whole.topped small blocks (addrs_lent raw n i start len w whole.laid.sound small valued s l).0 (omega arith) laid in
+    record { laid = laid; loaded = omega arith; topped = topped; fits = omega arith }

@@ -4,7 +4,7 @@ use Rattle.htx_model.specs.Block.{Block, payload_len, weight}
 use Rattle.htx_model.specs.Blocks.{load, block_at}
 use Rattle.htx_model.proofs.Loads.{load-payloads, load-set, load-remove}
 use Rattle.htx_layout.specs.Raw.{addr_in, block_in, payload_in, payload_of, len_in, blocks_of, addrs_of}
-use Rattle.htx_layout.specs.Sound.{IsLaid, IsTold}
+use Rattle.htx_layout.specs.Sound.{IsLaid, IsTold, IsTop}
 use Rattle.htx_layout.proofs.RawLemmas.{length-listed}
 use Rattle.htx_layout.proofs.TellLemmas.{len_told, block_told, addr_told}
 use Rattle.htx_arena.specs.Contents.{Contents}
@@ -67,13 +67,13 @@ at a s i whole view h =
     }
 
 -- one block is another: the load follows
-pub whole_set : (raw new : List ℕ) (n i was loaded front m : ℕ) (b : Block) → IsTold raw n → was ≡ load (blocks_of raw n) → i < n → blocks_of new n ≡ set (blocks_of raw n) i b → payload_len b ≡ m → IsLaid new n front → loaded + len_in raw i ≡ was + m → loaded ≤ length new →
-    IsWhole (record { space = new; count = n; load = loaded; front = front })
-whole_set raw new n i was loaded front m b told is small blocks len laid sum fits =
+pub whole_set : (raw new : List ℕ) (n i was loaded front t m : ℕ) (b : Block) → IsTold raw n → was ≡ load (blocks_of raw n) → i < n → blocks_of new n ≡ set (blocks_of raw n) i b → payload_len b ≡ m → IsLaid new n front → loaded + len_in raw i ≡ was + m → IsTop new n t → loaded ≤ length new →
+    IsWhole (record { space = new; count = n; load = loaded; front = front; top = t })
+whole_set raw new n i was loaded front t m b told is small blocks len laid sum topped fits =
     let count = length-listed (block_in raw) n in
     let old = len_told raw n i told small in
     let change = load-set (blocks_of raw n) i b (omega arith) in
     let now = ap load blocks in
-    record { laid = laid; loaded = omega arith; fits = fits }
+    record { laid = laid; loaded = omega arith; topped = topped; fits = fits }
 
 pub ruleset wholes = (length-listed)

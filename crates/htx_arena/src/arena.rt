@@ -35,6 +35,7 @@ pub struct Arena {
     count: u32,
     load: u32,
     front: u32,
+    top: u32,
 }
 
 impl Model for Arena {
@@ -67,6 +68,7 @@ impl Arena {
             count: 0,
             load: 0,
             front: 0,
+            top: 0,
         })
     }
 

@@ -18,3 +18,4 @@ pub mod LentLemmas
 pub mod TellLemmas
 pub mod StayLemmas
 pub mod FrontLemmas
+pub mod TopLemmas

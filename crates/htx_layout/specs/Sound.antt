@@ -1,8 +1,9 @@
 -- What holds of an array between two calls.
-use Rattle.std.specs.Prelude.{ℕ, ◌+◌, ◌*◌, ◌<◌, ◌≤◌, ◌⊎◌, List, length}
+use Rattle.std.specs.Prelude.{ℕ, ◌≡◌, ◌+◌, ◌*◌, ◌<◌, ◌≤◌, ◌⊎◌, List, length}
 use Rattle.htx_space.specs.declared.space.Desc.{Desc}
 use Rattle.htx_space.specs.Windows.{desc_at}
-use Rattle.htx_layout.specs.Raw.{info_len, addr_in, len_in, payload_in, Tells}
+use Rattle.htx_layout.specs.Raw.{info_len, addr_in, len_in, payload_in, blocks_of, addrs_of, Tells}
+use Rattle.htx_layout.specs.Place.{top}
 
 -- where the payload ends
 abbrev pub end_of : Desc → ℕ
@@ -29,6 +30,11 @@ pub record IsFilled (raw : List ℕ) (n : ℕ) : Type 0 where
 -- no payload lies across `front`
 pub record IsParted (raw : List ℕ) (n front : ℕ) : Type 0 where
   pub parted : (j : ℕ) → j < n → (end_of (desc_at raw j) ≤ front) ⊎ (front ≤ addr_in raw j)
+
+-- the greatest end of a payload, or 0
+pub record IsTop (raw : List ℕ) (n t : ℕ) : Type 0 where
+  pub is : t ≡ top (blocks_of raw n) (addrs_of raw n)
+  pub under : t ≤ length raw
 
 -- what holds of an array of n blocks between two calls
 pub record IsLaid (raw : List ℕ) (n front : ℕ) : Type 0 where

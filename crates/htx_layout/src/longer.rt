@@ -126,7 +126,8 @@ fn refit(
 {
     let keep = words::len_of(kept);
     let len = words::len_of(info);
-    match scan::spot_of(space, count, front, len) {
+    let top = scan::top_of(space, count);
+    match scan::spot_of(space, count, front, top, len) {
         Some(spot) => {
             extend_free(space, count, at, from, keep, spot, info, more);
             spot.front

@@ -1,7 +1,7 @@
 ghost use Rattle.std.specs.Prelude.{◌≡◌, ◌+◌, ◌-◌, ◌*◌, ◌^◌, ◌<◌, ◌≤◌, length, drop, min};
 ghost use Rattle.std.specs.Option.{option_map_or};
 ghost use Rattle.htx_layout.specs.Raw.{blocks_of, addrs_of, addr_in, len_in, block_in};
-ghost use Rattle.htx_layout.specs.Sound.{IsSound, IsTold};
+ghost use Rattle.htx_layout.specs.Sound.{IsSound, IsTold, IsTop};
 ghost use Rattle.htx_layout.specs.Place.{top, low, spot, stays, grown_at_top as top_growth, grown_at_front as front_growth, before as before_spot};
 ghost use Rattle.htx_model.specs.Block.{payload_len};
 ghost use Rattle.htx_model.specs.Blocks.{load};
@@ -34,14 +34,28 @@ pub fn top_of(space: &Space, count: u32) -> u32
     requires sound { IsSound space.now count }
     requires told { IsTold space.now count }
     requires small { length space.now ≤ 262144 }
-    ensures value { result ≡ top (blocks_of space.now count) (addrs_of space.now count) }
-    ensures small { result ≤ 262144 }
+    ensures { IsTop space.now count result }
 {
     let mut end = 0;
     for i in 0..count {
         end = end.max(end_at(space, count, i));
     }
     end
+}
+
+/// The greatest end of a payload, once a payload that ended at `end` is shorter or gone: it has stayed where another
+/// payload ended behind that one, and else all are looked at.
+pub fn top_behind(space: &Space, count: u32, top: u32, end: u32) -> u32
+    requires sound { IsSound space.now count }
+    requires told { IsTold space.now count }
+    requires small { length space.now ≤ 262144 }
+    requires stayed { end < top → IsTop space.now count top }
+    ensures { IsTop space.now count result }
+{
+    if end < top {
+        return top;
+    }
+    top_of(space, count)
 }
 
 /// The lesser of two addresses, of which one may not be there.
@@ -88,20 +102,19 @@ fn before(low: Option<u32>, front: u32, len: u32, room: bool) -> Option<Spot>
 }
 
 /// Where a payload goes, if the array isn't defragmented before.
-pub fn spot_of(space: &Space, count: u32, front: u32, len: u32) -> Option<Spot>
+pub fn spot_of(space: &Space, count: u32, front: u32, top: u32, len: u32) -> Option<Spot>
     requires sound { IsSound space.now count }
-    requires told { IsTold space.now count }
+    requires topped { IsTop space.now count top }
     requires len { len ≤ 262144 }
     requires small { length space.now ≤ 262144 }
     requires front { front ≤ 262144 }
     ensures { result ≡ spot (length space.now) (blocks_of space.now count) (addrs_of space.now count) front len (count + 1) }
 {
     let size = space.size();
-    let end = top_of(space, count);
     if front == 0 {
-        if end + len + 8 * (count + 1) <= size {
+        if top + len + 8 * (count + 1) <= size {
             return Some(Spot {
-                addr: end,
+                addr: top,
                 front: 0,
             });
         }
@@ -110,7 +123,7 @@ pub fn spot_of(space: &Space, count: u32, front: u32, len: u32) -> Option<Spot>
         low_of(space, count, front),
         front,
         len,
-        end + 8 * (count + 1) <= size,
+        top + 8 * (count + 1) <= size,
     )
 }
 
@@ -175,9 +188,17 @@ fn grown_at_front(
 
 /// `front` once a payload has `len` more bytes where it stands, if it may have them.
 #[tactic(auto, using(crate::proofs::RawLemmas::raws))]
-pub fn room_behind(space: &Space, count: u32, front: u32, index: u32, len: u32) -> Option<u32>
+pub fn room_behind(
+    space: &Space,
+    count: u32,
+    front: u32,
+    top: u32,
+    index: u32,
+    len: u32,
+) -> Option<u32>
     requires sound { IsSound space.now count }
     requires told { IsTold space.now count }
+    requires topped { IsTop space.now count top }
     requires within { index < count }
     requires len { len ≤ 262144 }
     requires small { length space.now ≤ 262144 }
@@ -186,7 +207,6 @@ pub fn room_behind(space: &Space, count: u32, front: u32, index: u32, len: u32) 
 {
     let size = space.size();
     let end = end_at(space, count, index);
-    let top = top_of(space, count);
     if front == 0 {
         grown_at_top(size, end, len, top, count)
     } else {

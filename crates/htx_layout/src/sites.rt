@@ -1,36 +1,57 @@
 ghost use Rattle.std.specs.Prelude.{◌≡◌, ◌+◌, ◌-◌, ◌*◌, ◌^◌, ◌<◌, ◌≤◌, length, sum_by, insert, remove, slice_set};
 ghost use Rattle.htx_model.specs.Block.{payload_len};
 ghost use Rattle.htx_layout.specs.Raw.{blocks_of, addrs_of, block_of, info_len, Tells};
-ghost use Rattle.htx_layout.specs.Sound.{IsSound, IsTold, IsFilled, IsParted, IsLaid};
+ghost use Rattle.htx_layout.specs.Sound.{IsSound, IsTold, IsFilled, IsParted, IsLaid, IsTop};
 ghost use Rattle.htx_layout.specs.Place.{layout, settled};
 ghost use Rattle.htx_layout.specs.Moves.{IsSite};
 
 use crate::payload::Payload;
-use crate::scan::{self, Spot};
-use crate::{edits, pack};
+use crate::{edits, pack, scan};
 use htx_space::{Desc, Space};
 
+/// Where the bytes in use end: at the beginning since wrapping, or 0, and at the top.
+#[derive(Clone, Copy)]
+pub struct Ends {
+    pub front: u32,
+    pub top: u32,
+}
+
+/// Where a payload goes, and the ends of the bytes in use among the others then.
+#[derive(Clone, Copy)]
+struct Found {
+    addr: u32,
+    front: u32,
+    top: u32,
+}
+
 /// Finds the place of a payload, by the four cases.
-pub fn site(space: &mut Space, count: u32, front: u32, len: u32) -> Spot
-    requires laid { IsLaid space.old count front }
+fn site(space: &mut Space, count: u32, ends: Ends, len: u32) -> Found
+    requires laid { IsLaid space.old count ends.front }
+    requires topped { IsTop space.old count ends.top }
     requires fits { sum_by payload_len (blocks_of space.old count) + len + 8 * (count + 1) ≤ length space.old }
     ensures blocks { blocks_of space.new count ≡ blocks_of space.old count }
-    ensures addrs { addrs_of space.new count ≡ (layout (length space.old) (blocks_of space.old count) (addrs_of space.old count) front len).addrs }
-    ensures addr { result.addr ≡ (layout (length space.old) (blocks_of space.old count) (addrs_of space.old count) front len).addr }
-    ensures front { result.front ≡ (layout (length space.old) (blocks_of space.old count) (addrs_of space.old count) front len).front }
+    ensures addrs { addrs_of space.new count ≡ (layout (length space.old) (blocks_of space.old count) (addrs_of space.old count) ends.front len).addrs }
+    ensures addr { result.addr ≡ (layout (length space.old) (blocks_of space.old count) (addrs_of space.old count) ends.front len).addr }
+    ensures front { result.front ≡ (layout (length space.old) (blocks_of space.old count) (addrs_of space.old count) ends.front len).front }
     ensures sound { IsSound space.new count }
     ensures told { IsTold space.new count }
     ensures filled { IsFilled space.new count }
-    ensures site { IsSite space.new count len result }
+    ensures site { IsSite space.new count len (record { addr = result.addr; front = result.front }) }
+    ensures topped { IsTop space.new count result.top }
     ensures size { length space.new ≡ length space.old }
 {
-    match scan::spot_of(space, count, front, len) {
-        Some(spot) => spot,
+    match scan::spot_of(space, count, ends.front, ends.top, len) {
+        Some(spot) => Found {
+            addr: spot.addr,
+            front: spot.front,
+            top: ends.top,
+        },
         None => {
             let end = pack::defrag(space, count);
-            Spot {
+            Found {
                 addr: end,
                 front: 0,
+                top: scan::top_of(space, count),
             }
         }
     }
@@ -52,42 +73,47 @@ pub fn settle(space: &Space, count: u32, front: u32) -> u32
     }
 }
 
-/// Puts in a block, and answers `front`.
+/// Puts in a block, and answers the ends of the bytes in use.
 pub fn add(
     space: &mut Space,
     count: u32,
-    front: u32,
+    ends: Ends,
     at: u32,
     info: u32,
     payload: &Payload<'_>,
-) -> u32
-    requires laid { IsLaid space.old count front }
+) -> Ends
+    requires laid { IsLaid space.old count ends.front }
+    requires topped { IsTop space.old count ends.top }
     requires within { at ≤ count }
     requires fits { sum_by payload_len (blocks_of space.old count) + length payload.now + 8 * (count + 1) ≤ length space.old }
     requires len { info_len info ≡ length payload.now }
     requires told { Tells info payload.now }
     requires some { 0 < length payload.now }
     ensures blocks { blocks_of space.new (count + 1) ≡ insert (blocks_of space.old count) at (block_of info payload.now) }
-    ensures addrs { let l = layout (length space.old) (blocks_of space.old count) (addrs_of space.old count) front (length payload.now) in addrs_of space.new (count + 1) ≡ insert l.addrs at l.addr }
-    ensures front { result ≡ (layout (length space.old) (blocks_of space.old count) (addrs_of space.old count) front (length payload.now)).front }
-    ensures laid { IsLaid space.new (count + 1) result }
+    ensures addrs { let l = layout (length space.old) (blocks_of space.old count) (addrs_of space.old count) ends.front (length payload.now) in addrs_of space.new (count + 1) ≡ insert l.addrs at l.addr }
+    ensures front { result.front ≡ (layout (length space.old) (blocks_of space.old count) (addrs_of space.old count) ends.front (length payload.now)).front }
+    ensures laid { IsLaid space.new (count + 1) result.front }
+    ensures topped { IsTop space.new (count + 1) result.top }
     ensures size { length space.new ≡ length space.old }
 {
-    let spot = site(space, count, front, payload.len() as u32);
+    let found = site(space, count, ends, payload.len());
     edits::place(
         space,
         count,
         at,
         Desc {
-            addr: spot.addr,
+            addr: found.addr,
             info,
         },
         payload,
     );
-    spot.front
+    Ends {
+        front: found.front,
+        top: found.top.max(found.addr + payload.len()),
+    }
 }
 
-/// Puts another block in the place of one whose payload counts as gone, and answers `front`.
+/// Puts another block in the place of one whose payload counts as gone, and answers the ends of the bytes in use.
 pub fn replace(
     space: &mut Space,
     count: u32,
@@ -95,7 +121,7 @@ pub fn replace(
     at: u32,
     info: u32,
     payload: &Payload<'_>,
-) -> u32
+) -> Ends
     requires laid { IsLaid space.old count front }
     requires within { at < count }
     requires fits { sum_by payload_len (remove (blocks_of space.old count) at) + length payload.now + 8 * count ≤ length space.old }
@@ -104,10 +130,12 @@ pub fn replace(
     requires some { 0 < length payload.now }
     ensures blocks { blocks_of space.new count ≡ slice_set (blocks_of space.old count) at (block_of info payload.now) }
     ensures addrs { let l = layout (length space.old) (remove (blocks_of space.old count) at) (remove (addrs_of space.old count) at) front (length payload.now) in addrs_of space.new count ≡ insert l.addrs at l.addr }
-    ensures front { result ≡ (layout (length space.old) (remove (blocks_of space.old count) at) (remove (addrs_of space.old count) at) front (length payload.now)).front }
-    ensures laid { IsLaid space.new count result }
+    ensures front { result.front ≡ (layout (length space.old) (remove (blocks_of space.old count) at) (remove (addrs_of space.old count) at) front (length payload.now)).front }
+    ensures laid { IsLaid space.new count result.front }
+    ensures topped { IsTop space.new count result.top }
     ensures size { length space.new ≡ length space.old }
 {
     edits::unlist(space, count, at);
-    add(space, count - 1, front, at, info, payload)
+    let top = scan::top_of(space, count - 1);
+    add(space, count - 1, Ends { front, top }, at, info, payload)
 }

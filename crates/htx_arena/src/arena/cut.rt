@@ -20,6 +20,7 @@ impl Arena {
         self.count = 0;
         self.load = 0;
         self.front = 0;
+        self.top = 0;
     }
 
     /// Takes out a block.
@@ -30,10 +31,12 @@ impl Arena {
         ensures addrs { self.new.addrs ≡ (removed self.old at).addrs }
         ensures front { self.new.front ≡ (removed self.old at).front }
     {
-        let len = words::len_of(self.space.descriptor(at).info);
+        let gone = self.space.descriptor(at);
+        let len = words::len_of(gone.info);
         edits::unlist(&mut self.space, self.count, at);
         self.count -= 1;
         self.load -= 8 + len;
+        self.top = scan::top_behind(&self.space, self.count, self.top, gone.addr + len);
         self.front = sites::settle(&self.space, self.count, self.front);
     }
 
@@ -47,6 +50,7 @@ impl Arena {
     {
         self.load -= scan::weight_from(&self.space, self.count, at);
         self.count = at;
+        self.top = scan::top_of(&self.space, self.count);
         self.front = sites::settle(&self.space, self.count, self.front);
     }
 
@@ -92,5 +96,6 @@ impl Arena {
     {
         pack::defrag(&mut self.space, self.count);
         self.front = 0;
+        self.top = scan::top_of(&self.space, self.count);
     }
 }

@@ -106,7 +106,7 @@ impl Arena {
     {
         let old = self.space.descriptor(at).info;
         let len = piece.len() as u32;
-        match scan::room_behind(&self.space, self.count, self.front, at, len) {
+        match scan::room_behind(&self.space, self.count, self.front, self.top, at, len) {
             Some(front) => self.extend_here(at, front, old + len, piece),
             None => self.extend_anew(at, old, old + len, piece),
         }
@@ -124,9 +124,11 @@ impl Arena {
         ensures addrs { self.new.addrs ≡ self.old.addrs }
         ensures front { self.new.front ≡ front }
     {
-        let keep = words::len_of(self.space.descriptor(at).info);
+        let own = self.space.descriptor(at);
+        let keep = words::len_of(own.info);
         let more = Payload::one(piece);
         change::rewrite(&mut self.space, self.count, at, keep, info, &more);
+        self.top = self.top.max(own.addr + words::len_of(info));
         self.load += piece.len() as u32;
         self.front = front;
     }

@@ -48,6 +48,7 @@ impl Arena {
         self.load = scan::weight_from(&self.space, self.count, n);
         edits::drop_first(&mut self.space, self.count, n);
         self.count -= n;
+        self.top = scan::top_of(&self.space, self.count);
         self.front = sites::settle(&self.space, self.count, self.front);
     }
 }

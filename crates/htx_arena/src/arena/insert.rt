@@ -5,6 +5,7 @@ ghost use Rattle.htx_layout.specs.Raw.{block_of, info_len, Tells};
 ghost use Rattle.htx_arena.specs.Addresses.{inserted};
 
 use crate::arena::{Arena, Full};
+use htx_layout::sites::Ends;
 use htx_layout::{Payload, sites, words};
 use htx_model::Kind;
 
@@ -104,7 +105,13 @@ impl Arena {
         ensures addrs { self.new.addrs ≡ (inserted self.old at (length payload.now)).addrs }
         ensures front { self.new.front ≡ (inserted self.old at (length payload.now)).front }
     {
-        self.front = sites::add(&mut self.space, self.count, self.front, at, info, payload);
+        let ends = Ends {
+            front: self.front,
+            top: self.top,
+        };
+        let ends = sites::add(&mut self.space, self.count, ends, at, info, payload);
+        self.front = ends.front;
+        self.top = ends.top;
         self.count += 1;
         self.load += 8 + payload.len();
     }

@@ -5,7 +5,7 @@ ghost use Rattle.htx_layout.specs.Raw.{block_of, info_len, payload_of, Tells};
 ghost use Rattle.htx_arena.specs.Addresses.{replaced, placed_anew};
 
 use crate::arena::{Arena, Full};
-use htx_layout::{Payload, change, longer, sites, words};
+use htx_layout::{Payload, change, longer, scan, sites, words};
 
 #[tactic(auto, using(crate::proofs::WholeLemmas::wholes))]
 impl Arena {
@@ -81,8 +81,11 @@ impl Arena {
         ensures addrs { self.new.addrs ≡ self.old.addrs }
         ensures front { self.new.front ≡ self.old.front }
     {
-        let gone = words::len_of(self.space.descriptor(at).info) - keep - more.len();
+        let own = self.space.descriptor(at);
+        let len = words::len_of(own.info);
+        let gone = len - keep - more.len();
         change::rewrite(&mut self.space, self.count, at, keep, info, more);
+        self.top = scan::top_behind(&self.space, self.count, self.top, own.addr + len);
         self.load -= gone;
     }
 
@@ -99,7 +102,9 @@ impl Arena {
         ensures front { self.new.front ≡ (placed_anew self.old at (length payload.now)).front }
     {
         let more = payload.len() - words::len_of(self.space.descriptor(at).info);
-        self.front = sites::replace(&mut self.space, self.count, self.front, at, info, payload);
+        let ends = sites::replace(&mut self.space, self.count, self.front, at, info, payload);
+        self.front = ends.front;
+        self.top = ends.top;
         self.load += more;
     }
 
@@ -129,5 +134,6 @@ impl Arena {
             more,
         );
         self.load += added;
+        self.top = scan::top_of(&self.space, self.count);
     }
 }

@@ -17,5 +17,11 @@ invariant_of-self c =
     record {
       laid = laid_settled c.drop_first.new.space (a.count - c.args.n) a.front c.settle-self-inside.result laid c.settle-self-inside.ensures.value;
       loaded = left ∙ sym (ap load c.drop_first.ensures.blocks);
+      topped = c.top_of-self-inside.ensures;
       fits = omega arith;
     }
+
+pub top_of-self-inside-requires : goal.top_of-self-inside-requires
+top_of-self-inside-requires c =
+    let laid = c.drop_first.ensures.laid c.self.inside.front c.self.invariant.laid in
+    record { sound = laid.sound; told = laid.told; small = laid.most }

@@ -92,7 +92,7 @@ invariant_of-self c =
     let loaded = num.loaded in
     let payload = window raw (addr_in raw i) (info_len kept) ++ more in
     let tells : Tells info payload = subst (λ (p : List ℕ). Tells info (p ++ more)) bytes c.requires.tells in
-    whole_set raw c.extend-self-inside.new.space n i a.load _ _ (info_len info) (block_of info payload) laid.told c.self.invariant.loaded t.small e.blocks tells.len e.laid (omega arith) (omega arith)
+    whole_set raw c.extend-self-inside.new.space n i a.load _ _ _ (info_len info) (block_of info payload) laid.told c.self.invariant.loaded t.small e.blocks tells.len e.laid (omega arith) c.top_of-self-inside.ensures (omega arith)
 
 pub returns : goal.returns
 returns c =

@@ -26,8 +26,8 @@ overflow_sub-more c =
     let all = c.len.ensures in
     omega arith
 
-pub replace-self-inside-requires-clause-some : goal.replace-self-inside-requires-clause-some
-replace-self-inside-requires-clause-some c =
+pub replace-ends-requires-clause-some : goal.replace-ends-requires-clause-some
+replace-ends-requires-clause-some c =
     let a = c.self.inside in
     let i = c.args.at in
     let raw = a.space in
@@ -41,8 +41,8 @@ replace-self-inside-requires-clause-some c =
     let longer = c.requires.longer in
     omega arith
 
-pub replace-self-inside-requires-clause-fits : goal.replace-self-inside-requires-clause-fits
-replace-self-inside-requires-clause-fits c =
+pub replace-ends-requires-clause-fits : goal.replace-ends-requires-clause-fits
+replace-ends-requires-clause-fits c =
     let a = c.self.inside in
     let i = c.args.at in
     let raw = a.space in
@@ -76,18 +76,18 @@ invariant_of-self c =
     let longer = c.requires.longer in
     let all = c.len.ensures in
     let new_len = c.requires.len in
-    let e = c.replace-self-inside.ensures in
+    let e = c.replace-ends.ensures in
     let size = e.size in
     let fits = c.requires.fits in
     let whole_size = num.size in
     let loaded = num.loaded in
-    whole_set raw c.replace-self-inside.new.space n i a.load _ _ (info_len c.args.info) (block_of c.args.info c.args.payload.now) laid.told c.self.invariant.loaded t.small e.blocks c.requires.tells.len e.laid (omega arith) (omega arith)
+    whole_set raw c.replace-ends.new.space n i a.load _ _ _ (info_len c.args.info) (block_of c.args.info c.args.payload.now) laid.told c.self.invariant.loaded t.small e.blocks c.requires.tells.len e.laid (omega arith) e.topped (omega arith)
 
 pub returns : goal.returns
 returns c =
     let a = c.self.inside in
     let i = c.args.at in
-    let e = c.replace-self-inside.ensures in
+    let e = c.replace-ends.ensures in
     let k = length c.args.payload.now in
     record {
       blocks = e.blocks ∙ ap (λ (s : Contents). set s.blocks i (block_of c.args.info c.args.payload.now)) c.self.view_is;

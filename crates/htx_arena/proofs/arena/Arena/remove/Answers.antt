@@ -1,8 +1,11 @@
-use Rattle.std.proofs.Common.{◌-◌, ◌∙◌, ap, arith}
+use Rattle.std.proofs.Common.{◌≡◌, ◌+◌, ◌-◌, ◌∙◌, ap, arith}
 use Rattle.htx_model.specs.Blocks.{load}
 use Rattle.htx_model.proofs.Loads.{load-remove}
 use Rattle.htx_space.specs.declared.space.Desc.{Desc}
 use Rattle.htx_layout.specs.Raw.{info_len, block_in, blocks_of}
+use Rattle.htx_space.specs.Windows.{desc_at}
+use Rattle.htx_layout.specs.Sound.{end_of}
+use Rattle.htx_layout.proofs.TopLemmas.{top_gone}
 use Rattle.htx_layout.proofs.RawLemmas.{length-listed}
 use Rattle.htx_layout.proofs.TellLemmas.{len_told}
 use Rattle.htx_layout.proofs.FrontLemmas.{laid_settled}
@@ -14,7 +17,7 @@ overflow_sub-self-2 c =
     let t = at c.self.inside c.args.self.now c.args.at c.self.invariant c.self.view_is c.requires in
     let weighs = t.weighs in
     let len = t.len in
-    let is = c.len_of-len.ensures ∙ ap (λ (d : Desc). info_len d.info) c.descriptor.ensures in
+    let is = c.len_of-len.ensures ∙ ap (λ (d : Desc). info_len d.info) c.descriptor-gone.ensures in
     omega arith
 
 pub settle-self-inside-requires-clause-parted : goal.settle-self-inside-requires-clause-parted
@@ -30,7 +33,7 @@ invariant_of-self c =
     let raw = a.space in
     let new = c.unlist.new.space in
     let laid1 = c.unlist.ensures.laid a.front c.self.invariant.laid in
-    let is = c.len_of-len.ensures ∙ ap (λ (d : Desc). info_len d.info) c.descriptor.ensures in
+    let is = c.len_of-len.ensures ∙ ap (λ (d : Desc). info_len d.info) c.descriptor-gone.ensures in
     let small = t.small in
     let count = length-listed (block_in raw) a.count in
     let less = load-remove (blocks_of raw a.count) i (omega arith) in
@@ -39,4 +42,18 @@ invariant_of-self c =
     let now = ap load c.unlist.ensures.blocks in
     let size = c.unlist.ensures.size in
     let fits = c.self.invariant.fits in
-    record { laid = laid_settled new (a.count - 1) a.front c.settle-self-inside.result laid1 c.settle-self-inside.ensures.value; loaded = omega arith; fits = omega arith }
+    record { laid = laid_settled new (a.count - 1) a.front c.settle-self-inside.result laid1 c.settle-self-inside.ensures.value; loaded = omega arith; topped = c.top_behind-self-inside.ensures; fits = omega arith }
+
+pub top_behind-self-inside-requires : goal.top_behind-self-inside-requires
+top_behind-self-inside-requires c =
+    let a = c.self.inside in
+    let i = c.args.at in
+    let t = at a c.args.self.now i c.self.invariant c.self.view_is c.requires in
+    let laid = c.unlist.ensures.laid a.front c.self.invariant.laid in
+    let end : c.descriptor-gone.result.addr + c.len_of-len.result ≡ end_of (desc_at a.space i) = (λ j. c.descriptor-gone.result.addr + c.len_of-len.ensures j) ∙ ap (λ (d : Desc). d.addr + info_len d.info) c.descriptor-gone.ensures in
+    record {
+      sound = laid.sound;
+      told = laid.told;
+      small = laid.most;
+      stayed = λ below. top_gone a.space c.unlist.new.space a.count i a.top a.front c.self.invariant.laid.told c.self.invariant.topped t.small c.unlist.ensures.blocks c.unlist.ensures.addrs laid (omega arith);
+    }

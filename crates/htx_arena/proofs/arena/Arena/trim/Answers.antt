@@ -2,6 +2,7 @@ use Rattle.std.proofs.Common.{◌+◌, ◌≤◌, ◌∙◌, ◌⊎◌, inl, inr
 use Rattle.htx_space.specs.declared.space.Desc.{Desc}
 use Rattle.htx_layout.specs.Raw.{Tells, info_len, addr_in, block_of, payload_in}
 use Rattle.htx_layout.specs.Sound.{end_of}
+use Rattle.htx_layout.proofs.TopLemmas.{top_cut}
 use Rattle.htx_layout.proofs.RoomLemmas.{within_own}
 use Rattle.htx_layout.proofs.GrowLemmas.{renewed_blocks, renewed_addrs, renewed_laid}
 use Rattle.htx_arena.specs.Contents.{Contents}
@@ -42,7 +43,11 @@ invariant_of-self c =
     let size = c.trim.ensures.size in
     let fits = c.self.invariant.fits in
     let weighs = t.weighs in
-    whole_set raw c.trim.new.space n i a.load _ a.front (info_len c.args.info) (block_of c.args.info payload) laid.told c.self.invariant.loaded t.small (renewed_blocks raw c.trim.new.space n i d payload t.small c.trim.ensures) tells.len laid1 (omega arith) (omega arith)
+    let blocks = renewed_blocks raw c.trim.new.space n i d payload t.small c.trim.ensures in
+    let addrs = renewed_addrs raw c.trim.new.space n i d payload t.small c.trim.ensures in
+    let new_len = tells.len in
+    let topped = top_cut raw c.trim.new.space n i (addr_in raw i + c.args.cut) a.top a.front (block_of c.args.info payload) laid.told c.self.invariant.topped t.small blocks addrs (omega arith) laid1 in
+    whole_set raw c.trim.new.space n i a.load _ a.front a.top (info_len c.args.info) (block_of c.args.info payload) laid.told c.self.invariant.loaded t.small blocks tells.len laid1 (omega arith) topped (omega arith)
 
 pub returns : goal.returns
 returns c =

@@ -38,7 +38,7 @@ invariant_of-self c =
     let loaded = c.self.invariant.loaded in
     let now = ap load (listed-take (block_in a.space) a.count i (omega arith)) in
     let fits = c.self.invariant.fits in
-    record { laid = laid_settled a.space i a.front c.settle-self-inside.result laid1 c.settle-self-inside.ensures.value; loaded = omega arith; fits = omega arith }
+    record { laid = laid_settled a.space i a.front c.settle-self-inside.result laid1 c.settle-self-inside.ensures.value; loaded = omega arith; topped = c.top_of-self-inside.ensures; fits = omega arith }
 
 pub returns : goal.returns
 returns c =
@@ -54,3 +54,12 @@ returns c =
       addrs = addrs;
       front = c.settle-self-inside.ensures.value ∙ (λ j. settled ((ap (λ (s : Contents). s.front) c.self.view_is) j) (addrs j));
     }
+
+pub top_of-self-inside-requires : goal.top_of-self-inside-requires
+top_of-self-inside-requires c =
+    let a = c.self.inside in
+    let n = numbers a c.args.self.now c.self.invariant c.self.view_is in
+    let count = n.count in
+    let within = c.requires in
+    let laid = laid_first a.space a.count c.args.at a.front c.self.invariant.laid (omega arith) in
+    record { sound = laid.sound; told = laid.told; small = laid.most }
