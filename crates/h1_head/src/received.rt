@@ -13,12 +13,10 @@ ghost use Rattle.h1_head.specs.Spans.{span_parts, response_span_parts, AreSpansG
 
 use crate::names::{NameClass, class_of, is_lasting};
 use crate::survey::has_value;
+use http_model::MAX_NAME;
 use httparse::spans::{HeaderSpan, RequestSpans, ResponseSpans};
 use htx_arena::{Arena, Full, Kind};
 use px_bytes::{fold, write_decimal};
-
-/// The most bytes of a field's name.
-pub const MAX_NAME: usize = 255;
 
 /// Whether some element of Connection is this word.
 fn has_option(text: &[u8], fields: &[HeaderSpan], word: &[u8]) -> bool

@@ -1,6 +1,7 @@
 //! What a window says of the response head that a stream begins with.
 ghost use Rattle.std.specs.Prelude.{◌≡◌, ◌≢◌, ◌≤◌, ◌<◌, ◌+◌, ◌++◌, ◌∷◌, [], ◌↔◌, length, drop, Err, IsTrue, IfOk, IfErr, OnErr, ◌||◌, if◌then◌else◌};
 ghost use Rattle.http_model.specs.Reading.{Refused};
+ghost use Rattle.http_model.specs.Sizes.{least_size, most_size, least_head};
 ghost use Rattle.h1_head.specs.Answers.{IfMore, IfHead, IfRefuse, UnlessHead, Keeps, IsKept};
 ghost use Rattle.h1_head.specs.Kind.{response_heads};
 ghost use Rattle.h1_head.specs.Response.{ResponseOf};
@@ -132,9 +133,9 @@ pub fn read_response(
     limits: Limits,
     to: &mut Arena,
 ) -> HeadRead
-    requires least { 1024 ≤ limits.bufsize }
-    requires most { limits.bufsize ≤ 262144 }
-    requires reserve { limits.maxrewrite + 512 ≤ limits.bufsize }
+    requires least { least_size ≤ limits.bufsize }
+    requires most { limits.bufsize ≤ most_size }
+    requires reserve { limits.maxrewrite + least_head ≤ limits.bufsize }
     requires window { length window.now ≤ limits.bufsize }
     requires empty { to.old.blocks ≡ [] }
     requires size { to.old.size ≡ limits.bufsize }

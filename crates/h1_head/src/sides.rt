@@ -1,6 +1,7 @@
 //! The head of either side.
 ghost use Rattle.std.specs.Prelude.{◌≡◌, ◌≤◌, ◌+◌, ◌++◌, [], length, drop};
 ghost use Rattle.http_model.specs.Reading.{Refused};
+ghost use Rattle.http_model.specs.Sizes.{least_size, most_size, least_head};
 ghost use Rattle.h1_head.specs.Answers.{IfMore, IfHead, IfRefuse, UnlessHead, Keeps};
 ghost use Rattle.h1_head.specs.Sides.{kind_of};
 ghost use Rattle.h1_head.specs.Stream.{behind, HeadOf};
@@ -12,9 +13,9 @@ use htx_arena::Arena;
 
 /// Reads the head at the front of the window of a client's stream or of a server's.
 pub fn read_head(window: &[u8], whole: bool, side: Side, limits: Limits, to: &mut Arena) -> HeadRead
-    requires least { 1024 ≤ limits.bufsize }
-    requires most { limits.bufsize ≤ 262144 }
-    requires reserve { limits.maxrewrite + 512 ≤ limits.bufsize }
+    requires least { least_size ≤ limits.bufsize }
+    requires most { limits.bufsize ≤ most_size }
+    requires reserve { limits.maxrewrite + least_head ≤ limits.bufsize }
     requires window { length window.now ≤ limits.bufsize }
     requires empty { to.old.blocks ≡ [] }
     requires size { to.old.size ≡ limits.bufsize }

@@ -4,6 +4,13 @@ use Rattle.std.specs.List.{list_all}
 use Rattle.std.specs.Char.{is_ascii_digit, is_ascii_hexdigit}
 use Rattle.std.specs.Str.Parse.{digits_value}
 
+-- the most digits that are read as a number of 64 bits
+abbrev pub most_decimal_digits : ℕ
+most_decimal_digits = 18
+
+abbrev pub most_hex_digits : ℕ
+most_hex_digits = 16
+
 -- 1 to so many bytes, each of which passes the test
 abbrev pub has_digits : (ℕ → Bool) → ℕ → List ℕ → Bool
 has_digits is_digit digits bytes =

@@ -16,12 +16,7 @@ pub(crate) fn blanks_in_front(bytes: &[u8]) -> usize
     ensures count { result ≡ prefix_len is_blank bytes.now }
     ensures within { result ≤ length bytes.now }
 {
-    for (i, byte) in bytes.iter().enumerate() {
-        if !is_blank(*byte) {
-            return i;
-        }
-    }
-    bytes.len()
+    bytes.iter().take_while(|byte| is_blank(**byte)).count()
 }
 
 /// The bytes without the blanks at their end.

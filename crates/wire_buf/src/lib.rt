@@ -1,7 +1,7 @@
 //! A window of bytes: what has come from a stream and is not used yet.
 #![tactic(auto)]
 
-ghost use Rattle.std.specs.Prelude.{◌≡◌, ◌≤◌, ◌<◌, ◌+◌, ◌-◌, ◌++◌, [], length, take, drop, min, IfOk, List, ℕ};
+ghost use Rattle.std.specs.Prelude.{◌≡◌, ◌≤◌, ◌<◌, ◌+◌, ◌-◌, ◌^◌, ◌++◌, [], length, take, drop, min, IfOk, List, ℕ};
 
 use circular_buffer::HeapCircularBuffer;
 use htx_model::OutOfMemory;
@@ -83,6 +83,7 @@ impl Window {
     pub fn len(&self) -> usize
         ensures len { result ≡ length self.now.items }
         ensures within { result ≤ self.now.capacity }
+        ensures small { self.now.capacity < 2 ^ 32 }
     {
         self.ring.len()
     }
