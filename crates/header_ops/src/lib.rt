@@ -4,6 +4,7 @@
 
 mod edits;
 mod framing;
+mod fulls;
 pub mod laws;
 mod matching;
 mod names;
@@ -13,6 +14,7 @@ mod tests;
 mod values;
 
 pub use edits::{add_field, set_field};
+pub use fulls::{count_fulls, nth_full};
 pub use matching::NameMatch;
 pub use names::has_named;
 pub use remove::{remove_framing, remove_named, remove_where};

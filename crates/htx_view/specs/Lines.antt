@@ -13,6 +13,11 @@ abbrev pub request_in : List Block → Option (List ℕ × List ℕ × List ℕ)
 request_in (RequestLine method target version ∷ blocks) = Some (method, target, version)
 request_in blocks = None
 
+-- version, status and reason, where the first block is a response line
+abbrev pub response_in : List Block → Option (List ℕ × List ℕ × List ℕ)
+response_in (ResponseLine version status reason ∷ blocks) = Some (version, status, reason)
+response_in blocks = None
+
 -- the number that three digits write (RFC 9110 section 15); any other text is no status code, and is counted as 0
 abbrev pub status_number : List ℕ → ℕ
 status_number text = if length text == 3 then unwrap_or (decimal_of 3 text) 0 else 0

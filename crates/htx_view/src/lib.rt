@@ -8,4 +8,4 @@ mod lines;
 mod tests;
 
 pub use fields::first_value;
-pub use lines::{request_parts, status_of};
+pub use lines::{request_parts, response_parts, status_of};

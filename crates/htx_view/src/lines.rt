@@ -2,7 +2,7 @@
 ghost use Rattle.std.specs.Prelude.{◌≡◌, ◌≢◌, ◌<◌, ◌∷◌, ℕ, List, length, option_map, Some, None, IfSome};
 ghost use Rattle.htx_arena.specs.Block.{Block, ResponseLine};
 ghost use Rattle.px_bytes.specs.Numbers.{decimal_of};
-ghost use Rattle.htx_view.specs.Lines.{shown, request_in, status_in, status_number};
+ghost use Rattle.htx_view.specs.Lines.{shown, request_in, response_in, status_in, status_number};
 
 use htx_arena::{Arena, Kind, Line};
 use px_bytes::read_decimal;
@@ -17,6 +17,20 @@ pub fn request_parts(msg: &Arena) -> Option<Line<'_>>
     }
     match msg.kind(0) {
         Kind::RequestLine => Some(msg.line(0)),
+        _ => None,
+    }
+}
+
+/// The version, the status text and the reason of a response. `None` where the first block isn't a response line.
+#[tactic(auto, using(crate::proofs::FirstLines::first_lines))]
+pub fn response_parts(msg: &Arena) -> Option<Line<'_>>
+    ensures { option_map shown result ≡ response_in msg.now.blocks }
+{
+    if msg.len() == 0 {
+        return None;
+    }
+    match msg.kind(0) {
+        Kind::ResponseLine => Some(msg.line(0)),
         _ => None,
     }
 }

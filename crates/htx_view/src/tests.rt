@@ -1,6 +1,6 @@
 //! Each call once, on small messages.
 
-use crate::{first_value, request_parts, status_of};
+use crate::{first_value, request_parts, response_parts, status_of};
 use htx_arena::{Arena, Kind};
 use std::test::Fail;
 
@@ -13,6 +13,7 @@ fn reads_a_message(rt: HostRuntime) -> Result<(), Fail> {
     );
     assert_eq!(rt; msg.insert_field(1, Kind::Header, b"X-A", b"one"), Ok(()));
     assert!(rt; request_parts(&msg).is_none());
+    assert!(rt; response_parts(&msg).is_some());
     assert_eq!(rt; status_of(&msg), Some(304));
     assert_eq!(rt; first_value(&msg, b"x-a").ok_or("none")?, b"one".as_slice());
     Ok(())
