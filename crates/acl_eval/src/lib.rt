@@ -3,6 +3,12 @@
 #![tactic(auto)]
 
 mod condition;
+mod evaluation;
+mod literal;
+mod matching;
+#[cfg(test)]
+mod tests;
 
 pub use condition::{Cond, GroupList, Match, Term, TermList, Test, TestList, TestValue, ValueList};
+pub use evaluation::holds;
 pub use px_expr::{Buf, Env, Expr, OutOfMemory, Pat, Searchers, Text};

@@ -11,9 +11,9 @@ use Rattle.http_model.specs.Finish.{finish_request, framing_names, close_field}
 use Rattle.htx_arena.specs.declared.arena.Full.{Full}
 use Rattle.header_ops.specs.Headers.{with_header, without_framing, HasEnd}
 use Rattle.http_rules.specs.declared.config.Config.{Config}
-use Rattle.session_model.specs.Meaning.{Pass}
+use Rattle.session_model.specs.Env.{Env, Pass}
 use Rattle.forward_core.specs.Texts.{finished_blocks}
-use Rattle.forward_core.specs.Asked.{ruled, Asked, sent_head, sent_fits}
+use Rattle.forward_core.specs.Ruled.{ruled, IsRuled, IsSent, sent_head, sent_fits}
 
 -- the finished blocks of a head are those of the finished head
 pub finished_head : ((h : Head) → without_framing (head_blocks h) ≡ head_blocks (record h { fields = without_each framing_names h.fields }))
@@ -28,18 +28,24 @@ pub head_ends : (blocks : List Block) (h : Head) → ((k : Head) → HasEnd (hea
 head_ends blocks h ends is = subst HasEnd (sym is) (ends h)
 
 -- what the finish makes of the blocks that the rules left
-pub asked : {T : Type 0} (cfg : Config) (head edited : Head) (left new : List Block) (result : Result T Full)
+pub asked : {T : Type 0} (cfg : Config) (head : Head) (left : Env (Unit {0})) (old new : List Block) (result : Result T Full)
     → ((h : Head) → finished_blocks (head_blocks h) ≡ head_blocks (finish_request h Absent))
-    → ruled cfg head ≡ Pass edited (tt {0}) → left ≡ head_blocks edited
-    → OnOk result (new ≡ finished_blocks left) → (IsOk result ↔ Fits (finished_blocks left) cfg.limits.bufsize) → Asked cfg head new result
-asked cfg head edited left new (Ok done) finish rules is made fits =
-    let same : finished_blocks left ≡ head_blocks (sent_head edited) = ap finished_blocks is ∙ finish edited in
-    (edited, rules, le-leb (load (head_blocks (sent_head edited))) cfg.limits.bufsize (subst (λ (bs : List Block). load bs ≤ cfg.limits.bufsize) same (fits.0 refl)), made ∙ same)
-asked cfg head edited left new (Err full) finish rules is made fits = inr (edited, rules, by (sent_fits cfg edited) refl)
+    → ruled cfg head ≡ Pass left → old ≡ head_blocks left.head
+    → OnOk result (new ≡ finished_blocks old) → (IsOk result ↔ Fits (finished_blocks old) cfg.limits.bufsize) → IsRuled cfg head new result
+asked cfg head left old new (Ok done) finish rules is made fits =
+    let same : finished_blocks old ≡ head_blocks (sent_head left.head) = ap finished_blocks is ∙ finish left.head in (
+      left,
+      record {
+        passes = rules;
+        fits = le-leb (load (head_blocks (sent_head left.head))) cfg.limits.bufsize (subst (λ (bs : List Block). load bs ≤ cfg.limits.bufsize) same (fits.0 refl));
+      },
+      made ∙ same,
+    )
+asked cfg head left old new (Err full) finish rules is made fits = inr (left, rules, by (sent_fits cfg left.head) refl)
   where
-    by : (b : Bool) → sent_fits cfg edited ≡ b → b ≡ false
+    by : (b : Bool) → sent_fits cfg left.head ≡ b → b ≡ false
     by false e = refl
     by true e =
-        let same : finished_blocks left ≡ head_blocks (sent_head edited) = ap finished_blocks is ∙ finish edited in
-        let within : load (head_blocks (sent_head edited)) ≤ cfg.limits.bufsize = leb-true (load (head_blocks (sent_head edited))) cfg.limits.bufsize e in
+        let same : finished_blocks old ≡ head_blocks (sent_head left.head) = ap finished_blocks is ∙ finish left.head in
+        let within : load (head_blocks (sent_head left.head)) ≤ cfg.limits.bufsize = leb-true (load (head_blocks (sent_head left.head))) cfg.limits.bufsize e in
         let bad : false ≡ true = fits.1 (subst (λ (bs : List Block). load bs ≤ cfg.limits.bufsize) (sym same) within) in sym bad

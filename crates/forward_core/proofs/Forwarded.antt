@@ -17,40 +17,53 @@ use Rattle.http_model.specs.Reading as reading
 use Rattle.h1_head.specs.Request.{RequestOf}
 use Rattle.http_rules.specs.declared.config.Config.{Config}
 use Rattle.session_model.specs.Stream.{Open}
-use Rattle.session_model.specs.Meaning.{keeps, is_http_11, method_of, Pass}
-use Rattle.session_model.specs.Asking.{Asker, Request, Refused, Sends, Asks, asker_of}
-use Rattle.session_model.specs.Answering.{Answers, AnswersWith}
-use Rattle.session_model.specs.Session.{Session, Over, Next, ClientGets}
+use Rattle.session_model.specs.Env.{Env, Edited, method_of}
+use Rattle.session_model.specs.Meaning.{keeps, is_http_11}
+use Rattle.session_model.specs.Asking.{Asker, Forwarded, Request, Refused, Sends, Asks, asker_of}
+use Rattle.session_model.specs.Amending.{refusal_sent}
+use Rattle.session_model.specs.Answering.{Answers, AnswersAmended}
+use Rattle.session_model.specs.Session.{Session, Exchange, Over, Next, ClientGets, Serves, ServesOpen}
 use Rattle.forward_core.specs.Texts.{answer_text}
 use Rattle.forward_core.specs.Client.{plain_received, IsPlainHead}
-use Rattle.forward_core.specs.Asked.{ruled, sent_head}
+use Rattle.forward_core.specs.Ruled.{IsSent, sent_head}
+use Rattle.forward_core.proofs.Small.{IsSmall, sent_as_is}
 use Rattle.forward_core.specs.First.{meaning_of, first_response, first_received, closed}
 
 -- ---- a refusal
 
 -- a client whose request is refused, with no server
-pub refused : (cfg : Config) (client : List ℕ) (code : ℕ) (text : List ℕ) → Asks (meaning_of cfg) tt (closed client) (Refused code false)
-    → Spells true false (closing (refusal code)) text
-    → Session (meaning_of cfg) tt (closed client) [] (record { exchanges = 1; how = end.Closed; cut = None; client = record { bytes = text; close = Clean }; servers = [] })
-refused cfg client code text asks spelled =
+pub refused : (cfg : Config) (client : List ℕ) (code : ℕ) (method : List ℕ) (vars : Unit {0}) (text : List ℕ) → 1024 ≤ cfg.limits.bufsize → IsSmall code
+    → Asks (meaning_of cfg) tt (closed client) (Refused code false method vars) → Spells true false (closing (refusal code)) text
+    → Session (meaning_of cfg) (closed client) [] (record { exchanges = 1; how = end.Closed; cut = None; client = record { bytes = text; close = Clean }; servers = [] })
+refused cfg client code method vars text size small asks spelled =
+    let sent : Spells true false (refusal_sent (meaning_of cfg) code method tt) text = subst (λ (m : Message). Spells true false m text) (sym (sent_as_is cfg code method size small)) spelled in
     record {
       exchanges = record { connects = []; client = text; bit = None; after = Over end.Closed } ∷ [];
-      follow = (Refused code false, [], asks, (refl, record { refused = text; spelled = spelled; exchange = refl }), (refl, refl, refl));
+      follow = (Refused code false method vars, [], asks, (refl, record { said = text; spelled = sent; exchange = refl }), (refl, refl, refl));
       comes_to = ap (λ (t : List ℕ). record { exchanges = 1; how = end.Closed; cut = None; client = record { bytes = t; close = Clean }; servers = [] }) (sym (append-nil text));
     }
 
 -- ---- a request that is sent
 
 -- the request as it goes to the server, behind which the client's bytes end
-abbrev pub sent_request : Head → Asker → Request (Unit {0})
-sent_request edited asker =
+abbrev pub sent_request : Env (Unit {0}) → Asker → Request (Unit {0})
+sent_request left asker =
     record {
-      message = record { head = sent_head edited; framing = Absent; body = []; trailers = [] };
+      message = record { head = sent_head left.head; framing = Absent; body = []; trailers = [] };
       cut = None;
       asker = asker;
       rest = closed [];
-      vars = tt;
+      vars = left.vars;
     }
+
+-- the head that goes to the server
+abbrev pub sent_on : Head → Env (Unit {0}) → Forwarded (Unit {0})
+sent_on head left = record { received = plain_received head; head = left.head; vars = left.vars; rest = closed [] }
+
+-- the exchange: the server's text, and the client's
+abbrev pub one_exchange : (text answer : List ℕ) → Exchange (Unit {0})
+one_exchange text answer =
+    record { connects = Some (record { bytes = text; close = Clean }) ∷ []; client = answer; bit = None; after = Next (closed []) tt }
 
 -- who asks by a GET of HTTP/1.1 and keeps the connection
 abbrev pub good_asker : List ℕ → Asker
@@ -90,19 +103,19 @@ answer_fits cfg n body few size =
     (omega (arith, length-decimal-le 6 n (lit< tt) (omega arith) (omega arith)))
 
 -- the client of a request of the first form gets the answer of the first form
-pub client_gets : (cfg : Config) (edited : Head) (method server answer body : List ℕ) → 1024 ≤ cfg.limits.bufsize → length body ≤ 65536
+client_gets : (cfg : Config) (left : Env (Unit {0})) (method server answer body : List ℕ) → 1024 ≤ cfg.limits.bufsize → length body ≤ 65536
     → server ≡ first_response (length body) ++ body → answer ≡ answer_text (length body) body
-    → ClientGets (meaning_of cfg) (sent_request edited (good_asker method)) true (closed server) answer (Next (closed []) tt)
-client_gets cfg edited method server answer body size few gives is =
+    → ClientGets (meaning_of cfg) (sent_request left (good_asker method)) true (closed server) answer (Next (closed []) tt)
+client_gets cfg left method server answer body size few gives is =
     record {
-      answered = record { interim = []; final = Answers (answer_message (length body) body) false; vars = tt };
+      answered = record { interim = []; final = Answers (answer_message (length body) body) false tt };
       answers = record {
         heads = [];
         interim = refl;
         final = (
           reading.Begins (first_received (length body)) body,
           (length body, body, gives, refl),
-          (refl, (answers_with, refl)),
+          (refl, answers_amended),
         );
       };
       final = answer;
@@ -111,54 +124,54 @@ client_gets cfg edited method server answer body size few gives is =
       goes_on = refl;
     }
   where
-    answers_with : AnswersWith (meaning_of cfg) (good_asker method) (first_received (length body)) (first_received (length body)).head (closed body) (Answers (answer_message (length body) body) false)
-    answers_with =
+    answers_amended : AnswersAmended (meaning_of cfg) (good_asker method) (first_received (length body)) (closed body) (Edited (first_received (length body)).head tt) (Answers (answer_message (length body) body) false tt)
+    answers_amended =
         rw (answer_fits cfg (length body) body few size)
         (reading.Whole body [] [], inl (body, [], sym (append-nil body), refl, refl), refl)
 
 -- a request of the first form is asked for
-pub asks_for : (cfg : Config) (client : List ℕ) (head edited : Head) (asker : Asker) → RequestOf cfg.limits client (reading.Begins (plain_received head) [])
-    → ruled cfg head ≡ Pass edited tt
-    → nat_le (load (head_blocks (sent_head edited))) cfg.limits.bufsize ≡ true
-    → asker_of (plain_received head) edited ≡ asker
-    → Asks (meaning_of cfg) tt (closed client) (Sends (sent_request edited asker))
-asks_for cfg client head edited asker reads rule fits is =
+asks_for : (cfg : Config) (client : List ℕ) (head : Head) (left : Env (Unit {0})) → RequestOf cfg.limits client (reading.Begins (plain_received head) [])
+    → IsSent cfg head left → Asks (meaning_of cfg) tt (closed client) (Sends (sent_on head left))
+asks_for cfg client head left reads sent =
     record {
       head = reading.Begins (plain_received head) [];
       reads = reads;
-      asks = rw rule (rw fits (reading.Whole [] [] [], refl, ap (λ (a : Asker). Sends (sent_request edited a)) (sym is)));
+      asks = rw sent.passes (rw sent.fits refl);
     }
 
--- the session of a request of the first form, whose server gives an answer of the first form
-pub forwarded : (cfg : Config) (client server text answer body : List ℕ) (head edited : Head) → RequestOf cfg.limits client (reading.Begins (plain_received head) [])
-    → IsPlainHead head → ruled cfg head ≡ Pass edited tt
-    → nat_le (load (head_blocks (sent_head edited))) cfg.limits.bufsize ≡ true
-    → 1024 ≤ cfg.limits.bufsize → text ≡ head_text (sent_head edited)
-    → length body ≤ 65536 → server ≡ first_response (length body) ++ body → answer ≡ answer_text (length body) body
-    → Session (meaning_of cfg) tt (closed client) (Open (closed server) false ∷ [])
-    (record { exchanges = 1; how = end.Done; cut = None; client = record { bytes = answer; close = Clean }; servers = Some (record { bytes = text; close = Clean }) ∷ [] })
-forwarded cfg client server text answer body head edited reads plain rule fits size is few gives answers =
-    let method : List ℕ = method_of edited.line in
-    let request : Request (Unit {0}) = sent_request edited (good_asker method) in
+-- the exchange of a request that is sent and answered
+serves : (cfg : Config) (text answer server body : List ℕ) (head : Head) (left : Env (Unit {0})) → IsPlainHead head → 1024 ≤ cfg.limits.bufsize
+    → text ≡ head_text (sent_head left.head) → length body ≤ 65536 → server ≡ first_response (length body) ++ body → answer ≡ answer_text (length body) body
+    → ServesOpen (meaning_of cfg) (sent_on head left) (closed server) false (one_exchange text answer)
+serves cfg text answer server body head left plain size is few gives answers = (
+  reading.Whole [] [] [],
+  refl,
+  subst (λ (a : Asker). Serves (meaning_of cfg) (sent_request left a) (closed server) false (one_exchange text answer)) (sym (asker_is head left.head plain)) (
     record {
-      exchanges = record { connects = Some (record { bytes = text; close = Clean }) ∷ []; client = answer; bit = None; after = Next (closed []) tt } ∷ [];
+      text = text;
+      taken = text;
+      spelled = record { body = []; spelled = is ∙ sym (append-nil (head_text (sent_head left.head))); spells_body = refl };
+      takes = refl;
+      connected = refl;
+    },
+    client_gets cfg left (method_of left.head.line) server answer body size few gives answers,
+  ),
+)
+
+-- the session of a request of the first form, whose server gives an answer of the first form
+pub forwarded : (cfg : Config) (client server text answer body : List ℕ) (head : Head) (left : Env (Unit {0})) → RequestOf cfg.limits client (reading.Begins (plain_received head) [])
+    → IsPlainHead head → IsSent cfg head left → 1024 ≤ cfg.limits.bufsize → text ≡ head_text (sent_head left.head)
+    → length body ≤ 65536 → server ≡ first_response (length body) ++ body → answer ≡ answer_text (length body) body
+    → Session (meaning_of cfg) (closed client) (Open (closed server) false ∷ [])
+    (record { exchanges = 1; how = end.Done; cut = None; client = record { bytes = answer; close = Clean }; servers = Some (record { bytes = text; close = Clean }) ∷ [] })
+forwarded cfg client server text answer body head left reads plain sent size is few gives answers =
+    record {
+      exchanges = one_exchange text answer ∷ [];
       follow = (
-        Sends request,
+        Sends (sent_on head left),
         [],
-        asks_for cfg client head edited (good_asker method) reads rule fits (asker_is head edited plain),
-        (
-          refl,
-          (
-            record {
-              text = text;
-              taken = text;
-              spelled = record { body = []; spelled = is ∙ sym (append-nil (head_text (sent_head edited))); spells_body = refl };
-              takes = refl;
-              connected = refl;
-            },
-            client_gets cfg edited method server answer body size few gives answers,
-          ),
-        ),
+        asks_for cfg client head left reads sent,
+        (refl, serves cfg text answer server body head left plain size is few gives answers),
         (record { head = reading.Nothing; reads = refl; asks = refl }, refl, refl),
       );
       comes_to = ap (λ (t : List ℕ). record { exchanges = 1; how = end.Done; cut = None; client = record { bytes = t; close = Clean }; servers = Some (record { bytes = text; close = Clean }) ∷ [] }) (sym (append-nil answer));

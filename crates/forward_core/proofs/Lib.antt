@@ -4,4 +4,5 @@ pub mod Plains
 pub mod Asks
 pub mod Clients
 pub mod Windows
+pub mod Small
 pub mod Sessions

@@ -16,7 +16,7 @@ use Rattle.http_model.specs.Reading.{Received}
 use Rattle.h1_head.specs.declared.answer.HeadWhy.{HeadWhy}
 use Rattle.h1_head.specs.declared.answer.HeadWhy.TheVariants as why
 use Rattle.h1_head.specs.Names.{steering_names}
-use Rattle.h1_head.specs.Rows.{Parts, received, received_head, folded, is_kept, has_option, one_length, framing_by, elements_named, decision, unless_refused, refusal_of, is_heavy}
+use Rattle.h1_head.specs.Rows.{Parts, received, received_head, folded, is_kept, has_option, one_length, framing_by, elements_named, decision, decided, unless_refused, refusal_of, is_heavy}
 use Rattle.h1_head.specs.Plain.{is_plain}
 use Rattle.px_bytes.specs.Values.{values_in}
 use Rattle.session_model.specs.Meaning.{is_http_11}
@@ -134,7 +134,7 @@ plain_head p h =
 -- a decision that keeps a plain head
 pub plain_decision : (limits : Limits) (p : Parts) (got : Received) → is_plain p ≡ true → decision limits p ≡ Ok got
     → (got ≡ plain_received got.head) × IsPlainHead got.head
-unfolding decision
+unfolding decided
 plain_decision limits p got plain h = by (refusal_of p) (is_heavy limits p) h
   where
     by : (refusal : Option HeadWhy) (heavy : Bool) → unless_refused refusal (cond heavy (Err why.Receive) (Ok (received p))) ≡ Ok got → (got ≡ plain_received got.head) × IsPlainHead got.head

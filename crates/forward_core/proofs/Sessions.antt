@@ -1,5 +1,5 @@
 -- What one exchange puts out, as a session.
-use Rattle.std.proofs.Common.{◌≡◌, ℕ, ◌≤◌, List, [], ◌∷◌, ◌++◌, ◌⊎◌, inl, inr, Bool, true, false, refl, sym, ap, ◌∙◌, subst, append_assoc}
+use Rattle.std.proofs.Common.{◌≡◌, ℕ, ◌≤◌, List, [], ◌∷◌, ◌++◌, inl, inr, Bool, true, false, refl, sym, ap, ◌∙◌, subst, append_assoc}
 use Rattle.std.specs.Prelude.{codes, map, Option, Some, None}
 use Rattle.std.proofs.lemmas.List.{append-nil}
 use Rattle.http_model.specs.declared.Close.TheVariants.{Clean}
@@ -14,16 +14,17 @@ use Rattle.http_model.specs.Reading.{Begins}
 use Rattle.http_model.specs.Reading as reading
 use Rattle.h1_head.specs.Request.{RequestOf}
 use Rattle.http_rules.specs.declared.config.Config.{Config}
-use Rattle.session_model.specs.Meaning.{Pass, Fail}
+use Rattle.session_model.specs.Env.{Env, method_of, method_in}
 use Rattle.session_model.specs.Asking.{Asks, Refused}
 use Rattle.session_model.specs.Session.{Session, Out}
 use Rattle.forward_core.specs.First.{meaning_of, IsFirstServer, closed}
-use Rattle.forward_core.specs.Asked.{ruled, sent_head, sent_fits}
+use Rattle.forward_core.specs.Ruled.{IsSent, IsUnsent, sent_head}
 use Rattle.forward_core.specs.Client.{plain_received, IsPlainHead, ReadsPlain}
 use Rattle.forward_core.specs.Texts.{blocks_text}
 use Rattle.forward_core.specs.Out.{servers_by, sent_by, out_of_one, IsRefused, IsForwarded}
 use Rattle.forward_core.specs.declared.exchange.One.{One}
 use Rattle.forward_core.proofs.Forwarded.{refused, forwarded}
+use Rattle.forward_core.proofs.Small.{IsSmall, small_500, small_head}
 
 -- ---- the text of a head's blocks
 
@@ -41,17 +42,26 @@ text_of_blocks h = by_line h.line
 -- ---- what is asked
 
 -- a refused head is a refusal
-pub asks_refused : (cfg : Config) (client : List ℕ) (code : ℕ) → RequestOf cfg.limits client (reading.Refused code) → Asks (meaning_of cfg) tt (closed client) (Refused code false)
+pub asks_refused : (cfg : Config) (client : List ℕ) (code : ℕ) → RequestOf cfg.limits client (reading.Refused code) → Asks (meaning_of cfg) tt (closed client) (Refused code false [] tt)
 asks_refused cfg client code reads = record { head = reading.Refused code; reads = reads; asks = refl }
 
--- a rule that fails, and a finished head that doesn't fit, are the refusal 500
-pub asks_fails : (cfg : Config) (client : List ℕ) (head : Head) → RequestOf cfg.limits client (Begins (plain_received head) []) → IsPlainHead head
-    → (ruled cfg head ≡ Fail) ⊎ ((edited : Head) × (ruled cfg head ≡ Pass edited tt) × (sent_fits cfg edited ≡ false))
-    → Asks (meaning_of cfg) tt (closed client) (Refused 500 false)
-asks_fails cfg client head reads plain (inl fails) =
-    record { head = Begins (plain_received head) []; reads = reads; asks = rw fails (ap (λ (b : Bool). Refused 500 b) (sym plain.not_head)) }
-asks_fails cfg client head reads plain (inr over) =
-    record { head = Begins (plain_received head) []; reads = reads; asks = rw over.1 (rw over.2 (ap (λ (b : Bool). Refused 500 b) (sym plain.not_head))) }
+-- a rule that fails, and a finished head that doesn't fit, are the refusal 500, with the method and the variables of that moment
+pub asks_fails : (cfg : Config) (client : List ℕ) (head : Head) → RequestOf cfg.limits client (Begins (plain_received head) []) → IsPlainHead head → IsUnsent cfg head
+    → (method : List ℕ) × (vars : Unit {0}) × Asks (meaning_of cfg) tt (closed client) (Refused 500 false method vars)
+asks_fails cfg client head reads plain (inl x) = (
+  method_in x.1,
+  x.1.vars,
+  record { head = Begins (plain_received head) []; reads = reads; asks = rw x.2 (ap (λ (b : Bool). Refused 500 b (method_in x.1) x.1.vars) (sym plain.not_head)) },
+)
+asks_fails cfg client head reads plain (inr x) = (
+  method_of x.0.head.line,
+  x.0.vars,
+  record {
+    head = Begins (plain_received head) [];
+    reads = reads;
+    asks = rw x.1 (rw x.2 (ap (λ (b : Bool). Refused 500 b (method_of x.0.head.line) x.0.vars) (sym plain.not_head)));
+  },
+)
 
 -- ---- sessions
 
@@ -63,24 +73,39 @@ out_is one server how is ends =
     ∙ ap (λ (e : End). record { exchanges = 1; how = e; cut = None; client = record { bytes = one.to_client; close = Clean }; servers = sent_by server }) ends)
 
 session_by : (cfg : Config) (client server : List ℕ) (one : One) (text : Option (List ℕ)) (how : End) → one.to_server ≡ text → one.end ≡ how
-    → Session (meaning_of cfg) tt (closed client) (servers_by text server) (record { exchanges = 1; how = how; cut = None; client = record { bytes = one.to_client; close = Clean }; servers = sent_by text })
-    → Session (meaning_of cfg) tt (closed client) (servers_by one.to_server server) (out_of_one one)
+    → Session (meaning_of cfg) (closed client) (servers_by text server) (record { exchanges = 1; how = how; cut = None; client = record { bytes = one.to_client; close = Clean }; servers = sent_by text })
+    → Session (meaning_of cfg) (closed client) (servers_by one.to_server server) (out_of_one one)
 session_by cfg client server one text how is ends s =
-    subst (λ (t : Option (List ℕ)). Session (meaning_of cfg) tt (closed client) (servers_by t server) (out_of_one one)) (sym is)
-    (subst (λ (o : Out). Session (meaning_of cfg) tt (closed client) (servers_by text server) o) (out_is one text how is ends) s)
+    subst (λ (t : Option (List ℕ)). Session (meaning_of cfg) (closed client) (servers_by t server) (out_of_one one)) (sym is)
+    (subst (λ (o : Out). Session (meaning_of cfg) (closed client) (servers_by text server) o) (out_is one text how is ends) s)
 
 -- a refusal is a session with no server
-pub refused_session : (cfg : Config) (client server : List ℕ) (code : ℕ) (one : One) → Asks (meaning_of cfg) tt (closed client) (Refused code false) → IsRefused code one
-    → Session (meaning_of cfg) tt (closed client) (servers_by one.to_server server) (out_of_one one)
-refused_session cfg client server code one asks r =
-    session_by cfg client server one None end.Closed r.server r.how (refused cfg client code one.to_client asks r.client)
+refused_session : (cfg : Config) (client server : List ℕ) (code : ℕ) (method : List ℕ) (vars : Unit {0}) (one : One) → 1024 ≤ cfg.limits.bufsize → IsSmall code
+    → Asks (meaning_of cfg) tt (closed client) (Refused code false method vars) → IsRefused code one
+    → Session (meaning_of cfg) (closed client) (servers_by one.to_server server) (out_of_one one)
+refused_session cfg client server code method vars one size small asks r =
+    session_by cfg client server one None end.Closed r.server r.how (refused cfg client code method vars one.to_client size small asks r.client)
+
+-- that of a head
+pub head_refused : (cfg : Config) (client server : List ℕ) (code : ℕ) (one : One) → 1024 ≤ cfg.limits.bufsize → RequestOf cfg.limits client (reading.Refused code) → IsRefused code one
+    → Session (meaning_of cfg) (closed client) (servers_by one.to_server server) (out_of_one one)
+head_refused cfg client server code one size reads r =
+    refused_session cfg client server code [] tt one size (small_head cfg.limits client code reads) (asks_refused cfg client code reads) r
+
+-- that of a rule that fails, or of a finished head that doesn't fit
+pub rules_refused : (cfg : Config) (client server : List ℕ) (blocks : List Block) (one : One) → 1024 ≤ cfg.limits.bufsize
+    → (x : ReadsPlain cfg.limits client blocks) → IsUnsent cfg x.head → IsRefused 500 one
+    → Session (meaning_of cfg) (closed client) (servers_by one.to_server server) (out_of_one one)
+rules_refused cfg client server blocks one size x unsent r =
+    let asks = asks_fails cfg client x.head x.reads x.plain unsent in
+    refused_session cfg client server 500 asks.0 asks.1 one size small_500 asks.2 r
 
 -- a request that was sent and answered is a session with one server
 pub forwarded_session : (cfg : Config) (client server : List ℕ) (blocks sent : List Block) (one : One) → 1024 ≤ cfg.limits.bufsize → IsFirstServer server
-    → (x : ReadsPlain cfg.limits client blocks) (edited : Head) → ruled cfg x.head ≡ Pass edited tt → sent_fits cfg edited ≡ true
-    → sent ≡ head_blocks (sent_head edited) → IsForwarded sent server one
-    → Session (meaning_of cfg) tt (closed client) (servers_by one.to_server server) (out_of_one one)
-forwarded_session cfg client server blocks sent one size first x edited rule fits is f =
+    → (x : ReadsPlain cfg.limits client blocks) (left : Env (Unit {0})) → IsSent cfg x.head left
+    → sent ≡ head_blocks (sent_head left.head) → IsForwarded sent server one
+    → Session (meaning_of cfg) (closed client) (servers_by one.to_server server) (out_of_one one)
+forwarded_session cfg client server blocks sent one size first x left goes is f =
     session_by cfg client server one (Some (blocks_text sent)) end.Done f.server f.how
-    (forwarded cfg client server (blocks_text sent) one.to_client first.0 x.head edited x.reads x.plain rule fits size
-    (ap blocks_text is ∙ text_of_blocks (sent_head edited)) first.1 first.2 (f.client first.0 first.2))
+    (forwarded cfg client server (blocks_text sent) one.to_client first.0 x.head left x.reads x.plain goes size
+    (ap blocks_text is ∙ text_of_blocks (sent_head left.head)) first.1 first.2 (f.client first.0 first.2))

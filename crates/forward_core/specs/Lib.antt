@@ -1,13 +1,16 @@
 pub use Rattle.session_model.specs.Stream
+pub use Rattle.session_model.specs.Env
 pub use Rattle.session_model.specs.Meaning
 pub use Rattle.session_model.specs.Asking
+pub use Rattle.session_model.specs.Amending
 pub use Rattle.session_model.specs.Answering
 pub use Rattle.session_model.specs.Session
+pub use Rattle.http_rules.specs.Steps
 pub use Rattle.http_rules.specs.Rules
 pub use Rattle.http_rules.specs.Valid
 pub mod Texts
 pub mod First
 pub mod Unbuilt
-pub mod Asked
+pub mod Ruled
 pub mod Client
 pub mod Out

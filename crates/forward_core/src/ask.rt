@@ -6,7 +6,7 @@ ghost use Rattle.header_ops.specs.Headers.{HasEnd};
 ghost use Rattle.forward_core.specs.Texts.{finished_blocks};
 ghost use Rattle.http_rules.specs.Valid.{IsValid};
 ghost use Rattle.http_rules.specs.Run.{IsHead};
-ghost use Rattle.forward_core.specs.Asked.{Asked};
+ghost use Rattle.forward_core.specs.Ruled.{IsRuled};
 
 use header_ops::laws::edits_of_heads;
 use header_ops::{add_field, remove_framing};
@@ -28,7 +28,7 @@ pub fn ask(cfg: &Config, msg: &mut Arena) -> Result<(), Full>
     requires size { msg.old.size ≡ cfg.now.limits.bufsize }
     requires valid { IsValid cfg.now }
     requires head { IsHead msg.old.blocks }
-    ensures { (head : Head) → msg.old.blocks ≡ head_blocks head → Asked cfg.now head msg.new.blocks result }
+    ensures { (head : Head) → msg.old.blocks ≡ head_blocks head → IsRuled cfg.now head msg.new.blocks result }
 {
     edits_of_heads();
     match run_request(&cfg.request, cfg.limits, msg) {

@@ -83,7 +83,7 @@ pub fn one_exchange(
     requires server { IsFirstServer server.now }
 
     // What is put out is a session of the configuration on the client's stream and the server that was connected.
-    ensures session { IfOk result (λ one. Session (meaning_of cfg.now) tt (closed client.now) (servers_by one.to_server server.now) (out_of_one one)) }
+    ensures session { IfOk result (λ one. Session (meaning_of cfg.now) (closed client.now) (servers_by one.to_server server.now) (out_of_one one)) }
 
     // Every client is served but for those that are named.
     ensures served { OnOk result (IsUnbuilt cfg.now.limits client.now → ⊥) }

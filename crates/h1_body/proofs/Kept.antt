@@ -10,9 +10,9 @@ use Rattle.httparse.specs.Grammar as grammar
 use Rattle.httparse.specs.Grammar.{LineEnd, IsField, print_section}
 use Rattle.httparse.specs.Spans.{IsSectionOf, IsSectionAt, header_bytes, span_bytes, name_and_value}
 use Rattle.httparse.proofs.GrammarLemmas.{section_unique}
-use Rattle.http_model.specs.Head.{Field}
+use Rattle.http_model.specs.Head.{Field, ended_trailers}
 use Rattle.h1_body.specs.Section.{HasShortName, BeginsFields, HasTrailers, trailers_of}
-use Rattle.h1_body.specs.Trailers.{HasGoodName, ended_trailers, kept_blocks, trailer_blocks}
+use Rattle.h1_body.specs.Trailers.{HasGoodName, kept_blocks, trailer_blocks}
 use Rattle.h1_body.proofs.Sections.{some_section}
 
 pub section_at : (w : List ℕ) (headers : List HeaderSpan) (used count : ℕ) (s : Status (ℕ × ℕ)) → s ≡ Status.Complete (used, count)

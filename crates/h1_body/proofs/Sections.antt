@@ -1,8 +1,8 @@
 -- What the parser of fields says of a section.
-use Rattle.std.proofs.Common.{◌≡◌, ℕ, suc, ◌+◌, ◌<◌, ◌≤◌, List, [], ◌∷◌, ◌++◌, refl, sym, ap, ◌∙◌, arith, length, take, drop, subst, get_or, length-append, length-take, length-drop}
+use Rattle.std.proofs.Common.{inl, inr, ◌≡◌, ℕ, suc, ◌+◌, ◌<◌, ◌≤◌, List, [], ◌∷◌, ◌++◌, refl, sym, ap, ◌∙◌, arith, length, take, drop, subst, get_or, length-append, length-take, length-drop}
 use Rattle.std.specs.Prelude.{map, All, true, false, ◌&&◌}
 use Rattle.std.specs.List.{list_all, flat_map}
-use Rattle.std.proofs.lemmas.Bool.{leb-true, le-leb}
+use Rattle.std.proofs.lemmas.Bool.{leb-true, le-leb, cases_lt}
 use Rattle.std.proofs.lemmas.List.Sums.{AllPass-from_list_all}
 use Rattle.std.proofs.lemmas.List.{length-map, append-nil, get_or-map, take-append-drop, take-append-le}
 use Rattle.std.proofs.Math.Nat.{min-le_right}
@@ -12,6 +12,8 @@ use Rattle.httparse.specs.Grammar as grammar
 use Rattle.httparse.specs.Grammar.{LineEnd, print_end, print_field, print_section, ReadsSection, HasNoSection}
 use Rattle.httparse.specs.Spans.{AreFieldsAt, IsSectionOf, IsSectionAt, SectionOverflows, header_bytes, name_and_value}
 use Rattle.httparse.proofs.GrammarLemmas.{section_unique, ReadsSection-append}
+use Rattle.h1_head.proofs.Heads.{feeds, feeds-append, feeds-print_end, feeds-fields, tail_ends, feeds-before, front_in}
+use Rattle.h1_body.specs.Numbers.{most_trailers, most_lines}
 use Rattle.h1_body.specs.Read.{is_short}
 use Rattle.h1_body.specs.Section.{HasShortName, BeginsSection, IsHopelessSection}
 
@@ -99,6 +101,22 @@ pub overflows : (most : ℕ) (w : List ℕ) → SectionOverflows 64 w → IsHope
 overflows most w over = λ more fields rest b.
     let many : 64 < length fields = over more fields b.begins.last rest b.begins.reads in
     omega (arith, b.begins.few)
+
+-- more lines than a section may have, and none stands there
+pub crowded : (most : ℕ) (w : List ℕ) → HasNoSection w → most_lines ≤ feeds w → IsHopelessSection most w
+crowded most w none full = λ more fields rest b.
+    let p : List ℕ = print_section fields b.begins.last in
+    let each : feeds (flat_map print_field fields) ≡ length fields = feeds-fields fields b.begins.reads.0 in
+    let last : feeds (print_end b.begins.last) ≡ 1 = feeds-print_end b.begins.last in
+    let all : feeds p ≡ feeds (flat_map print_field fields) + feeds (print_end b.begins.last) = feeds-append (flat_map print_field fields) (print_end b.begins.last) in
+    let few : length fields ≤ most_trailers = b.begins.few in
+    let end = tail_ends [] (flat_map print_field fields) b.begins.last in
+    elim (cases_lt (length w) (length p)) [
+      | inr long ↦ none fields b.begins.last (drop (length p) w) (b.begins.reads.0, front_in w more p rest b.begins.reads.1 long)
+      | inl short ↦
+          let fewer : feeds w < feeds p = feeds-before w more p rest end.0 b.begins.reads.1 end.1 short in
+          omega arith
+    ]
 
 -- a front that is as long as the text in front of what follows
 front_of : (w more p rest : List ℕ) → w ++ more ≡ p ++ rest → length p ≤ length w → w ≡ p ++ drop (length p) w

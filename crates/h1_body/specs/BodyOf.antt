@@ -1,5 +1,6 @@
 -- The body that bytes come to (RFC 9112, sections 6.3, 7.1 and 8).
-use Rattle.std.specs.Prelude.{◌≡◌, ℕ, ◌++◌, List, [], Option, Some, None}
+use Rattle.std.specs.Prelude.{◌≡◌, ℕ, ◌++◌, ◌⊎◌, List, [], ⊤, Option, Some, None}
+use Rattle.std.specs.List.{fold}
 use Rattle.httparse.specs.Grammar as grammar
 use Rattle.http_model.specs.declared.Limits.{Limits}
 use Rattle.http_model.specs.declared.Framing.{Framing}
@@ -7,7 +8,7 @@ use Rattle.http_model.specs.declared.Ending.{Ending}
 use Rattle.http_model.specs.declared.Ending.TheVariants as ending
 use Rattle.http_model.specs.Head.{Field}
 use Rattle.http_model.specs.Reading.{BodyReading, Whole, Broke, Bad}
-use Rattle.h1_body.specs.Body.{BodyAt, Left, UntilClose, InLine, InData, AtReturn, AtFeed, InSection, Over, Hopeless, Goes}
+use Rattle.h1_body.specs.Body.{BodyAt, Left, UntilClose, InLine, InData, AtReturn, AtFeed, InSection, Over, Hopeless, step, Goes}
 use Rattle.h1_body.specs.Chunked.{IsChunks}
 use Rattle.h1_body.specs.Section.{section_limit, BeginsSection, HasNoSectionWithin, IsHopelessSection, trailers_of, HasTrailers}
 use Rattle.h1_body.specs.declared.reader.BodyReader.{BodyReader}
@@ -59,6 +60,24 @@ pub record IsBodyOf (limits : Limits) (framing : Framing) (bytes : List ℕ) (en
   pub found : List ℕ
   pub goes : Goes (start_of framing) bytes at found
   pub tells : Tells (section_limit limits) at found ending read
+
+-- where the bytes lead
+abbrev pub place_of : Framing → List ℕ → BodyAt
+place_of framing bytes = fold step (start_of framing) bytes
+
+-- it is known what the place tells: in the place of a section, whether one begins there, and whether one may still come
+abbrev pub IsKnownAt : ℕ → BodyAt → Type 0
+IsKnownAt most (InSection section) =
+    ((fields : List grammar.Field) × (rest : List ℕ) × BeginsSection most section fields rest)
+    ⊎ (HasNoSectionWithin most section × (IsHopelessSection most section ⊎ (¬ (IsHopelessSection most section))))
+IsKnownAt most (Over rest) = ⊤
+IsKnownAt most UntilClose = ⊤
+IsKnownAt most Hopeless = ⊤
+IsKnownAt most (Left left) = ⊤
+IsKnownAt most (InLine place n) = ⊤
+IsKnownAt most (InData left) = ⊤
+IsKnownAt most AtReturn = ⊤
+IsKnownAt most AtFeed = ⊤
 
 -- the reading of a stream that has ended
 abbrev pub BodyOf : Limits → Framing → List ℕ → Ending → BodyReading → Type 0

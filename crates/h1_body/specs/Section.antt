@@ -1,12 +1,16 @@
 -- The trailer section behind the last chunk (RFC 9112, section 7.1.2), and what is kept of its fields.
-use Rattle.std.specs.Prelude.{◌≡◌, ℕ, ◌+◌, ◌/◌, ◌≤◌, ◌⊎◌, List, [], ◌∷◌, ◌++◌, Bool, not, length, map, filter, All, codes}
+use Rattle.std.specs.Prelude.{◌≡◌, ℕ, ◌+◌, ◌/◌, ◌<◌, ◌≤◌, ◌⊎◌, List, [], ◌∷◌, ◌++◌, Bool, not, length, count_by, map, filter, All}
 use Rattle.std.specs.Str.{str_to_ascii_lowercase}
 use Rattle.httparse.specs.Grammar as grammar
-use Rattle.httparse.specs.Grammar.{LineEnd, ReadsSection}
+use Rattle.httparse.specs.Grammar.{LineEnd, ReadsSection, HasNoSection, MayBecomeSection}
 use Rattle.httparse.specs.Spans.{name_and_value}
 use Rattle.http_model.specs.declared.Limits.{Limits}
 use Rattle.http_model.specs.Head.{Field}
 use Rattle.http_model.specs.Fields.{is_named_among}
+use Rattle.http_model.specs.Finish.{own_names}
+use Rattle.http_model.specs.Sizes.{most_name}
+use Rattle.h1_head.specs.Decides.{is_line_feed}
+use Rattle.h1_body.specs.Numbers.{most_trailers, most_lines}
 
 -- the most bytes of a section, with its empty line
 abbrev pub section_limit : Limits → ℕ
@@ -14,13 +18,13 @@ section_limit limits = limits.bufsize / 2
 
 -- a name of at most 255 bytes
 abbrev pub HasShortName : grammar.Field → Type 0
-HasShortName field = length field.name ≤ 255
+HasShortName field = length field.name ≤ most_name
 
 -- the bytes are a section with these fields, at most 64 of them, and then rest
 pub record BeginsFields (bytes : List ℕ) (fields : List grammar.Field) (rest : List ℕ) : Type 0 where
   pub last : LineEnd
   pub reads : ReadsSection bytes fields last rest
-  pub few : length fields ≤ 64
+  pub few : length fields ≤ most_trailers
   pub named : All HasShortName fields
 
 -- the same within so many bytes
@@ -36,14 +40,17 @@ HasNoSectionWithin most bytes = (fields : List grammar.Field) (rest : List ℕ) 
 abbrev pub IsHopelessSection : ℕ → List ℕ → Type 0
 IsHopelessSection most bytes = (more : List ℕ) → HasNoSectionWithin most (bytes ++ more)
 
--- the fields of a section that are dropped: they frame a body or speak of a connection
-abbrev pub dropped_names : List (List ℕ)
-dropped_names =
-    codes "host" ∷ codes "content-length" ∷ codes "transfer-encoding" ∷ codes "connection"
-    ∷ codes "keep-alive" ∷ codes "proxy-connection" ∷ codes "te" ∷ codes "upgrade" ∷ []
+-- Where more of a section may be asked for: none stands in the bytes, they may still become one, and neither the bytes
+-- nor the lines of a section are used up.
+pub record MayComeSection (most : ℕ) (bytes : List ℕ) : Type 0 where
+  pub none : HasNoSection bytes
+  pub begun : MayBecomeSection bytes
+  pub short : length bytes < most
+  pub few : count_by is_line_feed bytes < most_lines
 
+-- a field stays unless it frames a body or speaks of a connection
 abbrev pub is_kept : Field → Bool
-is_kept field = not (is_named_among dropped_names field)
+is_kept field = not (is_named_among own_names field)
 
 -- the name in lower case
 abbrev pub folded : Field → Field

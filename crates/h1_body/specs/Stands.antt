@@ -1,7 +1,6 @@
 -- What a reader stands for.
 use Rattle.std.specs.Prelude.{◌≡◌, ℕ, ◌+◌, ◌<◌, ◌≤◌, ◌⊎◌, Bool, true, false, List, [], ◌∷◌, ◌++◌, length, take, ⊤, Option, Some, None, if◌then◌else◌, ◌==◌, slice_range}
 use Rattle.httparse.specs.Grammar as grammar
-use Rattle.httparse.specs.Grammar.{HasNoSection}
 use Rattle.http_model.specs.declared.Limits.{Limits}
 use Rattle.http_model.specs.declared.Framing.{Framing}
 use Rattle.http_model.specs.declared.Framing.TheVariants as framing
@@ -10,11 +9,13 @@ use Rattle.h1_body.specs.declared.stages.Stage.TheVariants as stage
 use Rattle.h1_body.specs.declared.reader.BodyReader.{BodyReader}
 use Rattle.h1_body.specs.declared.reader.BodyState.{BodyState}
 use Rattle.h1_body.specs.declared.reader.BodyState.TheVariants as state
+use Rattle.h1_body.specs.declared.stages.Found.{Found}
+use Rattle.h1_body.specs.declared.stages.Found.TheVariants as found
 use Rattle.h1_body.specs.declared.stages.Fed.{Fed}
 use Rattle.h1_body.specs.declared.reader.Span.{Span}
 use Rattle.h1_body.specs.declared.line.LinePlace.{LinePlace}
 use Rattle.h1_body.specs.Body.{BodyAt, Left, UntilClose, InLine, InData, AtReturn, AtFeed, InSection, Over, Hopeless, line_start, Goes}
-use Rattle.h1_body.specs.Section.{section_limit, BeginsFields, BeginsSection, IsHopelessSection}
+use Rattle.h1_body.specs.Section.{section_limit, BeginsFields, BeginsSection, IsHopelessSection, MayComeSection}
 
 -- the body that has not begun
 abbrev pub start_of : Framing → BodyAt
@@ -83,26 +84,55 @@ ends_at stage.LineEnd = false
 ends_at stage.Section = false
 
 -- Nothing can be used of the window: data is next, and there is no room or no byte; or a line, an end of line or a
--- section is next, does not stand whole in the window and is not past its limit.
+-- section is next, does not stand whole in the window and may still come.
 abbrev pub WaitsAt : ℕ → Stage → List ℕ → ℕ → Type 0
 WaitsAt most (stage.Left left) window room = (room ≡ 0) ⊎ (length window ≡ 0)
 WaitsAt most stage.UntilClose window room = (room ≡ 0) ⊎ (length window ≡ 0)
 WaitsAt most (stage.Data left) window room = (room ≡ 0) ⊎ (length window ≡ 0)
 WaitsAt most stage.Line window room = (place : LinePlace) × Goes line_start window (InLine place (length window)) []
 WaitsAt most stage.LineEnd window room = (window ≡ []) ⊎ (window ≡ 13 ∷ [])
-WaitsAt most stage.Section window room = HasNoSection window × (length window < most)
+WaitsAt most stage.Section window room = MayComeSection most window
 WaitsAt most stage.Over window room = ⊤
 WaitsAt most stage.Dead window room = ⊤
+
+-- the bytes of data, and those of a section, at the front of what a step used
+abbrev pub data_len : Found → ℕ
+data_len found.Nothing = 0
+data_len (found.Data n) = n
+data_len (found.Section n) = 0
+
+abbrev pub section_len : Found → ℕ
+section_len found.Nothing = 0
+section_len (found.Data n) = 0
+section_len (found.Section n) = n
+
+-- where a section lies, where one was found
+abbrev pub span_of : Found → Option Span
+span_of found.Nothing = None
+span_of (found.Data n) = None
+span_of (found.Section n) = Some (record { from = 0; len = n })
+
+-- P of the bytes of a section, where one was found
+abbrev pub OnSection : Found → (ℕ → Type 0) → Type 0
+OnSection found.Nothing P = ⊤
+OnSection (found.Data n) P = ⊤
+OnSection (found.Section n) P = P n
+
+-- so many bytes at the front of the window are a section within the limits
+pub record IsGiven (most : ℕ) (window : List ℕ) (used n : ℕ) : Type 0 where
+  pub some : 0 < n
+  pub inside : n ≤ used
+  pub short : n ≤ most
+  pub fields : (fields : List grammar.Field) × BeginsFields (take n window) fields []
 
 -- what a stage makes of a window, where a section has at most so many bytes
 pub record Feeds (most : ℕ) (old : Stage) (window : List ℕ) (room : ℕ) (fed : Fed) : Type 0 where
   pub used : fed.used ≤ length window
-  pub piece : (fed.len ≤ room) × (fed.len ≤ fed.used)
-  pub trailers : fed.section ≤ fed.used
-  pub leads : (at : BodyAt) → Stands most old at → (to : BodyAt) × Goes at (take fed.used window) to (take fed.len window) × Stands most fed.stage to
-      × (section_in fed.stage to ≡ section_in old at ++ take fed.section window)
+  pub piece : (data_len fed.found ≤ room) × (data_len fed.found ≤ fed.used)
+  pub leads : (at : BodyAt) → Stands most old at → (to : BodyAt) × Goes at (take fed.used window) to (take (data_len fed.found) window) × Stands most fed.stage to
+      × (section_in fed.stage to ≡ section_in old at ++ take (section_len fed.found) window)
   pub waits : (at : BodyAt) → Stands most old at → fed.used ≡ 0 → WaitsAt most fed.stage window room
-  pub section : 0 < fed.section → (fields : List grammar.Field) × BeginsFields (take fed.section window) fields []
+  pub section : OnSection fed.found (IsGiven most window fed.used)
 
 -- ---- what callers see
 
@@ -119,6 +149,10 @@ pub record HasRead (limits : Limits) (framing : Framing) (bytes found section : 
 -- whether the body is whole, may become whole, or cannot
 abbrev pub state_of : BodyReader → BodyState
 state_of reader = state_at reader.stage
+
+-- the most bytes of a trailer section
+abbrev pub limit_of : BodyReader → ℕ
+limit_of reader = reader.section_limit
 
 -- nothing can be used of the window
 abbrev pub Waits : BodyReader → List ℕ → ℕ → Type 0

@@ -2,17 +2,10 @@
 use Rattle.std.specs.Prelude.{ℕ, ◌≤◌, List, [], ◌∷◌, ◌++◌, length, map}
 use Rattle.httparse.specs.declared.spans.HeaderSpan.{HeaderSpan}
 use Rattle.httparse.specs.Spans.{span_bytes}
-use Rattle.htx_model.specs.Block.{Block, Trailer, EndTrailers}
-use Rattle.http_model.specs.Head.{Field}
+use Rattle.htx_model.specs.Block.{Block}
+use Rattle.http_model.specs.Head.{Field, trailer_block, ended_trailers}
+use Rattle.http_model.specs.Sizes.{most_name}
 use Rattle.h1_body.specs.Section.{kept}
-
-abbrev pub trailer_block : Field → Block
-trailer_block field = Trailer field.0 field.1
-
--- the blocks and the end of trailers behind them; nothing where there is none
-abbrev pub ended_trailers : List Block → List Block
-ended_trailers [] = []
-ended_trailers (block ∷ blocks) = (block ∷ blocks) ++ EndTrailers ∷ []
 
 -- the blocks of these trailers
 abbrev pub trailer_blocks : List Field → List Block
@@ -25,4 +18,4 @@ kept_blocks fields = map trailer_block (kept fields)
 -- the span of a name covers 1 to 255 bytes
 pub record HasGoodName (text : List ℕ) (field : HeaderSpan) : Type 0 where
   pub named : 1 ≤ length (span_bytes text field.name)
-  pub short : length (span_bytes text field.name) ≤ 255
+  pub short : length (span_bytes text field.name) ≤ most_name

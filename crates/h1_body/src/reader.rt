@@ -3,11 +3,12 @@ ghost use Rattle.std.specs.Prelude.{◌≡◌, ◌≤◌, ◌<◌, ◌+◌, ◌+
 ghost use Rattle.httparse.specs.Grammar as grammar;
 ghost use Rattle.http_model.specs.declared.Framing.{Framing};
 ghost use Rattle.http_model.specs.declared.Limits.{Limits};
+ghost use Rattle.http_model.specs.Sizes.{least_size};
 ghost use Rattle.h1_body.specs.Section.{BeginsFields};
 ghost use Rattle.h1_body.specs.BodyOf.{StateTells, ClosedIsWhole, ClosedIsCut};
-ghost use Rattle.h1_body.specs.Stands.{HasRead, Waits, state_at, state_of, ends_at, bytes_of};
+ghost use Rattle.h1_body.specs.Stands.{HasRead, Waits, state_at, state_of, ends_at, ends_of, limit_of, bytes_of, data_len, span_of};
 
-use crate::stages::{Fed, Stage, feed_at};
+use crate::stages::{Found, Stage, feed_at};
 use http_model::{Framing, Limits};
 
 /// What a step tells of the body.
@@ -58,18 +59,26 @@ fn ends(stage: Stage) -> bool
     matches!(stage, Stage::UntilClose | Stage::Over)
 }
 
-/// Where the trailer section lies, where one was read.
-fn section_of(fed: Fed) -> Option<Span>
-    ensures bytes { (window : List ℕ) → bytes_of window result ≡ take fed.section window }
-    ensures some { IfSome result (λ span. (0 < span.len) × (span.from + span.len ≡ fed.section)) }
+/// The bytes of data that a step found.
+fn piece_of(found: Found) -> Span
+    ensures { result ≡ record { from = 0; len = data_len found } }
 {
-    if fed.section == 0 {
-        return None;
+    match found {
+        Found::Data(len) => Span { from: 0, len },
+        Found::Nothing => Span { from: 0, len: 0 },
+        Found::Section(_) => Span { from: 0, len: 0 },
     }
-    Some(Span {
-        from: 0,
-        len: fed.section,
-    })
+}
+
+/// Where the trailer section lies, where one was found.
+fn section_of(found: Found) -> Option<Span>
+    ensures { result ≡ span_of found }
+{
+    match found {
+        Found::Section(len) => Some(Span { from: 0, len }),
+        Found::Nothing => None,
+        Found::Data(_) => None,
+    }
 }
 
 /// A reader of a body, whose bytes come in any pieces (RFC 9112 sections 6 to 8). It takes no memory.
@@ -82,7 +91,7 @@ pub struct BodyReader {
 impl BodyReader {
     /// A reader of a body that has not begun.
     pub fn new(framing: Framing, limits: Limits) -> BodyReader
-        requires { 1024 ≤ limits.bufsize }
+        requires { least_size ≤ limits.bufsize }
         ensures { HasRead limits framing [] [] [] result }
     {
         let stage = match framing {
@@ -100,6 +109,7 @@ impl BodyReader {
 
     /// Whether the body is whole where the stream is closed here.
     pub fn ended(&self) -> bool
+        ensures told { result ≡ ends_of self.now }
         ensures closed { result ≡ true → ClosedIsWhole self.now }
         ensures cut { result ≡ false → ClosedIsCut self.now }
     {
@@ -113,6 +123,8 @@ impl BodyReader {
         ensures piece { (result.piece.len ≤ room) × (result.piece.from + result.piece.len ≤ result.used) }
         ensures section { IfSome result.trailers (λ span. (0 < span.len) × (span.from + span.len ≤ result.used)) }
         ensures fields { IfSome result.trailers (λ span. (fields : List grammar.Field) × BeginsFields (bytes_of window.now (Some span)) fields []) }
+        ensures alone { IfSome result.trailers (λ _. result.piece.len ≡ 0) }
+        ensures short { IfSome result.trailers (λ span. span.len ≤ limit_of self.old) }
         ensures leads { (limits : Limits) (framing : Framing) (bytes found section : List ℕ) → HasRead limits framing bytes found section self.old
             → HasRead limits framing (bytes ++ take result.used window.now) (found ++ bytes_of window.now (Some result.piece)) (section ++ bytes_of window.now result.trailers) self.new }
         ensures told { (limits : Limits) (framing : Framing) (bytes found section : List ℕ) → HasRead limits framing bytes found section self.old
@@ -125,11 +137,8 @@ impl BodyReader {
         self.stage = fed.stage;
         BodyStep {
             used: fed.used,
-            piece: Span {
-                from: 0,
-                len: fed.len,
-            },
-            trailers: section_of(fed),
+            piece: piece_of(fed.found),
+            trailers: section_of(fed.found),
             state: tell(fed.stage),
         }
     }

@@ -2,7 +2,8 @@
 ghost use Rattle.std.specs.Prelude.{◌≡◌, ◌<◌, ◌+◌, ◌↔◌, length, map, All, true, IfSome, IfNone};
 ghost use Rattle.httparse.specs.Spans.{IsHeaderWithin, header_bytes};
 ghost use Rattle.htx_model.specs.Blocks.{load, Fits};
-ghost use Rattle.h1_body.specs.Trailers.{ended_trailers, kept_blocks, HasGoodName};
+ghost use Rattle.http_model.specs.Head.{ended_trailers};
+ghost use Rattle.h1_body.specs.Trailers.{kept_blocks, HasGoodName};
 
 use crate::trailers::is_kept;
 use httparse::spans::HeaderSpan;

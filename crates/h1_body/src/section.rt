@@ -4,14 +4,16 @@ ghost use Rattle.std.specs.List.{list_all};
 ghost use Rattle.httparse.specs.Spans.{IsHeaderWithin, header_bytes};
 ghost use Rattle.h1_body.specs.Read.{SectionFound, is_short};
 
+use h1_head::line_feeds;
+use http_model::MAX_NAME;
 use httparse::Status;
 use httparse::spans::{EMPTY_HEADER_SPAN, HeaderSpan, parse_headers};
 
 /// The most fields of a section.
 pub const MAX_FIELDS: usize = 64;
 
-/// The most bytes of a field's name.
-pub const MAX_NAME: usize = 255;
+/// The most lines of a section, with the empty line.
+pub const MAX_LINES: usize = MAX_FIELDS + 1;
 
 /// What the front of a window tells of a section.
 pub enum SectionRead {
@@ -53,10 +55,13 @@ pub fn read_section(window: &[u8], limit: u32) -> SectionRead
             }
         }
         Ok(Status::Partial) => {
-            if window.len() < limit as usize {
-                SectionRead::More
-            } else {
+            if window.len() >= limit as usize {
+                return SectionRead::Bad;
+            }
+            if line_feeds(window) >= MAX_LINES {
                 SectionRead::Bad
+            } else {
+                SectionRead::More
             }
         }
         Err(_) => SectionRead::Bad,

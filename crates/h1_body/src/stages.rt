@@ -27,14 +27,22 @@ pub enum Stage {
     Dead,
 }
 
-/// What a stage makes of a window: the next stage, the bytes used, and how many of them, from the front on, are data
-/// or a trailer section.
+/// What a step found at the front of the bytes that it used.
+#[derive(Clone, Copy)]
+pub enum Found {
+    Nothing,
+    /// So many bytes of data.
+    Data(usize),
+    /// A trailer section of so many bytes.
+    Section(usize),
+}
+
+/// What a stage makes of a window: the next stage, the bytes used, and what was found in them.
 #[derive(Clone, Copy)]
 pub struct Fed {
     pub stage: Stage,
     pub used: usize,
-    pub len: usize,
-    pub section: usize,
+    pub found: Found,
 }
 
 /// How many bytes of the window there is room for.
@@ -75,8 +83,7 @@ fn feed_left(left: u64, window: &[u8], room: u32) -> Fed
     Fed {
         stage,
         used: len,
-        len,
-        section: 0,
+        found: Found::Data(len),
     }
 }
 
@@ -88,8 +95,7 @@ fn feed_until_close(window: &[u8], room: u32) -> Fed
     Fed {
         stage: Stage::UntilClose,
         used: len,
-        len,
-        section: 0,
+        found: Found::Data(len),
     }
 }
 
@@ -106,8 +112,7 @@ fn feed_data(left: u32, window: &[u8], room: u32) -> Fed
     Fed {
         stage,
         used: len,
-        len,
-        section: 0,
+        found: Found::Data(len),
     }
 }
 
@@ -121,29 +126,25 @@ fn feed_line(window: &[u8], room: u32) -> Fed
                 Fed {
                     stage: Stage::Section,
                     used,
-                    len: 0,
-                    section: 0,
+                    found: Found::Nothing,
                 }
             } else {
                 Fed {
                     stage: Stage::Data(size),
                     used,
-                    len: 0,
-                    section: 0,
+                    found: Found::Nothing,
                 }
             }
         }
         LineRead::More => Fed {
             stage: Stage::Line,
             used: 0,
-            len: 0,
-            section: 0,
+            found: Found::Nothing,
         },
         LineRead::Bad(used) => Fed {
             stage: Stage::Dead,
             used,
-            len: 0,
-            section: 0,
+            found: Found::Nothing,
         },
     }
 }
@@ -162,8 +163,7 @@ fn feed_line_end(window: &[u8], room: u32) -> Fed
     Fed {
         stage,
         used,
-        len: 0,
-        section: 0,
+        found: Found::Nothing,
     }
 }
 
@@ -175,20 +175,17 @@ fn feed_section(window: &[u8], room: u32, limit: u32) -> Fed
         SectionRead::Whole(used) => Fed {
             stage: Stage::Over,
             used,
-            len: 0,
-            section: used,
+            found: Found::Section(used),
         },
         SectionRead::More => Fed {
             stage: Stage::Section,
             used: 0,
-            len: 0,
-            section: 0,
+            found: Found::Nothing,
         },
         SectionRead::Bad => Fed {
             stage: Stage::Dead,
             used: window.len(),
-            len: 0,
-            section: 0,
+            found: Found::Nothing,
         },
     }
 }
@@ -201,8 +198,7 @@ fn stay(stage: Stage, window: &[u8], room: u32) -> Fed
     Fed {
         stage,
         used: 0,
-        len: 0,
-        section: 0,
+        found: Found::Nothing,
     }
 }
 

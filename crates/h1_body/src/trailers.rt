@@ -4,12 +4,15 @@ ghost use Rattle.httparse.specs.Grammar as grammar;
 ghost use Rattle.httparse.specs.Spans.{IsHeaderWithin, header_bytes};
 ghost use Rattle.htx_model.specs.Blocks.{Fits};
 ghost use Rattle.http_model.specs.Fields.{is_named_among};
-ghost use Rattle.http_model.specs.Head.{Field};
-ghost use Rattle.h1_body.specs.Section.{BeginsFields, HasTrailers, folded, is_kept, dropped_names};
-ghost use Rattle.h1_body.specs.Trailers.{trailer_block, trailer_blocks, ended_trailers, kept_blocks, HasGoodName};
+ghost use Rattle.http_model.specs.Finish.{own_names};
+ghost use Rattle.http_model.specs.Head.{Field, trailer_block, ended_trailers};
+ghost use Rattle.http_model.specs.Sizes.{most_name};
+ghost use Rattle.h1_body.specs.Section.{BeginsFields, HasTrailers, folded, is_kept};
+ghost use Rattle.h1_body.specs.Trailers.{trailer_blocks, kept_blocks, HasGoodName};
 
 use crate::room::has_room;
-use crate::section::{MAX_FIELDS, MAX_NAME};
+use crate::section::MAX_FIELDS;
+use http_model::{MAX_NAME, is_framing_name};
 use httparse::Status;
 use httparse::spans::{EMPTY_HEADER_SPAN, HeaderSpan, parse_headers};
 use htx_arena::{Arena, Full, Kind};
@@ -17,16 +20,9 @@ use px_bytes::{eq_fold, fold};
 
 /// Whether a trailer of this name is dropped: it frames a body or speaks of a connection.
 fn is_dropped(name: &[u8]) -> bool
-    ensures { (value : List ℕ) → result ≡ is_named_among dropped_names (name.now, value) }
+    ensures { (value : List ℕ) → result ≡ is_named_among own_names (name.now, value) }
 {
-    eq_fold(name, b"host")
-        || eq_fold(name, b"content-length")
-        || eq_fold(name, b"transfer-encoding")
-        || eq_fold(name, b"connection")
-        || eq_fold(name, b"keep-alive")
-        || eq_fold(name, b"proxy-connection")
-        || eq_fold(name, b"te")
-        || eq_fold(name, b"upgrade")
+    eq_fold(name, b"host") || is_framing_name(name)
 }
 
 /// Whether a field of the section stays.
@@ -40,7 +36,7 @@ pub(crate) fn is_kept(section: &[u8], field: &HeaderSpan) -> bool
 /// Adds a trailer behind the other blocks, with its name in lower case.
 fn push_trailer(name: &[u8], value: &[u8], to: &mut Arena)
     requires named { 1 ≤ length name.now }
-    requires short { length name.now ≤ 255 }
+    requires short { length name.now ≤ most_name }
     requires room { Fits (to.old.blocks ++ trailer_block (folded (name.now, value.now)) ∷ []) to.old.size }
     ensures blocks { to.new.blocks ≡ to.old.blocks ++ trailer_block (folded (name.now, value.now)) ∷ [] }
     ensures size { to.new.size ≡ to.old.size }

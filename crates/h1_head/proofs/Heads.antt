@@ -1,4 +1,4 @@
--- What stays true of a head when more of the stream comes, and how many lines a head has.
+-- Line feeds, and empty lines in front, of both kinds of heads.
 use Rattle.std.proofs.Common.{◌≡◌, ◌≢◌, ℕ, ◌+◌, ◌<◌, ◌≤◌, ◌⊎◌, inl, inr, true, false, Bool, List, [], ◌∷◌, ◌++◌, length, get_or, take, drop, refl, sym, ap, ◌∙◌, subst, zero-add, arith, append_assoc, length-append}
 use Rattle.std.specs.Prelude.{◌==◌, codes, count_by, IsTrue, All, ◌&&◌, cond}
 use Rattle.std.specs.List.{flat_map}
@@ -7,12 +7,9 @@ use Rattle.std.proofs.lemmas.List.Sums.{sum_by-append}
 use Rattle.std.proofs.lemmas.List.{take-append-drop, take-append-le, drop-append-le, append-nil}
 use Rattle.std.proofs.Math.Seq.{take-append_seam}
 use Rattle.std.proofs.lemmas.Bool.{false_from_ne_true, both_ways, eqb-true, eq-eqb, ne_eqb, and_parts, and_from, cases_lt}
-use Rattle.httparse.specs.Grammar.{LineEnd, crlf, lf, print_end, print_blank, print_version, Field, print_field, print_section, IsField, RequestHead, print_request, IsRequestHead, ReadsRequest, HasNoRequest, AllPass, is_token_byte, is_uri_byte, is_value_byte}
-use Rattle.httparse.specs.Spans.{RequestOverflows}
-use Rattle.httparse.proofs.GrammarLemmas.{print_request-append, ReadsRequest-append}
-use Rattle.http_model.specs.declared.Limits.{Limits}
-use Rattle.h1_head.specs.Request.{BeginsWith, HasNoHead, behind}
-use Rattle.h1_head.specs.Window.{is_line_feed}
+use Rattle.httparse.specs.Grammar.{LineEnd, crlf, lf, print_end, print_blank, print_version, Field, print_field, IsField, AllPass, is_token_byte, is_value_byte}
+use Rattle.h1_head.specs.Stream.{behind}
+use Rattle.h1_head.specs.Decides.{is_line_feed}
 
 abbrev pub feeds : List ℕ → ℕ
 feeds bytes = count_by is_line_feed bytes
@@ -25,27 +22,27 @@ not_feed : (test : ℕ → Bool) → (test 10 ≡ false) → (x : ℕ) → test 
 not_feed test never x pass =
     false_from_ne_true (is_line_feed x) (λ is. both_ways (test 10) never (subst (λ (b : ℕ). test b ≡ true) (eqb-true x 10 is) pass))
 
-feeds-cons : (x : ℕ) (xs : List ℕ) → is_line_feed x ≡ false → feeds (x ∷ xs) ≡ feeds xs
+pub feeds-cons : (x : ℕ) (xs : List ℕ) → is_line_feed x ≡ false → feeds (x ∷ xs) ≡ feeds xs
 feeds-cons x xs other =
     let none : feeds (x ∷ []) ≡ 0 = ap (λ b. 0 + cond b 1 0) other in
     feeds-append (x ∷ []) xs ∙ omega arith
 
 -- bytes of a class that has no line feed
-no_feeds : (test : ℕ → Bool) → (test 10 ≡ false) → (xs : List ℕ) → AllPass test xs → feeds xs ≡ 0
+pub no_feeds : (test : ℕ → Bool) → (test 10 ≡ false) → (xs : List ℕ) → AllPass test xs → feeds xs ≡ 0
 no_feeds test never [] pass = refl
 no_feeds test never (x ∷ xs) pass =
     feeds-cons x xs (not_feed test never x (All-head (λ b. IsTrue (test b)) x xs pass))
     ∙ no_feeds test never xs (All-tail (λ b. IsTrue (test b)) x xs pass)
 
-feeds-print_end : (end : LineEnd) → feeds (print_end end) ≡ 1
+pub feeds-print_end : (end : LineEnd) → feeds (print_end end) ≡ 1
 feeds-print_end crlf = refl
 feeds-print_end lf = refl
 
-feeds-print_version : (minor : ℕ) → minor ≤ 1 → feeds (print_version minor) ≡ 0
+pub feeds-print_version : (minor : ℕ) → minor ≤ 1 → feeds (print_version minor) ≡ 0
 feeds-print_version minor h =
     feeds-append (codes "HTTP/1.") ((48 + minor) ∷ []) ∙ ap (λ b. 0 + (0 + cond b 1 0)) (ne_eqb (48 + minor) 10 (λ e. omega arith))
 
-token_feeds : is_token_byte 10 ≡ false
+pub token_feeds : is_token_byte 10 ≡ false
 unfolding is_token_byte
 token_feeds = refl
 
@@ -56,100 +53,43 @@ feeds-print_field f is =
     ∙ zero-add (feeds (58 ∷ f.raw)) ∙ feeds-cons 58 f.raw refl ∙ no_feeds is_value_byte refl f.raw is.raw)
     ∙ ap (λ n. 0 + n) (feeds-print_end f.end)
 
-feeds-fields : (fs : List Field) → All IsField fs → feeds (flat_map print_field fs) ≡ length fs
+pub feeds-fields : (fs : List Field) → All IsField fs → feeds (flat_map print_field fs) ≡ length fs
 feeds-fields [] is = refl
 feeds-fields (f ∷ fs) is =
     let first : feeds (print_field f) ≡ 1 = feeds-print_field f (All-head IsField f fs is) in
     let rest : feeds (flat_map print_field fs) ≡ length fs = feeds-fields fs (All-tail IsField f fs is) in
     feeds-append (print_field f) (flat_map print_field fs) ∙ omega arith
 
-feeds_of_parts : (a b c d e f g : List ℕ) → feeds (a ++ (b ++ 32 ∷ (c ++ 32 ∷ (d ++ (e ++ ((f ++ g) ++ []))))))
-    ≡ feeds a + (feeds b + (feeds c + (feeds d + (feeds e + (feeds f + feeds g)))))
-feeds_of_parts a b c d e f g =
-    let gs : feeds ((f ++ g) ++ []) ≡ feeds f + feeds g = ap feeds (append-nil (f ++ g)) ∙ feeds-append f g in
-    let es = feeds-append e ((f ++ g) ++ []) in
-    let ds = feeds-append d (e ++ ((f ++ g) ++ [])) in
-    let c2 = feeds-cons 32 (d ++ (e ++ ((f ++ g) ++ []))) refl in
-    let cs = feeds-append c (32 ∷ (d ++ (e ++ ((f ++ g) ++ [])))) in
-    let b2 = feeds-cons 32 (c ++ 32 ∷ (d ++ (e ++ ((f ++ g) ++ [])))) refl in
-    let bs = feeds-append b (32 ∷ (c ++ 32 ∷ (d ++ (e ++ ((f ++ g) ++ []))))) in
-    let as' = feeds-append a (b ++ 32 ∷ (c ++ 32 ∷ (d ++ (e ++ ((f ++ g) ++ []))))) in
-    omega arith
-
--- a head with no empty line in front has two lines beside its fields
-pub feeds-print_request : (h : RequestHead) → IsRequestHead h → h.blank ≡ [] → feeds (print_request h) ≡ 2 + length h.fields
-feeds-print_request h is unled =
-    let whole = ap feeds (sym (append-nil (print_request h)) ∙ print_request-append h []) in
-    let blank : feeds (print_blank h.blank) ≡ 0 = ap (λ ends. feeds (print_blank ends)) unled in
-    let method : feeds h.method ≡ 0 = no_feeds is_token_byte token_feeds h.method is.method.1 in
-    let target : feeds h.target ≡ 0 = no_feeds is_uri_byte refl h.target is.target.1 in
-    let version : feeds (print_version h.minor) ≡ 0 = feeds-print_version h.minor is.minor in
-    let line : feeds (print_end h.line_end) ≡ 1 = feeds-print_end h.line_end in
-    let fields : feeds (flat_map print_field h.fields) ≡ length h.fields = feeds-fields h.fields is.fields in
-    let last : feeds (print_end h.last) ≡ 1 = feeds-print_end h.last in
-    let sum = feeds_of_parts (print_blank h.blank) h.method h.target (print_version h.minor) (print_end h.line_end) (flat_map print_field h.fields) (print_end h.last) in
-    whole ∙ sum ∙ omega arith
-
--- The window holds the whole head, or it is a proper front of it.
-pub within_window : (text more : List ℕ) (h : RequestHead) (rest : List ℕ) → ReadsRequest (text ++ more) h rest
-    → length (print_request h) ≤ length text → ReadsRequest text h (drop (length (print_request h)) text)
-within_window text more h rest reads long =
-    let n : ℕ = length (print_request h) in
-    let front : take n text ≡ print_request h = sym (take-append-le n text more long) ∙ ap (take n) reads.1 ∙ take-append_seam (print_request h) rest in
-    (reads.0, sym (take-append-drop n text) ∙ ap (λ bytes. bytes ++ drop n text) front)
-
 ends_in_feed : (end : LineEnd) → (front : List ℕ) × (print_end end ≡ front ++ 10 ∷ [])
 ends_in_feed crlf = (13 ∷ [], refl)
 ends_in_feed lf = ([], refl)
 
-tail_ends : (a f : List ℕ) (end : LineEnd) → (front : List ℕ) × (a ++ (f ++ print_end end) ≡ front ++ 10 ∷ [])
+pub tail_ends : (a f : List ℕ) (end : LineEnd) → (front : List ℕ) × (a ++ (f ++ print_end end) ≡ front ++ 10 ∷ [])
 tail_ends a f end =
     let e = ends_in_feed end in
     (a ++ (f ++ e.0), ap (λ last. a ++ (f ++ last)) e.1 ∙ ap (λ last. a ++ last) (sym (append_assoc f e.0 (10 ∷ []))) ∙ sym (append_assoc a (f ++ e.0) (10 ∷ [])))
 
--- a head ends in a line feed
-head_ends : (h : RequestHead) → (front : List ℕ) × (print_request h ≡ front ++ 10 ∷ [])
-unfolding print_request
-head_ends h = tail_ends _ (flat_map print_field h.fields) h.last
-
-pub feeds-front : (text more : List ℕ) (h : RequestHead) (rest : List ℕ) → ReadsRequest (text ++ more) h rest
-    → length text < length (print_request h) → feeds text < feeds (print_request h)
-feeds-front text more h rest reads short =
+-- a text that ends in a line feed has more of them than each of its proper fronts
+pub feeds-before : (text more whole rest front : List ℕ) → text ++ more ≡ whole ++ rest → whole ≡ front ++ 10 ∷ []
+    → length text < length whole → feeds text < feeds whole
+feeds-before text more whole rest front is e short =
     let n : ℕ = length text in
-    let e = head_ends h in
-    let long : length (print_request h) ≡ length e.0 + 1 = ap length e.1 ∙ length-append e.0 (10 ∷ []) in
-    let same : take n (print_request h) ≡ text =
-    sym (take-append-le n (print_request h) rest (omega arith)) ∙ sym (ap (take n) reads.1) ∙ take-append_seam text more in
-    let after : drop n (print_request h) ≡ drop n e.0 ++ 10 ∷ [] = ap (drop n) e.1 ∙ drop-append-le n e.0 (10 ∷ []) (omega arith) in
-    let split : feeds (print_request h) ≡ feeds (take n (print_request h)) + feeds (drop n (print_request h)) =
-    ap feeds (sym (take-append-drop n (print_request h))) ∙ feeds-append (take n (print_request h)) (drop n (print_request h)) in
-    let last : feeds (drop n (print_request h)) ≡ feeds (drop n e.0) + 1 = ap feeds after ∙ feeds-append (drop n e.0) (10 ∷ []) in
-    let first : feeds (take n (print_request h)) ≡ feeds text = ap feeds same in
+    let long : length whole ≡ length front + 1 = ap length e ∙ length-append front (10 ∷ []) in
+    let same : take n whole ≡ text =
+    sym (take-append-le n whole rest (omega arith)) ∙ sym (ap (take n) is) ∙ take-append_seam text more in
+    let after : drop n whole ≡ drop n front ++ 10 ∷ [] = ap (drop n) e ∙ drop-append-le n front (10 ∷ []) (omega arith) in
+    let split : feeds whole ≡ feeds (take n whole) + feeds (drop n whole) =
+    ap feeds (sym (take-append-drop n whole)) ∙ feeds-append (take n whole) (drop n whole) in
+    let last : feeds (drop n whole) ≡ feeds (drop n front) + 1 = ap feeds after ∙ feeds-append (drop n front) (10 ∷ []) in
+    let first : feeds (take n whole) ≡ feeds text = ap feeds same in
     omega arith
 
--- what makes a head within the limits impossible
-pub no_room_left : (limits : Limits) (text more : List ℕ) → HasNoRequest text
-    → (limits.bufsize ≤ length text) ⊎ (102 ≤ feeds text) → HasNoHead limits (text ++ more)
-no_room_left limits text more none full h rest begins =
-    elim (cases_lt (length text) (length (print_request h))) [
-      | inr long ↦ none h _ (within_window text more h rest begins.reads long)
-      | inl short ↦
-          let fewer : feeds text < feeds (print_request h) = feeds-front text more h rest begins.reads short in
-          let lines : feeds (print_request h) ≡ 2 + length h.fields = feeds-print_request h begins.reads.0 begins.unled in
-          let size : length (print_request h) ≤ limits.bufsize = begins.short in
-          let few : length h.fields ≤ 100 = begins.few in
-          elim full [ inl big ↦ omega arith | inr many ↦ omega arith ]
-    ]
-
-pub overflowing : (limits : Limits) (text more : List ℕ) → RequestOverflows 100 text → HasNoHead limits (text ++ more)
-overflowing limits text more over h rest begins =
-    let many : 100 < length h.fields = over more h rest begins.reads in
-    let few : length h.fields ≤ 100 = begins.few in
-    omega arith
-
-pub BeginsWith-append : (limits : Limits) (text more : List ℕ) (h : RequestHead) (rest : List ℕ) → BeginsWith limits text h rest → BeginsWith limits (text ++ more) h (rest ++ more)
-BeginsWith-append limits text more h rest b =
-    record { reads = ReadsRequest-append text h rest more b.reads; unled = b.unled; short = b.short; few = b.few }
+-- a text whose front is longer than the window is cut in it
+pub front_in : (text more whole rest : List ℕ) → text ++ more ≡ whole ++ rest → length whole ≤ length text → text ≡ whole ++ drop (length whole) text
+front_in text more whole rest is long =
+    let n : ℕ = length whole in
+    let front : take n text ≡ whole = sym (take-append-le n text more long) ∙ ap (take n) is ∙ take-append_seam whole rest in
+    sym (take-append-drop n text) ∙ ap (λ bytes. bytes ++ drop n text) front
 
 single : (a : ℕ) (more : List ℕ) → (a == 10) ≡ false → (a == 13) ≡ false → behind (a ∷ more) ≡ a ∷ more
 single a [] ten thirteen = ap (λ t. cond t [] (a ∷ [])) ten
@@ -212,37 +152,17 @@ behind-le (a ∷ b ∷ xs) =
     pick false true x y z n p q r = q
     pick false false x y z n p q r = r
 
--- behind the empty lines a head has none in front
-pub unled : (text : List ℕ) (h : RequestHead) (rest : List ℕ) → ReadsRequest text h rest → behind text ≡ text → h.blank ≡ []
-unled text h rest reads e = no_blank h.blank _ (reads.1 ∙ print_request-append h rest) e
-  where
-    no_blank : (ends : List LineEnd) (bytes : List ℕ) → text ≡ print_blank ends ++ bytes → behind text ≡ text → ends ≡ []
-    no_blank [] bytes is e = refl
-    no_blank (lf ∷ ends) bytes is e =
-        let tail : List ℕ = print_blank ends ++ bytes in
-        let drops : behind (10 ∷ tail) ≡ behind tail = sym (behind_lf (10 ∷ tail) (omega arith) refl) in
-        let less : length (behind tail) ≤ length tail = behind-le tail in
-        let same : length (behind tail) ≡ length (10 ∷ tail) = ap length (sym drops ∙ sym (ap behind is) ∙ e ∙ is) in
-        absurd (omega arith)
-    no_blank (crlf ∷ ends) bytes is e =
-        let tail : List ℕ = print_blank ends ++ bytes in
-        let drops : behind (13 ∷ 10 ∷ tail) ≡ behind tail = sym (behind_crlf (13 ∷ 10 ∷ tail) (omega arith) refl refl) in
-        let less : length (behind tail) ≤ length tail = behind-le tail in
-        let same : length (behind tail) ≡ length (13 ∷ 10 ∷ tail) = ap length (sym drops ∙ sym (ap behind is) ∙ e ∙ is) in
-        absurd (omega arith)
-
-spaces : (a b c d : List ℕ) → 2 ≤ length (a ++ (b ++ 32 ∷ (c ++ 32 ∷ d)))
-spaces a b c d = omega (arith, length-append a (b ++ 32 ∷ (c ++ 32 ∷ d)), length-append b (32 ∷ (c ++ 32 ∷ d)), length-append c (32 ∷ d))
-
--- a head has its two spaces
-pub at_least_two : (h : RequestHead) → 2 ≤ length (print_request h)
-at_least_two h =
-    let P : List ℕ → Type 0 = λ bytes. 2 ≤ length bytes in
-    subst P (sym (print_request-append h []) ∙ append-nil (print_request h)) (spaces (print_blank h.blank) h.method h.target (print_version h.minor ++ (print_end h.line_end ++ (print_section h.fields h.last ++ []))))
-
--- no head is one byte or none
-pub no_short_head : (text : List ℕ) → length text ≤ 1 → HasNoRequest text
-no_short_head text short h rest reads =
-    let size : length text ≡ length (print_request h) + length rest = ap length reads.1 ∙ length-append (print_request h) rest in
-    let long : 2 ≤ length (print_request h) = at_least_two h in
-    omega arith
+pub no_blank : (text : List ℕ) (ends : List LineEnd) (bytes : List ℕ) → text ≡ print_blank ends ++ bytes → behind text ≡ text → ends ≡ []
+no_blank text [] bytes is e = refl
+no_blank text (lf ∷ ends) bytes is e =
+    let tail : List ℕ = print_blank ends ++ bytes in
+    let drops : behind (10 ∷ tail) ≡ behind tail = sym (behind_lf (10 ∷ tail) (omega arith) refl) in
+    let less : length (behind tail) ≤ length tail = behind-le tail in
+    let same : length (behind tail) ≡ length (10 ∷ tail) = ap length (sym drops ∙ sym (ap behind is) ∙ e ∙ is) in
+    absurd (omega arith)
+no_blank text (crlf ∷ ends) bytes is e =
+    let tail : List ℕ = print_blank ends ++ bytes in
+    let drops : behind (13 ∷ 10 ∷ tail) ≡ behind tail = sym (behind_crlf (13 ∷ 10 ∷ tail) (omega arith) refl refl) in
+    let less : length (behind tail) ≤ length tail = behind-le tail in
+    let same : length (behind tail) ≡ length (13 ∷ 10 ∷ tail) = ap length (sym drops ∙ sym (ap behind is) ∙ e ∙ is) in
+    absurd (omega arith)

@@ -1,10 +1,19 @@
 pub mod Heads
+pub mod Lawful
+pub mod Rowed
+pub mod Requests
+pub mod Responses
+pub mod Fields
+pub mod Spanned
+pub mod EachSide
+pub mod Waits
 pub mod Fronts
 pub mod Classes
 pub mod Adds
 pub mod Surveyed
 pub mod Keeping
 pub mod Streams
+mod Totals
 pub mod Told
 pub mod Trimmed
 pub mod Soundness

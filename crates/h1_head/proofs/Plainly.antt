@@ -11,11 +11,13 @@ use Rattle.httparse.specs.Grammar.{RequestHead, ReadsRequest, IsToken, is_token_
 use Rattle.httparse.specs.Spans.{IsRequestWithin, IsRequestOf}
 use Rattle.httparse.proofs.GrammarLemmas.{request_unique, print_request-append}
 use Rattle.http_model.specs.declared.Limits.{Limits}
+use Rattle.h1_head.specs.Numbers.{most_fields}
 use Rattle.h1_head.specs.Plain.{is_plain, IsPlain}
-use Rattle.h1_head.specs.Request.{behind, BeginsWith, parts_of}
+use Rattle.h1_head.specs.Kind.{request_heads, parts_of}
+use Rattle.h1_head.specs.Stream.{behind, BeginsWith}
 use Rattle.h1_head.specs.Spans.{span_parts}
 use Rattle.h1_head.proofs.Heads.{behind_stop}
-use Rattle.h1_head.proofs.Parsed.{begins_at, parts_at}
+use Rattle.h1_head.proofs.Spanned.{begins_at, parts_at}
 
 no_feed : is_token_byte 10 ≡ false
 unfolding is_token_byte
@@ -54,14 +56,14 @@ plain_size limits window p =
     let short : length (print_request p.head) ≤ limits.bufsize = p.begins.short in
     let P : List ℕ → Type 0 = λ bytes. length bytes ≤ limits.bufsize in subst P (sym is) short
 
-pub plain_from : (limits : Limits) (window : List ℕ) (spans : List HeaderSpan) (r : RequestSpans) → behind window ≡ window → length window ≤ limits.bufsize → length spans ≤ 100
+pub plain_from : (limits : Limits) (window : List ℕ) (spans : List HeaderSpan) (r : RequestSpans) → behind window ≡ window → length window ≤ limits.bufsize → length spans ≤ most_fields
     → IsRequestWithin window spans r → IsRequestOf window spans r → r.len ≡ length window → is_plain (span_parts window r (take r.headers spans)) ≡ true → IsPlain limits window
 plain_from limits window spans r alone fits room within found size is =
     let h : RequestHead = found.0 in
     let rest : drop r.len window ≡ [] = ap (λ n. drop n window) size ∙ drop-length window in
     record {
       head = h;
-      begins = subst (BeginsWith limits window h) rest (begins_at limits window spans r h alone fits room within found.1);
+      begins = subst (BeginsWith request_heads limits window h) rest (begins_at limits window spans r h alone fits room within found.1);
       plain = ap is_plain (sym (parts_at window spans r h found.1)) ∙ is;
     }
 

@@ -6,13 +6,15 @@ use Rattle.http_model.specs.Head.{Field}
 use Rattle.http_model.specs.Fields.{same_name, is_named, has_field, fields_named}
 use Rattle.px_bytes.specs.Numbers.{decimal_of}
 use Rattle.px_bytes.specs.Values.{values_of, values_in}
+use Rattle.http_model.specs.Sizes.{most_name}
+use Rattle.h1_head.specs.Numbers.{most_digits}
 use Rattle.h1_head.specs.declared.survey.Lengths.{Lengths}
 use Rattle.h1_head.specs.declared.survey.Lengths.TheVariants.{Unread, One, Differing}
 use Rattle.h1_head.specs.declared.survey.Codings.{Codings}
 use Rattle.h1_head.specs.declared.survey.Codings.TheVariants.{Unnamed, Chunked, Unknown}
 use Rattle.h1_head.specs.declared.survey.Survey.{Survey}
-use Rattle.h1_head.specs.Rows.{Parts, elements_named, has_option, has_long_name, is_length, is_number, if_all_are, one_length, declared_length, is_none, is_chunked_alone, is_nonempty, refusal_of}
-use Rattle.h1_head.specs.Survey.{by_number, next_length, lengths_after, by_coding, next_coding, codings_after, has_value, has_option_in, has_taking, removes_some, add_field, survey_after, no_survey, survey_of, are_one, are_chunked, declared_by, row_of}
+use Rattle.h1_head.specs.Rows.{Parts, elements_named, has_option, has_long_name, is_length, is_number, if_all_are, one_length, declared_length, is_none, is_chunked_alone, is_nonempty, refusal_of, ResponseParts, response_refusal_of}
+use Rattle.h1_head.specs.Survey.{by_number, next_length, lengths_after, by_coding, next_coding, codings_after, has_value, has_option_in, has_taking, removes_some, add_field, survey_after, no_survey, survey_of, are_one, are_chunked, declared_by, row_of, response_row_of}
 
 or_false : (a : Bool) → (a || false) ≡ a
 or_false true = refl
@@ -42,7 +44,7 @@ elements fields = values_in (map (λ field. field.1) fields)
 
 surveyed_long : (s : Survey) (fs : List Field) → (survey_after s fs).long_name ≡ (s.long_name || has_long_name fs)
 surveyed_long s [] = sym (or_false s.long_name)
-surveyed_long s (f ∷ fs) = surveyed_long (add_field s f) fs ∙ or_assoc s.long_name (nat_lt 255 (length f.0)) (has_long_name fs)
+surveyed_long s (f ∷ fs) = surveyed_long (add_field s f) fs ∙ or_assoc s.long_name (nat_lt most_name (length f.0)) (has_long_name fs)
 
 count_step : (t : Bool) (f : Field) (rest : List Field) (h n : ℕ) → n ≡ cond t (h + 1) h + length rest → n ≡ h + length (cond t (f ∷ rest) rest)
 count_step true f rest h n e = omega arith
@@ -128,7 +130,7 @@ differing_number (Some n) = refl
 
 differing_stays : (es : List (List ℕ)) → lengths_after Differing es ≡ Differing
 differing_stays [] = refl
-differing_stays (e ∷ es) = ap (λ l. lengths_after l es) (differing_number (decimal_of 18 e)) ∙ differing_stays es
+differing_stays (e ∷ es) = ap (λ l. lengths_after l es) (differing_number (decimal_of most_digits e)) ∙ differing_stays es
 
 one_number : (n : ℕ) (d : Option ℕ) → by_number (One n) d ≡ cond (is_number n d) (One n) Differing
 one_number n None = refl
@@ -142,7 +144,7 @@ one_step n false rest es e = differing_stays es
 one_stays : (n : ℕ) (es : List (List ℕ)) → lengths_after (One n) es ≡ cond (list_all (is_length n) es) (One n) Differing
 one_stays n [] = refl
 one_stays n (e ∷ es) =
-    ap (λ l. lengths_after l es) (one_number n (decimal_of 18 e))
+    ap (λ l. lengths_after l es) (one_number n (decimal_of most_digits e))
     ∙ one_step n (is_length n e) (list_all (is_length n) es) es (one_stays n es)
 
 declared_cond : (t : Bool) (n : ℕ) → declared_by (cond t (One n) Differing) ≡ cond t (Some n) None
@@ -155,7 +157,7 @@ first_number (Some n) es = ap declared_by (one_stays n es) ∙ declared_cond (li
 
 declared_after : (es : List (List ℕ)) → declared_by (lengths_after Unread es) ≡ one_length es
 declared_after [] = refl
-declared_after (e ∷ es) = first_number (decimal_of 18 e) es
+declared_after (e ∷ es) = first_number (decimal_of most_digits e) es
 
 none_or_one : (l : Lengths) → not (are_one l) ≡ is_none (declared_by l)
 none_or_one Unread = refl
@@ -245,5 +247,11 @@ tells fields =
 same_row : (s : Survey) (p : Parts) → Tells s p.fields → row_of p.method p.minor s ≡ refusal_of p
 same_row s p t = simp (t.long, t.hosts, t.sized, t.none, t.coded, t.chunked) refl
 
+same_response_row : (s : Survey) (p : ResponseParts) → Tells s p.fields → response_row_of p.status p.minor s ≡ response_refusal_of p
+same_response_row s p t = simp (t.long, t.sized, t.none, t.coded, t.chunked) refl
+
 pub surveyed_row : (p : Parts) → row_of p.method p.minor (survey_of p.fields) ≡ refusal_of p
 surveyed_row p = same_row (survey_of p.fields) p (tells p.fields)
+
+pub surveyed_response_row : (p : ResponseParts) → response_row_of p.status p.minor (survey_of p.fields) ≡ response_refusal_of p
+surveyed_response_row p = same_response_row (survey_of p.fields) p (tells p.fields)

@@ -8,8 +8,9 @@ use Rattle.http_model.specs.Reading.{Received, Begins}
 use Rattle.h1_head.specs.declared.answer.HeadRead.{HeadRead}
 use Rattle.h1_head.specs.declared.answer.HeadRead.TheVariants as answer
 use Rattle.h1_head.specs.declared.answer.HeadWhy.{HeadWhy}
-use Rattle.h1_head.specs.Request.{RequestOf}
-use Rattle.h1_head.specs.Window.{OnEachStream}
+use Rattle.h1_head.specs.Kind.{HeadKind, request_heads}
+use Rattle.h1_head.specs.Stream.{HeadOf}
+use Rattle.h1_head.specs.Decides.{OnEachStream}
 use Rattle.h1_head.specs.Received.{IsReceived}
 
 -- P of the bytes to skip, where more is asked for
@@ -38,15 +39,19 @@ UnlessHead (answer.Refuse code why) P = P
 
 -- The blocks are those of a received head, which each stream that begins with the window begins with; what follows it
 -- there stands behind the bytes used.
-pub record KeepsHead
-    (limits : Limits) (whole : Bool) (window : List ℕ) (blocks : List Block)
+pub record Keeps
+    (K : HeadKind) (limits : Limits) (whole : Bool) (window : List ℕ) (blocks : List Block)
     (used : ℕ) (framing : Framing) (declared : Option ℕ) (close : Bool) : Type 0 where
   pub head : Head
   pub blocks_are : blocks ≡ head_blocks head
   pub within : used ≤ length window
-  pub begins : OnEachStream whole (λ more. RequestOf limits (window ++ more)
+  pub begins : OnEachStream whole (λ more. HeadOf K limits (window ++ more)
       (Begins (record { head = head; framing = framing; declared = declared; close = close }) (drop used window ++ more)))
-  pub received : IsReceived limits head
+  pub received : IsReceived K limits head
+
+-- the same of a request
+abbrev pub KeepsHead : Limits → (whole : Bool) → (window : List ℕ) → List Block → (used : ℕ) → Framing → Option ℕ → Bool → Type 0
+KeepsHead limits whole window blocks used framing declared close = Keeps request_heads limits whole window blocks used framing declared close
 
 -- the decision keeps a head whose blocks these are
 abbrev pub IsKept : Result Received HeadWhy → List Block → Framing → Option ℕ → Bool → Type 0

@@ -6,6 +6,8 @@ use Rattle.http_model.specs.Head.{Field}
 use Rattle.http_model.specs.Fields.{same_name, is_named}
 use Rattle.px_bytes.specs.Numbers.{decimal_of}
 use Rattle.px_bytes.specs.Values.{values_of}
+use Rattle.http_model.specs.Sizes.{most_name}
+use Rattle.h1_head.specs.Numbers.{most_digits}
 use Rattle.h1_head.specs.declared.answer.HeadWhy.{HeadWhy}
 use Rattle.h1_head.specs.declared.answer.HeadWhy.TheVariants as why
 use Rattle.h1_head.specs.declared.survey.Lengths.{Lengths}
@@ -27,7 +29,7 @@ by_number Differing (Some n) = Differing
 
 -- what is known behind one more element
 abbrev pub next_length : Lengths → List ℕ → Lengths
-next_length lengths element = by_number lengths (decimal_of 18 element)
+next_length lengths element = by_number lengths (decimal_of most_digits element)
 
 -- what is known behind these elements
 abbrev pub lengths_after : Lengths → List (List ℕ) → Lengths
@@ -81,7 +83,7 @@ removes_some fields = list_any (λ field. is_named (codes "connection") field &&
 abbrev pub add_field_as : (host sized coded linked : Bool) → Survey → Field → Survey
 add_field_as host sized coded linked s field =
     record {
-      long_name = s.long_name || nat_lt 255 (length field.0);
+      long_name = s.long_name || nat_lt most_name (length field.0);
       hosts = if host then s.hosts + 1 else s.hosts;
       has_length = if sized then true else s.has_length;
       lengths = if sized then lengths_after s.lengths (values_of field.1) else s.lengths;
@@ -149,12 +151,24 @@ abbrev pub framing_fails : ℕ → Survey → Bool
 framing_fails minor s =
     s.has_coding && (minor == 0 || s.has_length) || s.has_length && not (are_one s.lengths)
 
+-- the rows on framing
+abbrev pub framing_row : (minor : ℕ) → Survey → Option HeadWhy
+framing_row minor s =
+    if framing_fails minor s then Some why.Framing
+    else if s.has_coding && not (are_chunked s.codings) then Some why.Coding
+    else None
+
 -- the first row in front of the weight that applies
 abbrev pub row_of : (method : List ℕ) → (minor : ℕ) → Survey → Option HeadWhy
 row_of method minor s =
     if s.long_name then Some why.Name
     else if not (hosts_are_good minor s) then Some why.Host
     else if bytes_eq method (codes "CONNECT") then Some why.Method
-    else if framing_fails minor s then Some why.Framing
-    else if s.has_coding && not (are_chunked s.codings) then Some why.Coding
-    else None
+    else framing_row minor s
+
+-- the same for a response
+abbrev pub response_row_of : (status : ℕ) → (minor : ℕ) → Survey → Option HeadWhy
+response_row_of status minor s =
+    if s.long_name then Some why.Name
+    else if status == 101 then Some why.Method
+    else framing_row minor s

@@ -1,6 +1,6 @@
 //! What the reader answers.
 ghost use Rattle.std.specs.Prelude.{◌≡◌};
-ghost use Rattle.h1_head.specs.Rows.{request_code};
+ghost use Rattle.h1_head.specs.Rows.{request_code, response_code};
 
 use http_model::Framing;
 
@@ -31,18 +31,27 @@ pub enum HeadRead {
     },
 }
 
+/// Whose head is read.
+#[derive(Clone, Copy, Debug, PartialEq, Eq)]
+pub enum Side {
+    /// A client's.
+    Request,
+    /// A server's, to a request whose method was HEAD or another.
+    Response { head_asked: bool },
+}
+
 /// Why a head is refused.
 #[derive(Clone, Copy, Debug, PartialEq, Eq)]
 pub enum HeadWhy {
     /// The bytes are no head, or the stream ends within it.
     Grammar = 1,
-    /// More bytes than the array has, or more than 100 fields.
+    /// More bytes than the array has, or more than 256 fields.
     Long = 2,
     /// A field name of more than 255 bytes.
     Name = 3,
     /// No Host field in HTTP/1.1, or several (RFC 9112 section 3.2).
     Host = 4,
-    /// CONNECT, which is not implemented (RFC 9110 section 9.3.6).
+    /// CONNECT, or a response that switches protocols: neither is implemented (RFC 9110 sections 9.3.6 and 15.2.2).
     Method = 5,
     /// Transfer-Encoding in HTTP/1.0 or beside Content-Length, or lengths that are no one number.
     Framing = 6,
@@ -66,5 +75,12 @@ impl HeadWhy {
             | HeadWhy::Framing
             | HeadWhy::Receive => 400,
         }
+    }
+
+    /// The status code that a client is answered with in place of a response.
+    pub fn response_code(self) -> u16
+        ensures { result ≡ response_code self }
+    {
+        502
     }
 }

@@ -1,7 +1,7 @@
 //! The empty lines in front of a head, and how many lines there are.
 ghost use Rattle.std.specs.Prelude.{◌≡◌, ◌≤◌, length, drop, count_by};
-ghost use Rattle.h1_head.specs.Request.{behind};
-ghost use Rattle.h1_head.specs.Window.{is_line_feed};
+ghost use Rattle.h1_head.specs.Stream.{behind};
+ghost use Rattle.h1_head.specs.Decides.{is_line_feed};
 
 /// How many bytes the empty line in front takes, or 0 where there is none.
 #[tactic(auto, using(crate::proofs::Fronts::front_steps))]

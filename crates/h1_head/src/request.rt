@@ -1,32 +1,23 @@
 //! What a window says of the request head that a stream begins with.
 ghost use Rattle.std.specs.Prelude.{◌≡◌, ◌≢◌, ◌≤◌, ◌<◌, ◌+◌, ◌++◌, ◌∷◌, [], ◌↔◌, length, drop, Err, IsTrue, IfOk, IfErr, OnErr};
-ghost use Rattle.httparse.specs.Grammar.{HasNoRequest};
 ghost use Rattle.http_model.specs.Reading.{Refused};
-ghost use Rattle.h1_head.specs.Answers.{IfMore, IfHead, IfRefuse, UnlessHead, KeepsHead, IsKept};
-ghost use Rattle.h1_head.specs.Request.{behind, RequestOf};
+ghost use Rattle.h1_head.specs.Answers.{IfMore, IfHead, IfRefuse, UnlessHead, Keeps, IsKept};
+ghost use Rattle.h1_head.specs.Kind.{request_heads};
+ghost use Rattle.h1_head.specs.Request.{RequestOf};
+ghost use Rattle.h1_head.specs.Stream.{behind};
 ghost use Rattle.h1_head.specs.Rows.{request_code, decision};
 ghost use Rattle.h1_head.specs.Spans.{span_parts, AreSpansGood};
-ghost use Rattle.h1_head.specs.Window.{OnEachStream, MayWait, RefusesFor};
+ghost use Rattle.h1_head.specs.Decides.{OnEachStream, MayWait, RefusesFor, WhereLong, IsTooLong};
 
-use crate::lines::{empty_lines, line_feeds};
+use crate::lines::empty_lines;
 use crate::received::push_head;
 use crate::survey::survey_fields;
+use crate::text::{Kept, MAX_FIELDS, Wait, is_lone_cr, wait_for};
 use crate::{HeadRead, HeadWhy};
 use http_model::{Framing, Limits};
 use httparse::spans::{EMPTY_HEADER_SPAN, HeaderSpan, RequestSpans, parse_request};
 use httparse::{Error, Status};
 use htx_arena::Arena;
-
-/// The most fields of a head.
-pub const MAX_FIELDS: usize = 100;
-
-/// What is kept of a head beside its blocks.
-#[derive(Clone, Copy, Debug)]
-struct Kept {
-    framing: Framing,
-    declared: Option<u64>,
-    close: bool,
-}
 
 /// Refuses for this reason.
 fn refuse(why: HeadWhy) -> HeadRead
@@ -65,34 +56,10 @@ fn receive(
         return Err(HeadWhy::Receive);
     }
     Ok(Kept {
-        framing: survey.framing(),
+        framing: survey.framing(Framing::Absent),
         declared: survey.declared(),
         close: survey.close,
     })
-}
-
-/// What a text says in which no head of the grammar stands.
-fn wait(text: &[u8], whole: bool, limits: Limits) -> HeadRead
-    requires none { HasNoRequest text.now }
-    requires alone { behind text.now ≡ text.now }
-    requires some { text.now ≢ [] }
-    requires begun { text.now ≢ 13 ∷ [] }
-    ensures head { IfHead result (λ _ _ _ _. ⊥) }
-    ensures skip { IfMore result (λ skip. skip ≡ 0) }
-    ensures waits { IfMore result (λ _. MayWait limits whole text.now) }
-    ensures code { IfRefuse result (λ code why. code ≡ request_code why) }
-    ensures why { IfRefuse result (λ _ why. RefusesFor limits whole text.now why) }
-{
-    if whole {
-        return refuse(HeadWhy::Grammar);
-    }
-    if text.len() >= limits.bufsize as usize {
-        return refuse(HeadWhy::Long);
-    }
-    if line_feeds(text) >= MAX_FIELDS + 2 {
-        return refuse(HeadWhy::Long);
-    }
-    HeadRead::More { skip: 0 }
 }
 
 /// Reads the head at the front of a text that has no empty line in front.
@@ -105,10 +72,11 @@ fn read_text(text: &[u8], whole: bool, limits: Limits, to: &mut Arena) -> HeadRe
     requires empty { to.old.blocks ≡ [] }
     requires size { to.old.size ≡ limits.bufsize }
     ensures skip { IfMore result (λ skip. skip ≡ 0) }
-    ensures waits { IfMore result (λ _. MayWait limits whole text.now) }
-    ensures head { IfHead result (KeepsHead limits whole text.now to.new.blocks) }
+    ensures waits { IfMore result (λ _. MayWait request_heads limits whole text.now) }
+    ensures head { IfHead result (Keeps request_heads limits whole text.now to.new.blocks) }
     ensures code { IfRefuse result (λ code why. code ≡ request_code why) }
-    ensures why { IfRefuse result (λ _ why. RefusesFor limits whole text.now why) }
+    ensures why { IfRefuse result (λ _ why. RefusesFor request_heads limits whole text.now why) }
+    ensures long { IfRefuse result (λ _ why. WhereLong why (IsTooLong request_heads limits whole text.now)) }
     ensures unkept { UnlessHead result (to.new.blocks ≡ []) }
     ensures size { to.new.size ≡ to.old.size }
 {
@@ -125,17 +93,14 @@ fn read_text(text: &[u8], whole: bool, limits: Limits, to: &mut Arena) -> HeadRe
                 Err(why) => refuse(why),
             }
         }
-        Ok(Status::Partial) => wait(text, whole, limits),
+        Ok(Status::Partial) => match wait_for(text, whole, limits) {
+            Wait::More => HeadRead::More { skip: 0 },
+            Wait::Ended => refuse(HeadWhy::Grammar),
+            Wait::Long => refuse(HeadWhy::Long),
+        },
         Err(Error::TooManyHeaders) => refuse(HeadWhy::Long),
         Err(_) => refuse(HeadWhy::Grammar),
     }
-}
-
-/// Whether the text is a CR alone, which may be half of an empty line.
-fn is_lone_cr(text: &[u8]) -> bool
-    ensures { IsTrue result ↔ (text.now ≡ 13 ∷ []) }
-{
-    text == b"\r".as_slice()
 }
 
 /// Reads the head of a request at the front of the window, behind its empty lines (RFC 9112 sections 2.2 and 3).
@@ -154,14 +119,15 @@ pub fn read_request(window: &[u8], whole: bool, limits: Limits, to: &mut Arena) 
     // More is asked for only where it may help, and what may be skipped is the empty lines in front.
     ensures skip { IfMore result (λ skip. skip ≤ length window.now) }
     ensures lines { IfMore result (λ skip. drop skip window.now ≡ behind window.now) }
-    ensures waits { IfMore result (λ _. MayWait limits whole window.now) }
+    ensures waits { IfMore result (λ _. MayWait request_heads limits whole window.now) }
 
     // A head is the one of each stream that begins with the window.
-    ensures head { IfHead result (KeepsHead limits whole window.now to.new.blocks) }
+    ensures head { IfHead result (Keeps request_heads limits whole window.now to.new.blocks) }
 
     // A refusal is the one of each stream that begins with the window.
     ensures code { IfRefuse result (λ code why. code ≡ request_code why) }
-    ensures why { IfRefuse result (λ _ why. RefusesFor limits whole window.now why) }
+    ensures why { IfRefuse result (λ _ why. RefusesFor request_heads limits whole window.now why) }
+    ensures long { IfRefuse result (λ _ why. WhereLong why (IsTooLong request_heads limits whole window.now)) }
     ensures refused { IfRefuse result (λ code _. OnEachStream whole (λ more. RequestOf limits (window.now ++ more) (Refused code))) }
 
     ensures unkept { UnlessHead result (to.new.blocks ≡ []) }

@@ -1,7 +1,7 @@
 //! The rows that a head has to pass before it is weighed, asked of what its fields say.
 ghost use Rattle.std.specs.Prelude.{◌≡◌};
-ghost use Rattle.h1_head.specs.Rows.{framing_by};
-ghost use Rattle.h1_head.specs.Survey.{declared_by, hosts_are_good, framing_fails, row_of};
+ghost use Rattle.h1_head.specs.Rows.{framing_told};
+ghost use Rattle.h1_head.specs.Survey.{declared_by, hosts_are_good, framing_fails, framing_row, row_of, response_row_of};
 
 use crate::HeadWhy;
 use crate::survey::{Codings, Lengths, Survey};
@@ -39,7 +39,33 @@ impl Survey {
         self.has_length && !matches!(self.lengths, Lengths::One(_))
     }
 
-    /// The first row that applies.
+    /// The first row on framing that applies.
+    fn framing_refusal(&self, minor: u8) -> Option<HeadWhy>
+        ensures { result ≡ framing_row minor self.now }
+    {
+        if self.has_bad_framing(minor) {
+            Some(HeadWhy::Framing)
+        } else if self.has_coding && self.codings != Codings::Chunked {
+            Some(HeadWhy::Coding)
+        } else {
+            None
+        }
+    }
+
+    /// The first row that applies to a response.
+    pub fn response_refusal(&self, status: u16, minor: u8) -> Option<HeadWhy>
+        ensures { result ≡ response_row_of status minor self.now }
+    {
+        if self.long_name {
+            Some(HeadWhy::Name)
+        } else if status == 101 {
+            Some(HeadWhy::Method)
+        } else {
+            self.framing_refusal(minor)
+        }
+    }
+
+    /// The first row that applies to a request.
     pub fn refusal(&self, method: &[u8], minor: u8) -> Option<HeadWhy>
         ensures { result ≡ row_of method.now minor self.now }
     {
@@ -49,25 +75,21 @@ impl Survey {
             Some(HeadWhy::Host)
         } else if method == b"CONNECT".as_slice() {
             Some(HeadWhy::Method)
-        } else if self.has_bad_framing(minor) {
-            Some(HeadWhy::Framing)
-        } else if self.has_coding && self.codings != Codings::Chunked {
-            Some(HeadWhy::Coding)
         } else {
-            None
+            self.framing_refusal(minor)
         }
     }
 
-    /// How the body is framed.
-    pub fn framing(&self) -> Framing
-        ensures { result ≡ framing_by self.now.has_coding (declared_by self.now.lengths) }
+    /// How the body is framed, where `untold` is what a message has whose fields say nothing.
+    pub fn framing(&self, untold: Framing) -> Framing
+        ensures { result ≡ framing_told untold self.now.has_coding (declared_by self.now.lengths) }
     {
         if self.has_coding {
             return Framing::Chunked;
         }
         match self.declared() {
             Some(n) => Framing::Length(n),
-            None => Framing::Absent,
+            None => untold,
         }
     }
 }

@@ -1,69 +1,89 @@
--- What rules make of a head (Configuration Manual, sections 4.2 and 6).
-use Rattle.std.specs.Prelude.{ℕ, List, [], ◌∷◌, length, Bool, not, ◌&&◌, ◌||◌, ◌==◌, nat_le, if◌then◌else◌}
-use Rattle.std.specs.List.{list_all, AllByRecursion}
+-- What rules make of an environment, in their order, with the mode of failures.
+use Rattle.std.specs.Prelude.{ℕ, List, [], ◌∷◌, Bool, true, false, not, ◌&&◌, if◌then◌else◌, Result, Ok, Err}
+use Rattle.std.specs.List.{AllByRecursion}
 use Rattle.http_model.specs.declared.Limits.{Limits}
-use Rattle.http_model.specs.Blocks.{load}
-use Rattle.http_model.specs.Head.{Head, head_blocks}
-use Rattle.http_model.specs.Fields.{add_field, set_field}
-use Rattle.session_model.specs.Meaning.{Verdict, Pass, Reply, Deny, Fail}
-use Rattle.px_bytes.specs.Blanks.{trimmed}
+use Rattle.http_model.specs.declared.Why.{Why}
+use Rattle.http_model.specs.Head.{Message}
+use Rattle.session_model.specs.Env.{Env, Verdict, Pass, Reply, Deny, Fail, Amended, Edited, Plain}
 use Rattle.http_rules.specs.declared.rule.Action.{Action}
 use Rattle.http_rules.specs.declared.rule.Action.TheVariants.{Allow, AddHeader, SetHeader}
 use Rattle.http_rules.specs.declared.rule.Rule.{Rule}
-use Rattle.http_rules.specs.declared.rule.Why.{Why}
-use Rattle.http_rules.specs.declared.rule.Why.TheVariants.{Room, Bytes}
+use Rattle.http_rules.specs.Steps.{Step, steps_of}
 
--- a byte that a made field value may hold: no control byte but a tab (RFC 9110 section 5.5)
-abbrev pub is_value_byte : ℕ → Bool
-is_value_byte b = (nat_le 32 b || b == 9) && not (b == 127)
+-- What one rule makes of an environment: one for the next rule, no further rule, a reply, a refusal, or a failure, with the
+-- environment in front of the failing step.
+pub data Act (Vars : Type 0) : Type 0 where
+  Next : Env Vars → Act Vars
+  Stop : Act Vars
+  Replies : Message → Act Vars
+  Denies : (code : ℕ) → Act Vars
+  Fails : Why → Env Vars → Act Vars
 
--- what a rule makes of a head: an edited head for the next rule, no further rule, or a step that failed
-pub data Outcome : Type 0 where
-  Next : Head → Outcome
-  Stop : Outcome
-  Failed : Why → Outcome
+-- what comes behind a step: a step that fails decides, and undoes nothing
+abbrev pub after_step : {Vars : Type 0} → Env Vars → Result (Env Vars) Why → (Env Vars → Act Vars) → Act Vars
+after_step env (Ok next) others = others next
+after_step env (Err why) others = Fails why env
 
--- the text is within the buffer before it is trimmed, and its value may stand in a field
-abbrev pub is_good_text : Limits → List ℕ → Bool
-is_good_text limits text = nat_le (length text) limits.bufsize && list_all is_value_byte (trimmed text)
+-- steps in turn
+abbrev pub run_steps : {Vars : Type 0} → List (Step Vars) → Env Vars → Act Vars
+run_steps [] env = Next env
+run_steps (step ∷ steps) env = after_step env (step env) (run_steps steps)
 
--- the head is within the buffer
-abbrev pub head_fits : Limits → Head → Bool
-head_fits limits head = nat_le (load (head_blocks head)) limits.bufsize
+-- what one rule makes of an environment
+abbrev pub act : {Vars : Type 0} → Limits → Action → Env Vars → Act Vars
+act limits Allow env = Stop
+act limits action env = run_steps (steps_of limits action env) env
 
--- a step that makes a field value of a text and leaves an edited head
-abbrev pub step : Limits → (text : List ℕ) → (edited : Head) → Outcome
-step limits text edited =
-    if not (is_good_text limits text) then Failed Bytes
-    else (if head_fits limits edited then Next edited else Failed Room)
+-- the action answers by itself, so that a failure of its is never passed over
+abbrev pub answers : Action → Bool
+answers Allow = false
+answers (AddHeader name text) = false
+answers (SetHeader name text) = false
 
--- what one rule makes of a head; a made value is trimmed of blanks
-abbrev pub act : Limits → Action → Head → Outcome
-act limits Allow head = Stop
-act limits (AddHeader name text) head = step limits text (add_field name (trimmed text) head)
-act limits (SetHeader name text) head = step limits text (set_field name (trimmed text) head)
+-- the mode behind an action
+abbrev pub mode_after : (strict : Bool) → Action → Bool
+mode_after strict Allow = strict
+mode_after strict (AddHeader name text) = strict
+mode_after strict (SetHeader name text) = strict
 
--- what rules come to behind an outcome of the one before: what they make of the edited head, the head as it was, or a failure
-abbrev pub behind : {Vars : Type 0} → Vars → Head → Outcome → (Vars → Head → Verdict Vars) → Verdict Vars
-behind vars head (Next edited) others = others vars edited
-behind vars head Stop others = Pass head vars
-behind vars head (Failed why) others = Fail
+-- What rules come to behind one of them: what the others make of its environment, or its result. A failure is passed over
+-- while the mode is off.
+abbrev pub behind : {Vars : Type 0} → (strict : Bool) → Action → Env Vars → Act Vars → (Bool → Env Vars → Verdict Vars) → Verdict Vars
+behind strict action env (Next next) others = others (mode_after strict action) next
+behind strict action env Stop others = Pass env
+behind strict action env (Replies m) others = Reply m env
+behind strict action env (Denies code) others = Deny code env
+behind strict action env (Fails why left) others = if not strict && not (answers action) then others strict left else Fail why left
 
--- what rules make of a head, in their order; the first one that fails or stops decides
-abbrev pub rules_of : {Vars : Type 0} → Limits → List Rule → Vars → Head → Verdict Vars
-rules_of limits [] vars head = Pass head vars
-rules_of limits (rule ∷ rules) vars head = behind vars head (act limits rule.action head) (rules_of limits rules)
+-- what rules make of an environment, in their order and under a mode; the first that does not go on decides
+abbrev pub walk : {Vars : Type 0} → Limits → List Rule → (strict : Bool) → Env Vars → Verdict Vars
+walk limits [] strict env = Pass env
+walk limits (rule ∷ rules) strict env = behind strict rule.action env (act limits rule.action env) (walk limits rules)
+
+-- the mode begins as on: a failure decides
+abbrev pub rules_of : {Vars : Type 0} → Limits → List Rule → Env Vars → Verdict Vars
+rules_of limits rules env = walk limits rules true env
+
+-- what rules on all that the client is sent come to: the edited head, or plain where one fails; they neither reply nor deny
+abbrev pub after_of : {Vars : Type 0} → Limits → List Rule → Env Vars → Amended Vars
+after_of {Vars = Vars} limits rules env = amended_by (rules_of limits rules env)
+  where
+    amended_by : Verdict Vars → Amended Vars
+    amended_by (Pass left) = Edited left.head left.vars
+    amended_by (Reply m left) = Plain
+    amended_by (Deny code left) = Plain
+    amended_by (Fail why left) = Plain
 
 -- ---- words of the laws
 
 -- what further rules make of a verdict
-abbrev pub on_pass : {Vars : Type 0} → Verdict Vars → (Vars → Head → Verdict Vars) → Verdict Vars
-on_pass (Pass head vars) others = others vars head
-on_pass (Reply message vars) others = Reply message vars
-on_pass (Deny code) others = Deny code
-on_pass Fail others = Fail
+abbrev pub on_pass : {Vars : Type 0} → Verdict Vars → (Env Vars → Verdict Vars) → Verdict Vars
+on_pass (Pass env) others = others env
+on_pass (Reply message env) others = Reply message env
+on_pass (Deny code env) others = Deny code env
+on_pass (Fail why env) others = Fail why env
 
--- the rule does not stop
+-- the rule neither stops nor changes the mode
 abbrev pub GoesOn : Rule → Type 0
 GoesOn rule = goes_on rule.action
   where
@@ -72,6 +92,6 @@ GoesOn rule = goes_on rule.action
     goes_on (AddHeader name text) = Unit {0}
     goes_on (SetHeader name text) = Unit {0}
 
--- none of the rules stops
+-- none of the rules does
 abbrev pub AreRunThrough : List Rule → Type 0
 AreRunThrough rules = AllByRecursion GoesOn rules

@@ -3,6 +3,7 @@ use Rattle.std.specs.Prelude.{◌≡◌, ℕ, ◌+◌, ◌≤◌, List, length, 
 use Rattle.std.specs.List.{list_any, AllByRecursion}
 use Rattle.std.specs.Str.{bytes_eq, str_to_ascii_lowercase}
 use Rattle.http_model.specs.declared.Limits.{Limits}
+use Rattle.http_model.specs.Sizes.{least_size, most_size, least_head, most_name}
 use Rattle.http_model.specs.Finish.{framing_names}
 use Rattle.px_bytes.specs.Tokens.{is_token}
 use Rattle.px_link.specs.declared.address.Address.{Address}
@@ -12,14 +13,14 @@ use Rattle.http_rules.specs.declared.config.Config.{Config}
 
 -- sizes within their limits, of which a received head leaves at least 512 bytes
 pub record AreLimits (limits : Limits) : Type 0 where
-  pub least : 1024 ≤ limits.bufsize
-  pub most : limits.bufsize ≤ 262144
-  pub leaves : limits.maxrewrite + 512 ≤ limits.bufsize
+  pub least : least_size ≤ limits.bufsize
+  pub most : limits.bufsize ≤ most_size
+  pub leaves : limits.maxrewrite + least_head ≤ limits.bufsize
 
 -- a name of a field that a rule may make: a token of 1 to 255 bytes in lower case that frames no message
 pub record IsMadeName (name : List ℕ) : Type 0 where
   pub some : 1 ≤ length name
-  pub short : length name ≤ 255
+  pub short : length name ≤ most_name
   pub token : is_token name ≡ true
   pub lower : str_to_ascii_lowercase name ≡ name
   pub free : list_any (λ framing. bytes_eq framing name) framing_names ≡ false

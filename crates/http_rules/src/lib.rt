@@ -9,8 +9,8 @@ mod run;
 mod tests;
 
 pub use config::Config;
-pub use http_model::Limits;
-pub use laws::{allow_ends_the_rules, rules_go_on};
+pub use http_model::{Limits, Why};
+pub use laws::{allow_ends_the_rules, failing_step_decides, rules_go_on};
 pub use px_link::{Address, Bytes, OutOfMemory};
-pub use rule::{Action, Rule, Rules, Why};
+pub use rule::{Action, Rule, Rules};
 pub use run::{Verdict, run_request};

@@ -20,12 +20,3 @@ pub struct Rule {
 
 /// Rules, in their order.
 pub type Rules = ItemList<Rule>;
-
-/// Why a rule failed.
-#[derive(Clone, Copy, Debug, PartialEq, Eq)]
-pub enum Why {
-    /// The list of blocks after the step would not fit the buffer.
-    Room,
-    /// A text of more bytes than the buffer has, or a control byte in a field value.
-    Bytes,
-}

@@ -3,15 +3,17 @@ ghost use Rattle.std.specs.Prelude.{◌≡◌, ◌≤◌, length, List};
 ghost use Rattle.std.specs.List.{AllByRecursion, list_all};
 ghost use Rattle.http_model.specs.Head.{Head, head_blocks};
 ghost use Rattle.http_model.specs.Fields.{add_field, set_field};
-ghost use Rattle.px_bytes.specs.Blanks.{trimmed};
-ghost use Rattle.http_rules.specs.Rules.{is_good_text, is_value_byte, step, act};
+ghost use Rattle.http_model.specs.Sizes.{most_name};
+ghost use Rattle.session_model.specs.Env.{Env};
+ghost use Rattle.http_rules.specs.Steps.{is_good_text, is_value_byte, edited_by};
+ghost use Rattle.http_rules.specs.Rules.{Next, after_step, act};
 ghost use Rattle.http_rules.specs.Valid.{IsGoodAction};
-ghost use Rattle.http_rules.specs.Run.{Steps, Runs, IsHead, step_by};
+ghost use Rattle.http_rules.specs.Run.{Steps, Runs, IsHead, HoldsHead, step_by};
 
-use crate::rule::{Action, Rule, Rules, Why};
+use crate::rule::{Action, Rule, Rules};
 use header_ops::laws::edits_of_heads;
 use header_ops::{add_field, set_field};
-use http_model::Limits;
+use http_model::{Limits, Why};
 use htx_arena::{Arena, Full};
 use px_bytes::trim;
 
@@ -59,8 +61,9 @@ fn add_made(limits: Limits, msg: &mut Arena, name: &[u8], text: &[u8]) -> Step
     requires head { IsHead msg.old.blocks }
     requires size { msg.old.size ≡ limits.bufsize }
     requires named { 1 ≤ length name.now }
-    requires short { length name.now ≤ 255 }
-    ensures step { (head : Head) → msg.old.blocks ≡ head_blocks head → Steps head (step limits text.now (add_field name.now (trimmed text.now) head)) result msg.new.blocks }
+    requires short { length name.now ≤ most_name }
+    ensures step { (env : Env (Unit {0})) → HoldsHead env msg.old.blocks
+        → Steps env (after_step env (edited_by limits env text.now (λ value. add_field name.now value env.head)) Next) result msg.new.blocks }
     ensures size { msg.new.size ≡ msg.old.size }
 {
     edits_of_heads();
@@ -75,8 +78,9 @@ fn set_made(limits: Limits, msg: &mut Arena, name: &[u8], text: &[u8]) -> Step
     requires head { IsHead msg.old.blocks }
     requires size { msg.old.size ≡ limits.bufsize }
     requires named { 1 ≤ length name.now }
-    requires short { length name.now ≤ 255 }
-    ensures step { (head : Head) → msg.old.blocks ≡ head_blocks head → Steps head (step limits text.now (set_field name.now (trimmed text.now) head)) result msg.new.blocks }
+    requires short { length name.now ≤ most_name }
+    ensures step { (env : Env (Unit {0})) → HoldsHead env msg.old.blocks
+        → Steps env (after_step env (edited_by limits env text.now (λ value. set_field name.now value env.head)) Next) result msg.new.blocks }
     ensures size { msg.new.size ≡ msg.old.size }
 {
     edits_of_heads();
@@ -91,7 +95,8 @@ fn run_rule(rule: &Rule, limits: Limits, msg: &mut Arena) -> Step
     requires head { IsHead msg.old.blocks }
     requires size { msg.old.size ≡ limits.bufsize }
     requires valid { IsGoodAction rule.now.action }
-    ensures step { (head : Head) → msg.old.blocks ≡ head_blocks head → Steps head (act limits rule.now.action head) result msg.new.blocks }
+    ensures step { (env : Env (Unit {0})) → HoldsHead env msg.old.blocks
+        → Steps env (act limits rule.now.action env) result msg.new.blocks }
     ensures size { msg.new.size ≡ msg.old.size }
 {
     match &rule.action {

@@ -1,5 +1,5 @@
 -- Where payloads stand after a call (HTX API, "defragmentation").
-use Rattle.std.specs.Prelude.{ℕ, ◌+◌, ◌-◌, List, length, take, insert, remove, Option, Some, None, nat_eq, nat_lt, nat_le, if◌then◌else◌, slice_index, slice_set}
+use Rattle.std.specs.Prelude.{ℕ, ◌+◌, ◌-◌, List, length, take, drop, insert, remove, Option, Some, None, nat_eq, nat_lt, nat_le, if◌then◌else◌, slice_index, slice_set}
 use Rattle.htx_model.specs.Block.{Block, Data, payload_len}
 use Rattle.htx_model.specs.Blocks.{block_at}
 use Rattle.htx_layout.specs.Place.{Layout, layout, packed, settled, stays}
@@ -37,6 +37,10 @@ removed s at = left s.front (remove s.addrs at)
 -- the first payloads alone
 abbrev pub truncated : Contents → ℕ → Places
 truncated s at = left s.front (take at s.addrs)
+
+-- without the first n payloads
+abbrev pub dropped : Contents → ℕ → Places
+dropped s n = left s.front (drop n s.addrs)
 
 -- data whose first n bytes go begins n bytes further on
 abbrev pub cut_to : Contents → ℕ → ℕ → Places

@@ -1,10 +1,11 @@
 ghost use Rattle.std.specs.Prelude.{◌≡◌, ◌+◌, ◌<◌, ◌≤◌, [], length, slice_index, IfOk};
 ghost use Rattle.htx_model.specs.Block.{kind_of};
 ghost use Rattle.htx_model.specs.Blocks.{load, block_at};
-ghost use Rattle.htx_layout.specs.Held.{held};
+ghost use Rattle.htx_layout.specs.Held.{held, blocks_of};
 
 mod cut;
 mod data;
+mod front;
 mod insert;
 mod lend;
 mod replace;
@@ -39,13 +40,13 @@ pub struct Arena {
 impl Model for Arena {
     ghost use Rattle.std.specs.Prelude.{length};
     ghost use Rattle.htx_arena.specs.Contents.{Contents};
-    ghost use Rattle.htx_layout.specs.Raw.{blocks_of, addrs_of};
+    ghost use Rattle.htx_layout.specs.Raw.{blocks_of as listed_blocks, addrs_of};
 
     ghost Value = { Contents };
 
     ghost use Rattle.htx_arena.specs.Whole.{IsWhole};
 
-    ghost view = { λ a. record { size = length a.space; blocks = blocks_of a.space a.count; addrs = addrs_of a.space a.count; front = a.front } };
+    ghost view = { λ a. record { size = length a.space; blocks = listed_blocks a.space a.count; addrs = addrs_of a.space a.count; front = a.front } };
 
     ghost invariant = { IsWhole };
 }
@@ -118,6 +119,7 @@ impl Arena {
     pub fn raw(&self) -> &[u8]
         ensures held { held result.now self.now.blocks self.now.addrs }
         ensures size { length result.now ≡ self.now.size }
+        ensures gives_back { blocks_of result.now (length self.now.blocks) ≡ self.now.blocks }
     {
         self.space.bytes()
     }

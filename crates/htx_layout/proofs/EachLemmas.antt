@@ -12,11 +12,11 @@ use Rattle.htx_layout.specs.declared.scan.Spot.{Spot}
 use Rattle.htx_layout.proofs.RawLemmas.{had, stands, Stands, payload_in-same, payload-unlisted, payload-placed, IsSound-unlisted, IsSound-placed, length-unlisted, length-placed, length-listed_at}
 use Rattle.htx_layout.proofs.RawLemmas.Stands.{New, Below, Above}
 
-pub each_unlisted : (P : Desc → List ℕ → Type 0) (raw : List ℕ) (n i : ℕ) → IsSound raw n → i < n → ((j : ℕ) → j < n → P (desc_at raw j) (payload_in raw j)) → (j : ℕ) → j < n - 1 → P (desc_at (unlisted raw n i) j) (payload_in (unlisted raw n i) j)
-each_unlisted P raw n i sound h each j small =
-    let new = unlisted raw n i in
-    let old = had raw n i j sound.room h small in
-    let payload = payload_in-same raw new j old.number old.same (payload-unlisted raw n i old.number sound h old.small) in
+pub each_unlisted : (P : Desc → List ℕ → Type 0) (raw : List ℕ) (n i k : ℕ) → IsSound raw n → i + k ≤ n → ((j : ℕ) → j < n → P (desc_at raw j) (payload_in raw j)) → (j : ℕ) → j < n - k → P (desc_at (unlisted raw n i k) j) (payload_in (unlisted raw n i k) j)
+each_unlisted P raw n i k sound h each j small =
+    let new = unlisted raw n i k in
+    let old = had raw n i k j sound.room h small in
+    let payload = payload_in-same raw new j old.number old.same (payload-unlisted raw n i k old.number sound h old.small) in
     subst (λ (d : Desc). P d (payload_in new j)) (sym old.same) (subst (λ (p : List ℕ). P (desc_at raw old.number) p) (sym payload) (each old.number old.small))
 
 pub payload_in-placed_here : (raw : List ℕ) (n i j : ℕ) (d : Desc) (piece : List ℕ) → CanPlace raw n i d piece → desc_at (placed raw n i d piece) j ≡ d → payload_in (placed raw n i d piece) j ≡ piece
@@ -51,16 +51,16 @@ each_placed P raw n i d piece can each here j small = each_stands P raw n i d pi
 
 -- ---- the three facts of each payload
 
-pub IsLaid-unlisted : (raw : List ℕ) (n i front : ℕ) → IsLaid raw n front → i < n → IsLaid (unlisted raw n i) (n - 1) front
-IsLaid-unlisted raw n i front laid h =
-    let long = length-unlisted raw n i laid.sound.room h in
+pub IsLaid-unlisted : (raw : List ℕ) (n i k front : ℕ) → IsLaid raw n front → i + k ≤ n → IsLaid (unlisted raw n i k) (n - k) front
+IsLaid-unlisted raw n i k front laid h =
+    let long = length-unlisted raw n i k laid.sound.room h in
     let small = laid.small in
     let most = laid.most in
     record {
-      sound = IsSound-unlisted raw n i laid.sound h;
-      told = record { told = each_unlisted (λ (d : Desc) (p : List ℕ). Tells d.info p) raw n i laid.sound h laid.told.told };
-      filled = record { filled = each_unlisted (λ (d : Desc) (p : List ℕ). 0 < info_len d.info) raw n i laid.sound h laid.filled.filled };
-      parted = record { parted = each_unlisted (λ (d : Desc) (p : List ℕ). (end_of d ≤ front) ⊎ (front ≤ d.addr)) raw n i laid.sound h laid.parted.parted };
+      sound = IsSound-unlisted raw n i k laid.sound h;
+      told = record { told = each_unlisted (λ (d : Desc) (p : List ℕ). Tells d.info p) raw n i k laid.sound h laid.told.told };
+      filled = record { filled = each_unlisted (λ (d : Desc) (p : List ℕ). 0 < info_len d.info) raw n i k laid.sound h laid.filled.filled };
+      parted = record { parted = each_unlisted (λ (d : Desc) (p : List ℕ). (end_of d ≤ front) ⊎ (front ≤ d.addr)) raw n i k laid.sound h laid.parted.parted };
       small = omega arith;
       most = omega arith;
     }

@@ -111,24 +111,24 @@ pub record IsGone (raw new : List ℕ) (n i front keep : ℕ) : Type 0 where
   pub own : window new (addr_in raw i) keep ≡ window raw (addr_in raw i) keep
   pub size : length new ≡ length raw
 
-pub gone : (raw : List ℕ) (n i front keep : ℕ) → IsLaid raw n front → i < n → keep ≤ len_in raw i → IsGone raw (unlisted raw n i) n i front keep
+pub gone : (raw : List ℕ) (n i front keep : ℕ) → IsLaid raw n front → i < n → keep ≤ len_in raw i → IsGone raw (unlisted raw n i 1) n i front keep
 gone raw n i front keep laid small part =
-    let new = unlisted raw n i in
+    let new = unlisted raw n i 1 in
     let room = laid.sound.room in
-    let long = length-unlisted raw n i room small in
+    let long = length-unlisted raw n i 1 room (omega arith) in
     let ends = laid.sound.within i small in
     let piece = window raw (length raw - 8 * n) (8 * (n - i - 1)) in
     record {
-      laid = IsLaid-unlisted raw n i front laid small;
+      laid = IsLaid-unlisted raw n i 1 front laid (omega arith);
       opens = record {
         room = omega arith;
         below = λ j within.
-            let old = had raw n i j room small within in
+            let old = had raw n i 1 j room (omega arith) within in
             let e = ap end_of old.same in
             let h = laid.sound.within old.number old.small in
             omega arith;
         free = λ j within.
-            let old = had raw n i j room small within in
+            let old = had raw n i 1 j room (omega arith) within in
             let e = ap end_of old.same in
             let a = ap (λ (d : Desc). d.addr) old.same in
             elim (cases_lt j i) [
@@ -136,6 +136,6 @@ gone raw n i front keep laid small part =
               | inr ge ↦ let is = old.above ge in elim (laid.sound.apart i old.number (omega arith) old.small) [ inl h ↦ inl (omega arith) | inr h ↦ inr (omega arith) ]
             ];
       };
-      own = window-overwritten_below raw (length raw - 8 * n + 8) piece (addr_in raw i) keep (omega arith) (omega arith);
+      own = window-overwritten_below raw (length raw - 8 * n + 8 * 1) piece (addr_in raw i) keep (omega arith) (omega arith);
       size = long;
     }

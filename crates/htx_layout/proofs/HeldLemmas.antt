@@ -1,12 +1,15 @@
 -- An array between two calls holds its blocks at their addresses.
-use Rattle.std.proofs.Common.{◌≡◌, ℕ, ◌<◌, inl, inr, List, get_or, length, ap, sym, ◌∙◌, arith}
-use Rattle.htx_model.specs.Block.{EndHeaders, payload_len}
+use Rattle.std.proofs.Common.{◌≡◌, ◌≢◌, ℕ, zero, suc, ◌+◌, ◌*◌, ◌/◌, ◌^◌, ◌<◌, ◌≤◌, Bool, ◌∷◌, map, refl, inl, inr, List, get_or, length, ap, sym, ◌∙◌, arith}
+use Rattle.std.specs.Prelude.{if◌then◌else◌}
+use Rattle.std.specs.List.{range_with_len}
+use Rattle.std.proofs.lemmas.Bool.{ne_eqb}
+use Rattle.htx_model.specs.Block.{Block, RequestLine, ResponseLine, Header, EndHeaders, Data, Trailer, EndTrailers, payload_len}
 use Rattle.htx_model.specs.Blocks.{block_at}
 use Rattle.htx_space.specs.declared.space.Desc.{Desc}
 use Rattle.htx_space.specs.Windows.{window, desc_at}
 use Rattle.htx_layout.specs.Raw.{addr_in, len_in, block_in, info_of, payload_of, blocks_of, addrs_of}
 use Rattle.htx_layout.specs.Sound.{IsLaid}
-use Rattle.htx_layout.specs.Held.{held}
+use Rattle.htx_layout.specs.Held.{held, told_from, blocks_of as told_blocks}
 use Rattle.htx_layout.proofs.RawLemmas.{length-listed, get_or-listed}
 
 desc_of : (d : Desc) (a i : ℕ) → d.addr ≡ a → d.info ≡ i → d ≡ record { addr = a; info = i }
@@ -40,3 +43,39 @@ laid_held raw n front laid =
             | inr d ↦ inr (omega (arith, addr i h, len i h, addr k g, len k g))
           ];
     }
+
+-- ---- the blocks that the bytes tell
+
+-- the type of a block in an array is none of those from 7 on
+code_small : (b : Block) → payload_len b ≤ 262144 → info_of b < 2 ^ 28 * 7
+code_small (RequestLine x y z) h = omega arith
+code_small (ResponseLine x y z) h = omega arith
+code_small (Header n v) h = omega arith
+code_small EndHeaders h = omega arith
+code_small (Data p) h = omega arith
+code_small (Trailer n v) h = omega arith
+code_small EndTrailers h = omega arith
+
+is_used : (raw : List ℕ) (n front i : ℕ) → IsLaid raw n front → i < n → (desc_at raw i).info / 2 ^ 28 ≢ 15
+is_used raw n front i laid h =
+    let t = laid.told.told i h in
+    let len = t.len in
+    let ends = laid.sound.within i h in
+    let most = laid.most in
+    let small = code_small (block_in raw i) (omega arith) in
+    let code = t.code in
+    omega arith
+
+told-used : (raw : List ℕ) (n front descriptors i k : ℕ) → IsLaid raw n front → i + k ≤ n → k ≤ descriptors → told_from descriptors raw i k ≡ map (block_in raw) (range_with_len i k)
+told-used raw n front zero i zero laid h g = refl
+told-used raw n front zero i (suc k) laid h g = absurd (omega arith)
+told-used raw n front (suc d) i zero laid h g = refl
+told-used raw n front (suc d) i (suc k) laid h g =
+    let used = ne_eqb ((desc_at raw i).info / 2 ^ 28) 15 (is_used raw n front i laid (omega arith)) in
+    ap (λ (t : Bool). if t then told_from d raw (i + 1) (suc k) else block_in raw i ∷ told_from d raw (i + 1) k) used
+    ∙ ap (λ (bs : List Block). block_in raw i ∷ bs) (told-used raw n front d (i + 1) k laid (omega arith) (omega arith))
+
+pub laid_told : (raw : List ℕ) (n front : ℕ) → IsLaid raw n front → told_blocks raw n ≡ blocks_of raw n
+laid_told raw n front laid =
+    let room = laid.sound.room in
+    told-used raw n front (length raw / 8) 0 n laid (omega arith) (omega arith)

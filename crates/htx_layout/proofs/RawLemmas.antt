@@ -1,8 +1,8 @@
-use Rattle.std.proofs.Common.{true, false, subst, ◌≡◌, ℕ, ◌+◌, ◌*◌, ◌-◌, ◌<◌, ◌≤◌, inl, inr, List, length, get_or, drop, refl, ap, sym, ◌∙◌, arith, length-drop}
-use Rattle.std.specs.Prelude.{insert, remove}
+use Rattle.std.proofs.Common.{true, subst, ◌≡◌, ℕ, ◌+◌, ◌*◌, ◌-◌, ◌<◌, ◌≤◌, inl, inr, List, length, get_or, drop, refl, ap, sym, ◌∙◌, arith, length-drop}
+use Rattle.std.specs.Prelude.{suc, insert, remove, ◌++◌, take}
 use Rattle.std.proofs.lemmas.Bool.{cases_lt, cases_eq}
-use Rattle.std.proofs.lemmas.List.{same_lists, length-take-le, take_all}
-use Rattle.std.proofs.lemmas.List.Edits.{length-insert, length-remove, get_or-insert_below, get_or-insert_at, get_or-insert_above, get_or-remove_below, get_or-remove_above}
+use Rattle.std.proofs.lemmas.List.{same_lists, length-take-le, length-append, take_all, get_or-take, get_or-drop, get_or_append_left, get_or-append_right}
+use Rattle.std.proofs.lemmas.List.Edits.{length-insert, get_or-insert_below, get_or-insert_at, get_or-insert_above}
 use Rattle.std.proofs.lemmas.List.FromFn.{length-map-range_with_len, get_or-map-range_with_len}
 use Rattle.htx_space.specs.declared.space.Desc.{Desc}
 use Rattle.htx_space.specs.Windows.{window, overwritten, shifted, desc_at, desc_place, desc_bytes}
@@ -20,20 +20,34 @@ length-listed f n = length-map-range_with_len f 0 n
 pub get_or-listed : {X : Type 0} (f : ℕ → X) (n i : ℕ) (d : X) → i < n → get_or (listed f n) i d ≡ f i
 get_or-listed f n i d h = get_or-map-range_with_len f 0 n i i d h (omega arith)
 
-pub listed-remove : {X : Type 0} (f g : ℕ → X) (n i : ℕ) → i < n → ((j : ℕ) → j < i → g j ≡ f j) → ((j : ℕ) → i ≤ j → j + 1 < n → g j ≡ f (j + 1)) → listed g (n - 1) ≡ remove (listed f n) i
-listed-remove {X} f g n i h below above =
+-- k of them are left out
+pub listed-without : {X : Type 0} (f g : ℕ → X) (n i k : ℕ) → i + k ≤ n → ((j : ℕ) → j < i → g j ≡ f j) → ((j : ℕ) → i ≤ j → j + k < n → g j ≡ f (j + k)) → listed g (n - k) ≡ take i (listed f n) ++ drop (k + i) (listed f n)
+listed-without {X} f g n i k h below above =
+    let xs = listed f n in
     let n_is = length-listed f n in
-    let shorter = length-remove (listed f n) i (omega arith) in
-    let same_length : length (listed g (n - 1)) ≡ length (remove (listed f n) i) = omega (arith, length-listed g (n - 1)) in
-    let each : (k : ℕ) (d : X) → k < length (listed g (n - 1)) → get_or (listed g (n - 1)) k d ≡ get_or (remove (listed f n) i) k d = λ k d k_fits.
-    let small : k < n - 1 = omega (arith, length-listed g (n - 1)) in
-    let new = get_or-listed g (n - 1) k d small in
-    let within : i < length (listed f n) = omega arith in
-    elim (cases_lt k i) [
-      | inl lt ↦ new ∙ below k lt ∙ sym (get_or-listed f n k d (omega arith)) ∙ sym (get_or-remove_below (listed f n) i d k lt within)
-      | inr ge ↦ new ∙ above k ge (omega arith) ∙ sym (get_or-listed f n (k + 1) d (omega arith)) ∙ sym (get_or-remove_above (listed f n) i d k ge within)
-    ] in
-    same_lists (listed g (n - 1)) (remove (listed f n) i) same_length each
+    let m_is = length-listed g (n - k) in
+    let front : length (take i xs) ≡ i = length-take-le i xs (omega arith) in
+    let behind = length-drop (k + i) xs in
+    let same_length : length (listed g (n - k)) ≡ length (take i xs ++ drop (k + i) xs) = omega (arith, length-append (take i xs) (drop (k + i) xs)) in
+    same_lists (listed g (n - k)) (take i xs ++ drop (k + i) xs) same_length (λ j d fits.
+    let new = get_or-listed g (n - k) j d (omega arith) in
+    elim (cases_lt j i) [
+      | inl lt ↦ new ∙ below j lt ∙ sym (get_or-listed f n j d (omega arith)) ∙ sym (get_or-take i xs j d lt) ∙ sym (get_or_append_left (take i xs) (drop (k + i) xs) d j (omega arith))
+      | inr ge ↦
+          let there : k + i + (j - i) ≡ j + k = omega arith in
+          new ∙ above j ge (omega arith) ∙ sym (get_or-listed f n (j + k) d (omega arith)) ∙ ap (λ (m : ℕ). get_or xs m d) (sym there)
+          ∙ sym (get_or-drop (k + i) xs (j - i) d) ∙ sym (get_or-append_right (take i xs) (drop (k + i) xs) i j d front ge)
+    ])
+
+pub without_one : {X : Type 0} (xs : List X) (i : ℕ) → take i xs ++ drop (1 + i) xs ≡ remove xs i
+without_one {X} xs i =
+    let next : 1 + i ≡ suc i = omega arith in
+    ap (λ (m : ℕ). take i xs ++ drop m xs) next
+
+pub without_first : {X : Type 0} (xs : List X) (k : ℕ) → take 0 xs ++ drop (k + 0) xs ≡ drop k xs
+without_first {X} xs k =
+    let all : k + 0 ≡ k = omega arith in
+    ap (λ (m : ℕ). drop m xs) all
 
 pub listed-insert : {X : Type 0} (f g : ℕ → X) (n i : ℕ) (x : X) → i ≤ n → ((j : ℕ) → j < i → g j ≡ f j) → g i ≡ x → ((j : ℕ) → i ≤ j → j < n → g (j + 1) ≡ f j) → listed g (n + 1) ≡ insert (listed f n) i x
 listed-insert {X} f g n i x h below here above =
@@ -65,12 +79,7 @@ block_in-same raw new i j e w =
     let a = ap (λ (d : Desc). block_of d.info (window new d.addr (info_len d.info))) e in
     a ∙ ap (block_of (desc_at raw j).info) w
 
--- ---- a descriptor is taken out, by copying those in front of it up
-
-pub shift_down : (raw : List ℕ) (n i : ℕ) → i < n → shifted raw (i + 1) (n - i - 1) false ≡ unlisted raw n i
-shift_down raw n i h =
-    let all : i + 1 + (n - i - 1) ≡ n = omega arith in
-    ap (λ (m : ℕ). overwritten raw (length raw - 8 * m + 8) (window raw (length raw - 8 * m) (8 * (n - i - 1)))) all
+-- ---- k descriptors are taken out, by copying those in front of them up
 
 pub shift_up : (raw : List ℕ) (n i : ℕ) → i ≤ n → shifted raw i (n - i) true ≡ spread raw n i
 shift_up raw n i h =
@@ -80,80 +89,77 @@ shift_up raw n i h =
 pub length-moved : (raw : List ℕ) (n m : ℕ) → 8 * n ≤ length raw → m ≤ n → length (window raw (length raw - 8 * n) (8 * m)) ≡ 8 * m
 length-moved raw n m room h = length-take-le (8 * m) (drop (length raw - 8 * n) raw) (omega (arith, length-drop (length raw - 8 * n) raw))
 
-desc_at-unlisted_below : (raw : List ℕ) (n i j : ℕ) → 8 * n ≤ length raw → i < n → j < i → desc_at (unlisted raw n i) j ≡ desc_at raw j
-desc_at-unlisted_below raw n i j room within h =
-    let at = length raw - 8 * n + 8 in
-    let piece = window raw (length raw - 8 * n) (8 * (n - i - 1)) in
-    let long = length-moved raw n (n - i - 1) room (omega arith) in
-    desc_at-overwritten raw at piece j (omega arith) (omega arith)
+desc_at-unlisted_below : (raw : List ℕ) (n i k j : ℕ) → 8 * n ≤ length raw → i + k ≤ n → j < i → desc_at (unlisted raw n i k) j ≡ desc_at raw j
+desc_at-unlisted_below raw n i k j room within h =
+    let piece = window raw (length raw - 8 * n) (8 * (n - i - k)) in
+    let long = length-moved raw n (n - i - k) room (omega arith) in
+    desc_at-overwritten raw (length raw - 8 * n + 8 * k) piece j (omega arith) (omega arith)
 
-desc_at-unlisted_above : (raw : List ℕ) (n i j : ℕ) → 8 * n ≤ length raw → i ≤ j → j + 1 < n → desc_at (unlisted raw n i) j ≡ desc_at raw (j + 1)
-desc_at-unlisted_above raw n i j room h within =
-    desc_at-copied raw (length raw - 8 * n + 8) (length raw - 8 * n) (8 * (n - i - 1)) j (j + 1) (8 * (n - j - 2)) (omega arith) (omega arith) (omega arith) (omega arith) (omega arith)
+desc_at-unlisted_above : (raw : List ℕ) (n i k j : ℕ) → 8 * n ≤ length raw → i ≤ j → j + k < n → desc_at (unlisted raw n i k) j ≡ desc_at raw (j + k)
+desc_at-unlisted_above raw n i k j room h within =
+    desc_at-copied raw (length raw - 8 * n + 8 * k) (length raw - 8 * n) (8 * (n - i - k)) j (j + k) (8 * (n - j - k - 1)) (omega arith) (omega arith) (omega arith) (omega arith) (omega arith)
 
-pub payload-unlisted : (raw : List ℕ) (n i j : ℕ) → IsSound raw n → i < n → j < n → window (unlisted raw n i) (addr_in raw j) (len_in raw j) ≡ window raw (addr_in raw j) (len_in raw j)
-payload-unlisted raw n i j sound within h =
+pub payload-unlisted : (raw : List ℕ) (n i k j : ℕ) → IsSound raw n → i + k ≤ n → j < n → window (unlisted raw n i k) (addr_in raw j) (len_in raw j) ≡ window raw (addr_in raw j) (len_in raw j)
+payload-unlisted raw n i k j sound within h =
     let ends = sound.within j h in
-    let piece = window raw (length raw - 8 * n) (8 * (n - i - 1)) in
-    window-overwritten_below raw (length raw - 8 * n + 8) piece (addr_in raw j) (len_in raw j) (omega (arith, sound.room)) (omega arith)
+    let piece = window raw (length raw - 8 * n) (8 * (n - i - k)) in
+    window-overwritten_below raw (length raw - 8 * n + 8 * k) piece (addr_in raw j) (len_in raw j) (omega (arith, sound.room)) (omega arith)
 
-pub length-unlisted : (raw : List ℕ) (n i : ℕ) → 8 * n ≤ length raw → i < n → length (unlisted raw n i) ≡ length raw
-length-unlisted raw n i room h =
-    let moved = length-moved raw n (n - i - 1) room (omega arith) in
-    length-overwritten raw (length raw - 8 * n + 8) (window raw (length raw - 8 * n) (8 * (n - i - 1))) (omega arith)
+pub length-unlisted : (raw : List ℕ) (n i k : ℕ) → 8 * n ≤ length raw → i + k ≤ n → length (unlisted raw n i k) ≡ length raw
+length-unlisted raw n i k room h =
+    let moved = length-moved raw n (n - i - k) room (omega arith) in
+    length-overwritten raw (length raw - 8 * n + 8 * k) (window raw (length raw - 8 * n) (8 * (n - i - k))) (omega arith)
 
-pub blocks_of-unlisted : (raw : List ℕ) (n i : ℕ) → IsSound raw n → i < n → blocks_of (unlisted raw n i) (n - 1) ≡ remove (blocks_of raw n) i
-blocks_of-unlisted raw n i sound h =
-    let new = unlisted raw n i in
-    listed-remove (block_in raw) (block_in new) n i h
-    (λ j lt. block_in-same raw new j j (desc_at-unlisted_below raw n i j sound.room h lt) (payload-unlisted raw n i j sound h (omega arith)))
-    (λ j ge lt. block_in-same raw new j (j + 1) (desc_at-unlisted_above raw n i j sound.room ge lt) (payload-unlisted raw n i (j + 1) sound h lt))
+pub blocks_of-unlisted : (raw : List ℕ) (n i k : ℕ) → IsSound raw n → i + k ≤ n → blocks_of (unlisted raw n i k) (n - k) ≡ take i (blocks_of raw n) ++ drop (k + i) (blocks_of raw n)
+blocks_of-unlisted raw n i k sound h =
+    let new = unlisted raw n i k in
+    listed-without (block_in raw) (block_in new) n i k h
+    (λ j lt. block_in-same raw new j j (desc_at-unlisted_below raw n i k j sound.room h lt) (payload-unlisted raw n i k j sound h (omega arith)))
+    (λ j ge lt. block_in-same raw new j (j + k) (desc_at-unlisted_above raw n i k j sound.room ge lt) (payload-unlisted raw n i k (j + k) sound h lt))
 
-pub addrs_of-unlisted : (raw : List ℕ) (n i : ℕ) → IsSound raw n → i < n → addrs_of (unlisted raw n i) (n - 1) ≡ remove (addrs_of raw n) i
-addrs_of-unlisted raw n i sound h =
-    let new = unlisted raw n i in
-    listed-remove (addr_in raw) (addr_in new) n i h
-    (λ j lt. ap (λ (d : Desc). d.addr) (desc_at-unlisted_below raw n i j sound.room h lt))
-    (λ j ge lt. ap (λ (d : Desc). d.addr) (desc_at-unlisted_above raw n i j sound.room ge lt))
+pub addrs_of-unlisted : (raw : List ℕ) (n i k : ℕ) → IsSound raw n → i + k ≤ n → addrs_of (unlisted raw n i k) (n - k) ≡ take i (addrs_of raw n) ++ drop (k + i) (addrs_of raw n)
+addrs_of-unlisted raw n i k sound h =
+    let new = unlisted raw n i k in
+    listed-without (addr_in raw) (addr_in new) n i k h
+    (λ j lt. ap (λ (d : Desc). d.addr) (desc_at-unlisted_below raw n i k j sound.room h lt))
+    (λ j ge lt. ap (λ (d : Desc). d.addr) (desc_at-unlisted_above raw n i k j sound.room ge lt))
 
 -- the number that a descriptor had
-pub record Had (raw new : List ℕ) (n i j : ℕ) : Type 0 where
+pub record Had (raw new : List ℕ) (n i k j : ℕ) : Type 0 where
   pub number : ℕ
   pub small : number < n
   pub same : desc_at new j ≡ desc_at raw number
   pub below : j < i → number ≡ j
-  pub above : i ≤ j → number ≡ j + 1
+  pub above : i ≤ j → number ≡ j + k
 
-pub had : (raw : List ℕ) (n i j : ℕ) → 8 * n ≤ length raw → i < n → j < n - 1 → Had raw (unlisted raw n i) n i j
-had raw n i j room h small =
+pub had : (raw : List ℕ) (n i k j : ℕ) → 8 * n ≤ length raw → i + k ≤ n → j < n - k → Had raw (unlisted raw n i k) n i k j
+had raw n i k j room h small =
     elim (cases_lt j i) [
-      | inl lt ↦ record { number = j; small = omega arith; same = desc_at-unlisted_below raw n i j room h lt; below = λ _. refl; above = λ (ge : i ≤ j). absurd (omega arith) }
-      | inr ge ↦ record { number = j + 1; small = omega arith; same = desc_at-unlisted_above raw n i j room ge (omega arith); below = λ (lt : j < i). absurd (omega arith); above = λ _. refl }
+      | inl lt ↦ record { number = j; small = omega arith; same = desc_at-unlisted_below raw n i k j room h lt; below = λ _. refl; above = λ (ge : i ≤ j). absurd (omega arith) }
+      | inr ge ↦ record { number = j + k; small = omega arith; same = desc_at-unlisted_above raw n i k j room ge (omega arith); below = λ (lt : j < i). absurd (omega arith); above = λ _. refl }
     ]
 
 AreApart-same : (a b c d : Desc) → a ≡ c → b ≡ d → AreApart c d → AreApart a b
 AreApart-same a b c d e f h = subst (λ (x : Desc). AreApart x b) (sym e) (subst (λ (y : Desc). AreApart c y) (sym f) h)
 
-pub IsSound-unlisted : (raw : List ℕ) (n i : ℕ) → IsSound raw n → i < n → IsSound (unlisted raw n i) (n - 1)
-IsSound-unlisted raw n i sound h =
-    let new = unlisted raw n i in
-    let piece = window raw (length raw - 8 * n) (8 * (n - i - 1)) in
+pub IsSound-unlisted : (raw : List ℕ) (n i k : ℕ) → IsSound raw n → i + k ≤ n → IsSound (unlisted raw n i k) (n - k)
+IsSound-unlisted raw n i k sound h =
+    let new = unlisted raw n i k in
     let room = sound.room in
-    let moved = length-moved raw n (n - i - 1) room (omega arith) in
-    let long : length new ≡ length raw = length-overwritten raw (length raw - 8 * n + 8) piece (omega arith) in
+    let long = length-unlisted raw n i k room h in
     record {
       room = omega arith;
       within = λ j small.
-          let old = had raw n i j room h small in
+          let old = had raw n i k j room h small in
           let ends = sound.within old.number old.small in
           let same = ap end_of old.same in
           omega arith;
-      apart = λ j k lt small.
-          let first = had raw n i j room h (omega arith) in
-          let second = had raw n i k room h small in
+      apart = λ j l lt small.
+          let first = had raw n i k j room h (omega arith) in
+          let second = had raw n i k l room h small in
           let order : first.number < second.number = elim (cases_lt j i) [
-            | inl jl ↦ elim (cases_lt k i) [ inl kl ↦ omega (arith, first.below jl, second.below kl) | inr kg ↦ omega (arith, first.below jl, second.above kg) ]
-            | inr jg ↦ let kg : i ≤ k = omega arith in omega (arith, first.above jg, second.above kg)
+            | inl jl ↦ elim (cases_lt l i) [ inl kl ↦ omega (arith, first.below jl, second.below kl) | inr kg ↦ omega (arith, first.below jl, second.above kg) ]
+            | inr jg ↦ let kg : i ≤ l = omega arith in omega (arith, first.above jg, second.above kg)
           ] in
           AreApart-same _ _ _ _ first.same second.same (sound.apart first.number second.number order second.small);
     }
@@ -312,4 +318,4 @@ IsSound-placed raw n i d piece can =
       apart = λ j k lt small. apart_stands raw n i d piece j k can lt small (stands raw n i d piece j can (omega arith)) (stands raw n i d piece k can small);
     }
 
-pub ruleset raws = (shift_down, shift_up, blocks_of-unlisted, addrs_of-unlisted, IsSound-unlisted, blocks_of-placed, addrs_of-placed, IsSound-placed, length-placed, length-unlisted, length-listed)
+pub ruleset raws = (shift_up, blocks_of-unlisted, addrs_of-unlisted, IsSound-unlisted, blocks_of-placed, addrs_of-placed, IsSound-placed, length-placed, length-unlisted, length-listed)

@@ -1,6 +1,6 @@
-ghost use Rattle.std.specs.Prelude.{◌≡◌, ◌+◌, ◌-◌, ◌*◌, ◌^◌, ◌<◌, ◌≤◌, length, insert, remove};
+ghost use Rattle.std.specs.Prelude.{ℕ, ◌≡◌, ◌+◌, ◌-◌, ◌*◌, ◌^◌, ◌<◌, ◌≤◌, ◌++◌, length, take, drop, insert, remove};
 ghost use Rattle.htx_layout.specs.Raw.{blocks_of, addrs_of, block_of, info_len, info_kind};
-ghost use Rattle.htx_layout.specs.Sound.{IsSound, end_of};
+ghost use Rattle.htx_layout.specs.Sound.{IsSound, IsLaid, end_of};
 ghost use Rattle.htx_layout.specs.Moves.{CanPlace};
 ghost use Rattle.htx_layout.specs.Steps.{unlisted, placed};
 ghost use Rattle.htx_layout.specs.Values.{value_start, value_length};
@@ -9,18 +9,47 @@ ghost use Rattle.htx_space.specs.Windows.{window};
 use crate::payload::{self, Payload};
 use htx_space::{Desc, Space};
 
-/// Takes out a block. Its payload stays as a hole.
+/// Takes out `n` blocks from a number on, in one move of the descriptors behind them. Their payloads stay as holes.
 #[tactic(auto, using(crate::proofs::RawLemmas::raws))]
+pub fn close(space: &mut Space, count: u32, at: u32, n: u32)
+    requires sound { IsSound space.old count }
+    requires within { at + n ≤ count }
+    requires small { length space.old ≤ 262144 }
+    ensures blocks { blocks_of space.new (count - n) ≡ take at (blocks_of space.old count) ++ drop (n + at) (blocks_of space.old count) }
+    ensures addrs { addrs_of space.new (count - n) ≡ take at (addrs_of space.old count) ++ drop (n + at) (addrs_of space.old count) }
+    ensures laid { (front : ℕ) → IsLaid space.old count front → IsLaid space.new (count - n) front }
+    ensures is { space.new ≡ unlisted space.old count at n }
+    ensures size { length space.new ≡ length space.old }
+{
+    let from = space.size() - 8 * count;
+    space.slide(from, from + 8 * n, 8 * (count - at - n));
+}
+
+/// Takes out a block. Its payload stays as a hole.
 pub fn unlist(space: &mut Space, count: u32, at: u32)
     requires sound { IsSound space.old count }
     requires within { at < count }
+    requires small { length space.old ≤ 262144 }
     ensures blocks { blocks_of space.new (count - 1) ≡ remove (blocks_of space.old count) at }
     ensures addrs { addrs_of space.new (count - 1) ≡ remove (addrs_of space.old count) at }
-    ensures sound { IsSound space.new (count - 1) }
-    ensures is { space.new ≡ unlisted space.old count at }
+    ensures laid { (front : ℕ) → IsLaid space.old count front → IsLaid space.new (count - 1) front }
+    ensures is { space.new ≡ unlisted space.old count at 1 }
     ensures size { length space.new ≡ length space.old }
 {
-    space.shift(at + 1, count - at - 1, false);
+    close(space, count, at, 1);
+}
+
+/// Takes out the first blocks.
+pub fn drop_first(space: &mut Space, count: u32, n: u32)
+    requires sound { IsSound space.old count }
+    requires within { n ≤ count }
+    requires small { length space.old ≤ 262144 }
+    ensures blocks { blocks_of space.new (count - n) ≡ drop n (blocks_of space.old count) }
+    ensures addrs { addrs_of space.new (count - n) ≡ drop n (addrs_of space.old count) }
+    ensures laid { (front : ℕ) → IsLaid space.old count front → IsLaid space.new (count - n) front }
+    ensures size { length space.new ≡ length space.old }
+{
+    close(space, count, 0, n);
 }
 
 /// Puts in a block whose payload comes to free bytes.

@@ -29,14 +29,14 @@ connected_is None body = refl
 connected_is (Some text) body = refl
 
 pub reported : (cfg : Config) (client server body text : List ℕ) (one : One) (report : Report) → server ≡ server_text body
-    → Session (meaning_of cfg) tt (closed client) (servers_by one.to_server server) (out_of_one one)
+    → Session (meaning_of cfg) (closed client) (servers_by one.to_server server) (out_of_one one)
     → out_of report ≡ out_of_one one → text ≡ report_of (out_of report) → (IsUnbuilt cfg.limits client → ⊥) → Reports cfg client body text
 reported cfg client server body text one report is session made wrote served =
     record {
       out = out_of_one one;
       connects = connects_of one.to_server;
       session =
-          subst (λ (servers : List Server). Session (meaning_of cfg) tt (closed client) servers (out_of_one one))
+          subst (λ (servers : List Server). Session (meaning_of cfg) (closed client) servers (out_of_one one))
           (ap (servers_by one.to_server) is ∙ connected_is one.to_server body) session;
       bit = refl;
       report = wrote ∙ ap report_of made;

@@ -41,7 +41,7 @@ recorded_servers body = Open (closed (server_text body)) false ∷ []
 pub record Reports (cfg : Config) (client body text : List ℕ) : Type 0 where
   pub out : Out
   pub connects : ℕ
-  pub session : Session (meaning_of cfg) tt (closed client) (connected (recorded_servers body) connects) out
+  pub session : Session (meaning_of cfg) (closed client) (connected (recorded_servers body) connects) out
   pub bit : out.cut ≡ None
   pub report : text ≡ report_of out
   pub served : IsUnbuilt cfg.limits client → ⊥

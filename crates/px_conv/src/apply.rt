@@ -1,3 +1,4 @@
+//! Each converter on a sample, by its own line of the table.
 ghost use Rattle.std.specs.Prelude.{◌≡◌, false, IsOk, IfOk};
 ghost use Rattle.px_sample.specs.Sample.{value_in};
 ghost use Rattle.px_conv.specs.Conv.{converted, has_pattern};

@@ -1,3 +1,4 @@
+//! Converters with their arguments, one variant for each.
 use px_pattern::Pat;
 use px_sample::Text;
 

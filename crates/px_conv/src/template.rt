@@ -1,3 +1,4 @@
+//! Templates with the groups of a match put in, all of one or nothing.
 ghost use Rattle.std.specs.Prelude.{◌≡◌, ◌+◌, ◌<◌, ◌≤◌, ◌↔◌, ◌++◌, ◌==◌, not, length, IsTrue};
 ghost use Rattle.std.specs.Bool.{OnTrue, OnFalse};
 ghost use Rattle.std.specs.List.{prefix_len};
@@ -22,12 +23,7 @@ fn group_bytes<'a>(groups: &Groups, n: u32, text: &'a [u8]) -> &'a [u8]
 fn plain_len(template: &[u8]) -> usize
     ensures { result ≡ prefix_len (λ b. not (b == 92)) template.now }
 {
-    for (i, b) in template.iter().enumerate() {
-        if *b == b'\\' {
-            return i;
-        }
-    }
-    template.len()
+    template.iter().take_while(|b| **b != b'\\').count()
 }
 
 /// What the front of a template gives, and what is left of it.

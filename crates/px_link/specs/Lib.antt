@@ -3,3 +3,9 @@ pub mod Calls
 pub mod MemFiles
 pub mod MemSink
 pub mod NamedFiles
+pub mod Link
+pub mod MemLink
+pub mod Net
+pub mod MemNet
+pub mod Addresses
+pub mod Turns

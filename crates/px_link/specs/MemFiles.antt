@@ -15,3 +15,7 @@ pub record FilesSeen : Type 0 where
 -- the next read, of this name, is to fail: its number is listed, or there is no such file
 abbrev pub fails_next : FilesSeen → List ℕ → Bool
 fails_next seen name = is_listed (next_call seen.calls) seen.failing || is_none (content_of seen.files name)
+
+-- so many bytes of a name are kept without memory from elsewhere
+abbrev pub name_room : ℕ
+name_room = 255

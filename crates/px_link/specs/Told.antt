@@ -1,5 +1,5 @@
 -- What the objects that are handed in tell, and the counts of their faults.
-use Rattle.std.specs.Prelude.{◌≡◌, ℕ, ◌-◌, ◌<◌, ◌≤◌, ◌^◌, ◌⊎◌, List, [], ◌∷◌, ◌++◌, if◌then◌else◌, take, Option, Some, None, Result, Ok, Err, IsErrOf, ⊤}
+use Rattle.std.specs.Prelude.{◌≡◌, ℕ, ◌-◌, ◌<◌, ◌≤◌, ◌^◌, ◌⊎◌, List, [], ◌∷◌, ◌++◌, if◌then◌else◌, take, Option, Some, None, Result, Ok, Err, IsErrOf, OnOk, ⊤}
 use Rattle.std.specs.Str.{bytes_eq}
 use Rattle.px_link.specs.declared.fault.Fault.{Fault}
 use Rattle.px_link.specs.declared.fault.Fault.TheVariants.{Failed, OutOfMemory}
@@ -8,10 +8,12 @@ use Rattle.px_link.specs.declared.fault.Fault.TheVariants.{Failed, OutOfMemory}
 abbrev pub Rose : ℕ → ℕ → Type 0
 Rose before now = (before < now) ⊎ (2 ^ 64 - 1 ≤ now)
 
--- the count never falls, and a failure raises it
+-- a failure raises the count, and nothing else changes it
 pub record Counts {T : Type 0} (before now : ℕ) (result : Result T Fault) : Type 0 where
   pub never_falls : before ≤ now
   pub failed : IsErrOf result Failed → Rose before now
+  pub ok : OnOk result (now ≡ before)
+  pub memory : IsErrOf result OutOfMemory → now ≡ before
 
 -- the name of the last failed read, after one of this name
 abbrev pub last_name : {T : Type 0} → Result T Fault → List ℕ → List ℕ → List ℕ

@@ -10,7 +10,7 @@ pub struct Failed;
 pub enum Fault {
     /// The object could not, and has counted that.
     Failed,
-    /// The machine has no memory left. It is counted nowhere.
+    /// The machine has no memory left. No object counts that as a fault.
     OutOfMemory,
 }
 

@@ -1,5 +1,5 @@
-//! What the program is handed: files to read and a sink to write to, as traits that count their faults,
-//! and both in memory. Besides them the small types in which bytes and lists pass between crates.
+//! What the program is handed: links and a net, turns, files to read and a sink to write to, as traits that count
+//! their faults, and each in memory. Besides them the small types in which bytes and lists pass between crates.
 #![tactic(auto)]
 
 mod address;
@@ -8,11 +8,18 @@ mod calls;
 mod fault;
 mod files;
 mod item_list;
+mod kept_name;
+mod link;
+mod list_turns;
 mod mem_files;
+mod mem_link;
+mod mem_net;
 mod mem_sink;
+mod net;
 mod sink;
 #[cfg(test)]
 mod tests;
+mod turns;
 
 pub use address::Address;
 pub use bytes::Bytes;
@@ -20,6 +27,12 @@ pub use fault::{Failed, Fault};
 pub use files::Files;
 pub use http_model::{Close, End, Ending, OutOfMemory};
 pub use item_list::ItemList;
+pub use link::Link;
+pub use list_turns::ListTurns;
 pub use mem_files::MemFiles;
+pub use mem_link::MemLink;
+pub use mem_net::MemNet;
 pub use mem_sink::MemSink;
+pub use net::Net;
 pub use sink::Sink;
+pub use turns::{Turn, Turns};

@@ -1,11 +1,12 @@
 //! Files in memory, of which reads of chosen numbers fail.
-ghost use Rattle.std.specs.Prelude.{◌≡◌, ◌∷◌, [], true, Some, take, IfOk, IsErr, IsErrOf, OnOk, OnErr};
+ghost use Rattle.std.specs.Prelude.{◌≡◌, ◌≤◌, ◌∷◌, [], true, Some, take, length, IfOk, IsErr, IsErrOf, OnOk, OnErr};
 ghost use Rattle.std.specs.Option.{option_copied};
 ghost use Rattle.px_link.specs.Told.{Counts, Reads, content_of, last_name};
 ghost use Rattle.px_link.specs.Calls.{next_call, faults_after};
-ghost use Rattle.px_link.specs.MemFiles.{fails_next};
+ghost use Rattle.px_link.specs.MemFiles.{fails_next, name_room};
 ghost use Rattle.px_link.specs.NamedFiles.{named_bytes};
 
+use crate::kept_name::KeptName;
 use crate::{Bytes, Fault, Files, OutOfMemory, calls};
 use std::alloc::Global;
 use std::marker::Model;
@@ -24,7 +25,7 @@ pub struct MemFiles {
     failing: Vec<u64>,
     calls: u64,
     faults: u64,
-    last_failed: Bytes,
+    last_failed: KeptName,
 }
 
 impl Model for MemFiles {
@@ -57,7 +58,7 @@ impl MemFiles {
             failing: Vec::new(alloc),
             calls: 0,
             faults: 0,
-            last_failed: Bytes::from(Vec::new(alloc)),
+            last_failed: KeptName::new(alloc),
         }
     }
 
@@ -91,10 +92,10 @@ impl MemFiles {
         self.failing = calls;
     }
 
-    /// What a read of this name answers that fails: it is counted and its name kept, where there is memory
-    /// for the name.
+    /// What a read of this name answers that fails: it is counted and its name kept. A long name takes memory.
     fn failed_read(&mut self, name: &[u8]) -> Result<Bytes, Fault>
         ensures err { IsErr result }
+        ensures short { length name.now ≤ name_room → IsErrOf result Fault.Failed }
         ensures count { Counts self.old.faults self.new.faults result }
         ensures last { self.new.last_failed ≡ last_name result name.now self.old.last_failed }
         ensures files { self.new.files ≡ self.old.files }
@@ -102,8 +103,7 @@ impl MemFiles {
         ensures calls { self.new.calls ≡ self.old.calls }
         ensures faults { self.new.faults ≡ faults_after result self.old.faults }
     {
-        let alloc = *self.files.allocator();
-        self.last_failed = Bytes::copy(alloc, name)?;
+        self.last_failed.keep(name)?;
         self.faults = self.faults.saturating_add(1);
         Err(Fault::Failed)
     }
@@ -141,13 +141,15 @@ impl Files for MemFiles {
 
     ghost last_failed = { λ seen. seen.last_failed };
 
-    /// A read whose number is listed fails, as does one of a name that wasn't added, and no other.
+    /// A read whose number is listed fails, as does one of a name that wasn't added, and no other. One of a name of at
+    /// most 255 bytes then takes no memory.
     fn read_file(&mut self, alloc: Global, name: &str, limit: usize) -> Result<Bytes, Fault>
         ensures bytes { IfOk result (λ bytes. Reads (Some self.old.files) name.now limit bytes) }
         ensures count { Counts self.old.faults self.new.faults result }
         ensures last { self.new.last_failed ≡ last_name result name.now self.old.last_failed }
         ensures files { Some self.new.files ≡ Some self.old.files }
         ensures fails { fails_next self.old name.now ≡ true → IsErr result }
+        ensures short { fails_next self.old name.now ≡ true → length name.now ≤ name_room → IsErrOf result Fault.Failed }
         ensures only { IsErrOf result Fault.Failed → fails_next self.old name.now ≡ true }
         ensures calls { self.new.calls ≡ next_call self.old.calls }
         ensures faults { self.new.faults ≡ faults_after result self.old.faults }

@@ -1,116 +1,127 @@
-use crate::{Address, Bytes, Failed, Fault, Files, ItemList, MemFiles, MemSink, OutOfMemory, Sink};
+use crate::{
+    Address, Bytes, Close, Ending, Failed, Fault, Files, ItemList, Link, ListTurns, MemFiles,
+    MemLink, MemNet, MemSink, Net, OutOfMemory, Sink, Turn, Turns,
+};
 use std::alloc::Global;
 use std::test::Fail;
 
-/// Whether reads of one name fail, one after another, through the trait alone.
-fn failed_reads<F: Files>(files: &mut F, alloc: Global, name: &str) -> [bool; 4] {
-    let mut failed = [false; 4];
-    for read in failed.iter_mut() {
-        let answer = files.read_file(alloc, name, 9);
-        *read = matches!(answer, Err(Fault::Failed));
-    }
-    failed
-}
-
-/// Whether writes of one piece fail, one after another, through the trait alone.
-fn failed_writes<K: Sink>(sink: &mut K, piece: &[u8]) -> [bool; 4] {
-    let mut failed = [false; 4];
-    for write in failed.iter_mut() {
-        let answer = sink.write_all(piece);
-        *write = matches!(answer, Err(Fault::Failed));
-    }
-    failed
-}
-
-/// Numbers of calls that are to fail, which of four calls then fail, and what a sink then holds.
-const CALLS: [(&[u64], [bool; 4], &[u8]); 8] = [
-    (&[], [false, false, false, false], b"abababab"),
-    (&[1], [true, false, false, false], b"ababab"),
-    (&[2], [false, true, false, false], b"ababab"),
-    (&[4], [false, false, false, true], b"ababab"),
-    (&[4, 2, 2], [false, true, false, true], b"abab"),
-    (&[3, 1, 4, 2], [true, true, true, true], b""),
-    (&[0], [false, false, false, false], b"abababab"),
-    (
-        &[5, 18446744073709551615],
-        [false, false, false, false],
-        b"abababab",
-    ),
-];
-
-#[test]
-fn calls_fail_at_their_numbers(rt: HostRuntime) -> Result<(), Fail> {
-    for (numbers, expected, written) in CALLS.iter() {
-        let mut files = MemFiles::new(rt.alloc());
-        files.add("a", b"b")?;
-        files.fail_at(numbers.to_vec(rt.alloc())?);
-        assert_eq!(rt; failed_reads(&mut files, rt.alloc(), "a"), *expected);
-        let mut sink = MemSink::new(rt.alloc());
-        sink.fail_at(numbers.to_vec(rt.alloc())?);
-        assert_eq!(rt; failed_writes(&mut sink, b"ab"), *expected);
-        assert_eq!(rt; sink.written(), *written);
-    }
-    Ok(())
+/// Copies the front of a file into a sink, through the traits alone.
+fn copy<F: Files, K: Sink>(alloc: Global, files: &mut F, out: &mut K) -> Result<(), Fault> {
+    let bytes = files.read_file(alloc, "a", 3)?;
+    out.write_all(bytes.as_slice())
 }
 
 #[test]
-fn reads_of_absent_names_fail(rt: HostRuntime) -> Result<(), Fail> {
-    let mut files = MemFiles::new(rt.alloc());
-    files.add("a.cfg", b"listen p\n")?;
-    for name in ["", "a", "a.cfg.", "A.cfg"] {
-        assert_eq!(rt; failed_reads(&mut files, rt.alloc(), name), [true; 4]);
-    }
-    Ok(())
-}
-
-#[test]
-fn reads_stop_at_the_limit(rt: HostRuntime) -> Result<(), Fail> {
+fn files_and_sinks_fail_at_their_numbers(rt: HostRuntime) -> Result<(), Fail> {
     let mut files = MemFiles::new(rt.alloc());
     files.add("a", b"older")?;
-    files.add("b", b"")?;
     files.add("a", b"newer")?;
-    let rows: [(&str, usize, &[u8]); 6] = [
-        ("a", 0, b""),
-        ("a", 4, b"newe"),
-        ("a", 5, b"newer"),
-        ("a", 6, b"newer"),
-        ("a", usize::MAX, b"newer"),
-        ("b", 5, b""),
-    ];
-    for (name, limit, expected) in rows.iter() {
-        match files.read_file(rt.alloc(), *name, *limit) {
-            Ok(bytes) => assert_eq!(rt; bytes.as_slice(), *expected),
-            Err(_) => assert!(rt; false),
+    files.fail_at([2u64, 4].to_vec(rt.alloc())?);
+    let mut sink = MemSink::new(rt.alloc());
+    sink.fail_at([2u64].to_vec(rt.alloc())?);
+    let mut answers = [Ok(()); 5];
+    for answer in answers.iter_mut() {
+        *answer = copy(rt.alloc(), &mut files, &mut sink);
+    }
+    let failed = Err(Fault::Failed);
+    assert_eq!(rt; answers, [Ok(()), failed, failed, failed, Ok(())]);
+    assert_eq!(rt; sink.written(), b"newnew".as_slice());
+    Ok(())
+}
+
+/// Writes a piece until it is taken, closes the link and counts what it gives, through the trait alone.
+fn exchange<L: Link>(
+    link: &mut L,
+    piece: &[u8],
+) -> ([Result<usize, Fault>; 3], [Result<usize, Failed>; 3]) {
+    let mut writes = [Ok(0); 3];
+    let mut reads = [Ok(0); 3];
+    if piece.len() > 0 {
+        for write in writes.iter_mut() {
+            *write = link.write(piece);
         }
     }
+    link.close(Close::Clean);
+    let mut into = [0u8; 2];
+    for read in reads.iter_mut() {
+        *read = link.read(&mut into);
+    }
+    (writes, reads)
+}
+
+#[test]
+fn links_give_and_take(rt: HostRuntime) -> Result<(), Fail> {
+    let mut link = MemLink::new(rt.alloc(), b"abc", Ending::Broke, Some(3))?;
+    link.fail_writes_at([1u64].to_vec(rt.alloc())?);
+    let (writes, reads) = exchange(&mut link, b"xy");
+    assert_eq!(rt; writes, [Err(Fault::Failed), Ok(2), Ok(1)]);
+    assert_eq!(rt; reads, [Ok(2), Ok(1), Err(Failed)]);
+    assert_eq!(rt; link.written(), b"xyx".as_slice());
+    assert_eq!(rt; link.closed(), Some(Close::Clean));
+    let mut closed = MemLink::new(rt.alloc(), b"abc", Ending::Closed, None)?;
+    closed.fail_at([2u64].to_vec(rt.alloc())?);
+    let (writes, reads) = exchange(&mut closed, b"xy");
+    assert_eq!(rt; writes, [Ok(2), Ok(2), Ok(2)]);
+    assert_eq!(rt; reads, [Ok(2), Err(Failed), Ok(1)]);
+    Ok(())
+}
+
+/// Listens, accepts and connects, and gives back what it was handed, through the trait alone.
+fn visit<N: Net>(net: &mut N, place: &Address) -> [Option<Fault>; 4] {
+    let bound = net.bind(place).err();
+    let accepted = match net.accept() {
+        Ok(link) => {
+            net.keep(link);
+            None
+        }
+        Err(fault) => Some(fault),
+    };
+    let mut connected = [None; 2];
+    for fault in connected.iter_mut() {
+        match net.connect(place) {
+            Ok(link) => net.keep(link),
+            Err(why) => *fault = Some(why),
+        }
+    }
+    [bound, accepted, connected[0], connected[1]]
+}
+
+#[test]
+fn nets_lend_and_keep(rt: HostRuntime) -> Result<(), Fail> {
+    let mut accepts = Vec::new(rt.alloc());
+    accepts.push(MemLink::new(rt.alloc(), b"a", Ending::Closed, None)?)?;
+    let mut servers = Vec::new(rt.alloc());
+    servers.push(None)?;
+    servers.push(Some(MemLink::new(rt.alloc(), b"b", Ending::Closed, None)?))?;
+    let mut net = MemNet::new(rt.alloc(), accepts, servers)?;
+    let host = Bytes::copy(rt.alloc(), b"localhost")?;
+    let place = Address { host, port: 8080 };
+    assert_eq!(rt;
+        visit(&mut net, &place),
+        [None, None, Some(Fault::Failed), None]
+    );
+    assert_eq!(rt; net.connects(), 2);
+    assert_eq!(rt; net.kept().len(), 2);
+    net.fail_at([5u64].to_vec(rt.alloc())?);
+    let failed = Some(Fault::Failed);
+    assert_eq!(rt; visit(&mut net, &place), [failed, failed, failed, failed]);
     Ok(())
 }
 
 #[test]
-fn bytes_and_lists_grow(rt: HostRuntime) -> Result<(), Fail> {
+fn bytes_lists_and_turns(rt: HostRuntime) -> Result<(), Fail> {
     let mut host = Bytes::copy(rt.alloc(), b"local")?;
     host.push(b"host")?;
-    let address = Address { host, port: 8080 };
-    assert_eq!(rt; address.host.as_slice(), b"localhost".as_slice());
-    assert_eq!(rt; address.port, 8080);
+    assert_eq!(rt; host.as_slice(), b"localhost".as_slice());
     let mut list = ItemList::new(rt.alloc());
     assert!(rt; list.is_empty());
-    for number in [7u16, 8, 9] {
-        assert!(rt; list.len() < 4);
-        list.push(number)?;
-    }
-    assert_eq!(rt; list.len(), 3);
+    list.push(7u16)?;
+    assert_eq!(rt; list.len(), 1);
     assert_eq!(rt; *list.get(0), 7);
-    assert_eq!(rt; *list.get(2), 9);
-    let mut names = ItemList::new(rt.alloc());
-    names.push(Bytes::copy(rt.alloc(), b"host")?)?;
-    assert_eq!(rt; names.len(), 1);
-    assert_eq!(rt; names.get(0).as_slice(), b"host".as_slice());
-    Ok(())
-}
-
-#[test]
-fn faults_convert(rt: HostRuntime) {
+    let mut turns = ListTurns::new([Turn::ClientGives(1)].to_vec(rt.alloc())?);
+    assert_eq!(rt; turns.next(), Some(Turn::ClientGives(1)));
+    assert_eq!(rt; turns.next(), None);
     assert_eq!(rt; Fault::from(Failed), Fault::Failed);
     assert_eq!(rt; Fault::from(OutOfMemory), Fault::OutOfMemory);
+    Ok(())
 }

@@ -1,6 +1,7 @@
-ghost use Rattle.std.specs.Prelude.{◌≡◌, None, IsOk, IfOk, IsErr};
+//! A builder for tests, which refuses one build by its number.
+ghost use Rattle.std.specs.Prelude.{◌≡◌, ◌⊎◌, None, IfOk, IsErr, IsErrOf};
 ghost use Rattle.px_pattern.specs.Meaning.{IsPattern};
-ghost use Rattle.px_pattern.specs.Refusals.{CountsRefusals, kept_after};
+ghost use Rattle.px_pattern.specs.Refusals.{CountsRefusals, IsRefusable, kept_after};
 ghost use Rattle.px_pattern.specs.Keeping.{next_build};
 
 use crate::patterns::Patterns;
@@ -50,6 +51,7 @@ impl Patterns for FakePatterns {
         ensures built { IfOk result (λ pat. pat ≡ record { text = text.now; icase = icase }) }
         ensures read { IfOk result IsPattern }
         ensures by_number { next_build self.old.builds ≡ self.old.refuse → IsErr result }
+        ensures refused { IsErrOf result PatFault.Refused → (next_build self.old.builds ≡ self.old.refuse) ⊎ IsRefusable icase text.now }
         ensures counts { CountsRefusals self.old.refusals self.new.refusals result }
         ensures kept { self.new.last ≡ kept_after result text.now icase self.old.last }
         ensures builds { self.new.builds ≡ next_build self.old.builds }

@@ -1,3 +1,4 @@
+//! Why a build failed.
 /// Why a pattern was not built.
 #[derive(Clone, Copy, Debug, PartialEq, Eq)]
 pub enum PatFault {

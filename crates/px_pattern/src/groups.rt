@@ -1,3 +1,4 @@
+//! The groups of a match, each of which lies in the text.
 ghost use Rattle.std.specs.Prelude.{◌≡◌, ℕ, ◌+◌, ◌≤◌, length, option_map, IfOk, IfSome};
 ghost use Rattle.regex.specs.Bytes.{captures_span, captures_haystack};
 ghost use Rattle.px_pattern.specs.Groups.{span_between, group_at, LiesIn, LieIn};

@@ -1,3 +1,4 @@
+//! What a builder keeps of a refused build.
 /// A text that was refused, and whether its pattern was to ignore case.
 #[derive(Drop)]
 pub struct KeptText {

@@ -1,3 +1,4 @@
+//! Patterns and what searches for them: they find what the pattern's own text means.
 ghost use Rattle.std.specs.Prelude.{◌≡◌, is_some, length, IfOk, IfSome, IsTrue};
 ghost use Rattle.regex.specs.Patterns.{find};
 ghost use Rattle.regex.specs.Bytes.{regex_source, regex_config, matcher_pattern, IsReadFromSource};

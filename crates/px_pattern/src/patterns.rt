@@ -1,3 +1,4 @@
+//! What builds patterns, and tells which texts it refused.
 ghost use Rattle.std.specs.Prelude.{◌≡◌, ℕ, IfOk};
 ghost use Rattle.px_pattern.specs.Meaning.{IsPattern};
 ghost use Rattle.px_pattern.specs.Refusals.{CountsRefusals, Kept, kept_after};

@@ -1,6 +1,7 @@
-ghost use Rattle.std.specs.Prelude.{◌≡◌, None, IsOk, IsErr, IfOk, IsUtf8};
+//! The builder over `regex`, which keeps the last text that it refused.
+ghost use Rattle.std.specs.Prelude.{◌≡◌, None, IsOk, IsErr, IsErrOf, IfOk, IsUtf8};
 ghost use Rattle.px_pattern.specs.Meaning.{IsPattern};
-ghost use Rattle.px_pattern.specs.Refusals.{CountsRefusals, kept_after};
+ghost use Rattle.px_pattern.specs.Refusals.{CountsRefusals, IsRefusable, kept_after};
 
 use crate::kept::KeptText;
 use crate::patterns::Patterns;
@@ -69,6 +70,7 @@ impl Patterns for RealPatterns {
         ensures built { IfOk result (λ pat. pat ≡ record { text = text.now; icase = icase }) }
         ensures read { IfOk result IsPattern }
         ensures utf8 { IsOk result → IsUtf8 text.now }
+        ensures refused { IsErrOf result PatFault.Refused → IsRefusable icase text.now }
         ensures counts { CountsRefusals self.old.refusals self.new.refusals result }
         ensures kept { self.new.last ≡ kept_after result text.now icase self.old.last }
     {

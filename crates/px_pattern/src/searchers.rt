@@ -1,3 +1,4 @@
+//! Searchers that are kept from one search to the next, and find what new ones would find.
 ghost use Rattle.std.specs.Prelude.{◌≡◌, ◌<◌, is_some, length, IfOk, IfSome};
 ghost use Rattle.regex.specs.Patterns.{find};
 ghost use Rattle.px_pattern.specs.Groups.{LieIn};
@@ -7,11 +8,10 @@ use crate::{Groups, Pat, Searcher};
 use htx_model::OutOfMemory;
 use std::alloc::Global;
 
-/// So many patterns have a searcher that is kept; a pattern with a greater number is searched for with a new one.
-const MOST: usize = 65536;
+/// So many patterns have a searcher that is kept; one with a greater number is searched for with a new one each time.
+const MOST_KEPT: usize = 65536;
 
-/// Searchers for patterns, each made when its pattern is first searched for, and kept. What they find is what new ones
-/// would find.
+/// Searchers for patterns, each made when its pattern is first searched for, and kept at the pattern's number.
 #[derive(Drop)]
 pub struct Searchers<'c> {
     kept: Vec<Option<Box<Searcher<'c>>>>,
@@ -68,7 +68,7 @@ impl<'c> Searchers<'c> {
 
     /// Makes places up to this one.
     fn grow(&mut self, at: usize) -> Result<(), OutOfMemory>
-        requires { at < 65536 }
+        requires { at < MOST_KEPT }
     {
         for _place in self.kept.len()..at + 1 {
             self.kept.push(None)?;
@@ -87,7 +87,7 @@ impl<'c> Searchers<'c> {
         ensures within { IfOk result (λ found. IfSome found (LieIn (length text.now))) }
     {
         let at = pat.number();
-        if at < MOST && at >= self.kept.len() {
+        if at < MOST_KEPT && at >= self.kept.len() {
             self.grow(at)?;
         }
         match self.kept.get_mut(at) {
@@ -106,7 +106,7 @@ impl<'c> Searchers<'c> {
         ensures found { IfOk result (λ found. found ≡ is_some (find (pattern_of pat.now) text.now 0)) }
     {
         let at = pat.number();
-        if at < MOST && at >= self.kept.len() {
+        if at < MOST_KEPT && at >= self.kept.len() {
             self.grow(at)?;
         }
         match self.kept.get_mut(at) {

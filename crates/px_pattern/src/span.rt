@@ -1,3 +1,4 @@
+//! Where bytes of a text lie.
 /// Bytes of a text: where they begin, and how many they are.
 #[derive(Clone, Copy, Debug, PartialEq, Eq)]
 pub struct Span {

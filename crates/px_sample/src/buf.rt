@@ -1,3 +1,4 @@
+//! A buffer of bytes whose memory is taken once: what does not fit changes nothing.
 ghost use Rattle.std.specs.Prelude.{◌≡◌, ◌+◌, ◌-◌, ◌≤◌, ◌↔◌, ◌++◌, ◌∷◌, [], length, take, drop, replicate, IfOk, IsTrue};
 ghost use Rattle.std.specs.Str.{str_to_ascii_lowercase, str_to_ascii_uppercase};
 ghost use Rattle.std.specs.Bool.{OnTrue, OnFalse};

@@ -1,3 +1,4 @@
+//! Casts of samples: between numbers, truth values and bytes.
 ghost use Rattle.std.specs.Prelude.{◌≡◌, option_map, option_and_then, Some};
 ghost use Rattle.px_sample.specs.Sample.{Bytes, value_in, within};
 ghost use Rattle.std.specs.Fmt.{signed_decimal};

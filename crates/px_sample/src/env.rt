@@ -1,3 +1,4 @@
+//! What gives the samples of fetches.
 ghost use Rattle.std.specs.Prelude.{◌≡◌, ◌^◌, ◌<◌, List, Option, option_map, length, slice_get, IfNone};
 ghost use Rattle.px_sample.specs.Sample.{Value, value_in, within};
 ghost use Rattle.px_sample.specs.Fetched.{all_within, last_of};

@@ -1,3 +1,4 @@
+//! Fetches with their arguments, one variant for each.
 ghost use Rattle.std.specs.Prelude.{◌≡◌, IfOk};
 
 use crate::{Scope, Text};

@@ -1,3 +1,4 @@
+//! The forms in which values of variables are kept.
 /// What the bytes of a stored value stand for.
 #[derive(Clone, Copy, PartialEq, Eq)]
 pub enum Form {

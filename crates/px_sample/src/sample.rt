@@ -1,3 +1,4 @@
+//! What a fetch or a converter hands over.
 /// What a fetch or a converter gives (Configuration Manual, section 7.1).
 #[derive(Clone, Copy, Debug, PartialEq, Eq)]
 pub enum Sample {

@@ -1,3 +1,4 @@
+//! The lives of variables.
 /// How long a variable lives (Configuration Manual, section 2.8).
 #[derive(Clone, Copy, Debug, PartialEq, Eq)]
 pub enum Scope {

@@ -1,7 +1,8 @@
+//! The variables of one scope, one after another in bytes that are taken once.
 ghost use Rattle.std.specs.Prelude.{◌≡◌, ◌+◌, ◌<◌, ◌≤◌, [], ◌∷◌, ◌++◌, true, length, take, drop, remove, sum_by, vec_len, vec_capacity, slice_index_or, nat_le, Some, IfOk, IfSome};
 ghost use Rattle.px_sample.specs.Sample.{value_in, within};
 ghost use Rattle.px_sample.specs.Shape.{IsShape};
-ghost use Rattle.px_sample.specs.Entry.{lookup, without, with_variable, assigned, are_distinct};
+ghost use Rattle.px_sample.specs.Entry.{lookup, without, with_variable, assigned, are_distinct, scope_limit};
 ghost use Rattle.px_sample.specs.Slot.{len_of, value_of, entries_of, IsFound, freed_by};
 
 use crate::form::Form;
@@ -13,7 +14,7 @@ use std::alloc::Global;
 use std::marker::Model;
 
 /// The most bytes that names and values of one scope have together.
-const LIMIT: usize = 4096;
+const SCOPE_LIMIT: usize = 4096;
 
 /// The variables of one scope, those set last behind: what is known of each, and their names and values one
 /// after another.
@@ -95,8 +96,8 @@ fn put_in(slots: &mut Vec<Slot>, bytes: &mut Vec<u8>, name: &[u8], form: Form, v
     requires gapless { sum_by len_of slots.old.items ≡ vec_len bytes.old }
     requires shaped { IsShape form (length value.now) }
     requires few { vec_len slots.old < vec_capacity slots.old }
-    requires short { vec_len bytes.old + length name.now + length value.now ≤ 4096 }
-    requires room { 4096 ≤ vec_capacity bytes.old }
+    requires short { vec_len bytes.old + length name.now + length value.now ≤ scope_limit }
+    requires room { scope_limit ≤ vec_capacity bytes.old }
     ensures gapless { sum_by len_of slots.new.items ≡ vec_len bytes.new }
     ensures entries { entries_of slots.new.items bytes.new.items ≡ entries_of slots.old.items bytes.old.items ++ (name.now, value_of form value.now) ∷ [] }
     ensures slot_room { vec_capacity slots.old ≤ vec_capacity slots.new }
@@ -142,10 +143,10 @@ fn freed(found: &Option<Spot>) -> usize
 
 /// Whether a name and a value of these lengths go beside so many bytes.
 fn is_room(kept: usize, name: usize, value: usize) -> bool
-    requires { kept ≤ 4096 }
-    ensures { result ≡ nat_le (kept + name + value) 4096 }
+    requires { kept ≤ scope_limit }
+    ensures { result ≡ nat_le (kept + name + value) scope_limit }
 {
-    let room = LIMIT - kept;
+    let room = SCOPE_LIMIT - kept;
     name <= room && value <= room - name
 }
 
@@ -162,15 +163,15 @@ fn replace(
     requires distinct { are_distinct (entries_of slots.old.items bytes.old.items) ≡ true }
     requires found { IsFound slots.old.items bytes.old.items name.now found }
     requires shaped { IsShape form (length value.now) }
-    requires short { vec_len bytes.old + length name.now + length value.now ≤ 4096 + freed_by found }
-    requires slot_room { 4097 ≤ vec_capacity slots.old }
-    requires byte_room { 4096 ≤ vec_capacity bytes.old }
+    requires short { vec_len bytes.old + length name.now + length value.now ≤ scope_limit + freed_by found }
+    requires slot_room { scope_limit + 1 ≤ vec_capacity slots.old }
+    requires byte_room { scope_limit ≤ vec_capacity bytes.old }
     ensures gapless { sum_by len_of slots.new.items ≡ vec_len bytes.new }
     ensures entries { entries_of slots.new.items bytes.new.items ≡ with_variable name.now (value_of form value.now) (entries_of slots.old.items bytes.old.items) }
     ensures distinct { are_distinct (entries_of slots.new.items bytes.new.items) ≡ true }
-    ensures small { vec_len bytes.new ≤ 4096 }
-    ensures slot_room { 4097 ≤ vec_capacity slots.new }
-    ensures byte_room { 4096 ≤ vec_capacity bytes.new }
+    ensures small { vec_len bytes.new ≤ scope_limit }
+    ensures slot_room { scope_limit + 1 ≤ vec_capacity slots.new }
+    ensures byte_room { scope_limit ≤ vec_capacity bytes.new }
 {
     clear_name(slots, bytes, name, found);
     put_in(slots, bytes, name, form, value);
@@ -182,8 +183,8 @@ impl Shelf {
         ensures { IfOk result (λ shelf. shelf ≡ []) }
     {
         Ok(Shelf {
-            slots: Vec::with_capacity(alloc, LIMIT + 1)?,
-            bytes: Vec::with_capacity(alloc, LIMIT)?,
+            slots: Vec::with_capacity(alloc, SCOPE_LIMIT + 1)?,
+            bytes: Vec::with_capacity(alloc, SCOPE_LIMIT)?,
         })
     }
 

@@ -1,3 +1,4 @@
+//! What is known of a variable that is kept.
 ghost use Rattle.px_sample.specs.Shape.{IsShape};
 
 use crate::form::Form;

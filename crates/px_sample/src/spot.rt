@@ -1,3 +1,4 @@
+//! Where a variable that was found is.
 use crate::slot::Slot;
 
 /// Where a variable is: which one it is, where its name begins, and what else is known of it.

@@ -1,3 +1,4 @@
+//! Bytes of names, texts and templates.
 ghost use Rattle.std.specs.Prelude.{◌≡◌, ◌++◌, IfOk, OnOk, OnErr};
 
 use htx_model::OutOfMemory;

@@ -1,3 +1,4 @@
+//! The variables of four scopes: a set that would make a scope hold too much changes nothing.
 ghost use Rattle.std.specs.Prelude.{◌≡◌, length, Some, IfOk};
 ghost use Rattle.px_sample.specs.Sample.{value_in, within};
 ghost use Rattle.px_sample.specs.Shape.{IsShape};

@@ -1,5 +1,5 @@
 -- What a client's stream asks for next.
-use Rattle.std.specs.Prelude.{◌≡◌, ℕ, List, [], Bool, true, false, ◌&&◌, nat_le, Option, Some, None}
+use Rattle.std.specs.Prelude.{◌≡◌, ℕ, List, [], Bool, false, not, ◌&&◌, nat_le, if◌then◌else◌, Option, Some, None}
 use Rattle.http_model.specs.declared.Ending.{Ending}
 use Rattle.http_model.specs.Blocks.{load}
 use Rattle.http_model.specs.Head.{Field, Head, Message, head_blocks}
@@ -7,7 +7,8 @@ use Rattle.http_model.specs.Finish.{finish_request, request_framing}
 use Rattle.http_model.specs.Reading.{Received, HeadReading, BodyReading}
 use Rattle.http_model.specs.Reading as reading
 use Rattle.session_model.specs.Stream.{Stream}
-use Rattle.session_model.specs.Meaning.{Meaning, Verdict, Pass, Reply, Deny, Fail, Filtered, keeps, is_head_request, is_http_11, is_bodiless, declares_too_much, sent_body, method_of}
+use Rattle.session_model.specs.Env.{Verdict, Pass, Reply, Deny, Fail, request_env, method_of, method_in}
+use Rattle.session_model.specs.Meaning.{Meaning, Filtered, keeps, is_head_request, is_http_11, is_bodiless, declares_too_much, sent_body}
 
 -- what an answer has to know of its request
 pub record Asker : Type 0 where
@@ -20,6 +21,14 @@ pub record Asker : Type 0 where
   -- the connection may be kept
   pub keep : Bool
 
+-- A head that goes to a server: as it was received and as the rules left it, the variables behind them, and what follows it.
+-- What its body is, is asked only where the server is there: a request whose server is refused is never read.
+pub record Forwarded (Vars : Type 0) : Type 0 where
+  pub received : Received
+  pub head : Head
+  pub vars : Vars
+  pub rest : Stream
+
 -- a request that goes to a server: its message, the code of its cut where it is cut, and what goes on behind it
 pub record Request (Vars : Type 0) : Type 0 where
   pub message : Message
@@ -28,15 +37,17 @@ pub record Request (Vars : Type 0) : Type 0 where
   pub rest : Stream
   pub vars : Vars
 
+-- What is asked for. A refusal and a reply have the method of the request at that moment, none where no head was read, and
+-- the variables.
 pub data Asked (Vars : Type 0) : Type 0 where
   -- nothing more
   Nothing : Asked Vars
   -- a refusal with this code, whose body is left out where the request was a HEAD
-  Refused : (code : ℕ) → (no_body : Bool) → Asked Vars
+  Refused : (code : ℕ) → (no_body : Bool) → (method : List ℕ) → Vars → Asked Vars
   -- a reply, and whether the connection is kept behind it
-  Replied : Message → (no_body keep : Bool) → (rest : Stream) → Vars → Asked Vars
+  Replied : Message → (no_body keep : Bool) → (rest : Stream) → (method : List ℕ) → Vars → Asked Vars
   -- a request to a server
-  Sends : Request Vars → Asked Vars
+  Sends : Forwarded Vars → Asked Vars
 
 abbrev pub asker_of : Received → Head → Asker
 asker_of received head =
@@ -81,37 +92,33 @@ abbrev pub request_fits : (M : Meaning) → Received → Head → Bool
 request_fits M received head =
     nat_le (load (head_blocks (finish_request head (request_framing M.request_filters.replaces received.framing)))) M.limits.bufsize
 
--- Behind the rules: a declared length that passes a limit, then a finished head that doesn't fit, then the body.
-abbrev pub Forwards : (M : Meaning) → Received → Head → M.Vars → Stream → Asked M.Vars → Type 0
-Forwards M received head vars rest asked = by_length (declares_too_much M.request_filters received.declared)
+-- Behind the rules: a declared length that passes a limit, then a finished head that doesn't fit, then the server.
+abbrev pub forwards : (M : Meaning) → Received → Head → M.Vars → (rest : Stream) → Asked M.Vars
+forwards M received head vars rest =
+    if declares_too_much M.request_filters received.declared then refused 413
+    else if not (request_fits M received head) then refused 500
+    else Sends (record { received = received; head = head; vars = vars; rest = rest })
   where
-    by_fit : Bool → Type 0
-    by_fit false = asked ≡ Refused 500 (is_head_request received.head)
-    by_fit true =
-        (body : BodyReading) × M.reads_body received.framing rest.bytes rest.ending body
-        × (asked ≡ Sends (request_by M received head vars rest.ending body))
-
-    by_length : Bool → Type 0
-    by_length true = asked ≡ Refused 413 (is_head_request received.head)
-    by_length false = by_fit (request_fits M received head)
+    refused : ℕ → Asked M.Vars
+    refused code = Refused code (is_head_request received.head) (method_of head.line) vars
 
 -- what the rules' verdict on a head asks for
-abbrev pub AsksBy : (M : Meaning) → Received → (rest : Stream) → Verdict M.Vars → Asked M.Vars → Type 0
-AsksBy M received rest (Deny code) asked = asked ≡ Refused code (is_head_request received.head)
-AsksBy M received rest Fail asked = asked ≡ Refused 500 (is_head_request received.head)
-AsksBy M received rest (Reply m vars) asked =
-    asked ≡ Replied m (is_head_request received.head) (keeps received && is_bodiless received.framing) rest vars
-AsksBy M received rest (Pass head vars) asked = Forwards M received head vars rest asked
+abbrev pub asked_by : (M : Meaning) → Received → (rest : Stream) → Verdict M.Vars → Asked M.Vars
+asked_by M received rest (Deny code env) = Refused code (is_head_request received.head) (method_in env) env.vars
+asked_by M received rest (Fail why env) = Refused 500 (is_head_request received.head) (method_in env) env.vars
+asked_by M received rest (Reply m env) =
+    Replied m (is_head_request received.head) (keeps received && is_bodiless received.framing) rest (method_in env) env.vars
+asked_by M received rest (Pass env) = forwards M received env.head env.vars rest
 
 -- what a head, or none, asks for; the refusal of a head itself always has its body
-abbrev pub AsksReading : (M : Meaning) → M.Vars → Ending → HeadReading → Asked M.Vars → Type 0
-AsksReading M vars ending reading.Nothing asked = asked ≡ Nothing
-AsksReading M vars ending (reading.Refused code) asked = asked ≡ Refused code false
-AsksReading M vars ending (reading.Begins received rest) asked =
-    AsksBy M received (record { bytes = rest; ending = ending }) (M.request_rules vars received.head) asked
+abbrev pub asked_of : (M : Meaning) → M.Vars → Ending → HeadReading → Asked M.Vars
+asked_of M vars ending reading.Nothing = Nothing
+asked_of M vars ending (reading.Refused code) = Refused code false [] vars
+asked_of M vars ending (reading.Begins received rest) =
+    asked_by M received (record { bytes = rest; ending = ending }) (M.request_rules (request_env vars received.head))
 
 -- the client's stream asks for this
 pub record Asks (M : Meaning) (vars : M.Vars) (client : Stream) (asked : Asked M.Vars) : Type 0 where
   pub head : HeadReading
   pub reads : M.reads_request client.bytes head
-  pub asks : AsksReading M vars client.ending head asked
+  pub asks : asked ≡ asked_of M vars client.ending head

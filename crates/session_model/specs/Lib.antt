@@ -1,5 +1,6 @@
 pub use Rattle.http_model.specs.Block
 pub use Rattle.http_model.specs.Blocks
+pub use Rattle.http_model.specs.Sizes
 pub use Rattle.http_model.specs.Head
 pub use Rattle.http_model.specs.Fields
 pub use Rattle.http_model.specs.Finish
@@ -7,7 +8,9 @@ pub use Rattle.http_model.specs.Refusal
 pub use Rattle.http_model.specs.Spelling
 pub use Rattle.http_model.specs.Reading
 pub mod Stream
+pub mod Env
 pub mod Meaning
 pub mod Asking
+pub mod Amending
 pub mod Answering
 pub mod Session

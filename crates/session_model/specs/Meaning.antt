@@ -1,5 +1,5 @@
 -- What the layers below give to a session: reading of heads and bodies, rules, filters.
-use Rattle.std.specs.Prelude.{ℕ, List, [], Bool, true, false, not, ◌&&◌, ◌||◌, ◌==◌, if◌then◌else◌, Option, Some, None, codes}
+use Rattle.std.specs.Prelude.{◌≡◌, ℕ, List, [], ◌++◌, Bool, true, false, not, ◌&&◌, ◌||◌, ◌==◌, if◌then◌else◌, Option, Some, None, codes}
 use Rattle.std.specs.Str.{bytes_eq}
 use Rattle.http_model.specs.declared.Framing.{Framing}
 use Rattle.http_model.specs.declared.Framing.TheVariants.{Absent, Length, Chunked, ToClose}
@@ -8,50 +8,62 @@ use Rattle.http_model.specs.declared.Ending.{Ending}
 use Rattle.http_model.specs.Head.{Head, StartLine, RequestLine, StatusLine, Message}
 use Rattle.http_model.specs.Fields.{has_field}
 use Rattle.http_model.specs.Reading.{Received, HeadReading, BodyReading}
-
--- what rules make of a head: the edited head, a reply, a refusal, or a step that failed
-pub data Verdict (Vars : Type 0) : Type 0 where
-  Pass : Head → Vars → Verdict Vars
-  Reply : Message → Vars → Verdict Vars
-  Deny : (code : ℕ) → Verdict Vars
-  Fail : Verdict Vars
+use Rattle.session_model.specs.Env.{Env, Verdict, Amended, method_of}
 
 -- what filters make of a whole body: its new bytes, and the code of the refusal where one refused
 pub record Filtered : Type 0 where
   pub output : List ℕ
   pub refused : Option ℕ
 
--- the filters of one direction: what they make of a body, whether they replace bytes, and whether a declared length passes
--- a limit that stands in front of any replacement
+-- The filters of one direction: what they make of a whole body; what they make of the bytes so far, where more may come
+-- and some are kept back; whether they replace bytes; and whether a declared length passes a limit that stands in front of
+-- any replacement.
 pub record Filters : Type 0 where
   pub filter : List ℕ → Filtered
+  pub filter_so_far : List ℕ → Filtered
   pub replaces : Bool
   pub passes_limit : ℕ → Bool
 
+-- What is made of the bytes so far holds however the body goes on: the whole body's output begins with it, and a refusal
+-- that was made stands, with nothing more behind it.
+pub record HoldsOn (filters : Filters) : Type 0 where
+  pub gives : (front rest : List ℕ)
+      → (more : List ℕ) × ((filters.filter (front ++ rest)).output ≡ (filters.filter_so_far front).output ++ more)
+  pub refuses : (front rest : List ℕ) (code : ℕ)
+      → (filters.filter_so_far front).refused ≡ Some code → filters.filter (front ++ rest) ≡ filters.filter_so_far front
+
 -- no filter at all
 abbrev pub no_filters : Filters
-no_filters = record { filter = λ body. record { output = body; refused = None }; replaces = false; passes_limit = λ n. false }
+no_filters =
+    record {
+      filter = λ body. record { output = body; refused = None };
+      filter_so_far = λ front. record { output = front; refused = None };
+      replaces = false;
+      passes_limit = λ n. false;
+    }
 
 -- The meaning that a configuration and the layers below give. Readers are relations between a whole stream and its one
 -- reading; the variables are those that live as long as the session and those of one exchange.
 pub record Meaning : Type 1 where
   pub limits : Limits
   pub Vars : Type 0
-  -- what the variables are when the next exchange begins
+  -- the variables of a new session
+  pub begins : Vars
+  -- what they are when the next exchange begins
   pub renewed : Vars → Vars
+  -- what they are when the first rules run on an answer, a reply or a refusal
+  pub answering : Vars → Vars
   pub reads_request : List ℕ → HeadReading → Type 0
   pub reads_response : (head_asked : Bool) → List ℕ → HeadReading → Type 0
   pub reads_body : Framing → List ℕ → Ending → BodyReading → Type 0
-  pub request_rules : Vars → Head → Verdict Vars
-  pub response_rules : Vars → (method : List ℕ) → Head → Verdict Vars
+  pub request_rules : Env Vars → Verdict Vars
+  pub response_rules : Env Vars → Verdict Vars
+  -- the rules on each final answer, reply and refusal
+  pub after_rules : Env Vars → Amended Vars
   pub request_filters : Filters
   pub response_filters : Filters
 
 -- ---- what a head says of its connection
-
-abbrev pub method_of : StartLine → List ℕ
-method_of (RequestLine method target version) = method
-method_of (StatusLine version status reason) = []
 
 abbrev pub version_of : StartLine → List ℕ
 version_of (RequestLine method target version) = version

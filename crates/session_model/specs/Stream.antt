@@ -1,5 +1,5 @@
 -- What comes in on a connection, and what goes out on one.
-use Rattle.std.specs.Prelude.{◌≡◌, ℕ, List, ◌++◌, Bool, true, false}
+use Rattle.std.specs.Prelude.{◌≡◌, ◌≢◌, ℕ, List, [], ◌++◌, Bool, true, false}
 use Rattle.http_model.specs.declared.Ending.{Ending}
 use Rattle.http_model.specs.declared.Close.{Close}
 
@@ -18,7 +18,8 @@ pub record Sent : Type 0 where
   pub bytes : List ℕ
   pub close : Close
 
--- what a server takes of a text: all of it, or a front where it stopped
+-- What a server takes of a text: all of it, or, where it stopped, a front that lacks at least a byte. So a server stopped
+-- exactly where its text is longer than what it took.
 abbrev pub Takes : (stopped : Bool) → (text taken : List ℕ) → Type 0
 Takes false text taken = taken ≡ text
-Takes true text taken = (left : List ℕ) × (text ≡ taken ++ left)
+Takes true text taken = (left : List ℕ) × (text ≡ taken ++ left) × (left ≢ [])

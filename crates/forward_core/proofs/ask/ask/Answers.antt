@@ -8,10 +8,13 @@ use Rattle.forward_core.proofs.ask.ask.Goals as goal
 pub finish_request-requires : goal.finish_request-requires
 finish_request-requires c =
     let runs = c.in-Pass.ensures.runs c.requires.head.0 c.requires.head.1 in
-    head_ends c.run_request.new.msg.blocks runs.0 c.edits_of_heads.ensures.end runs.2
+    head_ends c.run_request.new.msg.blocks runs.0.head c.edits_of_heads.ensures.end runs.2
 
 pub returns-in-Fail : goal.returns-in-Fail
-returns-in-Fail c = λ head is. inl (c.in-Fail.ensures.runs head is)
+returns-in-Fail c =
+    λ head is.
+    let runs = c.in-Fail.ensures.runs head is in
+    inl (c.in-Fail.field-0, runs.0, runs.1)
 
 pub returns-in-Pass : goal.returns-in-Pass
 returns-in-Pass c =

@@ -1,20 +1,20 @@
-use Rattle.forward_core.proofs.Sessions.{asks_refused, asks_fails, refused_session, forwarded_session}
+use Rattle.forward_core.proofs.Sessions.{head_refused, rules_refused, forwarded_session}
 use Rattle.forward_core.proofs.exchange.one_exchange.Goals as goal
 
 pub returns-in-Refused-clause-session : goal.returns-in-Refused-clause-session
 returns-in-Refused-clause-session c =
-    refused_session c.args.cfg.now c.args.client.now c.args.server.now c.in-Refused.code c.in_ok-refuse-in-Refused.field-0
-    (asks_refused c.args.cfg.now c.args.client.now c.in-Refused.code c.in-Refused.ensures.refused) c.in_ok-refuse-in-Refused.ensures
+    head_refused c.args.cfg.now c.args.client.now c.args.server.now c.in-Refused.code c.in_ok-refuse-in-Refused.field-0
+    c.requires.valid.limits.least c.in-Refused.ensures.refused c.in_ok-refuse-in-Refused.ensures
 
 pub returns-in-Ok-clause-session : goal.returns-in-Ok-clause-session
 returns-in-Ok-clause-session c =
     let x = c.in-Plain.ensures.plain in
-    let asked = c.in-Ok.ensures x.head x.blocks_are in
+    let ruled = c.in-Ok.ensures x.head x.blocks_are in
     forwarded_session c.args.cfg.now c.args.client.now c.args.server.now c.read_client.new.msg.blocks c.ask.new.msg.blocks c.in_ok-forward-in-Ok.field-0
-    c.requires.valid.limits.least c.requires.server x asked.0 asked.1 asked.2 asked.3 c.in_ok-forward-in-Ok.ensures
+    c.requires.valid.limits.least c.requires.server x ruled.0 ruled.1 ruled.2 c.in_ok-forward-in-Ok.ensures
 
 pub returns-clause-session : goal.returns-clause-session
 returns-clause-session c =
     let x = c.in-Plain.ensures.plain in
-    refused_session c.args.cfg.now c.args.client.now c.args.server.now 500 c.in_ok-refuse-in-Err.field-0
-    (asks_fails c.args.cfg.now c.args.client.now x.head x.reads x.plain (c.in-Err.ensures x.head x.blocks_are)) c.in_ok-refuse-in-Err.ensures
+    rules_refused c.args.cfg.now c.args.client.now c.args.server.now c.read_client.new.msg.blocks c.in_ok-refuse-in-Err.field-0
+    c.requires.valid.limits.least x (c.in-Err.ensures x.head x.blocks_are) c.in_ok-refuse-in-Err.ensures

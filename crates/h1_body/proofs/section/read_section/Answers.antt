@@ -6,7 +6,7 @@ use Rattle.httparse.specs.declared.spans.HeaderSpan.{HeaderSpan}
 use Rattle.httparse.specs.Outcome.{IfComplete, OnPartial}
 use Rattle.httparse.specs.Grammar.{HasNoSection}
 use Rattle.httparse.specs.Spans.{IsSectionOf, IsSectionWithin}
-use Rattle.h1_body.proofs.Sections.{found_whole, found_long, found_named, overflows, filled}
+use Rattle.h1_body.proofs.Sections.{found_whole, found_long, found_named, overflows, filled, crowded}
 use Rattle.h1_body.proofs.section.read_section.Goals as goal
 
 within_at : (w : List ℕ) (headers : List HeaderSpan) (used count : ℕ) (s : Status (ℕ × ℕ)) → s ≡ Status.Complete (used, count)
@@ -45,10 +45,18 @@ returns-else-has_short_names c =
     (section_at w headers parsed.used parsed.count parsed.field-0 parsed.field-0-is parsed.ensures.complete)
     (sym c.has_short_names.ensures ∙ c.if-has_short_names.false)
 
-pub returns-else-window-limit : goal.returns-else-window-limit
-returns-else-window-limit c =
-    let none = subst (λ (s : Status (ℕ × ℕ)). OnPartial {E = Error} (Ok s) (HasNoSection c.args.window.now)) c.in-Ok-Partial.field-0-is c.in-Ok-Partial.ensures.partial in
-    filled c.args.limit c.args.window.now none c.if-window-limit.false
+none_at : (w : List ℕ) (s : Status (ℕ × ℕ)) → s ≡ Status.Partial → OnPartial {E = Error} (Ok s) (HasNoSection w) → HasNoSection w
+none_at w s is h = subst (λ (t : Status (ℕ × ℕ)). OnPartial {E = Error} (Ok t) (HasNoSection w)) is h
+
+pub returns-then-window-limit : goal.returns-then-window-limit
+returns-then-window-limit c =
+    let none = none_at c.args.window.now c.in-Ok-Partial.field-0 c.in-Ok-Partial.field-0-is c.in-Ok-Partial.ensures.partial in
+    filled c.args.limit c.args.window.now none c.if-window-limit.true
+
+pub returns-then-line_feeds-ge-MAX_LINES : goal.returns-then-line_feeds-ge-MAX_LINES
+returns-then-line_feeds-ge-MAX_LINES c =
+    let none = none_at c.args.window.now c.in-Ok-Partial.field-0 c.in-Ok-Partial.field-0-is c.in-Ok-Partial.ensures.partial in
+    crowded c.args.limit c.args.window.now none (omega (arith, c.line_feeds.ensures))
 
 pub returns-in-Err : goal.returns-in-Err
 returns-in-Err c = overflows c.args.limit c.args.window.now c.in-Err.ensures.no_room

@@ -1,5 +1,6 @@
 use Rattle.std.proofs.Common.{◌≡◌, ◌≤◌, ◌-◌, List, ℕ, length, drop, length-drop, sym, ◌∙◌, ap, rules, arith}
-use Rattle.h1_head.specs.Request.{behind}
+use Rattle.h1_head.specs.Numbers.{most_fields}
+use Rattle.h1_head.specs.Stream.{behind}
 use Rattle.h1_head.proofs.Plainly.{plain_alone, plain_from, plain_to}
 use Rattle.h1_head.proofs.plain.is_plain_request.Goals as goal
 
@@ -17,7 +18,7 @@ pub returns-then-head-window : goal.returns-then-head-window
 returns-then-head-window c =
     let complete = rw c.in-Ok-Complete.field-0-is at c.in-Ok-Complete.ensures.complete in
     let within = rw c.in-Ok-Complete.field-0-is at c.in-Ok-Complete.ensures.within in
-    let room : length c.parse_request.new.headers ≤ 100 = search rules in
+    let room : length c.parse_request.new.headers ≤ most_fields = search rules in
     let w : List ℕ = c.args.window.now in
     let none : c.empty_lines.result ≡ 0 = omega arith in
     let alone : behind w ≡ w = sym c.empty_lines.ensures.behind ∙ ap (λ n. drop n w) none in (

@@ -1,6 +1,6 @@
-use Rattle.std.proofs.Common.{◌∙◌}
+use Rattle.std.proofs.Common.{◌∙◌, refl}
 use Rattle.http_rules.specs.Valid.{IsGoodAction}
-use Rattle.http_rules.proofs.Runs.{at_place, goes_on, stops, fails}
+use Rattle.http_rules.proofs.Runs.{at_place, begins, goes_on, stops, fails}
 use Rattle.http_rules.proofs.run.run_request.Goals as goal
 
 pub run_rule-requires-clause-valid : goal.run_rule-requires-clause-valid
@@ -13,6 +13,10 @@ returns-in-Stop-clause-runs c =
 pub returns-in-Failed-clause-runs : goal.returns-in-Failed-clause-runs
 returns-in-Failed-clause-runs c =
     λ head is. fails c.args.limits c.args.rules.now head c.loop-at.at c.get.result.now c.in-Failed.why c.loop-at.msg.blocks c.run_rule.new.msg.blocks c.get.ensures c.in-Failed.ensures.step (c.loop-at.invariant.reached head is)
+
+pub loop-at-init : goal.loop-at-init
+loop-at-init c =
+    record { reached = λ head is. begins c.args.limits c.args.rules.now head c.args.msg.now.blocks is; size = refl }
 
 pub loop-at-preserved : goal.loop-at-preserved
 loop-at-preserved c =

@@ -1,10 +1,8 @@
-use Rattle.std.proofs.Common.{◌≡◌, ◌+◌, ◌-◌, ◌<◌, subst, sym, ap, ◌∙◌, ℕ, zero, suc, List, [], ◌∷◌, length, arith, refl, set}
+use Rattle.std.proofs.Common.{◌≡◌, ◌+◌, ◌-◌, ◌<◌, sym, ap, ◌∙◌, ℕ, zero, suc, List, [], ◌∷◌, length, arith, refl, set}
 use Rattle.std.specs.Prelude.{insert, remove}
 use Rattle.htx_model.specs.Block.{Block}
 use Rattle.htx_layout.specs.Raw.{blocks_of, block_in, block_of}
-use Rattle.htx_layout.specs.Sound.{IsLaid}
 use Rattle.htx_layout.proofs.RawLemmas.{length-listed}
-use Rattle.htx_layout.proofs.EachLemmas.{IsLaid-unlisted}
 use Rattle.htx_layout.proofs.sites.replace.Goals as goal
 
 insert-remove : {X : Type 0} (xs : List X) (i : ℕ) (x : X) → i < length xs → insert (remove xs i) i x ≡ set xs i x
@@ -13,7 +11,7 @@ insert-remove (y ∷ ys) zero x h = refl
 insert-remove {X} (y ∷ ys) (suc i) x h = let f : List X → List X = λ zs. y ∷ zs in ap f (insert-remove ys i x (omega arith))
 
 pub add-requires-clause-laid : goal.add-requires-clause-laid
-add-requires-clause-laid c = subst (λ (x : List ℕ). IsLaid x (c.args.count - 1) c.args.front) (sym c.unlist.ensures.is) (IsLaid-unlisted c.args.space.now c.args.count c.args.at c.args.front c.requires.laid c.requires.within)
+add-requires-clause-laid c = c.unlist.ensures.laid c.args.front c.requires.laid
 
 pub returns-clause-blocks : goal.returns-clause-blocks
 returns-clause-blocks c =

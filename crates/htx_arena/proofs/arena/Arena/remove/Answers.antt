@@ -1,12 +1,10 @@
-use Rattle.std.proofs.Common.{◌-◌, ◌∙◌, ap, sym, subst, arith, List, ℕ}
+use Rattle.std.proofs.Common.{◌-◌, ◌∙◌, ap, arith}
 use Rattle.htx_model.specs.Blocks.{load}
 use Rattle.htx_model.proofs.Loads.{load-remove}
 use Rattle.htx_space.specs.declared.space.Desc.{Desc}
 use Rattle.htx_layout.specs.Raw.{info_len, block_in, blocks_of}
-use Rattle.htx_layout.specs.Sound.{IsLaid}
 use Rattle.htx_layout.proofs.RawLemmas.{length-listed}
 use Rattle.htx_layout.proofs.TellLemmas.{len_told}
-use Rattle.htx_layout.proofs.EachLemmas.{IsLaid-unlisted}
 use Rattle.htx_layout.proofs.FrontLemmas.{laid_settled}
 use Rattle.htx_arena.proofs.WholeLemmas.{at}
 use Rattle.htx_arena.proofs.arena.Arena.remove.Goals as goal
@@ -22,8 +20,7 @@ overflow_sub-self-2 c =
 pub settle-self-inside-requires-clause-parted : goal.settle-self-inside-requires-clause-parted
 settle-self-inside-requires-clause-parted c =
     let a = c.self.inside in
-    let t = at a c.args.self.now c.args.at c.self.invariant c.self.view_is c.requires in
-    (subst (λ (x : List ℕ). IsLaid x (a.count - 1) a.front) (sym c.unlist.ensures.is) (IsLaid-unlisted a.space a.count c.args.at a.front c.self.invariant.laid t.small)).parted
+    (c.unlist.ensures.laid a.front c.self.invariant.laid).parted
 
 pub invariant_of-self : goal.invariant_of-self
 invariant_of-self c =
@@ -32,7 +29,7 @@ invariant_of-self c =
     let t = at a c.args.self.now i c.self.invariant c.self.view_is c.requires in
     let raw = a.space in
     let new = c.unlist.new.space in
-    let laid1 : IsLaid new (a.count - 1) a.front = subst (λ (x : List ℕ). IsLaid x (a.count - 1) a.front) (sym c.unlist.ensures.is) (IsLaid-unlisted raw a.count i a.front c.self.invariant.laid t.small) in
+    let laid1 = c.unlist.ensures.laid a.front c.self.invariant.laid in
     let is = c.len_of-len.ensures ∙ ap (λ (d : Desc). info_len d.info) c.descriptor.ensures in
     let small = t.small in
     let count = length-listed (block_in raw) a.count in

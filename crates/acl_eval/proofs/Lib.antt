@@ -1,0 +1,3 @@
+pub mod Trying
+pub mod Literals
+pub mod Casting

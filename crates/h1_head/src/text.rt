@@ -1,0 +1,55 @@
+//! What is alike in reading the heads of requests and of responses.
+ghost use Rattle.std.specs.Prelude.{◌≡◌, ◌≤◌, ◌<◌, ◌⊎◌, ◌∷◌, [], ◌↔◌, length, true, false, IsTrue, count_by};
+ghost use Rattle.h1_head.specs.Decides.{is_line_feed};
+ghost use Rattle.h1_head.specs.Waiting.{WaitTells};
+
+use crate::lines::line_feeds;
+use http_model::{Framing, Limits};
+
+/// The most fields of a head.
+pub const MAX_FIELDS: usize = 256;
+
+/// The most lines of a head: with the most fields it has a start line and an empty line.
+pub const MAX_LINES: usize = MAX_FIELDS + 2;
+
+/// What is kept of a head beside its blocks.
+#[derive(Clone, Copy, Debug)]
+pub struct Kept {
+    pub framing: Framing,
+    pub declared: Option<u64>,
+    pub close: bool,
+}
+
+/// What becomes of a text in which no head of the grammar stands.
+#[derive(Clone, Copy, Debug, PartialEq, Eq)]
+pub enum Wait {
+    /// A head may still come.
+    More,
+    /// The stream has ended.
+    Ended,
+    /// No head within the limits begins so.
+    Long,
+}
+
+/// Whether a head may still come where none of the grammar stands in the text.
+pub fn wait_for(text: &[u8], whole: bool, limits: Limits) -> Wait
+    ensures { WaitTells limits whole text.now result }
+{
+    if whole {
+        return Wait::Ended;
+    }
+    if text.len() >= limits.bufsize as usize {
+        return Wait::Long;
+    }
+    if line_feeds(text) >= MAX_LINES {
+        return Wait::Long;
+    }
+    Wait::More
+}
+
+/// Whether the text is a CR alone, which may be half of an empty line.
+pub fn is_lone_cr(text: &[u8]) -> bool
+    ensures { IsTrue result ↔ (text.now ≡ 13 ∷ []) }
+{
+    text == b"\r".as_slice()
+}

@@ -1,0 +1,7 @@
+use Rattle.std.proofs.Common.{◌≡◌, ◌+◌, drop}
+use Rattle.std.specs.List.{prefix_len}
+use Rattle.uri_parts.specs.Target.{is_path_byte}
+use Rattle.uri_parts.proofs.target.path_len.Given as goal
+
+abbrev pub invariant-loop-i : goal.invariant-loop-i
+invariant-loop-i l = l.i + prefix_len is_path_byte (drop l.i l.text) ≡ prefix_len is_path_byte l.text

@@ -1,0 +1,3 @@
+pub mod Target
+pub mod Cut
+pub mod Lent

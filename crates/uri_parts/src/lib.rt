@@ -1,0 +1,9 @@
+//! The cut of a target into scheme, authority, path and query, each lent from the target. It takes no memory.
+#![tactic(auto)]
+
+pub mod laws;
+mod target;
+#[cfg(test)]
+mod tests;
+
+pub use target::{Parts, cut_target};
