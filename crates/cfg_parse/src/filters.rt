@@ -1,6 +1,8 @@
 //! The lines of `filter`: which body is changed, and how.
-ghost use Rattle.std.specs.Prelude.{◌≡◌};
+ghost use Rattle.std.specs.Prelude.{◌≡◌, ◌≤◌, length, IfOk};
 ghost use Rattle.std.specs.List.{list_any};
+ghost use Rattle.body_filter.specs.Valid.{IsFilter};
+ghost use Rattle.cfg_parse.specs.Limits.{most_needle};
 ghost use Rattle.cfg_parse.specs.Reading.{Gives, Leaves};
 ghost use Rattle.cfg_parse.specs.Filters.{filter_name_of, direction_of, count_of, text_of, limit_filter, deny_filter, replace_filter, named_filter, filter_line, is_replace, with_filter};
 
@@ -68,7 +70,8 @@ fn count_of(word: &[u8]) -> Result<u64, LineRefusal>
 /// A text of at least so many bytes, and at most `MAX_NEEDLE`.
 #[tactic(auto, unfolding(crate::specs::Filters::text_of))]
 fn text_of(alloc: Global, least: usize, word: &[u8]) -> Result<Bytes, LineRefusal>
-    ensures { Gives (λ text. text) result (text_of least word.now) }
+    ensures text { Gives (λ text. text) result (text_of least word.now) }
+    ensures bounds { IfOk result (λ text. (least ≤ length text) × (length text ≤ most_needle)) }
 {
     if word.len() < least || word.len() > MAX_NEEDLE {
         return Err(LineRefusal::Refused(CfgKind::Argument));
@@ -79,7 +82,8 @@ fn text_of(alloc: Global, least: usize, word: &[u8]) -> Result<Bytes, LineRefusa
 /// `n`.
 #[tactic(auto, unfolding(crate::specs::Filters::limit_filter))]
 fn limit_filter(arguments: Arguments<'_>) -> Result<FilterSpec, LineRefusal>
-    ensures { Gives (λ filter. filter) result (limit_filter arguments.entry) }
+    ensures filter { Gives (λ filter. filter) result (limit_filter arguments.entry) }
+    ensures valid { IfOk result IsFilter }
 {
     let (word, arguments) = arguments.argument()?;
     let most = count_of(word)?;
@@ -90,7 +94,8 @@ fn limit_filter(arguments: Arguments<'_>) -> Result<FilterSpec, LineRefusal>
 /// `NEEDLE`.
 #[tactic(auto, unfolding(crate::specs::Filters::deny_filter))]
 fn deny_filter(alloc: Global, arguments: Arguments<'_>) -> Result<FilterSpec, LineRefusal>
-    ensures { Gives (λ filter. filter) result (deny_filter arguments.entry) }
+    ensures filter { Gives (λ filter. filter) result (deny_filter arguments.entry) }
+    ensures valid { IfOk result IsFilter }
 {
     let (word, arguments) = arguments.argument()?;
     let needle = text_of(alloc, 1, word)?;
@@ -101,7 +106,8 @@ fn deny_filter(alloc: Global, arguments: Arguments<'_>) -> Result<FilterSpec, Li
 /// `FROM TO`.
 #[tactic(auto, unfolding(crate::specs::Filters::replace_filter))]
 fn replace_filter(alloc: Global, arguments: Arguments<'_>) -> Result<FilterSpec, LineRefusal>
-    ensures { Gives (λ filter. filter) result (replace_filter arguments.entry) }
+    ensures filter { Gives (λ filter. filter) result (replace_filter arguments.entry) }
+    ensures valid { IfOk result IsFilter }
 {
     let (first, arguments) = arguments.argument()?;
     let from = text_of(alloc, 1, first)?;
@@ -117,7 +123,8 @@ fn named_filter(
     name: FilterName,
     arguments: Arguments<'_>,
 ) -> Result<FilterSpec, LineRefusal>
-    ensures { Gives (λ filter. filter) result (named_filter name arguments.entry) }
+    ensures filter { Gives (λ filter. filter) result (named_filter name arguments.entry) }
+    ensures valid { IfOk result IsFilter }
 {
     match name {
         FilterName::Limit => limit_filter(arguments),
@@ -132,7 +139,8 @@ pub fn filter_line(
     alloc: Global,
     arguments: Arguments<'_>,
 ) -> Result<(Direction, FilterSpec), LineRefusal>
-    ensures { Gives (λ taken. taken) result (filter_line arguments.entry) }
+    ensures line { Gives (λ taken. taken) result (filter_line arguments.entry) }
+    ensures valid { IfOk result (λ taken. IsFilter taken.1) }
 {
     let (first, arguments) = arguments.argument()?;
     let name = filter_name_of(first)?;

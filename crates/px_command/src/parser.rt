@@ -1,6 +1,6 @@
 //! The command line as `clap` reads it: the names of commands and their words, with what help says of them.
 ghost use Rattle.std.specs.Prelude.{◌≡◌, ℕ, List, IfOk, false, codes};
-ghost use Rattle.clap.specs.Words.{app_of, rule_of};
+ghost use Rattle.clap.specs.Words.{app_of, rule_of, with_rule};
 ghost use Rattle.clap.specs.declared.builder.command.Command.TheViews.{out-Command};
 ghost use Rattle.px_command.specs.Parser.{word_rule, flag_rule, no_flag, one_word, two_words, top_level, parser};
 
@@ -39,16 +39,47 @@ fn plain_command<'a>(alloc: Global, name: &'a str) -> Command<'a>
     Command::new(alloc, name).disable_help_flag(true)
 }
 
+/// A command without flags, with one word behind it.
+fn one_word<'a>(
+    alloc: Global,
+    name: &'a str,
+    about: &'a str,
+    first: Arg<'a>,
+) -> Result<Command<'a>, AllocError>
+    requires { first.global ≡ false }
+    ensures app { IfOk result (λ c. app_of c ≡ with_rule (no_flag name.now) (rule_of first.entry)) }
+    ensures local { IfOk result (λ c. (out-Command c).has_globals ≡ false) }
+{
+    plain_command(alloc, name).about(about).arg(first)
+}
+
+/// A command without flags, with two words behind it.
+fn two_words<'a>(
+    alloc: Global,
+    name: &'a str,
+    about: &'a str,
+    first: Arg<'a>,
+    second: Arg<'a>,
+) -> Result<Command<'a>, AllocError>
+    requires first { first.global ≡ false }
+    requires second { second.global ≡ false }
+    ensures app { IfOk result (λ c. app_of c ≡ with_rule (with_rule (no_flag name.now) (rule_of first.entry)) (rule_of second.entry)) }
+    ensures local { IfOk result (λ c. (out-Command c).has_globals ≡ false) }
+{
+    one_word(alloc, name, about, first)?.arg(second)
+}
+
 /// `check CFG`.
 pub fn check_command<'a>(alloc: Global) -> Result<Command<'a>, AllocError>
     ensures app { IfOk result (λ c. app_of c ≡ one_word (codes "check") (codes "CFG")) }
     ensures local { IfOk result (λ c. (out-Command c).has_globals ≡ false) }
 {
-    plain_command(alloc, "check")
-        .about(
-            "Reads a configuration, and says how many rules it has or what is wrong in which line",
-        )
-        .arg(cfg_word(alloc))
+    one_word(
+        alloc,
+        "check",
+        "Reads a configuration, and says how many rules it has or what is wrong in which line",
+        cfg_word(alloc),
+    )
 }
 
 /// `replay CFG REC`.
@@ -56,10 +87,13 @@ pub fn replay_command<'a>(alloc: Global) -> Result<Command<'a>, AllocError>
     ensures app { IfOk result (λ c. app_of c ≡ two_words (codes "replay") (codes "CFG") (codes "REC")) }
     ensures local { IfOk result (λ c. (out-Command c).has_globals ≡ false) }
 {
-    plain_command(alloc, "replay")
-        .about("Runs the session that a record holds, and writes the report of what was sent")
-        .arg(cfg_word(alloc))?
-        .arg(word(alloc, "REC", "The file of the record"))
+    two_words(
+        alloc,
+        "replay",
+        "Runs the session that a record holds, and writes the report of what was sent",
+        cfg_word(alloc),
+        word(alloc, "REC", "The file of the record"),
+    )
 }
 
 /// `serve CFG COUNT`.
@@ -67,10 +101,13 @@ pub fn serve_command<'a>(alloc: Global) -> Result<Command<'a>, AllocError>
     ensures app { IfOk result (λ c. app_of c ≡ two_words (codes "serve") (codes "CFG") (codes "COUNT")) }
     ensures local { IfOk result (λ c. (out-Command c).has_globals ≡ false) }
 {
-    plain_command(alloc, "serve")
-        .about("Serves connections (not built yet)")
-        .arg(cfg_word(alloc))?
-        .arg(word(alloc, "COUNT", "How many connections, 1 to 1000000"))
+    two_words(
+        alloc,
+        "serve",
+        "Serves connections (not built yet)",
+        cfg_word(alloc),
+        word(alloc, "COUNT", "How many connections, 1 to 1000000"),
+    )
 }
 
 /// `drill SEED COUNT`.
@@ -78,10 +115,13 @@ pub fn drill_command<'a>(alloc: Global) -> Result<Command<'a>, AllocError>
     ensures app { IfOk result (λ c. app_of c ≡ two_words (codes "drill") (codes "SEED") (codes "COUNT")) }
     ensures local { IfOk result (λ c. (out-Command c).has_globals ≡ false) }
 {
-    plain_command(alloc, "drill")
-        .about("Runs generated sessions (not built yet)")
-        .arg(word(alloc, "SEED", "Where generating begins, 0 to 2147483647"))?
-        .arg(word(alloc, "COUNT", "How many sessions, 0 to 4000"))
+    two_words(
+        alloc,
+        "drill",
+        "Runs generated sessions (not built yet)",
+        word(alloc, "SEED", "Where generating begins, 0 to 2147483647"),
+        word(alloc, "COUNT", "How many sessions, 0 to 4000"),
+    )
 }
 
 /// The program's own level.
