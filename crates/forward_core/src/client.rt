@@ -6,6 +6,7 @@ ghost use Rattle.h1_head.specs.Request.{RequestOf, HasRefusedHead};
 ghost use Rattle.h1_head.specs.Window.{RefusesFor, IsHopeless};
 ghost use Rattle.http_model.specs.declared.Limits.{Limits as Sizes};
 ghost use Rattle.http_model.specs.Reading.{Refused};
+ghost use Rattle.http_model.specs.Sizes.{least_size, most_size, least_head};
 
 use h1_head::{HeadRead, HeadWhy, is_plain_request, read_request};
 use http_model::Limits;
@@ -56,9 +57,9 @@ fn window_len(client: &[u8], limits: Limits) -> usize
 
 /// Reads what the client asks for.
 pub fn read_client(client: &[u8], limits: Limits, msg: &mut Arena) -> ClientAsks
-    requires least { 1024 ≤ limits.bufsize }
-    requires most { limits.bufsize ≤ 262144 }
-    requires reserve { limits.maxrewrite + 512 ≤ limits.bufsize }
+    requires least { least_size ≤ limits.bufsize }
+    requires most { limits.bufsize ≤ most_size }
+    requires reserve { limits.maxrewrite + least_head ≤ limits.bufsize }
     requires empty { msg.old.blocks ≡ [] }
     requires size { msg.old.size ≡ limits.bufsize }
     ensures plain { IfPlain result (ReadsPlain limits client.now msg.new.blocks) }

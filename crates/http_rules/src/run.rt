@@ -84,6 +84,7 @@ fn set_made(limits: Limits, msg: &mut Arena, name: &[u8], text: &[u8]) -> Step
     ensures size { msg.new.size ≡ msg.old.size }
 {
     edits_of_heads();
+    // Nothing is removed before the text is known to be good.
     if !is_good_text(limits, text) {
         return Step::Failed(Why::Bytes);
     }

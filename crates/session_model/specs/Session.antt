@@ -30,7 +30,7 @@ pub record Exchange (Vars : Type 0) : Type 0 where
   pub bit : Option Bool
   pub after : After Vars
 
--- the client's text of a refusal on which no rule runs: that of a cut request, and the plain one
+-- the client's text of the refusal of a cut request, on which no rule runs
 abbrev pub SpellsRefusal : (code : ℕ) → (no_body : Bool) → (text : List ℕ) → Type 0
 SpellsRefusal code no_body text = Spells true no_body (closing (refusal code)) text
 
