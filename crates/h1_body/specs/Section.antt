@@ -1,5 +1,5 @@
 -- The trailer section behind the last chunk (RFC 9112, section 7.1.2), and what is kept of its fields.
-use Rattle.std.specs.Prelude.{◌≡◌, ℕ, ◌+◌, ◌/◌, ◌<◌, ◌≤◌, ◌⊎◌, List, [], ◌∷◌, ◌++◌, Bool, not, length, count_by, map, filter, All}
+use Rattle.std.specs.Prelude.{◌≡◌, ℕ, ◌+◌, ◌/◌, ◌<◌, ◌≤◌, ◌⊎◌, List, [], ◌++◌, Bool, not, length, count_by, map, filter, All}
 use Rattle.std.specs.Str.{str_to_ascii_lowercase}
 use Rattle.httparse.specs.Grammar as grammar
 use Rattle.httparse.specs.Grammar.{LineEnd, ReadsSection, HasNoSection, MayBecomeSection}

@@ -1,5 +1,5 @@
 -- Trailers as blocks of an array.
-use Rattle.std.specs.Prelude.{ℕ, ◌≤◌, List, [], ◌∷◌, ◌++◌, length, map}
+use Rattle.std.specs.Prelude.{ℕ, ◌≤◌, List, length, map}
 use Rattle.httparse.specs.declared.spans.HeaderSpan.{HeaderSpan}
 use Rattle.httparse.specs.Spans.{span_bytes}
 use Rattle.htx_model.specs.Block.{Block}

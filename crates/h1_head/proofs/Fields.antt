@@ -1,5 +1,5 @@
 -- What the spans of fields cover.
-use Rattle.std.proofs.Common.{◌≡◌, ℕ, ◌+◌, ◌≤◌, ◌<◌, List, length, take, ap, arith, get_or, length-take}
+use Rattle.std.proofs.Common.{◌≡◌, ℕ, ◌≤◌, ◌<◌, List, length, take, ap, arith, get_or, length-take}
 use Rattle.std.specs.Prelude.{All, map}
 use Rattle.std.proofs.lemmas.List.Elements.{All-map, All-same}
 use Rattle.std.proofs.lemmas.List.{length-map}

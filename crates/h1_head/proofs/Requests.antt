@@ -1,17 +1,15 @@
 -- The heads of requests are lawful.
-use Rattle.std.proofs.Common.{◌≡◌, ◌≢◌, ℕ, ◌+◌, ◌<◌, ◌≤◌, ◌⊎◌, inl, inr, true, false, Bool, List, [], ◌∷◌, ◌++◌, length, get_or, take, drop, refl, sym, ap, ◌∙◌, subst, zero-add, arith, append_assoc, length-append}
-use Rattle.std.specs.Prelude.{cond, not, codes, Option, Some, None, Ok, Err}
+use Rattle.std.proofs.Common.{◌≡◌, ℕ, ◌+◌, ◌<◌, ◌≤◌, true, false, Bool, List, [], ◌∷◌, ◌++◌, length, refl, sym, ap, ◌∙◌, subst, arith, length-append}
+use Rattle.std.specs.Prelude.{cond, not, codes, Some, None}
 use Rattle.std.specs.Str.{bytes_eq}
 use Rattle.std.specs.List.{flat_map}
 use Rattle.std.proofs.lemmas.List.{append-nil}
 use Rattle.httparse.specs.Grammar.{print_end, print_blank, print_version, print_field, print_section, RequestHead, print_request, IsRequestHead, ReadsRequest, is_uri_byte, is_token_byte}
 use Rattle.httparse.proofs.GrammarLemmas.{print_request-append, ReadsRequest-append, request_unique}
 use Rattle.http_model.specs.declared.Limits.{Limits}
-use Rattle.http_model.specs.Reading.{Received}
-use Rattle.h1_head.specs.declared.answer.HeadWhy.{HeadWhy}
 use Rattle.h1_head.specs.declared.answer.HeadWhy.TheVariants as why
 use Rattle.h1_head.specs.Kind.{request_heads, parts_of}
-use Rattle.h1_head.specs.Rows.{Parts, has_long_name, host_is_good, framing_is_bad, coding_is_unknown, is_over, kept_reading, request_line, framing_of, refusal_of, decided}
+use Rattle.h1_head.specs.Rows.{Parts, has_long_name, host_is_good, framing_is_bad, coding_is_unknown, request_line, refusal_of}
 use Rattle.h1_head.specs.Stream.{behind}
 use Rattle.h1_head.proofs.Heads.{feeds, feeds-append, feeds-cons, no_feeds, token_feeds, feeds-print_end, feeds-print_version, feeds-fields, tail_ends, feeds-before, front_in, no_blank}
 use Rattle.h1_head.proofs.Lawful.{IsLawful, row_or_none, row_or_kept}

@@ -1,17 +1,15 @@
 -- The heads of responses are lawful.
-use Rattle.std.proofs.Common.{◌≡◌, ◌≢◌, ℕ, ◌+◌, ◌<◌, ◌≤◌, ◌⊎◌, inl, inr, true, false, Bool, List, [], ◌∷◌, ◌++◌, length, get_or, take, drop, refl, sym, ap, ◌∙◌, subst, zero-add, arith, append_assoc, length-append}
-use Rattle.std.specs.Prelude.{cond, not, codes, Option, Some, None, Ok, Err, ◌==◌}
+use Rattle.std.proofs.Common.{◌≡◌, ℕ, ◌+◌, ◌<◌, ◌≤◌, true, false, Bool, List, [], ◌∷◌, ◌++◌, length, refl, sym, ap, ◌∙◌, subst, arith, length-append}
+use Rattle.std.specs.Prelude.{cond, codes, Option, Some, None, ◌==◌}
 use Rattle.std.specs.List.{flat_map}
 use Rattle.std.proofs.lemmas.List.{append-nil}
-use Rattle.httparse.specs.Grammar.{print_end, print_blank, print_version, print_field, print_section, print_reason, ResponseHead, print_response, IsResponseHead, ReadsResponse, status_code, is_value_byte, reason_phrase, AllPass}
+use Rattle.httparse.specs.Grammar.{print_end, print_blank, print_version, print_field, print_reason, ResponseHead, print_response, IsResponseHead, ReadsResponse, status_code, is_value_byte, reason_phrase, AllPass}
 use Rattle.std.specs.Char.{is_ascii_digit}
 use Rattle.httparse.proofs.GrammarLemmas.{print_response-append, ReadsResponse-append, response_unique}
 use Rattle.http_model.specs.declared.Limits.{Limits}
-use Rattle.http_model.specs.Reading.{Received}
-use Rattle.h1_head.specs.declared.answer.HeadWhy.{HeadWhy}
 use Rattle.h1_head.specs.declared.answer.HeadWhy.TheVariants as why
 use Rattle.h1_head.specs.Kind.{response_heads, response_parts_of}
-use Rattle.h1_head.specs.Rows.{ResponseParts, has_long_name, framing_is_bad, coding_is_unknown, is_over, kept_reading, status_line, response_refusal_of, decided}
+use Rattle.h1_head.specs.Rows.{ResponseParts, has_long_name, framing_is_bad, coding_is_unknown, status_line, response_refusal_of}
 use Rattle.h1_head.specs.Stream.{behind, HasNoHead}
 use Rattle.h1_head.proofs.Heads.{feeds, feeds-append, feeds-cons, no_feeds, feeds-print_end, feeds-print_version, feeds-fields, tail_ends, feeds-before, front_in, no_blank}
 use Rattle.h1_head.proofs.Lawful.{IsLawful, row_or_none, row_or_kept}

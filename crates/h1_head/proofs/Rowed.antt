@@ -1,5 +1,5 @@
 -- A decision names a row.
-use Rattle.std.proofs.Common.{◌≡◌, ℕ, true, false, Bool, List, refl}
+use Rattle.std.proofs.Common.{◌≡◌, true, false, Bool, List, refl}
 use Rattle.std.specs.Prelude.{cond, Option, Some, None, Ok, Err}
 use Rattle.http_model.specs.declared.Framing.{Framing}
 use Rattle.http_model.specs.declared.Limits.{Limits}

@@ -1,5 +1,5 @@
 -- Readings that there are, and refusals that stay.
-use Rattle.std.proofs.Common.{◌≡◌, ◌≢◌, ℕ, ◌+◌, ◌<◌, ◌≤◌, ◌⊎◌, inl, inr, Bool, true, false, List, [], ◌∷◌, ◌++◌, length, length-append, drop, refl, sym, ap, ◌∙◌, subst, arith}
+use Rattle.std.proofs.Common.{◌≡◌, ◌≢◌, ℕ, ◌+◌, ◌<◌, ◌≤◌, inl, inr, Bool, true, false, List, [], ◌∷◌, ◌++◌, length, drop, refl, sym, ◌∙◌, subst, arith}
 use Rattle.std.specs.Prelude.{Result, Ok, Err, ◌==◌, ◌&&◌, if◌then◌else◌, count_by}
 use Rattle.std.proofs.lemmas.Bool.{cases_lt}
 use Rattle.http_model.specs.declared.Limits.{Limits}
@@ -11,7 +11,7 @@ use Rattle.h1_head.specs.Kind.{HeadKind}
 use Rattle.h1_head.specs.Stream.{behind, BeginsWith, HasNone, HasNoHead, IsHeadless, IsKnown, HeadOf}
 use Rattle.h1_head.specs.Decides.{MayWait, is_line_feed}
 use Rattle.h1_head.proofs.Heads.{feeds, behind-append}
-use Rattle.h1_head.proofs.Lawful.{IsLawful, no_short_head}
+use Rattle.h1_head.proofs.Lawful.{IsLawful}
 use Rattle.h1_head.proofs.Streams.{refused_on, waits_short}
 
 -- ---- there is a reading

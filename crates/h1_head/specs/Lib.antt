@@ -1,3 +1,4 @@
+-- The words of heads, from the rows on a parsed head to what an answer says of each stream.
 pub use Rattle.http_model.specs.Head
 pub use Rattle.http_model.specs.Fields
 pub use Rattle.http_model.specs.Reading

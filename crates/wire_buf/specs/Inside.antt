@@ -1,3 +1,4 @@
+-- What a window keeps true of its ring.
 use Rattle.std.specs.Prelude.{◌≤◌, ◌^◌, ◌<◌}
 use Rattle.wire_buf.specs.declared.Window.TheInside.{Inside}
 

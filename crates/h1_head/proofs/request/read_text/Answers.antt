@@ -1,13 +1,10 @@
-use Rattle.std.proofs.Common.{◌≡◌, ◌≤◌, ◌<◌, ◌⊎◌, ℕ, length, drop, sym, ◌∙◌, ap, rules, inl, inr, arith, refl, false}
-use Rattle.std.specs.Prelude.{Ok, Err, count_by}
-use Rattle.http_model.specs.Reading.{Received}
+use Rattle.std.proofs.Common.{◌≡◌, ◌≤◌, ◌⊎◌, length, drop, sym, ◌∙◌, ap, rules, inl, inr, false}
+use Rattle.std.specs.Prelude.{count_by}
 use Rattle.h1_head.specs.Numbers.{most_fields, most_lines}
 use Rattle.h1_head.specs.declared.answer.HeadWhy.TheVariants.{Long, Grammar}
 use Rattle.h1_head.specs.declared.answer.Side.TheVariants as side
-use Rattle.h1_head.specs.Answers.{IsKept}
 use Rattle.h1_head.specs.Rows.{request_code, decision}
 use Rattle.h1_head.specs.Sides.{kind_of}
-use Rattle.h1_head.specs.Stream.{BeginsWith}
 use Rattle.h1_head.specs.Decides.{RefusesFor, WhereLong, IsTooLong, is_line_feed}
 use Rattle.httparse.specs.Grammar.{HasNoRequest}
 use Rattle.httparse.specs.Spans.{RequestOverflows}
@@ -15,7 +12,7 @@ use Rattle.h1_head.proofs.EachSide.{each_is_lawful}
 use Rattle.h1_head.proofs.Parsed.{keeps_head, refused_head, refuses_for, row_not_long}
 use Rattle.h1_head.proofs.Spanned.{begins_at, parts_at, spans_good}
 use Rattle.h1_head.proofs.Soundness.{each_received}
-use Rattle.h1_head.proofs.Streams.{hopeless_many, hopeless_long, hopeless_whole, too_long}
+use Rattle.h1_head.proofs.Streams.{hopeless_many, hopeless_long, too_long}
 use Rattle.h1_head.proofs.Told.{on_refusal}
 use Rattle.h1_head.proofs.request.read_text.Goals as goal
 

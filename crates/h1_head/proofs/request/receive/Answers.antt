@@ -1,7 +1,7 @@
 use Rattle.std.proofs.Common.{◌≡◌, ℕ, ◌-◌, ◌<◌, sym, ◌∙◌, ap, subst, rules, arith}
-use Rattle.std.specs.Prelude.{None, Option}
+use Rattle.std.specs.Prelude.{None}
 use Rattle.htx_model.specs.Blocks.{load}
-use Rattle.http_model.specs.Head.{StartLine, head_blocks}
+use Rattle.http_model.specs.Head.{head_blocks}
 use Rattle.h1_head.specs.Rows.{Parts, kept_head, refusal_of, request_line}
 use Rattle.h1_head.specs.Spans.{span_parts}
 use Rattle.h1_head.proofs.Judging.{decided_row, decided_heavy, row_is, kept_is, good_names, weight_of, framing_is}

@@ -1,13 +1,10 @@
-use Rattle.std.proofs.Common.{◌≡◌, ◌≤◌, ◌<◌, ◌⊎◌, ℕ, length, drop, sym, ◌∙◌, ap, rules, inl, inr, arith, refl, false}
-use Rattle.std.specs.Prelude.{Ok, Err, count_by}
-use Rattle.http_model.specs.Reading.{Received}
+use Rattle.std.proofs.Common.{◌≡◌, ◌≤◌, ◌<◌, ◌⊎◌, length, drop, sym, ◌∙◌, ap, rules, inl, inr, arith, false}
+use Rattle.std.specs.Prelude.{count_by}
 use Rattle.h1_head.specs.Numbers.{most_fields, most_lines}
 use Rattle.h1_head.specs.declared.answer.HeadWhy.TheVariants.{Long, Grammar}
 use Rattle.h1_head.specs.declared.answer.Side.TheVariants as side
-use Rattle.h1_head.specs.Answers.{IsKept}
 use Rattle.h1_head.specs.Rows.{response_code, response_decision}
 use Rattle.h1_head.specs.Sides.{kind_of}
-use Rattle.h1_head.specs.Stream.{BeginsWith}
 use Rattle.h1_head.specs.Decides.{RefusesFor, WhereLong, IsTooLong, is_line_feed}
 use Rattle.httparse.specs.Grammar.{HasNoResponse, status_code}
 use Rattle.httparse.specs.Spans.{ResponseOverflows}
@@ -16,7 +13,7 @@ use Rattle.h1_head.proofs.Parsed.{keeps_head, refused_head, refuses_for, row_not
 use Rattle.h1_head.proofs.Spanned.{response_begins_at, response_parts_at, response_spans_good}
 use Rattle.h1_head.proofs.Responses.{low_status}
 use Rattle.h1_head.proofs.Soundness.{each_received}
-use Rattle.h1_head.proofs.Streams.{hopeless_many, hopeless_long, hopeless_whole, hopeless_head, too_long}
+use Rattle.h1_head.proofs.Streams.{hopeless_many, hopeless_long, hopeless_head, too_long}
 use Rattle.h1_head.proofs.Told.{on_refusal}
 use Rattle.h1_head.proofs.response.read_text.Goals as goal
 

@@ -1,8 +1,8 @@
 use Rattle.std.proofs.Common.{◌≡◌, ℕ, ◌-◌, ◌<◌, sym, ◌∙◌, ap, subst, rules, arith}
-use Rattle.std.specs.Prelude.{None, Option, cond, ◌||◌}
+use Rattle.std.specs.Prelude.{None, cond, ◌||◌}
 use Rattle.htx_model.specs.Blocks.{load}
 use Rattle.http_model.specs.declared.Framing.TheVariants as framing
-use Rattle.http_model.specs.Head.{StartLine, head_blocks}
+use Rattle.http_model.specs.Head.{head_blocks}
 use Rattle.h1_head.specs.Rows.{ResponseParts, kept_head, response_refusal_of, status_line, has_no_content}
 use Rattle.h1_head.specs.Spans.{response_span_parts}
 use Rattle.h1_head.proofs.Judging.{decided_row, decided_heavy, response_row_is, kept_is, good_names, weight_of, framing_is}

@@ -1,4 +1,4 @@
-use Rattle.std.proofs.Common.{ℕ, List, ◌++◌, sym, subst}
+use Rattle.std.proofs.Common.{◌++◌, sym, subst}
 use Rattle.http_model.specs.Reading.{Refused}
 use Rattle.h1_head.specs.declared.answer.Side.{Side}
 use Rattle.h1_head.specs.Answers.{IfRefuse}
