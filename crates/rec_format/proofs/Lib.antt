@@ -3,3 +3,4 @@ pub mod Fronts
 pub mod Records
 pub mod Reports
 pub mod Capped
+mod Several

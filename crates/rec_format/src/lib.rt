@@ -9,9 +9,11 @@ mod pieces;
 mod read;
 mod record;
 mod report;
+mod report_list;
 #[cfg(test)]
 mod tests;
 
 pub use first_record::{FirstRecord, read_first_record};
 pub use record::{Connection, RecFault, RecKind, Record, ServerSpec, Stream};
 pub use report::{Report, Sent, write_report};
+pub use report_list::write_reports;
