@@ -2,3 +2,5 @@ pub mod Digits
 pub mod Fronts
 pub mod Records
 pub mod Reports
+pub mod Capped
+mod Several

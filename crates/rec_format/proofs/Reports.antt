@@ -22,7 +22,8 @@ text_of_lines-append [] b = refl
 text_of_lines-append (line ∷ a) b =
     ap (λ t. line ++ 10 ∷ t) (text_of_lines-append a b) ∙ sym (append_assoc line (10 ∷ text_of_lines a) (text_of_lines b))
 
-grouped : (session client words bytes servers : List ℕ) → ((session ++ client) ++ (words ++ 10 ∷ (bytes ++ 10 ∷ []))) ++ servers ≡ session ++ ((client ++ words) ++ 10 ∷ (bytes ++ 10 ∷ servers))
+-- pieces that are grouped from the left, and from the right
+pub grouped : (session client words bytes servers : List ℕ) → ((session ++ client) ++ (words ++ 10 ∷ (bytes ++ 10 ∷ []))) ++ servers ≡ session ++ ((client ++ words) ++ 10 ∷ (bytes ++ 10 ∷ servers))
 grouped session client words bytes servers = simp append_assoc
 
 -- and the sides behind them

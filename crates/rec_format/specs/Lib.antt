@@ -3,3 +3,9 @@ pub mod Record
 pub mod Front
 pub mod Report
 pub mod ReportParts
+pub mod Reports
+pub mod Pieces
+pub mod Entries
+pub mod Lent
+pub mod Recorded
+pub mod Read

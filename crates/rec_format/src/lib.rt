@@ -2,11 +2,18 @@
 //! and the report of what a session sent.
 #![tactic(auto)]
 
+mod entries;
 mod first_record;
 mod front;
+mod pieces;
+mod read;
+mod record;
 mod report;
+mod report_list;
 #[cfg(test)]
 mod tests;
 
 pub use first_record::{FirstRecord, read_first_record};
+pub use record::{Connection, RecFault, RecKind, Record, ServerSpec, Stream};
 pub use report::{Report, Sent, write_report};
+pub use report_list::write_reports;

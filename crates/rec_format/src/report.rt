@@ -43,7 +43,7 @@ fn close_word(close: Close) -> &'static [u8]
     }
 }
 
-fn end_word(end: End) -> &'static [u8]
+pub(crate) fn end_word(end: End) -> &'static [u8]
     ensures { result.now ≡ end_word end }
 {
     match end {
@@ -53,7 +53,7 @@ fn end_word(end: End) -> &'static [u8]
     }
 }
 
-fn cut_word(cut: Option<bool>) -> &'static [u8]
+pub(crate) fn cut_word(cut: Option<bool>) -> &'static [u8]
     ensures { result.now ≡ cut_word cut }
 {
     match cut {
@@ -64,7 +64,7 @@ fn cut_word(cut: Option<bool>) -> &'static [u8]
 }
 
 /// Writes a line of two pieces.
-fn put_line(text: &mut Vec<u8>, first: &[u8], last: &[u8]) -> Result<(), OutOfMemory>
+pub(crate) fn put_line(text: &mut Vec<u8>, first: &[u8], last: &[u8]) -> Result<(), OutOfMemory>
     ensures { OnOk result (text.new.items ≡ text.old.items ++ (first.now ++ (last.now ++ 10 ∷ []))) }
 {
     text.extend_from_slice(first)?;
@@ -74,7 +74,7 @@ fn put_line(text: &mut Vec<u8>, first: &[u8], last: &[u8]) -> Result<(), OutOfMe
 }
 
 /// Writes the end of a side's line, and the line of what was sent to it.
-fn put_sent(text: &mut Vec<u8>, sent: &Sent) -> Result<(), OutOfMemory>
+pub(crate) fn put_sent(text: &mut Vec<u8>, sent: &Sent) -> Result<(), OutOfMemory>
     ensures { OnOk result (text.new.items ≡ text.old.items ++ (sent_words (sent_of sent.now) ++ 10 ∷ (sent.now.bytes ++ 10 ∷ []))) }
 {
     let bytes = sent.bytes.as_slice();
@@ -101,7 +101,7 @@ fn put_server(text: &mut Vec<u8>, number: usize, server: &Option<Sent>) -> Resul
 }
 
 /// Writes the lines of the servers, which are numbered from 1.
-fn put_servers(text: &mut Vec<u8>, servers: &[Option<Sent>]) -> Result<(), OutOfMemory>
+pub(crate) fn put_servers(text: &mut Vec<u8>, servers: &[Option<Sent>]) -> Result<(), OutOfMemory>
     ensures { OnOk result (text.new.items ≡ text.old.items ++ text_of_lines (server_lines 1 (servers_of servers.now))) }
 {
     for (at, server) in servers.iter().enumerate() {
@@ -127,7 +127,7 @@ fn put_session(text: &mut Vec<u8>, report: &Report) -> Result<(), OutOfMemory>
 }
 
 /// About how long the report is, so that its memory is taken at once.
-fn room_for(report: &Report) -> usize {
+pub(crate) fn room_for(report: &Report) -> usize {
     let mut room = report
         .client
         .bytes
