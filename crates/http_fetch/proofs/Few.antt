@@ -1,12 +1,11 @@
 -- A fetch has fewer samples than a message has bytes.
-use Rattle.std.proofs.Common.{◌≡◌, ℕ, ◌<◌, ◌≤◌, ◌^◌, ℤ, List, [], ◌∷◌, map, length, Option, Some, None, arith}
+use Rattle.std.proofs.Common.{ℕ, ◌<◌, ◌^◌, ℤ, List, length, Option, Some, None, arith}
 use Rattle.std.proofs.lemmas.List.{length-map}
-use Rattle.htx_model.specs.Block.{Block}
 use Rattle.http_model.specs.Blocks.{load}
 use Rattle.header_ops.specs.Lists.{values_named, fulls_named}
 use Rattle.header_ops.proofs.Listed.{few_values}
 use Rattle.header_ops.proofs.Whole.{few_fulls}
-use Rattle.px_sample.specs.Sample.{Value, Bytes}
+use Rattle.px_sample.specs.Sample.{Bytes}
 use Rattle.px_sample.specs.declared.fetch.Fetch.{Fetch}
 use Rattle.px_sample.specs.declared.fetch.Fetch.TheVariants as fetches
 use Rattle.http_fetch.specs.Fetches.{RequestAt, ResponseAt, header_samples, request_samples, response_samples}

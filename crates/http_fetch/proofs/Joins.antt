@@ -1,7 +1,7 @@
 -- Two texts, one behind the other.
 use Rattle.std.proofs.Common.{◌≡◌, ℕ, List, [], ◌∷◌, ◌++◌, Some, refl, arith, length, true, false}
 use Rattle.std.specs.Prelude.{◌==◌}
-use Rattle.std.proofs.lemmas.Bool.{false≢true, both_ways}
+use Rattle.std.proofs.lemmas.Bool.{both_ways}
 use Rattle.px_sample.specs.Sample.{Bytes}
 use Rattle.http_fetch.specs.Fetches.{some_bytes}
 

@@ -1,5 +1,5 @@
 -- The parts of a query.
-use Rattle.std.proofs.Common.{◌≡◌, ℕ, suc, ◌+◌, ◌<◌, ◌≤◌, Bool, true, false, List, [], ◌∷◌, cond, Option, Some, None, refl, sym, ap, ◌∙◌, inl, inr, arith, length, take, drop}
+use Rattle.std.proofs.Common.{◌≡◌, ℕ, suc, ◌+◌, ◌<◌, ◌≤◌, List, [], ◌∷◌, cond, Some, None, refl, sym, ap, ◌∙◌, inl, inr, arith, length, take, drop}
 use Rattle.std.specs.Prelude.{not}
 use Rattle.std.specs.List.{prefix_len, onto_first}
 use Rattle.std.proofs.lemmas.Bool.{cases_Bool, cases_lt}

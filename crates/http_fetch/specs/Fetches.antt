@@ -1,9 +1,9 @@
 -- What the fetches of a request and of a response give (Configuration Manual, section 7.3).
-use Rattle.std.specs.Prelude.{ℕ, zero, suc, ◌-◌, ℤ, pos, negsuc, Bool, true, false, ◌==◌, nat_lt, List, [], ◌∷◌, ◌++◌, length, drop, map, Option, Some, None, option_map, option_and_then, unwrap_or, slice_get, if◌then◌else◌, codes}
+use Rattle.std.specs.Prelude.{ℕ, zero, suc, ◌-◌, ℤ, pos, negsuc, true, false, nat_lt, List, [], ◌∷◌, ◌++◌, length, drop, map, Option, Some, None, option_map, option_and_then, unwrap_or, slice_get, if◌then◌else◌, codes}
 use Rattle.htx_model.specs.Block.{Block}
 use Rattle.htx_view.specs.Lines.{request_in, response_in, status_in}
 use Rattle.header_ops.specs.Lists.{values_named, fulls_named}
-use Rattle.uri_parts.specs.Target.{TargetParts, target_parts}
+use Rattle.uri_parts.specs.Target.{target_parts}
 use Rattle.uri_parts.specs.Cut.{query_text}
 use Rattle.px_sample.specs.Sample.{Value, Truth, Number, Bytes}
 use Rattle.px_sample.specs.Variables.{Variables, variable}

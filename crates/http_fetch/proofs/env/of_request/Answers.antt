@@ -1,7 +1,6 @@
-use Rattle.std.proofs.Common.{◌≡◌, ◌∙◌, ap, sym, slice_get, option_map}
+use Rattle.std.proofs.Common.{◌∙◌, ap, sym, slice_get}
 use Rattle.header_ops.specs.Lists.{values_named, fulls_named}
 use Rattle.http_fetch.specs.Fetches.{RequestAt, header_samples, count_sample, one, request_samples}
-use Rattle.http_fetch.specs.Found.{value_of}
 use Rattle.http_fetch.proofs.env.of_request.Goals as goal
 
 pub returns-in-ReqHdr : goal.returns-in-ReqHdr
