@@ -1,0 +1,4 @@
+pub mod Few
+pub mod Places
+pub mod Params
+pub mod Joins

@@ -1,0 +1,7 @@
+use Rattle.std.proofs.Common.{◌≡◌, ◌+◌, drop}
+use Rattle.std.specs.List.{prefix_len}
+use Rattle.http_fetch.specs.Param.{is_plain}
+use Rattle.http_fetch.proofs.param.part_len.Given as goal
+
+abbrev pub invariant-loop-i : goal.invariant-loop-i
+invariant-loop-i l = l.i + prefix_len is_plain (drop l.i l.text) ≡ prefix_len is_plain l.text

@@ -1,0 +1,3 @@
+pub mod Param
+pub mod Fetches
+pub mod Found

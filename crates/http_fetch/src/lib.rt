@@ -1,0 +1,14 @@
+//! What gives the samples of a request and of a response in an array: each fetch is one line of a table in `specs/`. No call
+//! takes memory, and what a fetch answers is all that it copies.
+#![tactic(auto)]
+
+mod env;
+mod found;
+mod headers;
+mod line;
+mod param;
+mod place;
+#[cfg(test)]
+mod tests;
+
+pub use env::{ReqEnv, ResEnv};
