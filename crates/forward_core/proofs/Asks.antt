@@ -13,7 +13,7 @@ use Rattle.header_ops.specs.Headers.{with_header, without_framing, HasEnd}
 use Rattle.http_rules.specs.declared.config.Config.{Config}
 use Rattle.session_model.specs.Env.{Env, Pass}
 use Rattle.forward_core.specs.Texts.{finished_blocks}
-use Rattle.forward_core.specs.Ruled.{ruled, IsRuled, IsSent, sent_head, sent_fits}
+use Rattle.forward_core.specs.Ruled.{ruled, IsRuled, sent_head, sent_fits}
 
 -- the finished blocks of a head are those of the finished head
 pub finished_head : ((h : Head) → without_framing (head_blocks h) ≡ head_blocks (record h { fields = without_each framing_names h.fields }))

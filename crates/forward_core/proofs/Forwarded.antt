@@ -12,7 +12,6 @@ use Rattle.http_model.specs.Head.{Head, Message, head_blocks}
 use Rattle.http_model.specs.Finish.{length_field}
 use Rattle.http_model.specs.Refusal.{refusal, closing}
 use Rattle.http_model.specs.Spelling.{Spells, head_text}
-use Rattle.http_model.specs.Reading.{Received}
 use Rattle.http_model.specs.Reading as reading
 use Rattle.h1_head.specs.Request.{RequestOf}
 use Rattle.http_rules.specs.declared.config.Config.{Config}

@@ -1,5 +1,5 @@
 -- What one exchange puts out, as a session.
-use Rattle.std.proofs.Common.{◌≡◌, ℕ, ◌≤◌, List, [], ◌∷◌, ◌++◌, inl, inr, Bool, true, false, refl, sym, ap, ◌∙◌, subst, append_assoc}
+use Rattle.std.proofs.Common.{◌≡◌, ℕ, ◌≤◌, List, [], ◌∷◌, ◌++◌, inl, inr, Bool, false, refl, sym, ap, ◌∙◌, subst, append_assoc}
 use Rattle.std.specs.Prelude.{codes, map, Option, Some, None}
 use Rattle.std.proofs.lemmas.List.{append-nil}
 use Rattle.http_model.specs.declared.Close.TheVariants.{Clean}

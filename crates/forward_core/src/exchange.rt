@@ -1,8 +1,5 @@
 //! One exchange of the first form.
-ghost use Rattle.std.specs.Prelude.{◌≡◌, ◌≤◌, ◌+◌, length, IfOk, OnOk, OnErr, IsErrOf, Some, None};
-ghost use Rattle.http_model.specs.declared.End.TheVariants as end;
-ghost use Rattle.http_model.specs.Refusal.{refusal, closing};
-ghost use Rattle.http_model.specs.Spelling.{Spells};
+ghost use Rattle.std.specs.Prelude.{◌≡◌, IfOk, OnOk, IsErrOf, Some, None};
 ghost use Rattle.http_rules.specs.Valid.{IsValid};
 ghost use Rattle.session_model.specs.Session.{Session};
 ghost use Rattle.forward_core.specs.First.{meaning_of, IsFirstServer, closed};

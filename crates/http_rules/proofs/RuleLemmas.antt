@@ -3,7 +3,6 @@ use Rattle.std.proofs.Common.{◌≡◌, Bool, true, false, cond, List, [], ◌�
 use Rattle.std.specs.Prelude.{not, ◌&&◌}
 use Rattle.http_model.specs.declared.Limits.{Limits}
 use Rattle.http_model.specs.declared.Why.{Why}
-use Rattle.http_model.specs.declared.Why.TheVariants.{Room, Bytes}
 use Rattle.session_model.specs.Env.{Env, Verdict, Fail}
 use Rattle.http_rules.specs.declared.rule.Action.{Action}
 use Rattle.http_rules.specs.declared.rule.Action.TheVariants.{Allow, AddHeader, SetHeader}

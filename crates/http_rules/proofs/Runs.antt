@@ -1,28 +1,20 @@
 -- A run of rules, rule by rule.
-use Rattle.std.proofs.Common.{◌≡◌, ℕ, zero, suc, ◌+◌, ◌≤◌, List, [], ◌∷◌, Bool, true, false, cond, refl, sym, ap, ◌∙◌, subst, length, drop, arith}
-use Rattle.std.specs.Prelude.{slice_get, Some, ◌↔◌, Result, Ok, Err, OnOk, OnErr, IsOk}
-use Rattle.std.proofs.lemmas.List.{append-nil}
-use Rattle.std.proofs.lemmas.Bool.{le-leb, leb-true}
+use Rattle.std.proofs.Common.{◌≡◌, ℕ, zero, suc, ◌+◌, ◌≤◌, List, [], ◌∷◌, Bool, true, refl, sym, ap, ◌∙◌, subst, length, drop, arith}
+use Rattle.std.specs.Prelude.{slice_get, Some}
 use Rattle.std.specs.List.{AllByRecursion}
 use Rattle.std.proofs.Math.ListN.{drop_of_length-le}
 use Rattle.http_model.specs.declared.Limits.{Limits}
 use Rattle.http_model.specs.declared.Why.{Why}
-use Rattle.http_model.specs.declared.Why.TheVariants.{Room, Bytes}
 use Rattle.http_model.specs.Block.{Block}
-use Rattle.http_model.specs.Blocks.{load}
-use Rattle.http_model.specs.Head.{Head, head_blocks, front_blocks}
-use Rattle.htx_arena.specs.declared.arena.Full.{Full}
-use Rattle.px_bytes.specs.Blanks.{trimmed}
-use Rattle.session_model.specs.Env.{Env, Fail, request_env, env_with_head}
+use Rattle.http_model.specs.Head.{Head, head_blocks}
+use Rattle.session_model.specs.Env.{Env, Fail, request_env}
 use Rattle.http_rules.specs.declared.rule.Action.{Action}
 use Rattle.http_rules.specs.declared.rule.Action.TheVariants.{Allow, AddHeader, SetHeader}
 use Rattle.http_rules.specs.declared.rule.Rule.{Rule}
-use Rattle.http_rules.specs.declared.run.Step.{Step}
 use Rattle.http_rules.specs.declared.run.Step.TheVariants as step
 use Rattle.http_rules.specs.declared.run.Verdict.TheVariants as verdict
-use Rattle.http_rules.specs.Steps.{is_good_text, fits_with, edited_by}
-use Rattle.http_rules.specs.Rules.{Act, Next, Stop, Replies, Denies, Fails, after_step, act, mode_after, behind, walk, rules_of}
-use Rattle.http_rules.specs.Run.{Steps, Runs, HoldsHead, step_by}
+use Rattle.http_rules.specs.Rules.{Act, Next, Stop, Replies, Denies, Fails, act, mode_after, behind, walk, rules_of}
+use Rattle.http_rules.specs.Run.{Steps, Runs, HoldsHead}
 
 -- the rules from a place on begin with the one that stands there
 drop_get : (rules : List Rule) (at : ℕ) (rule : Rule) → slice_get rules at ≡ Some rule → drop at rules ≡ rule ∷ drop (suc at) rules

@@ -1,7 +1,7 @@
 -- What the client is sent for a reply or a refusal, behind the rules that run on all that it is sent.
 use Rattle.std.specs.Prelude.{ℕ, List, Bool, false, nat_le, if◌then◌else◌, Option, Some, None}
 use Rattle.http_model.specs.Blocks.{load}
-use Rattle.http_model.specs.Head.{Head, Message, with_head, message_blocks}
+use Rattle.http_model.specs.Head.{Message, with_head, message_blocks}
 use Rattle.http_model.specs.Refusal.{refusal, closing}
 use Rattle.session_model.specs.Env.{Amended, Edited, Plain, reply_env}
 use Rattle.session_model.specs.Meaning.{Meaning}

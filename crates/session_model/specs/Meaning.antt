@@ -1,11 +1,11 @@
 -- What the layers below give to a session: reading of heads and bodies, rules, filters.
-use Rattle.std.specs.Prelude.{◌≡◌, ℕ, List, [], ◌++◌, Bool, true, false, not, ◌&&◌, ◌||◌, ◌==◌, if◌then◌else◌, Option, Some, None, codes}
+use Rattle.std.specs.Prelude.{◌≡◌, ℕ, List, [], ◌++◌, Bool, true, false, not, ◌&&◌, ◌==◌, Option, Some, None, codes}
 use Rattle.std.specs.Str.{bytes_eq}
 use Rattle.http_model.specs.declared.Framing.{Framing}
 use Rattle.http_model.specs.declared.Framing.TheVariants.{Absent, Length, Chunked, ToClose}
 use Rattle.http_model.specs.declared.Limits.{Limits}
 use Rattle.http_model.specs.declared.Ending.{Ending}
-use Rattle.http_model.specs.Head.{Head, StartLine, RequestLine, StatusLine, Message}
+use Rattle.http_model.specs.Head.{Head, StartLine, RequestLine, StatusLine}
 use Rattle.http_model.specs.Fields.{has_field}
 use Rattle.http_model.specs.Reading.{Received, HeadReading, BodyReading}
 use Rattle.session_model.specs.Env.{Env, Verdict, Amended, method_of}
