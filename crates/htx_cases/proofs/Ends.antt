@@ -1,5 +1,5 @@
--- Where an end of headers stands, and a server of a record.
-use Rattle.std.proofs.Common.{◌≡◌, ℕ, zero, suc, ◌<◌, ◌≤◌, List, [], ◌∷◌, length, arith}
+-- Where an end of headers stands.
+use Rattle.std.proofs.Common.{◌≡◌, ℕ, zero, suc, ◌<◌, List, [], ◌∷◌, length, arith}
 use Rattle.http_model.specs.Block.{Block, RequestLine, ResponseLine, Header, EndHeaders, Data, Trailer, EndTrailers}
 use Rattle.htx_model.specs.Block.{kind_of}
 use Rattle.htx_model.specs.Blocks.{block_at}

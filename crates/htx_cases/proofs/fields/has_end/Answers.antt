@@ -1,4 +1,4 @@
-use Rattle.std.proofs.Common.{◌<◌, length, sym, ◌∙◌, arith}
+use Rattle.std.proofs.Common.{sym, ◌∙◌, arith}
 use Rattle.htx_cases.proofs.Ends.{end_at}
 use Rattle.htx_cases.proofs.fields.has_end.Goals as goal
 
