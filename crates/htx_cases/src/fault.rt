@@ -1,0 +1,23 @@
+//! Why a row comes to nothing.
+use px_link::OutOfMemory;
+use std::alloc::AllocError;
+
+/// Why a row comes to nothing.
+#[derive(Clone, Copy, Debug, PartialEq, Eq)]
+pub enum Fault {
+    /// The row is not of its kind.
+    Malformed,
+    OutOfMemory,
+}
+
+impl From<OutOfMemory> for Fault {
+    fn from(_: OutOfMemory) -> Self {
+        Fault::OutOfMemory
+    }
+}
+
+impl From<AllocError> for Fault {
+    fn from(_: AllocError) -> Self {
+        Fault::OutOfMemory
+    }
+}

@@ -1,0 +1,176 @@
+//! The program of cases: reads the tables and sessions that lie in a folder, runs each row through the public calls of
+//! the crates, and prints the rows that differ, and how many agree.
+#![tactic(auto)]
+
+mod answers;
+mod bodies;
+mod convs;
+mod edits;
+mod escapes;
+mod expressions;
+mod facts;
+mod fault;
+mod fields;
+mod formats;
+mod heads;
+mod kinds;
+mod lines;
+mod messages;
+mod patterns;
+mod reading;
+mod records;
+mod replies;
+mod rows;
+mod samples;
+mod score;
+mod sessions;
+mod steps;
+mod texts;
+mod values;
+mod windows;
+
+use escapes::decoded;
+use kinds::made;
+use rows::Row;
+use score::Score;
+use sessions::session_made;
+use std::alloc::AllocError;
+use std::env::Env;
+use std::rt::Files;
+use std::{env, fs, io};
+
+/// The names in a folder, in their order.
+fn names_in<R: Files + AllocGlobal + Clone + Drop>(
+    rt: &R,
+    folder: &str,
+) -> io::Result<Vec<String>> {
+    let mut names = Vec::new(rt.alloc());
+    for entry in fs::read_dir(rt, folder)? {
+        let entry = entry?;
+        let name = String::from_str(rt.alloc(), entry.file_name())?;
+        names.push(name).map_err(AllocError::from)?;
+    }
+    names.sort()?;
+    Ok(names)
+}
+
+/// Runs a row of a table.
+fn run_row<R: Print + AllocGlobal>(
+    rt: &R,
+    folder: &str,
+    row: Row<'_>,
+    score: &mut Score,
+) -> io::Result<()> {
+    match decoded(rt.alloc(), row.expected().as_bytes()) {
+        Ok(expected) => score.note(
+            rt,
+            folder,
+            row.name(),
+            &expected,
+            made(rt.alloc(), folder, row),
+        ),
+        Err(fault) => score.note(rt, folder, row.name(), b"", Err(fault)),
+    }
+}
+
+/// Runs the rows of a table.
+fn run_table<R: Print + AllocGlobal>(
+    rt: &R,
+    folder: &str,
+    text: &str,
+    score: &mut Score,
+) -> io::Result<()> {
+    for line in text.lines() {
+        if let Some(row) = Row::of(line) {
+            run_row(rt, folder, row, score)?;
+        }
+    }
+    Ok(())
+}
+
+/// The bytes of a file.
+fn bytes_in<R: Files + AllocGlobal>(
+    rt: &R,
+    place: &str,
+    base: &str,
+    ending: &str,
+) -> io::Result<Vec<u8>> {
+    let path = format!(in rt.alloc(); "{place}/{base}.{ending}")?;
+    fs::read(rt, path.as_str())
+}
+
+/// Runs the session of which a file NAME.report, NAME.expected or NAME.check says what must be written. NAME.cfg stands
+/// beside it, and so does NAME.rec where there is a record.
+fn run_session<R: Files + Print + AllocGlobal>(
+    rt: &R,
+    place: &str,
+    name: &str,
+    score: &mut Score,
+) -> io::Result<()> {
+    let Some((base, ending)) = name.rsplit_once('.') else {
+        return Ok(());
+    };
+    if ending == "cfg" || ending == "rec" {
+        return Ok(());
+    }
+    let expected = bytes_in(rt, place, base, ending)?;
+    let cfg = bytes_in(rt, place, base, "cfg")?;
+    let rec = match ending {
+        "check" => Vec::new(rt.alloc()),
+        _ => bytes_in(rt, place, base, "rec")?,
+    };
+    score.note(
+        rt,
+        "sessions",
+        name,
+        &expected,
+        session_made(rt.alloc(), ending, &cfg, &rec),
+    )
+}
+
+/// Runs the file of this name in a folder whose name says which kind of rows it holds.
+fn run_file<R: Files + Print + AllocGlobal>(
+    rt: &R,
+    place: &str,
+    folder: &str,
+    name: &str,
+    score: &mut Score,
+) -> io::Result<()> {
+    if folder == "sessions" {
+        return run_session(rt, place, name, score);
+    }
+    let path = format!(in rt.alloc(); "{place}/{name}")?;
+    let text = fs::read_to_string(rt, path.as_str())?;
+    run_table(rt, folder, text.as_str(), score)
+}
+
+/// Runs what a folder holds.
+fn run_folder<R: Files + Print + AllocGlobal + Clone + Drop>(
+    rt: &R,
+    top: &str,
+    folder: &str,
+    score: &mut Score,
+) -> io::Result<()> {
+    let place = format!(in rt.alloc(); "{top}/{folder}")?;
+    for name in names_in(rt, place.as_str())? {
+        run_file(rt, place.as_str(), folder, name.as_str(), score)?;
+    }
+    Ok(())
+}
+
+/// The folder that the command line names, or the one where the program runs.
+fn top_folder<R: Env + AllocGlobal>(rt: &R) -> io::Result<String> {
+    match env::args(rt)?.nth(1) {
+        Some(folder) => Ok(folder),
+        None => Ok(String::from_str(rt.alloc(), ".")?),
+    }
+}
+
+fn main(rt: HostRuntime) -> io::Result<()> {
+    let mut score = Score::new();
+    let top = top_folder(&rt)?;
+    for folder in names_in(&rt, top.as_str())? {
+        run_folder(&rt, top.as_str(), folder.as_str(), &mut score)?;
+    }
+    score.print(&rt)
+}
