@@ -3,3 +3,5 @@ pub mod SizeLemmas
 pub mod LineLemmas
 pub mod TextLemmas
 pub mod SoundLemmas
+mod StepLemmas
+mod FilterLemmas

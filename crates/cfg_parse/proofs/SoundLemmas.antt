@@ -18,7 +18,7 @@ use Rattle.px_link.specs.declared.address.Address.{Address}
 use Rattle.http_rules.specs.declared.rule.Rule.{Rule}
 use Rattle.http_rules.specs.declared.rule.Action.TheVariants.{Allow, AddHeader, SetHeader}
 use Rattle.http_rules.specs.declared.config.Config.{Config}
-use Rattle.http_rules.specs.Valid.{AreLimits, IsMadeName, IsGoodAction, HasPort, HasHost, IsValid}
+use Rattle.http_rules.specs.Valid.{AreLimits, IsMadeName, IsGoodAction, HasPort, HasHost, IsChain, IsValid}
 use Rattle.cfg_parse.specs.declared.fault.CfgKind.{CfgKind}
 use Rattle.cfg_parse.specs.declared.fault.CfgKind.TheVariants.{Argument, Section, Keyword, FramingName, Limit, Missing, Unbuilt}
 use Rattle.cfg_parse.specs.declared.fault.CfgFault.{CfgFault}
@@ -28,7 +28,7 @@ use Rattle.cfg_parse.specs.declared.keywords.FirstWord.TheVariants.{Begins, Sets
 use Rattle.cfg_parse.specs.declared.keywords.SectionWord.{SectionWord}
 use Rattle.cfg_parse.specs.declared.keywords.SectionWord.TheVariants.{Global, Defaults, Listen, Other}
 use Rattle.cfg_parse.specs.declared.keywords.Setting.{Setting}
-use Rattle.cfg_parse.specs.declared.keywords.Setting.TheVariants.{Bufsize, Maxrewrite, Mode, Timeout, Bind, Server, HttpRequest}
+use Rattle.cfg_parse.specs.declared.keywords.Setting.TheVariants.{Bufsize, Maxrewrite, Mode, Timeout, Bind, Server, HttpRequest, Filter}
 use Rattle.cfg_parse.specs.declared.keywords.ActionName.{ActionName}
 use Rattle.cfg_parse.specs.declared.keywords.ActionName.TheVariants as actions
 use Rattle.cfg_parse.specs.Reading.{◌>>=◌, argument, no_more}
@@ -36,43 +36,15 @@ use Rattle.cfg_parse.specs.Keywords.{first_word_of, action_name_of, is_framing_n
 use Rattle.cfg_parse.specs.Numbers.{number_up_to, size_of, is_time, is_colon, as_port, port_of, address_at, address_of, server_address_of}
 use Rattle.cfg_parse.specs.Draft.{start, is_before, belongs}
 use Rattle.cfg_parse.specs.Rules.{made_name, made_field, action_rule, rule_line}
+use Rattle.body_filter.specs.declared.filter_spec.FilterSpec.{FilterSpec}
+use Rattle.body_filter.specs.Valid.{IsFilter}
+use Rattle.cfg_parse.specs.declared.filters.Direction.{Direction}
+use Rattle.cfg_parse.specs.declared.filters.Direction.TheVariants.{Request, Response}
+use Rattle.cfg_parse.specs.Filters.{with_filter, filter_line, filter_added, filter_setting}
+use Rattle.cfg_parse.proofs.StepLemmas.{bind_ok, guard_ok, passed, given, ok_is, or_false, and_true, not_false}
+use Rattle.cfg_parse.proofs.FilterLemmas.{none_chain, chain_more, filter_line-good}
 use Rattle.cfg_parse.specs.Lines.{section_line, bufsize_line, maxrewrite_line, mode_line, timeout_line, bind_line, server_line, setting_line, is_unbuilt, known_line, line_by, words_line, line_by_words, line_of}
-use Rattle.cfg_parse.specs.Whole.{Refusal, bufsize_of, maxrewrite_of, limits_of, with_addresses, whole, behind, lines_from, of_text, after_lines, config_of, Configures}
-
--- ---- steps that gave a value
-
--- the value of a step that was not refused
-bind_ok : {A B : Type 0} (r : Result A CfgKind) (f : A → Result B CfgKind) (y : B) → (r >>= f) ≡ Ok y → (x : A) × ((r ≡ Ok x) × (f x ≡ Ok y))
-bind_ok (Ok x) f y e = (x, (refl, e))
-bind_ok (Err kind) f y e = absurd cc
-
--- a test that did not refuse
-guard_ok : {A : Type 0} (b : Bool) (kind : CfgKind) (x : Result A CfgKind) (y : A) → cond b (Err kind) x ≡ Ok y → (b ≡ false) × (x ≡ Ok y)
-guard_ok true kind x y e = absurd cc
-guard_ok false kind x y e = (refl, e)
-
--- a test that let pass
-passed : {A : Type 0} (b : Bool) (kind : CfgKind) (x : Result A CfgKind) (y : A) → cond b x (Err kind) ≡ Ok y → (b ≡ true) × (x ≡ Ok y)
-passed true kind x y e = (refl, e)
-passed false kind x y e = absurd cc
-
-abbrev given : {A : Type 0} → A → Result A CfgKind
-given x = Ok x
-
-ok_is : {A : Type 0} (x y : A) → given x ≡ given y → x ≡ y
-ok_is x y e = cc
-
-or_false : (a b : Bool) → (a || b) ≡ false → (a ≡ false) × (b ≡ false)
-or_false true b e = absurd cc
-or_false false b e = (refl, e)
-
-and_true : (a b : Bool) → (a && b) ≡ true → (a ≡ true) × (b ≡ true)
-and_true true b e = (refl, e)
-and_true false b e = absurd cc
-
-not_false : (a : Bool) → not a ≡ false → a ≡ true
-not_false true e = refl
-not_false false e = absurd cc
+use Rattle.cfg_parse.specs.Whole.{Refusal, bufsize_of, maxrewrite_of, limits_of, made_config, with_addresses, whole, behind, lines_from, of_text, after_lines, config_of, Configures}
 
 -- ---- sizes and addresses
 
@@ -222,6 +194,8 @@ pub record IsSound (draft : Draft) : Type 0 where
   pub server : IfSome draft.server (λ a. HasPort a × HasHost a)
   pub rules : AllByRecursion (λ (r : Rule). IsGoodAction r.action) draft.request
   pub few : length draft.request ≤ 1024
+  pub req_filters : IsChain draft.req_filters
+  pub res_filters : IsChain draft.res_filters
 
 -- what follows is sound, if it is not refused
 abbrev Keeps : {E : Type 0} → Result Draft E → Type 0
@@ -242,23 +216,23 @@ keeps_if false kind x keeps = tt
 
 section_line-sound : (draft : Draft) (word : SectionWord) (arguments : List (List ℕ)) → IsSound draft → Keeps (section_line draft word arguments)
 unfolding section_line
-section_line-sound draft Global arguments s = keeps_bind (no_more arguments) _ (λ ended is. record { bufsize = s.bufsize; bind = s.bind; server = s.server; rules = s.rules; few = s.few })
-section_line-sound draft Defaults arguments s = keeps_bind (no_more arguments) _ (λ ended is. record { bufsize = s.bufsize; bind = s.bind; server = s.server; rules = s.rules; few = s.few })
+section_line-sound draft Global arguments s = keeps_bind (no_more arguments) _ (λ ended is. record { bufsize = s.bufsize; bind = s.bind; server = s.server; rules = s.rules; few = s.few; req_filters = s.req_filters; res_filters = s.res_filters })
+section_line-sound draft Defaults arguments s = keeps_bind (no_more arguments) _ (λ ended is. record { bufsize = s.bufsize; bind = s.bind; server = s.server; rules = s.rules; few = s.few; req_filters = s.req_filters; res_filters = s.res_filters })
 section_line-sound draft Listen arguments s =
-    keeps_unless draft.has_listen Section _ (keeps_bind (argument arguments) _ (λ name is. keeps_bind (no_more name.1) _ (λ ended ends. record { bufsize = s.bufsize; bind = s.bind; server = s.server; rules = s.rules; few = s.few })))
+    keeps_unless draft.has_listen Section _ (keeps_bind (argument arguments) _ (λ name is. keeps_bind (no_more name.1) _ (λ ended ends. record { bufsize = s.bufsize; bind = s.bind; server = s.server; rules = s.rules; few = s.few; req_filters = s.req_filters; res_filters = s.res_filters })))
 section_line-sound draft Other arguments s = tt
 
 bufsize_line-sound : (draft : Draft) (arguments : List (List ℕ)) → IsSound draft → Keeps (bufsize_line draft arguments)
 unfolding bufsize_line
 bufsize_line-sound draft arguments s =
     keeps_bind (argument arguments) _ (λ word is. keeps_bind (size_of 1024 262144 word.0) _ (λ size size-is. keeps_bind (no_more word.1) _ (λ ended ends.
-    record { bufsize = size_of-within 1024 262144 word.0 size size-is; bind = s.bind; server = s.server; rules = s.rules; few = s.few })))
+    record { bufsize = size_of-within 1024 262144 word.0 size size-is; bind = s.bind; server = s.server; rules = s.rules; few = s.few; req_filters = s.req_filters; res_filters = s.res_filters })))
 
 maxrewrite_line-sound : (draft : Draft) (arguments : List (List ℕ)) → IsSound draft → Keeps (maxrewrite_line draft arguments)
 unfolding maxrewrite_line
 maxrewrite_line-sound draft arguments s =
     keeps_bind (argument arguments) _ (λ word is. keeps_bind (number_up_to most_size word.0) _ (λ size size-is. keeps_bind (no_more word.1) _ (λ ended ends.
-    record { bufsize = s.bufsize; bind = s.bind; server = s.server; rules = s.rules; few = s.few })))
+    record { bufsize = s.bufsize; bind = s.bind; server = s.server; rules = s.rules; few = s.few; req_filters = s.req_filters; res_filters = s.res_filters })))
 
 mode_line-sound : (draft : Draft) (arguments : List (List ℕ)) → IsSound draft → Keeps (mode_line draft arguments)
 unfolding mode_line
@@ -274,13 +248,13 @@ bind_line-sound : (draft : Draft) (arguments : List (List ℕ)) → IsSound draf
 unfolding bind_line
 bind_line-sound draft arguments s =
     keeps_unless (is_some draft.bind) Argument _ (keeps_bind (argument arguments) _ (λ word is. keeps_bind (address_of word.0) _ (λ address address-is. keeps_bind (no_more word.1) _ (λ ended ends.
-    record { bufsize = s.bufsize; bind = address_of-port word.0 address address-is; server = s.server; rules = s.rules; few = s.few }))))
+    record { bufsize = s.bufsize; bind = address_of-port word.0 address address-is; server = s.server; rules = s.rules; few = s.few; req_filters = s.req_filters; res_filters = s.res_filters }))))
 
 server_line-sound : (draft : Draft) (arguments : List (List ℕ)) → IsSound draft → Keeps (server_line draft arguments)
 unfolding server_line
 server_line-sound draft arguments s =
     keeps_unless (is_some draft.server) Argument _ (keeps_bind (argument arguments) _ (λ name name-is. keeps_bind (argument name.1) _ (λ word is. keeps_bind (server_address_of word.0) _ (λ address address-is. keeps_bind (no_more word.1) _ (λ ended ends.
-    record { bufsize = s.bufsize; bind = s.bind; server = server_address_of-good word.0 address address-is; rules = s.rules; few = s.few })))))
+    record { bufsize = s.bufsize; bind = s.bind; server = server_address_of-good word.0 address address-is; rules = s.rules; few = s.few; req_filters = s.req_filters; res_filters = s.res_filters })))))
 
 rule_line-sound : (draft : Draft) (arguments : List (List ℕ)) → IsSound draft → Keeps (rule_line draft arguments)
 unfolding rule_line
@@ -288,7 +262,20 @@ rule_line-sound draft arguments s =
     keeps_bind (argument arguments) _ (λ action is. keeps_bind (action_rule (action_name_of action.0) action.1) _ (λ rule rule-is. keeps_if (ltb (length draft.request) 1024) Limit _ (λ test.
     let len : length (draft.request ++ rule ∷ []) ≡ length draft.request + 1 = length-append draft.request (rule ∷ []) in
     let few : length (draft.request ++ rule ∷ []) ≤ 1024 = grind (arith, nat_tests) in
-    record { bufsize = s.bufsize; bind = s.bind; server = s.server; rules = rules_push draft.request rule s.rules (action_rule-good (action_name_of action.0) action.1 rule rule-is); few = few })))
+    record { bufsize = s.bufsize; bind = s.bind; server = s.server; rules = rules_push draft.request rule s.rules (action_rule-good (action_name_of action.0) action.1 rule rule-is); few = few; req_filters = s.req_filters; res_filters = s.res_filters })))
+
+filter_added-sound : (draft : Draft) (direction : Direction) (filter : FilterSpec) → IsSound draft → IsFilter filter → Keeps (filter_added draft direction filter)
+filter_added-sound draft Request filter s good =
+    keeps_bind (with_filter draft.req_filters filter) _ (λ filters is.
+    record { bufsize = s.bufsize; bind = s.bind; server = s.server; rules = s.rules; few = s.few; req_filters = chain_more draft.req_filters filter filters s.req_filters good is; res_filters = s.res_filters })
+filter_added-sound draft Response filter s good =
+    keeps_bind (with_filter draft.res_filters filter) _ (λ filters is.
+    record { bufsize = s.bufsize; bind = s.bind; server = s.server; rules = s.rules; few = s.few; req_filters = s.req_filters; res_filters = chain_more draft.res_filters filter filters s.res_filters good is })
+
+filter_setting-sound : (draft : Draft) (arguments : List (List ℕ)) → IsSound draft → Keeps (filter_setting draft arguments)
+unfolding filter_setting
+filter_setting-sound draft arguments s =
+    keeps_bind (filter_line arguments) _ (λ taken is. filter_added-sound draft taken.0 taken.1 s (filter_line-good arguments taken is))
 
 setting_line-sound : (draft : Draft) (setting : Setting) (arguments : List (List ℕ)) → IsSound draft → Keeps (setting_line draft setting arguments)
 unfolding setting_line
@@ -299,6 +286,7 @@ setting_line-sound draft Timeout arguments s = timeout_line-sound draft argument
 setting_line-sound draft Bind arguments s = bind_line-sound draft arguments s
 setting_line-sound draft Server arguments s = server_line-sound draft arguments s
 setting_line-sound draft HttpRequest arguments s = rule_line-sound draft arguments s
+setting_line-sound draft Filter arguments s = filter_setting-sound draft arguments s
 
 known_line-sound : (draft : Draft) (setting : Setting) (arguments : List (List ℕ)) → IsSound draft → Keeps (known_line draft setting arguments)
 unfolding known_line
@@ -343,7 +331,7 @@ lines_from-sound number draft (line ∷ others) s =
     behind-sound number (line_of draft line) (λ next. lines_from (number + 1) next others) (line_of-sound draft line s) (λ next sound. lines_from-sound (number + 1) next others sound)
 
 start-sound : IsSound start
-start-sound = record { bufsize = tt; bind = tt; server = tt; rules = tt; few = omega arith }
+start-sound = record { bufsize = tt; bind = tt; server = tt; rules = tt; few = omega arith; req_filters = none_chain; res_filters = none_chain }
 
 -- the size of the buffer of a sound draft
 bufsize-within : (bufsize : Option ℕ) → IfSome bufsize (λ n. (1024 ≤ n) × (n ≤ 262144)) → (1024 ≤ unwrap_or bufsize 16384) × (unwrap_or bufsize 16384 ≤ 262144)
@@ -355,11 +343,11 @@ with_addresses-valid : (draft : Draft) (bind server : Option Address) (config : 
 with_addresses-valid draft None server config s suits b v e = absurd cc
 with_addresses-valid draft (Some bind) None config s suits b v e = absurd cc
 with_addresses-valid draft (Some bind) (Some server) config s suits b v e =
-    let test = passed draft.has_listen Missing (Ok (record { limits = limits_of draft; bind = bind; server = server; request = draft.request })) config e in
-    let made : Config = record { limits = limits_of draft; bind = bind; server = server; request = draft.request } in
+    let made = made_config draft bind server in
+    let test = passed draft.has_listen Missing (Ok made) config e in
     let within = bufsize-within draft.bufsize s.bufsize in
     let limits : AreLimits (limits_of draft) = record { least = within.0; most = within.1; leaves = omega (arith, within.0, suits) } in
-    subst IsValid (ok_is made config test.1) (record { limits = limits; bind_port = b; server_port = v.0; server_host = v.1; rules = s.rules; few = s.few })
+    subst IsValid (ok_is made config test.1) (record { limits = limits; bind_port = b; server_port = v.0; server_host = v.1; rules = s.rules; few = s.few; req_filters = s.req_filters; res_filters = s.res_filters })
 
 whole-valid : (draft : Draft) (config : Config) → IsSound draft → whole draft ≡ Ok config → IsValid config
 unfolding whole

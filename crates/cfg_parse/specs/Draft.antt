@@ -4,11 +4,22 @@ use Rattle.cfg_parse.specs.declared.draft.Draft.{Draft}
 use Rattle.cfg_parse.specs.declared.draft.Section.{Section}
 use Rattle.cfg_parse.specs.declared.draft.Section.TheVariants as sections
 use Rattle.cfg_parse.specs.declared.keywords.Setting.{Setting}
-use Rattle.cfg_parse.specs.declared.keywords.Setting.TheVariants.{Bufsize, Maxrewrite, Mode, Timeout, Bind, Server, HttpRequest}
+use Rattle.cfg_parse.specs.declared.keywords.Setting.TheVariants.{Bufsize, Maxrewrite, Mode, Timeout, Bind, Server, HttpRequest, Filter}
 
 -- before the first line
 abbrev pub start : Draft
-start = record { section = sections.Before; has_listen = false; bufsize = None; maxrewrite = None; bind = None; server = None; request = [] }
+start =
+    record {
+      section = sections.Before;
+      has_listen = false;
+      bufsize = None;
+      maxrewrite = None;
+      bind = None;
+      server = None;
+      request = [];
+      req_filters = [];
+      res_filters = [];
+    }
 
 -- no section has begun
 abbrev pub is_before : Section → Bool
@@ -28,4 +39,5 @@ belongs Timeout sections.Listen = true
 belongs Bind sections.Listen = true
 belongs Server sections.Listen = true
 belongs HttpRequest sections.Listen = true
+belongs Filter sections.Listen = true
 belongs _ _ = false

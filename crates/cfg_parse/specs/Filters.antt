@@ -11,7 +11,9 @@ use Rattle.cfg_parse.specs.declared.filters.FilterName.{FilterName}
 use Rattle.cfg_parse.specs.declared.filters.FilterName.TheVariants as names
 use Rattle.body_filter.specs.declared.filter_spec.FilterSpec.{FilterSpec}
 use Rattle.body_filter.specs.declared.filter_spec.FilterSpec.TheVariants.{Limit, Deny, Replace}
+use Rattle.http_rules.specs.Valid.{is_replace}
 use Rattle.cfg_parse.specs.Limits.{most_digits, most_filters, most_needle}
+use Rattle.cfg_parse.specs.declared.draft.Draft.{Draft}
 use Rattle.cfg_parse.specs.Reading.{◌>>=◌, argument, no_more}
 
 -- the filter of this name
@@ -84,14 +86,21 @@ filter_line arguments = do
   filter ← named_filter name second.1
   Ok (direction, filter)
 
--- a filter that changes the length of a body
-abbrev pub is_replace : FilterSpec → Bool
-is_replace (Limit most) = false
-is_replace (Deny needle) = false
-is_replace (Replace from to) = true
-
 -- one more filter of a direction: of at most 8, and of them one body-replace
 unfoldable pub with_filter : List FilterSpec → FilterSpec → Result (List FilterSpec) CfgKind
 with_filter filters filter =
     if nat_lt (length filters) most_filters && not (is_replace filter && list_any is_replace filters) then Ok (filters ++ filter ∷ [])
     else Err kinds.Limit
+
+-- ---- the line, and what it makes of the configuration so far
+
+-- one more filter of this direction
+abbrev pub filter_added : Draft → Direction → FilterSpec → Result Draft CfgKind
+filter_added draft Request filter =
+    with_filter draft.req_filters filter >>= λ filters. Ok (record draft { req_filters = filters })
+filter_added draft Response filter =
+    with_filter draft.res_filters filter >>= λ filters. Ok (record draft { res_filters = filters })
+
+-- the words behind `filter`; too many filters are refused last
+unfoldable pub filter_setting : Draft → List (List ℕ) → Result Draft CfgKind
+filter_setting draft arguments = filter_line arguments >>= λ taken. filter_added draft taken.0 taken.1

@@ -6,7 +6,7 @@ use Rattle.http_model.specs.Finish.{framing_names}
 use Rattle.cfg_parse.specs.declared.keywords.FirstWord.{FirstWord}
 use Rattle.cfg_parse.specs.declared.keywords.FirstWord.TheVariants.{Begins, Sets, Later, Unknown}
 use Rattle.cfg_parse.specs.declared.keywords.SectionWord.TheVariants.{Global, Defaults, Listen, Other}
-use Rattle.cfg_parse.specs.declared.keywords.Setting.TheVariants.{Bufsize, Maxrewrite, Mode, Timeout, Bind, Server, HttpRequest}
+use Rattle.cfg_parse.specs.declared.keywords.Setting.TheVariants.{Bufsize, Maxrewrite, Mode, Timeout, Bind, Server, HttpRequest, Filter}
 use Rattle.cfg_parse.specs.declared.keywords.ActionName.{ActionName}
 use Rattle.cfg_parse.specs.declared.keywords.ActionName.TheVariants as actions
 
@@ -24,8 +24,9 @@ first_word_of word =
     else (if bytes_eq word (codes "bind") then Sets Bind
     else (if bytes_eq word (codes "server") then Sets Server
     else (if bytes_eq word (codes "http-request") then Sets HttpRequest
-    else (if bytes_eq word (codes "acl") || bytes_eq word (codes "filter") || bytes_eq word (codes "http-response") then Later
-    else Unknown)))))))))))
+    else (if bytes_eq word (codes "filter") then Sets Filter
+    else (if bytes_eq word (codes "acl") || bytes_eq word (codes "http-response") then Later
+    else Unknown))))))))))))
 
 -- one of these words
 abbrev pub is_one_of : List (List ℕ) → List ℕ → Bool

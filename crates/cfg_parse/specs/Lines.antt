@@ -12,7 +12,7 @@ use Rattle.cfg_parse.specs.declared.keywords.FirstWord.TheVariants.{Begins, Sets
 use Rattle.cfg_parse.specs.declared.keywords.SectionWord.{SectionWord}
 use Rattle.cfg_parse.specs.declared.keywords.SectionWord.TheVariants.{Global, Defaults, Listen, Other}
 use Rattle.cfg_parse.specs.declared.keywords.Setting.{Setting}
-use Rattle.cfg_parse.specs.declared.keywords.Setting.TheVariants.{Bufsize, Maxrewrite, Mode, Timeout, Bind, Server, HttpRequest}
+use Rattle.cfg_parse.specs.declared.keywords.Setting.TheVariants.{Bufsize, Maxrewrite, Mode, Timeout, Bind, Server, HttpRequest, Filter}
 use Rattle.cfg_parse.specs.declared.draft.Draft.{Draft}
 use Rattle.cfg_parse.specs.declared.draft.Section.TheVariants as sections
 use Rattle.cfg_parse.specs.Reading.{◌>>=◌, argument, no_more}
@@ -20,6 +20,7 @@ use Rattle.cfg_parse.specs.Keywords.{first_word_of, is_timeout_name}
 use Rattle.cfg_parse.specs.Numbers.{number_up_to, size_of, is_time, address_of, server_address_of}
 use Rattle.cfg_parse.specs.Draft.{is_before, belongs}
 use Rattle.cfg_parse.specs.Rules.{is_unbuilt_rule, rule_line}
+use Rattle.cfg_parse.specs.Filters.{filter_setting}
 
 -- ---- lines that begin a section
 
@@ -85,6 +86,7 @@ setting_line draft Timeout arguments = timeout_line draft arguments
 setting_line draft Bind arguments = bind_line draft arguments
 setting_line draft Server arguments = server_line draft arguments
 setting_line draft HttpRequest arguments = rule_line draft arguments
+setting_line draft Filter arguments = filter_setting draft arguments
 
 -- ---- any line
 

@@ -33,10 +33,22 @@ maxrewrite_of draft = unwrap_or draft.maxrewrite (min default_maxrewrite (bufsiz
 abbrev pub limits_of : Draft → Limits
 limits_of draft = record { bufsize = bufsize_of draft; maxrewrite = maxrewrite_of draft }
 
+-- what the lines said, with these addresses
+abbrev pub made_config : Draft → Address → Address → Config
+made_config draft bind server =
+    record {
+      limits = limits_of draft;
+      bind = bind;
+      server = server;
+      request = draft.request;
+      req_filters = draft.req_filters;
+      res_filters = draft.res_filters;
+    }
+
 -- a configuration with these addresses, where all that it needs is there
 abbrev pub with_addresses : Draft → Option Address → Option Address → Result Config CfgKind
 with_addresses draft (Some bind) (Some server) =
-    if draft.has_listen then Ok (record { limits = limits_of draft; bind = bind; server = server; request = draft.request }) else Err Missing
+    if draft.has_listen then Ok (made_config draft bind server) else Err Missing
 with_addresses draft (Some bind) None = Err Missing
 with_addresses draft None server = Err Missing
 

@@ -1,6 +1,6 @@
 //! The configuration so far, while lines are read.
 
-use http_rules::Rules;
+use http_rules::{Filters, Rules};
 use px_link::Address;
 
 /// The section that a line stands in.
@@ -23,4 +23,6 @@ pub struct Draft {
     pub bind: Option<Address>,
     pub server: Option<Address>,
     pub request: Rules,
+    pub req_filters: Filters,
+    pub res_filters: Filters,
 }

@@ -4,14 +4,17 @@ ghost use Rattle.std.specs.List.{list_any};
 ghost use Rattle.body_filter.specs.Valid.{IsFilter};
 ghost use Rattle.cfg_parse.specs.Limits.{most_needle};
 ghost use Rattle.cfg_parse.specs.Reading.{Gives, Leaves};
-ghost use Rattle.cfg_parse.specs.Filters.{filter_name_of, direction_of, count_of, text_of, limit_filter, deny_filter, replace_filter, named_filter, filter_line, is_replace, with_filter};
+ghost use Rattle.http_rules.specs.Valid.{is_replace};
+ghost use Rattle.cfg_parse.specs.Filters.{filter_name_of, direction_of, count_of, text_of, limit_filter, deny_filter, replace_filter, named_filter, filter_line, with_filter, filter_added, filter_setting};
 
 use crate::arguments::Arguments;
+use crate::draft::Draft;
 use crate::fault::{CfgKind, LineRefusal};
 use crate::limits::{MAX_DIGITS, MAX_FILTERS, MAX_NEEDLE};
 use body_filter::FilterSpec;
+use http_rules::Filters;
 use px_bytes::read_decimal;
-use px_link::{Bytes, ItemList};
+use px_link::Bytes;
 use std::alloc::Global;
 
 /// Whose bodies a filter changes.
@@ -135,7 +138,7 @@ fn named_filter(
 
 /// The words behind `filter`.
 #[tactic(auto, unfolding(crate::specs::Filters::filter_line))]
-pub fn filter_line(
+fn filter_line(
     alloc: Global,
     arguments: Arguments<'_>,
 ) -> Result<(Direction, FilterSpec), LineRefusal>
@@ -159,7 +162,7 @@ fn is_replace(filter: &FilterSpec) -> bool
     }
 }
 
-fn has_replace(filters: &ItemList<FilterSpec>) -> bool
+fn has_replace(filters: &Filters) -> bool
     ensures { result ≡ list_any is_replace filters.now }
 {
     for at in 0..filters.len() {
@@ -172,7 +175,7 @@ fn has_replace(filters: &ItemList<FilterSpec>) -> bool
 
 /// One more filter of a direction.
 #[tactic(auto, unfolding(crate::specs::Filters::with_filter))]
-pub fn add_filter(filters: &mut ItemList<FilterSpec>, filter: FilterSpec) -> Result<(), LineRefusal>
+fn add_filter(filters: &mut Filters, filter: FilterSpec) -> Result<(), LineRefusal>
     ensures { Leaves result filters.new (with_filter filters.old filter) }
 {
     if filters.len() >= MAX_FILTERS || is_replace(&filter) && has_replace(filters) {
@@ -180,4 +183,31 @@ pub fn add_filter(filters: &mut ItemList<FilterSpec>, filter: FilterSpec) -> Res
     }
     filters.push(filter)?;
     Ok(())
+}
+
+/// One more filter of this direction.
+fn add_directed(
+    draft: &mut Draft,
+    direction: Direction,
+    filter: FilterSpec,
+) -> Result<(), LineRefusal>
+    ensures { Leaves result draft.new (filter_added draft.old direction filter) }
+{
+    match direction {
+        Direction::Request => add_filter(&mut draft.req_filters, filter),
+        Direction::Response => add_filter(&mut draft.res_filters, filter),
+    }
+}
+
+/// `filter`.
+#[tactic(auto, unfolding(crate::specs::Filters::filter_setting))]
+pub fn set_filter(
+    alloc: Global,
+    draft: &mut Draft,
+    arguments: Arguments<'_>,
+) -> Result<(), LineRefusal>
+    ensures { Leaves result draft.new (filter_setting draft.old arguments.entry) }
+{
+    let (direction, filter) = filter_line(alloc, arguments)?;
+    add_directed(draft, direction, filter)
 }

@@ -8,7 +8,7 @@ ghost use Rattle.cfg_parse.specs.Whole.{limits_of, whole};
 use crate::draft::{Draft, Section};
 use crate::fault::{CfgKind, LineRefusal};
 use crate::limits::{DEFAULT_BUFSIZE, DEFAULT_MAXREWRITE, MIN_HEAD};
-use http_rules::{Config, Limits, Rules};
+use http_rules::{Config, Filters, Limits, Rules};
 use std::alloc::Global;
 
 /// Before the first line.
@@ -23,6 +23,8 @@ pub fn start(alloc: Global) -> Draft
         bind: None,
         server: None,
         request: Rules::new(alloc),
+        req_filters: Filters::new(alloc),
+        res_filters: Filters::new(alloc),
     }
 }
 
@@ -54,6 +56,8 @@ pub fn whole(draft: Draft) -> Result<Config, LineRefusal>
         bind,
         server,
         request,
+        req_filters,
+        res_filters,
         ..
     } = draft;
     match (bind, server) {
@@ -62,6 +66,8 @@ pub fn whole(draft: Draft) -> Result<Config, LineRefusal>
             bind,
             server,
             request,
+            req_filters,
+            res_filters,
         }),
         _ => Err(LineRefusal::Refused(CfgKind::Missing)),
     }

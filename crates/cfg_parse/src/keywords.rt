@@ -14,7 +14,7 @@ pub enum FirstWord {
     Begins(SectionWord),
     /// A setting of the section.
     Sets(Setting),
-    /// `acl`, `filter`, `http-response`: not built yet.
+    /// `acl`, `http-response`: not built yet.
     Later,
     Unknown,
 }
@@ -37,6 +37,7 @@ pub enum Setting {
     Bind,
     Server,
     HttpRequest,
+    Filter,
 }
 
 /// The actions of `http-request`.
@@ -113,10 +114,9 @@ pub fn first_word_of(word: &[u8]) -> FirstWord
         FirstWord::Sets(Setting::Server)
     } else if word == b"http-request".as_slice() {
         FirstWord::Sets(Setting::HttpRequest)
-    } else if word == b"acl".as_slice()
-        || word == b"filter".as_slice()
-        || word == b"http-response".as_slice()
-    {
+    } else if word == b"filter".as_slice() {
+        FirstWord::Sets(Setting::Filter)
+    } else if word == b"acl".as_slice() || word == b"http-response".as_slice() {
         FirstWord::Later
     } else {
         FirstWord::Unknown

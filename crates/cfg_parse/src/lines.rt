@@ -30,7 +30,10 @@ fn belongs(setting: Setting, section: Section) -> bool
     match (setting, section) {
         (Setting::Bufsize | Setting::Maxrewrite, Section::Global) => true,
         (Setting::Mode | Setting::Timeout, Section::Defaults | Section::Listen) => true,
-        (Setting::Bind | Setting::Server | Setting::HttpRequest, Section::Listen) => true,
+        (
+            Setting::Bind | Setting::Server | Setting::HttpRequest | Setting::Filter,
+            Section::Listen,
+        ) => true,
         _ => false,
     }
 }

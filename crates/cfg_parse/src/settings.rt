@@ -8,6 +8,7 @@ use crate::address::{address_of, server_address_of};
 use crate::arguments::Arguments;
 use crate::draft::Draft;
 use crate::fault::{CfgKind, LineRefusal};
+use crate::filters::set_filter;
 use crate::keywords::{Setting, is_timeout_name};
 use crate::sizes::{number_up_to, size_of};
 use crate::times::is_time;
@@ -111,5 +112,6 @@ pub fn read_setting(
         Setting::Bind => set_bind(alloc, draft, arguments),
         Setting::Server => set_server(alloc, draft, arguments),
         Setting::HttpRequest => add_rule(alloc, draft, arguments),
+        Setting::Filter => set_filter(alloc, draft, arguments),
     }
 }

@@ -14,7 +14,7 @@ use Rattle.h1_head.specs.Request.{behind, BeginsWith, HasRefusedHead, IsHeadless
 use Rattle.httparse.proofs.GrammarLemmas.{ReadsRequest-append}
 use Rattle.h1_head.specs.Window.{OnEachStream, IsHopeless, MayWait}
 use Rattle.h1_head.specs.Plain.{IsPlain}
-use Rattle.forward_core.specs.Unbuilt.{BeginsEmpty, IsUnbuilt}
+use Rattle.forward_core.specs.Unbuilt.{BeginsEmpty, IsOtherClient}
 use Rattle.forward_core.specs.Client.{ReadsPlain}
 use Rattle.forward_core.proofs.Clients.{behind_is, other_head, no_other_head, headless, plain_reading}
 
@@ -77,21 +77,21 @@ never_waits limits client window more whole p w = by whole refl
 -- ---- refusals
 
 -- a client whose window no head begins is served
-pub hopeless_served : (limits : Limits) (client window more : List ℕ) (whole : Bool) → Parted limits client window more whole → IsHopeless limits whole window → IsUnbuilt limits client → ⊥
+pub hopeless_served : (limits : Limits) (client window more : List ℕ) (whole : Bool) → Parted limits client window more whole → IsHopeless limits whole window → IsOtherClient limits client → ⊥
 hopeless_served limits client window more whole p h (inl empty) = p.never empty
 hopeless_served limits client window more whole p h (inr other) =
     headless limits client p.never (subst (IsHeadless limits) p.split (h more p.ended)) other
 
 -- a client whose window begins with a refused head and that is no plain GET alone is not served
 pub refused_unserved : (limits : Limits) (client window more : List ℕ) (whole : Bool) (why : HeadWhy) → Parted limits client window more whole → HasRefusedHead limits window why
-    → (IsPlain limits client → ⊥) → IsUnbuilt limits client
+    → (IsPlain limits client → ⊥) → IsOtherClient limits client
 refused_unserved limits client window more whole why p h plain =
     let here : BeginsWith limits window h.head h.rest = subst (λ (t : List ℕ). BeginsWith limits t h.head h.rest) (behind_is window (window_never limits client window more whole p)) h.begins in
     let all : BeginsWith limits (window ++ more) h.head (h.rest ++ more) = record { reads = ReadsRequest-append window h.head h.rest more here.reads; unled = here.unled; short = here.short; few = here.few } in
     inr (other_head limits client h.head (h.rest ++ more) (subst (λ (t : List ℕ). BeginsWith limits t h.head (h.rest ++ more)) p.split all) plain)
 
 -- a plain GET alone is served
-pub plain_served : (limits : Limits) (client : List ℕ) → (BeginsEmpty client → ⊥) → IsPlain limits client → IsUnbuilt limits client → ⊥
+pub plain_served : (limits : Limits) (client : List ℕ) → (BeginsEmpty client → ⊥) → IsPlain limits client → IsOtherClient limits client → ⊥
 plain_served limits client never x (inl empty) = never empty
 plain_served limits client never x (inr other) = no_other_head limits client x other
 
@@ -118,7 +118,7 @@ plain_kept limits client window more whole blocks used framing declared close p 
 
 -- a client whose window keeps a head and that is no plain GET alone is not served
 pub kept_unserved : (limits : Limits) (client window more : List ℕ) (whole : Bool) (blocks : List Block) (used : ℕ) (framing : Framing) (declared : Option ℕ) (close : Bool)
-    → Parted limits client window more whole → KeepsHead limits whole window blocks used framing declared close → (IsPlain limits client → ⊥) → IsUnbuilt limits client
+    → Parted limits client window more whole → KeepsHead limits whole window blocks used framing declared close → (IsPlain limits client → ⊥) → IsOtherClient limits client
 kept_unserved limits client window more whole blocks used framing declared close p k plain =
     let r = kept_whole limits client window more whole blocks used framing declared close p k in
     inr (other_head limits client r.0 (drop used window ++ more) (subst (λ (t : List ℕ). BeginsWith limits t r.0 (drop used window ++ more)) (behind_is client p.never) r.1) plain)

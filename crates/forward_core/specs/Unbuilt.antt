@@ -1,8 +1,9 @@
--- Which clients of the first form are not served yet.
-use Rattle.std.specs.Prelude.{◌≡◌, ℕ, List, [], ◌∷◌, false, ◌&&◌, ◌⊎◌}
+-- Which sessions of the first form are not served yet.
+use Rattle.std.specs.Prelude.{◌≡◌, ℕ, ◌+◌, ◌==◌, List, [], ◌∷◌, length, Bool, not, false, ◌&&◌, ◌⊎◌, IsTrue}
 use Rattle.std.specs.Str.{bytes_eq}
 use Rattle.httparse.specs.Grammar.{RequestHead}
 use Rattle.http_model.specs.declared.Limits.{Limits}
+use Rattle.http_rules.specs.declared.config.Config.{Config}
 use Rattle.h1_head.specs.Request.{BeginsWith, parts_of}
 use Rattle.h1_head.specs.Plain.{is_plain}
 
@@ -19,5 +20,13 @@ pub record HasOtherHead (limits : Limits) (client : List ℕ) : Type 0 where
   pub other : (is_plain (parts_of head) && bytes_eq rest []) ≡ false
 
 -- the client's bytes are not served yet
-abbrev pub IsUnbuilt : Limits → List ℕ → Type 0
-IsUnbuilt limits client = BeginsEmpty client ⊎ HasOtherHead limits client
+abbrev pub IsOtherClient : Limits → List ℕ → Type 0
+IsOtherClient limits client = BeginsEmpty client ⊎ HasOtherHead limits client
+
+-- bodies pass through a filter in some direction
+abbrev pub has_filters : Config → Bool
+has_filters cfg = not (length cfg.req_filters + length cfg.res_filters == 0)
+
+-- a session is not served yet: its configuration has filters, or its client is another one
+abbrev pub IsUnbuilt : Config → List ℕ → Type 0
+IsUnbuilt cfg client = IsTrue (has_filters cfg) ⊎ IsOtherClient cfg.limits client

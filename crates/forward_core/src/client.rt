@@ -1,6 +1,6 @@
 //! What a client of the first form asks for.
 ghost use Rattle.std.specs.Prelude.{◌≡◌, ◌≤◌, ◌<◌, ◌+◌, ◌↔◌, ℕ, Bool, List, [], length, IsTrue, IsFalse};
-ghost use Rattle.forward_core.specs.Unbuilt.{BeginsEmpty, IsUnbuilt};
+ghost use Rattle.forward_core.specs.Unbuilt.{BeginsEmpty, IsOtherClient};
 ghost use Rattle.forward_core.specs.Client.{IfPlain, IfRefused, IfServed, IfUnserved, ReadsPlain};
 ghost use Rattle.h1_head.specs.Request.{RequestOf, HasRefusedHead};
 ghost use Rattle.h1_head.specs.Window.{RefusesFor, IsHopeless};
@@ -64,8 +64,8 @@ pub fn read_client(client: &[u8], limits: Limits, msg: &mut Arena) -> ClientAsks
     requires size { msg.old.size ≡ limits.bufsize }
     ensures plain { IfPlain result (ReadsPlain limits client.now msg.new.blocks) }
     ensures refused { IfRefused result (λ code. RequestOf limits client.now (Refused code)) }
-    ensures served { IfServed result (IsUnbuilt limits client.now → ⊥) }
-    ensures unserved { IfUnserved result (IsUnbuilt limits client.now) }
+    ensures served { IfServed result (IsOtherClient limits client.now → ⊥) }
+    ensures unserved { IfUnserved result (IsOtherClient limits client.now) }
     ensures size { msg.new.size ≡ msg.old.size }
 {
     if begins_empty(client) {

@@ -3,7 +3,7 @@ ghost use Rattle.std.specs.Prelude.{◌≡◌, IfOk, OnOk, IsErrOf, Some, None};
 ghost use Rattle.http_rules.specs.Valid.{IsValid};
 ghost use Rattle.session_model.specs.Session.{Session};
 ghost use Rattle.forward_core.specs.First.{meaning_of, IsFirstServer, closed};
-ghost use Rattle.forward_core.specs.Unbuilt.{IsUnbuilt};
+ghost use Rattle.forward_core.specs.Unbuilt.{has_filters, IsUnbuilt};
 
 use crate::answer::answer_text;
 use crate::ask::ask;
@@ -28,7 +28,7 @@ pub struct One {
 /// Why there was no exchange.
 #[derive(Clone, Copy, Debug, PartialEq, Eq)]
 pub enum ExchangeFault {
-    /// The client asks for something that is not served yet.
+    /// The configuration or the client asks for something that is not served yet.
     Unbuilt,
     OutOfMemory,
 }
@@ -45,6 +45,13 @@ impl From<OutOfMemory> for ExchangeFault {
 }
 
 ghost use Rattle.forward_core.specs.Out.{servers_by, out_of_one, IsRefused, IsForwarded};
+
+/// Whether bodies pass through a filter.
+fn has_filters(cfg: &Config) -> bool
+    ensures { result ≡ has_filters cfg.now }
+{
+    cfg.filter_count() != 0
+}
 
 /// A refusal, with no server.
 fn refuse(alloc: Global, code: u16) -> Result<One, OutOfMemory>
@@ -82,10 +89,13 @@ pub fn one_exchange(
     // What is put out is a session of the configuration on the client's stream and the server that was connected.
     ensures session { IfOk result (λ one. Session (meaning_of cfg.now) (closed client.now) (servers_by one.to_server server.now) (out_of_one one)) }
 
-    // Every client is served but for those that are named.
-    ensures served { OnOk result (IsUnbuilt cfg.now.limits client.now → ⊥) }
-    ensures unbuilt { IsErrOf result ExchangeFault.Unbuilt → IsUnbuilt cfg.now.limits client.now }
+    // Every session is served but for those that are named.
+    ensures served { OnOk result (IsUnbuilt cfg.now client.now → ⊥) }
+    ensures unbuilt { IsErrOf result ExchangeFault.Unbuilt → IsUnbuilt cfg.now client.now }
 {
+    if has_filters(cfg) {
+        return Err(ExchangeFault::Unbuilt);
+    }
     let mut msg = Arena::new(alloc, cfg.limits.bufsize)?;
     match read_client(client, cfg.limits, &mut msg) {
         ClientAsks::Unserved => Err(ExchangeFault::Unbuilt),

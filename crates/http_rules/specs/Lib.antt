@@ -3,6 +3,7 @@ pub use Rattle.http_model.specs.Fields
 pub use Rattle.http_model.specs.Finish
 pub use Rattle.session_model.specs.Env
 pub use Rattle.session_model.specs.Meaning
+pub use Rattle.body_filter.specs.Filter
 pub mod Steps
 pub mod Rules
 pub mod Valid

@@ -1,5 +1,5 @@
 -- Which configurations are valid: those that loading gives, and that the layers above take.
-use Rattle.std.specs.Prelude.{◌≡◌, ℕ, ◌+◌, ◌≤◌, List, length, true, false, codes}
+use Rattle.std.specs.Prelude.{◌≡◌, ℕ, ◌+◌, ◌≤◌, List, length, count_by, Bool, true, false, codes}
 use Rattle.std.specs.List.{list_any, AllByRecursion}
 use Rattle.std.specs.Str.{bytes_eq, str_to_ascii_lowercase}
 use Rattle.http_model.specs.declared.Limits.{Limits}
@@ -7,6 +7,9 @@ use Rattle.http_model.specs.Sizes.{least_size, most_size, least_head, most_name}
 use Rattle.http_model.specs.Finish.{framing_names}
 use Rattle.px_bytes.specs.Tokens.{is_token}
 use Rattle.px_link.specs.declared.address.Address.{Address}
+use Rattle.body_filter.specs.declared.filter_spec.FilterSpec.{FilterSpec}
+use Rattle.body_filter.specs.declared.filter_spec.FilterSpec.TheVariants.{Limit, Deny, Replace}
+use Rattle.body_filter.specs.Valid.{AreFilters}
 use Rattle.http_rules.specs.declared.rule.Action.{Action}
 use Rattle.http_rules.specs.declared.rule.Action.TheVariants.{Allow, AddHeader, SetHeader}
 use Rattle.http_rules.specs.declared.config.Config.{Config}
@@ -41,6 +44,18 @@ pub record HasHost (address : Address) : Type 0 where
   pub some : 1 ≤ length address.host
   pub one : bytes_eq address.host (codes "*") ≡ false
 
+-- a filter that changes the length of a body
+abbrev pub is_replace : FilterSpec → Bool
+is_replace (Limit most) = false
+is_replace (Deny needle) = false
+is_replace (Replace from to) = true
+
+-- filters of one direction: at most 8, and of them one that replaces
+pub record IsChain (chain : List FilterSpec) : Type 0 where
+  pub filters : AreFilters chain
+  pub few : length chain ≤ 8
+  pub one : count_by is_replace chain ≤ 1
+
 pub record IsValid (config : Config) : Type 0 where
   pub limits : AreLimits config.limits
   pub bind_port : HasPort config.bind
@@ -48,3 +63,5 @@ pub record IsValid (config : Config) : Type 0 where
   pub server_host : HasHost config.server
   pub rules : AllByRecursion (λ rule. IsGoodAction rule.action) config.request
   pub few : length config.request ≤ 1024
+  pub req_filters : IsChain config.req_filters
+  pub res_filters : IsChain config.res_filters

@@ -1,6 +1,12 @@
+ghost use Rattle.std.specs.Prelude.{◌≡◌, ◌+◌, length};
+
 use crate::rule::Rules;
+use body_filter::FilterSpec;
 use http_model::Limits;
-use px_link::Address;
+use px_link::{Address, ItemList};
+
+/// The filters of one direction, in the order in which bodies pass through them.
+pub type Filters = ItemList<FilterSpec>;
 
 /// What a proxy does: its sizes, where it listens, whom it sends requests to, and the rules of its requests
 /// (Configuration Manual, section 4).
@@ -13,4 +19,17 @@ pub struct Config {
     pub server: Address,
     /// The `http-request` rules, in their order, at most 1024.
     pub request: Rules,
+    /// What the bodies of requests pass through, at most 8 filters, of them one that replaces.
+    pub req_filters: Filters,
+    /// The same for the bodies of responses.
+    pub res_filters: Filters,
+}
+
+impl Config {
+    /// How many filters there are in both directions.
+    pub fn filter_count(&self) -> u64
+        ensures { result ≡ length self.now.req_filters + length self.now.res_filters }
+    {
+        u64::from(self.req_filters.len()) + u64::from(self.res_filters.len())
+    }
 }

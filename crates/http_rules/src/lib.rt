@@ -8,7 +8,8 @@ mod run;
 #[cfg(test)]
 mod tests;
 
-pub use config::Config;
+pub use body_filter::FilterSpec;
+pub use config::{Config, Filters};
 pub use http_model::{Limits, Why};
 pub use laws::{allow_ends_the_rules, failing_step_decides, rules_go_on};
 pub use px_link::{Address, Bytes, OutOfMemory};

@@ -30,7 +30,7 @@ connected_is (Some text) body = refl
 
 pub reported : (cfg : Config) (client server body text : List ℕ) (one : One) (report : Report) → server ≡ server_text body
     → Session (meaning_of cfg) (closed client) (servers_by one.to_server server) (out_of_one one)
-    → out_of report ≡ out_of_one one → text ≡ report_of (out_of report) → (IsUnbuilt cfg.limits client → ⊥) → Reports cfg client body text
+    → out_of report ≡ out_of_one one → text ≡ report_of (out_of report) → (IsUnbuilt cfg client → ⊥) → Reports cfg client body text
 reported cfg client server body text one report is session made wrote served =
     record {
       out = out_of_one one;

@@ -82,7 +82,7 @@ said files cfg_name rec_name rec_text cfg client body is rr recorded =
 
 -- the record's text isn't in the first form, or its client isn't served
 pub no_record : (files : Option (List NamedBytes)) (cfg_name rec_name rec_text : List ℕ) (cfg : Config) → IfTold files (λ fs. Configured fs cfg_name (Ok cfg)) → Reads files rec_name 67108865 rec_text
-    → ((client body : List ℕ) → IsFirstRecord rec_text client body → ⊥) ⊎ ((client : List ℕ) × (body : List ℕ) × IsFirstRecord rec_text client body × IsUnbuilt cfg.limits client)
+    → ((client body : List ℕ) → IsFirstRecord rec_text client body → ⊥) ⊎ ((client : List ℕ) × (body : List ℕ) × IsFirstRecord rec_text client body × IsUnbuilt cfg client)
     → FilesUnbuilt files cfg_name rec_name
 no_record files cfg_name rec_name rec_text cfg is rr (inl never) =
     weaker files (λ fs. Configured fs cfg_name (Ok cfg) × Holds fs rec_name (λ t. any_record t → ⊥)) (λ fs. NoRecord fs cfg_name rec_name ⊎ NoService fs cfg_name rec_name)

@@ -1,5 +1,5 @@
 -- What a command is answered: which text is written with which status, by the words and the files.
-use Rattle.std.specs.Prelude.{◌≡◌, ℕ, List, ◌++◌, ◌⊎◌, length, Option, Ok, Err}
+use Rattle.std.specs.Prelude.{◌≡◌, ℕ, ◌+◌, List, ◌++◌, ◌⊎◌, length, Option, Ok, Err}
 use Rattle.px_link.specs.Told.{NamedBytes, GainsFront}
 use Rattle.http_rules.specs.declared.config.Config.{Config}
 use Rattle.cfg_parse.specs.declared.fault.CfgKind.{CfgKind}
@@ -17,7 +17,7 @@ IsAccepted files cfg_name = IfTold files (λ fs. (cfg : Config) × Configured fs
 -- the text is the line of an accepted configuration
 abbrev pub IsCheckOf : Option (List NamedBytes) → (cfg_name text : List ℕ) → Type 0
 IsCheckOf files cfg_name text =
-    (cfg : Config) × IfTold files (λ fs. Configured fs cfg_name (Ok cfg)) × (text ≡ accepted_line (length cfg.request))
+    (cfg : Config) × IfTold files (λ fs. Configured fs cfg_name (Ok cfg)) × (text ≡ accepted_line (length cfg.request) (length cfg.req_filters + length cfg.res_filters))
 
 -- the file's text is refused as a configuration, at this line
 abbrev pub IsRefused : Option (List NamedBytes) → (cfg_name : List ℕ) → (line : ℕ) → CfgKind → Type 0

@@ -44,7 +44,7 @@ pub record Reports (cfg : Config) (client body text : List ℕ) : Type 0 where
   pub session : Session (meaning_of cfg) (closed client) (connected (recorded_servers body) connects) out
   pub bit : out.cut ≡ None
   pub report : text ≡ report_of out
-  pub served : IsUnbuilt cfg.limits client → ⊥
+  pub served : IsUnbuilt cfg client → ⊥
 
 -- the text is the report of what the two files say, where files are told
 pub record IsReportOf (files : Option (List NamedBytes)) (cfg_name rec_name text : List ℕ) : Type 0 where
@@ -63,7 +63,7 @@ NoRecord files cfg_name rec_name =
 -- both are, and the client isn't served yet
 abbrev pub NoService : List NamedBytes → (cfg_name rec_name : List ℕ) → Type 0
 NoService files cfg_name rec_name =
-    (cfg : Config) × (client : List ℕ) × (body : List ℕ) × Say files cfg_name rec_name cfg client body × IsUnbuilt cfg.limits client
+    (cfg : Config) × (client : List ℕ) × (body : List ℕ) × Say files cfg_name rec_name cfg client body × IsUnbuilt cfg client
 
 -- what the files say isn't built yet, where they are told
 abbrev pub FilesUnbuilt : Option (List NamedBytes) → (cfg_name rec_name : List ℕ) → Type 0

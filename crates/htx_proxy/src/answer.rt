@@ -61,7 +61,7 @@ fn check<'a, F: Files>(alloc: Global, files: &mut F, name: &'a str) -> Result<By
         → Answers words (F.files files.old) (F.last_failed files.new) (F.faults files.old) (F.faults files.new) result }
 {
     let cfg = configuration(alloc, files, name)?;
-    Ok(accepted_line(alloc, cfg.request.len())?)
+    Ok(accepted_line(alloc, cfg.request.len(), cfg.filter_count())?)
 }
 
 /// The report of `replay CFG REC`.

@@ -52,7 +52,7 @@ pub fn report_by(alloc: Global, cfg: &Config, text: &[u8]) -> Result<Bytes, Exch
     requires { IsValid cfg.now }
     ensures report { IfOk result (λ report. (client : List ℕ) × (body : List ℕ) × IsFirstRecord text.now client body × Reports cfg.now client body report) }
     ensures unbuilt { IsErrOf result ExchangeFault.Unbuilt → ((client body : List ℕ) → IsFirstRecord text.now client body → ⊥)
-        ⊎ ((client : List ℕ) × (body : List ℕ) × IsFirstRecord text.now client body × IsUnbuilt cfg.now.limits client) }
+        ⊎ ((client : List ℕ) × (body : List ℕ) × IsFirstRecord text.now client body × IsUnbuilt cfg.now client) }
 {
     let Some(record) = read_first_record(text) else {
         return Err(ExchangeFault::Unbuilt);

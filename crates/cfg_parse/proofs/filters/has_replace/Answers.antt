@@ -1,7 +1,7 @@
 use Rattle.std.proofs.Common.{◌∙◌, sym, ap, arith}
 use Rattle.std.specs.List.{list_any}
 use Rattle.std.proofs.lemmas.List.{drop_all}
-use Rattle.cfg_parse.specs.Filters.{is_replace}
+use Rattle.http_rules.specs.Valid.{is_replace}
 use Rattle.cfg_parse.proofs.ListLemmas.{list_any-next, list_any-here}
 use Rattle.cfg_parse.proofs.filters.has_replace.Goals as goal
 

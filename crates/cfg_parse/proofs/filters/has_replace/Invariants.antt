@@ -1,6 +1,6 @@
 use Rattle.std.proofs.Common.{◌≡◌, drop}
 use Rattle.std.specs.List.{list_any}
-use Rattle.cfg_parse.specs.Filters.{is_replace}
+use Rattle.http_rules.specs.Valid.{is_replace}
 use Rattle.cfg_parse.proofs.filters.has_replace.Given as goal
 
 abbrev pub invariant-loop-at : goal.invariant-loop-at
