@@ -53,6 +53,7 @@ fn filter_of(alloc: Global, step: Step<'_>) -> Result<FilterSpec, Fault>
 }
 
 /// Puts a filter behind the others.
+#[tactic(auto, using(crate::proofs::Chains::chains))]
 fn add_filter(filters: &mut Vec<FilterSpec>, filter: FilterSpec) -> Result<(), Fault>
     requires filter { IsFilter filter }
     requires others { AreFilters filters.old.items }
