@@ -2,6 +2,13 @@
 use crate::fault::Fault;
 use std::alloc::Global;
 
+/// What a cut comes to where it differs from the others.
+pub fn at_cut(alloc: Global, first: usize, other: &[u8]) -> Result<Vec<u8>, Fault> {
+    let mut said = format!(in alloc; "cut at {first}: ")?.into_bytes();
+    said.extend_from_slice(other)?;
+    Ok(said)
+}
+
 /// What was said so far.
 #[derive(Drop)]
 pub struct Answers {

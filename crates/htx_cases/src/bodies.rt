@@ -2,7 +2,7 @@
 //! two pieces must give the same, and so must pieces of one and of two bytes.
 ghost use Rattle.std.specs.Prelude.{◌≤◌, length, IfOk};
 
-use crate::answers::Answers;
+use crate::answers::{Answers, at_cut};
 use crate::escapes::decoded;
 use crate::fault::Fault;
 use crate::heads::LIMITS;
@@ -150,9 +150,7 @@ pub fn body_read(alloc: Global, row: Row<'_>) -> Result<Vec<u8>, Fault> {
         };
         let other = facts_of(alloc, framing, &text, pieces, row.field(3))?;
         if other != facts {
-            let mut said = format!(in alloc; "cut at {first}: ")?.into_bytes();
-            said.extend_from_slice(&other)?;
-            return Ok(said);
+            return at_cut(alloc, first, &other);
         }
     }
     Ok(facts)

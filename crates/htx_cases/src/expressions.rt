@@ -8,6 +8,7 @@ use crate::reading::Call;
 use crate::rows::Row;
 use crate::samples::{given_list, held_list, put_sample};
 use px_expr::{Buf, ConvList, Expr, MemEnv, eval, eval_nth};
+use px_pattern::Searchers;
 use std::alloc::Global;
 
 /// The most samples and converters that a row has.
@@ -54,7 +55,8 @@ fn put_eval(
     let mut buf = Buf::new(alloc, size)?;
     let mut spare = Buf::new(alloc, size)?;
     let _ = spare.push(b"left over");
-    let sample = eval(alloc, expr, env, &mut buf, &mut spare)?;
+    let mut searchers = Searchers::new(alloc);
+    let sample = eval(alloc, &mut searchers, expr, env, &mut buf, &mut spare)?;
     put_sample(alloc, sample, &buf, into)
 }
 
@@ -80,10 +82,12 @@ fn say_each(
     size: u32,
     answers: &mut Answers,
 ) -> Result<(), Fault> {
+    let mut searchers = Searchers::new(alloc);
     for nth in 0..9u32 {
         let mut buf = Buf::new(alloc, size)?;
         let mut spare = Buf::new(alloc, size)?;
-        let Some(sample) = eval_nth(alloc, expr, nth, env, &mut buf, &mut spare)? else {
+        let Some(sample) = eval_nth(alloc, &mut searchers, expr, nth, env, &mut buf, &mut spare)?
+        else {
             return Ok(());
         };
         let mut text = Vec::new(alloc);

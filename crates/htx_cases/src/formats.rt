@@ -10,6 +10,7 @@ use crate::samples::{given_list, held_list};
 use log_format::{Fmt, Part, PartList, format};
 use px_conv::expand;
 use px_expr::{Buf, MemEnv, Text};
+use px_pattern::Searchers;
 use std::alloc::Global;
 
 /// The part that a text says: `text(..)` stands for itself, anything else is an expression.
@@ -42,7 +43,8 @@ fn fits(alloc: Global, fmt: &Fmt, env: &MemEnv<'_>, into: &mut Buf) -> Result<bo
     let mut buf = Buf::new(alloc, 8)?;
     let mut spare = Buf::new(alloc, 8)?;
     let _ = buf.push(b"left");
-    Ok(format(alloc, fmt, env, into, &mut buf, &mut spare)?)
+    let mut searchers = Searchers::new(alloc);
+    Ok(format(alloc, &mut searchers, fmt, env, into, &mut buf, &mut spare)?)
 }
 
 /// NAME, how many bytes the text may have, samples of path, parts, the text or `none`.

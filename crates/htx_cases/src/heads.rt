@@ -1,10 +1,10 @@
-//! Request heads, with a buffer of 1024 bytes of which a received head leaves 256 free.
+//! Heads, with a buffer of 1024 bytes of which a received head leaves 256 free.
 use crate::answers::Answers;
 use crate::escapes::decoded;
 use crate::fault::Fault;
 use crate::messages::say_blocks;
 use crate::rows::Row;
-use h1_head::{HeadRead, is_plain_request, read_request};
+use h1_head::{HeadRead, is_plain_request, read_request, read_response};
 use http_model::{Framing, Limits};
 use htx_arena::Arena;
 use std::alloc::Global;
@@ -74,6 +74,20 @@ pub fn head_read(alloc: Global, row: Row<'_>) -> Result<Vec<u8>, Fault> {
     if row.field(3) == "blocks" {
         say_blocks(&msg, &mut answers)?;
     }
+    Ok(answers.into_text())
+}
+
+/// NAME, `open` or `closed`, `head` where the request's method was HEAD, the window, and the answer.
+pub fn response_read(alloc: Global, row: Row<'_>) -> Result<Vec<u8>, Fault> {
+    let window = decoded(alloc, row.field(3).as_bytes())?;
+    if window.len() > 1024 {
+        return Err(Fault::Malformed);
+    }
+    let mut msg = Arena::new(alloc, 1024)?;
+    let whole = row.field(1) == "closed";
+    let read = read_response(&window, whole, row.field(2) == "head", LIMITS, &mut msg);
+    let mut answers = Answers::new(alloc);
+    say_read(alloc, read, &mut answers)?;
     Ok(answers.into_text())
 }
 

@@ -2,8 +2,8 @@
 use crate::fault::Fault;
 use crate::rows::Row;
 use crate::{
-    bodies, edits, expressions, formats, heads, lines, patterns, records, sessions, texts, values,
-    windows,
+    bodies, edits, expressions, filters, formats, heads, lines, patterns, records, sessions, texts,
+    values, windows,
 };
 use std::alloc::Global;
 
@@ -27,7 +27,9 @@ fn made_of_messages(alloc: Global, folder: &str, row: Row<'_>) -> Option<Result<
     match folder {
         "bodies" => Some(bodies::body_read(alloc, row)),
         "edits" => Some(edits::edited(alloc, row)),
+        "filters" => Some(filters::filtered(alloc, row)),
         "heads" => Some(heads::head_read(alloc, row)),
+        "response_heads" => Some(heads::response_read(alloc, row)),
         "plain_requests" => Some(heads::plain(alloc, row)),
         "windows" => Some(windows::windowed(alloc, row)),
         "records" => Some(records::recorded(alloc, row)),

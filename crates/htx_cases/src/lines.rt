@@ -5,6 +5,7 @@ use crate::fault::Fault;
 use crate::rows::Row;
 use cfg_lex::{LineFault, Words, words_of_line};
 use cfg_parse::{CfgFault, load};
+use http_rules::Config;
 use px_command::{Asked, asked_by, help_text};
 use std::alloc::{AllocError, Global};
 
@@ -31,16 +32,28 @@ pub fn words_in(alloc: Global, row: Row<'_>) -> Result<Vec<u8>, Fault> {
     Ok(answers.into_text())
 }
 
-/// What a configuration comes to: `ok`, its two sizes and how many rules it has, or the refused line and its kind.
-fn verdict(alloc: Global, text: &[u8]) -> Result<String, Fault> {
+/// Says what an accepted configuration has: `ok`, its two sizes and how many rules; and where there are filters, how
+/// many of each direction.
+fn say_config(alloc: Global, config: &Config, answers: &mut Answers) -> Result<(), Fault> {
+    let bufsize = config.limits.bufsize;
+    let maxrewrite = config.limits.maxrewrite;
+    let rules = config.request.len();
+    answers.say(format!(in alloc; "ok {bufsize} {maxrewrite} {rules}")?.as_bytes())?;
+    if config.filter_count() == 0 {
+        return Ok(());
+    }
+    let req = config.req_filters.len();
+    let res = config.res_filters.len();
+    answers.say(format!(in alloc; "filters {req} {res}")?.as_bytes())
+}
+
+/// Says what a text comes to: what its configuration has, or the refused line and its kind.
+fn say_loaded(alloc: Global, text: &[u8], answers: &mut Answers) -> Result<(), Fault> {
     match load(alloc, text) {
-        Ok(config) => {
-            let bufsize = config.limits.bufsize;
-            let maxrewrite = config.limits.maxrewrite;
-            let rules = config.request.len();
-            Ok(format!(in alloc; "ok {bufsize} {maxrewrite} {rules}")?)
+        Ok(config) => say_config(alloc, &config, answers),
+        Err(CfgFault::Refused { line, kind }) => {
+            answers.say(format!(in alloc; "{line} {kind:?}")?.as_bytes())
         }
-        Err(CfgFault::Refused { line, kind }) => Ok(format!(in alloc; "{line} {kind:?}")?),
         Err(CfgFault::OutOfMemory) => Err(Fault::OutOfMemory),
     }
 }
@@ -48,7 +61,9 @@ fn verdict(alloc: Global, text: &[u8]) -> Result<String, Fault> {
 /// NAME, the text of a configuration, and what it comes to.
 pub fn configured(alloc: Global, row: Row<'_>) -> Result<Vec<u8>, Fault> {
     let text = decoded(alloc, row.field(1).as_bytes())?;
-    Ok(verdict(alloc, &text)?.into_bytes())
+    let mut answers = Answers::new(alloc);
+    say_loaded(alloc, &text, &mut answers)?;
+    Ok(answers.into_text())
 }
 
 /// The words of a list, each with a semicolon behind it.

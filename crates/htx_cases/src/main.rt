@@ -11,6 +11,7 @@ mod expressions;
 mod facts;
 mod fault;
 mod fields;
+mod filters;
 mod formats;
 mod heads;
 mod kinds;

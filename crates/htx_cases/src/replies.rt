@@ -60,8 +60,9 @@ fn check(alloc: Global, files: &mut MemFiles, name: &str) -> Result<Reply, Fault
     match load(alloc, text.as_slice()) {
         Ok(config) => {
             let rules = config.request.len();
+            let filters = config.filter_count();
             let line = format!(in alloc;
-                "config ok: request rules {rules}, response rules 0, filters 0\n"
+                "config ok: request rules {rules}, response rules 0, filters {filters}\n"
             )?;
             made(alloc, "Good", line.as_bytes())
         }
