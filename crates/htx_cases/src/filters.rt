@@ -92,11 +92,11 @@ fn feed_piece(
 ) -> Result<FedState, Fault>
     requires { 0 < length out.old }
 {
-    let mut used = 0;
+    let mut rest = piece;
     for _call in 0..MOST_CALLS {
-        let fed = chain.feed(&piece[used..], last, out);
+        let fed = chain.feed(rest, last, out);
         output.extend_from_slice(&out[..fed.given])?;
-        used += fed.used;
+        rest = &rest[fed.used..];
         if fed.state != FedState::Going || (fed.used == 0 && fed.given == 0) {
             return Ok(fed.state);
         }
