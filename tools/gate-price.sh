@@ -6,7 +6,7 @@
 set -eu
 here="$(cd "$(dirname "$0")/.." && pwd)"
 exec python3 - "$here" "$@" <<'PY'
-import collections, json, os, re, subprocess, sys, tempfile, time
+import collections, json, os, re, signal, subprocess, sys, tempfile, time
 
 TICKS = os.sysconf("SC_CLK_TCK")
 
@@ -43,8 +43,10 @@ def kind_of(pid):
 def measured(top):
     """Runs the gate in the folder, and gives the processor seconds of each process of the prover."""
     log = open(f"{top}.log", "w")
-    run = subprocess.Popen(["rt", "ci", "--anew"], cwd=top, stdout=log, stderr=subprocess.STDOUT, stdin=subprocess.DEVNULL)
+    run = subprocess.Popen(["rt", "ci", "--anew"], cwd=top, stdout=log, stderr=subprocess.STDOUT, stdin=subprocess.DEVNULL, start_new_session=True)
     seen, kinds, began = {}, {}, time.time()
+    # (told to stop, it ends the gate and prints what was seen so far)
+    signal.signal(signal.SIGTERM, lambda *_: os.killpg(run.pid, signal.SIGTERM))
     while run.poll() is None:
         now = list(processes())
         below, more = {run.pid}, True
