@@ -6,8 +6,6 @@ mod condition;
 mod evaluation;
 mod literal;
 mod matching;
-#[cfg(test)]
-mod tests;
 
 pub use condition::{Cond, GroupList, Match, Term, TermList, Test, TestList, TestValue, ValueList};
 pub use evaluation::holds;

@@ -15,8 +15,6 @@ mod lines;
 mod sections;
 mod settings;
 mod sizes;
-#[cfg(test)]
-mod tests;
 mod text;
 mod times;
 

@@ -9,8 +9,6 @@ pub mod laws;
 mod matching;
 mod names;
 mod remove;
-#[cfg(test)]
-mod tests;
 mod values;
 
 pub use edits::{add_field, set_field};

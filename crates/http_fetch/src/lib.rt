@@ -8,7 +8,5 @@ mod headers;
 mod line;
 mod param;
 mod place;
-#[cfg(test)]
-mod tests;
 
 pub use env::{ReqEnv, ResEnv};

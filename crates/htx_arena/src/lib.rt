@@ -2,8 +2,6 @@
 
 mod arena;
 mod fields;
-#[cfg(test)]
-mod tests;
 
 pub use arena::{Arena, Full, Line};
 pub use fields::Fields;

@@ -2,8 +2,6 @@
 #![tactic(auto)]
 
 mod fmt;
-#[cfg(test)]
-mod tests;
 mod writing;
 
 pub use fmt::{Fmt, Part, PartList};

@@ -5,8 +5,6 @@
 mod ask;
 mod lists;
 mod parser;
-#[cfg(test)]
-mod tests;
 mod texts;
 mod words;
 

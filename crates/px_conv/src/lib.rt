@@ -9,8 +9,6 @@ mod fields;
 mod number;
 mod regsub;
 mod template;
-#[cfg(test)]
-mod tests;
 mod truth;
 
 pub use apply::convert;

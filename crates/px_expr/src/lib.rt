@@ -5,8 +5,6 @@
 mod evaluation;
 mod expr;
 mod mem_env;
-#[cfg(test)]
-mod tests;
 
 pub use evaluation::{eval, eval_nth};
 pub use expr::{ConvList, Expr};

@@ -17,8 +17,6 @@ mod mem_net;
 mod mem_sink;
 mod net;
 mod sink;
-#[cfg(test)]
-mod tests;
 mod turns;
 
 pub use address::Address;

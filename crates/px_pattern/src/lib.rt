@@ -11,8 +11,6 @@ mod patterns;
 mod real;
 mod searchers;
 mod span;
-#[cfg(test)]
-mod tests;
 
 pub use fake::FakePatterns;
 pub use fault::PatFault;

@@ -10,8 +10,6 @@ mod read;
 mod record;
 mod report;
 mod report_list;
-#[cfg(test)]
-mod tests;
 
 pub use first_record::{FirstRecord, read_first_record};
 pub use record::{Connection, RecFault, RecKind, Record, ServerSpec, Stream};

@@ -1,5 +1,5 @@
 //! Each call once with ample memory. What converters make of samples is a table of the crate of cases.
-use crate::{Buf, Conv, Sample, Searchers, Text, convert, expand};
+use px_conv::{Buf, Conv, Sample, Searchers, Text, convert, expand};
 use px_pattern::{Patterns, RealPatterns};
 use std::test::Fail;
 

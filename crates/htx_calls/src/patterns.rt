@@ -1,5 +1,5 @@
 //! Each call once with ample memory. What patterns find is a table of the crate of cases.
-use crate::{FakePatterns, PatFault, Patterns, RealPatterns, Searchers, Span};
+use px_pattern::{FakePatterns, PatFault, Patterns, RealPatterns, Searchers, Span};
 use std::test::Fail;
 
 /// A pattern that was to be built.

@@ -1,4 +1,5 @@
-use crate::{
+//! Links, nets, turns, files and a sink in memory, each through its trait, with the calls that are to fail.
+use px_link::{
     Address, Bytes, Close, Ending, Failed, Fault, Files, ItemList, Link, ListTurns, MemFiles,
     MemLink, MemNet, MemSink, Net, OutOfMemory, Sink, Turn, Turns,
 };

@@ -1,5 +1,5 @@
 //! The call once, over an environment in memory and with ample memory. Conditions are a table of the crate of cases.
-use crate::{
+use acl_eval::{
     Cond, GroupList, Match, Searchers, Term, TermList, Test, TestList, TestValue, ValueList, holds,
 };
 use px_expr::{Buf, ConvList, Expr, Fetch, Given, MemEnv, Text};

@@ -1,5 +1,5 @@
 //! Texts that load with ample memory, one of each answer; the tables of lines stand as files of `htx_cases`.
-use super::*;
+use cfg_parse::{CfgFault, CfgKind, load};
 use std::test::Fail;
 
 #[test]

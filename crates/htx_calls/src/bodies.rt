@@ -1,5 +1,5 @@
 //! Each call once; tables of bodies at every cut are rows of the crate htx_cases.
-use crate::{BodyReader, BodyState, add_trailers};
+use h1_body::{BodyReader, BodyState, add_trailers};
 use http_model::{Framing, Limits};
 use htx_arena::{Arena, Kind};
 use std::test::Fail;

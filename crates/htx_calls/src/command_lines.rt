@@ -1,6 +1,6 @@
 //! What a list of words asks for, with ample memory, and how the texts of help begin. The tables of lists stand as files of
 //! `htx_cases`.
-use crate::{Asked, asked_by, help_text, version_text};
+use px_command::{Asked, asked_by, help_text, version_text};
 use std::alloc::{AllocError, Global};
 use std::test::Fail;
 

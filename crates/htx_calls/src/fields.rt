@@ -1,6 +1,6 @@
 //! Each call once, on a head of a few fields.
 
-use crate::{
+use header_ops::{
     NameMatch, add_field, count_fulls, count_values, has_named, nth_full, nth_value,
     remove_framing, remove_named, remove_where, set_field,
 };

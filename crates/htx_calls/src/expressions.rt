@@ -1,6 +1,6 @@
 //! Each call once, over an environment in memory and with ample memory. What expressions give is a table of the crate of
 //! cases.
-use crate::{Buf, Conv, ConvList, Expr, Fetch, Given, MemEnv, Sample, Searchers, eval, eval_nth};
+use px_expr::{Buf, Conv, ConvList, Expr, Fetch, Given, MemEnv, Sample, Searchers, eval, eval_nth};
 use std::test::Fail;
 
 #[test]

@@ -1,5 +1,6 @@
-use crate::{Report, Sent, read_first_record, write_report, write_reports};
+//! Records and reports, each call once.
 use px_link::{Bytes, Close, End};
+use rec_format::{Report, Sent, read_first_record, write_report, write_reports};
 use std::alloc::{AllocError, Global};
 use std::test::Fail;
 

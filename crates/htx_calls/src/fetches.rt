@@ -1,6 +1,6 @@
 //! Each environment once.
 
-use crate::{ReqEnv, ResEnv};
+use http_fetch::{ReqEnv, ResEnv};
 use htx_arena::{Arena, Kind};
 use px_sample::{Buf, Env, Fetch, Sample, Text, Vars};
 use std::test::Fail;

@@ -1,5 +1,5 @@
 //! The call once, over an environment in memory and with ample memory. Texts of formats are a table of the crate of cases.
-use crate::{Fmt, Part, PartList, Searchers, format};
+use log_format::{Fmt, Part, PartList, Searchers, format};
 use px_expr::{Buf, ConvList, Expr, Fetch, Given, MemEnv, Text};
 use std::test::Fail;
 

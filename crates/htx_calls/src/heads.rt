@@ -1,5 +1,5 @@
 //! Each call once; tables of heads are rows of the crate htx_cases.
-use crate::{HeadRead, HeadWhy, Side, is_plain_request, read_head, read_request, read_response};
+use h1_head::{HeadRead, HeadWhy, Side, is_plain_request, read_head, read_request, read_response};
 use http_model::{Framing, Limits};
 use htx_arena::{Arena, Kind};
 use std::test::Fail;
