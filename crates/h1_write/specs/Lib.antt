@@ -1,0 +1,4 @@
+pub mod Put
+pub mod Units
+pub mod Spelled
+pub mod Kept
