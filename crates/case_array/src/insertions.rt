@@ -85,7 +85,7 @@ fn replace_value(step: &Step<'_>, msg: &mut Arena) -> Result<Result<(), Full>, F
     }
 }
 
-/// Replaces a request line.
+/// Replaces a start line.
 fn replace_line(step: &Step<'_>, msg: &mut Arena) -> Result<Result<(), Full>, Fault> {
     let at = step.place(1)?;
     if at >= msg.len() {
@@ -93,6 +93,9 @@ fn replace_line(step: &Step<'_>, msg: &mut Arena) -> Result<Result<(), Full>, Fa
     }
     match msg.kind(at) {
         Kind::RequestLine => {
+            Ok(msg.replace_line(at, step.bytes(2), step.bytes(3), step.bytes(4)))
+        }
+        Kind::ResponseLine => {
             Ok(msg.replace_line(at, step.bytes(2), step.bytes(3), step.bytes(4)))
         }
         _ => Err(Fault::Malformed),
