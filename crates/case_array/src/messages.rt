@@ -46,16 +46,16 @@ pub fn say_blocks(msg: &Arena, answers: &mut Answers) {
     }
 }
 
-/// The letter of a type.
-fn letter(kind: Kind) -> &'static [u8] {
+/// Says the letter of a type.
+fn say_letter(kind: Kind, answers: &mut Answers) {
     match kind {
-        Kind::RequestLine => b"L",
-        Kind::ResponseLine => b"L",
-        Kind::Header => b"H",
-        Kind::Trailer => b"H",
-        Kind::EndHeaders => b"E",
-        Kind::EndTrailers => b"E",
-        Kind::Data => b"D",
+        Kind::RequestLine => answers.say(b"L"),
+        Kind::ResponseLine => answers.say(b"L"),
+        Kind::Header => answers.say(b"H"),
+        Kind::Trailer => answers.say(b"H"),
+        Kind::EndHeaders => answers.say(b"E"),
+        Kind::EndTrailers => answers.say(b"E"),
+        Kind::Data => answers.say(b"D"),
     }
 }
 
@@ -63,7 +63,7 @@ fn letter(kind: Kind) -> &'static [u8] {
 pub fn say_places(msg: &Arena, answers: &mut Answers) {
     answers.count(u64::from(msg.load()));
     for at in 0..msg.len() {
-        answers.say(letter(msg.kind(at)));
+        say_letter(msg.kind(at), answers);
         answers.more_count(u64::from(msg.addr(at)));
     }
 }

@@ -66,6 +66,14 @@ pub fn split_at_first(text: &[u8], mark: u8) -> Option<(&[u8], &[u8])> {
     Some((&text[..at], &text[at + 1..]))
 }
 
+/// What stands between double quotes, where a text begins and ends with one.
+pub fn quoted(text: &[u8]) -> Option<&[u8]> {
+    match text {
+        [b'"', inner @ .., b'"'] => Some(inner),
+        _ => None,
+    }
+}
+
 /// The number that these digits say.
 pub fn count_of(digits: &[u8]) -> Result<usize, Fault> {
     let Ok(text) = std::str::from_utf8(digits) else {

@@ -10,7 +10,7 @@ mod score;
 mod steps;
 
 pub use answers::Answers;
-pub use escapes::{count_of, decoded, split_at_first};
+pub use escapes::{count_of, decoded, quoted, split_at_first};
 pub use fault::Fault;
 pub use htx_model::OutOfMemory;
 pub use reading::{Call, number_of, words_of};

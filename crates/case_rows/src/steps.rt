@@ -1,5 +1,5 @@
 //! Steps, as rows write them: words with blanks between them, the first of which says what is done.
-use crate::escapes::{count_of, decoded};
+use crate::escapes::{count_of, decoded, quoted};
 use crate::fault::Fault;
 use crate::reading::number_of;
 use std::alloc::Global;
@@ -16,10 +16,8 @@ pub struct Step<'a> {
 
 /// The bytes of a word, which may stand in double quotes.
 fn word_of(alloc: Global, word: &str) -> Result<Vec<u8>, Fault> {
-    match word.as_bytes() {
-        [b'"', inner @ .., b'"'] => decoded(alloc, inner),
-        bytes => decoded(alloc, bytes),
-    }
+    let bytes = word.as_bytes();
+    decoded(alloc, quoted(bytes).unwrap_or(bytes))
 }
 
 impl<'a> Step<'a> {

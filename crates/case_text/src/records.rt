@@ -1,5 +1,5 @@
 //! Records and reports.
-use case_rows::{Answers, Fault, Row, Step, decoded};
+use case_rows::{Answers, Fault, Row, Step, decoded, quoted};
 use px_link::{Bytes, Close, End};
 use rec_format::{Report, Sent, read_first_record, write_report};
 use std::alloc::Global;
@@ -19,19 +19,21 @@ pub fn recorded(alloc: Global, row: Row<'_>) -> Result<Vec<u8>, Fault> {
     answers.into_text()
 }
 
+/// How a side was closed.
+fn close_of(text: &str) -> Close {
+    match text {
+        "clean" => Close::Clean,
+        _ => Close::Failed,
+    }
+}
+
 /// What was sent to a side: `clean` or `failed`, and the bytes in double quotes.
 fn sent_of(alloc: Global, text: &str) -> Result<Sent, Fault> {
     let (close, bytes) = text.split_once(' ').ok_or(Fault::Malformed)?;
-    let [b'"', inner @ .., b'"'] = bytes.as_bytes() else {
-        return Err(Fault::Malformed);
-    };
-    Ok(Sent {
-        bytes: Bytes::from(decoded(alloc, inner)?),
-        close: match close {
-            "clean" => Close::Clean,
-            _ => Close::Failed,
-        },
-    })
+    let inner = quoted(bytes.as_bytes()).ok_or(Fault::Malformed)?;
+    let bytes = Bytes::from(decoded(alloc, inner)?);
+    let close = close_of(close);
+    Ok(Sent { bytes, close })
 }
 
 /// What was sent to the servers, with semicolons between them.

@@ -1,7 +1,7 @@
 //! Samples as rows write them: `absent`, `true`, `false`, a number, or bytes in double quotes.
 ghost use Rattle.std.specs.Prelude.{◌≤◌, length, IfOk};
 
-use case_rows::{Answers, Fault, decoded, number_of};
+use case_rows::{Answers, Fault, decoded, number_of, quoted};
 use px_expr::{Buf, Given, Sample};
 use std::alloc::Global;
 
@@ -29,17 +29,21 @@ impl Held {
     }
 }
 
+/// The sample that a text without quotes says.
+fn plain_held(text: &str) -> Result<Held, Fault> {
+    match text {
+        "absent" => Ok(Held::Absent),
+        "true" => Ok(Held::Truth(true)),
+        "false" => Ok(Held::Truth(false)),
+        _ => Ok(Held::Number(number_of(text.as_bytes())?)),
+    }
+}
+
 /// The sample that a text says.
 pub fn held_in(alloc: Global, text: &str) -> Result<Held, Fault> {
-    match text {
-        "absent" => return Ok(Held::Absent),
-        "true" => return Ok(Held::Truth(true)),
-        "false" => return Ok(Held::Truth(false)),
-        _ => {}
-    }
-    match text.as_bytes() {
-        [b'"', inner @ .., b'"'] => Ok(Held::Bytes(decoded(alloc, inner)?)),
-        number => Ok(Held::Number(number_of(number)?)),
+    match quoted(text.as_bytes()) {
+        Some(inner) => Ok(Held::Bytes(decoded(alloc, inner)?)),
+        None => plain_held(text),
     }
 }
 
@@ -69,12 +73,20 @@ pub fn given_list(alloc: Global, list: &[Held]) -> Result<Vec<Given<'_>>, Fault>
     Ok(given)
 }
 
+/// Says a truth.
+fn say_truth(truth: bool, answers: &mut Answers) {
+    if truth {
+        answers.say(b"true");
+    } else {
+        answers.say(b"false");
+    }
+}
+
 /// Says a sample.
 pub fn say_sample(sample: Sample, buf: &Buf, answers: &mut Answers) {
     match sample {
         Sample::Absent => answers.say(b"absent"),
-        Sample::Truth(true) => answers.say(b"true"),
-        Sample::Truth(false) => answers.say(b"false"),
+        Sample::Truth(truth) => say_truth(truth, answers),
         Sample::Number(number) => answers.signed(number),
         Sample::InBuf => answers.quote(buf.bytes()),
     }
