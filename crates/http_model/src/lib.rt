@@ -3,8 +3,6 @@
 #![tactic(auto)]
 
 mod framing_names;
-#[cfg(test)]
-mod tests;
 
 pub use framing_names::{FRAMING_NAMES, is_framing_name};
 pub use htx_model::{Kind, OutOfMemory};

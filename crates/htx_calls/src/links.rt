@@ -1,34 +1,6 @@
-//! Links, nets, turns, files and a sink in memory, each through its trait, with the calls that are to fail.
-use px_link::{
-    Address, Bytes, Close, Ending, Failed, Fault, Files, ItemList, Link, ListTurns, MemFiles,
-    MemLink, MemNet, MemSink, Net, OutOfMemory, Sink, Turn, Turns,
-};
-use std::alloc::Global;
+//! Links and nets in memory, each through its trait, with the calls that are to fail.
+use px_link::{Address, Bytes, Close, Ending, Failed, Fault, Link, MemLink, MemNet, Net};
 use std::test::Fail;
-
-/// Copies the front of a file into a sink, through the traits alone.
-fn copy<F: Files, K: Sink>(alloc: Global, files: &mut F, out: &mut K) -> Result<(), Fault> {
-    let bytes = files.read_file(alloc, "a", 3)?;
-    out.write_all(bytes.as_slice())
-}
-
-#[test]
-fn files_and_sinks_fail_at_their_numbers(rt: HostRuntime) -> Result<(), Fail> {
-    let mut files = MemFiles::new(rt.alloc());
-    files.add("a", b"older")?;
-    files.add("a", b"newer")?;
-    files.fail_at([2u64, 4].to_vec(rt.alloc())?);
-    let mut sink = MemSink::new(rt.alloc());
-    sink.fail_at([2u64].to_vec(rt.alloc())?);
-    let mut answers = [Ok(()); 5];
-    for answer in answers.iter_mut() {
-        *answer = copy(rt.alloc(), &mut files, &mut sink);
-    }
-    let failed = Err(Fault::Failed);
-    assert_eq!(rt; answers, [Ok(()), failed, failed, failed, Ok(())]);
-    assert_eq!(rt; sink.written(), b"newnew".as_slice());
-    Ok(())
-}
 
 /// Writes a piece until it is taken, closes the link and counts what it gives, through the trait alone.
 fn exchange<L: Link>(
@@ -106,23 +78,5 @@ fn nets_lend_and_keep(rt: HostRuntime) -> Result<(), Fail> {
     net.fail_at([5u64].to_vec(rt.alloc())?);
     let failed = Some(Fault::Failed);
     assert_eq!(rt; visit(&mut net, &place), [failed, failed, failed, failed]);
-    Ok(())
-}
-
-#[test]
-fn bytes_lists_and_turns(rt: HostRuntime) -> Result<(), Fail> {
-    let mut host = Bytes::copy(rt.alloc(), b"local")?;
-    host.push(b"host")?;
-    assert_eq!(rt; host.as_slice(), b"localhost".as_slice());
-    let mut list = ItemList::new(rt.alloc());
-    assert!(rt; list.is_empty());
-    list.push(7u16)?;
-    assert_eq!(rt; list.len(), 1);
-    assert_eq!(rt; *list.get(0), 7);
-    let mut turns = ListTurns::new([Turn::ClientGives(1)].to_vec(rt.alloc())?);
-    assert_eq!(rt; turns.next(), Some(Turn::ClientGives(1)));
-    assert_eq!(rt; turns.next(), None);
-    assert_eq!(rt; Fault::from(Failed), Fault::Failed);
-    assert_eq!(rt; Fault::from(OutOfMemory), Fault::OutOfMemory);
     Ok(())
 }

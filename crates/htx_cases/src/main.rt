@@ -2,40 +2,9 @@
 //! the crates, and prints the rows that differ, and how many agree.
 #![tactic(auto)]
 
-mod answers;
-mod bodies;
-mod convs;
-mod edits;
-mod escapes;
-mod expressions;
-mod facts;
-mod fault;
-mod fields;
-mod filters;
-mod formats;
-mod heads;
-mod kinds;
-mod lines;
-mod messages;
-mod patterns;
-mod reading;
-mod records;
-mod replies;
-mod rows;
-mod samples;
-mod score;
-mod sessions;
-mod steps;
-mod texts;
-mod values;
-mod windows;
-
-use escapes::decoded;
-use kinds::made;
-use rows::Row;
-use score::Score;
-use sessions::session_made;
-use std::alloc::AllocError;
+use case_rows::{Fault, Row, Score, decoded};
+use case_session::session_made;
+use std::alloc::{AllocError, Global};
 use std::env::Env;
 use std::rt::Files;
 use std::{env, fs, io};
@@ -55,22 +24,36 @@ fn names_in<R: Files + AllocGlobal + Clone + Drop>(
     Ok(names)
 }
 
+/// What a row of a kind comes to.
+fn made(alloc: Global, kind: &str, row: Row<'_>) -> Result<Vec<u8>, Fault> {
+    if let Some(made) = case_values::made(alloc, kind, row) {
+        return made;
+    }
+    if let Some(made) = case_array::made(alloc, kind, row) {
+        return made;
+    }
+    if let Some(made) = case_bodies::made(alloc, kind, row) {
+        return made;
+    }
+    if let Some(made) = case_text::made(alloc, kind, row) {
+        return made;
+    }
+    case_session::made(alloc, kind, row).unwrap_or(Err(Fault::Malformed))
+}
+
 /// Runs a row of a table.
 fn run_row<R: Print + AllocGlobal>(
     rt: &R,
-    folder: &str,
+    kind: &str,
     row: Row<'_>,
     score: &mut Score,
 ) -> io::Result<()> {
     match decoded(rt.alloc(), row.expected().as_bytes()) {
-        Ok(expected) => score.note(
-            rt,
-            folder,
-            row.name(),
-            &expected,
-            made(rt.alloc(), folder, row),
-        ),
-        Err(fault) => score.note(rt, folder, row.name(), b"", Err(fault)),
+        Ok(expected) => {
+            let made = made(rt.alloc(), kind, row);
+            score.note(rt, kind, row.name(), &expected, &made)
+        }
+        Err(fault) => score.note(rt, kind, row.name(), b"", &Err(fault)),
     }
 }
 
@@ -120,13 +103,8 @@ fn run_session<R: Files + Print + AllocGlobal>(
         "check" => Vec::new(rt.alloc()),
         _ => bytes_in(rt, place, base, "rec")?,
     };
-    score.note(
-        rt,
-        "sessions",
-        name,
-        &expected,
-        session_made(rt.alloc(), ending, &cfg, &rec),
-    )
+    let made = session_made(rt.alloc(), ending, &cfg, &rec);
+    score.note(rt, "sessions", name, &expected, &made)
 }
 
 /// Runs the file of this name in a folder whose name says which kind of rows it holds.

@@ -1,23 +1,15 @@
-//! The program: a command, its files, and what is written.
+//! The program: hands the words of the command line, files on disk and standard output to the one call of `proxy_call`.
 #![tactic(auto)]
 
-mod answer;
 mod edges;
-mod lines;
-mod reply;
-mod report;
-mod status;
-mod stop;
-#[cfg(test)]
-mod tests;
-mod top;
 
 use edges::{DiskFiles, Output};
+use proxy_call::htx_proxy;
+use px_pattern::RealPatterns;
 use std::alloc::AllocError;
 use std::env::Env;
 use std::process::ExitCode;
 use std::{env, io};
-use top::htx_proxy;
 
 /// The words of the command line, without the program's name.
 fn words_of<R: Env + AllocGlobal>(rt: &R) -> io::Result<Vec<String>> {
@@ -32,6 +24,7 @@ fn main(rt: HostRuntime) -> io::Result<ExitCode> {
     let words = words_of(&rt)?;
     let mut files = DiskFiles::new(rt.alloc(), &rt);
     let mut out = Output::new(&rt);
-    let status = htx_proxy(rt.alloc(), &words, &mut files, &mut out);
+    let mut pats = RealPatterns::new();
+    let status = htx_proxy(rt.alloc(), &words, &mut files, &mut out, &mut pats);
     Ok(ExitCode::from(status as u8))
 }

@@ -4,8 +4,6 @@
 
 mod fields;
 mod lines;
-#[cfg(test)]
-mod tests;
 
 pub use fields::first_value;
 pub use lines::{request_parts, response_parts, status_of};

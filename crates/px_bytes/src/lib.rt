@@ -7,8 +7,6 @@ mod case;
 mod digits;
 pub mod laws;
 mod pieces;
-#[cfg(test)]
-mod tests;
 mod texts;
 mod token;
 

@@ -13,8 +13,6 @@ mod scope;
 mod shelf;
 mod slot;
 mod spot;
-#[cfg(test)]
-mod tests;
 mod text;
 mod vars;
 

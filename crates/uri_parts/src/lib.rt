@@ -3,7 +3,5 @@
 
 pub mod laws;
 mod target;
-#[cfg(test)]
-mod tests;
 
 pub use target::{Parts, cut_target};

@@ -8,9 +8,6 @@ use htx_model::OutOfMemory;
 use std::alloc::Global;
 use std::marker::Model;
 
-#[cfg(test)]
-mod tests;
-
 /// A window. Contracts see its bytes as `items`, and the most that it holds as `capacity`.
 #[derive(Drop)]
 pub struct Window {

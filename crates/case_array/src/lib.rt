@@ -1,0 +1,11 @@
+//! Rows of edits: steps with an array of blocks, its fields and its parts, and what they say.
+#![tactic(auto)]
+
+mod blocks;
+mod edits;
+mod fields;
+mod insertions;
+mod messages;
+
+pub use edits::made;
+pub use messages::say_blocks;

@@ -1,0 +1,19 @@
+//! Rows of tables: their fields, the bytes, calls and steps that these say, what a row comes to, and how many agree.
+#![tactic(auto)]
+
+mod answers;
+mod escapes;
+mod fault;
+mod reading;
+mod rows;
+mod score;
+mod steps;
+
+pub use answers::Answers;
+pub use escapes::{count_of, decoded, quoted, split_at_first};
+pub use fault::Fault;
+pub use htx_model::OutOfMemory;
+pub use reading::{Call, number_of, words_of};
+pub use rows::Row;
+pub use score::Score;
+pub use steps::Step;

@@ -1,0 +1,63 @@
+//! Lists of words of the command line, and the text of help.
+use case_rows::{Answers, Fault, Row, decoded, words_of};
+use px_command::{Asked, asked_by, help_text};
+use std::alloc::Global;
+
+/// Says what is wrong with words, without the text of help that stands behind it.
+fn say_usage(alloc: Global, text: &[u8], answers: &mut Answers) -> Result<(), Fault> {
+    let help = help_text(alloc)?;
+    let reason = text.strip_suffix(help.as_slice()).unwrap_or(text);
+    answers.say(reason.strip_suffix(b"\n\n".as_slice()).unwrap_or(reason));
+    Ok(())
+}
+
+/// Says what words ask for.
+fn say_asked(alloc: Global, asked: &Asked<'_>, answers: &mut Answers) -> Result<(), Fault> {
+    match asked {
+        Asked::Check { cfg } => {
+            answers.say(b"check ");
+            answers.bracket(cfg.as_bytes());
+        }
+        Asked::Replay { cfg, rec } => {
+            answers.say(b"replay ");
+            answers.bracket(cfg.as_bytes());
+            answers.more(b" ");
+            answers.bracket(rec.as_bytes());
+        }
+        Asked::Later => answers.say(b"later"),
+        Asked::Help => answers.say(b"help"),
+        Asked::Version => answers.say(b"version"),
+        Asked::Usage { text } => say_usage(alloc, text.as_slice(), answers)?,
+    }
+    Ok(())
+}
+
+/// NAME, words, and what they ask for, or what is wrong with them.
+pub fn asked(alloc: Global, row: Row<'_>) -> Result<Vec<u8>, Fault> {
+    let words = words_of(alloc, row.field(1))?;
+    let mut answers = Answers::new(alloc);
+    say_asked(alloc, &asked_by(alloc, &words)?, &mut answers)?;
+    answers.into_text()
+}
+
+/// Whether a text has a part.
+fn has_part(text: &[u8], part: &[u8]) -> bool {
+    if part.is_empty() {
+        return true;
+    }
+    for window in text.windows(part.len()) {
+        if window == part {
+            return true;
+        }
+    }
+    false
+}
+
+/// NAME, a part of the text of help, and whether it is there.
+pub fn help_has(alloc: Global, row: Row<'_>) -> Result<Vec<u8>, Fault> {
+    let part = decoded(alloc, row.field(1).as_bytes())?;
+    let help = help_text(alloc)?;
+    let mut answers = Answers::new(alloc);
+    answers.truth(has_part(help.as_slice(), &part));
+    answers.into_text()
+}

@@ -1,0 +1,10 @@
+//! Rows of texts: bytes, lines, configurations, words of the command line, records and reports, and what they come to.
+#![tactic(auto)]
+
+mod commands;
+mod kinds;
+mod lines;
+mod records;
+mod texts;
+
+pub use kinds::made;

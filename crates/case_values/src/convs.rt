@@ -1,0 +1,108 @@
+//! Converters and fetches as rows write them.
+use case_rows::{Call, Fault};
+use px_expr::{Conv, Fetch, Pat, Text};
+use px_pattern::{PatFault, Patterns, RealPatterns};
+use std::alloc::Global;
+
+/// A pattern of these bytes.
+pub fn pattern_of(alloc: Global, text: &[u8]) -> Result<Pat, Fault> {
+    match RealPatterns::new().build(alloc, text, false) {
+        Ok(pat) => Ok(pat),
+        Err(PatFault::Refused) => Err(Fault::Malformed),
+        Err(PatFault::OutOfMemory) => Err(Fault::OutOfMemory),
+    }
+}
+
+/// The bytes of an argument, as a converter keeps them.
+pub fn text_of(alloc: Global, call: &Call<'_>, at: usize) -> Result<Text, Fault> {
+    let text = call.text(alloc, at)?;
+    Ok(Text::copy(alloc, &text)?)
+}
+
+/// The converters without arguments.
+fn plain_conv(name: &str) -> Option<Conv> {
+    match name {
+        "lower" => Some(Conv::Lower),
+        "upper" => Some(Conv::Upper),
+        "length" => Some(Conv::Length),
+        "neg" => Some(Conv::Neg),
+        "not" => Some(Conv::Not),
+        "bool" => Some(Conv::Bool),
+        "base64" => Some(Conv::Base64),
+        "hex" => Some(Conv::Hex),
+        "url_dec" => Some(Conv::UrlDec),
+        _ => None,
+    }
+}
+
+/// The converters with a number.
+fn number_conv(name: &str, number: i64) -> Option<Conv> {
+    match name {
+        "add" => Some(Conv::Add(number)),
+        "sub" => Some(Conv::Sub(number)),
+        "mul" => Some(Conv::Mul(number)),
+        "div" => Some(Conv::Div(number)),
+        "mod" => Some(Conv::Mod(number)),
+        _ => None,
+    }
+}
+
+/// The converter of a pattern, a template and `g` where each match is replaced.
+fn regsub_of(alloc: Global, call: &Call<'_>) -> Result<Conv, Fault> {
+    let pat = pattern_of(alloc, &call.text(alloc, 0)?)?;
+    let template = text_of(alloc, call, 1)?;
+    let all = call.text(alloc, 2)?.as_slice() == b"g".as_slice();
+    Ok(Conv::Regsub(pat, template, all))
+}
+
+/// The converters with several arguments.
+fn text_conv(alloc: Global, call: &Call<'_>) -> Result<Conv, Fault> {
+    match call.name() {
+        "bytes" => Ok(Conv::Bytes(call.number(0)?, call.some_number(1)?)),
+        "field" => Ok(Conv::Field(
+            call.number(0)?,
+            text_of(alloc, call, 1)?,
+            call.some_number(2)?.unwrap_or(1),
+        )),
+        "word" => Ok(Conv::Word(
+            call.number(0)?,
+            text_of(alloc, call, 1)?,
+            call.some_number(2)?.unwrap_or(1),
+        )),
+        "iif" => Ok(Conv::Iif(text_of(alloc, call, 0)?, text_of(alloc, call, 1)?)),
+        "regsub" => regsub_of(alloc, call),
+        _ => Err(Fault::Malformed),
+    }
+}
+
+/// The converter with a number that a call names.
+fn number_conv_of(call: &Call<'_>) -> Option<Conv> {
+    match call.number(0) {
+        Ok(number) => number_conv(call.name(), number),
+        Err(_) => None,
+    }
+}
+
+/// The converter that a call names.
+pub fn conv_of(alloc: Global, call: &Call<'_>) -> Result<Conv, Fault> {
+    if let Some(conv) = plain_conv(call.name()) {
+        return Ok(conv);
+    }
+    match number_conv_of(call) {
+        Some(conv) => Ok(conv),
+        None => text_conv(alloc, call),
+    }
+}
+
+/// The fetch that a call names.
+pub fn fetch_of(alloc: Global, call: &Call<'_>) -> Result<Fetch, Fault> {
+    match call.name() {
+        "path" => Ok(Fetch::Path),
+        "str" => Ok(Fetch::Str(text_of(alloc, call, 0)?)),
+        "int" => Ok(Fetch::Int(call.number(0)?)),
+        "bool" => Ok(Fetch::Bool(call.text(alloc, 0)?.as_slice() == b"true".as_slice())),
+        "always_true" => Ok(Fetch::AlwaysTrue),
+        "always_false" => Ok(Fetch::AlwaysFalse),
+        _ => Err(Fault::Malformed),
+    }
+}

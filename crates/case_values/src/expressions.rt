@@ -1,0 +1,155 @@
+//! Expressions: how many bytes a buffer holds, the samples of `path`, the expression, and its sample, or each of its
+//! samples.
+ghost use Rattle.std.specs.Prelude.{◌≤◌, IfOk};
+
+use crate::convs::{conv_of, fetch_of};
+use crate::samples::{Held, given_list, held_list, say_sample};
+use case_rows::{Answers, Call, Fault, Row, count_of};
+use px_expr::{Buf, ConvList, Expr, MemEnv, eval, eval_nth};
+use px_pattern::Searchers;
+use std::alloc::Global;
+
+/// The most converters of a row.
+const MOST: usize = 1000;
+
+/// The converters that a text says.
+fn convs_of(alloc: Global, text: &[u8]) -> Result<ConvList, Fault> {
+    let mut convs = ConvList::new(alloc);
+    let mut rest = text;
+    for _ in 0..MOST {
+        if rest.is_empty() || convs.len() == u32::MAX {
+            break;
+        }
+        let (call, behind) = Call::first(rest);
+        convs.push(conv_of(alloc, &call)?)?;
+        rest = behind;
+    }
+    Ok(convs)
+}
+
+/// The expression that a text says.
+pub fn expr_of(alloc: Global, text: &[u8]) -> Result<Expr, Fault> {
+    let (fetch, rest) = Call::first(text);
+    let fetch = fetch_of(alloc, &fetch)?;
+    let convs = convs_of(alloc, rest)?;
+    Ok(Expr { fetch, convs })
+}
+
+/// The size that a text says.
+fn size_of(text: &str) -> Result<u32, Fault>
+    ensures { IfOk result (λ size. size ≤ 262144) }
+{
+    let size = count_of(text.as_bytes())?;
+    if size > 262144 {
+        return Err(Fault::Malformed);
+    }
+    Ok(size as u32)
+}
+
+/// A buffer of the size that a text says.
+pub fn buffer_of(alloc: Global, text: &str) -> Result<Buf, Fault> {
+    Ok(Buf::new(alloc, size_of(text)?)?)
+}
+
+/// What a row asks for.
+#[derive(Drop)]
+struct Question {
+    size: u32,
+    held: Vec<Held>,
+    expr: Expr,
+}
+
+/// What a row asks for.
+fn question_of(alloc: Global, row: Row<'_>) -> Result<Question, Fault>
+    ensures { IfOk result (λ question. question.size ≤ 262144) }
+{
+    Ok(Question {
+        size: size_of(row.field(1))?,
+        held: held_list(alloc, row.field(2))?,
+        expr: expr_of(alloc, row.field(3).as_bytes())?,
+    })
+}
+
+/// Two buffers of a size, with bytes that are left over in the second.
+fn buffers_of(alloc: Global, size: u32) -> Result<(Buf, Buf), Fault> {
+    let buf = Buf::new(alloc, size)?;
+    let mut spare = Buf::new(alloc, size)?;
+    let _ = spare.push(b"left over");
+    Ok((buf, spare))
+}
+
+/// Says the sample of an expression.
+fn say_eval(
+    alloc: Global,
+    question: &Question,
+    env: &MemEnv<'_>,
+    answers: &mut Answers,
+) -> Result<(), Fault> {
+    let (mut buf, mut spare) = buffers_of(alloc, question.size)?;
+    let mut searchers = Searchers::new(alloc);
+    let sample = eval(
+        alloc,
+        &mut searchers,
+        &question.expr,
+        env,
+        &mut buf,
+        &mut spare,
+    )?;
+    say_sample(sample, &buf, answers);
+    Ok(())
+}
+
+/// The sample of a row.
+pub fn one_sample(alloc: Global, row: Row<'_>) -> Result<Vec<u8>, Fault> {
+    let question = question_of(alloc, row)?;
+    let given = given_list(alloc, &question.held)?;
+    let mut answers = Answers::new(alloc);
+    say_eval(alloc, &question, &MemEnv { given: &given }, &mut answers)?;
+    answers.into_text()
+}
+
+/// Says the nth sample of an expression. Whether there is one.
+fn say_nth(
+    alloc: Global,
+    question: &Question,
+    nth: u32,
+    env: &MemEnv<'_>,
+    answers: &mut Answers,
+) -> Result<bool, Fault> {
+    let (mut buf, mut spare) = buffers_of(alloc, question.size)?;
+    let mut searchers = Searchers::new(alloc);
+    match eval_nth(
+        alloc,
+        &mut searchers,
+        &question.expr,
+        nth,
+        env,
+        &mut buf,
+        &mut spare,
+    )? {
+        Some(sample) => {
+            say_sample(sample, &buf, answers);
+            Ok(true)
+        }
+        None => Ok(false),
+    }
+}
+
+/// The samples of a row.
+pub fn each_sample(alloc: Global, row: Row<'_>) -> Result<Vec<u8>, Fault> {
+    let question = question_of(alloc, row)?;
+    let given = given_list(alloc, &question.held)?;
+    let mut answers = Answers::new(alloc);
+    for nth in 0..9u32 {
+        if !say_nth(
+            alloc,
+            &question,
+            nth,
+            &MemEnv { given: &given },
+            &mut answers,
+        )? {
+            break;
+        }
+    }
+    answers.into_text()
+}

@@ -1,3 +1,0 @@
-mod Chains
-mod Ends
-mod Servers

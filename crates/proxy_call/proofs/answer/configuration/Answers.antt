@@ -1,0 +1,28 @@
+use Rattle.std.proofs.Common.{ℕ, List, sym, subst}
+use Rattle.std.specs.Prelude.{Option, Ok}
+use Rattle.px_link.specs.Told.{NamedBytes, Reads}
+use Rattle.cfg_parse.specs.declared.fault.CfgFault.{CfgFault}
+use Rattle.proxy_call.specs.Stops.{StopsBy, stop_of_configuration}
+use Rattle.proxy_call.proofs.Causes.{load_stops, passed_on}
+use Rattle.proxy_call.proofs.Told.{configured}
+use Rattle.proxy_call.proofs.answer.configuration.Goals as goal
+
+pub returns-in_err-cfg-clause-stop : goal.returns-in_err-cfg-clause-stop
+returns-in_err-cfg-clause-stop g c =
+    let told : Option (List NamedBytes) = g.F.Files.files c.args.files.now in
+    let text : List ℕ = c.as_slice.result.now in
+    let read : Reads told c.args.name.now 1048577 text = subst (λ (t : List ℕ). Reads told c.args.name.now 1048577 t) (sym c.as_slice.ensures) c.in_ok-text.ensures.bytes in
+    let last : List ℕ = g.F.Files.last_failed c.read.new.files in
+    let before : ℕ = g.F.Files.faults c.args.files.now in
+    let now : ℕ = g.F.Files.faults c.read.new.files in
+    let fault : CfgFault = c.in_err-cfg.field-0.0 in
+    λ words named.
+    passed_on c.from_residual-in_err-cfg.result (stop_of_configuration fault) (StopsBy words told last before now) c.from_residual-in_err-cfg.ensures.1
+    (load_stops words told c.args.name.now last text before now fault named read c.in_err-cfg.ensures.configures)
+
+pub returns-clause-accepted : goal.returns-clause-accepted
+returns-clause-accepted g c =
+    let told : Option (List NamedBytes) = g.F.Files.files c.args.files.now in
+    let text : List ℕ = c.as_slice.result.now in
+    let read : Reads told c.args.name.now 1048577 text = subst (λ (t : List ℕ). Reads told c.args.name.now 1048577 t) (sym c.as_slice.ensures) c.in_ok-text.ensures.bytes in
+    configured told c.args.name.now text (Ok c.in_ok-cfg.cfg) read c.in_ok-cfg.ensures.configures

@@ -1,0 +1,63 @@
+//! The lines that the program writes itself.
+ghost use Rattle.std.specs.Prelude.{◌≡◌, IfOk, codes};
+ghost use Rattle.proxy_call.specs.Lines.{kind_name, accepted_line, refused_line, file_line};
+
+use cfg_parse::CfgKind;
+use http_model::OutOfMemory;
+use px_link::Bytes;
+use std::alloc::Global;
+
+fn kind_name(kind: CfgKind) -> &'static str
+    ensures { result.now ≡ kind_name kind }
+{
+    match kind {
+        CfgKind::Word => "Word",
+        CfgKind::Section => "Section",
+        CfgKind::Keyword => "Keyword",
+        CfgKind::Argument => "Argument",
+        CfgKind::Expr => "Expr",
+        CfgKind::Acl => "Acl",
+        CfgKind::Pattern => "Pattern",
+        CfgKind::FramingName => "FramingName",
+        CfgKind::Limit => "Limit",
+        CfgKind::Missing => "Missing",
+        CfgKind::Unbuilt => "Unbuilt",
+    }
+}
+
+/// A configuration with so many request rules and filters of both directions is accepted.
+#[tactic(auto, unfolding(crate::specs::Lines::accepted_line))]
+pub fn accepted_line(alloc: Global, rules: u32, filters: u64) -> Result<Bytes, OutOfMemory>
+    ensures { IfOk result (λ line. line ≡ accepted_line rules filters) }
+{
+    let mut line = Bytes::copy(alloc, b"config ok: request rules ")?;
+    line.push(rules.to_string(alloc)?.as_bytes())?;
+    line.push(b", response rules 0, filters ")?;
+    line.push(filters.to_string(alloc)?.as_bytes())?;
+    line.push(b"\n")?;
+    Ok(line)
+}
+
+/// A configuration is refused at this line.
+#[tactic(auto, unfolding(crate::specs::Lines::refused_line))]
+pub fn refused_line(alloc: Global, line: u32, kind: CfgKind) -> Result<Bytes, OutOfMemory>
+    ensures { IfOk result (λ text. text ≡ refused_line line kind) }
+{
+    let mut text = Bytes::copy(alloc, b"config: line ")?;
+    text.push(line.to_string(alloc)?.as_bytes())?;
+    text.push(b": ")?;
+    text.push(kind_name(kind).as_bytes())?;
+    text.push(b"\n")?;
+    Ok(text)
+}
+
+/// The file of this name could not be read.
+#[tactic(auto, unfolding(crate::specs::Lines::file_line))]
+pub fn file_line(alloc: Global, name: &str) -> Result<Bytes, OutOfMemory>
+    ensures { IfOk result (λ text. text ≡ file_line name.now) }
+{
+    let mut text = Bytes::copy(alloc, b"file: ")?;
+    text.push(name.as_bytes())?;
+    text.push(b"\n")?;
+    Ok(text)
+}
