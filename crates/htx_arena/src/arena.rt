@@ -9,10 +9,10 @@ mod front;
 mod insert;
 mod lend;
 mod replace;
+mod steps;
 
-use htx_layout::words;
+use htx_layout::Array;
 use htx_model::{Kind, OutOfMemory};
-use htx_space::Space;
 use std::alloc::Global;
 use std::marker::Model;
 
@@ -31,28 +31,17 @@ pub struct Line<'a> {
 /// Blocks of at most a size, in an array of bytes that is taken once.
 #[derive(Drop)]
 pub struct Arena {
-    space: Space,
-    count: u32,
-    load: u32,
-    front: u32,
-    top: u32,
+    array: Array,
 }
 
 impl Model for Arena {
-    ghost use Rattle.std.specs.Prelude.{length};
-    ghost use Rattle.htx_arena.specs.Contents.{Contents};
-    ghost use Rattle.htx_layout.specs.Raw.{blocks_of as listed_blocks, addrs_of};
+    ghost use Rattle.htx_layout.specs.Contents.{Contents};
 
     ghost Value = { Contents };
 
-    ghost use Rattle.htx_arena.specs.Whole.{IsWhole};
-
-    ghost view = { λ a. record { size = length a.space; blocks = listed_blocks a.space a.count; addrs = addrs_of a.space a.count; front = a.front } };
-
-    ghost invariant = { IsWhole };
+    ghost view = { λ a. a.array };
 }
 
-#[tactic(auto, using(crate::proofs::WholeLemmas::wholes))]
 impl Arena {
     /// An empty list. This call alone takes memory.
     pub fn new(alloc: Global, size: u32) -> Result<Self, OutOfMemory>
@@ -64,11 +53,7 @@ impl Arena {
         ensures front { IfOk result (λ arena. arena.front ≡ 0) }
     {
         Ok(Arena {
-            space: Space::new(alloc, size)?,
-            count: 0,
-            load: 0,
-            front: 0,
-            top: 0,
+            array: Array::new(alloc, size)?,
         })
     }
 
@@ -76,21 +61,21 @@ impl Arena {
     pub fn len(&self) -> u32
         ensures { result ≡ length self.now.blocks }
     {
-        self.count
+        self.array.len()
     }
 
     /// What the blocks weigh, in bytes.
     pub fn load(&self) -> u32
         ensures { result ≡ load self.now.blocks }
     {
-        self.load
+        self.array.load()
     }
 
     /// How many bytes more the blocks may weigh.
     pub fn room(&self) -> u32
         ensures { result + load self.now.blocks ≡ self.now.size }
     {
-        self.space.size() - self.load
+        self.array.room()
     }
 
     /// The same, for lengths.
@@ -98,7 +83,7 @@ impl Arena {
         ensures room { result + load self.now.blocks ≡ self.now.size }
         ensures small { self.now.size ≤ 262144 }
     {
-        (self.space.size() - self.load) as usize
+        self.array.room() as usize
     }
 
     /// The type of a block.
@@ -106,7 +91,7 @@ impl Arena {
         requires { at < length self.now.blocks }
         ensures { result ≡ kind_of (block_at self.now.blocks at) }
     {
-        words::kind_of(self.space.descriptor(at).info)
+        self.array.kind(at)
     }
 
     /// Where the payload of a block stands in the array.
@@ -114,7 +99,7 @@ impl Arena {
         requires { at < length self.now.blocks }
         ensures { result ≡ slice_index self.now.addrs at }
     {
-        self.space.descriptor(at).addr
+        self.array.addr(at)
     }
 
     /// The whole array: payloads, and descriptors from its end.
@@ -123,6 +108,6 @@ impl Arena {
         ensures size { length result.now ≡ self.now.size }
         ensures gives_back { blocks_of result.now (length self.now.blocks) ≡ self.now.blocks }
     {
-        self.space.bytes()
+        self.array.raw()
     }
 }

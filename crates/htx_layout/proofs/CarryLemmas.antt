@@ -1,17 +1,19 @@
 -- Defragmentation, and one payload behind the others: the others' addresses are as if it had been gone.
-use Rattle.std.proofs.Common.{refl, ◌≡◌, ◌≢◌, ℕ, zero, suc, ◌+◌, ◌<◌, ◌≤◌, inl, inr, List, [], ◌∷◌, length, map, ap, sym, ◌∙◌, arith, nat_lt, if◌then◌else◌, sum_by, get_or, set}
+use Rattle.std.proofs.Common.{refl, ◌≡◌, ◌≢◌, ℕ, zero, suc, ◌+◌, ◌*◌, ◌<◌, ◌≤◌, inl, inr, List, [], ◌∷◌, length, map, ap, sym, ◌∙◌, arith, nat_lt, if◌then◌else◌, sum_by, get_or, set}
 use Rattle.std.specs.Prelude.{insert, remove}
 use Rattle.std.proofs.lemmas.Bool.{cases_lt, cases_eq, lt-ltb, le-ltb}
 use Rattle.std.proofs.lemmas.List.Sums.{sum_by-cons}
 use Rattle.htx_model.specs.Block.{Block, payload_len, EndHeaders}
 use Rattle.htx_space.specs.declared.space.Desc.{Desc}
+use Rattle.htx_space.specs.Windows.{desc_at}
 use Rattle.htx_layout.specs.Raw.{listed, addr_in, len_in, block_in, blocks_of, addrs_of}
-use Rattle.htx_layout.specs.Sound.{IsSound, end_of, IsTold, IsFilled, IsLaid}
+use Rattle.htx_layout.specs.Sound.{IsSound, end_of, IsTold, IsFilled, IsLaid, IsTop}
 use Rattle.htx_layout.specs.Moves.{IsLast, IsShifted, IsUpTo, IsSunk, CanSink}
 use Rattle.htx_layout.specs.Place.{below, packed}
 use Rattle.htx_layout.proofs.RawLemmas.{length-listed, get_or-listed}
 use Rattle.htx_layout.proofs.MoveLemmas.{listed-set, shifted_told, shifted_filled}
 use Rattle.htx_layout.proofs.PackLemmas.{part, term_in, term_out, behind_other, map_listed}
+use Rattle.htx_layout.proofs.TopLemmas.{top_reached}
 use Rattle.htx_layout.proofs.SinkLemmas.{sunk_here, sunk_above, sunk_below, sunk_ends, sunk_front, sunk_shifts, IsSound-sunk}
 
 pub insert-remove : {X : Type 0} (xs : List X) (i : ℕ) (x : X) → i < length xs → insert (remove xs i) i x ≡ set xs i x
@@ -139,30 +141,41 @@ carried_addrs raw mid new n i end sound filled told told' blocks addrs total sma
     let removed : remove (listed h n) i ≡ others raw n i = ap (λ (zs : List ℕ). remove zs i) (sym (map_listed F (addr_in raw) 0 n)) ∙ sym (map-remove F (addrs_of raw n) i (omega arith)) in
     as_set ∙ sym (insert-remove (listed h n) i x (omega arith)) ∙ ap (λ (zs : List ℕ). insert zs i x) removed
 
-pub carried_laid : (mid new : List ℕ) (n i end : ℕ) → CanSink mid n i end → IsTold mid n → IsSunk mid new n i end → length mid ≤ 262144 → IsLaid new n 0
-carried_laid mid new n i end can told is most =
+-- ---- what is carried
+
+pub record IsCarried (raw new : List ℕ) (n i end : ℕ) : Type 0 where
+  pub shifted : IsShifted raw new n
+  pub last : IsLast new n i
+  pub laid : IsLaid new n 0
+  pub ends : end_of (desc_at new i) ≡ end
+  pub topped : IsTop new n end
+
+pub can_carry : (raw mid : List ℕ) (n i end : ℕ) → IsLaid raw n 0 → IsShifted raw mid n → IsSound mid n → IsUpTo mid n end → end + 8 * n ≤ length raw → i < n → CanSink mid n i end
+can_carry raw mid n i end laid shifted sound up room within = let size = shifted.size in record { sound = sound; filled = shifted_filled raw mid n shifted laid.filled; within = within; up_to = up; room = omega arith }
+
+pub carried : (raw mid new : List ℕ) (n i end : ℕ) → IsLaid raw n 0 → IsShifted raw mid n → CanSink mid n i end → IsSunk mid new n i end → IsCarried raw new n i end
+carried raw mid new n i end laid shifted can is =
     let size = is.size in
-    record {
+    let was = shifted.size in
+    let most = laid.most in
+    let sunk = sunk_shifts mid new n i end is in
+    let all : IsShifted raw new n = record { size = size ∙ was; info = λ j small. sunk.info j small ∙ shifted.info j small; payload = λ j small. sunk.payload j small ∙ shifted.payload j small } in
+    let here = sunk_here mid i end in
+    let addr = ap (λ (d : Desc). d.addr) (is.desc i can.within) in
+    let ends : end_of (desc_at new i) ≡ end = let e = ap end_of (is.desc i can.within) in let up = can.up_to.up_to i can.within in omega arith in
+    let now : IsLaid new n 0 = record {
       sound = IsSound-sunk mid new n i end can is;
-      told = shifted_told mid new n (sunk_shifts mid new n i end is) told;
-      filled = shifted_filled mid new n (sunk_shifts mid new n i end is) can.filled;
+      told = shifted_told raw new n all laid.told;
+      filled = shifted_filled raw new n all laid.filled;
       parted = record { parted = λ j small. inr (omega arith) };
       small = omega arith;
       most = omega arith;
+    } in
+    let up_to : IsUpTo new n end = record { up_to = λ j small. let e = ap end_of (is.desc j small) in let h = sunk_ends mid n i end j can small in omega arith } in
+    record {
+      shifted = all;
+      last = record { last = λ j small ne. let front = sunk_front mid n i end j can small ne in let e = ap end_of (is.desc j small) in omega arith };
+      laid = now;
+      ends = ends;
+      topped = top_reached new n end i now.sound now.told up_to (λ some. (can.within, ends));
     }
-
-pub carried_up_to : (mid new : List ℕ) (n i end : ℕ) → CanSink mid n i end → IsSunk mid new n i end → IsUpTo new n end
-carried_up_to mid new n i end can is = record { up_to = λ j small. let e = ap end_of (is.desc j small) in let h = sunk_ends mid n i end j can small in omega arith }
-
-pub shifted_twice : (raw mid new : List ℕ) (n : ℕ) → IsShifted raw mid n → IsShifted mid new n → IsShifted raw new n
-shifted_twice raw mid new n a b = record { size = b.size ∙ a.size; info = λ j small. b.info j small ∙ a.info j small; payload = λ j small. b.payload j small ∙ a.payload j small }
-
-pub carried_last : (mid new : List ℕ) (n i end : ℕ) → CanSink mid n i end → IsSunk mid new n i end → IsLast new n i
-carried_last mid new n i end can is = record {
-  last = λ j small ne.
-      let front = sunk_front mid n i end j can small ne in
-      let here = sunk_here mid i end in
-      let e = ap end_of (is.desc j small) in
-      let a = ap (λ (d : Desc). d.addr) (is.desc i can.within) in
-      omega arith;
-}

@@ -6,7 +6,7 @@ use Rattle.htx_model.specs.declared.Kind.{Kind}
 use Rattle.htx_model.specs.declared.Kind.TheVariants as kinds
 use Rattle.htx_space.specs.Windows.{window, word_at}
 use Rattle.htx_space.proofs.WindowLemmas.{word_at_is}
-use Rattle.htx_layout.specs.Raw.{code_of, lengths_of, info_of, line_head, payload_of, kind_of_code, info_kind, name_len, len_by, info_len, block_by, block_of, Tells}
+use Rattle.htx_layout.specs.Raw.{code_of, lengths_of, info_of, line_head, payload_of, kind_of_code, info_kind, name_len, len_by, info_len, block_by, block_of, Tells, Describes}
 
 -- what an array of at most 262144 bytes can hold
 pub record IsSmall (b : Block) : Type 0 where
@@ -139,7 +139,7 @@ block_in_kind (Data p) h = refl
 block_in_kind (Trailer n v) h = cut_trailer (name_len (info_of (Trailer n v))) n v (field_name 5 (length n) (length v) h.named)
 block_in_kind EndTrailers h = refl
 
-payload_long : (b : Block) → length (payload_of b) ≡ payload_len b
+pub payload_long : (b : Block) → length (payload_of b) ≡ payload_len b
 payload_long (RequestLine a b c) = omega (arith, length-append (line_head (length a) (length b) (length c)) (a ++ (b ++ c)), length-append a (b ++ c), length-append b c)
 payload_long (ResponseLine a b c) = omega (arith, length-append (line_head (length a) (length b) (length c)) (a ++ (b ++ c)), length-append a (b ++ c), length-append b c)
 payload_long (Header n v) = length-append n v
@@ -194,6 +194,13 @@ made b info p e f h =
       long = ap length f ∙ c.long;
       len = ap info_len e ∙ c.len;
     }
+
+pub described : (b : Block) (info : ℕ) (p : List ℕ) → Describes info b → p ≡ payload_of b → IsMade b info p
+described b info p d e = record { tells = subst (Tells info) (sym e) d.tells; is = ap (block_of info) e ∙ d.is; long = ap length e ∙ payload_long b; len = sym d.tells.len ∙ ap payload_len d.is }
+
+-- a block's own length
+pub described_len : (b : Block) (info : ℕ) → Describes info b → info_len info ≡ payload_len b
+described_len b info d = sym d.tells.len ∙ ap payload_len d.is
 
 -- ---- the blocks that calls make of their arguments
 

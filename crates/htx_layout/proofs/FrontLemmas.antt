@@ -1,28 +1,42 @@
 -- An array with another `front`, with fewer blocks, or defragmented, is laid out too.
-use Rattle.std.proofs.Common.{refl, subst, sym, ◌≡◌, ℕ, ◌≤◌, inr, List, arith, Option, Some, None}
+use Rattle.std.proofs.Common.{refl, subst, sym, ◌≡◌, ℕ, ◌<◌, ◌≤◌, inl, inr, List, arith, Option, Some, None, nat_lt, if◌then◌else◌}
+use Rattle.std.proofs.lemmas.Bool.{lt-ltb, le-ltb}
 use Rattle.htx_layout.specs.Raw.{addrs_of}
-use Rattle.htx_layout.specs.Sound.{IsSound, IsLaid}
+use Rattle.htx_layout.specs.Sound.{IsSound, IsLaid, IsTop}
 use Rattle.htx_layout.specs.Place.{low, settled, settled_by}
 use Rattle.htx_layout.specs.Moves.{IsShifted}
 use Rattle.htx_layout.proofs.MoveLemmas.{shifted_told, shifted_filled}
-use Rattle.htx_layout.proofs.SpotLemmas.{settled_parted}
+use Rattle.htx_layout.proofs.SpotLemmas.{IsLow, low_is, end_le_top, settled_parted}
+use Rattle.htx_layout.proofs.TopLemmas.{top_from_under}
 
 settled_by_small : (o : Option ℕ) (front : ℕ) → settled_by o front ≤ front
 settled_by_small None front = omega arith
 settled_by_small (Some l) front = omega arith
-
-pub settled_zero : (addrs : List ℕ) → settled 0 addrs ≡ 0
-settled_zero addrs = zero_by (low 0 addrs)
-  where
-    zero_by : (o : Option ℕ) → settled_by o 0 ≡ 0
-    zero_by None = refl
-    zero_by (Some l) = refl
 
 pub laid_settled : (raw : List ℕ) (n front f : ℕ) → IsLaid raw n front → f ≡ settled front (addrs_of raw n) → IsLaid raw n f
 laid_settled raw n front f laid e =
     let less = settled_by_small (low front (addrs_of raw n)) front in
     let small = laid.small in
     subst (IsLaid raw n) (sym e) (record { sound = laid.sound; told = laid.told; filled = laid.filled; parted = settled_parted raw n front laid.parted; small = omega arith; most = laid.most })
+
+-- a payload stands at or above the front exactly where one ends behind it
+settled_by_top : (raw : List ℕ) (n front t : ℕ) (o : Option ℕ) → IsLaid raw n front → IsTop raw n t → IsLow raw front 0 n o → settled_by o front ≡ (if nat_lt front t then front else 0)
+settled_by_top raw n front t None laid was past =
+    let under = top_from_under raw 0 n front (λ j from to. let len = (laid.told.told j (omega arith)).len in let below = past.none j from to in elim (laid.parted.parted j (omega arith)) [ inl h ↦ omega arith | inr h ↦ absurd (omega arith) ]) in
+    let is = was.is in
+    rw (le-ltb front t (omega arith)) refl
+settled_by_top raw n front t (Some l) laid was at =
+    let last = at.last in
+    let small : at.index < n = omega arith in
+    let ends = end_le_top raw n at.index laid.told small in
+    let some = laid.filled.filled at.index small in
+    let above = at.above in
+    let here = at.is in
+    let is = was.is in
+    rw (lt-ltb front t (omega arith)) refl
+
+pub settled_top : (raw : List ℕ) (n front t : ℕ) → IsLaid raw n front → IsTop raw n t → (if nat_lt front t then front else 0) ≡ settled front (addrs_of raw n)
+settled_top raw n front t laid was = sym (settled_by_top raw n front t (low front (addrs_of raw n)) laid was (low_is raw front 0 n))
 
 pub laid_first : (raw : List ℕ) (n m front : ℕ) → IsLaid raw n front → m ≤ n → IsLaid raw m front
 laid_first raw n m front laid h =

@@ -1,42 +1,33 @@
 -- What a caller sees after a write behind the window that is a block's value.
-use Rattle.std.proofs.Common.{◌≡◌, ℕ, ◌<◌, ◌≤◌, ◌⊎◌, List, length, set, drop, refl, ap, sym, ◌∙◌, subst, arith, length-drop}
+use Rattle.std.proofs.Common.{◌≡◌, ℕ, ◌<◌, ◌≤◌, ◌⊎◌, List, length, set, drop, ap, sym, ◌∙◌, subst, arith, length-drop}
 use Rattle.std.proofs.lemmas.List.{length-take-le}
 use Rattle.std.specs.List.{refill, length_refill}
-use Rattle.htx_model.specs.Block.{Block, EndHeaders, kind_of, value_of, HasValue, with_value}
+use Rattle.htx_model.specs.Block.{kind_of, value_of, HasValue, with_value}
 use Rattle.htx_model.specs.Blocks.{block_at}
 use Rattle.htx_space.specs.declared.space.Desc.{Desc}
 use Rattle.htx_space.specs.Windows.{window, overwritten}
 use Rattle.htx_layout.specs.Raw.{info_len, block_in, blocks_of, addrs_of}
 use Rattle.htx_layout.specs.Sound.{IsSound, IsLaid, end_of}
 use Rattle.htx_layout.specs.Values.{value_start, value_length}
-use Rattle.htx_layout.proofs.RawLemmas.{length-listed, get_or-listed}
+use Rattle.htx_layout.proofs.TellLemmas.{block_told}
 use Rattle.htx_layout.proofs.ValueLemmas.{CanWrite, over, length-over, desc_at-over, blocks_of-over, addrs_of-over, IsSound-over, IsTold-over, value_in, value_fits}
 
-pub small_at : (raw : List ℕ) (n i : ℕ) (blocks : List Block) → blocks_of raw n ≡ blocks → i < length blocks → i < n
-small_at raw n i blocks e h = subst (λ m. i < m) (length-listed (block_in raw) n) (subst (λ l. i < length l) (sym e) h)
-
-pub valued_at : (raw : List ℕ) (n i : ℕ) (blocks : List Block) → blocks_of raw n ≡ blocks → i < n → HasValue (kind_of (block_at blocks i)) → HasValue (kind_of (block_in raw i))
-valued_at raw n i blocks e small h = subst (λ b. HasValue (kind_of b)) (get_or-listed (block_in raw) n i EndHeaders small) (subst (λ l. HasValue (kind_of (block_at l i))) (sym e) h)
-
--- a list that fills the value's window
-pub can_write : (raw : List ℕ) (n i start len : ℕ) (w : List ℕ) (blocks : List Block) → blocks_of raw n ≡ blocks → i < length blocks → HasValue (kind_of (block_at blocks i)) → IsSound raw n → start ≡ value_start raw i → len ≡ value_length raw i
-    → CanWrite raw n i (refill len (window raw start len) w)
-can_write raw n i start len w blocks e h valued sound s l =
-    let small = small_at raw n i blocks e h in
+-- a list that is cut or filled up to the value's length may be written over it
+lent_long : (raw : List ℕ) (n i start len : ℕ) → IsSound raw n → i < n → start ≡ value_start raw i → len ≡ value_length raw i → length (window raw start len) ≡ len
+lent_long raw n i start len sound small s l =
     let fits = value_fits raw n i sound small in
     let cut = length-drop start raw in
-    let long : length (window raw start len) ≡ len = length-take-le len (drop start raw) (omega arith) in
-    let filled = length_refill len (window raw start len) w (sym long) in
-    record { sound = sound; within = small; valued = valued_at raw n i blocks e small valued; long = sym filled ∙ l }
+    length-take-le len (drop start raw) (omega arith)
 
--- the block at the index, as blocks tell it
-pub here_at : (raw : List ℕ) (n i : ℕ) (blocks : List Block) → blocks_of raw n ≡ blocks → i < n → block_in raw i ≡ block_at blocks i
-here_at raw n i blocks e small = sym (get_or-listed (block_in raw) n i EndHeaders small) ∙ ap (λ l. block_at l i) e
+can_lent : (raw : List ℕ) (n i start len : ℕ) (w : List ℕ) → IsSound raw n → i < n → HasValue (kind_of (block_in raw i)) → start ≡ value_start raw i → len ≡ value_length raw i → CanWrite raw n i (refill len (window raw start len) w)
+can_lent raw n i start len w sound small valued s l =
+    let long = lent_long raw n i start len sound small s l in
+    record { sound = sound; within = small; valued = valued; long = sym (length_refill len (window raw start len) w (sym long)) ∙ l }
 
 -- the window is the value
 pub window_is_value : (raw : List ℕ) (n i start len : ℕ) → i < n → HasValue (kind_of (block_in raw i)) → start ≡ value_start raw i → len ≡ value_length raw i → window raw start len ≡ value_of (block_at (blocks_of raw n) i)
 window_is_value raw n i start len small valued s l =
-    (λ j. window raw (s j) (l j)) ∙ sym (value_in raw i valued) ∙ ap value_of (here_at raw n i (blocks_of raw n) refl small)
+    (λ j. window raw (s j) (l j)) ∙ sym (value_in raw i valued) ∙ ap value_of (sym (block_told raw n i small))
 
 -- the blocks after a write over the window that is a block's value
 pub blocks_lent : (raw : List ℕ) (n i start len : ℕ) (w : List ℕ) → IsSound raw n → i < n → HasValue (kind_of (block_in raw i)) → start ≡ value_start raw i → len ≡ value_length raw i
@@ -44,13 +35,10 @@ pub blocks_lent : (raw : List ℕ) (n i start len : ℕ) (w : List ℕ) → IsSo
 blocks_lent raw n i start len w sound small valued s l =
     let p = window raw start len in
     let w' = refill len p w in
-    let fits = value_fits raw n i sound small in
-    let cut = length-drop start raw in
-    let long : length p ≡ len = length-take-le len (drop start raw) (omega arith) in
-    let can : CanWrite raw n i w' = record { sound = sound; within = small; valued = valued; long = sym (length_refill len p w (sym long)) ∙ l } in
+    let can = can_lent raw n i start len w sound small valued s l in
     let value = window_is_value raw n i start len small valued s l in
-    let here = here_at raw n i (blocks_of raw n) refl small in
-    let same : w' ≡ refill (length (value_of (block_at (blocks_of raw n) i))) (value_of (block_at (blocks_of raw n) i)) w = ap (λ m. refill m p w) (sym long) ∙ ap (λ v. refill (length v) v w) value in
+    let here = sym (block_told raw n i small) in
+    let same : w' ≡ refill (length (value_of (block_at (blocks_of raw n) i))) (value_of (block_at (blocks_of raw n) i)) w = ap (λ m. refill m p w) (sym (lent_long raw n i start len sound small s l)) ∙ ap (λ v. refill (length v) v w) value in
     ap (λ k. blocks_of (overwritten raw k w') n) s ∙ blocks_of-over raw n i w' can ∙ (λ j. set (blocks_of raw n) i (with_value (here j) (same j)))
 
 pub addrs_lent : (raw : List ℕ) (n i start len : ℕ) (w : List ℕ) → IsSound raw n → i < n → HasValue (kind_of (block_in raw i)) → start ≡ value_start raw i → len ≡ value_length raw i
@@ -58,10 +46,7 @@ pub addrs_lent : (raw : List ℕ) (n i start len : ℕ) (w : List ℕ) → IsSou
 addrs_lent raw n i start len w sound small valued s l =
     let p = window raw start len in
     let w' = refill len p w in
-    let fits = value_fits raw n i sound small in
-    let cut = length-drop start raw in
-    let long : length p ≡ len = length-take-le len (drop start raw) (omega arith) in
-    let can : CanWrite raw n i w' = record { sound = sound; within = small; valued = valued; long = sym (length_refill len p w (sym long)) ∙ l } in
+    let can = can_lent raw n i start len w sound small valued s l in
     (ap (λ k. addrs_of (overwritten raw k w') n) s ∙ addrs_of-over raw n i w' can, ap (λ k. length (overwritten raw k w')) s ∙ length-over raw n i w' can)
 
 laid-over : (raw : List ℕ) (n front i : ℕ) (w : List ℕ) → IsLaid raw n front → CanWrite raw n i w → length w ≡ length (value_of (block_in raw i)) → IsLaid (over raw i w) n front
@@ -87,11 +72,8 @@ pub laid_lent : (raw : List ℕ) (n front i start len : ℕ) (w : List ℕ) → 
 laid_lent raw n front i start len w laid small valued s l =
     let p = window raw start len in
     let w' = refill len p w in
-    let fits = value_fits raw n i laid.sound small in
-    let cut = length-drop start raw in
-    let long : length p ≡ len = length-take-le len (drop start raw) (omega arith) in
-    let filled = length_refill len p w (sym long) in
-    let can : CanWrite raw n i w' = record { sound = laid.sound; within = small; valued = valued; long = sym filled ∙ l } in
+    let can = can_lent raw n i start len w laid.sound small valued s l in
+    let long = lent_long raw n i start len laid.sound small s l in
     let value = (λ j. window raw (s j) (l j)) ∙ sym (value_in raw i valued) in
-    let e : length w' ≡ length (value_of (block_in raw i)) = sym filled ∙ sym long ∙ ap length value in
+    let e : length w' ≡ length (value_of (block_in raw i)) = can.long ∙ sym l ∙ sym long ∙ ap length value in
     subst (λ (k : ℕ). IsLaid (overwritten raw k w') n front) (sym s) (laid-over raw n front i w' laid can e)

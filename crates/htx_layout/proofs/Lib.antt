@@ -19,3 +19,8 @@ pub mod TellLemmas
 pub mod StayLemmas
 pub mod FrontLemmas
 pub mod TopLemmas
+pub mod WholeLemmas
+pub mod PlaceLemmas
+pub mod WrittenLemmas
+pub mod ReplaceLemmas
+pub mod AddressLemmas

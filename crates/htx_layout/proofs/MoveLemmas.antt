@@ -1,5 +1,5 @@
 -- A payload moves down over free bytes: the step of defragmentation.
-use Rattle.std.proofs.Common.{subst, refl, ◌≡◌, ◌≢◌, ℕ, ◌+◌, ◌*◌, ◌^◌, ◌<◌, ◌≤◌, inl, inr, List, length, get_or, set, drop, ap, sym, ◌∙◌, arith, length-drop}
+use Rattle.std.proofs.Common.{subst, ◌≡◌, ◌≢◌, ℕ, ◌+◌, ◌*◌, ◌^◌, ◌<◌, ◌≤◌, inl, inr, List, length, get_or, set, drop, ap, sym, ◌∙◌, arith, length-drop}
 use Rattle.std.proofs.lemmas.List.{same_lists, length-take-le, length-set, get_or-set_same, get_or-set_other, take_all}
 use Rattle.std.proofs.lemmas.Bool.{cases_lt, cases_eq}
 use Rattle.htx_space.specs.declared.space.Desc.{Desc}
@@ -126,9 +126,6 @@ moved_is raw n i to can addr_fits info_fits =
 
 desc_is : (d : Desc) (to : ℕ) → d.addr ≡ to → d ≡ record { addr = to; info = d.info }
 desc_is d to e = let at : ℕ → Desc = λ k. record { addr = k; info = d.info } in ap at e
-
-pub stays_is : (raw : List ℕ) (n i to : ℕ) → addr_in raw i ≡ to → IsMoved raw raw n i to
-stays_is raw n i to e = record { size = refl; here = desc_is (desc_at raw i) to e; other = λ j small ne. refl; payload = λ j small. refl }
 
 AreApart-at : (a b c d : Desc) → a ≡ c → b ≡ d → AreApart c d → AreApart a b
 AreApart-at a b c d e f h = subst (λ (x : Desc). AreApart x b) (sym e) (subst (λ (y : Desc). AreApart c y) (sym f) h)

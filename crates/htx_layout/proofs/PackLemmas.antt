@@ -7,10 +7,11 @@ use Rattle.htx_model.specs.Block.{payload_len}
 use Rattle.htx_space.specs.declared.space.Desc.{Desc}
 use Rattle.htx_space.specs.Windows.{desc_at}
 use Rattle.htx_layout.specs.Raw.{addr_in, len_in, block_in, info_len, blocks_of, addrs_of, payload_in}
-use Rattle.htx_layout.specs.Sound.{IsSound, end_of, IsTold, IsFilled}
+use Rattle.htx_layout.specs.Sound.{IsSound, end_of, IsTold, IsFilled, IsTop}
 use Rattle.htx_layout.specs.Moves.{IsShifted, CanMove, IsMoved, IsNext, IsPast, IsUpTo}
 use Rattle.htx_layout.specs.Place.{below, packed}
-use Rattle.htx_layout.proofs.MoveLemmas.{listed-same, IsSound-moved}
+use Rattle.htx_layout.proofs.MoveLemmas.{listed-same, IsSound-moved, shifted_told}
+use Rattle.htx_layout.proofs.TopLemmas.{top_reached}
 
 -- what one payload counts for below an address
 abbrev pub term : List ℕ → ℕ → ℕ → ℕ
@@ -58,7 +59,7 @@ part_more raw a c k i (suc m) ge lt from to none =
     ]
 
 -- The array in the midst of defragmentation. The payloads that stood below `from` were moved, and end at
--- or below `to`; the others stand where they stood.
+-- or below `to`, the last of them there; the others stand where they stood.
 pub record Packing (raw cur : List ℕ) (n from to : ℕ) : Type 0 where
   pub size : length cur ≡ length raw
   pub sound : IsSound cur n
@@ -69,6 +70,8 @@ pub record Packing (raw cur : List ℕ) (n from to : ℕ) : Type 0 where
   pub ends : (j : ℕ) → j < n → addr_in raw j < from → end_of (desc_at cur j) ≤ to
   pub order : to ≤ from
   pub sum : to ≡ part raw from 0 n
+  pub hand : ℕ
+  pub reached : 0 < to → (hand < n) × (end_of (desc_at cur hand) ≡ to)
 
 part_zero : (raw : List ℕ) (i m : ℕ) → part raw 0 i m ≡ 0
 part_zero raw i zero = refl
@@ -85,6 +88,8 @@ packing_begins raw n sound = record {
   ends = λ j small (h : addr_in raw j < 0). absurd (omega arith);
   order = omega arith;
   sum = sym (part_zero raw 0 n);
+  hand = 0;
+  reached = λ some. absurd (omega arith);
 }
 
 -- a payload was moved exactly where its address is below `from`
@@ -181,6 +186,8 @@ packing_goes_on raw cur new n from to i p sound filled told next is =
       ];
       order = omega arith;
       sum = omega arith;
+      hand = i;
+      reached = λ some. (hi, omega arith);
     }
 
 -- ---- when all are behind
@@ -213,6 +220,10 @@ packing_up_to raw cur n from to p past = record {
       ] in
       p.ends j small lt;
 }
+
+-- they reach it
+pub packing_top : (raw cur : List ℕ) (n from to : ℕ) → Packing raw cur n from to → IsTold raw n → IsPast cur n from → IsTop cur n to
+packing_top raw cur n from to p told past = top_reached cur n to p.hand p.sound (shifted_told raw cur n (packing_shifts raw cur n from to p) told) (packing_up_to raw cur n from to p past) p.reached
 
 -- all count
 part_all : (raw : List ℕ) (a i m : ℕ) → ((j : ℕ) → i ≤ j → j < i + m → addr_in raw j < a) → part raw a i m ≡ sum_by payload_len (map (block_in raw) (range_with_len i m))

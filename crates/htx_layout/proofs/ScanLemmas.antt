@@ -52,17 +52,10 @@ low_from_more raw from n i h =
     let e : n - i ≡ suc (n - (i + 1)) = omega arith in
     ap (low_from raw from i) e
 
-merged-none : (r : Option ℕ) → merged r None ≡ r
-merged-none None = refl
-merged-none (Some a) = refl
-
 -- one more address at or above the place
 pub merged_more : (a b : ℕ) (r : Option ℕ) → merged (Some (min a b)) r ≡ merged (Some a) (least b r)
 merged_more a b None = refl
 merged_more a b (Some c) = ap Some (omega arith)
-
-pub min_comm : (a b : ℕ) → min a b ≡ min b a
-min_comm a b = omega arith
 
 pub low_skip : (raw : List ℕ) (from i m : ℕ) → addr_in raw i < from → low_from raw from i (suc m) ≡ low_from raw from (i + 1) m
 low_skip raw from i m h = rw (lt-leb from (addr_in raw i) h) refl

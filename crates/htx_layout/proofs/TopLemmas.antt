@@ -1,13 +1,14 @@
 -- The greatest end of a payload after an edit of the list.
-use Rattle.std.proofs.Common.{◌≡◌, ℕ, zero, suc, ◌+◌, ◌-◌, ◌*◌, ◌<◌, ◌≤◌, List, [], ◌∷◌, length, get_or, set, map, max, refl, ap, sym, ◌∙◌, subst, arith}
+use Rattle.std.proofs.Common.{◌≡◌, ℕ, zero, suc, ◌+◌, ◌-◌, ◌<◌, ◌≤◌, inl, inr, List, [], ◌∷◌, length, get_or, set, max, subst, arith}
 use Rattle.std.specs.Prelude.{insert, remove}
-use Rattle.std.specs.List.{range_with_len}
+use Rattle.std.proofs.lemmas.Bool.{cases_lt}
 use Rattle.htx_model.specs.Block.{Block, payload_len}
 use Rattle.htx_model.specs.Blocks.{block_at}
 use Rattle.htx_space.specs.Windows.{desc_at}
 use Rattle.htx_layout.specs.Raw.{addr_in, block_in, len_in, blocks_of, addrs_of}
 use Rattle.htx_layout.specs.Place.{top}
 use Rattle.htx_layout.specs.Sound.{IsSound, IsTold, IsTop, IsLaid, end_of}
+use Rattle.htx_layout.specs.Moves.{IsUpTo}
 use Rattle.htx_layout.proofs.ScanLemmas.{top_from}
 use Rattle.htx_layout.proofs.RawLemmas.{length-listed}
 use Rattle.htx_layout.proofs.TellLemmas.{len_told, addr_told}
@@ -58,7 +59,7 @@ top-stays (x ∷ bs) (y ∷ xs) (suc i) b a h e f = let rest = top-stays bs xs i
 
 -- ---- the array
 
-top_from_under : (raw : List ℕ) (i m most : ℕ) → ((j : ℕ) → i ≤ j → j < i + m → addr_in raw j + payload_len (block_in raw j) ≤ most) → top_from raw i m ≤ most
+pub top_from_under : (raw : List ℕ) (i m most : ℕ) → ((j : ℕ) → i ≤ j → j < i + m → addr_in raw j + payload_len (block_in raw j) ≤ most) → top_from raw i m ≤ most
 top_from_under raw i zero most each = omega arith
 top_from_under raw i (suc m) most each =
     let here = each i (omega arith) (omega arith) in
@@ -77,6 +78,30 @@ is_top raw n t sound told e =
 
 ends : (raw : List ℕ) (n i : ℕ) → IsTold raw n → i < n → get_or (addrs_of raw n) i 0 + payload_len (block_at (blocks_of raw n) i) ≡ end_of (desc_at raw i)
 ends raw n i told small = λ j. addr_told raw n i small j + len_told raw n i told small j
+
+-- all payloads end at or below a place, and one of them there
+pub top_reached : (raw : List ℕ) (n t j : ℕ) → IsSound raw n → IsTold raw n → IsUpTo raw n t → (0 < t → (j < n) × (end_of (desc_at raw j) ≡ t)) → IsTop raw n t
+top_reached raw n t j sound told up reached =
+    let under = top_from_under raw 0 n t (λ k from to. let e = up.up_to k (omega arith) in let len = (told.told k (omega arith)).len in omega arith) in
+    let is : t ≡ top (blocks_of raw n) (addrs_of raw n) = elim (cases_lt 0 t) [
+      | inl some ↦
+          let r = reached some in
+          let small = r.0 in
+          let here = r.1 in
+          let below = end-top (blocks_of raw n) (addrs_of raw n) j (omega (arith, length-listed (block_in raw) n)) (omega (arith, length-listed (block_in raw) n, length-listed (addr_in raw) n)) in
+          let end = ends raw n j told small in
+          omega arith
+      | inr none ↦ omega arith
+    ] in
+    is_top raw n t sound told is
+
+-- one more block
+pub top_placed : (raw new : List ℕ) (n i t f a : ℕ) (b : Block) → IsTop raw n t → i ≤ n → blocks_of new (n + 1) ≡ insert (blocks_of raw n) i b → addrs_of new (n + 1) ≡ insert (addrs_of raw n) i a → IsLaid new (n + 1) f → IsTop new (n + 1) (max t (a + payload_len b))
+top_placed raw new n i t f a b was small blocks addrs laid =
+    let both = top-insert (blocks_of raw n) (addrs_of raw n) i b a (omega (arith, length-listed (block_in raw) n)) (omega (arith, length-listed (block_in raw) n, length-listed (addr_in raw) n)) in
+    let is = was.is in
+    let now : top (blocks_of new (n + 1)) (addrs_of new (n + 1)) ≡ top (insert (blocks_of raw n) i b) (insert (addrs_of raw n) i a) = (λ j. top (blocks j) (addrs j)) in
+    is_top new (n + 1) (max t (a + payload_len b)) laid.sound laid.told (omega arith)
 
 -- a block that ended below the top is gone
 pub top_gone : (raw new : List ℕ) (n i t f : ℕ) → IsTold raw n → IsTop raw n t → i < n → blocks_of new (n - 1) ≡ remove (blocks_of raw n) i → addrs_of new (n - 1) ≡ remove (addrs_of raw n) i → IsLaid new (n - 1) f → end_of (desc_at raw i) < t → IsTop new (n - 1) t

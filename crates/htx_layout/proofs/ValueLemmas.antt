@@ -68,7 +68,7 @@ value_by kinds.Data info a raw h = let none : a ≡ a + 0 = omega arith in ap (�
 value_by kinds.Header info a raw h = drop-take (name_len info) (value_len info) (drop a raw) ∙ ap (take (value_len info)) (drop-drop (name_len info) a raw)
 value_by kinds.Trailer info a raw h = drop-take (name_len info) (value_len info) (drop a raw) ∙ ap (take (value_len info)) (drop-drop (name_len info) a raw)
 
-payload-with_value : (b : Block) (w : List ℕ) → length w ≡ length (value_of b) → payload_len (with_value b w) ≡ payload_len b
+pub payload-with_value : (b : Block) (w : List ℕ) → length w ≡ length (value_of b) → payload_len (with_value b w) ≡ payload_len b
 payload-with_value (RequestLine a b c) w e = refl
 payload-with_value (ResponseLine a b c) w e = refl
 payload-with_value (Header n v) w e = omega arith
@@ -213,6 +213,3 @@ IsTold-over raw n i w can e told = record {
 pub value_fits : (raw : List ℕ) (n i : ℕ) → IsSound raw n → i < n → value_start raw i + value_length raw i ≤ length raw
 unfolding info_len
 value_fits raw n i sound small = omega (arith, size_within (info_kind (desc_at raw i).info) (desc_at raw i).info, sound.within i small)
-
-pub end_fits : (raw : List ℕ) (n i : ℕ) → IsSound raw n → i < n → end_of (desc_at raw i) ≤ length raw
-end_fits raw n i sound small = let h = sound.within i small in omega arith

@@ -5,3 +5,8 @@ pub mod Sound
 pub mod Place
 pub mod Moves
 pub mod Values
+pub mod Contents
+pub mod Addresses
+pub mod Whole
+pub mod Written
+pub mod Lending

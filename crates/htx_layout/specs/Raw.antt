@@ -1,5 +1,5 @@
 -- The array's bytes read by number: descriptors, payloads, blocks (HTX API, "data representation").
-use Rattle.std.specs.Prelude.{ℕ, ◌+◌, ◌*◌, ◌/◌, ◌%◌, ◌^◌, ◌≡◌, ◌≤◌, List, [], ◌∷◌, ◌++◌, length, take, drop, map, nat_eq, if◌then◌else◌}
+use Rattle.std.specs.Prelude.{ℕ, ◌+◌, ◌*◌, ◌/◌, ◌%◌, ◌^◌, ◌≡◌, ◌<◌, ◌≤◌, List, [], ◌∷◌, ◌++◌, length, take, drop, map, nat_eq, if◌then◌else◌}
 use Rattle.std.specs.List.{range_with_len}
 use Rattle.std.specs.Int.{to_le_bytes, w32}
 use Rattle.htx_model.specs.Block.{Block, RequestLine, ResponseLine, Header, EndHeaders, Data, Trailer, EndTrailers, block, kind_of, payload_len, IsFieldKind}
@@ -97,6 +97,16 @@ pub record Tells (info : ℕ) (p : List ℕ) : Type 0 where
   pub code : info ≡ info_of (block_of info p)
   pub bytes : p ≡ payload_of (block_of info p)
   pub named : IsFieldKind (info_kind info) → 1 ≤ name_len info
+
+-- an info word is that of a block that an array can hold
+pub record Describes (info : ℕ) (b : Block) : Type 0 where
+  pub tells : Tells info (payload_of b)
+  pub is : block_of info (payload_of b) ≡ b
+
+-- the same for a payload that is not yet in an array, which has a byte
+pub record IsNew (info : ℕ) (p : List ℕ) : Type 0 where
+  pub tells : Tells info p
+  pub some : 0 < length p
 
 -- ---- the array
 

@@ -1,13 +1,18 @@
 #![tactic(auto)]
 
-pub mod change;
-pub mod edits;
-pub mod longer;
-pub mod pack;
-pub mod parts;
+mod array;
+mod change;
+mod edits;
+mod longer;
+mod new_block;
+mod pack;
+mod parts;
 mod payload;
-pub mod scan;
-pub mod sites;
-pub mod words;
+mod scan;
+mod sites;
+mod words;
 
-pub use payload::Payload;
+pub use array::Array;
+pub use htx_model::OutOfMemory;
+pub use new_block::NewBlock;
+pub use words::line_head;

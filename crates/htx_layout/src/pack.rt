@@ -1,11 +1,12 @@
 ghost use Rattle.std.specs.Prelude.{◌≡◌, ◌+◌, ◌-◌, ◌*◌, ◌^◌, ◌<◌, ◌≤◌, length, MatchOption, nat_le, if◌then◌else◌, sum_by, insert, remove};
 ghost use Rattle.htx_model.specs.Block.{payload_len};
 ghost use Rattle.htx_layout.specs.Raw.{blocks_of, addrs_of, addr_in};
-ghost use Rattle.htx_layout.specs.Sound.{IsSound, IsTold, IsFilled, IsLaid};
+ghost use Rattle.htx_layout.specs.Sound.{IsSound, IsTold, IsFilled, IsLaid, IsTop, end_of};
+ghost use Rattle.htx_space.specs.Windows.{desc_at};
 ghost use Rattle.htx_layout.specs.Place.{packed};
 ghost use Rattle.htx_layout.specs.Moves.{CanMove, IsMoved, IsShifted, IsNext, IsPast, IsUpTo, CanSink, IsSunk, IsLast};
 
-use crate::words;
+use crate::words::Info;
 use htx_space::{Desc, Space};
 
 /// The number of the payload with the least address at or above a place. `hint` is looked at first.
@@ -40,7 +41,7 @@ fn pull(space: &mut Space, count: u32, index: u32, to: u32)
 {
     let desc = space.descriptor(index);
     if desc.addr != to {
-        space.slide(desc.addr, to, words::len_of(desc.info));
+        space.slide(desc.addr, to, Info(desc.info).payload_len());
         space.set_descriptor(
             index,
             Desc {
@@ -62,13 +63,14 @@ pub fn defrag(space: &mut Space, count: u32) -> u32
     ensures sound { IsSound space.new count }
     ensures total { result ≡ sum_by payload_len (blocks_of space.old count) }
     ensures up_to { IsUpTo space.new count result }
+    ensures topped { IsTop space.new count result }
 {
     let mut from = 0;
     let mut to = 0;
     let mut hint = 0;
     while let Some(index) = next_of(space, count, from, hint) {
         let desc = space.descriptor(index);
-        let len = words::len_of(desc.info);
+        let len = Info(desc.info).payload_len();
         pull(space, count, index, to);
         from = desc.addr + len;
         to += len;
@@ -100,7 +102,7 @@ fn sink(space: &mut Space, count: u32, index: u32, end: u32)
     ensures { IsSunk space.old space.new count index end }
 {
     let own = space.descriptor(index);
-    let len = words::len_of(own.info);
+    let len = Info(own.info).payload_len();
     space.rotate(own.addr, own.addr + len, end);
     for i in 0..count {
         let old = space.descriptor(i);
@@ -117,9 +119,10 @@ pub fn carry(space: &mut Space, count: u32, index: u32) -> u32
     ensures shifted { IsShifted space.old space.new count }
     ensures addrs { addrs_of space.new count ≡ insert (packed (remove (blocks_of space.old count) index) (remove (addrs_of space.old count) index)) index (sum_by payload_len (remove (blocks_of space.old count) index)) }
     ensures total { result ≡ sum_by payload_len (blocks_of space.old count) }
-    ensures up_to { IsUpTo space.new count result }
+    ensures ends { end_of (desc_at space.new index) ≡ result }
     ensures last { IsLast space.new count index }
     ensures laid { IsLaid space.new count 0 }
+    ensures topped { IsTop space.new count result }
 {
     let end = defrag(space, count);
     sink(space, count, index, end);

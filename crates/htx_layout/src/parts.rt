@@ -5,7 +5,7 @@ ghost use Rattle.htx_layout.specs.Sound.{IsSound};
 ghost use Rattle.htx_layout.specs.Values.{value_start, value_length};
 ghost use Rattle.htx_space.specs.Windows.{window, word_at, desc_at};
 
-use crate::words;
+use crate::words::{self, Info};
 use htx_space::{Space, word};
 
 /// The bytes of a payload.
@@ -17,7 +17,7 @@ pub fn payload(space: &Space, count: u32, index: u32) -> &[u8]
 {
     let desc = space.descriptor(index);
     let start = desc.addr as usize;
-    &space.bytes()[start..start + words::len_of(desc.info) as usize]
+    &space.bytes()[start..start + Info(desc.info).payload_len() as usize]
 }
 
 /// The name of a field.
@@ -29,7 +29,7 @@ pub fn name(space: &Space, count: u32, index: u32) -> &[u8]
     requires field { IsFieldKind (info_kind (desc_at space.now index).info) }
     ensures { result.now ≡ take (name_len (desc_at space.now index).info) (payload_in space.now index) }
 {
-    let len = space.descriptor(index).info % 256;
+    let len = Info(space.descriptor(index).info).name_len();
     &payload(space, count, index)[..len as usize]
 }
 

@@ -6,7 +6,7 @@ ghost use Rattle.htx_layout.specs.Place.{top, low, spot, stays, grown_at_top as 
 ghost use Rattle.htx_model.specs.Block.{payload_len};
 ghost use Rattle.htx_model.specs.Blocks.{load};
 
-use crate::words;
+use crate::words::Info;
 use htx_space::Space;
 
 /// Where a payload goes, and the front then.
@@ -17,7 +17,7 @@ pub struct Spot {
 }
 
 /// Where the payload of this number ends.
-fn end_at(space: &Space, count: u32, index: u32) -> u32
+pub fn end_at(space: &Space, count: u32, index: u32) -> u32
     requires sound { IsSound space.now count }
     requires told { IsTold space.now count }
     requires small { length space.now ≤ 262144 }
@@ -26,7 +26,7 @@ fn end_at(space: &Space, count: u32, index: u32) -> u32
     ensures small { result ≤ 262144 }
 {
     let desc = space.descriptor(index);
-    desc.addr + words::len_of(desc.info)
+    desc.addr + Info(desc.info).payload_len()
 }
 
 /// The greatest end of a payload, or 0.
@@ -137,7 +137,7 @@ pub fn weight_from(space: &Space, count: u32, from: u32) -> u32
 {
     let mut weight = 0;
     for i in from..count {
-        weight += 8 + words::len_of(space.descriptor(i).info);
+        weight += 8 + Info(space.descriptor(i).info).payload_len();
     }
     weight
 }

@@ -1,11 +1,11 @@
-ghost use Rattle.std.specs.Prelude.{◌≡◌, ◌+◌, ◌-◌, ◌*◌, ◌^◌, ◌<◌, ◌≤◌, length, sum_by, insert, remove, slice_set};
+ghost use Rattle.std.specs.Prelude.{◌≡◌, ◌+◌, ◌*◌, ◌≤◌, length, nat_lt, if◌then◌else◌, sum_by, insert};
 ghost use Rattle.htx_model.specs.Block.{payload_len};
-ghost use Rattle.htx_layout.specs.Raw.{blocks_of, addrs_of, block_of, info_len, Tells};
-ghost use Rattle.htx_layout.specs.Sound.{IsSound, IsTold, IsFilled, IsParted, IsLaid, IsTop};
-ghost use Rattle.htx_layout.specs.Place.{layout, settled};
+ghost use Rattle.htx_layout.specs.Raw.{blocks_of, addrs_of};
+ghost use Rattle.htx_layout.specs.Sound.{IsSound, IsTold, IsFilled, IsLaid, IsTop};
+ghost use Rattle.htx_layout.specs.Place.{layout};
 ghost use Rattle.htx_layout.specs.Moves.{IsSite};
 
-use crate::payload::Payload;
+use crate::new_block::NewBlock;
 use crate::{edits, pack, scan};
 use htx_space::{Desc, Space};
 
@@ -51,91 +51,38 @@ fn site(space: &mut Space, count: u32, ends: Ends, len: u32) -> Found
             Found {
                 addr: end,
                 front: 0,
-                top: scan::top_of(space, count),
+                top: end,
             }
         }
     }
 }
 
-/// The front, or 0 where no payload stands at or above it.
-pub fn settle(space: &Space, count: u32, front: u32) -> u32
-    requires sound { IsSound space.now count }
-    requires parted { IsParted space.now count front }
-    ensures value { result ≡ settled front (addrs_of space.now count) }
-    ensures parted { IsParted space.now count result }
+/// The front, or 0 where no payload stands at or above it: none ends behind it then.
+pub fn settle(front: u32, top: u32) -> u32
+    ensures { result ≡ if nat_lt front top then front else 0 }
 {
-    if front == 0 {
-        return 0;
-    }
-    match scan::low_of(space, count, front) {
-        Some(_) => front,
-        None => 0,
-    }
+    if front < top { front } else { 0 }
 }
 
 /// Puts in a block, and answers the ends of the bytes in use.
-pub fn add(
-    space: &mut Space,
-    count: u32,
-    ends: Ends,
-    at: u32,
-    info: u32,
-    payload: &Payload<'_>,
-) -> Ends
+pub fn add(space: &mut Space, count: u32, ends: Ends, at: u32, new: &NewBlock<'_>) -> Ends
     requires laid { IsLaid space.old count ends.front }
     requires topped { IsTop space.old count ends.top }
     requires within { at ≤ count }
-    requires fits { sum_by payload_len (blocks_of space.old count) + length payload.now + 8 * (count + 1) ≤ length space.old }
-    requires len { info_len info ≡ length payload.now }
-    requires told { Tells info payload.now }
-    requires some { 0 < length payload.now }
-    ensures blocks { blocks_of space.new (count + 1) ≡ insert (blocks_of space.old count) at (block_of info payload.now) }
-    ensures addrs { let l = layout (length space.old) (blocks_of space.old count) (addrs_of space.old count) ends.front (length payload.now) in addrs_of space.new (count + 1) ≡ insert l.addrs at l.addr }
-    ensures front { result.front ≡ (layout (length space.old) (blocks_of space.old count) (addrs_of space.old count) ends.front (length payload.now)).front }
+    requires fits { sum_by payload_len (blocks_of space.old count) + payload_len new.now + 8 * (count + 1) ≤ length space.old }
+    ensures blocks { blocks_of space.new (count + 1) ≡ insert (blocks_of space.old count) at new.now }
+    ensures addrs { let l = layout (length space.old) (blocks_of space.old count) (addrs_of space.old count) ends.front (payload_len new.now) in addrs_of space.new (count + 1) ≡ insert l.addrs at l.addr }
+    ensures front { result.front ≡ (layout (length space.old) (blocks_of space.old count) (addrs_of space.old count) ends.front (payload_len new.now)).front }
     ensures laid { IsLaid space.new (count + 1) result.front }
     ensures topped { IsTop space.new (count + 1) result.top }
     ensures size { length space.new ≡ length space.old }
 {
-    let found = site(space, count, ends, payload.len());
-    edits::place(
-        space,
-        count,
-        at,
-        Desc {
-            addr: found.addr,
-            info,
-        },
-        payload,
-    );
+    let found = site(space, count, ends, new.len());
+    let addr = found.addr;
+    let info = new.info().0;
+    edits::place(space, count, at, Desc { addr, info }, new.payload());
     Ends {
         front: found.front,
-        top: found.top.max(found.addr + payload.len()),
+        top: found.top.max(addr + new.len()),
     }
-}
-
-/// Puts another block in the place of one whose payload counts as gone, and answers the ends of the bytes in use.
-pub fn replace(
-    space: &mut Space,
-    count: u32,
-    front: u32,
-    at: u32,
-    info: u32,
-    payload: &Payload<'_>,
-) -> Ends
-    requires laid { IsLaid space.old count front }
-    requires within { at < count }
-    requires fits { sum_by payload_len (remove (blocks_of space.old count) at) + length payload.now + 8 * count ≤ length space.old }
-    requires len { info_len info ≡ length payload.now }
-    requires told { Tells info payload.now }
-    requires some { 0 < length payload.now }
-    ensures blocks { blocks_of space.new count ≡ slice_set (blocks_of space.old count) at (block_of info payload.now) }
-    ensures addrs { let l = layout (length space.old) (remove (blocks_of space.old count) at) (remove (addrs_of space.old count) at) front (length payload.now) in addrs_of space.new count ≡ insert l.addrs at l.addr }
-    ensures front { result.front ≡ (layout (length space.old) (remove (blocks_of space.old count) at) (remove (addrs_of space.old count) at) front (length payload.now)).front }
-    ensures laid { IsLaid space.new count result.front }
-    ensures topped { IsTop space.new count result.top }
-    ensures size { length space.new ≡ length space.old }
-{
-    edits::unlist(space, count, at);
-    let top = scan::top_of(space, count - 1);
-    add(space, count - 1, Ends { front, top }, at, info, payload)
 }

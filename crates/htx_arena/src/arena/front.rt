@@ -2,12 +2,10 @@
 ghost use Rattle.std.specs.Prelude.{◌≡◌, ◌<◌, ◌≤◌, ◌↔◌, [], ◌∷◌, ◌++◌, length, drop, OnOk, OnErr, IsOk};
 ghost use Rattle.htx_model.specs.Block.{payload_len};
 ghost use Rattle.htx_model.specs.Blocks.{Fits, block_at};
-ghost use Rattle.htx_arena.specs.Addresses.{inserted, dropped};
+ghost use Rattle.htx_layout.specs.Addresses.{inserted, dropped};
 
 use crate::arena::{Arena, Full};
-use htx_layout::{Payload, edits, parts, scan, sites, words};
 
-#[tactic(auto, using(crate::proofs::WholeLemmas::wholes))]
 impl Arena {
     /// How many bytes the payload of a block has: at least one.
     pub fn payload_len(&self, at: u32) -> u32
@@ -15,7 +13,7 @@ impl Arena {
         ensures len { result ≡ payload_len (block_at self.now.blocks at) }
         ensures some { 0 < result }
     {
-        words::len_of(self.space.descriptor(at).info)
+        self.array.payload_len(at)
     }
 
     /// Puts a copy of a block of another arena behind the others.
@@ -28,12 +26,11 @@ impl Arena {
         ensures addrs { OnOk result (self.new.addrs ≡ (inserted self.old (length self.old.blocks) (payload_len (block_at from.now.blocks at))).addrs) }
         ensures front { OnOk result (self.new.front ≡ (inserted self.old (length self.old.blocks) (payload_len (block_at from.now.blocks at))).front) }
     {
-        let info = from.space.descriptor(at).info;
-        if 8 + words::len_of(info) as usize > self.free() {
+        let block = from.copy(at);
+        if 8 + block.len() as usize > self.free() {
             return Err(Full);
         }
-        let payload = Payload::one(parts::payload(&from.space, from.count, at));
-        self.put(self.len(), info, &payload);
+        self.put(self.len(), &block);
         Ok(())
     }
 
@@ -45,10 +42,6 @@ impl Arena {
         ensures addrs { self.new.addrs ≡ (dropped self.old n).addrs }
         ensures front { self.new.front ≡ (dropped self.old n).front }
     {
-        self.load = scan::weight_from(&self.space, self.count, n);
-        edits::drop_first(&mut self.space, self.count, n);
-        self.count -= n;
-        self.top = scan::top_of(&self.space, self.count);
-        self.front = sites::settle(&self.space, self.count, self.front);
+        self.array.drop_first(n);
     }
 }

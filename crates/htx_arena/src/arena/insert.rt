@@ -1,15 +1,12 @@
-ghost use Rattle.std.specs.Prelude.{◌≡◌, ◌+◌, ◌<◌, ◌≤◌, ◌↔◌, [], ◌++◌, length, insert, OnOk, OnErr, IsOk};
+ghost use Rattle.std.specs.Prelude.{◌≡◌, ◌+◌, ◌≤◌, ◌↔◌, [], length, insert, OnOk, OnErr, IsOk};
 ghost use Rattle.htx_model.specs.Block.{block, IsLineKind, IsFieldKind, IsEndKind};
-ghost use Rattle.htx_model.specs.Blocks.{load, Fits};
-ghost use Rattle.htx_layout.specs.Raw.{block_of, info_len, Tells};
-ghost use Rattle.htx_arena.specs.Addresses.{inserted};
+ghost use Rattle.htx_model.specs.Blocks.{Fits};
+ghost use Rattle.htx_layout.specs.Addresses.{inserted};
 
 use crate::arena::{Arena, Full};
-use htx_layout::sites::Ends;
-use htx_layout::{Payload, sites, words};
+use htx_layout::{NewBlock, line_head};
 use htx_model::Kind;
 
-#[tactic(auto, using(crate::proofs::WholeLemmas::wholes))]
 impl Arena {
     /// Puts in a header or trailer.
     pub fn insert_field(
@@ -37,8 +34,7 @@ impl Arena {
         if 8 + name.len() + value.len() > room {
             return Err(Full);
         }
-        let info = words::field_info(kind, name.len() as u32, value.len() as u32);
-        self.put(at, info, &Payload::new(&[], name, value, &[]));
+        self.put(at, &NewBlock::field(kind, name, value));
         Ok(())
     }
 
@@ -68,9 +64,8 @@ impl Arena {
         if 8 + len > room {
             return Err(Full);
         }
-        let head = words::head_of(a.len() as u32, b.len() as u32, c.len() as u32);
-        let info = words::info(kind, len as u32);
-        self.put(at, info, &Payload::new(&head, a, b, c));
+        let head = line_head(a.len() as u32, b.len() as u32, c.len() as u32);
+        self.put(at, &NewBlock::line(kind, &head, a, b, c));
         Ok(())
     }
 
@@ -88,31 +83,7 @@ impl Arena {
         if self.free() < 9 {
             return Err(Full);
         }
-        let info = words::info(kind, 1);
-        self.put(at, info, &Payload::one(&[0]));
+        self.put(at, &NewBlock::end(kind));
         Ok(())
-    }
-
-    /// Puts in the block that an info word and a payload tell.
-    pub(super) fn put(&mut self, at: u32, info: u32, payload: &Payload<'_>)
-        requires within { at ≤ length self.old.blocks }
-        requires len { info_len info ≡ length payload.now }
-        requires tells { Tells info payload.now }
-        requires some { 0 < length payload.now }
-        requires fits { load self.old.blocks + 8 + length payload.now ≤ self.old.size }
-        ensures blocks { self.new.blocks ≡ insert self.old.blocks at (block_of info payload.now) }
-        ensures size { self.new.size ≡ self.old.size }
-        ensures addrs { self.new.addrs ≡ (inserted self.old at (length payload.now)).addrs }
-        ensures front { self.new.front ≡ (inserted self.old at (length payload.now)).front }
-    {
-        let ends = Ends {
-            front: self.front,
-            top: self.top,
-        };
-        let ends = sites::add(&mut self.space, self.count, ends, at, info, payload);
-        self.front = ends.front;
-        self.top = ends.top;
-        self.count += 1;
-        self.load += 8 + payload.len();
     }
 }

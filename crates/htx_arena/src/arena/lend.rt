@@ -3,14 +3,12 @@ ghost use Rattle.htx_model.specs.Block.{kind_of, name_of, value_of, line_of, Has
 ghost use Rattle.htx_model.specs.Blocks.{block_at};
 
 use crate::arena::{Arena, Line};
-use htx_layout::{parts, words};
 
-#[tactic(auto, using(crate::proofs::WholeLemmas::wholes))]
 impl Arena {
     ghost use Rattle.std.specs.Borrow.{sem};
     ghost use Rattle.std.specs.Prelude.{ℕ, List, slice_set};
     ghost use Rattle.htx_model.specs.Block.{with_value};
-    ghost use Rattle.htx_arena.specs.Written.{written};
+    ghost use Rattle.htx_layout.specs.Written.{written};
     ghost use Rattle.htx_arena.specs.Lending.{LendsValue};
 
     /// The name of a field.
@@ -19,7 +17,7 @@ impl Arena {
         requires field { IsFieldKind (kind_of (block_at self.now.blocks at)) }
         ensures { result.now ≡ name_of (block_at self.now.blocks at) }
     {
-        parts::name(&self.space, self.count, at)
+        self.array.name(at)
     }
 
     /// The value of a field, the bytes of data.
@@ -28,7 +26,7 @@ impl Arena {
         requires valued { HasValue (kind_of (block_at self.now.blocks at)) }
         ensures { result.now ≡ value_of (block_at self.now.blocks at) }
     {
-        parts::value(&self.space, self.count, at)
+        self.array.value(at)
     }
 
     /// The value of a field or the bytes of data, for writing.
@@ -39,8 +37,7 @@ impl Arena {
         ensures value { result.now ≡ value_of (block_at self.old.blocks at) }
         ensures same_len { (w : List ℕ) → length w ≡ length (value_of (block_at self.old.blocks at)) → written self.old at w ≡ record self.old { blocks = slice_set self.old.blocks at (with_value (block_at self.old.blocks at) w) } }
     {
-        let (start, len) = words::value_place(&self.space, at);
-        self.space.window_mut(start, len)
+        self.array.value_mut(at)
     }
 
     /// The parts of a start line.
@@ -49,7 +46,7 @@ impl Arena {
         requires line { IsLineKind (kind_of (block_at self.now.blocks at)) }
         ensures { (result.a.now, result.b.now, result.c.now) ≡ line_of (block_at self.now.blocks at) }
     {
-        let (a, b, c) = parts::line(parts::payload(&self.space, self.count, at));
+        let (a, b, c) = self.array.line(at);
         Line { a, b, c }
     }
 }

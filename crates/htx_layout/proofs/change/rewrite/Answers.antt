@@ -13,7 +13,7 @@ returns c =
     let n = c.args.count in
     let i = c.args.index in
     let keep = c.args.keep in
-    let info = c.args.info in
+    let info = c.args.info.0 in
     let piece = c.args.more.now in
     let addr : c.descriptor-addr.result.addr ≡ addr_in raw i = ap (λ (d : Desc). d.addr) c.descriptor-addr.ensures in
     let F : List ℕ → ℕ → List ℕ = λ s a. redescribed s i (record { addr = a; info = info }) in

@@ -12,7 +12,7 @@ returns c =
     let n = c.args.count in
     let i = c.args.index in
     let cut = c.args.cut in
-    let info = c.args.info in
+    let info = c.args.info.0 in
     let addr : c.descriptor.result.addr ≡ addr_in raw i = ap (λ (d : Desc). d.addr) c.descriptor.ensures in
     let now : c.set_descriptor.new.self ≡ trimmed raw i cut info =
     c.set_descriptor.ensures ∙ ap (λ (a : ℕ). redescribed raw i (record { addr = a + cut; info = info })) addr in

@@ -13,7 +13,7 @@ use Rattle.htx_layout.proofs.ExtendLemmas.{kept_blocks, kept_addrs, kept_told, k
 use Rattle.htx_layout.proofs.longer.extend_free.Goals as goal
 
 pub list-requires : goal.list-requires
-list-requires c = free_can c.args.space.now c.fill.new.space c.args.count c.args.at (c.args.keep + length c.args.more.now) c.args.info c.args.spot c.requires.sound c.fill.ensures.kept c.requires.site c.requires.within c.requires.len (omega arith) (omega arith)
+list-requires c = free_can c.args.space.now c.fill.new.space c.args.count c.args.at (c.args.keep + length c.args.more.now) c.args.info.0 c.args.spot c.requires.sound c.fill.ensures.kept c.requires.site c.requires.within c.requires.len (omega arith) (omega arith)
 
 pub returns : goal.returns
 returns c =
@@ -22,7 +22,7 @@ returns c =
     let i = c.args.at in
     let new = c.fill.new.space in
     let s = c.args.spot in
-    let info = c.args.info in
+    let info = c.args.info.0 in
     let more = c.args.more.now in
     let all = c.args.keep + length more in
     let d : Desc = record { addr = s.addr; info = info } in

@@ -10,7 +10,7 @@ use Rattle.htx_layout.proofs.longer.extend_packed.Goals as goal
 
 pub list-requires : goal.list-requires
 list-requires c =
-    free_can c.args.space.now c.args.space.now c.args.count c.args.at (info_len c.args.kept) c.args.kept (record { addr = c.args.from; front = 0 }) c.requires.sound (kept_self c.args.space.now c.args.count) (own_site c.args.space.now c.args.count c.args.from (info_len c.args.kept) c.requires.opens)
+    free_can c.args.space.now c.args.space.now c.args.count c.args.at (info_len c.args.kept.0) c.args.kept.0 (record { addr = c.args.from; front = 0 }) c.requires.sound (kept_self c.args.space.now c.args.count) (own_site c.args.space.now c.args.count c.args.from (info_len c.args.kept.0) c.requires.opens)
     c.requires.within refl (omega arith) (omega arith)
 
 pub renew-requires : goal.renew-requires
@@ -20,7 +20,7 @@ renew-requires c =
     let i = c.args.at in
     let new = c.list.new.space in
     let more = c.args.more.now in
-    let r : IsRelisted raw new n i c.args.from c.args.kept = subst (λ (x : List ℕ). IsRelisted raw x n i c.args.from c.args.kept) (sym c.list.ensures) (relisted raw n i c.args.from c.args.kept c.requires.sound c.requires.told c.requires.filled c.requires.small c.requires.opens c.requires.within c.requires.some c.requires.kept_tells (omega arith)) in
+    let r : IsRelisted raw new n i c.args.from c.args.kept.0 = subst (λ (x : List ℕ). IsRelisted raw x n i c.args.from c.args.kept.0) (sym c.list.ensures) (relisted raw n i c.args.from c.args.kept.0 c.requires.sound c.requires.told c.requires.filled c.requires.small c.requires.opens c.requires.within c.requires.some c.requires.kept_tells (omega arith)) in
     let within = c.requires.within in
     let size = r.size in
     let len = r.len in
@@ -28,13 +28,13 @@ renew-requires c =
     let fits = c.requires.fits in
     let tells = c.requires.kept_tells.len in
     let bs = length-listed (block_in raw) n in
-    let sum = ap (sum_by payload_len) r.blocks ∙ sum-insert (blocks_of raw n) i (block_of c.args.kept (window raw c.args.from (info_len c.args.kept))) (omega arith) in
+    let sum = ap (sum_by payload_len) r.blocks ∙ sum-insert (blocks_of raw n) i (block_of c.args.kept.0 (window raw c.args.from (info_len c.args.kept.0))) (omega arith) in
     record {
       laid = r.laid;
       within = omega arith;
       fits = omega arith;
       len = omega arith;
-      told = subst (λ (p : List ℕ). Tells c.args.info (p ++ more)) (sym r.payload) c.requires.tells;
+      told = subst (λ (p : List ℕ). Tells c.args.info.0 (p ++ more)) (sym r.payload) c.requires.tells;
     }
 
 pub returns : goal.returns
@@ -44,9 +44,9 @@ returns c =
     let i = c.args.at in
     let new = c.list.new.space in
     let more = c.args.more.now in
-    let r : IsRelisted raw new n i c.args.from c.args.kept = subst (λ (x : List ℕ). IsRelisted raw x n i c.args.from c.args.kept) (sym c.list.ensures) (relisted raw n i c.args.from c.args.kept c.requires.sound c.requires.told c.requires.filled c.requires.small c.requires.opens c.requires.within c.requires.some c.requires.kept_tells (omega arith)) in
+    let r : IsRelisted raw new n i c.args.from c.args.kept.0 = subst (λ (x : List ℕ). IsRelisted raw x n i c.args.from c.args.kept.0) (sym c.list.ensures) (relisted raw n i c.args.from c.args.kept.0 c.requires.sound c.requires.told c.requires.filled c.requires.small c.requires.opens c.requires.within c.requires.some c.requires.kept_tells (omega arith)) in
     let within = c.requires.within in
-    let b0 = block_of c.args.kept (window raw c.args.from (info_len c.args.kept)) in
+    let b0 = block_of c.args.kept.0 (window raw c.args.from (info_len c.args.kept.0)) in
     let bs = length-listed (block_in raw) n in
     let xs = length-listed (addr_in raw) n in
     let bs_back : remove (blocks_of new (n + 1)) i ≡ blocks_of raw n = ap (λ (b : List Block). remove b i) r.blocks ∙ remove-insert (blocks_of raw n) i b0 (omega arith) in
@@ -54,13 +54,14 @@ returns c =
     record {
       blocks =
           c.renew.ensures.blocks
-          ∙ ap (λ (b : List Block). set b i (block_of c.args.info (payload_in new i ++ more))) r.blocks
-          ∙ set-insert (blocks_of raw n) i b0 (block_of c.args.info (payload_in new i ++ more)) (omega arith)
-          ∙ ap (λ (p : List ℕ). insert (blocks_of raw n) i (block_of c.args.info (p ++ more))) r.payload;
+          ∙ ap (λ (b : List Block). set b i (block_of c.args.info.0 (payload_in new i ++ more))) r.blocks
+          ∙ set-insert (blocks_of raw n) i b0 (block_of c.args.info.0 (payload_in new i ++ more)) (omega arith)
+          ∙ ap (λ (p : List ℕ). insert (blocks_of raw n) i (block_of c.args.info.0 (p ++ more))) r.payload;
       addrs =
           c.renew.ensures.addrs
           ∙ ap (λ (b : List Block). insert (packed b (remove (addrs_of new (n + 1)) i)) i (sum_by payload_len b)) bs_back
           ∙ ap (λ (a : List ℕ). insert (packed (blocks_of raw n) a) i (sum_by payload_len (blocks_of raw n))) xs_back;
       laid = c.renew.ensures.laid;
+      topped = c.renew.ensures.topped;
       size = c.renew.ensures.size ∙ r.size;
     }

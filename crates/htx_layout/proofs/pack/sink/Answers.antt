@@ -19,7 +19,7 @@ loop-i-preserved c =
     let room = c.requires.room in
     let old = c.descriptor-old.ensures ∙ c.loop-i.invariant.rest k (omega arith) small in
     let own = c.descriptor-own.ensures in
-    let len = c.len_of-len.ensures in
+    let len = c.payload_len-len.ensures in
     let lowered = c.lowered-new.ensures in
     let is : d ≡ sunk raw c.args.index c.args.end k = cc in
     subst (λ (s : List ℕ). Sinking raw s c.args.count c.args.index c.args.end (k + 1)) (sym c.set_descriptor.ensures)

@@ -23,7 +23,7 @@ under raw n i = omega (arith, sum_by-take-drop weight (blocks_of raw n) i)
 
 pub overflow_add-weight : goal.overflow_add-weight
 overflow_add-weight c =
-    let len = c.len_of.ensures ∙ ap (λ (d : Desc). info_len d.info) c.descriptor.ensures in
+    let len = c.payload_len.ensures ∙ ap (λ (d : Desc). info_len d.info) c.descriptor.ensures in
     let s = step c.args.space.now c.args.count c.loop-i.i c.requires.told c.loop-i-test.true in
     let u = under c.args.space.now c.args.count c.loop-i.i in
     let most = c.requires.most in
@@ -31,7 +31,7 @@ overflow_add-weight c =
 
 pub overflow_add-weight-in-loop-i : goal.overflow_add-weight-in-loop-i
 overflow_add-weight-in-loop-i c =
-    let len = c.len_of.ensures ∙ ap (λ (d : Desc). info_len d.info) c.descriptor.ensures in
+    let len = c.payload_len.ensures ∙ ap (λ (d : Desc). info_len d.info) c.descriptor.ensures in
     let s = step c.args.space.now c.args.count c.loop-i.i c.requires.told c.loop-i-test.true in
     let u = under c.args.space.now c.args.count c.args.from in
     let most = c.requires.most in
@@ -40,7 +40,7 @@ overflow_add-weight-in-loop-i c =
 
 pub loop-i-preserved : goal.loop-i-preserved
 loop-i-preserved c =
-    let len = c.len_of.ensures ∙ ap (λ (d : Desc). info_len d.info) c.descriptor.ensures in
+    let len = c.payload_len.ensures ∙ ap (λ (d : Desc). info_len d.info) c.descriptor.ensures in
     let s = step c.args.space.now c.args.count c.loop-i.i c.requires.told c.loop-i-test.true in
     let so_far = c.loop-i.invariant in
     omega arith

@@ -1,48 +1,50 @@
-use Rattle.std.proofs.Common.{rules, ◌≡◌, ◌+◌, ◌∙◌, subst, sym, ap, max, ℕ, List, length, arith, refl}
+use Rattle.std.proofs.Common.{rules, ◌≡◌, ◌+◌, ◌∙◌, subst, sym, ap, max, ℕ, List, length, arith}
 use Rattle.std.specs.Prelude.{insert}
-use Rattle.htx_model.specs.Block.{Block, payload_len}
-use Rattle.htx_layout.specs.Raw.{addr_in, block_in, block_of, blocks_of, addrs_of}
-use Rattle.htx_layout.specs.Place.{top}
-use Rattle.htx_layout.specs.Steps.{placed}
-use Rattle.htx_layout.specs.Sound.{IsLaid}
-use Rattle.htx_layout.specs.Moves.{IsSite}
+use Rattle.htx_layout.specs.Raw.{blocks_of, addrs_of}
+use Rattle.htx_layout.specs.Place.{Layout, layout}
+use Rattle.htx_layout.specs.Sound.{IsLaid, IsTop}
 use Rattle.htx_layout.specs.declared.scan.Spot.{Spot}
-use Rattle.htx_layout.proofs.RawLemmas.{length-listed}
-use Rattle.htx_layout.proofs.TopLemmas.{is_top, top-insert}
+use Rattle.htx_layout.proofs.TopLemmas.{top_placed}
 use Rattle.htx_layout.proofs.EachLemmas.{can_place, IsLaid-placed}
+use Rattle.htx_layout.proofs.CodeLemmas.{described}
 use Rattle.htx_layout.proofs.sites.add.Goals as goal
 
-pub returns-clause-laid : goal.returns-clause-laid
-returns-clause-laid c =
-    let raw = c.site-found.new.space in
+pub place-requires-clause-can : goal.place-requires-clause-can
+place-requires-clause-can c =
     let s : Spot = record { addr = c.site-found.result.addr; front = c.site-found.result.front } in
-    let site = subst (λ (l : ℕ). IsSite raw c.args.count l s) c.len.ensures c.site-found.ensures.site in
-    let n = c.args.count in
-    let piece = c.args.payload.now in
-    let now : c.place.new.space ≡ placed raw n c.args.at (record { addr = s.addr; info = c.args.info }) piece = cc in
+    let m = described c.args.new.now c.info-info.result.0 c.payload.result.now c.info-info.ensures c.payload.ensures in
+    let site = c.site-found.ensures.site in
     let size = c.site-found.ensures.size in
     let most = c.requires.laid.most in
-    let can = can_place raw n c.args.at (length piece) c.args.info piece s c.site-found.ensures.sound site c.requires.within c.requires.len refl (omega arith) (omega arith) in
-    subst (λ (x : List ℕ). IsLaid x (n + 1) s.front) (sym now)
-    (IsLaid-placed raw n c.args.at (length piece) c.args.info c.args.ends.front piece s site can c.site-found.ensures.told c.site-found.ensures.filled (omega arith) refl c.requires.some c.requires.told)
+    can_place c.site-found.new.space c.args.count c.args.at c.len.result c.info-info.result.0 c.payload.result.now s c.site-found.ensures.sound site c.requires.within (m.len ∙ sym m.long) (c.len.ensures.len ∙ sym m.long) (omega arith) (omega arith)
 
-pub returns-clause-topped : goal.returns-clause-topped
-returns-clause-topped c =
+pub returns : goal.returns
+returns c =
+    let s : Spot = record { addr = c.site-found.result.addr; front = c.site-found.result.front } in
     let raw = c.site-found.new.space in
     let n = c.args.count in
-    let bs = blocks_of raw n in
-    let xs = addrs_of raw n in
-    let b = block_of c.args.info c.args.payload.now in
-    let a = c.site-found.result.addr in
-    let laid = returns-clause-laid c in
-    let count = length-listed (block_in raw) n in
-    let places = length-listed (addr_in raw) n in
-    let within = c.requires.within in
-    let both : top (blocks_of c.place.new.space (n + 1)) (addrs_of c.place.new.space (n + 1)) ≡ top (insert bs c.args.at b) (insert xs c.args.at a) = (λ j. top (c.place.ensures.blocks j) (c.place.ensures.addrs j)) in
-    let one = top-insert bs xs c.args.at b a (omega arith) (omega arith) in
-    let len = c.requires.told.len in
-    let len_is = c.requires.len in
-    let most : c.max.result ≡ max c.site-found.result.top (a + c.len-2.result) = search rules in
-    let was = c.site-found.ensures.topped.is in
-    let long = c.len-2.ensures in
-    is_top c.place.new.space (n + 1) c.max.result laid.sound laid.told (omega arith)
+    let i = c.args.at in
+    let b = c.args.new.now in
+    let m = described b c.info-info.result.0 c.payload.result.now c.info-info.ensures c.payload.ensures in
+    let p = c.place.ensures in
+    let f = c.site-found.ensures in
+    let room = f.size in
+    let most_raw = c.requires.laid.most in
+    let opens = f.site.opens.room in
+    let some = c.len.ensures.some in
+    let can = can_place raw n i c.len.result c.info-info.result.0 c.payload.result.now s f.sound f.site c.requires.within (m.len ∙ sym m.long) (c.len.ensures.len ∙ sym m.long) (omega arith) (omega arith) in
+    let laid : IsLaid c.place.new.space (n + 1) s.front = subst (λ (x : List ℕ). IsLaid x (n + 1) s.front) (sym p.is)
+    (IsLaid-placed raw n i c.len.result c.info-info.result.0 c.args.ends.front c.payload.result.now s f.site can f.told f.filled (omega arith) (c.len.ensures.len ∙ sym m.long) (omega arith) m.tells) in
+    let old = c.args.space.now in
+    let places : ℕ → Layout = layout (length old) (blocks_of old n) (addrs_of old n) c.args.ends.front in
+    let len = c.len.ensures.len in
+    let topped = top_placed raw c.place.new.space n i c.site-found.result.top s.front s.addr b f.topped c.requires.within (p.blocks ∙ ap (insert (blocks_of raw n) i) m.is) p.addrs laid in
+    let most : c.max.result ≡ max c.site-found.result.top (s.addr + c.len-2.result) = search rules in
+    record {
+      blocks = p.blocks ∙ (λ j. insert (f.blocks j) i (m.is j));
+      addrs = p.addrs ∙ (λ j. insert (f.addrs j) i (f.addr j)) ∙ ap (λ (k : ℕ). insert (places k).addrs i (places k).addr) len;
+      front = f.front ∙ ap (λ (k : ℕ). (places k).front) len;
+      laid = laid;
+      topped = subst (IsTop c.place.new.space (n + 1)) (sym (most ∙ ap (λ (k : ℕ). max c.site-found.result.top (s.addr + k)) c.len-2.ensures.len)) topped;
+      size = p.size ∙ f.size;
+    }

@@ -1,20 +1,18 @@
-use Rattle.std.proofs.Common.{◌∙◌, ap, sym, []}
-use Rattle.std.specs.Prelude.{insert}
-use Rattle.htx_model.specs.Block.{block}
-use Rattle.htx_layout.proofs.CodeLemmas.{IsMade, end_made}
+use Rattle.std.proofs.Common.{◌∙◌, ap, arith, ℕ}
+use Rattle.htx_model.specs.Block.{payload_len}
+use Rattle.htx_layout.specs.Addresses.{inserted}
+use Rattle.htx_layout.proofs.ReplaceLemmas.{end_len}
 use Rattle.htx_arena.proofs.arena.Arena.insert_end.Goals as goal
 
-pub put-requires-clause-len : goal.put-requires-clause-len
-put-requires-clause-len c =
-    let m : IsMade (block c.args.kind [] [] []) c.info-info.result c.one.result = end_made c.args.kind c.info-info.result c.one.result c.requires.kind c.info-info.ensures c.one.ensures in
-    m.len ∙ sym m.long
+pub put-requires-clause-fits : goal.put-requires-clause-fits
+put-requires-clause-fits c =
+    let long = ap payload_len c.end.ensures ∙ end_len c.args.kind c.requires.kind in
+    let room = c.free.ensures.room in
+    let under = c.if-free-lt9.false in
+    omega arith
 
-pub put-requires-clause-tells : goal.put-requires-clause-tells
-put-requires-clause-tells c =
-    let m : IsMade (block c.args.kind [] [] []) c.info-info.result c.one.result = end_made c.args.kind c.info-info.result c.one.result c.requires.kind c.info-info.ensures c.one.ensures in
-    m.tells
+pub returns-clause-addrs : goal.returns-clause-addrs
+returns-clause-addrs c = c.put.ensures.addrs ∙ ap (λ (k : ℕ). (inserted c.args.self.now c.args.at k).addrs) (ap payload_len c.end.ensures ∙ end_len c.args.kind c.requires.kind)
 
-pub returns-clause-ok : goal.returns-clause-ok
-returns-clause-ok c =
-    let m : IsMade (block c.args.kind [] [] []) c.info-info.result c.one.result = end_made c.args.kind c.info-info.result c.one.result c.requires.kind c.info-info.ensures c.one.ensures in
-    c.put.ensures.blocks ∙ ap (insert c.args.self.now.blocks c.args.at) m.is
+pub returns-clause-front : goal.returns-clause-front
+returns-clause-front c = c.put.ensures.front ∙ ap (λ (k : ℕ). (inserted c.args.self.now c.args.at k).front) (ap payload_len c.end.ensures ∙ end_len c.args.kind c.requires.kind)

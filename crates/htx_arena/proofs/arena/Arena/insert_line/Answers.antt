@@ -1,38 +1,18 @@
-use Rattle.std.proofs.Common.{◌++◌, ◌∙◌, ap, sym, arith, List, ℕ}
-use Rattle.std.specs.Prelude.{insert}
-use Rattle.htx_model.specs.Block.{block}
-use Rattle.htx_layout.proofs.CodeLemmas.{IsMade, line_made}
+use Rattle.std.proofs.Common.{◌∙◌, ap, arith, ℕ}
+use Rattle.htx_model.specs.Block.{payload_len}
+use Rattle.htx_layout.specs.Addresses.{inserted}
+use Rattle.htx_layout.proofs.ReplaceLemmas.{line_len}
 use Rattle.htx_arena.proofs.arena.Arena.insert_line.Goals as goal
 
-pub put-requires-clause-len : goal.put-requires-clause-len
-put-requires-clause-len c =
+pub put-requires-clause-fits : goal.put-requires-clause-fits
+put-requires-clause-fits c =
+    let long = ap payload_len c.line.ensures ∙ line_len c.args.kind c.args.a.now c.args.b.now c.args.c.now c.requires.kind in
     let room = c.free-room.ensures.room in
-    let most = c.free-room.ensures.small in
-    let x = c.args.a.now in
-    let y = c.args.b.now in
-    let z = c.args.c.now in
-    let m : IsMade (block c.args.kind x y z) c.info-info.result c.new.result =
-    line_made c.args.kind x y z c.info-info.result c.new.result c.requires.kind (omega arith) c.info-info.ensures (c.new.ensures ∙ ap (λ (h : List ℕ). h ++ (x ++ (y ++ z))) c.head_of-head.ensures) in
-    m.len ∙ sym m.long
+    let under = c.if-len-room.false in
+    omega arith
 
-pub put-requires-clause-tells : goal.put-requires-clause-tells
-put-requires-clause-tells c =
-    let room = c.free-room.ensures.room in
-    let most = c.free-room.ensures.small in
-    let x = c.args.a.now in
-    let y = c.args.b.now in
-    let z = c.args.c.now in
-    let m : IsMade (block c.args.kind x y z) c.info-info.result c.new.result =
-    line_made c.args.kind x y z c.info-info.result c.new.result c.requires.kind (omega arith) c.info-info.ensures (c.new.ensures ∙ ap (λ (h : List ℕ). h ++ (x ++ (y ++ z))) c.head_of-head.ensures) in
-    m.tells
+pub returns-clause-addrs : goal.returns-clause-addrs
+returns-clause-addrs c = c.put.ensures.addrs ∙ ap (λ (k : ℕ). (inserted c.args.self.now c.args.at k).addrs) (ap payload_len c.line.ensures ∙ line_len c.args.kind c.args.a.now c.args.b.now c.args.c.now c.requires.kind)
 
-pub returns-clause-ok : goal.returns-clause-ok
-returns-clause-ok c =
-    let room = c.free-room.ensures.room in
-    let most = c.free-room.ensures.small in
-    let x = c.args.a.now in
-    let y = c.args.b.now in
-    let z = c.args.c.now in
-    let m : IsMade (block c.args.kind x y z) c.info-info.result c.new.result =
-    line_made c.args.kind x y z c.info-info.result c.new.result c.requires.kind (omega arith) c.info-info.ensures (c.new.ensures ∙ ap (λ (h : List ℕ). h ++ (x ++ (y ++ z))) c.head_of-head.ensures) in
-    c.put.ensures.blocks ∙ ap (insert c.args.self.now.blocks c.args.at) m.is
+pub returns-clause-front : goal.returns-clause-front
+returns-clause-front c = c.put.ensures.front ∙ ap (λ (k : ℕ). (inserted c.args.self.now c.args.at k).front) (ap payload_len c.line.ensures ∙ line_len c.args.kind c.args.a.now c.args.b.now c.args.c.now c.requires.kind)

@@ -1,0 +1,19 @@
+use Rattle.std.proofs.Common.{◌∙◌, ap, arith}
+use Rattle.htx_model.specs.Blocks.{load}
+use Rattle.htx_layout.proofs.MoveLemmas.{shifted_blocks}
+use Rattle.htx_layout.proofs.FrontLemmas.{laid_shifted}
+use Rattle.htx_layout.specs.Contents.{Contents}
+use Rattle.htx_layout.proofs.array.Array.pack.Goals as goal
+
+pub invariant_of-self : goal.invariant_of-self
+invariant_of-self c =
+    let a = c.self.inside in
+    let is = c.defrag-self-inside.ensures.shifted in
+    let size = is.size in
+    let now = ap load (shifted_blocks a.space c.defrag-self-inside.new.space a.count is) in
+    let loaded = c.self.invariant.loaded in
+    let fits = c.self.invariant.fits in
+    record { laid = laid_shifted a.space c.defrag-self-inside.new.space a.count a.front c.self.invariant.laid is c.defrag-self-inside.ensures.sound; loaded = omega arith; topped = c.defrag-self-inside.ensures.topped; fits = omega arith }
+
+pub returns-clause-blocks : goal.returns-clause-blocks
+returns-clause-blocks c = shifted_blocks c.self.inside.space c.defrag-self-inside.new.space c.self.inside.count c.defrag-self-inside.ensures.shifted ∙ ap (λ (s : Contents). s.blocks) c.self.view_is

@@ -1,0 +1,35 @@
+use Rattle.std.proofs.Common.{◌∙◌, ap, arith}
+use Rattle.htx_layout.specs.Contents.{Contents}
+use Rattle.htx_layout.specs.Place.{settled}
+use Rattle.htx_layout.proofs.WholeLemmas.{first}
+use Rattle.htx_layout.proofs.array.Array.truncate.Goals as goal
+
+pub overflow_sub-self : goal.overflow_sub-self
+overflow_sub-self c =
+    let loads = (first c.self.inside c.args.self.now c.args.at c.self.invariant c.self.view_is c.requires).loads in
+    let gone = c.weight_from.ensures in
+    omega arith
+
+pub top_of-self-inside-requires : goal.top_of-self-inside-requires
+top_of-self-inside-requires c =
+    let laid = (first c.self.inside c.args.self.now c.args.at c.self.invariant c.self.view_is c.requires).laid in
+    record { sound = laid.sound; told = laid.told; small = laid.most }
+
+pub invariant_of-self : goal.invariant_of-self
+invariant_of-self c =
+    let q = first c.self.inside c.args.self.now c.args.at c.self.invariant c.self.view_is c.requires in
+    let loads = q.loads in
+    let gone = c.weight_from.ensures in
+    let fits = c.self.invariant.fits in
+    record { laid = q.laid; loaded = omega arith; topped = c.top_of-self-inside.ensures; fits = omega arith }
+
+pub returns : goal.returns
+returns c =
+    let q = first c.self.inside c.args.self.now c.args.at c.self.invariant c.self.view_is c.requires in
+    let s = c.settle.ensures in
+    record {
+      blocks = s.blocks ∙ q.blocks;
+      size = s.size ∙ ap (λ (x : Contents). x.size) c.self.view_is;
+      addrs = s.addrs ∙ q.addrs;
+      front = s.front ∙ (λ j. settled ((ap (λ (x : Contents). x.front) c.self.view_is) j) (q.addrs j));
+    }

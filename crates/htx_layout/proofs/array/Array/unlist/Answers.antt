@@ -1,0 +1,46 @@
+use Rattle.std.proofs.Common.{◌-◌, ap, arith}
+use Rattle.htx_model.specs.Blocks.{load}
+use Rattle.htx_model.proofs.Loads.{load-remove}
+use Rattle.htx_layout.specs.Raw.{block_in, blocks_of}
+use Rattle.htx_layout.proofs.RawLemmas.{length-listed}
+use Rattle.htx_layout.proofs.TellLemmas.{len_told}
+use Rattle.htx_layout.proofs.TopLemmas.{top_gone}
+use Rattle.htx_layout.proofs.WholeLemmas.{at}
+use Rattle.htx_layout.proofs.array.Array.unlist.Goals as goal
+
+pub overflow_sub-self-2 : goal.overflow_sub-self-2
+overflow_sub-self-2 c =
+    let weighs = (at c.self.inside c.args.self.now c.args.at c.self.invariant c.self.view_is c.requires).weighs in
+    let len = c.payload_len-len.ensures.len in
+    omega arith
+
+pub invariant_of-self : goal.invariant_of-self
+invariant_of-self c =
+    let a = c.self.inside in
+    let i = c.args.at in
+    let t = at c.self.inside c.args.self.now c.args.at c.self.invariant c.self.view_is c.requires in
+    let small = t.small in
+    let is = c.payload_len-len.ensures.len in
+    let len = t.len in
+    let count = length-listed (block_in a.space) a.count in
+    let less = load-remove (blocks_of a.space a.count) i (omega arith) in
+    let old = len_told a.space a.count i c.self.invariant.laid.told small in
+    let loaded = c.self.invariant.loaded in
+    let now = ap load c.unlist.ensures.blocks in
+    let size = c.unlist.ensures.size in
+    let fits = c.self.invariant.fits in
+    record { laid = c.unlist.ensures.laid a.front c.self.invariant.laid; loaded = omega arith; topped = c.top_behind-self-inside.ensures; fits = omega arith }
+
+pub top_behind-self-inside-requires : goal.top_behind-self-inside-requires
+top_behind-self-inside-requires c =
+    let a = c.self.inside in
+    let t = at c.self.inside c.args.self.now c.args.at c.self.invariant c.self.view_is c.requires in
+    let laid = c.unlist.ensures.laid a.front c.self.invariant.laid in
+    let end = c.end_at-end.ensures.value in
+    let told = (c.self.invariant.laid.told.told c.args.at t.small).len in
+    record {
+      sound = laid.sound;
+      told = laid.told;
+      small = laid.most;
+      stayed = λ below. top_gone a.space c.unlist.new.space a.count c.args.at a.top a.front c.self.invariant.laid.told c.self.invariant.topped t.small c.unlist.ensures.blocks c.unlist.ensures.addrs laid (omega arith);
+    }

@@ -1,0 +1,31 @@
+ghost use Rattle.std.specs.Prelude.{◌≡◌, ◌+◌, ◌≤◌, length, insert};
+ghost use Rattle.htx_model.specs.Block.{payload_len};
+ghost use Rattle.htx_model.specs.Blocks.{load};
+ghost use Rattle.htx_layout.specs.Addresses.{inserted};
+
+use crate::array::Array;
+use crate::new_block::NewBlock;
+use crate::sites::{self, Ends};
+
+#[tactic(auto, using(crate::proofs::WholeLemmas::wholes))]
+impl Array {
+    /// Puts in a block.
+    pub fn add(&mut self, at: u32, new: &NewBlock<'_>)
+        requires within { at ≤ length self.old.blocks }
+        requires fits { load self.old.blocks + 8 + payload_len new.now ≤ self.old.size }
+        ensures blocks { self.new.blocks ≡ insert self.old.blocks at new.now }
+        ensures size { self.new.size ≡ self.old.size }
+        ensures addrs { self.new.addrs ≡ (inserted self.old at (payload_len new.now)).addrs }
+        ensures front { self.new.front ≡ (inserted self.old at (payload_len new.now)).front }
+    {
+        let ends = Ends {
+            front: self.front,
+            top: self.top,
+        };
+        let ends = sites::add(&mut self.space, self.count, ends, at, new);
+        self.front = ends.front;
+        self.top = ends.top;
+        self.count += 1;
+        self.load += 8 + new.len();
+    }
+}
