@@ -7,7 +7,10 @@ ghost use Rattle.http_model.specs.Head.{Message, front_blocks, message_blocks};
 ghost use Rattle.http_model.specs.Spelling.{Spells};
 ghost use Rattle.h1_write.specs.declared.writer.Writer.{Writer};
 ghost use Rattle.h1_write.specs.Spelled.{HasWritten, IsEven, is_done, has_ended};
+ghost use Rattle.http_model.specs.declared.Framing.TheVariants.{ToClose};
 ghost use Rattle.h1_write.specs.Kept.{KeepsFront};
+ghost use Rattle.http_model.specs.declared.Limits.{Limits};
+ghost use Rattle.h1_write.specs.ReadBack.{IsFinished, IsRead, IsWithin, ReadsHead, ReadsMessage};
 
 /// At every moment the text is the front of a spelling of each message whose blocks go on so.
 pub fn spells_a_front()
@@ -42,4 +45,17 @@ pub fn goes_on()
 pub fn keeps()
     ensures blocks { (bs cs : List Block) → KeepsFront bs (bs ++ cs) }
     ensures bytes { (bs : List Block) (p : List ℕ) → KeepsFront bs (append_data bs p) }
+{}
+
+/// What spells a finished message is read back as that message, whatever follows it: the grammar of heads and of bodies gives its
+/// line, its fields, its body and its trailers, and then what follows. A text without a body is read back as its head.
+pub fn read_back()
+    ensures message { (m : Message) (text more : List ℕ) → IsFinished m → Spells true false m text → (m.framing ≡ ToClose → more ≡ []) → ReadsMessage m (text ++ more) more }
+    ensures alone { (m : Message) (text more : List ℕ) → IsFinished m → Spells true true m text → ReadsHead m.head.line m.head.fields (text ++ more) more }
+{}
+
+/// Within the limits of the readers here, they read it so too, where the stream is closed behind what follows.
+pub fn reads_within()
+    ensures { (limits : Limits) (m : Message) (text more : List ℕ) → IsFinished m → IsWithin limits m.framing m.body m.trailers → Spells true false m text → (m.framing ≡ ToClose → more ≡ [])
+        → IsRead limits m (text ++ more) more }
 {}

@@ -5,7 +5,8 @@ use Rattle.htx_model.specs.Blocks.{block_at, load}
 use Rattle.htx_model.specs.Flow.{added, AreFilled}
 use Rattle.htx_model.proofs.Flows.{added-append}
 use Rattle.htx_xfer.specs.Moved.{payload, front_of, rest_of, Stays}
-use Rattle.htx_xfer.proofs.Moving.{front_none, front_parts, stays_at, stays_past, filled-append, payload-append, one_payload, one_filled, one_stuck}
+use Rattle.htx_xfer.proofs.Moving.{front_none, front_parts, stays_at, stays_past, filled-append, payload-append, one_payload, one_filled}
+use Rattle.htx_xfer.proofs.Staying.{one_stuck}
 use Rattle.htx_xfer.proofs.copy.Goals as goal
 
 pub returns-then-part-payload_len-clause-copies : goal.returns-then-part-payload_len-clause-copies

@@ -3,7 +3,8 @@ use Rattle.htx_model.specs.Block.{Block}
 use Rattle.htx_model.specs.Blocks.{flow}
 use Rattle.htx_model.specs.Flow.{added}
 use Rattle.htx_xfer.specs.Moved.{front_of}
-use Rattle.htx_xfer.proofs.Moving.{moved_flows, all_goes}
+use Rattle.htx_xfer.proofs.Moving.{moved_flows}
+use Rattle.htx_xfer.proofs.Staying.{all_goes}
 use Rattle.htx_xfer.proofs.xfer.Goals as goal
 
 pub returns-clause-flow : goal.returns-clause-flow
