@@ -1,6 +1,6 @@
 //! Expressions: how many bytes a buffer holds, the samples of `path`, the expression, and its sample, or each of its
 //! samples.
-ghost use Rattle.std.specs.Prelude.{◌≤◌, IfOk};
+ghost use Rattle.std.specs.Prelude.{◌≡◌, ◌≤◌, IfOk};
 
 use crate::convs::{conv_of, fetch_of};
 use crate::samples::{Held, given_list, held_list, say_sample};
@@ -71,7 +71,9 @@ fn question_of(alloc: Global, row: Row<'_>) -> Result<Question, Fault>
 }
 
 /// Two buffers of a size, with bytes that are left over in the second.
-fn buffers_of(alloc: Global, size: u32) -> Result<(Buf, Buf), Fault> {
+fn buffers_of(alloc: Global, size: u32) -> Result<(Buf, Buf), Fault>
+    ensures { IfOk result (λ pair. pair.1.cap ≡ pair.0.cap) }
+{
     let buf = Buf::new(alloc, size)?;
     let mut spare = Buf::new(alloc, size)?;
     let _ = spare.push(b"left over");
