@@ -25,22 +25,16 @@ one_word name first = with_rule (no_flag name) (word_rule first)
 abbrev pub two_words : (name first second : Text) → App
 two_words name first second = with_rule (one_word name first) (word_rule second)
 
--- the program's name and version
-abbrev pub named : App
-named = on_top (λ s. record s { has_version = true }) (no_flag (codes "htx_proxy"))
-
--- words stand without the program's name, a command must be there, and there are no more commands and flags than are added
-abbrev pub commands_alone : App → App
-commands_alone = on_top (λ s. record s {
+-- the program's own level: words stand without the program's name, and a command must be there
+abbrev pub top_level : App
+top_level = on_top (λ s. record s {
   no_binary_name = true;
+  disable_help_flag = true;
   disable_help_subcommand = true;
   disable_version_flag = true;
+  has_version = true;
   subcommand_required = true;
-})
-
--- the program's own level
-abbrev pub top_level : App
-top_level = commands_alone named
+}) (new_app (codes "htx_proxy"))
 
 -- the flags and the commands of the program
 abbrev pub parser : App

@@ -2,7 +2,7 @@
 ghost use Rattle.std.specs.Prelude.{◌≡◌, ℕ, List, IfOk, false, codes};
 ghost use Rattle.clap.specs.Words.{app_of, rule_of, with_rule};
 ghost use Rattle.clap.specs.declared.builder.command.Command.TheViews.{out-Command};
-ghost use Rattle.px_command.specs.Parser.{word_rule, flag_rule, no_flag, one_word, two_words, named, commands_alone, top_level, parser};
+ghost use Rattle.px_command.specs.Parser.{word_rule, flag_rule, no_flag, one_word, two_words, top_level, parser};
 
 use clap::{Arg, ArgAction, Command};
 use std::alloc::{AllocError, Global};
@@ -124,34 +124,19 @@ pub fn drill_command<'a>(alloc: Global) -> Result<Command<'a>, AllocError>
     )
 }
 
-/// The program's name and version, without flags.
-fn named_command<'a>(alloc: Global) -> Command<'a>
-    ensures app { app_of result ≡ named }
-    ensures local { (out-Command result).has_globals ≡ false }
-{
-    plain_command(alloc, "htx_proxy")
-        .version("0.1.0")
-        .about("Rewrites HTTP exchanges by the rules of a configuration")
-}
-
-/// A command of whose words the first is a command, and which `clap` gives none of its own.
-fn with_commands_alone<'a>(command: Command<'a>) -> Command<'a>
-    ensures app { app_of result ≡ commands_alone (app_of command.entry) }
-    ensures local { (out-Command result).has_globals ≡ (out-Command command.entry).has_globals }
-{
-    command
-        .no_binary_name(true)
-        .disable_help_subcommand(true)
-        .disable_version_flag(true)
-        .subcommand_required(true)
-}
-
 /// The program's own level.
 fn top_command<'a>(alloc: Global) -> Command<'a>
     ensures app { app_of result ≡ top_level }
     ensures local { (out-Command result).has_globals ≡ false }
 {
-    with_commands_alone(named_command(alloc))
+    Command::new(alloc, "htx_proxy")
+        .version("0.1.0")
+        .about("Rewrites HTTP exchanges by the rules of a configuration")
+        .no_binary_name(true)
+        .disable_help_flag(true)
+        .disable_help_subcommand(true)
+        .disable_version_flag(true)
+        .subcommand_required(true)
 }
 
 /// The program's flags and commands.

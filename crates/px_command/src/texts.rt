@@ -4,7 +4,7 @@ use clap::error::ErrorKind;
 use clap::{Command, Error};
 use http_model::OutOfMemory;
 use px_link::Bytes;
-use std::alloc::{AllocError, Global};
+use std::alloc::Global;
 
 /// What help says behind the commands.
 const REST: &[u8] = b"
@@ -20,17 +20,10 @@ Status:
   8  not built yet; nothing is written
 ";
 
-/// The help of one command, which usage calls by this name.
-fn named_help(command: Command<'_>, name: &str) -> Result<String, AllocError> {
-    let mut command = command.bin_name(name)?;
-    command.render_help()
-}
-
 /// Puts the help of one command behind the others.
-fn push_help(text: &mut Bytes, command: Command<'_>, name: &str) -> Result<(), OutOfMemory> {
-    let help = named_help(command, name)?;
+fn push_help(text: &mut Bytes, mut command: Command<'_>, name: &str) -> Result<(), OutOfMemory> {
     text.push(b"\n")?;
-    text.push(help.as_bytes())
+    text.push(command.bin_name(name)?.render_help()?.as_bytes())
 }
 
 /// The text of `--help`.
@@ -46,9 +39,7 @@ pub fn help_text(alloc: Global) -> Result<Bytes, OutOfMemory> {
 
 /// The text of `--version`.
 pub fn version_text(alloc: Global) -> Result<Bytes, OutOfMemory> {
-    let command = command(alloc)?;
-    let text = command.render_version()?;
-    Bytes::copy(alloc, text.as_bytes())
+    Bytes::copy(alloc, command(alloc)?.render_version()?.as_bytes())
 }
 
 /// What is wrong, in front of the help.
