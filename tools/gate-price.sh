@@ -1,8 +1,8 @@
 #!/usr/bin/env bash
 # gate-price.sh: what the gate costs from nothing. It copies what is committed into a folder of its own, runs `rt ci --anew` there, and
 # looks ten times a second at the processor time of each process of the prover below that run. It prints the minutes of the crates' own
-# proofs, of their tests and of their must-fail edits, and the ten dearest of each. It changes nothing here. With the name of a log of
-# samples that an earlier run wrote as its word, it prints that run's table again.
+# proofs, of their tests, of the proofs that must-fail edits are tried over (their bases) and of the edits, and the ten dearest of each.
+# It changes nothing here. With the name of a log of samples that an earlier run wrote as its word, it prints that run's table again.
 set -eu
 here="$(cd "$(dirname "$0")/.." && pwd)"
 exec python3 - "$here" "$@" <<'PY'
@@ -23,7 +23,8 @@ def processes():
 
 
 def kind_of(pid):
-    """What a process of the prover works on: a crate's proof, its tests, one of its edits, or a build; and the crate."""
+    """What a process of the prover works on: a crate's proof, its tests, one of its edits, what these are tried over, or a build of what is
+    proved; and the crate."""
     try:
         with open(f"/proc/{pid}/cmdline") as it:
             words = it.read().split("\0")
@@ -34,10 +35,12 @@ def kind_of(pid):
         return None
     crate = words[words.index("--crate-name") + 1]
     if re.search(r"/rt-edit-", folder):
-        return "edits", crate
+        over = words[words.index("--incremental") + 1] if "--incremental" in words else ""
+        return ("bases" if over.endswith("/seed") else "edits"), crate
     if "--test" in words:
         return "tests", crate
-    return ("proofs" if words[1] == "check" else "builds"), crate
+    # (a library is proved by the command that builds it; one that is told of a checked crate proves nothing)
+    return ("builds" if "--crate-checked" in words else "proofs"), crate
 
 
 def measured(top):
@@ -72,7 +75,7 @@ def table(run):
         by[kind][crate] += seconds
     total = sum(sum(crates.values()) for crates in by.values())
     print(f"gate: status {run['status']}, {run['wall'] / 60:.1f} minutes on {run['processors']} processors, {total / 60:.1f} processor minutes")
-    for kind in ("proofs", "tests", "edits", "builds"):
+    for kind in ("proofs", "tests", "bases", "edits", "builds"):
         crates = sorted(by[kind].items(), key=lambda it: -it[1])
         print(f"{kind}: {sum(by[kind].values()) / 60:.1f} processor minutes; dearest, in seconds: " + ", ".join(f"{name} {seconds:.0f}" for name, seconds in crates[:10]))
 

@@ -21,7 +21,7 @@ struct Body<'a> {
 }
 
 /// How a body comes: so many bytes first, then so many at a time, with room for so many bytes of data.
-#[derive(Clone, Copy, Debug)]
+#[derive(Clone, Copy)]
 struct Pieces {
     first: usize,
     size: usize,

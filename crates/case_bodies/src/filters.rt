@@ -58,6 +58,14 @@ fn filter_of(alloc: Global, step: &Step<'_>) -> Result<FilterSpec, Fault>
     }
 }
 
+/// The filter that a text says.
+fn filter_in(alloc: Global, text: &str) -> Result<FilterSpec, Fault>
+    ensures { IfOk result IsFilter }
+{
+    let step = Step::read(alloc, text)?;
+    filter_of(alloc, &step)
+}
+
 /// Puts a filter behind the others.
 #[tactic(auto, using(crate::proofs::Chains::chains))]
 fn add_filter(filters: &mut Vec<FilterSpec>, filter: FilterSpec) -> Result<(), Fault>
@@ -83,7 +91,8 @@ fn filters_of(alloc: Global, text: &str) -> Result<Vec<FilterSpec>, Fault>
         return Ok(filters);
     }
     for piece in text.split(';') {
-        add_filter(&mut filters, filter_of(alloc, &Step::read(alloc, piece)?)?)?;
+        let filter = filter_in(alloc, piece)?;
+        add_filter(&mut filters, filter)?;
     }
     Ok(filters)
 }

@@ -1,6 +1,6 @@
 //! Expressions: how many bytes a buffer holds, the samples of `path`, the expression, and its sample, or each of its
 //! samples.
-ghost use Rattle.std.specs.Prelude.{◌≤◌, IfOk};
+ghost use Rattle.std.specs.Prelude.{◌≡◌, ◌≤◌, IfOk};
 
 use crate::convs::{conv_of, fetch_of};
 use crate::samples::{Held, given_list, held_list, say_sample};
@@ -70,12 +70,13 @@ fn question_of(alloc: Global, row: Row<'_>) -> Result<Question, Fault>
     })
 }
 
-/// Two buffers of a size, with bytes that are left over in the second.
-fn buffers_of(alloc: Global, size: u32) -> Result<(Buf, Buf), Fault> {
-    let buf = Buf::new(alloc, size)?;
+/// A buffer of a size, with bytes that are left over.
+fn spare_of(alloc: Global, size: u32) -> Result<Buf, Fault>
+    ensures { IfOk result (λ spare. spare.cap ≡ size) }
+{
     let mut spare = Buf::new(alloc, size)?;
     let _ = spare.push(b"left over");
-    Ok((buf, spare))
+    Ok(spare)
 }
 
 /// Says the sample of an expression.
@@ -85,7 +86,8 @@ fn say_eval(
     env: &MemEnv<'_>,
     answers: &mut Answers,
 ) -> Result<(), Fault> {
-    let (mut buf, mut spare) = buffers_of(alloc, question.size)?;
+    let mut buf = Buf::new(alloc, question.size)?;
+    let mut spare = spare_of(alloc, question.size)?;
     let mut searchers = Searchers::new(alloc);
     let sample = eval(
         alloc,
@@ -116,7 +118,8 @@ fn say_nth(
     env: &MemEnv<'_>,
     answers: &mut Answers,
 ) -> Result<bool, Fault> {
-    let (mut buf, mut spare) = buffers_of(alloc, question.size)?;
+    let mut buf = Buf::new(alloc, question.size)?;
+    let mut spare = spare_of(alloc, question.size)?;
     let mut searchers = Searchers::new(alloc);
     match eval_nth(
         alloc,

@@ -67,9 +67,10 @@ pub fn formatted(alloc: Global, row: Row<'_>) -> Result<Vec<u8>, Fault> {
 
 /// Puts a template behind what a buffer holds. Whether it fits.
 fn expands(alloc: Global, row: Row<'_>, into: &mut Buf) -> Result<bool, Fault> {
-    let pat = pattern_of(alloc, &decoded(alloc, row.field(3).as_bytes())?)?;
+    let pattern = decoded(alloc, row.field(3).as_bytes())?;
     let text = decoded(alloc, row.field(4).as_bytes())?;
     let template = decoded(alloc, row.field(5).as_bytes())?;
+    let pat = pattern_of(alloc, &pattern)?;
     match pat.find_groups(alloc, &text)? {
         Some(groups) => Ok(expand(&template, &groups, &text, into)),
         None => Err(Fault::Malformed),

@@ -23,21 +23,28 @@ fn say_groups(groups: &Groups, answers: &mut Answers) {
     }
 }
 
-/// Whether each of the searches that tell no groups finds a match: a new one, and one that is kept.
-fn searches(alloc: Global, pat: &Pat, text: &[u8]) -> Result<[bool; 3], Fault> {
+/// Whether a new search finds a match.
+fn finds_anew(alloc: Global, pat: &Pat, text: &[u8]) -> Result<bool, Fault> {
+    let mut searcher = pat.searcher(alloc)?;
+    Ok(searcher.is_match(text))
+}
+
+/// Whether a search finds a match that is made for the pattern, and then the same search, which was kept.
+fn finds_twice(alloc: Global, pat: &Pat, text: &[u8]) -> Result<(bool, bool), Fault> {
     let mut searchers = Searchers::new(alloc);
-    Ok([
-        pat.searcher(alloc)?.is_match(text),
-        searchers.is_match(alloc, pat, text)?,
-        searchers.is_match(alloc, pat, text)?,
-    ])
+    let made = searchers.is_match(alloc, pat, text)?;
+    let kept = searchers.is_match(alloc, pat, text)?;
+    Ok((made, kept))
 }
 
 /// Says what a search finds.
 fn say_found(alloc: Global, pat: &Pat, text: &[u8], answers: &mut Answers) -> Result<(), Fault> {
+    let anew = finds_anew(alloc, pat, text)?;
+    let (made, kept) = finds_twice(alloc, pat, text)?;
     let found = pat.find_groups(alloc, text)?;
-    if searches(alloc, pat, text)? != [found.is_some(); 3] {
-        answers.say(b"only one search finds it");
+    let is_found = found.is_some();
+    if anew != is_found || made != is_found || kept != is_found {
+        answers.say(b"only some searches find it");
     }
     match found {
         Some(groups) => say_groups(&groups, answers),

@@ -24,21 +24,36 @@ fn names_in<R: Files + AllocGlobal + Clone + Drop>(
     Ok(names)
 }
 
+/// What a row of samples or of edits comes to.
+fn made_of_parts(alloc: Global, kind: &str, row: Row<'_>) -> Option<Result<Vec<u8>, Fault>> {
+    match case_values::made(alloc, kind, row) {
+        Some(made) => Some(made),
+        None => case_array::made(alloc, kind, row),
+    }
+}
+
+/// What a row of texts or of bodies comes to.
+fn made_of_texts(alloc: Global, kind: &str, row: Row<'_>) -> Option<Result<Vec<u8>, Fault>> {
+    match case_text::made(alloc, kind, row) {
+        Some(made) => Some(made),
+        None => case_bodies::made(alloc, kind, row),
+    }
+}
+
+/// What a row of texts, of bodies or of the program comes to.
+fn made_of_wholes(alloc: Global, kind: &str, row: Row<'_>) -> Option<Result<Vec<u8>, Fault>> {
+    match made_of_texts(alloc, kind, row) {
+        Some(made) => Some(made),
+        None => case_session::made(alloc, kind, row),
+    }
+}
+
 /// What a row of a kind comes to.
 fn made(alloc: Global, kind: &str, row: Row<'_>) -> Result<Vec<u8>, Fault> {
-    if let Some(made) = case_values::made(alloc, kind, row) {
-        return made;
+    match made_of_parts(alloc, kind, row) {
+        Some(made) => made,
+        None => made_of_wholes(alloc, kind, row).unwrap_or(Err(Fault::Malformed)),
     }
-    if let Some(made) = case_array::made(alloc, kind, row) {
-        return made;
-    }
-    if let Some(made) = case_bodies::made(alloc, kind, row) {
-        return made;
-    }
-    if let Some(made) = case_text::made(alloc, kind, row) {
-        return made;
-    }
-    case_session::made(alloc, kind, row).unwrap_or(Err(Fault::Malformed))
 }
 
 /// Runs a row of a table.
