@@ -1,0 +1,15 @@
+pub mod Streams
+pub mod Puts
+pub mod Behind
+pub mod Said
+pub mod Exists
+pub mod Serving
+pub mod Fronts
+pub mod Consequences
+pub mod Events
+pub mod Working
+pub mod Answering
+pub mod Turning
+pub mod Served
+pub mod Noting
+pub mod Stalls

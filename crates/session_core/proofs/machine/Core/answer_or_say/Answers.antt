@@ -1,0 +1,42 @@
+use Rattle.std.proofs.Common.{◌≢◌, ◌++◌, Some, false, refl, rules}
+use Rattle.session_core.proofs.Answering.{says_turned, answers_on, answers_of}
+use Rattle.session_core.proofs.Events.{holds_at}
+use Rattle.session_core.proofs.Stalls.{not_turned, waits_unturned}
+use Rattle.session_core.proofs.machine.Core.answer_or_say.Goals as goal
+
+pub returns-then-is_turned-clause-keeps : goal.returns-then-is_turned-clause-keeps
+returns-then-is_turned-clause-keeps g c = λ cfg past s.
+    let M = g.S.Sides.meaning cfg in
+    let at = c.args.self.now.at in
+    let q = g.S.Sides.request c.args.self.now.sides in
+    let a = g.S.Sides.answer c.args.self.now.sides in
+    let b = g.S.Sides.answer c.say.new.self in
+    let st = c.say.ensures.leads cfg s.sided s.stand in
+    record {
+      sided = record s.sided { to_client = s.sided.to_client ++ st.put; saying = st.left };
+      stand = st.stands;
+      holds = holds_at M at q (g.S.Sides.request c.say.new.self) b b _ _ c.say.ensures.request refl
+          (says_turned M _ at q a b s.sided past c.requires (c.is_turned.ensures.0 c.if-is_turned.true) c.say.ensures.open st s.holds);
+    }
+
+pub returns-clause-keeps : goal.returns-clause-keeps
+returns-clause-keeps g c = λ cfg past s.
+    let M = g.S.Sides.meaning cfg in
+    let at = c.args.self.now.at in
+    let q = g.S.Sides.request c.args.self.now.sides in
+    let a = g.S.Sides.answer c.args.self.now.sides in
+    let b = g.S.Sides.answer c.step_answer.new.self in
+    let other : at.cut ≢ Some false = λ e. absurd (search (rules, c.is_turned.ensures.1 e, c.if-is_turned.false)) in
+    let answers = answers_of M at q a s.sided past c.requires other s.holds in
+    let st = c.in_ok-step_answer.ensures.leads cfg s.sided s.stand answers in
+    record {
+      sided = record s.sided { to_client = s.sided.to_client ++ st.put; now = st.behind };
+      stand = st.stands;
+      holds = holds_at M at q (g.S.Sides.request c.step_answer.new.self) b b _ _ c.step_answer.ensures.request refl
+          (answers_on M _ at q a b s.sided past c.requires other c.in_ok-step_answer.ensures.open st s.holds);
+    }
+
+pub returns-clause-answered : goal.returns-clause-answered
+returns-clause-answered g c =
+    let other : c.args.self.now.at.cut ≢ Some false = λ e. absurd (search (rules, c.is_turned.ensures.1 e, c.if-is_turned.false)) in
+    waits_unturned c.args.self.now.at.cut (g.S.Sides.answer c.step_answer.new.self) (not_turned c.args.self.now.at.cut other) c.in_ok-step_answer.ensures.waits

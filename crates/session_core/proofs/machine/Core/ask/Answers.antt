@@ -1,0 +1,93 @@
+use Rattle.std.proofs.Common.{◌≡◌, [], false, subst, refl}
+use Rattle.session_core.proofs.Working.{at_is}
+use Rattle.session_core.proofs.Turning.{asks_more, asks_nothing, asks_refusal, asks_reply, asks_server}
+use Rattle.session_core.specs.Leads.{AsksTo}
+use Rattle.session_core.specs.declared.sides.Asked.{Asked}
+use Rattle.session_core.proofs.machine.Core.ask.Goals as goal
+
+pub returns-in-More-clause-keeps : goal.returns-in-More-clause-keeps
+returns-in-More-clause-keeps g c = λ cfg past s.
+    let M = g.S.Sides.meaning cfg in
+    let at = c.args.self.now.at in
+    let q = g.S.Sides.request c.args.self.now.sides in
+    let a = g.S.Sides.answer c.args.self.now.sides in
+    let r = g.S.Sides.request c.ask.new.self in
+    let b = g.S.Sides.answer c.ask.new.self in
+    let k = c.in_ok-asked.ensures.request in
+    let window : b.window ≡ a.window = c.in_ok-asked.ensures.window in
+    let starts : b.answered ≡ false = c.in_ok-asked.ensures.starts in
+    let P : Asked → Type 0 = λ k. AsksTo M (g.S.Sides.stands cfg c.ask.new.self) r s.sided k in
+    let re = subst P c.in-More.is (c.in_ok-asked.ensures.leads cfg s.sided s.stand) in
+    record { sided = s.sided; stand = re; holds = asks_more M at q r a b s.sided past c.requires k.is_open k.window window s.holds }
+
+pub returns-in-Nothing-clause-keeps : goal.returns-in-Nothing-clause-keeps
+returns-in-Nothing-clause-keeps g c = λ cfg past s.
+    let M = g.S.Sides.meaning cfg in
+    let at = c.args.self.now.at in
+    let q = g.S.Sides.request c.args.self.now.sides in
+    let a = g.S.Sides.answer c.args.self.now.sides in
+    let r = g.S.Sides.request c.ask.new.self in
+    let b = g.S.Sides.answer c.ask.new.self in
+    let k = c.in_ok-asked.ensures.request in
+    let window : b.window ≡ a.window = c.in_ok-asked.ensures.window in
+    let starts : b.answered ≡ false = c.in_ok-asked.ensures.starts in
+    let P : Asked → Type 0 = λ k. AsksTo M (g.S.Sides.stands cfg c.ask.new.self) r s.sided k in
+    let re = subst P c.in-Nothing.is (c.in_ok-asked.ensures.leads cfg s.sided s.stand) in
+    record { sided = s.sided; stand = re.0; holds = asks_nothing M at q r a b s.sided past c.requires k.is_open k.window window re.1 s.holds }
+
+pub returns-in-Refuse-clause-keeps : goal.returns-in-Refuse-clause-keeps
+returns-in-Refuse-clause-keeps g c = λ cfg past s.
+    let M = g.S.Sides.meaning cfg in
+    let at = c.args.self.now.at in
+    let q = g.S.Sides.request c.args.self.now.sides in
+    let a = g.S.Sides.answer c.args.self.now.sides in
+    let r = g.S.Sides.request c.ask.new.self in
+    let b = g.S.Sides.answer c.ask.new.self in
+    let k = c.in_ok-asked.ensures.request in
+    let window : b.window ≡ a.window = c.in_ok-asked.ensures.window in
+    let starts : b.answered ≡ false = c.in_ok-asked.ensures.starts in
+    let P : Asked → Type 0 = λ k. AsksTo M (g.S.Sides.stands cfg c.ask.new.self) r s.sided k in
+    let re = subst P c.in-Refuse.is (c.in_ok-asked.ensures.leads cfg s.sided s.stand) in
+    record {
+      sided = record s.sided { saying = re.text };
+      stand = re.stands;
+      holds = at_is M _ _ _ _ _ past c.counted-self.ensures (asks_refusal M _ at q r a b s.sided past _ c.requires k.is_open k.window window starts refl re s.holds);
+    }
+
+pub returns-in-Reply-clause-keeps : goal.returns-in-Reply-clause-keeps
+returns-in-Reply-clause-keeps g c = λ cfg past s.
+    let M = g.S.Sides.meaning cfg in
+    let at = c.args.self.now.at in
+    let q = g.S.Sides.request c.args.self.now.sides in
+    let a = g.S.Sides.answer c.args.self.now.sides in
+    let r = g.S.Sides.request c.ask.new.self in
+    let b = g.S.Sides.answer c.ask.new.self in
+    let k = c.in_ok-asked.ensures.request in
+    let window : b.window ≡ a.window = c.in_ok-asked.ensures.window in
+    let starts : b.answered ≡ false = c.in_ok-asked.ensures.starts in
+    let P : Asked → Type 0 = λ k. AsksTo M (g.S.Sides.stands cfg c.ask.new.self) r s.sided k in
+    let re = subst P c.in-Reply.is (c.in_ok-asked.ensures.leads cfg s.sided s.stand) in
+    record {
+      sided = record s.sided { reply = re.reply; now = re.now; saying = re.text };
+      stand = re.stands;
+      holds = at_is M _ _ _ _ _ past c.counted-self-in-Reply.ensures (asks_reply M _ at q r a b s.sided past _ c.in-Reply.kept c.requires k.is_open k.window window starts refl re s.holds);
+    }
+
+pub returns-in-Send-clause-keeps : goal.returns-in-Send-clause-keeps
+returns-in-Send-clause-keeps g c = λ cfg past s.
+    let M = g.S.Sides.meaning cfg in
+    let at = c.args.self.now.at in
+    let q = g.S.Sides.request c.args.self.now.sides in
+    let a = g.S.Sides.answer c.args.self.now.sides in
+    let r = g.S.Sides.request c.ask.new.self in
+    let b = g.S.Sides.answer c.ask.new.self in
+    let k = c.in_ok-asked.ensures.request in
+    let window : b.window ≡ a.window = c.in_ok-asked.ensures.window in
+    let starts : b.answered ≡ false = c.in_ok-asked.ensures.starts in
+    let P : Asked → Type 0 = λ k. AsksTo M (g.S.Sides.stands cfg c.ask.new.self) r s.sided k in
+    let re = subst P c.in-Send.is (c.in_ok-asked.ensures.leads cfg s.sided s.stand) in
+    record {
+      sided = record s.sided { asking = re.asking; to_server = [] };
+      stand = re.stands;
+      holds = at_is M _ _ _ _ _ past c.counted-self-in-Send.ensures (asks_server M _ at q r a b s.sided past _ c.requires k.is_open k.window window refl re s.holds);
+    }

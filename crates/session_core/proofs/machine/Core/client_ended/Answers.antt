@@ -1,0 +1,17 @@
+use Rattle.std.proofs.Common.{false}
+use Rattle.session_core.specs.History.{ends}
+use Rattle.session_core.proofs.Events.{holds_at, client_ends}
+use Rattle.session_core.proofs.machine.Core.client_ended.Goals as goal
+
+pub returns-clause-leads : goal.returns-clause-leads
+returns-clause-leads g c = λ cfg past s.
+    let M = g.S.Sides.meaning cfg in
+    let at = c.args.self.now.at in
+    let q = g.S.Sides.request c.args.self.now.sides in
+    let a = g.S.Sides.answer c.args.self.now.sides in
+    record {
+      sided = record s.sided { came = ends s.sided.came c.args.how };
+      stand = c.end_client.ensures.leads cfg s.sided s.stand;
+      holds = holds_at M at (record q { is_open = false }) (g.S.Sides.request c.end_client.new.self) a (g.S.Sides.answer c.end_client.new.self) _ _ c.end_client.ensures.request c.end_client.ensures.answer
+          (client_ends M at q a s.sided past c.args.how c.requires s.holds);
+    }

@@ -1,0 +1,33 @@
+use Rattle.std.proofs.Common.{◌≡◌, true, sym, ap, ◌∙◌, rules}
+use Rattle.session_core.specs.declared.Phase.TheVariants as phase
+use Rattle.session_core.proofs.Working.{still}
+use Rattle.session_core.proofs.Turning.{ends_replying, replies_next}
+use Rattle.session_core.specs.Leads.{renewed_at}
+use Rattle.session_core.proofs.machine.Core.end_replied.Goals as goal
+
+pub returns-then-not-is_answered-clause-keeps : goal.returns-then-not-is_answered-clause-keeps
+returns-then-not-is_answered-clause-keeps g c = λ cfg past s. still (g.S.Sides.meaning cfg) g.S.Sides.request g.S.Sides.answer (g.S.Sides.stands cfg) c.args.self.now.sides c.args.self.now.at past s
+
+pub returns-then-kept-clause-keeps : goal.returns-then-kept-clause-keeps
+returns-then-kept-clause-keeps g c = λ cfg past s.
+    let M = g.S.Sides.meaning cfg in
+    let at = c.args.self.now.at in
+    let q = g.S.Sides.request c.args.self.now.sides in
+    let a = g.S.Sides.answer c.args.self.now.sides in
+    let answered : a.answered ≡ true = sym c.is_answered.ensures ∙ search rules in
+    let re = c.next_replied.ensures.leads cfg s.sided s.stand in
+    record {
+      sided = renewed_at s.sided re.left;
+      stand = re.stands;
+      holds = replies_next M _ at q (g.S.Sides.request c.next_replied.new.self) a (g.S.Sides.answer c.next_replied.new.self) s.sided past
+          (c.requires ∙ ap (λ k. phase.Replying k) c.if-kept.true) answered c.next_replied.ensures.request c.next_replied.ensures.window c.next_replied.ensures.answer re s.holds;
+    }
+
+pub returns-else-kept-clause-keeps : goal.returns-else-kept-clause-keeps
+returns-else-kept-clause-keeps g c = λ cfg past s.
+    let M = g.S.Sides.meaning cfg in
+    let at = c.args.self.now.at in
+    let q = g.S.Sides.request c.args.self.now.sides in
+    let a = g.S.Sides.answer c.args.self.now.sides in
+    let answered : a.answered ≡ true = sym c.is_answered.ensures ∙ search rules in
+    record { sided = s.sided; stand = s.stand; holds = ends_replying M at q a s.sided past (c.requires ∙ ap (λ k. phase.Replying k) c.if-kept.false) answered s.holds }

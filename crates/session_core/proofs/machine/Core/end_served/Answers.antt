@@ -1,0 +1,37 @@
+use Rattle.std.proofs.Common.{◌≢◌, Some, false, rules}
+use Rattle.session_core.proofs.Served.{served_turned, served_ends, served_next, ready}
+use Rattle.session_core.specs.Leads.{renewed_at}
+use Rattle.session_core.proofs.machine.Core.end_served.Goals as goal
+
+pub returns-then-is_turned-clause-keeps : goal.returns-then-is_turned-clause-keeps
+returns-then-is_turned-clause-keeps g c = λ cfg past s.
+    let M = g.S.Sides.meaning cfg in
+    let at = c.args.self.now.at in
+    let q = g.S.Sides.request c.args.self.now.sides in
+    let a = g.S.Sides.answer c.args.self.now.sides in
+    record { sided = s.sided; stand = s.stand; holds = served_turned M at q a s.sided past c.requires (c.is_turned.ensures.0 c.if-is_turned.true) s.holds }
+
+pub returns-in-Some-clause-keeps : goal.returns-in-Some-clause-keeps
+returns-in-Some-clause-keeps g c = λ cfg past s.
+    let M = g.S.Sides.meaning cfg in
+    let at = c.args.self.now.at in
+    let q = g.S.Sides.request c.args.self.now.sides in
+    let a = g.S.Sides.answer c.args.self.now.sides in
+    let other : at.cut ≢ Some false = λ e. absurd (search (rules, c.is_turned.ensures.1 e, c.if-is_turned.false)) in
+    record { sided = s.sided; stand = s.stand; holds = served_ends M at q a s.sided past c.in-Some.end c.requires other (c.in-Some.ensures cfg s.sided s.stand) s.holds }
+
+pub returns-in-None-clause-keeps : goal.returns-in-None-clause-keeps
+returns-in-None-clause-keeps g c = λ cfg past s.
+    let M = g.S.Sides.meaning cfg in
+    let at = c.args.self.now.at in
+    let q = g.S.Sides.request c.args.self.now.sides in
+    let a = g.S.Sides.answer c.args.self.now.sides in
+    let f = c.in-None.ensures cfg s.sided s.stand in
+    let y = ready M at q a s.sided past c.requires f.1 s.holds in
+    let re = c.next.ensures.leads cfg s.sided s.stand y.requests y.source y.sent in
+    record {
+      sided = renewed_at s.sided re.left;
+      stand = re.stands;
+      holds = served_next M _ at q (g.S.Sides.request c.next.new.self) a (g.S.Sides.answer c.next.new.self) s.sided past
+          c.requires f.1 f.0 f.2 c.next.ensures.request c.next.ensures.window c.next.ensures.answer re s.holds;
+    }

@@ -1,0 +1,20 @@
+use Rattle.std.proofs.Common.{refl}
+use Rattle.session_core.specs.History.{gains, given_by}
+use Rattle.session_core.specs.declared.Phase.TheVariants as phase
+use Rattle.session_core.proofs.Events.{holds_at, holds_in, while_serving, server_gives}
+use Rattle.session_core.proofs.machine.Core.from_server.Goals as goal
+
+pub returns-clause-leads : goal.returns-clause-leads
+returns-clause-leads g c = λ cfg past s.
+    let M = g.S.Sides.meaning cfg in
+    let at = c.args.self.now.at in
+    let q = g.S.Sides.request c.args.self.now.sides in
+    let a = g.S.Sides.answer c.args.self.now.sides in
+    let b = c.take_server.ensures.answer in
+    record {
+      sided = record s.sided { server = gains s.sided.server c.args.bytes.now };
+      stand = c.take_server.ensures.leads cfg s.sided s.stand;
+      holds = holds_in M at phase.Serving _ _ _ _ c.requires.serving (holds_at M (record at { phase = phase.Serving }) q (g.S.Sides.request c.take_server.new.self) (record a { room = b.0 }) (g.S.Sides.answer c.take_server.new.self) _ _ c.take_server.ensures.request b.1
+          (while_serving M at phase.Serving q q a (record a { room = b.0 }) s.sided (record s.sided { server = gains s.sided.server c.args.bytes.now }) past (given_by c.args.bytes.now) c.requires.serving refl refl refl refl refl
+          (λ d now h n. server_gives M q a s.sided c.args.bytes.now b.0 at.cut d c.requires.open h) s.holds));
+    }

@@ -1,0 +1,20 @@
+use Rattle.std.proofs.Common.{refl}
+use Rattle.session_core.specs.declared.Phase.TheVariants as phase
+use Rattle.session_core.proofs.Answering.{refuses_server}
+use Rattle.session_core.proofs.Events.{holds_at}
+use Rattle.session_core.proofs.machine.Core.refuse_server.Goals as goal
+
+pub returns-clause-keeps : goal.returns-clause-keeps
+returns-clause-keeps g c = λ cfg past s.
+    let M = g.S.Sides.meaning cfg in
+    let at = c.args.self.now.at in
+    let q = g.S.Sides.request c.args.self.now.sides in
+    let a = g.S.Sides.answer c.args.self.now.sides in
+    let b = g.S.Sides.answer c.refuse.new.self in
+    let re = c.in_ok-refuse.ensures.leads cfg s.sided s.stand in
+    record {
+      sided = record s.sided { saying = re.text };
+      stand = re.stands;
+      holds = holds_at M (record at { phase = phase.Refusing }) q (g.S.Sides.request c.refuse.new.self) b b _ _ c.in_ok-refuse.ensures.request refl
+          (refuses_server M _ at q a b s.sided past c.requires c.in_ok-refuse.ensures.window c.in_ok-refuse.ensures.starts re s.holds);
+    }

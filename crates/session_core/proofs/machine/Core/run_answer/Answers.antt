@@ -1,0 +1,50 @@
+use Rattle.std.proofs.Common.{◌++◌, refl}
+use Rattle.session_core.proofs.Working.{still}
+use Rattle.session_core.proofs.Answering.{says_refusal, says_reply}
+use Rattle.session_core.proofs.Events.{holds_at}
+use Rattle.session_core.proofs.machine.Core.run_answer.Goals as goal
+
+pub returns-in-Refusing-clause-keeps : goal.returns-in-Refusing-clause-keeps
+returns-in-Refusing-clause-keeps g c = λ cfg past s.
+    let M = g.S.Sides.meaning cfg in
+    let at = c.args.self.now.at in
+    let q = g.S.Sides.request c.args.self.now.sides in
+    let a = g.S.Sides.answer c.args.self.now.sides in
+    let b = g.S.Sides.answer c.say.new.self in
+    let st = c.say.ensures.leads cfg s.sided s.stand in
+    record {
+      sided = record s.sided { to_client = s.sided.to_client ++ st.put; saying = st.left };
+      stand = st.stands;
+      holds = holds_at M at q (g.S.Sides.request c.say.new.self) b b _ _ c.say.ensures.request refl
+          (says_refusal M _ at q a b s.sided past c.in-Refusing.is st s.holds);
+    }
+
+pub returns-in-Replying-clause-keeps : goal.returns-in-Replying-clause-keeps
+returns-in-Replying-clause-keeps g c = λ cfg past s.
+    let M = g.S.Sides.meaning cfg in
+    let at = c.args.self.now.at in
+    let q = g.S.Sides.request c.args.self.now.sides in
+    let a = g.S.Sides.answer c.args.self.now.sides in
+    let b = g.S.Sides.answer c.say-in-Replying.new.self in
+    let st = c.say-in-Replying.ensures.leads cfg s.sided s.stand in
+    record {
+      sided = record s.sided { to_client = s.sided.to_client ++ st.put; saying = st.left };
+      stand = st.stands;
+      holds = holds_at M at q (g.S.Sides.request c.say-in-Replying.new.self) b b _ _ c.say-in-Replying.ensures.request refl
+          (says_reply M _ at c.in-Replying.field-0 q a b s.sided past c.in-Replying.is st s.holds);
+    }
+
+pub returns-in-Reading-clause-keeps : goal.returns-in-Reading-clause-keeps
+returns-in-Reading-clause-keeps g c = λ cfg past s. still (g.S.Sides.meaning cfg) g.S.Sides.request g.S.Sides.answer (g.S.Sides.stands cfg) c.args.self.now.sides c.args.self.now.at past s
+
+pub returns-in-Opening-clause-keeps : goal.returns-in-Opening-clause-keeps
+returns-in-Opening-clause-keeps g c = λ cfg past s. still (g.S.Sides.meaning cfg) g.S.Sides.request g.S.Sides.answer (g.S.Sides.stands cfg) c.args.self.now.sides c.args.self.now.at past s
+
+pub returns-in-Unserved-clause-keeps : goal.returns-in-Unserved-clause-keeps
+returns-in-Unserved-clause-keeps g c = λ cfg past s. still (g.S.Sides.meaning cfg) g.S.Sides.request g.S.Sides.answer (g.S.Sides.stands cfg) c.args.self.now.sides c.args.self.now.at past s
+
+pub returns-in-Served-clause-keeps : goal.returns-in-Served-clause-keeps
+returns-in-Served-clause-keeps g c = λ cfg past s. still (g.S.Sides.meaning cfg) g.S.Sides.request g.S.Sides.answer (g.S.Sides.stands cfg) c.args.self.now.sides c.args.self.now.at past s
+
+pub returns-in-Over-clause-keeps : goal.returns-in-Over-clause-keeps
+returns-in-Over-clause-keeps g c = λ cfg past s. still (g.S.Sides.meaning cfg) g.S.Sides.request g.S.Sides.answer (g.S.Sides.stands cfg) c.args.self.now.sides c.args.self.now.at past s

@@ -1,0 +1,57 @@
+use Rattle.std.proofs.Common.{◌≡◌, ◌++◌, Some, true, false, sym, ap, ◌∙◌, refl}
+use Rattle.session_core.proofs.Working.{steps_on, steps_begun, steps_before, before_of, requests_of}
+use Rattle.session_core.proofs.Events.{holds_at}
+use Rattle.session_core.proofs.machine.Core.step_request.Goals as goal
+
+pub returns-in-None-clause-keeps : goal.returns-in-None-clause-keeps
+returns-in-None-clause-keeps g c = λ cfg past s.
+    let M = g.S.Sides.meaning cfg in
+    let at = c.args.self.now.at in
+    let q = g.S.Sides.request c.args.self.now.sides in
+    let a = g.S.Sides.answer c.args.self.now.sides in
+    let r = g.S.Sides.request c.step_request.new.self in
+    let requests = requests_of M at q a s.sided past c.requires s.holds in
+    let st = c.step_request.ensures.leads cfg s.sided s.stand requests in
+    record {
+      sided = record s.sided { to_server = s.sided.to_server ++ st.put };
+      stand = st.stands;
+      holds = holds_at M at r r a (g.S.Sides.answer c.step_request.new.self) _ _ refl c.step_request.ensures.answer
+          (steps_on M _ at q r a s.sided past c.requires c.in-None.ensures c.step_request.ensures.keeps st s.holds);
+    }
+
+pub returns-then-is_begun-clause-keeps : goal.returns-then-is_begun-clause-keeps
+returns-then-is_begun-clause-keeps g c = λ cfg past s.
+    let M = g.S.Sides.meaning cfg in
+    let at = c.args.self.now.at in
+    let q = g.S.Sides.request c.args.self.now.sides in
+    let a = g.S.Sides.answer c.args.self.now.sides in
+    let r = g.S.Sides.request c.step_request.new.self in
+    let requests = requests_of M at q a s.sided past c.requires s.holds in
+    let st = c.step_request.ensures.leads cfg s.sided s.stand requests in
+    record {
+      sided = record s.sided { to_server = s.sided.to_server ++ st.put };
+      stand = st.stands;
+      holds = holds_at M (record at { cut = Some true }) r r a (g.S.Sides.answer c.step_request.new.self) _ _ refl c.step_request.ensures.answer
+          (steps_begun M _ at q r a s.sided past c.in-Some.code c.requires c.in-Some.ensures.0 c.in-Some.ensures.1 c.step_request.ensures.keeps st s.holds);
+    }
+
+pub returns-else-is_begun-clause-keeps : goal.returns-else-is_begun-clause-keeps
+returns-else-is_begun-clause-keeps g c = λ cfg past s.
+    let M = g.S.Sides.meaning cfg in
+    let at = c.args.self.now.at in
+    let q = g.S.Sides.request c.args.self.now.sides in
+    let a = g.S.Sides.answer c.args.self.now.sides in
+    let r = g.S.Sides.request c.step_request.new.self in
+    let requests = requests_of M at q a s.sided past c.requires s.holds in
+    let st = c.step_request.ensures.leads cfg s.sided s.stand requests in
+    let b = g.S.Sides.answer c.turn.new.self in
+    let begun : a.begun ≡ false = ap (λ a. a.begun) (sym c.step_request.ensures.answer) ∙ sym c.is_begun.ensures ∙ c.if-is_begun.false in
+    let before = before_of M at q a s.sided past st.put c.requires c.in-Some.ensures.0 begun s.holds in
+    let tu = c.turn.ensures.leads cfg _ st.stands before in
+    record {
+      sided = record s.sided { to_server = s.sided.to_server ++ st.put; saying = tu.saying };
+      stand = tu.stands;
+      holds = holds_at M (record at { cut = Some false }) r (g.S.Sides.request c.turn.new.self) b b _ _ c.turn.ensures.request refl
+          (steps_before M _ _ at q r a b s.sided past c.in-Some.code c.requires c.in-Some.ensures.0 c.in-Some.ensures.1 c.step_request.ensures.keeps st
+          (c.turn.ensures.window ∙ ap (λ a. a.window) c.step_request.ensures.answer) (c.turn.ensures.open ∙ ap (λ a. a.is_open) c.step_request.ensures.answer) tu s.holds);
+    }

@@ -1,0 +1,14 @@
+pub use Rattle.session_model.specs.Stream
+pub use Rattle.session_model.specs.Meaning
+pub use Rattle.session_model.specs.Asking
+pub use Rattle.session_model.specs.Amending
+pub use Rattle.session_model.specs.Answering
+pub use Rattle.session_model.specs.Session
+pub mod History
+pub mod Awaits
+pub mod Sided
+pub mod Stands
+pub mod Consequences
+pub mod Leads
+pub mod Waits
+pub mod Lanes

@@ -1,0 +1,116 @@
+//! What peers give and take: the calls that a driver makes.
+ghost use Rattle.std.specs.Prelude.{◌≡◌, ◌≢◌, ◌≤◌, [], length, take, IsTrue, Bool, true, false};
+ghost use Rattle.session_core.specs.History.{FromClient, ClientEnded, ClientTook, ServerOpened, FromServer, ServerEnded, ServerTook, ServerStopped, ServerClosed};
+ghost use Rattle.session_core.specs.Waits.{is_serving};
+ghost use Rattle.session_core.specs.Leads.{Leads};
+
+use crate::Phase;
+use crate::machine::Core;
+use crate::sides::Sides;
+use http_model::Ending;
+
+impl<S: Sides> Core<S> {
+    /// The client gives these bytes.
+    pub fn from_client(&mut self, bytes: &[u8])
+        requires open { IsTrue (S.request self.old.sides).is_open }
+        requires room { length bytes.now ≤ (S.request self.old.sides).room }
+        ensures leads { Leads S.meaning S.request S.answer S.stands self.old.sides self.old.at self.new.sides self.new.at (FromClient bytes.now) }
+        ensures serving { is_serving self.new.at.phase ≡ is_serving self.old.at.phase }
+        ensures lost { self.new.lost ≡ self.old.lost }
+    {
+        self.sides.take_client(bytes);
+    }
+
+    /// The client's stream has ended.
+    pub fn client_ended(&mut self, how: Ending)
+        requires { IsTrue (S.request self.old.sides).is_open }
+        ensures leads { Leads S.meaning S.request S.answer S.stands self.old.sides self.old.at self.new.sides self.new.at (ClientEnded how) }
+        ensures serving { is_serving self.new.at.phase ≡ is_serving self.old.at.phase }
+        ensures lost { self.new.lost ≡ self.old.lost }
+    {
+        self.sides.end_client(how);
+    }
+
+    /// The client took so many bytes of its output window.
+    pub fn client_took(&mut self, n: usize)
+        requires { n ≤ length (S.answer self.old.sides).window }
+        ensures leads { Leads S.meaning S.request S.answer S.stands self.old.sides self.old.at self.new.sides self.new.at (ClientTook (take n (S.answer self.old.sides).window)) }
+        ensures serving { is_serving self.new.at.phase ≡ is_serving self.old.at.phase }
+        ensures lost { self.new.lost ≡ self.old.lost }
+    {
+        self.sides.client_took(n);
+    }
+
+    /// A server was opened, or was refused.
+    pub fn server_opened(&mut self, yes: bool)
+        requires { self.old.at.phase ≡ Phase.Opening }
+        ensures leads { Leads S.meaning S.request S.answer S.stands self.old.sides self.old.at self.new.sides self.new.at (ServerOpened yes) }
+        ensures serving { is_serving self.new.at.phase ≡ yes }
+        ensures lost { self.new.lost ≡ self.old.lost }
+    {
+        if yes {
+            self.sides.open_server();
+            self.at.phase = Phase::Serving;
+        } else {
+            self.at.phase = Phase::Unserved;
+        }
+    }
+
+    /// The server gives these bytes.
+    pub fn from_server(&mut self, bytes: &[u8])
+        requires serving { self.old.at.phase ≡ Phase.Serving }
+        requires open { IsTrue (S.answer self.old.sides).is_open }
+        requires room { length bytes.now ≤ (S.answer self.old.sides).room }
+        ensures leads { Leads S.meaning S.request S.answer S.stands self.old.sides self.old.at self.new.sides self.new.at (FromServer bytes.now) }
+        ensures serving { is_serving self.new.at.phase ≡ is_serving self.old.at.phase }
+        ensures lost { self.new.lost ≡ self.old.lost }
+    {
+        self.sides.take_server(bytes);
+    }
+
+    /// The server's stream has ended.
+    pub fn server_ended(&mut self, how: Ending)
+        requires serving { self.old.at.phase ≡ Phase.Serving }
+        requires open { IsTrue (S.answer self.old.sides).is_open }
+        ensures leads { Leads S.meaning S.request S.answer S.stands self.old.sides self.old.at self.new.sides self.new.at (ServerEnded how) }
+        ensures serving { is_serving self.new.at.phase ≡ is_serving self.old.at.phase }
+        ensures lost { self.new.lost ≡ self.old.lost }
+    {
+        self.sides.end_server(how);
+    }
+
+    /// The server took so many bytes of its output window.
+    pub fn server_took(&mut self, n: usize)
+        requires serving { self.old.at.phase ≡ Phase.Serving }
+        requires within { n ≤ length (S.request self.old.sides).window }
+        ensures leads { Leads S.meaning S.request S.answer S.stands self.old.sides self.old.at self.new.sides self.new.at (ServerTook (take n (S.request self.old.sides).window)) }
+        ensures serving { is_serving self.new.at.phase ≡ is_serving self.old.at.phase }
+        ensures lost { self.new.lost ≡ self.old.lost }
+    {
+        self.sides.server_took(n);
+    }
+
+    /// The server takes nothing more: what waits for it, and all that follows, is dropped.
+    pub fn server_stopped(&mut self)
+        requires serving { self.old.at.phase ≡ Phase.Serving }
+        requires waits { (S.request self.old.sides).window ≢ [] }
+        ensures leads { Leads S.meaning S.request S.answer S.stands self.old.sides self.old.at self.new.sides self.new.at ServerStopped }
+        ensures serving { is_serving self.new.at.phase ≡ is_serving self.old.at.phase }
+        ensures lost { self.new.lost ≡ self.old.lost }
+    {
+        self.sides.drop_request();
+    }
+
+    /// The server's link was closed.
+    pub fn server_closed(&mut self)
+        requires serving { self.old.at.phase ≡ Phase.Serving }
+        requires sent { IsTrue (S.request self.old.sides).sent }
+        requires taken { (S.request self.old.sides).window ≡ [] }
+        requires answered { IsTrue (S.answer self.old.sides).answered }
+        ensures leads { Leads S.meaning S.request S.answer S.stands self.old.sides self.old.at self.new.sides self.new.at ServerClosed }
+        ensures serving { is_serving self.new.at.phase ≡ false }
+        ensures lost { self.new.lost ≡ self.old.lost }
+    {
+        self.at.phase = Phase::Served;
+    }
+}

@@ -1,0 +1,59 @@
+//! A core that stands for its history: the machine of a session over two directions that run side by side.
+#![tactic(auto)]
+
+mod calls;
+pub mod laws;
+mod machine;
+mod sides;
+mod turns;
+mod wants;
+mod work;
+
+pub use http_model::{Close, End, Ending, OutOfMemory};
+pub use machine::{At, Core, Wants};
+pub use sides::{Asked, Sides};
+
+/// How the source of a request stands.
+#[derive(Clone, Copy, Debug, PartialEq, Eq)]
+pub enum Source {
+    /// It goes on.
+    Going,
+    /// It came whole.
+    Whole,
+    /// It is cut, with the code of the refusal.
+    Cut(u16),
+}
+
+/// How the last that answers stands.
+#[derive(Clone, Copy, Debug, PartialEq, Eq)]
+pub enum Told {
+    /// It goes on.
+    Going,
+    /// The session closes behind it: a refusal, or a plain one.
+    Closes,
+    /// It is a whole response, or a reply that isn't plain.
+    Whole,
+    /// It is a response that was cut.
+    Cut,
+}
+
+/// Where a core stands in its session.
+#[derive(Clone, Copy, Debug, PartialEq, Eq)]
+pub enum Phase {
+    /// In front of a request head.
+    Reading,
+    /// A server is to be opened.
+    Opening,
+    /// It was refused.
+    Unserved,
+    /// Both directions run.
+    Serving,
+    /// The server is closed.
+    Served,
+    /// A refusal goes out, with no server open.
+    Refusing,
+    /// A reply goes out, with no server; and whether the connection is kept behind it.
+    Replying(bool),
+    /// The session is over.
+    Over(End),
+}

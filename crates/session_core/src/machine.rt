@@ -1,0 +1,114 @@
+//! A core: its two directions, and where it stands in its session.
+ghost use Rattle.std.specs.Prelude.{◌≡◌, Option, Bool};
+ghost use Rattle.session_core.specs.History.{nothing_yet};
+ghost use Rattle.session_core.specs.Sided.{Sided};
+ghost use Rattle.session_core.specs.Leads.{Stands, IsFresh};
+
+use crate::Phase;
+use crate::sides::Sides;
+use http_model::{Close, End};
+
+/// Where a core stands beside its directions.
+#[derive(Clone, Copy, Debug, PartialEq, Eq)]
+pub struct At {
+    pub phase: Phase,
+    /// Where a request was met as cut, whether the answer had begun.
+    pub cut: Option<bool>,
+    /// The exchanges that were begun. The count stays at its type's last value.
+    pub exchanges: u32,
+}
+
+/// What a core wants of its driver.
+#[derive(Clone, Copy, Debug, PartialEq, Eq)]
+pub struct Wants {
+    pub client_read: bool,
+    pub client_write: bool,
+    /// The client waits for a response head before it sends the body (RFC 9110 section 10.1.1).
+    pub client_waits: bool,
+    pub server_open: bool,
+    pub server_read: bool,
+    pub server_write: bool,
+    pub server_close: Option<Close>,
+    pub over: Option<End>,
+}
+
+/// A session over two directions. Its contracts say what each call makes of a core that stands for a history.
+#[derive(Drop)]
+pub struct Core<S> {
+    pub sides: S,
+    pub at: At,
+    /// Work found no memory: the core takes no further call.
+    pub lost: bool,
+}
+
+impl<S: Sides> Core<S> {
+    /// A core to which nothing has happened.
+    pub fn new(sides: S) -> Core<S>
+        ensures { (cfg : S.Settings) (p : Sided (S.meaning cfg)) → S.stands cfg sides p → IsFresh (S.meaning cfg) (S.request sides) (S.answer sides) p
+            → Stands (S.meaning cfg) S.request S.answer (S.stands cfg) result.sides result.at nothing_yet }
+    {
+        Core {
+            sides,
+            at: At {
+                phase: Phase::Reading,
+                cut: None,
+                exchanges: 0,
+            },
+            lost: false,
+        }
+    }
+
+    /// The answer of the exchange in hand has begun.
+    pub fn begun(&self) -> bool
+        ensures { result ≡ (S.answer self.now.sides).begun }
+    {
+        self.sides.is_begun()
+    }
+
+    /// Where a request was met as cut, whether the answer had begun.
+    pub fn cut(&self) -> Option<bool>
+        ensures { result ≡ self.now.at.cut }
+    {
+        self.at.cut
+    }
+
+    pub fn exchanges(&self) -> u32
+        ensures { result ≡ self.now.at.exchanges }
+    {
+        self.at.exchanges
+    }
+
+    pub fn is_lost(&self) -> bool
+        ensures { result ≡ self.now.lost }
+    {
+        self.lost
+    }
+
+    /// The bytes that wait for the client.
+    pub fn to_client(&self) -> &[u8]
+        ensures { result.now ≡ (S.answer self.now.sides).window }
+    {
+        self.sides.to_client()
+    }
+
+    /// The room for bytes of the client.
+    pub fn client_room(&self) -> usize
+        ensures { result ≡ (S.request self.now.sides).room }
+    {
+        self.sides.client_room()
+    }
+
+    /// The room for bytes of the server.
+    pub fn server_room(&self) -> usize
+        ensures { result ≡ (S.answer self.now.sides).room }
+    {
+        self.sides.server_room()
+    }
+
+    /// The bytes that wait for the server.
+    pub fn to_server(&self) -> &[u8]
+        ensures { result.now ≡ (S.request self.now.sides).window }
+    {
+        self.sides.to_server()
+    }
+}

@@ -1,0 +1,185 @@
+//! Work: all that can be done without another event.
+ghost use Rattle.std.specs.Prelude.{◌≡◌, Option, Some, None, Bool, true, false, OnOk, IsErr, IsTrue, ◌↔◌, MatchOption};
+ghost use Rattle.session_core.specs.History.{Work};
+ghost use Rattle.session_core.specs.Sided.{IsUncut};
+ghost use Rattle.session_core.specs.Waits.{wants_of, wants_any, is_serving, RequestWaits, AnswerWaitsAt, Stepped, Answered, Settled, refused_phase};
+ghost use Rattle.session_core.specs.Leads.{Leads, Keeps, IsNote, Meets};
+
+use crate::machine::Core;
+use crate::sides::Sides;
+use crate::{Phase, Source};
+use http_model::OutOfMemory;
+
+impl<S: Sides> Core<S> {
+    /// Does all that can be done without another event.
+    pub fn work(&mut self) -> Result<(), OutOfMemory>
+        ensures leads { OnOk result ((note : Option Bool) × IsNote self.old.at.cut self.new.at.cut (S.answer self.old.sides).begun note × Leads S.meaning S.request S.answer S.stands self.old.sides self.old.at self.new.sides self.new.at (Work note)) }
+        ensures lost { IsErr result ↔ IsTrue self.new.lost }
+        ensures serving { OnOk result (is_serving self.new.at.phase ≡ is_serving self.old.at.phase) }
+        ensures wants { OnOk result (wants_any (wants_of (S.request self.new.sides) (S.answer self.new.sides) self.new.at) ≡ true) }
+    {
+        match self.run() {
+            Ok(()) => {
+                self.lost = false;
+                Ok(())
+            }
+            Err(e) => {
+                self.lost = true;
+                Err(e)
+            }
+        }
+    }
+
+    fn run(&mut self) -> Result<(), OutOfMemory>
+        ensures keeps { OnOk result (Keeps S.meaning S.request S.answer S.stands self.old.sides self.old.at self.new.sides self.new.at) }
+        ensures met { OnOk result (Meets self.old.at.cut self.new.at.cut (S.answer self.old.sides).begun) }
+        ensures serving { OnOk result (is_serving self.new.at.phase ≡ is_serving self.old.at.phase) }
+        ensures settled { OnOk result (Settled self.new.at.phase self.new.at.cut (S.request self.new.sides) (S.answer self.new.sides)) }
+    {
+        self.run_request();
+        self.refuse_unserved()?;
+        self.run_answer()?;
+        self.end_exchange();
+        while self.begin_exchange()? {
+            self.run_answer()?;
+            self.end_exchange();
+        }
+        Ok(())
+    }
+
+    /// The code of a cut that was not met before.
+    fn newly_cut(&self) -> Option<u16>
+        ensures { MatchOption result (self.now.at.cut ≡ None → IsUncut (S.request self.now.sides).source) (λ code. (self.now.at.cut ≡ None) × ((S.request self.now.sides).source ≡ Source.Cut code)) }
+    {
+        match self.at.cut {
+            Some(_) => None,
+            None => match self.sides.source() {
+                Source::Cut(code) => Some(code),
+                Source::Going => None,
+                Source::Whole => None,
+            },
+        }
+    }
+
+    /// The request direction, as far as it can go. Where the request is met as cut and the answer hasn't begun, a refusal
+    /// takes its place.
+    fn run_request(&mut self)
+        ensures keeps { Keeps S.meaning S.request S.answer S.stands self.old.sides self.old.at self.new.sides self.new.at }
+        ensures met { Meets self.old.at.cut self.new.at.cut (S.answer self.old.sides).begun }
+        ensures phase { self.new.at.phase ≡ self.old.at.phase }
+        ensures stepped { Stepped self.new.at.phase (S.request self.new.sides) }
+    {
+        match self.at.phase {
+            Phase::Serving => self.step_request(),
+            Phase::Reading => {}
+            Phase::Opening => {}
+            Phase::Unserved => {}
+            Phase::Served => {}
+            Phase::Refusing => {}
+            Phase::Replying(_) => {}
+            Phase::Over(_) => {}
+        }
+    }
+
+    fn step_request(&mut self)
+        requires { self.old.at.phase ≡ Phase.Serving }
+        ensures keeps { Keeps S.meaning S.request S.answer S.stands self.old.sides self.old.at self.new.sides self.new.at }
+        ensures met { Meets self.old.at.cut self.new.at.cut (S.answer self.old.sides).begun }
+        ensures phase { self.new.at.phase ≡ self.old.at.phase }
+        ensures stepped { RequestWaits (S.request self.new.sides) }
+    {
+        self.sides.step_request();
+        match self.newly_cut() {
+            None => {}
+            Some(code) => {
+                if self.sides.is_begun() {
+                    self.at.cut = Some(true);
+                } else {
+                    self.sides.turn(code);
+                    self.at.cut = Some(false);
+                }
+            }
+        }
+    }
+
+    /// A server was refused: so is the client.
+    fn refuse_unserved(&mut self) -> Result<(), OutOfMemory>
+        ensures keeps { OnOk result (Keeps S.meaning S.request S.answer S.stands self.old.sides self.old.at self.new.sides self.new.at) }
+        ensures cut { OnOk result (self.new.at.cut ≡ self.old.at.cut) }
+        ensures phase { OnOk result (self.new.at.phase ≡ refused_phase self.old.at.phase) }
+        ensures request { OnOk result (S.request self.new.sides ≡ S.request self.old.sides) }
+    {
+        match self.at.phase {
+            Phase::Unserved => self.refuse_server(),
+            Phase::Reading => Ok(()),
+            Phase::Opening => Ok(()),
+            Phase::Serving => Ok(()),
+            Phase::Served => Ok(()),
+            Phase::Refusing => Ok(()),
+            Phase::Replying(_) => Ok(()),
+            Phase::Over(_) => Ok(()),
+        }
+    }
+
+    fn refuse_server(&mut self) -> Result<(), OutOfMemory>
+        requires { self.old.at.phase ≡ Phase.Unserved }
+        ensures keeps { OnOk result (Keeps S.meaning S.request S.answer S.stands self.old.sides self.old.at self.new.sides self.new.at) }
+        ensures cut { OnOk result (self.new.at.cut ≡ self.old.at.cut) }
+        ensures phase { OnOk result (self.new.at.phase ≡ Phase.Refusing) }
+        ensures request { OnOk result (S.request self.new.sides ≡ S.request self.old.sides) }
+    {
+        self.sides.refuse(503)?;
+        self.at.phase = Phase::Refusing;
+        Ok(())
+    }
+
+    /// A refusal took the place of the server's answer.
+    pub(crate) fn is_turned(&self) -> bool
+        ensures { IsTrue result ↔ (self.now.at.cut ≡ Some false) }
+    {
+        match self.at.cut {
+            Some(begun) => !begun,
+            None => false,
+        }
+    }
+
+    /// The answer direction, as far as it can go.
+    fn run_answer(&mut self) -> Result<(), OutOfMemory>
+        ensures keeps { OnOk result (Keeps S.meaning S.request S.answer S.stands self.old.sides self.old.at self.new.sides self.new.at) }
+        ensures at { OnOk result (self.new.at ≡ self.old.at) }
+        ensures request { S.request self.new.sides ≡ S.request self.old.sides }
+        ensures answered { OnOk result (Answered self.new.at.phase self.new.at.cut (S.answer self.new.sides)) }
+    {
+        match self.at.phase {
+            Phase::Serving => self.answer_or_say(),
+            Phase::Refusing => {
+                self.sides.say();
+                Ok(())
+            }
+            Phase::Replying(_) => {
+                self.sides.say();
+                Ok(())
+            }
+            Phase::Reading => Ok(()),
+            Phase::Opening => Ok(()),
+            Phase::Unserved => Ok(()),
+            Phase::Served => Ok(()),
+            Phase::Over(_) => Ok(()),
+        }
+    }
+
+    fn answer_or_say(&mut self) -> Result<(), OutOfMemory>
+        requires { self.old.at.phase ≡ Phase.Serving }
+        ensures keeps { OnOk result (Keeps S.meaning S.request S.answer S.stands self.old.sides self.old.at self.new.sides self.new.at) }
+        ensures at { OnOk result (self.new.at ≡ self.old.at) }
+        ensures request { S.request self.new.sides ≡ S.request self.old.sides }
+        ensures answered { OnOk result (AnswerWaitsAt self.new.at.cut (S.answer self.new.sides)) }
+    {
+        if self.is_turned() {
+            self.sides.say();
+            return Ok(());
+        }
+        self.sides.step_answer()?;
+        Ok(())
+    }
+}

@@ -1,0 +1,5 @@
+pub mod Spelled
+pub mod Filtered
+pub mod Replies
+pub mod Bounds
+pub mod Decides

@@ -1,0 +1,7 @@
+//! Laws over what a session means, whatever reads, rules and filters give it.
+#![tactic(auto)]
+
+pub mod laws;
+mod means;
+
+pub use means::Means;
