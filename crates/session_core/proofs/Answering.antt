@@ -26,7 +26,7 @@ answer_open same h = record { is_open = same ∙ h.is_open; settled = h.settled;
 answer_serves : (M : Meaning) (S : Sided M → Type 0) (q : RequestSeen) (a b : AnswerSeen) (p : Sided M) (cut : Option Bool) → cut ≢ Some false
     → (st : StepsAnswer M S a b p) → Serves M q a p cut → Serves M q b (record p { to_client = p.to_client ++ st.put; now = st.behind }) cut
 answer_serves M S q a b p None other st h = (h.0, st.answers, h.2, st.before h.3)
-answer_serves M S q a b p (Some true) other st h = (h.0, st.answers, h.2, h.3)
+answer_serves M S q a b p (Some true) other st h = (h.0, st.answers, h.2, h.3, st.began h.4)
 answer_serves M S q a b p (Some false) other st h = absurd (other refl)
 
 answers_in : (M : Meaning) (q : RequestSeen) (a : AnswerSeen) (p : Sided M) (cut : Option Bool) → cut ≢ Some false → Serves M q a p cut → AnswersSo M a p

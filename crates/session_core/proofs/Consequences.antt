@@ -116,7 +116,7 @@ window_of M q a p hand cut now (phase.Over how) h none = h.0
 -- ---- the whole
 
 -- a stream of the whole past begins with the bytes of the exchanges that are done
-split_past : (used : List ℕ) (came client : Coming) (s : Stream) → client ≡ prepended used came → Continues client s → Splits used came s
+pub split_past : (used : List ℕ) (came client : Coming) (s : Stream) → client ≡ prepended used came → Continues client s → Splits used came s
 split_past used came client s is h = let P : Coming → Type 0 = λ c. Continues c s in splits used came s (subst P is h)
 
 pub front : (M : Meaning) → IsTotal M → (c : At) (q : RequestSeen) (a : AnswerSeen) (p : Sided M) (past : Past)

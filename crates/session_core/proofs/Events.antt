@@ -26,7 +26,7 @@ holds_at M at q r a b p past e f h =
     let A : AnswerSeen → Type 0 = λ a. Holds M at q a p past in
     subst Q (sym e) (subst A (sym f) h)
 
-open_of : (is_open : Bool) (ending : Option Ending) → is_open ≡ is_none ending → is_open ≡ true → ending ≡ None
+pub open_of : (is_open : Bool) (ending : Option Ending) → is_open ≡ is_none ending → is_open ≡ true → ending ≡ None
 open_of is_open None e t = refl
 open_of is_open (Some how) e t = let no : false ≡ true = sym e ∙ t in absurd (grind (arith, no))
 
@@ -35,7 +35,7 @@ open_of is_open (Some how) e t = let no : false ≡ true = sym e ∙ t in absurd
 serves_came : (M : Meaning) (q : RequestSeen) (a : AnswerSeen) (p : Sided M) (came : Coming) (cut : Option Bool)
     → ((s : Stream) → Continues came s → Continues p.came s) → Serves M q a p cut → Serves M q a (record p { came = came }) cut
 serves_came M q a p came None w h = (λ s c. h.0 s (w s c), h.1, h.2, h.3)
-serves_came M q a p came (Some true) w h = (λ s c. h.0 s (w s c), h.1, h.2, h.3)
+serves_came M q a p came (Some true) w h = (λ s c. h.0 s (w s c), h.1, h.2, h.3, h.4)
 serves_came M q a p came (Some false) w h = (λ s c. h.0 s (w s c), h.1, h.2, h.3)
 
 in_phase_came : (M : Meaning) (q : RequestSeen) (a : AnswerSeen) (p : Sided M) (came : Coming) (hand : ℕ) (cut : Option Bool) (now : List Connect) (ph : Phase)
@@ -53,7 +53,7 @@ in_phase_came M q a p came hand cut now (phase.Over how) w h = (h.0, h.1, λ s s
 
 pub client_gives : (M : Meaning) (at : At) (q : RequestSeen) (a : AnswerSeen) (p : Sided M) (past : Past) (bytes : List ℕ) (room unread : ℕ)
     → q.is_open ≡ true → Holds M at q a p past
-    → Holds M at (record q { room = room; unread = unread }) a (record p { came = gains p.came bytes }) (record past { client = gains past.client bytes })
+    → Holds M at (record q { room = room; unread = unread; at_rest = false }) a (record p { came = gains p.came bytes }) (record past { client = gains past.client bytes })
 client_gives M at q a p past bytes room unread is h =
     let w : (s : Stream) → Continues (gains p.came bytes) s → Continues p.came s = λ s c. continues_gains p.came bytes s (open_of q.is_open p.came.ending h.is_open is) c in
     record {
@@ -76,7 +76,7 @@ client_gives M at q a p past bytes room unread is h =
 
 pub client_ends : (M : Meaning) (at : At) (q : RequestSeen) (a : AnswerSeen) (p : Sided M) (past : Past) (how : Ending)
     → q.is_open ≡ true → Holds M at q a p past
-    → Holds M at (record q { is_open = false }) a (record p { came = ends p.came how }) (record past { client = ends past.client how })
+    → Holds M at (record q { is_open = false; at_rest = false }) a (record p { came = ends p.came how }) (record past { client = ends past.client how })
 client_ends M at q a p past how is h =
     let w : (s : Stream) → Continues (ends p.came how) s → Continues p.came s = λ s c. continues_ends p.came how s (open_of q.is_open p.came.ending h.is_open is) c in
     record {
@@ -101,7 +101,7 @@ client_ends M at q a p past how is h =
 
 pub client_takes : (M : Meaning) (at : At) (q : RequestSeen) (a : AnswerSeen) (p : Sided M) (past : Past) (n : ℕ)
     → Holds M at q a p past
-    → Holds M at q (record a { window = drop n a.window }) p (record past { taken = past.taken ++ take n a.window })
+    → Holds M at q (record a { window = drop n a.window; at_rest = false }) p (record past { taken = past.taken ++ take n a.window })
 client_takes M at q a p past n h =
     record {
       used = h.used;
@@ -165,13 +165,13 @@ serves_server : (M : Meaning) (q : RequestSeen) (a : AnswerSeen) (p : Sided M) (
     → ((s : Stream) → Continues server s → Continues p.server s) → Serves M q a p cut → Serves M q a (record p { server = server }) cut
 serves_server M q a p server None w h =
     (h.0, (h.1.0, λ s c. h.1.1 s (w s c)), h.2, λ e. record { heads = (h.3 e).heads; begins = λ s c. (h.3 e).begins s (w s c); front = (h.3 e).front })
-serves_server M q a p server (Some true) w h = (h.0, (h.1.0, λ s c. h.1.1 s (w s c)), h.2, h.3)
+serves_server M q a p server (Some true) w h = (h.0, (h.1.0, λ s c. h.1.1 s (w s c)), h.2, h.3, h.4)
 serves_server M q a p server (Some false) w h =
     (h.0, h.1, h.2, record { heads = h.3.heads; begins = λ s c. h.3.begins s (w s c); refused = h.3.refused; spelled = h.3.spelled; said = h.3.said; sent = h.3.sent })
 
 pub server_gives : (M : Meaning) (q : RequestSeen) (a : AnswerSeen) (p : Sided M) (bytes : List ℕ) (room : ℕ) (cut : Option Bool) (c : Connect)
     → a.is_open ≡ true → IsServing M q a p cut (c ∷ []) c
-    → InPhase M q (record a { room = room }) (record p { server = gains p.server bytes }) 1 cut (given_by bytes c ∷ []) phase.Serving
+    → InPhase M q (record a { room = room; at_rest = false }) (record p { server = gains p.server bytes }) 1 cut (given_by bytes c ∷ []) phase.Serving
 server_gives M q a p bytes room cut c is h = (
   refl,
   given_by bytes c,
@@ -185,7 +185,7 @@ server_gives M q a p bytes room cut c is h = (
 
 pub server_ends : (M : Meaning) (q : RequestSeen) (a : AnswerSeen) (p : Sided M) (how : Ending) (cut : Option Bool) (c : Connect)
     → a.is_open ≡ true → IsServing M q a p cut (c ∷ []) c
-    → InPhase M q (record a { is_open = false }) (record p { server = ends p.server how }) 1 cut (ended_by how c ∷ []) phase.Serving
+    → InPhase M q (record a { is_open = false; at_rest = false }) (record p { server = ends p.server how }) 1 cut (ended_by how c ∷ []) phase.Serving
 server_ends M q a p how cut c is h = (
   refl,
   ended_by how c,
@@ -199,7 +199,7 @@ server_ends M q a p how cut c is h = (
 
 pub server_takes : (M : Meaning) (q : RequestSeen) (a : AnswerSeen) (p : Sided M) (n : ℕ) (cut : Option Bool) (c : Connect)
     → IsServing M q a p cut (c ∷ []) c
-    → InPhase M (record q { window = drop n q.window }) a p 1 cut (taking (take n q.window) c ∷ []) phase.Serving
+    → InPhase M (record q { window = drop n q.window; at_rest = false }) a p 1 cut (taking (take n q.window) c ∷ []) phase.Serving
 server_takes M q a p n cut c h = (
   refl,
   taking (take n q.window) c,
@@ -256,18 +256,18 @@ drops_one : (M : Meaning) (q : RequestSeen) (p : Sided M) (put : List ℕ) (s : 
 drops_one M q p put s some e g = record { rest = g.rest; asks = g.asks; goes = body_drops M q p.asking p.to_server put g.rest some e g.goes }
 
 drops : (M : Meaning) (q : RequestSeen) (p : Sided M) (put : List ℕ) → q.window ≢ [] → put ++ q.window ≡ p.to_server → Requests M q p
-    → Requests M (record q { window = []; dropped = true }) (record p { to_server = put })
+    → Requests M (record q { window = []; dropped = true; at_rest = false }) (record p { to_server = put })
 drops M q p put some e h s c = if_settled q.source (drops_one M q p put s some e) (h s c)
 
 serves_dropped : (M : Meaning) (q : RequestSeen) (a : AnswerSeen) (p : Sided M) (put : List ℕ) (cut : Option Bool) → q.window ≢ [] → put ++ q.window ≡ p.to_server
-    → Serves M q a p cut → Serves M (record q { window = []; dropped = true }) a (record p { to_server = put }) cut
+    → Serves M q a p cut → Serves M (record q { window = []; dropped = true; at_rest = false }) a (record p { to_server = put }) cut
 serves_dropped M q a p put None some e h = (drops M q p put some e h.0, h.1, h.2, h.3)
-serves_dropped M q a p put (Some true) some e h = (drops M q p put some e h.0, h.1, h.2, h.3)
+serves_dropped M q a p put (Some true) some e h = (drops M q p put some e h.0, h.1, h.2, h.3, h.4)
 serves_dropped M q a p put (Some false) some e h = (drops M q p put some e h.0, h.1, h.2, h.3)
 
 pub server_stops : (M : Meaning) (q : RequestSeen) (a : AnswerSeen) (p : Sided M) (cut : Option Bool) (c : Connect)
     → q.window ≢ [] → IsServing M q a p cut (c ∷ []) c
-    → InPhase M (record q { window = []; dropped = true }) a (record p { to_server = c.taken }) 1 cut (stopping c ∷ []) phase.Serving
+    → InPhase M (record q { window = []; dropped = true; at_rest = false }) a (record p { to_server = c.taken }) 1 cut (stopping c ∷ []) phase.Serving
 server_stops M q a p cut c some h = (
   refl,
   stopping c,
@@ -290,63 +290,6 @@ server_closes M q a p note cut c sent taken answered is h = (
   (refl, record { there = h.1.there; stopped = h.1.stopped; stream = h.1.stream; taken = h.1.taken }, h.2, h.3),
 )
 
--- ---- a server is opened, or refused
-
--- the exchange in hand gets its connect
-pub connects_now : (M : Meaning) (at : At) (to : Phase) (q : RequestSeen) (a b : AnswerSeen) (p s : Sided M) (past : Past) (c : Connect)
-    → at.phase ≡ phase.Opening → s.vars ≡ p.vars → s.came ≡ p.came → s.to_client ≡ p.to_client → b.window ≡ a.window
-    → (InPhase M q a p 1 at.cut [] phase.Opening → InPhase M q b s 1 at.cut (c ∷ []) to)
-    → Holds M at q a p past
-    → Holds M (record at { phase = to }) q b s (record past { connects = past.connects ++ c ∷ [] })
-connects_now M at to q a b p s past c is vars came client window then h =
-    let P : Phase → Type 0 = λ ph. InPhase M q a p h.hand at.cut h.now ph in
-    let opening : InPhase M q a p h.hand at.cut h.now phase.Opening = subst P is h.phase in
-    let N : List Connect → Type 0 = λ now. InPhase M q a p h.hand at.cut now phase.Opening in
-    let K : ℕ → Type 0 = λ n. InPhase M q a p n at.cut [] phase.Opening in
-    let H : ℕ → Type 0 = λ n. InPhase M q b s n at.cut (c ∷ []) to in
-    let B : M.Vars → Type 0 = λ v. IsBehind M v h.used s.came h.before h.done in
-    let C : Coming → Type 0 = λ c. IsBehind M p.vars h.used c h.before h.done in
-    record {
-      used = h.used;
-      done = h.done;
-      hand = h.hand;
-      before = h.before;
-      now = c ∷ [];
-      is_open = h.is_open ∙ ap (λ c. is_none c.ending) (sym came);
-      client = h.client ∙ ap (λ c. prepended h.used c) (sym came);
-      connects = ap (λ cs. cs ++ c ∷ []) (h.connects ∙ ap (λ cs. h.before ++ cs) opening.3 ∙ append-nil h.before);
-      taken = ap (λ xs. past.taken ++ xs) window ∙ h.taken ∙ ap (λ xs. h.done.client ++ xs) (sym client);
-      note = h.note;
-      count = h.count;
-      sent = h.sent;
-      fronts = h.fronts;
-      behind = subst B (sym vars) (subst C (sym came) h.behind);
-      phase = subst H (sym opening.0) (then (subst K opening.0 (subst N opening.3 opening)));
-    }
-
-pub refused_server : (M : Meaning) (q : RequestSeen) (a : AnswerSeen) (p : Sided M) (cut : Option Bool)
-    → InPhase M q a p 1 cut [] phase.Opening → InPhase M q a p 1 cut (connected false ∷ []) phase.Unserved
-refused_server M q a p cut h = (refl, h.1, h.2, refl, h.6)
-
-serves_first : (M : Meaning) (q : RequestSeen) (b : AnswerSeen) (p : Sided M) (cut : Option Bool) → cut ≡ None
-    → Requests M q p → AnswersSo M b p → IsUncut q.source → IsBefore M p → Serves M q b p cut
-serves_first M q b p cut e r s u i = let P : Option Bool → Type 0 = λ c. Serves M q b p c in subst P (sym e) (r, s, u, λ n. i)
-
-pub opened_server : (M : Meaning) (q : RequestSeen) (a b : AnswerSeen) (p : Sided M) (cut : Option Bool)
-    → b.is_open ≡ true → AnswersSo M b (record p { server = no_stream })
-    → InPhase M q a p 1 cut [] phase.Opening → InPhase M q b (record p { server = no_stream }) 1 cut (connected true ∷ []) phase.Serving
-opened_server M q a b p cut is answers h = (
-  refl,
-  connected true,
-  (
-    refl,
-    record { there = refl; stopped = sym h.4.takes; stream = refl; taken = h.1.none ∙ sym h.4.none },
-    serves_first M q b (record p { server = no_stream }) cut h.1.uncut h.5 answers h.4.uncut
-        (record { heads = []; begins = λ s c. tt; front = (interim_text (sent_interim (asker_in p.asking) []), ap (λ xs. xs ++ interim_text (sent_interim (asker_in p.asking) [])) h.2) }),
-    record { is_open = is; settled = h.4.settled; drops = λ e. h.1.none; waits = h.4.waits },
-  ),
-)
-
 -- the same place, its phase written out
 pub holds_in : (M : Meaning) (at : At) (ph : Phase) (q : RequestSeen) (a : AnswerSeen) (p : Sided M) (past : Past)
     → at.phase ≡ ph → Holds M (record at { phase = ph }) q a p past → Holds M at q a p past
@@ -366,16 +309,12 @@ connect_of M at q a p past is h =
 
 pub stops : (M : Meaning) (at : At) (q : RequestSeen) (a : AnswerSeen) (p : Sided M) (past : Past)
     → (is : at.phase ≡ phase.Serving) → q.window ≢ [] → (h : Holds M at q a p past)
-    → Holds M (record at { phase = phase.Serving }) (record q { window = []; dropped = true }) a
+    → Holds M (record at { phase = phase.Serving }) (record q { window = []; dropped = true; at_rest = false }) a
     (record p { to_server = (connect_of M at q a p past is h).connect.taken }) (record past { connects = at_last stopping past.connects })
 stops M at q a p past is some h =
     let k : InHandAt M q p = connect_of M at q a p past is h in
-    while_serving M at phase.Serving q (record q { window = []; dropped = true }) a a p (record p { to_server = k.connect.taken }) past stopping is refl refl refl refl refl
+    while_serving M at phase.Serving q (record q { window = []; dropped = true; at_rest = false }) a a p (record p { to_server = k.connect.taken }) past stopping is refl refl refl refl refl
     (λ d now s n.
     let same : d.taken ≡ k.connect.taken = append_cancel_right d.taken k.connect.taken q.window (s.1.taken ∙ sym k.taken) in
-    let P : List ℕ → Type 0 = λ put. InPhase M (record q { window = []; dropped = true }) a (record p { to_server = put }) 1 at.cut (stopping d ∷ []) phase.Serving in
+    let P : List ℕ → Type 0 = λ put. InPhase M (record q { window = []; dropped = true; at_rest = false }) a (record p { to_server = put }) 1 at.cut (stopping d ∷ []) phase.Serving in
     subst P same (server_stops M q a p at.cut d some s)) h
-
-pub connected_so : (M : Meaning) (at : At) (q : RequestSeen) (a : AnswerSeen) (p : Sided M) (past : Past) (opened is : Bool) → opened ≡ is
-    → Holds M at q a p (record past { connects = past.connects ++ connected is ∷ [] }) → Holds M at q a p (record past { connects = past.connects ++ connected opened ∷ [] })
-connected_so M at q a p past opened is e h = let P : Bool → Type 0 = λ y. Holds M at q a p (record past { connects = past.connects ++ connected y ∷ [] }) in subst P (sym e) h

@@ -125,7 +125,7 @@ perhaps_settled source.Going a = a
 perhaps_settled source.Whole a = sure a
 perhaps_settled (source.Cut code) a = sure a
 
-perhaps_told : {A : Type 0} (so : Told) → IfTold so A → Perhaps A
+pub perhaps_told : {A : Type 0} (so : Told) → IfTold so A → Perhaps A
 perhaps_told told.Going a = a
 perhaps_told told.Closes a = sure a
 perhaps_told told.Whole a = sure a

@@ -7,9 +7,14 @@ pub mod Serving
 pub mod Fronts
 pub mod Consequences
 pub mod Events
+pub mod Opening
 pub mod Working
 pub mod Answering
 pub mod Turning
+pub mod Finals
 pub mod Served
 pub mod Noting
 pub mod Stalls
+pub mod Driving
+pub mod Heads
+pub mod Passing

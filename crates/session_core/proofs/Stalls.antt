@@ -1,9 +1,9 @@
 -- Once all that can be done is done, some want stands.
 use Rattle.std.proofs.Common.{◌≡◌, ◌≢◌, ℕ, ◌<◌, nat_lt, List, [], ◌∷◌, Bool, true, false, not, ◌&&◌, ◌||◌, Option, Some, None, is_some, sym, ap, subst, ◌∙◌, refl, ◌⊎◌, inl, inr, arith, if◌then◌else◌}
 use Rattle.session_core.specs.Sided.{RequestSeen, AnswerSeen}
-use Rattle.session_core.specs.Leads.{AnswerWaits}
+use Rattle.session_core.specs.Leads.{AnswerWaits, KeepsRequest}
 use Rattle.session_core.specs.History.{close_by}
-use Rattle.session_core.specs.Waits.{is_empty, is_serving, is_opening, takes_client, is_turned, has_ended, wants_of, wants_any, RequestWaits, AnswerWaitsAt, Stepped, Answered, Ready, IsSaying, refused_phase, Settled}
+use Rattle.session_core.specs.Waits.{is_empty, is_serving, is_opening, takes_client, is_turned, has_ended, SayWaits, wants_of, wants_any, RequestWaits, AnswerWaitsAt, Stepped, Answered, Ready, IsSaying, refused_phase, Settled}
 use Rattle.session_core.specs.declared.Source.TheVariants as source
 use Rattle.session_core.specs.declared.Told.TheVariants as told
 use Rattle.session_core.specs.declared.Phase.{Phase}
@@ -69,7 +69,7 @@ serving_wants q a at is r s = by_sent q.sent refl
     ended : q.sent ≡ true → (xs : List ℕ) → q.window ≡ xs → (answered : Bool) → a.answered ≡ answered → wants_any (wants_of q a at) ≡ true
     ended sent (x ∷ xs) w answered e = server_writes (wants_of q a at) (rw serving (rw w refl))
     ended sent [] w true e = closes (wants_of q a at) (close_some (is_serving at.phase && has_ended q a) at.cut (rw serving (rw sent (rw w (rw e refl)))))
-    ended sent [] w false e = waits (s e)
+    ended sent [] w false e = waits (s.1 e)
       where
         waits : (a.window ≢ []) ⊎ ((is_turned at.cut ≡ false) × (a.told ≡ told.Going) × (a.is_open ≡ true) × (0 < a.room)) → wants_any (wants_of q a at) ≡ true
         waits (inl h) = client_takes q a at h
@@ -81,7 +81,7 @@ serving_wants q a at is r s = by_sent q.sent refl
 
     by_sent : (sent : Bool) → q.sent ≡ sent → wants_any (wants_of q a at) ≡ true
     by_sent true e = ended e q.window refl a.answered refl
-    by_sent false e = unsent (r e)
+    by_sent false e = unsent (r.1 e)
 
 over_wants : (q : RequestSeen) (a : AnswerSeen) (at : At) (how : _) → at.phase ≡ phase.Over how → wants_any (wants_of q a at) ≡ true
 over_wants q a at how is = by a.window refl
@@ -142,11 +142,18 @@ not_turned (Some true) h = refl
 not_turned (Some false) h = absurd (h refl)
 
 pub waits_unturned : (cut : Option Bool) (a : AnswerSeen) → is_turned cut ≡ false → AnswerWaits a → AnswerWaitsAt cut a
-waits_unturned cut a e w = λ unanswered. by (w unanswered)
+waits_unturned cut a e w = (λ _. w.0, λ unanswered. by (w.1 unanswered))
   where
     by : (a.window ≢ []) ⊎ ((a.told ≡ told.Going) × (a.is_open ≡ true) × (0 < a.room)) → (a.window ≢ []) ⊎ ((is_turned cut ≡ false) × (a.told ≡ told.Going) × (a.is_open ≡ true) × (0 < a.room))
     by (inl h) = inl h
     by (inr h) = inr (e, h.0, h.1, h.2)
+
+-- what is said in the answer's place
+pub waits_said : (cut : Option Bool) (a : AnswerSeen) → cut ≡ Some false → SayWaits a → AnswerWaitsAt cut a
+waits_said cut a e w = (λ t. let no : true ≡ false = ap is_turned (sym e) ∙ t in absurd (grind (arith, no)), λ un. inl (w un))
+
+pub waits_kept : (q r s : RequestSeen) → KeepsRequest q r → s ≡ r → RequestWaits s
+waits_kept q r s k e = let P : RequestSeen → Type 0 = λ x. RequestWaits x in subst P (sym e) (k.rests, k.waits)
 
 pub ready_first : (ph was now : Phase) (cut : Option Bool) (q r s : RequestSeen) (a : AnswerSeen)
     → Stepped ph q → was ≡ refused_phase ph → r ≡ q → now ≡ was → s ≡ r → Answered now cut a → Ready now cut s a

@@ -253,7 +253,7 @@ pub asks_server : (M : Meaning) (S : Sided M → Type 0) (at : At) (q r : Reques
     → Holds M (record at { phase = phase.Opening; exchanges = count }) r b (record p { asking = re.asking; to_server = [] }) (record past { note = at.cut })
 asks_server M S at q r a b p past count is opened window same counted re h =
     holds_begin M at phase.Opening q r a b p (record p { asking = re.asking; to_server = [] }) past count is refl refl refl opened same counted
-    (λ k. (refl, record { none = window ∙ k.1.none; uncut = k.1.uncut }, k.2, refl, record { none = refl; takes = re.dropped; uncut = re.uncut; settled = re.settled; waits = re.awaits }, re.requests, re.asks)) h
+    (λ k. (refl, record { none = window ∙ k.1.none; uncut = k.1.uncut }, k.2, refl, record { none = refl; takes = re.dropped; uncut = re.uncut; settled = re.settled; waits = re.awaits; held = re.held }, re.requests, re.asks)) h
 
 -- ---- the beginning
 

@@ -58,7 +58,7 @@ step_serves : (M : Meaning) (q r : RequestSeen) (a : AnswerSeen) (p : Sided M) (
     → StaysSettled q.source r.source → Requests M r (record p { to_server = p.to_server ++ put }) → (cut ≡ None → IsUncut r.source)
     → Serves M q a p cut → Serves M r a (record p { to_server = p.to_server ++ put }) cut
 step_serves M q r a p put None stays new uncut h = (new, h.1, uncut refl, h.3)
-step_serves M q r a p put (Some true) stays new uncut h = (new, h.1, h.2, stays_cut q.source r.source h.2 stays h.3)
+step_serves M q r a p put (Some true) stays new uncut h = (new, h.1, h.2, stays_cut q.source r.source h.2 stays h.3, h.4)
 step_serves M q r a p put (Some false) stays new uncut h = (new, h.1, stays_cut q.source r.source h.1 stays h.2, h.3)
 
 step_connect : (q r : RequestSeen) (server : Coming) (to_server put : List ℕ) (c : Connect) → r.dropped ≡ q.dropped → r.window ≡ q.window ++ put
@@ -104,14 +104,14 @@ cut_was_none M q a p cut is h = let P : Option Bool → Type 0 = λ c. Serves M 
 
 -- a step that meets the cut once the answer has begun
 pub steps_begun : (M : Meaning) (S : Sided M → Type 0) (at : At) (q r : RequestSeen) (a : AnswerSeen) (p : Sided M) (past : Past) (code : ℕ)
-    → at.phase ≡ phase.Serving → at.cut ≡ None → r.source ≡ source.Cut code → KeepsRequest q r → (st : StepsRequest M S q r p)
+    → at.phase ≡ phase.Serving → at.cut ≡ None → r.source ≡ source.Cut code → a.begun ≡ true → KeepsRequest q r → (st : StepsRequest M S q r p)
     → Holds M at q a p past → Holds M (record at { cut = Some true }) r a (record p { to_server = p.to_server ++ st.put }) (record past { note = Some true })
-steps_begun M S at q r a p past code is none met k st h =
+steps_begun M S at q r a p past code is none met begun k st h =
     in_serving M at (record at { cut = Some true }) q r a a p (record p { to_server = p.to_server ++ st.put }) past [] is is refl refl k.is_open refl (sym (append-nil p.to_client)) (sym (append-nil a.window))
     (λ now c s. (
       s.0,
       step_connect q r p.server p.to_server st.put c k.dropped st.window s.1,
-      (st.requests, (cut_was_none M q a p at.cut none s.2).1, code, met),
+      (st.requests, (cut_was_none M q a p at.cut none s.2).1, code, met, begun),
       step_open q r a.is_open a.is_open p.server.ending p.asking.received k refl s.3,
     )) h
 

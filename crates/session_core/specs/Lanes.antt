@@ -7,7 +7,7 @@ use Rattle.http_model.specs.Reading.{Received, HeadReading, Begins, BodyReading}
 use Rattle.session_model.specs.Stream.{Stream}
 use Rattle.session_model.specs.Meaning.{Meaning, is_interim}
 use Rattle.session_model.specs.Asking.{Asker}
-use Rattle.session_model.specs.Answering.{answer_by, BeginsWithInterim}
+use Rattle.session_model.specs.Answering.{Final, AnswersReading, answer_by, BeginsWithInterim}
 use Rattle.session_model.specs.Session.{SpellsFinal}
 use Rattle.session_core.specs.History.{Coming, Continues, IsPrefix, prepended}
 use Rattle.session_core.specs.Sided.{ToldIs, Perhaps}
@@ -28,6 +28,20 @@ pub record FinalCame (M : Meaning) (asker : Asker) (came : Coming) (received : R
   pub came_is : came ≡ prepended used left
   pub is_final : is_interim received.head ≡ false
   pub reads : (rest : Stream) → Continues left rest → M.reads_response asker.head_asked (used ++ rest.bytes) (Begins received rest.bytes)
+
+-- What follows the interim heads answers this last, and what was put out is a front of the interim heads and of its text, or all
+-- of it: a refusal or a reply of the rules, a response, or the plain refusal.
+pub record LastSo (M : Meaning) (asker : Asker) (before : M.Vars) (interim : List ℕ) (so : Told) (now : M.Vars) (all begun : Bool) (put : List ℕ) (rest : Stream) : Type 0 where
+  pub last : Final M.Vars
+  pub head : HeadReading
+  pub reads : M.reads_response asker.head_asked rest.bytes head
+  pub answers : AnswersReading M asker before rest.ending head last
+  pub text : List ℕ
+  pub spelled : SpellsFinal M asker last text
+  pub front : IsPrefix put (interim ++ text)
+  pub told : ToldIs M so now last
+  pub sent : all ≡ true → put ≡ interim ++ text
+  pub began : begun ≡ true → (byte : ℕ) × (more : List ℕ) × (put ≡ interim ++ byte ∷ more)
 
 -- What was put out is a front of the interim heads and of the spelling of the final head, as the rules left it with these
 -- variables, and of the body that follows.

@@ -8,7 +8,7 @@ use Rattle.session_model.specs.Meaning.{Meaning}
 use Rattle.session_model.specs.Asking.{Asks, Nothing, Refused}
 use Rattle.session_model.specs.Amending.{reply_sent, refusal_sent, behind_reply}
 use Rattle.session_core.specs.History.{Event, Past, Coming, Continues, after, no_stream}
-use Rattle.session_core.specs.Sided.{Sided, Asking, asker_in, Reply, replied_to, RequestSeen, AnswerSeen, Requests, RequestsAsk, AnswersSo, IsBefore, IsTurned, IsUncut, IsSettled, CameWhole, CameReplied}
+use Rattle.session_core.specs.Sided.{Sided, HoldsList, finished_blocks, Asking, asker_in, Reply, replied_to, RequestSeen, AnswerSeen, Requests, RequestsAsk, AnswersSo, IsBefore, IsTurned, IsUncut, IsSettled, CameWhole, CameReplied}
 use Rattle.session_core.specs.Awaits.{awaits_continue}
 use Rattle.session_core.specs.Stands.{Holds, kept_with}
 use Rattle.session_core.specs.declared.machine.At.{At}
@@ -23,7 +23,7 @@ use Rattle.session_core.specs.declared.sides.Asked.TheVariants as asked
 
 -- a step of the answer direction ended, or waits for the client to take bytes or for the server to give some
 abbrev pub AnswerWaits : AnswerSeen → Type 0
-AnswerWaits a = a.answered ≡ false → (a.window ≢ []) ⊎ ((a.told ≡ told.Going) × (a.is_open ≡ true) × (0 < a.room))
+AnswerWaits a = (a.at_rest ≡ true) × (a.answered ≡ false → (a.window ≢ []) ⊎ ((a.told ≡ told.Going) × (a.is_open ≡ true) × (0 < a.room)))
 
 -- a settled source stays so
 abbrev pub StaysSettled : Source → Source → Type 0
@@ -45,6 +45,7 @@ pub record KeepsRequest (old new : RequestSeen) : Type 0 where
   -- nothing is put out to a server that stopped
   pub drops : new.dropped ≡ true → new.window ≡ old.window
   pub awaits : new.awaits ≡ old.awaits
+  pub rests : new.at_rest ≡ true
   pub stays : StaysSettled old.source new.source
   pub unread : new.unread ≤ old.unread
   pub settled : new.sent ≡ true → IsSettled new.source
@@ -115,6 +116,7 @@ pub record AsksServer (M : Meaning) (S : Sided M → Type 0) (new : RequestSeen)
   pub dropped : new.dropped ≡ false
   pub settled : new.sent ≡ true → IsSettled new.source
   pub awaits : new.awaits ≡ awaits_continue asking.received
+  pub held : HoldsList new.raw (finished_blocks M asking)
 
 -- what the client's next request asks for
 abbrev pub AsksTo : (M : Meaning) → (Sided M → Type 0) → RequestSeen → Sided M → Asked → Type 0

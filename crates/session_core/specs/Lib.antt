@@ -9,6 +9,7 @@ pub mod Awaits
 pub mod Sided
 pub mod Stands
 pub mod Consequences
+pub mod Drives
 pub mod Leads
 pub mod Waits
 pub mod Lanes

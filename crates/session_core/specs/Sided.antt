@@ -1,6 +1,9 @@
 -- What the two directions of a core have made of one exchange.
-use Rattle.std.specs.Prelude.{◌≡◌, ◌≢◌, ℕ, List, [], ◌∷◌, ◌++◌, Bool, true, false, Option, Some, None, is_none, not, ◌&&◌, ⊤}
-use Rattle.http_model.specs.Head.{Head, Message}
+use Rattle.std.specs.Prelude.{◌≡◌, ◌≢◌, ℕ, List, [], ◌∷◌, ◌++◌, Bool, true, false, Option, Some, None, is_none, not, ◌&&◌, ⊤, length}
+use Rattle.htx_model.specs.Block.{Block}
+use Rattle.htx_layout.specs.Raw.{blocks_of}
+use Rattle.http_model.specs.Head.{Head, Message, head_blocks}
+use Rattle.http_model.specs.Finish.{finish_request, request_framing}
 use Rattle.http_model.specs.Reading.{Received, BodyReading}
 use Rattle.http_model.specs.Spelling.{Spells}
 use Rattle.session_model.specs.Stream.{Stream}
@@ -31,6 +34,10 @@ pub record RequestSeen : Type 0 where
   pub dropped : Bool
   -- the client waits for a response head before it sends the body
   pub awaits : Bool
+  -- the last step left nothing undone that could be done with what has come
+  pub at_rest : Bool
+  -- the array on which request rules run
+  pub raw : List ℕ
 
 -- what a core sees of its answer direction
 pub record AnswerSeen : Type 0 where
@@ -46,6 +53,8 @@ pub record AnswerSeen : Type 0 where
   pub begun : Bool
   -- a response head was read
   pub heard : Bool
+  -- the last step left nothing undone that could be done with what has come
+  pub at_rest : Bool
 
 -- A request that goes to a server, as far as its head tells: the head as it was received and as the rules left it, and the
 -- variables behind them.
@@ -65,6 +74,15 @@ forwarded_to asking rest = record { received = asking.received; head = asking.he
 -- the request that a reading of its body makes
 abbrev pub request_to : (M : Meaning) → Asking M.Vars → (rest : Stream) → BodyReading → Request M.Vars
 request_to M asking rest body = request_by M asking.received asking.head asking.vars rest.ending body
+
+-- the finished list of a request's head
+abbrev pub finished_blocks : (M : Meaning) → Asking M.Vars → List Block
+finished_blocks M asking =
+    head_blocks (finish_request asking.head (request_framing M.request_filters.replaces asking.received.framing))
+
+-- an array holds this list
+unfoldable pub HoldsList : (raw : List ℕ) → List Block → Type 0
+HoldsList raw blocks = blocks_of raw (length blocks) ≡ blocks
 
 -- a reply of the request's rules, with what it was asked by
 pub record Reply (Vars : Type 0) : Type 0 where

@@ -1,6 +1,7 @@
 -- What a core stands for.
 use Rattle.std.specs.Prelude.{◌≡◌, ℕ, ◌+◌, List, [], ◌∷◌, ◌++◌, Bool, true, false, length, map, min, Option, Some, None, is_none}
 use Rattle.std.specs.List.{flat_map, AllZip}
+use Rattle.htx_model.specs.Block.{Block}
 use Rattle.http_model.specs.declared.End.{End}
 use Rattle.http_model.specs.declared.End.TheVariants as end
 use Rattle.http_model.specs.declared.Ending.{Ending}
@@ -12,7 +13,7 @@ use Rattle.session_model.specs.Asking.{Asked, Asks}
 use Rattle.session_model.specs.Amending.{reply_sent, behind_reply}
 use Rattle.session_model.specs.Session.{Exchange, Over, Goes, Follow, first_bit}
 use Rattle.session_core.specs.History.{Past, Coming, Connect, Continues, ContinuesServer, prepend, prepended, sent_of, Fronts, close_by, connected}
-use Rattle.session_core.specs.Sided.{Sided, Reply, replied_to, RequestSeen, AnswerSeen, Requests, RequestsAsk, AnswersSo, IsBefore, IsTurned, IsUncut, IsSettled}
+use Rattle.session_core.specs.Sided.{Sided, HoldsList, finished_blocks, Reply, replied_to, RequestSeen, AnswerSeen, Requests, RequestsAsk, AnswersSo, IsBefore, IsTurned, IsUncut, IsSettled}
 use Rattle.session_core.specs.Awaits.{awaits_continue}
 use Rattle.session_core.specs.declared.Source.{Source}
 use Rattle.session_core.specs.declared.Source.TheVariants as source
@@ -76,7 +77,7 @@ pub record IsConnect (dropped : Bool) (window : List ℕ) (server : Coming) (put
 -- heads alone.
 abbrev pub Serves : (M : Meaning) → RequestSeen → AnswerSeen → Sided M → (cut : Option Bool) → Type 0
 Serves M q a p None = Requests M q p × AnswersSo M a p × IsUncut q.source × (a.begun ≡ false → IsBefore M p)
-Serves M q a p (Some true) = Requests M q p × AnswersSo M a p × (code : ℕ) × (q.source ≡ source.Cut code)
+Serves M q a p (Some true) = Requests M q p × AnswersSo M a p × (code : ℕ) × (q.source ≡ source.Cut code) × (a.begun ≡ true)
 Serves M q a p (Some false) = Requests M q p × (code : ℕ) × (q.source ≡ source.Cut code) × IsTurned M a p code
 
 -- what a core sees of both directions while a server is open: whether its stream goes on, that all is sent only of a source
@@ -138,15 +139,17 @@ pub record IsUnopened (window : List ℕ) (cut : Option Bool) : Type 0 where
   pub uncut : cut ≡ None
 
 -- a head that goes to a server, of which nothing was put out
-pub record IsOpening (so : Source) (sent dropped awaits : Bool) (put : List ℕ) (received : Received) : Type 0 where
+pub record IsOpening (so : Source) (sent dropped awaits : Bool) (raw : List ℕ) (put : List ℕ) (received : Received) (blocks : List Block) : Type 0 where
   pub none : put ≡ []
   pub takes : dropped ≡ false
   pub uncut : IsUncut so
   pub settled : sent ≡ true → IsSettled so
   pub waits : awaits ≡ awaits_continue received
+  -- the finished list stands in the array
+  pub held : HoldsList raw blocks
 
 abbrev pub Opens : {M : Meaning} → RequestSeen → Sided M → Type 0
-Opens q p = IsOpening q.source q.sent q.dropped q.awaits p.to_server p.asking.received
+Opens {M} q p = IsOpening q.source q.sent q.dropped q.awaits q.raw p.to_server p.asking.received (finished_blocks M p.asking)
 
 abbrev pub InPhase : (M : Meaning) → RequestSeen → AnswerSeen → Sided M → (hand : ℕ) → (cut : Option Bool) → List Connect → Phase → Type 0
 InPhase M q a p hand cut now phase.Reading = (hand ≡ 0) × IsUnopened q.window cut × (p.to_client ≡ []) × (now ≡ [])

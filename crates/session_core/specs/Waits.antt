@@ -109,11 +109,13 @@ wants_any w = w.client_read || w.client_write || w.server_open || w.server_read 
 
 -- ---- once all that can be done is done
 
+-- the request direction has done all that can be done: all is sent, bytes wait for the server, or the client may give more
 abbrev pub RequestWaits : RequestSeen → Type 0
-RequestWaits q = q.sent ≡ false → (q.window ≢ []) ⊎ ((q.source ≡ source.Going) × (q.is_open ≡ true) × (0 < q.room))
+RequestWaits q = (q.at_rest ≡ true) × (q.sent ≡ false → (q.window ≢ []) ⊎ ((q.source ≡ source.Going) × (q.is_open ≡ true) × (0 < q.room)))
 
+-- the answer direction has done all that can be done: all is answered, bytes wait for the client, or the server may give more
 abbrev pub AnswerWaitsAt : Option Bool → AnswerSeen → Type 0
-AnswerWaitsAt cut a = a.answered ≡ false → (a.window ≢ []) ⊎ ((is_turned cut ≡ false) × (a.told ≡ told.Going) × (a.is_open ≡ true) × (0 < a.room))
+AnswerWaitsAt cut a = (is_turned cut ≡ false → a.at_rest ≡ true) × (a.answered ≡ false → (a.window ≢ []) ⊎ ((is_turned cut ≡ false) × (a.told ≡ told.Going) × (a.is_open ≡ true) × (0 < a.room)))
 
 abbrev pub SayWaits : AnswerSeen → Type 0
 SayWaits a = a.answered ≡ false → a.window ≢ []

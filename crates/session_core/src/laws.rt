@@ -1,25 +1,34 @@
 //! What follows for every core that stands for its history.
-ghost use Rattle.std.specs.Prelude.{◌≡◌, ◌++◌, ◌∷◌, [], List};
+ghost use Rattle.std.specs.Prelude.{◌≡◌, ◌++◌, ◌∷◌, [], List, Some, false};
+ghost use Rattle.http_model.specs.declared.End.{End};
+ghost use Rattle.session_model.specs.Meaning.{Meaning};
 ghost use Rattle.session_core.specs.History.{Event, Past, after, past_of};
-ghost use Rattle.session_core.specs.Consequences.{IsTotal, IsFinal, IsFront, out_of_past};
-ghost use Rattle.session_core.specs.Sided.{Perhaps};
+ghost use Rattle.session_core.specs.Consequences.{IsFinal, IsFront, out_of_past};
+ghost use Rattle.session_core.specs.Sided.{RequestSeen, AnswerSeen, Perhaps};
+ghost use Rattle.session_core.specs.Waits.{wants_of, is_serving, is_turned};
+ghost use Rattle.session_core.specs.Drives.{WantsMean, IsAlone, WantsSay, LastConnect, BegunSays, IsAskedFor};
 ghost use Rattle.session_core.specs.Leads.{Stands, Leads, Sees};
 ghost use Rattle.session_core.specs.declared.machine.At.{At};
 ghost use Rattle.session_core.specs.declared.Phase.TheVariants as phase;
-ghost use Rattle.http_model.specs.declared.End.{End};
 
 use crate::Sides;
 
-/// Where a session is over, what was put out is its session, whatever the open streams go on to give.
+/// Where a session is over, what was taken is its session, whatever the open streams go on to give.
 pub fn over_is_the_session<S: Sides>()
-    ensures { (cfg : S.Settings) (sides : S) (at : At) (past : Past) (how : End) → Stands (S.meaning cfg) S.request S.answer (S.stands cfg) sides at past → at.phase ≡ phase.Over how
-        → IsFinal (S.meaning cfg) past (out_of_past past (past.taken ++ (S.answer sides).window) at.exchanges how) }
+    ensures { (cfg : S.Settings) (sides : S) (at : At) (past : Past) (how : End) → Stands (S.meaning cfg) S.request S.answer (S.stands cfg) sides at past
+        → (wants_of (S.request sides) (S.answer sides) at).over ≡ Some how → IsFinal (S.meaning cfg) past (out_of_past past past.taken at.exchanges how) }
 {}
 
 /// At every moment it is not so that what was put out is no front of a session of the streams so far.
 pub fn put_out_is_a_front<S: Sides>()
-    ensures { (cfg : S.Settings) (sides : S) (at : At) (past : Past) → IsTotal (S.meaning cfg) → Stands (S.meaning cfg) S.request S.answer (S.stands cfg) sides at past
+    ensures { (cfg : S.Settings) (sides : S) (at : At) (past : Past) → Stands (S.meaning cfg) S.request S.answer (S.stands cfg) sides at past
         → Perhaps (IsFront (S.meaning cfg) past (S.answer sides).window (S.request sides).window (S.answer sides).begun) }
+{}
+
+/// The same of what was taken, the windows left out.
+pub fn taken_is_a_front<S: Sides>()
+    ensures { (cfg : S.Settings) (sides : S) (at : At) (past : Past) → Stands (S.meaning cfg) S.request S.answer (S.stands cfg) sides at past
+        → Perhaps (IsFront (S.meaning cfg) past [] [] (S.answer sides).begun) }
 {}
 
 /// A call that leads from a core to another does so for whole histories.
@@ -28,7 +37,35 @@ pub fn calls_lead_histories<S: Sides>()
         → Stands (S.meaning cfg) S.request S.answer (S.stands cfg) old old_at (past_of h) → Stands (S.meaning cfg) S.request S.answer (S.stands cfg) new new_at (past_of (h ++ e ∷ [])) }
 {}
 
-/// What a core sees of its history: how a request was met as cut, whether the client's stream goes on, what the client took.
+/// What a core sees of its history: how a request was met as cut, and whether the client's stream goes on.
 pub fn sees_its_history<S: Sides>()
     ensures { (cfg : S.Settings) (sides : S) (at : At) (past : Past) → Stands (S.meaning cfg) S.request S.answer (S.stands cfg) sides at past → Sees (S.request sides) at past }
+{}
+
+/// What wants say of windows and rooms, and of whether a server is open.
+pub fn wants_mean()
+    ensures { (q : RequestSeen) (a : AnswerSeen) (at : At) → WantsMean q a (is_serving at.phase) (wants_of q a at) }
+{}
+
+/// Where a session is over, nothing else is wanted.
+pub fn over_is_alone()
+    ensures { (q : RequestSeen) (a : AnswerSeen) (at : At) (how : End) → (wants_of q a at).over ≡ Some how → IsAlone (wants_of q a at) }
+{}
+
+/// What wants say of the history.
+pub fn wants_say<S: Sides>()
+    ensures { (cfg : S.Settings) (sides : S) (at : At) (past : Past) → Stands (S.meaning cfg) S.request S.answer (S.stands cfg) sides at past
+        → WantsSay (wants_of (S.request sides) (S.answer sides) at) past }
+{}
+
+/// What `begun` says of the bytes put out, while a server's answer goes out.
+pub fn begun_says<S: Sides>()
+    ensures { (cfg : S.Settings) (sides : S) (at : At) (past : Past) → Stands (S.meaning cfg) S.request S.answer (S.stands cfg) sides at past
+        → at.phase ≡ phase.Serving → is_turned at.cut ≡ false → BegunSays (S.meaning cfg) past (S.answer sides).window (S.answer sides).begun }
+{}
+
+/// While a server is to be opened, the finished list of the request in hand stands in the array.
+pub fn request_is_held<S: Sides>()
+    ensures { (cfg : S.Settings) (sides : S) (at : At) (past : Past) → Stands (S.meaning cfg) S.request S.answer (S.stands cfg) sides at past
+        → at.phase ≡ phase.Opening → IsAskedFor (S.meaning cfg) (S.request sides) past }
 {}

@@ -1,5 +1,5 @@
 //! A core: its two directions, and where it stands in its session.
-ghost use Rattle.std.specs.Prelude.{◌≡◌, Option, Bool};
+ghost use Rattle.std.specs.Prelude.{◌≡◌, Option, Bool, false};
 ghost use Rattle.session_core.specs.History.{nothing_yet};
 ghost use Rattle.session_core.specs.Sided.{Sided};
 ghost use Rattle.session_core.specs.Leads.{Stands, IsFresh};
@@ -44,8 +44,9 @@ pub struct Core<S> {
 impl<S: Sides> Core<S> {
     /// A core to which nothing has happened.
     pub fn new(sides: S) -> Core<S>
-        ensures { (cfg : S.Settings) (p : Sided (S.meaning cfg)) → S.stands cfg sides p → IsFresh (S.meaning cfg) (S.request sides) (S.answer sides) p
+        ensures stands { (cfg : S.Settings) (p : Sided (S.meaning cfg)) → S.stands cfg sides p → IsFresh (S.meaning cfg) (S.request sides) (S.answer sides) p
             → Stands (S.meaning cfg) S.request S.answer (S.stands cfg) result.sides result.at nothing_yet }
+        ensures lost { result.lost ≡ false }
     {
         Core {
             sides,
@@ -103,6 +104,13 @@ impl<S: Sides> Core<S> {
         ensures { result ≡ (S.answer self.now.sides).room }
     {
         self.sides.server_room()
+    }
+
+    /// The array on which request rules run.
+    pub fn request_raw(&self) -> &[u8]
+        ensures { result.now ≡ (S.request self.now.sides).raw }
+    {
+        self.sides.request_raw()
     }
 
     /// The bytes that wait for the server.

@@ -1,6 +1,7 @@
 //! The two directions of a core, as it sees them.
-ghost use Rattle.std.specs.Prelude.{◌≡◌, ◌≢◌, ◌≤◌, ◌<◌, ◌++◌, ◌⊎◌, [], ℕ, List, Option, Some, None, Bool, true, false, length, take, drop, OnOk, IfOk, IsTrue, IsFalse};
+ghost use Rattle.std.specs.Prelude.{◌≡◌, ◌≢◌, ◌≤◌, ◌<◌, ◌++◌, ◌⊎◌, [], ℕ, List, Option, Some, None, Bool, true, false, length, take, drop, OnOk, IfOk, IsOk, IsTrue, IsFalse};
 ghost use Rattle.session_model.specs.Meaning.{Meaning};
+ghost use Rattle.session_core.specs.Consequences.{IsTotal};
 ghost use Rattle.session_core.specs.History.{no_stream, gains, ends};
 ghost use Rattle.session_core.specs.Sided.{Sided, asker_in, RequestSeen, AnswerSeen, Requests, AnswersSo, IsBefore};
 ghost use Rattle.session_core.specs.Leads.{StepsRequest, KeepsRequest, StepsAnswer, AnswerWaits, Says, Refuses, Turns, AsksTo, AskKeeps, Renews, RenewsReplied};
@@ -30,6 +31,12 @@ pub trait Sides {
     type Settings;
 
     ghost meaning: { Self.Settings → Meaning };
+
+    /// No stream of a client is without a reading, and a head is at least one byte.
+    ghost total: { (cfg : Self.Settings) → IsTotal (meaning cfg) };
+
+    /// The rules hold patterns, so matching takes memory.
+    ghost needs: { Self.Settings → Bool };
 
     ghost request: { Self → RequestSeen };
 
@@ -81,6 +88,10 @@ pub trait Sides {
     fn server_room(&self) -> usize
         ensures { result ≡ (answer self.now).room };
 
+    /// The array on which request rules run.
+    fn request_raw(&self) -> &[u8]
+        ensures { result.now ≡ (request self.now).raw };
+
     fn to_client(&self) -> &[u8]
         ensures { result.now ≡ (answer self.now).window };
 
@@ -93,45 +104,45 @@ pub trait Sides {
         requires open { IsTrue (request self.old).is_open }
         requires room { length bytes.now ≤ (request self.old).room }
         ensures leads { (cfg : Self.Settings) (p : Sided (meaning cfg)) → stands cfg self.old p → stands cfg self.new (record p { came = gains p.came bytes.now }) }
-        ensures request { (room : ℕ) × (unread : ℕ) × (request self.new ≡ record (request self.old) { room = room; unread = unread }) }
+        ensures request { (room : ℕ) × (unread : ℕ) × (request self.new ≡ record (request self.old) { room = room; unread = unread; at_rest = false }) }
         ensures answer { answer self.new ≡ answer self.old };
 
     fn end_client(&mut self, how: Ending)
         requires { IsTrue (request self.old).is_open }
         ensures leads { (cfg : Self.Settings) (p : Sided (meaning cfg)) → stands cfg self.old p → stands cfg self.new (record p { came = ends p.came how }) }
-        ensures request { request self.new ≡ record (request self.old) { is_open = false } }
+        ensures request { request self.new ≡ record (request self.old) { is_open = false; at_rest = false } }
         ensures answer { answer self.new ≡ answer self.old };
 
     fn client_took(&mut self, n: usize)
         requires { n ≤ length (answer self.old).window }
         ensures leads { (cfg : Self.Settings) (p : Sided (meaning cfg)) → stands cfg self.old p → stands cfg self.new p }
         ensures request { request self.new ≡ request self.old }
-        ensures answer { answer self.new ≡ record (answer self.old) { window = drop n (answer self.old).window } };
+        ensures answer { answer self.new ≡ record (answer self.old) { window = drop n (answer self.old).window; at_rest = false } };
 
     fn take_server(&mut self, bytes: &[u8])
         requires open { IsTrue (answer self.old).is_open }
         requires room { length bytes.now ≤ (answer self.old).room }
         ensures leads { (cfg : Self.Settings) (p : Sided (meaning cfg)) → stands cfg self.old p → stands cfg self.new (record p { server = gains p.server bytes.now }) }
         ensures request { request self.new ≡ request self.old }
-        ensures answer { (room : ℕ) × (answer self.new ≡ record (answer self.old) { room = room }) };
+        ensures answer { (room : ℕ) × (answer self.new ≡ record (answer self.old) { room = room; at_rest = false }) };
 
     fn end_server(&mut self, how: Ending)
         requires { IsTrue (answer self.old).is_open }
         ensures leads { (cfg : Self.Settings) (p : Sided (meaning cfg)) → stands cfg self.old p → stands cfg self.new (record p { server = ends p.server how }) }
         ensures request { request self.new ≡ request self.old }
-        ensures answer { answer self.new ≡ record (answer self.old) { is_open = false } };
+        ensures answer { answer self.new ≡ record (answer self.old) { is_open = false; at_rest = false } };
 
     fn server_took(&mut self, n: usize)
         requires { n ≤ length (request self.old).window }
         ensures leads { (cfg : Self.Settings) (p : Sided (meaning cfg)) → stands cfg self.old p → stands cfg self.new p }
-        ensures request { request self.new ≡ record (request self.old) { window = drop n (request self.old).window } }
+        ensures request { request self.new ≡ record (request self.old) { window = drop n (request self.old).window; at_rest = false } }
         ensures answer { answer self.new ≡ answer self.old };
 
     /// The server takes nothing more: what stands in its window, and all that follows, is dropped.
     fn drop_request(&mut self)
         requires { (request self.old).window ≢ [] }
         ensures leads { (cfg : Self.Settings) (p : Sided (meaning cfg)) (put : List ℕ) → stands cfg self.old p → put ++ (request self.old).window ≡ p.to_server → stands cfg self.new (record p { to_server = put }) }
-        ensures request { request self.new ≡ record (request self.old) { window = []; dropped = true } }
+        ensures request { request self.new ≡ record (request self.old) { window = []; dropped = true; at_rest = false } }
         ensures answer { answer self.new ≡ answer self.old };
 
     /// A server is open for the request in hand.
@@ -148,6 +159,7 @@ pub trait Sides {
 
     /// Reads the next request, runs its rules and finishes it.
     fn ask(&mut self) -> Result<Asked, OutOfMemory>
+        ensures succeeds { (cfg : Self.Settings) (p : Sided (meaning cfg)) → stands cfg self.old p → needs cfg ≡ false → IsOk result }
         ensures leads { IfOk result (λ asked. (cfg : Self.Settings) (p : Sided (meaning cfg)) → stands cfg self.old p → AsksTo (meaning cfg) (stands cfg self.new) (request self.new) p asked) }
         ensures request { IfOk result (AskKeeps (request self.old) (request self.new)) }
         ensures window { OnOk result ((answer self.new).window ≡ (answer self.old).window) }
@@ -162,6 +174,7 @@ pub trait Sides {
 
     /// Reads heads of the server, runs the rules on the final one, and puts out as much of the answer as there is room for.
     fn step_answer(&mut self) -> Result<(), OutOfMemory>
+        ensures succeeds { (cfg : Self.Settings) (p : Sided (meaning cfg)) → stands cfg self.old p → needs cfg ≡ false → IsOk result }
         ensures leads { OnOk result ((cfg : Self.Settings) (p : Sided (meaning cfg)) → stands cfg self.old p → AnswersSo (meaning cfg) (answer self.old) p
             → StepsAnswer (meaning cfg) (stands cfg self.new) (answer self.old) (answer self.new) p) }
         ensures waits { OnOk result (AnswerWaits (answer self.new)) }
@@ -170,6 +183,7 @@ pub trait Sides {
 
     /// Begins the refusal of the request in hand, for which no server is open.
     fn refuse(&mut self, code: u16) -> Result<(), OutOfMemory>
+        ensures succeeds { (cfg : Self.Settings) (p : Sided (meaning cfg)) → stands cfg self.old p → needs cfg ≡ false → IsOk result }
         ensures leads { OnOk result ((cfg : Self.Settings) (p : Sided (meaning cfg)) → stands cfg self.old p → Refuses (meaning cfg) (stands cfg self.new) p code) }
         ensures request { OnOk result (request self.new ≡ request self.old) }
         ensures window { OnOk result ((answer self.new).window ≡ (answer self.old).window) }

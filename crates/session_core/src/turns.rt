@@ -1,9 +1,10 @@
 //! From one exchange to the next, or to the end of the session.
-ghost use Rattle.std.specs.Prelude.{◌≡◌, ◌≤◌, ◌<◌, ◌+◌, min, Option, Some, Bool, true, false, OnOk, IfOk};
+ghost use Rattle.std.specs.Prelude.{◌≡◌, ◌≤◌, ◌<◌, ◌+◌, min, Option, Some, Bool, true, false, OnOk, IfOk, IsOk};
+ghost use Rattle.session_core.specs.History.{Past};
 ghost use Rattle.session_core.specs.Sided.{Sided, asker_in};
 ghost use Rattle.session_core.specs.Stands.{most};
 ghost use Rattle.session_core.specs.Waits.{is_serving, Ready, SayWaits, IsSaying, Ended, Settled};
-ghost use Rattle.session_core.specs.Leads.{Keeps, Follows};
+ghost use Rattle.session_core.specs.Leads.{Stands, Keeps, Follows};
 
 use crate::machine::{At, Core};
 use crate::sides::{Asked, Sides};
@@ -110,6 +111,7 @@ impl<S: Sides> Core<S> {
     /// Begins the next exchange, and answers whether it has an answer of its own.
     pub(crate) fn begin_exchange(&mut self) -> Result<bool, OutOfMemory>
         ensures keeps { OnOk result (Keeps S.meaning S.request S.answer S.stands self.old.sides self.old.at self.new.sides self.new.at) }
+        ensures succeeds { (cfg : S.Settings) (past : Past) → Stands (S.meaning cfg) S.request S.answer (S.stands cfg) self.old.sides self.old.at past → S.needs cfg ≡ false → IsOk result }
         ensures cut { OnOk result (self.new.at.cut ≡ self.old.at.cut) }
         ensures serving { OnOk result (is_serving self.new.at.phase ≡ is_serving self.old.at.phase) }
         ensures less { IfOk result (λ more. more ≡ true → (S.request self.new.sides).unread < (S.request self.old.sides).unread) }
@@ -131,6 +133,7 @@ impl<S: Sides> Core<S> {
     fn ask(&mut self) -> Result<bool, OutOfMemory>
         requires { self.old.at.phase ≡ Phase.Reading }
         ensures keeps { OnOk result (Keeps S.meaning S.request S.answer S.stands self.old.sides self.old.at self.new.sides self.new.at) }
+        ensures succeeds { (cfg : S.Settings) (past : Past) → Stands (S.meaning cfg) S.request S.answer (S.stands cfg) self.old.sides self.old.at past → S.needs cfg ≡ false → IsOk result }
         ensures cut { OnOk result (self.new.at.cut ≡ self.old.at.cut) }
         ensures serving { OnOk result (is_serving self.new.at.phase ≡ is_serving self.old.at.phase) }
         ensures less { IfOk result (λ more. more ≡ true → (S.request self.new.sides).unread < (S.request self.old.sides).unread) }

@@ -1,9 +1,9 @@
 //! Work: all that can be done without another event.
-ghost use Rattle.std.specs.Prelude.{◌≡◌, Option, Some, None, Bool, true, false, OnOk, IsErr, IsTrue, ◌↔◌, MatchOption};
-ghost use Rattle.session_core.specs.History.{Work};
+ghost use Rattle.std.specs.Prelude.{◌≡◌, Option, Some, None, Bool, true, false, OnOk, IsOk, IsErr, IsTrue, ◌↔◌, MatchOption};
+ghost use Rattle.session_core.specs.History.{Past, Work};
 ghost use Rattle.session_core.specs.Sided.{IsUncut};
 ghost use Rattle.session_core.specs.Waits.{wants_of, wants_any, is_serving, RequestWaits, AnswerWaitsAt, Stepped, Answered, Settled, refused_phase};
-ghost use Rattle.session_core.specs.Leads.{Leads, Keeps, IsNote, Meets};
+ghost use Rattle.session_core.specs.Leads.{Stands, Leads, Keeps, IsNote, Meets};
 
 use crate::machine::Core;
 use crate::sides::Sides;
@@ -14,8 +14,10 @@ impl<S: Sides> Core<S> {
     /// Does all that can be done without another event.
     pub fn work(&mut self) -> Result<(), OutOfMemory>
         ensures leads { OnOk result ((note : Option Bool) × IsNote self.old.at.cut self.new.at.cut (S.answer self.old.sides).begun note × Leads S.meaning S.request S.answer S.stands self.old.sides self.old.at self.new.sides self.new.at (Work note)) }
+        ensures succeeds { (cfg : S.Settings) (past : Past) → Stands (S.meaning cfg) S.request S.answer (S.stands cfg) self.old.sides self.old.at past → S.needs cfg ≡ false → IsOk result }
         ensures lost { IsErr result ↔ IsTrue self.new.lost }
         ensures serving { OnOk result (is_serving self.new.at.phase ≡ is_serving self.old.at.phase) }
+        ensures settled { OnOk result (Settled self.new.at.phase self.new.at.cut (S.request self.new.sides) (S.answer self.new.sides)) }
         ensures wants { OnOk result (wants_any (wants_of (S.request self.new.sides) (S.answer self.new.sides) self.new.at) ≡ true) }
     {
         match self.run() {
@@ -32,6 +34,7 @@ impl<S: Sides> Core<S> {
 
     fn run(&mut self) -> Result<(), OutOfMemory>
         ensures keeps { OnOk result (Keeps S.meaning S.request S.answer S.stands self.old.sides self.old.at self.new.sides self.new.at) }
+        ensures succeeds { (cfg : S.Settings) (past : Past) → Stands (S.meaning cfg) S.request S.answer (S.stands cfg) self.old.sides self.old.at past → S.needs cfg ≡ false → IsOk result }
         ensures met { OnOk result (Meets self.old.at.cut self.new.at.cut (S.answer self.old.sides).begun) }
         ensures serving { OnOk result (is_serving self.new.at.phase ≡ is_serving self.old.at.phase) }
         ensures settled { OnOk result (Settled self.new.at.phase self.new.at.cut (S.request self.new.sides) (S.answer self.new.sides)) }
@@ -105,6 +108,7 @@ impl<S: Sides> Core<S> {
     /// A server was refused: so is the client.
     fn refuse_unserved(&mut self) -> Result<(), OutOfMemory>
         ensures keeps { OnOk result (Keeps S.meaning S.request S.answer S.stands self.old.sides self.old.at self.new.sides self.new.at) }
+        ensures succeeds { (cfg : S.Settings) (past : Past) → Stands (S.meaning cfg) S.request S.answer (S.stands cfg) self.old.sides self.old.at past → S.needs cfg ≡ false → IsOk result }
         ensures cut { OnOk result (self.new.at.cut ≡ self.old.at.cut) }
         ensures phase { OnOk result (self.new.at.phase ≡ refused_phase self.old.at.phase) }
         ensures request { OnOk result (S.request self.new.sides ≡ S.request self.old.sides) }
@@ -124,6 +128,7 @@ impl<S: Sides> Core<S> {
     fn refuse_server(&mut self) -> Result<(), OutOfMemory>
         requires { self.old.at.phase ≡ Phase.Unserved }
         ensures keeps { OnOk result (Keeps S.meaning S.request S.answer S.stands self.old.sides self.old.at self.new.sides self.new.at) }
+        ensures succeeds { (cfg : S.Settings) (past : Past) → Stands (S.meaning cfg) S.request S.answer (S.stands cfg) self.old.sides self.old.at past → S.needs cfg ≡ false → IsOk result }
         ensures cut { OnOk result (self.new.at.cut ≡ self.old.at.cut) }
         ensures phase { OnOk result (self.new.at.phase ≡ Phase.Refusing) }
         ensures request { OnOk result (S.request self.new.sides ≡ S.request self.old.sides) }
@@ -146,6 +151,7 @@ impl<S: Sides> Core<S> {
     /// The answer direction, as far as it can go.
     fn run_answer(&mut self) -> Result<(), OutOfMemory>
         ensures keeps { OnOk result (Keeps S.meaning S.request S.answer S.stands self.old.sides self.old.at self.new.sides self.new.at) }
+        ensures succeeds { (cfg : S.Settings) (past : Past) → Stands (S.meaning cfg) S.request S.answer (S.stands cfg) self.old.sides self.old.at past → S.needs cfg ≡ false → IsOk result }
         ensures at { OnOk result (self.new.at ≡ self.old.at) }
         ensures request { S.request self.new.sides ≡ S.request self.old.sides }
         ensures answered { OnOk result (Answered self.new.at.phase self.new.at.cut (S.answer self.new.sides)) }
@@ -171,6 +177,7 @@ impl<S: Sides> Core<S> {
     fn answer_or_say(&mut self) -> Result<(), OutOfMemory>
         requires { self.old.at.phase ≡ Phase.Serving }
         ensures keeps { OnOk result (Keeps S.meaning S.request S.answer S.stands self.old.sides self.old.at self.new.sides self.new.at) }
+        ensures succeeds { (cfg : S.Settings) (past : Past) → Stands (S.meaning cfg) S.request S.answer (S.stands cfg) self.old.sides self.old.at past → S.needs cfg ≡ false → IsOk result }
         ensures at { OnOk result (self.new.at ≡ self.old.at) }
         ensures request { S.request self.new.sides ≡ S.request self.old.sides }
         ensures answered { OnOk result (AnswerWaitsAt self.new.at.cut (S.answer self.new.sides)) }

@@ -1,5 +1,6 @@
 pub mod Spelled
 pub mod Filtered
 pub mod Replies
+pub mod Exchanges
 pub mod Bounds
 pub mod Decides

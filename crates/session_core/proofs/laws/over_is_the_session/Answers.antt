@@ -1,5 +1,5 @@
-use Rattle.session_core.proofs.Consequences.{final}
+use Rattle.session_core.proofs.Driving.{final_taken}
 use Rattle.session_core.proofs.laws.over_is_the_session.Goals as goal
 
 pub returns : goal.returns
-returns g c = λ cfg sides at past how s is. final (g.S.Sides.meaning cfg) at (g.S.Sides.request sides) (g.S.Sides.answer sides) s.sided past how s.holds is
+returns g c = λ cfg sides at past how s e. final_taken (g.S.Sides.meaning cfg) at (g.S.Sides.request sides) (g.S.Sides.answer sides) s.sided past how s.holds e

@@ -1,7 +1,8 @@
+use Rattle.std.proofs.lemmas.Bool.{false≢true}
 use Rattle.std.proofs.Common.{◌≢◌, ◌++◌, Some, false, refl, rules}
 use Rattle.session_core.proofs.Answering.{says_turned, answers_on, answers_of}
 use Rattle.session_core.proofs.Events.{holds_at}
-use Rattle.session_core.proofs.Stalls.{not_turned, waits_unturned}
+use Rattle.session_core.proofs.Stalls.{not_turned, waits_said, waits_unturned}
 use Rattle.session_core.proofs.machine.Core.answer_or_say.Goals as goal
 
 pub returns-then-is_turned-clause-keeps : goal.returns-then-is_turned-clause-keeps
@@ -18,6 +19,10 @@ returns-then-is_turned-clause-keeps g c = λ cfg past s.
       holds = holds_at M at q (g.S.Sides.request c.say.new.self) b b _ _ c.say.ensures.request refl
           (says_turned M _ at q a b s.sided past c.requires (c.is_turned.ensures.0 c.if-is_turned.true) c.say.ensures.open st s.holds);
     }
+
+pub returns-then-is_turned-clause-answered : goal.returns-then-is_turned-clause-answered
+returns-then-is_turned-clause-answered g c =
+    waits_said c.args.self.now.at.cut (g.S.Sides.answer c.say.new.self) (c.is_turned.ensures.0 c.if-is_turned.true) c.say.ensures.waits
 
 pub returns-clause-keeps : goal.returns-clause-keeps
 returns-clause-keeps g c = λ cfg past s.
@@ -40,3 +45,6 @@ pub returns-clause-answered : goal.returns-clause-answered
 returns-clause-answered g c =
     let other : c.args.self.now.at.cut ≢ Some false = λ e. absurd (search (rules, c.is_turned.ensures.1 e, c.if-is_turned.false)) in
     waits_unturned c.args.self.now.at.cut (g.S.Sides.answer c.step_answer.new.self) (not_turned c.args.self.now.at.cut other) c.in_ok-step_answer.ensures.waits
+
+pub returns-in_err-step_answer-clause-succeeds : goal.returns-in_err-step_answer-clause-succeeds
+returns-in_err-step_answer-clause-succeeds g c = λ cfg past s e. absurd (false≢true (c.in_err-step_answer.ensures.succeeds cfg s.sided s.stand e))

@@ -1,3 +1,4 @@
+use Rattle.std.proofs.lemmas.Bool.{false≢true}
 use Rattle.std.proofs.Common.{◌≡◌, [], false, subst, refl}
 use Rattle.session_core.proofs.Working.{at_is}
 use Rattle.session_core.proofs.Turning.{asks_more, asks_nothing, asks_refusal, asks_reply, asks_server}
@@ -91,3 +92,6 @@ returns-in-Send-clause-keeps g c = λ cfg past s.
       stand = re.stands;
       holds = at_is M _ _ _ _ _ past c.counted-self-in-Send.ensures (asks_server M _ at q r a b s.sided past _ c.requires k.is_open k.window window refl re s.holds);
     }
+
+pub returns-in_err-asked-clause-succeeds : goal.returns-in_err-asked-clause-succeeds
+returns-in_err-asked-clause-succeeds g c = λ cfg past s e. absurd (false≢true (c.in_err-asked.ensures.succeeds cfg s.sided s.stand e))

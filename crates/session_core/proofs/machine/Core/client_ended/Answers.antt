@@ -12,6 +12,6 @@ returns-clause-leads g c = λ cfg past s.
     record {
       sided = record s.sided { came = ends s.sided.came c.args.how };
       stand = c.end_client.ensures.leads cfg s.sided s.stand;
-      holds = holds_at M at (record q { is_open = false }) (g.S.Sides.request c.end_client.new.self) a (g.S.Sides.answer c.end_client.new.self) _ _ c.end_client.ensures.request c.end_client.ensures.answer
+      holds = holds_at M at (record q { is_open = false; at_rest = false }) (g.S.Sides.request c.end_client.new.self) a (g.S.Sides.answer c.end_client.new.self) _ _ c.end_client.ensures.request c.end_client.ensures.answer
           (client_ends M at q a s.sided past c.args.how c.requires s.holds);
     }

@@ -1,4 +1,4 @@
-use Rattle.std.proofs.Common.{drop}
+use Rattle.std.proofs.Common.{false, drop}
 use Rattle.session_core.proofs.Events.{holds_at, client_takes}
 use Rattle.session_core.proofs.machine.Core.client_took.Goals as goal
 
@@ -11,6 +11,6 @@ returns-clause-leads g c = λ cfg past s.
     record {
       sided = s.sided;
       stand = c.client_took.ensures.leads cfg s.sided s.stand;
-      holds = holds_at M at q (g.S.Sides.request c.client_took.new.self) (record a { window = drop c.args.n a.window }) (g.S.Sides.answer c.client_took.new.self) _ _ c.client_took.ensures.request c.client_took.ensures.answer
+      holds = holds_at M at q (g.S.Sides.request c.client_took.new.self) (record a { window = drop c.args.n a.window; at_rest = false }) (g.S.Sides.answer c.client_took.new.self) _ _ c.client_took.ensures.request c.client_took.ensures.answer
           (client_takes M at q a s.sided past c.args.n s.holds);
     }

@@ -1,3 +1,4 @@
+use Rattle.std.proofs.Common.{false}
 use Rattle.session_core.specs.History.{gains}
 use Rattle.session_core.proofs.Events.{holds_at, client_gives}
 use Rattle.session_core.proofs.machine.Core.from_client.Goals as goal
@@ -12,6 +13,6 @@ returns-clause-leads g c = λ cfg past s.
     record {
       sided = record s.sided { came = gains s.sided.came c.args.bytes.now };
       stand = c.take_client.ensures.leads cfg s.sided s.stand;
-      holds = holds_at M at (record q { room = r.0; unread = r.1 }) (g.S.Sides.request c.take_client.new.self) a (g.S.Sides.answer c.take_client.new.self) _ _ r.2 c.take_client.ensures.answer
+      holds = holds_at M at (record q { room = r.0; unread = r.1; at_rest = false }) (g.S.Sides.request c.take_client.new.self) a (g.S.Sides.answer c.take_client.new.self) _ _ r.2 c.take_client.ensures.answer
           (client_gives M at q a s.sided past c.args.bytes.now r.0 r.1 c.requires.open s.holds);
     }

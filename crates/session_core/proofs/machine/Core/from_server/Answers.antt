@@ -1,4 +1,4 @@
-use Rattle.std.proofs.Common.{refl}
+use Rattle.std.proofs.Common.{false, refl}
 use Rattle.session_core.specs.History.{gains, given_by}
 use Rattle.session_core.specs.declared.Phase.TheVariants as phase
 use Rattle.session_core.proofs.Events.{holds_at, holds_in, while_serving, server_gives}
@@ -14,7 +14,7 @@ returns-clause-leads g c = λ cfg past s.
     record {
       sided = record s.sided { server = gains s.sided.server c.args.bytes.now };
       stand = c.take_server.ensures.leads cfg s.sided s.stand;
-      holds = holds_in M at phase.Serving _ _ _ _ c.requires.serving (holds_at M (record at { phase = phase.Serving }) q (g.S.Sides.request c.take_server.new.self) (record a { room = b.0 }) (g.S.Sides.answer c.take_server.new.self) _ _ c.take_server.ensures.request b.1
-          (while_serving M at phase.Serving q q a (record a { room = b.0 }) s.sided (record s.sided { server = gains s.sided.server c.args.bytes.now }) past (given_by c.args.bytes.now) c.requires.serving refl refl refl refl refl
+      holds = holds_in M at phase.Serving _ _ _ _ c.requires.serving (holds_at M (record at { phase = phase.Serving }) q (g.S.Sides.request c.take_server.new.self) (record a { room = b.0; at_rest = false }) (g.S.Sides.answer c.take_server.new.self) _ _ c.take_server.ensures.request b.1
+          (while_serving M at phase.Serving q q a (record a { room = b.0; at_rest = false }) s.sided (record s.sided { server = gains s.sided.server c.args.bytes.now }) past (given_by c.args.bytes.now) c.requires.serving refl refl refl refl refl
           (λ d now h n. server_gives M q a s.sided c.args.bytes.now b.0 at.cut d c.requires.open h) s.holds));
     }

@@ -1,8 +1,8 @@
 use Rattle.session_core.proofs.Turning.{holds_first}
 use Rattle.session_core.proofs.machine.Core.new.Goals as goal
 
-pub returns : goal.returns
-returns g c = λ cfg p s fresh.
+pub returns-clause-stands : goal.returns-clause-stands
+returns-clause-stands g c = λ cfg p s fresh.
     record {
       sided = p;
       stand = s;

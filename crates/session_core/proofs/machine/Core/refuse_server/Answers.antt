@@ -1,3 +1,4 @@
+use Rattle.std.proofs.lemmas.Bool.{false≢true}
 use Rattle.std.proofs.Common.{refl}
 use Rattle.session_core.specs.declared.Phase.TheVariants as phase
 use Rattle.session_core.proofs.Answering.{refuses_server}
@@ -18,3 +19,6 @@ returns-clause-keeps g c = λ cfg past s.
       holds = holds_at M (record at { phase = phase.Refusing }) q (g.S.Sides.request c.refuse.new.self) b b _ _ c.in_ok-refuse.ensures.request refl
           (refuses_server M _ at q a b s.sided past c.requires c.in_ok-refuse.ensures.window c.in_ok-refuse.ensures.starts re s.holds);
     }
+
+pub returns-in_err-refuse-clause-succeeds : goal.returns-in_err-refuse-clause-succeeds
+returns-in_err-refuse-clause-succeeds g c = λ cfg past s e. absurd (false≢true (c.in_err-refuse.ensures.succeeds cfg s.sided s.stand e))

@@ -1,3 +1,4 @@
+use Rattle.std.proofs.lemmas.Bool.{false≢true}
 use Rattle.std.proofs.Common.{ap, ◌∙◌}
 use Rattle.session_core.specs.declared.machine.At.{At}
 use Rattle.session_core.specs.Waits.{is_serving}
@@ -44,3 +45,15 @@ returns-clause-serving g c = c.in_ok-begin_exchange.ensures.serving ∙ c.loop-s
 
 pub returns-clause-settled : goal.returns-clause-settled
 returns-clause-settled g c = c.in_ok-begin_exchange.ensures.settled c.if-branch.false c.loop-self.invariant.ended
+
+pub returns-in_err-refuse_unserved-clause-succeeds : goal.returns-in_err-refuse_unserved-clause-succeeds
+returns-in_err-refuse_unserved-clause-succeeds g c = λ cfg past s e. absurd (false≢true (c.in_err-refuse_unserved.ensures.succeeds cfg _ (c.run_request.ensures.keeps cfg past s) e))
+
+pub returns-in_err-run_answer-clause-succeeds : goal.returns-in_err-run_answer-clause-succeeds
+returns-in_err-run_answer-clause-succeeds g c = λ cfg past s e. absurd (false≢true (c.in_err-run_answer.ensures.succeeds cfg _ (c.in_ok-refuse_unserved.ensures.keeps cfg _ (c.run_request.ensures.keeps cfg past s)) e))
+
+pub returns-in_err-begin_exchange-clause-succeeds : goal.returns-in_err-begin_exchange-clause-succeeds
+returns-in_err-begin_exchange-clause-succeeds g c = λ cfg past s e. absurd (false≢true (c.in_err-begin_exchange.ensures.succeeds cfg _ (c.loop-self.invariant.keeps cfg past s) e))
+
+pub returns-in_err-run_answer-2-clause-succeeds : goal.returns-in_err-run_answer-2-clause-succeeds
+returns-in_err-run_answer-2-clause-succeeds g c = λ cfg past s e. absurd (false≢true (c.in_err-run_answer-2.ensures.succeeds cfg _ (c.in_ok-begin_exchange.ensures.keeps cfg _ (c.loop-self.invariant.keeps cfg past s)) e))

@@ -13,7 +13,7 @@ returns-clause-leads g c = λ cfg past s.
     record {
       sided = record s.sided { server = ends s.sided.server c.args.how };
       stand = c.end_server.ensures.leads cfg s.sided s.stand;
-      holds = holds_in M at phase.Serving _ _ _ _ c.requires.serving (holds_at M (record at { phase = phase.Serving }) q (g.S.Sides.request c.end_server.new.self) (record a { is_open = false }) (g.S.Sides.answer c.end_server.new.self) _ _ c.end_server.ensures.request c.end_server.ensures.answer
-          (while_serving M at phase.Serving q q a (record a { is_open = false }) s.sided (record s.sided { server = ends s.sided.server c.args.how }) past (ended_by c.args.how) c.requires.serving refl refl refl refl refl
+      holds = holds_in M at phase.Serving _ _ _ _ c.requires.serving (holds_at M (record at { phase = phase.Serving }) q (g.S.Sides.request c.end_server.new.self) (record a { is_open = false; at_rest = false }) (g.S.Sides.answer c.end_server.new.self) _ _ c.end_server.ensures.request c.end_server.ensures.answer
+          (while_serving M at phase.Serving q q a (record a { is_open = false; at_rest = false }) s.sided (record s.sided { server = ends s.sided.server c.args.how }) past (ended_by c.args.how) c.requires.serving refl refl refl refl refl
           (λ d now h n. server_ends M q a s.sided c.args.how at.cut d c.requires.open h) s.holds));
     }

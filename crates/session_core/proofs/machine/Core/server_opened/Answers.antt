@@ -2,7 +2,8 @@ use Rattle.std.proofs.Common.{true, false, refl}
 use Rattle.session_core.specs.History.{no_stream, connected}
 use Rattle.session_core.specs.Sided.{Sided}
 use Rattle.session_core.specs.declared.Phase.TheVariants as phase
-use Rattle.session_core.proofs.Events.{holds_at, connected_so, connects_now, opened_server, refused_server}
+use Rattle.session_core.proofs.Events.{holds_at}
+use Rattle.session_core.proofs.Opening.{connected_so, connects_now, opened_server, refused_server}
 use Rattle.session_core.proofs.machine.Core.server_opened.Goals as goal
 
 pub returns-then-yes-clause-leads : goal.returns-then-yes-clause-leads

@@ -1,4 +1,4 @@
-use Rattle.std.proofs.Common.{[], true}
+use Rattle.std.proofs.Common.{false, [], true}
 use Rattle.session_core.specs.Sided.{RequestSeen}
 use Rattle.session_core.specs.declared.Phase.TheVariants as phase
 use Rattle.session_core.proofs.Events.{holds_at, holds_in, stops, connect_of}
@@ -10,7 +10,7 @@ returns-clause-leads g c = λ cfg past s.
     let at = c.args.self.now.at in
     let q = g.S.Sides.request c.args.self.now.sides in
     let a = g.S.Sides.answer c.args.self.now.sides in
-    let r : RequestSeen = record q { window = []; dropped = true } in
+    let r : RequestSeen = record q { window = []; dropped = true; at_rest = false } in
     let k = connect_of M at q a s.sided past c.requires.serving s.holds in
     record {
       sided = record s.sided { to_server = k.connect.taken };

@@ -1,4 +1,4 @@
-use Rattle.std.proofs.Common.{take, drop, refl}
+use Rattle.std.proofs.Common.{false, take, drop, refl}
 use Rattle.session_core.specs.History.{taking}
 use Rattle.session_core.specs.declared.Phase.TheVariants as phase
 use Rattle.session_core.proofs.Events.{holds_at, holds_in, while_serving, server_takes}
@@ -13,7 +13,7 @@ returns-clause-leads g c = λ cfg past s.
     record {
       sided = s.sided;
       stand = c.server_took.ensures.leads cfg s.sided s.stand;
-      holds = holds_in M at phase.Serving _ _ _ _ c.requires.serving (holds_at M (record at { phase = phase.Serving }) (record q { window = drop c.args.n q.window }) (g.S.Sides.request c.server_took.new.self) a (g.S.Sides.answer c.server_took.new.self) _ _ c.server_took.ensures.request c.server_took.ensures.answer
-          (while_serving M at phase.Serving q (record q { window = drop c.args.n q.window }) a a s.sided s.sided past (taking (take c.args.n q.window)) c.requires.serving refl refl refl refl refl
+      holds = holds_in M at phase.Serving _ _ _ _ c.requires.serving (holds_at M (record at { phase = phase.Serving }) (record q { window = drop c.args.n q.window; at_rest = false }) (g.S.Sides.request c.server_took.new.self) a (g.S.Sides.answer c.server_took.new.self) _ _ c.server_took.ensures.request c.server_took.ensures.answer
+          (while_serving M at phase.Serving q (record q { window = drop c.args.n q.window; at_rest = false }) a a s.sided s.sided past (taking (take c.args.n q.window)) c.requires.serving refl refl refl refl refl
           (λ d now h n. server_takes M q a s.sided c.args.n at.cut d h) s.holds));
     }

@@ -32,7 +32,7 @@ returns-then-is_begun-clause-keeps g c = λ cfg past s.
       sided = record s.sided { to_server = s.sided.to_server ++ st.put };
       stand = st.stands;
       holds = holds_at M (record at { cut = Some true }) r r a (g.S.Sides.answer c.step_request.new.self) _ _ refl c.step_request.ensures.answer
-          (steps_begun M _ at q r a s.sided past c.in-Some.code c.requires c.in-Some.ensures.0 c.in-Some.ensures.1 c.step_request.ensures.keeps st s.holds);
+          (steps_begun M _ at q r a s.sided past c.in-Some.code c.requires c.in-Some.ensures.0 c.in-Some.ensures.1 (ap (λ a. a.begun) (sym c.step_request.ensures.answer) ∙ sym c.is_begun.ensures ∙ c.if-is_begun.true) c.step_request.ensures.keeps st s.holds);
     }
 
 pub returns-else-is_begun-clause-keeps : goal.returns-else-is_begun-clause-keeps

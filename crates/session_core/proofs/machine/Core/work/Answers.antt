@@ -1,3 +1,4 @@
+use Rattle.std.proofs.lemmas.Bool.{false≢true}
 use Rattle.session_core.proofs.Noting.{noted}
 use Rattle.session_core.proofs.Stalls.{some_want}
 use Rattle.session_core.proofs.machine.Core.work.Goals as goal
@@ -9,3 +10,6 @@ returns-in-Ok-clause-leads g c =
 
 pub returns-in-Ok-clause-wants : goal.returns-in-Ok-clause-wants
 returns-in-Ok-clause-wants g c = some_want (g.S.Sides.request c.run.new.self.sides) (g.S.Sides.answer c.run.new.self.sides) c.run.new.self.at c.in-Ok.ensures.settled
+
+pub returns-in-Err-clause-succeeds : goal.returns-in-Err-clause-succeeds
+returns-in-Err-clause-succeeds g c = λ cfg past s e. absurd (false≢true (c.in-Err.ensures.succeeds cfg past s e))

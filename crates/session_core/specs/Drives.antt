@@ -1,0 +1,79 @@
+-- What a driver reads off a core: what its wants say of windows, rooms and its history, and what `begun` says of the bytes put out.
+use Rattle.std.specs.Prelude.{◌≡◌, ◌≢◌, ℕ, ◌<◌, List, [], ◌∷◌, ◌++◌, Bool, true, false, Option, Some, None}
+use Rattle.http_model.specs.declared.Close.{Close}
+use Rattle.http_model.specs.declared.End.{End}
+use Rattle.session_model.specs.Stream.{Stream}
+use Rattle.session_model.specs.Meaning.{Meaning}
+use Rattle.session_model.specs.Asking.{Asked, Sends, Asks}
+use Rattle.session_model.specs.Answering.{Answered, AnswersFrom}
+use Rattle.session_model.specs.Session.{interim_text}
+use Rattle.session_core.specs.History.{Past, Connect, Continues, close_by}
+use Rattle.session_core.specs.Sided.{RequestSeen, AnswerSeen, Asking, asker_in, Perhaps, Interims, HoldsList, finished_blocks, forwarded_to}
+use Rattle.session_core.specs.Awaits.{awaits_continue}
+use Rattle.session_core.specs.Waits.{is_serving}
+use Rattle.session_core.specs.declared.machine.Wants.{Wants}
+
+-- What wants say of windows and rooms, and of whether a server is open.
+pub record WantsMean (q : RequestSeen) (a : AnswerSeen) (served : Bool) (w : Wants) : Type 0 where
+  pub client_read : w.client_read ≡ true → (q.is_open ≡ true) × (0 < q.room)
+  pub client_write : w.client_write ≡ true → a.window ≢ []
+  pub nothing_to_write : w.client_write ≡ false → a.window ≡ []
+  pub server_read : w.server_read ≡ true → (a.is_open ≡ true) × (0 < a.room)
+  pub server_write : w.server_write ≡ true → q.window ≢ []
+  pub idle : served ≡ false → (w.server_read ≡ false) × (w.server_write ≡ false) × (w.server_close ≡ None)
+  pub serving : served ≡ true → (w.server_open ≡ false) × (w.over ≡ None)
+
+-- where the session is over, nothing else is wanted
+pub record IsAlone (w : Wants) : Type 0 where
+  pub client_read : w.client_read ≡ false
+  pub client_write : w.client_write ≡ false
+  pub client_waits : w.client_waits ≡ false
+  pub server_open : w.server_open ≡ false
+  pub server_read : w.server_read ≡ false
+  pub server_write : w.server_write ≡ false
+  pub server_close : w.server_close ≡ None
+
+-- What wants say of the history: no read of a stream that has ended, no write to a server that stopped, and a server's link is
+-- closed as the note says.
+pub record WantsSay (w : Wants) (past : Past) : Type 0 where
+  pub client_read : w.client_read ≡ true → past.client.ending ≡ None
+  pub server_read : (before : List Connect) (c : Connect) → past.connects ≡ before ++ c ∷ [] → w.server_read ≡ true → c.stream.ending ≡ None
+  pub server_write : (before : List Connect) (c : Connect) → past.connects ≡ before ++ c ∷ [] → w.server_write ≡ true → c.stopped ≡ false
+  pub server_close : (how : Close) → w.server_close ≡ Some how → how ≡ close_by past.note
+
+-- the last connect of a history, which is there
+pub record LastConnect (past : Past) : Type 0 where
+  pub before : List Connect
+  pub connect : Connect
+  pub last : past.connects ≡ before ++ connect ∷ []
+  pub there : connect.there ≡ true
+
+-- this stream of the server brings an answer of which a byte of the last was put out
+pub record HasBegun (M : Meaning) (asking : Asking M.Vars) (put : List ℕ) (stream : Stream) : Type 0 where
+  pub answered : Answered M.Vars
+  pub answers : AnswersFrom M (asker_in asking) asking.vars stream answered
+  pub byte : ℕ
+  pub more : List ℕ
+  pub begun : put ≡ interim_text answered.interim ++ byte ∷ more
+
+-- What `begun` says while a server's answer goes out: of the bytes put out those of this exchange hold a byte of the last that
+-- answers, or are interim heads alone.
+pub record BegunSays (M : Meaning) (past : Past) (window : List ℕ) (begun : Bool) : Type 0 where
+  pub asking : Asking M.Vars
+  pub last : LastConnect past
+  pub done : List ℕ
+  pub put : List ℕ
+  pub text : past.taken ++ window ≡ done ++ put
+  pub has_begun : begun ≡ true → (stream : Stream) → Continues last.connect.stream stream → Perhaps (HasBegun M asking put stream)
+  pub before : begun ≡ false → Interims M (asker_in asking) last.connect.stream put
+
+-- While a server is to be opened: however the client's stream goes on, it asks for a server for this head behind the exchanges that
+-- are done; the head's finished list stands in the array; and the client waits where the head says so.
+pub record IsAskedFor (M : Meaning) (q : RequestSeen) (past : Past) : Type 0 where
+  pub vars : M.Vars
+  pub used : List ℕ
+  pub asking : Asking M.Vars
+  pub asks : (stream : Stream) → Continues past.client stream
+      → (rest left : Stream) × (stream.bytes ≡ used ++ rest.bytes) × (stream.ending ≡ rest.ending) × Asks M vars rest (Sends (forwarded_to asking left))
+  pub held : HoldsList q.raw (finished_blocks M asking)
+  pub waits : q.awaits ≡ awaits_continue asking.received
