@@ -4,3 +4,4 @@ pub mod Records
 pub mod Reports
 pub mod Capped
 mod Several
+pub mod Joining

@@ -26,3 +26,7 @@ lent_server parts = (option_map server_seen parts.0, parts.1.now)
 -- a turn, and what stands behind it
 abbrev pub lent_turn : (ℕ × Turn) × Bor (List ℕ) → (ℕ × Turn) × List ℕ
 lent_turn parts = (parts.0, parts.1.now)
+
+-- what stands behind
+abbrev pub slice_of : Bor (List ℕ) → List ℕ
+slice_of text = text.now

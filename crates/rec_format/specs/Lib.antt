@@ -9,3 +9,4 @@ pub mod Entries
 pub mod Lent
 pub mod Recorded
 pub mod Read
+pub mod Parts

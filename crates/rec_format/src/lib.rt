@@ -2,16 +2,20 @@
 //! and the report of what a session sent.
 #![tactic(auto)]
 
+mod counts;
 mod entries;
 mod first_record;
 mod front;
+mod parts;
 mod pieces;
 mod read;
+mod reader;
 mod record;
 mod report;
 mod report_list;
 
 pub use first_record::{FirstRecord, read_first_record};
+pub use reader::read_record;
 pub use record::{Connection, RecFault, RecKind, Record, ServerSpec, Stream};
 pub use report::{Report, Sent, write_report};
 pub use report_list::write_reports;

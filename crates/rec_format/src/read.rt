@@ -58,7 +58,7 @@ fn own_server(
 }
 
 /// The client's entry in front.
-fn client(alloc: Global, total: u32, text: &[u8]) -> Result<(Stream, &[u8]), RecFault>
+pub(crate) fn client(alloc: Global, total: u32, text: &[u8]) -> Result<(Stream, &[u8]), RecFault>
     ensures { Gives stream_behind result (client_of total text.now) }
 {
     match entries::client(text) {
@@ -71,7 +71,11 @@ fn client(alloc: Global, total: u32, text: &[u8]) -> Result<(Stream, &[u8]), Rec
 }
 
 /// The server's entry in front.
-fn server(alloc: Global, total: u32, text: &[u8]) -> Result<(Option<ServerSpec>, &[u8]), RecFault>
+pub(crate) fn server(
+    alloc: Global,
+    total: u32,
+    text: &[u8],
+) -> Result<(Option<ServerSpec>, &[u8]), RecFault>
     ensures { Gives server_behind result (server_of total text.now) }
 {
     match entries::server(text) {
@@ -84,7 +88,7 @@ fn server(alloc: Global, total: u32, text: &[u8]) -> Result<(Option<ServerSpec>,
 }
 
 /// Whether the line in front begins with `server`.
-fn is_server(text: &[u8]) -> bool
+pub(crate) fn is_server(text: &[u8]) -> bool
     ensures { result ≡ is_server text.now }
 {
     word(text) == b"server".as_slice()
