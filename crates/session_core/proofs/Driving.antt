@@ -47,14 +47,9 @@ empty_not [] e = refl
 empty_not (x ∷ xs) e = cc
 
 serving_only : (ph : Phase) (empty : Bool) → is_serving ph ≡ true → (is_opening ph ≡ false) × (over_by ph empty ≡ None)
-serving_only phase.Reading empty e = (refl, refl)
 serving_only phase.Opening empty e = absurd (grind (arith, e))
-serving_only phase.Unserved empty e = (refl, refl)
-serving_only phase.Serving empty e = (refl, refl)
-serving_only phase.Served empty e = (refl, refl)
-serving_only phase.Refusing empty e = (refl, refl)
-serving_only (phase.Replying kept) empty e = (refl, refl)
 serving_only (phase.Over how) empty e = absurd (grind (arith, e))
+serving_only _ empty e = (refl, refl)
 
 reads_server : (q : RequestSeen) (a : AnswerSeen) (at : At) → (wants_of q a at).server_read ≡ true → (is_serving at.phase ≡ true) × (a.is_open ≡ true) × (0 < a.room)
 reads_server q a at e =
@@ -90,15 +85,9 @@ mean q a at =
 -- ---- where the session is over
 
 over_of : (ph : Phase) (empty : Bool) (how : End) → over_by ph empty ≡ Some how → (ph ≡ phase.Over how) × (empty ≡ true)
-over_of phase.Reading empty how e = absurd (grind (arith, e))
-over_of phase.Opening empty how e = absurd (grind (arith, e))
-over_of phase.Unserved empty how e = absurd (grind (arith, e))
-over_of phase.Serving empty how e = absurd (grind (arith, e))
-over_of phase.Served empty how e = absurd (grind (arith, e))
-over_of phase.Refusing empty how e = absurd (grind (arith, e))
-over_of (phase.Replying kept) empty how e = absurd (grind (arith, e))
 over_of (phase.Over was) true how e = let same : was ≡ how = cc in (ap (λ (h : End). phase.Over h) same, refl)
 over_of (phase.Over was) false how e = absurd (grind (arith, e))
+over_of _ empty how e = absurd (grind (arith, e))
 
 pub alone : (q : RequestSeen) (a : AnswerSeen) (at : At) (how : End) → (wants_of q a at).over ≡ Some how → IsAlone (wants_of q a at)
 alone q a at how e =
@@ -173,14 +162,8 @@ last_same before was c d e =
     let some : Some c ≡ Some d = sym (last_in_of before c) ∙ ap last_in e ∙ last_in_of was d in ap (λ o. or_this c o) some
 
 serving_of : (ph : Phase) → is_serving ph ≡ true → ph ≡ phase.Serving
-serving_of phase.Reading e = cc
-serving_of phase.Opening e = cc
-serving_of phase.Unserved e = cc
 serving_of phase.Serving e = refl
-serving_of phase.Served e = cc
-serving_of phase.Refusing e = cc
-serving_of (phase.Replying kept) e = cc
-serving_of (phase.Over how) e = cc
+serving_of _ e = cc
 
 -- the connect in hand is the last of the history
 pub record InHandLast (M : Meaning) (at : At) (q : RequestSeen) (a : AnswerSeen) (p : Sided M) (past : Past) : Type 0 where

@@ -117,24 +117,13 @@ ready_stepped (phase.Replying kept) cut q a s t = t
 ready_stepped (phase.Over how) cut q a s t = tt
 
 pub ready_saying : (ph : Phase) (cut : Option Bool) (q : RequestSeen) (a : AnswerSeen) → IsSaying ph → Answered ph cut a → Ready ph cut q a
-ready_saying phase.Reading cut q a s t = absurd s
-ready_saying phase.Opening cut q a s t = absurd s
-ready_saying phase.Unserved cut q a s t = absurd s
-ready_saying phase.Serving cut q a s t = absurd s
-ready_saying phase.Served cut q a s t = absurd s
 ready_saying phase.Refusing cut q a s t = t
 ready_saying (phase.Replying kept) cut q a s t = t
-ready_saying (phase.Over how) cut q a s t = absurd s
+ready_saying _ cut q a s t = absurd s
 
 pub serving_refused : (ph : Phase) → is_serving (refused_phase ph) ≡ is_serving ph
-serving_refused phase.Reading = refl
-serving_refused phase.Opening = refl
 serving_refused phase.Unserved = refl
-serving_refused phase.Serving = refl
-serving_refused phase.Served = refl
-serving_refused phase.Refusing = refl
-serving_refused (phase.Replying kept) = refl
-serving_refused (phase.Over how) = refl
+serving_refused _ = refl
 
 pub not_turned : (cut : Option Bool) → cut ≢ Some false → is_turned cut ≡ false
 not_turned None h = refl

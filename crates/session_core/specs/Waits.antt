@@ -28,46 +28,25 @@ is_telling told.Whole = false
 is_telling told.Cut = false
 
 abbrev pub is_serving : Phase → Bool
-is_serving phase.Reading = false
-is_serving phase.Opening = false
-is_serving phase.Unserved = false
 is_serving phase.Serving = true
-is_serving phase.Served = false
-is_serving phase.Refusing = false
-is_serving (phase.Replying kept) = false
-is_serving (phase.Over how) = false
+is_serving _ = false
 
 abbrev pub is_opening : Phase → Bool
-is_opening phase.Reading = false
 is_opening phase.Opening = true
-is_opening phase.Unserved = false
-is_opening phase.Serving = false
-is_opening phase.Served = false
-is_opening phase.Refusing = false
-is_opening (phase.Replying kept) = false
-is_opening (phase.Over how) = false
+is_opening _ = false
 
 -- the request in hand may take more bytes of the client, or none has begun
 abbrev pub takes_client : Source → Phase → Bool
 takes_client so phase.Reading = true
 takes_client so phase.Opening = is_going so
-takes_client so phase.Unserved = false
 takes_client so phase.Serving = is_going so
-takes_client so phase.Served = false
-takes_client so phase.Refusing = false
-takes_client so (phase.Replying kept) = false
-takes_client so (phase.Over how) = false
+takes_client so _ = false
 
 -- a request that goes to a server is in hand
 abbrev pub is_sending : Phase → Bool
-is_sending phase.Reading = false
 is_sending phase.Opening = true
-is_sending phase.Unserved = false
 is_sending phase.Serving = true
-is_sending phase.Served = false
-is_sending phase.Refusing = false
-is_sending (phase.Replying kept) = false
-is_sending (phase.Over how) = false
+is_sending _ = false
 
 -- a refusal took the place of the server's answer
 abbrev pub is_turned : Option Bool → Bool
@@ -80,14 +59,8 @@ has_ended q a = q.sent && is_empty q.window && a.answered
 
 -- the session is over, and no text for the client is left
 abbrev pub over_by : Phase → (is_empty : Bool) → Option End
-over_by phase.Reading empty = None
-over_by phase.Opening empty = None
-over_by phase.Unserved empty = None
-over_by phase.Serving empty = None
-over_by phase.Served empty = None
-over_by phase.Refusing empty = None
-over_by (phase.Replying kept) empty = None
 over_by (phase.Over how) empty = if empty then Some how else None
+over_by _ empty = None
 
 -- what a core wants, of what is seen of its directions and of its place
 abbrev pub wants_of : RequestSeen → AnswerSeen → At → Wants
@@ -122,14 +95,8 @@ SayWaits a = a.answered ≡ false → a.window ≢ []
 
 -- behind the step of the request direction, by the phase
 abbrev pub Stepped : Phase → RequestSeen → Type 0
-Stepped phase.Reading q = ⊤
-Stepped phase.Opening q = ⊤
-Stepped phase.Unserved q = ⊤
 Stepped phase.Serving q = RequestWaits q
-Stepped phase.Served q = ⊤
-Stepped phase.Refusing q = ⊤
-Stepped (phase.Replying kept) q = ⊤
-Stepped (phase.Over how) q = ⊤
+Stepped _ q = ⊤
 
 abbrev pub refused_phase : Phase → Phase
 refused_phase phase.Reading = phase.Reading
@@ -143,14 +110,10 @@ refused_phase (phase.Over how) = phase.Over how
 
 -- behind the step of the answer direction
 abbrev pub Answered : Phase → Option Bool → AnswerSeen → Type 0
-Answered phase.Reading cut a = ⊤
-Answered phase.Opening cut a = ⊤
-Answered phase.Unserved cut a = ⊤
 Answered phase.Serving cut a = AnswerWaitsAt cut a
-Answered phase.Served cut a = ⊤
 Answered phase.Refusing cut a = SayWaits a
 Answered (phase.Replying kept) cut a = SayWaits a
-Answered (phase.Over how) cut a = ⊤
+Answered _ cut a = ⊤
 
 -- behind the end of an exchange, where there was one
 abbrev pub Ended : Phase → Option Bool → RequestSeen → AnswerSeen → Type 0
@@ -186,11 +149,6 @@ Ready (phase.Replying kept) cut q a = SayWaits a
 Ready (phase.Over how) cut q a = ⊤
 
 abbrev pub IsSaying : Phase → Type 0
-IsSaying phase.Reading = ⊥
-IsSaying phase.Opening = ⊥
-IsSaying phase.Unserved = ⊥
-IsSaying phase.Serving = ⊥
-IsSaying phase.Served = ⊥
 IsSaying phase.Refusing = ⊤
 IsSaying (phase.Replying kept) = ⊤
-IsSaying (phase.Over how) = ⊥
+IsSaying _ = ⊥

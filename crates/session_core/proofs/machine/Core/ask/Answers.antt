@@ -15,11 +15,9 @@ returns-in-More-clause-keeps g c = λ cfg past s.
     let r = g.S.Sides.request c.ask.new.self in
     let b = g.S.Sides.answer c.ask.new.self in
     let k = c.in_ok-asked.ensures.request in
-    let window : b.window ≡ a.window = c.in_ok-asked.ensures.window in
-    let starts : b.answered ≡ false = c.in_ok-asked.ensures.starts in
     let P : Asked → Type 0 = λ k. AsksTo M (g.S.Sides.stands cfg c.ask.new.self) r s.sided k in
     let re = subst P c.in-More.is (c.in_ok-asked.ensures.leads cfg s.sided s.stand) in
-    record { sided = s.sided; stand = re; holds = asks_more M at q r a b s.sided past c.requires k.is_open k.window window s.holds }
+    record { sided = s.sided; stand = re; holds = asks_more M at q r a b s.sided past c.requires k.is_open k.window c.in_ok-asked.ensures.window s.holds }
 
 pub returns-in-Nothing-clause-keeps : goal.returns-in-Nothing-clause-keeps
 returns-in-Nothing-clause-keeps g c = λ cfg past s.
@@ -30,11 +28,9 @@ returns-in-Nothing-clause-keeps g c = λ cfg past s.
     let r = g.S.Sides.request c.ask.new.self in
     let b = g.S.Sides.answer c.ask.new.self in
     let k = c.in_ok-asked.ensures.request in
-    let window : b.window ≡ a.window = c.in_ok-asked.ensures.window in
-    let starts : b.answered ≡ false = c.in_ok-asked.ensures.starts in
     let P : Asked → Type 0 = λ k. AsksTo M (g.S.Sides.stands cfg c.ask.new.self) r s.sided k in
     let re = subst P c.in-Nothing.is (c.in_ok-asked.ensures.leads cfg s.sided s.stand) in
-    record { sided = s.sided; stand = re.0; holds = asks_nothing M at q r a b s.sided past c.requires k.is_open k.window window re.1 s.holds }
+    record { sided = s.sided; stand = re.0; holds = asks_nothing M at q r a b s.sided past c.requires k.is_open k.window c.in_ok-asked.ensures.window re.1 s.holds }
 
 pub returns-in-Refuse-clause-keeps : goal.returns-in-Refuse-clause-keeps
 returns-in-Refuse-clause-keeps g c = λ cfg past s.
@@ -45,14 +41,12 @@ returns-in-Refuse-clause-keeps g c = λ cfg past s.
     let r = g.S.Sides.request c.ask.new.self in
     let b = g.S.Sides.answer c.ask.new.self in
     let k = c.in_ok-asked.ensures.request in
-    let window : b.window ≡ a.window = c.in_ok-asked.ensures.window in
-    let starts : b.answered ≡ false = c.in_ok-asked.ensures.starts in
     let P : Asked → Type 0 = λ k. AsksTo M (g.S.Sides.stands cfg c.ask.new.self) r s.sided k in
     let re = subst P c.in-Refuse.is (c.in_ok-asked.ensures.leads cfg s.sided s.stand) in
     record {
       sided = record s.sided { saying = re.text };
       stand = re.stands;
-      holds = at_is M _ _ _ _ _ past c.counted-self.ensures (asks_refusal M _ at q r a b s.sided past _ c.requires k.is_open k.window window starts refl re s.holds);
+      holds = at_is M _ _ _ _ _ past c.counted-self.ensures (asks_refusal M _ at q r a b s.sided past _ c.requires k.is_open k.window c.in_ok-asked.ensures.window c.in_ok-asked.ensures.starts refl re s.holds);
     }
 
 pub returns-in-Reply-clause-keeps : goal.returns-in-Reply-clause-keeps
@@ -64,14 +58,12 @@ returns-in-Reply-clause-keeps g c = λ cfg past s.
     let r = g.S.Sides.request c.ask.new.self in
     let b = g.S.Sides.answer c.ask.new.self in
     let k = c.in_ok-asked.ensures.request in
-    let window : b.window ≡ a.window = c.in_ok-asked.ensures.window in
-    let starts : b.answered ≡ false = c.in_ok-asked.ensures.starts in
     let P : Asked → Type 0 = λ k. AsksTo M (g.S.Sides.stands cfg c.ask.new.self) r s.sided k in
     let re = subst P c.in-Reply.is (c.in_ok-asked.ensures.leads cfg s.sided s.stand) in
     record {
       sided = record s.sided { reply = re.reply; now = re.now; saying = re.text };
       stand = re.stands;
-      holds = at_is M _ _ _ _ _ past c.counted-self-in-Reply.ensures (asks_reply M _ at q r a b s.sided past _ c.in-Reply.kept c.requires k.is_open k.window window starts refl re s.holds);
+      holds = at_is M _ _ _ _ _ past c.counted-self-in-Reply.ensures (asks_reply M _ at q r a b s.sided past _ c.in-Reply.kept c.requires k.is_open k.window c.in_ok-asked.ensures.window c.in_ok-asked.ensures.starts refl re s.holds);
     }
 
 pub returns-in-Send-clause-keeps : goal.returns-in-Send-clause-keeps
@@ -83,14 +75,12 @@ returns-in-Send-clause-keeps g c = λ cfg past s.
     let r = g.S.Sides.request c.ask.new.self in
     let b = g.S.Sides.answer c.ask.new.self in
     let k = c.in_ok-asked.ensures.request in
-    let window : b.window ≡ a.window = c.in_ok-asked.ensures.window in
-    let starts : b.answered ≡ false = c.in_ok-asked.ensures.starts in
     let P : Asked → Type 0 = λ k. AsksTo M (g.S.Sides.stands cfg c.ask.new.self) r s.sided k in
     let re = subst P c.in-Send.is (c.in_ok-asked.ensures.leads cfg s.sided s.stand) in
     record {
       sided = record s.sided { asking = re.asking; to_server = [] };
       stand = re.stands;
-      holds = at_is M _ _ _ _ _ past c.counted-self-in-Send.ensures (asks_server M _ at q r a b s.sided past _ c.requires k.is_open k.window window refl re s.holds);
+      holds = at_is M _ _ _ _ _ past c.counted-self-in-Send.ensures (asks_server M _ at q r a b s.sided past _ c.requires k.is_open k.window c.in_ok-asked.ensures.window refl re s.holds);
     }
 
 pub returns-in_err-asked-clause-succeeds : goal.returns-in_err-asked-clause-succeeds
