@@ -18,11 +18,11 @@ use Rattle.rec_format.specs.Front.{ends_number, DigitsFront, NumberFront}
 pub own : IsNumeralModel (λ ds. all_ascii_digits ds ≡ true) (digits_value 10)
 own = numerals_by_value (λ ds. all_ascii_digits ds ≡ true) tells_all_ascii_digits
 
-both : (a b : Bool) → (a && b) ≡ true → (a ≡ true) × (b ≡ true)
+pub both : (a b : Bool) → (a && b) ≡ true → (a ≡ true) × (b ≡ true)
 both true b h = (refl, h)
 both false b h = cc
 
-and_true : (a b : Bool) → a ≡ true → b ≡ true → (a && b) ≡ true
+pub and_true : (a b : Bool) → a ≡ true → b ≡ true → (a && b) ≡ true
 and_true true b p q = q
 and_true false b p q = p
 
@@ -100,7 +100,7 @@ number_unique text m n r s one other =
     let fits_too : n < 2 ^ 64 = omega (arith, other.short) in
     (decimal_injective m n fits fits_too both_are.0, both_are.1)
 
-no_zero : (n : ℕ) → n < 2 ^ 64 → get_or (decimal n) 0 0 ≡ 48 → length (decimal n) ≡ 1
+pub no_zero : (n : ℕ) → n < 2 ^ 64 → get_or (decimal n) 0 0 ≡ 48 → length (decimal n) ≡ 1
 no_zero zero fits first = ap length (decimal_digit 0 (lit< tt))
 no_zero (suc n) fits first = absurd (omega (arith, first_decimal (suc n) (omega arith) fits, first))
 
@@ -113,7 +113,7 @@ zero_first text digits rest front several first n r number =
     omega (arith, several, one)
 
 -- std's two words for a text of digits
-each_digit : (ds : List ℕ) → list_all is_ascii_digit ds ≡ all_ascii_digits ds
+pub each_digit : (ds : List ℕ) → list_all is_ascii_digit ds ≡ all_ascii_digits ds
 each_digit [] = refl
 each_digit (d ∷ ds) = ap (λ b. is_ascii_digit d && b) (each_digit ds)
 

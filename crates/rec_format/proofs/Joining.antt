@@ -1,16 +1,17 @@
 -- What was read joins what is still to be read.
 use Rattle.std.proofs.Common.{◌≡◌, ℕ, zero, suc, ◌+◌, ◌-◌, ◌<◌, ◌≤◌, length, Bool, true, false, cond, List, [], ◌∷◌, ◌++◌, refl, sym, ap, ◌∙◌, subst, arith, append_assoc, map}
-use Rattle.std.specs.Prelude.{Option, Some, None, Result, Ok, Err, option_map, IfOk, IfErr}
+use Rattle.std.specs.Prelude.{Option, Some, None, Result, Ok, Err, option_map, IfOk, IfErr, OnOk}
 use Rattle.std.proofs.lemmas.Bool.{le-leb, lt-leb}
 use Rattle.rec_format.specs.declared.record.Record.{Record}
-use Rattle.std.proofs.lemmas.List.{append-nil, map_push}
+use Rattle.std.proofs.lemmas.List.{append-nil, length-map}
+use Rattle.rec_format.specs.declared.record.Connection.{Connection}
 use Rattle.px_link.specs.declared.turns.Turn.{Turn}
 use Rattle.rec_format.specs.declared.record.RecFault.{RecFault}
 use Rattle.rec_format.specs.declared.record.RecFault.TheVariants as faults
 use Rattle.rec_format.specs.declared.record.RecKind.TheVariants as kinds
 use Rattle.rec_format.specs.Pieces.{before, behind}
 use Rattle.rec_format.specs.Entries.{ServerEntry, turn_entry}
-use Rattle.rec_format.specs.Read.{Gives, fault_of, meaning_of}
+use Rattle.rec_format.specs.Read.{Gives, fault_of, meaning_of, visit, visits}
 use Rattle.rec_format.specs.Recorded.{Refusal, refusal_at, Servers, Visit, Visits, Moves, and_then, with_server, with_visit, with_turn, is_server, server_of, servers_of, Visited, visit_of, visits_of, last_visit, next_client, last_turns, turns_of, or_refuse, Recorded, record_of, in_format, format_of}
 use Rattle.rec_format.specs.Parts.{behind_servers, behind_visits, behind_turns, visit_before, visit_last, Refuses}
 
@@ -175,3 +176,20 @@ pub gives_refused : (said other : Result Recorded Refusal) (result : Result Reco
 gives_refused said other (Ok found) h same = tt
 gives_refused said other (Err (faults.Refused place kind)) h same = same ∙ h
 gives_refused said other (Err faults.OutOfMemory) h same = tt
+
+-- as many are seen as there are
+pub counted_visits : (conns : List Connection) → length (visits conns) ≡ length conns
+counted_visits conns = length-map conns visit
+
+-- a word, a number with its line feed, and what is written behind them
+pub joined_lines : {A E : Type 0} (result : Result A E) (old word number more first second last : List ℕ) → first ≡ old ++ word → second ≡ first ++ (number ++ 10 ∷ []) → OnOk result (last ≡ second ++ more)
+    → OnOk result (last ≡ old ++ (word ++ (number ++ 10 ∷ more)))
+joined_lines (Err e) old word number more first second last a b h = tt
+joined_lines (Ok x) old word number more first second last a b h =
+    h ∙ ap (λ (l : List ℕ). l ++ more) (b ∙ ap (λ (l : List ℕ). l ++ (number ++ 10 ∷ [])) a) ∙ append_assoc (old ++ word) (number ++ 10 ∷ []) more
+    ∙ ap (λ (l : List ℕ). (old ++ word) ++ l) (append_assoc number (10 ∷ []) more) ∙ append_assoc old word (number ++ 10 ∷ more)
+
+-- a text, and what is written behind it
+pub joined_texts : {A E : Type 0} (result : Result A E) (old text more first last : List ℕ) → first ≡ old ++ text → OnOk result (last ≡ first ++ more) → OnOk result (last ≡ old ++ (text ++ more))
+joined_texts (Err e) old text more first last a h = tt
+joined_texts (Ok x) old text more first last a h = h ∙ ap (λ (l : List ℕ). l ++ more) a ∙ append_assoc old text more

@@ -5,3 +5,6 @@ pub mod Reports
 pub mod Capped
 mod Several
 pub mod Joining
+pub mod WordsBack
+pub mod WrittenBack
+pub mod RecordBack

@@ -10,3 +10,4 @@ pub mod Lent
 pub mod Recorded
 pub mod Read
 pub mod Parts
+pub mod Written
