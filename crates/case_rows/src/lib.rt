@@ -4,6 +4,7 @@
 mod answers;
 mod escapes;
 mod fault;
+mod held;
 mod reading;
 mod rows;
 mod score;
@@ -12,6 +13,7 @@ mod steps;
 pub use answers::Answers;
 pub use escapes::{count_of, decoded, quoted, split_at_first};
 pub use fault::Fault;
+pub use held::{Held, held_in, held_list};
 pub use htx_model::OutOfMemory;
 pub use reading::{Call, number_of, words_of};
 pub use rows::Row;

@@ -3,8 +3,8 @@
 ghost use Rattle.std.specs.Prelude.{◌≡◌, ◌≤◌, IfOk};
 
 use crate::convs::{conv_of, fetch_of};
-use crate::samples::{Held, given_list, held_list, say_sample};
-use case_rows::{Answers, Call, Fault, Row, count_of};
+use crate::samples::{given_list, say_sample};
+use case_rows::{Answers, Call, Fault, Held, Row, count_of, held_list};
 use px_expr::{Buf, ConvList, Expr, MemEnv, eval, eval_nth};
 use px_pattern::Searchers;
 use std::alloc::Global;

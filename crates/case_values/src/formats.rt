@@ -1,8 +1,8 @@
 //! Formats and templates.
 use crate::convs::{pattern_of, text_of};
 use crate::expressions::{buffer_of, expr_of};
-use crate::samples::{given_list, held_list};
-use case_rows::{Answers, Call, Fault, Row, decoded};
+use crate::samples::given_list;
+use case_rows::{Answers, Call, Fault, Row, decoded, held_list};
 use log_format::{Fmt, Part, PartList, format};
 use px_conv::expand;
 use px_expr::{Buf, MemEnv};
