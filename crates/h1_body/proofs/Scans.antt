@@ -119,8 +119,8 @@ completes_field at bytes rest f g valid same =
       fields = fields;
       last = lf;
       reads = (
-          All-push IsField f.fields g f.valid valid,
-          sym (append_assoc bytes rest (10 ∷ [])) ∙ ap (λ (l : List ℕ). l ++ 10 ∷ []) (here ∙ sym printed) ∙ sym (append-nil (print_section fields lf)),
+        All-push IsField f.fields g f.valid valid,
+        sym (append_assoc bytes rest (10 ∷ [])) ∙ ap (λ (l : List ℕ). l ++ 10 ∷ []) (here ∙ sym printed) ∙ sym (append-nil (print_section fields lf)),
       );
     }
 
