@@ -1,0 +1,16 @@
+use Rattle.std.proofs.Common.{◌≡◌, ◌+◌, ◌-◌, ℕ, length, []}
+use Rattle.cfg_expr.specs.Formats.{parts_from, most_parts}
+use Rattle.cfg_expr.proofs.Readings.{Leads}
+use Rattle.cfg_expr.proofs.formats.read_format.Given as goal
+
+-- what is left of the text gives what all of it gives, and no build was refused so far
+abbrev pub invariant-parts : goal.invariant-parts
+invariant-parts g l = record {
+  most : ℕ;
+  count : length l.parts + most ≡ 64;
+  leads : Leads (parts_from l.fn.side most_parts [] l.fn.text) (parts_from l.fn.side most l.parts l.rest);
+  same : g.P.Patterns.refusals l.pats ≡ g.P.Patterns.refusals l.fn.pats;
+}
+
+abbrev pub decreases-parts : goal.decreases-parts
+decreases-parts g l = 64 - length l.parts
