@@ -26,6 +26,12 @@ literal_behind true (b ∷ rest) = if b == 37 then put 37 (literal_behind false 
 unfoldable pub literal_in : List ℕ → List ℕ × List ℕ
 literal_in text = literal_behind false text
 
+-- how many bytes stand for the first byte of such a text; none where there is no such text
+abbrev pub piece_len : List ℕ → ℕ
+piece_len [] = 0
+piece_len (b ∷ []) = if b == 37 then 0 else 1
+piece_len (b ∷ c ∷ rest) = if b == 37 then (if c == 37 then 2 else 0) else 1
+
 -- ---- parts
 
 -- behind an expression stands `]`

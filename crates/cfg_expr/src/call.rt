@@ -1,6 +1,7 @@
 //! The form of a fetch or a converter in a text: a name, and arguments in brackets. Nothing here knows a name.
-ghost use Rattle.std.specs.Prelude.{◌≡◌, ◌≤◌, length, position, option_map};
-ghost use Rattle.cfg_expr.specs.Calls.{argument, quoted_at, bare_at, stop_in, put, arguments, name_len, form_in, args_of, form_of, is_quote, ends_argument};
+ghost use Rattle.std.specs.Prelude.{◌≡◌, ◌+◌, ◌<◌, ◌≤◌, ◌==◌, length, take, drop, position, option_map, IfSome};
+ghost use Rattle.std.specs.List.{list_any};
+ghost use Rattle.cfg_expr.specs.Calls.{argument, quoted_at, bare_at, stop_in, put, arguments, name_len, form_in, args_of, form_of, is_blank, is_quote, ends_argument, ends_name};
 
 /// The arguments in brackets. No fetch or converter has more than three.
 #[derive(Clone, Copy, Debug)]
@@ -27,12 +28,69 @@ enum Stop {
     End,
 }
 
+fn is_blank(b: u8) -> bool
+    ensures { result ≡ is_blank b }
+{
+    b == b' ' || b == b'\t'
+}
+
+fn has_blank(text: &[u8]) -> bool
+    ensures { result ≡ list_any is_blank text.now }
+{
+    text.iter().any(|b| is_blank(*b))
+}
+
+/// A comma or `)`.
+fn ends_argument(b: u8) -> bool
+    ensures { result ≡ ends_argument b }
+{
+    b == b',' || b == b')'
+}
+
+/// `(`, a comma or `]`.
+fn ends_name(b: u8) -> bool
+    ensures { result ≡ ends_name b }
+{
+    b == b'(' || b == b',' || b == b']'
+}
+
+/// Where a byte stands first.
+pub fn first_of(byte: u8, text: &[u8]) -> Option<usize>
+    ensures place { result ≡ position (λ b. b == byte) text.now }
+    ensures within { IfSome result (λ at. at < length text.now) }
+{
+    text.iter().position(|b| *b == byte)
+}
+
+fn argument_end(text: &[u8]) -> Option<usize>
+    ensures place { result ≡ position ends_argument text.now }
+    ensures within { IfSome result (λ at. at < length text.now) }
+{
+    text.iter().position(|b| ends_argument(*b))
+}
+
+fn name_end(text: &[u8]) -> Option<usize>
+    ensures place { result ≡ position ends_name text.now }
+    ensures within { IfSome result (λ at. at < length text.now) }
+{
+    text.iter().position(|b| ends_name(*b))
+}
+
+/// What is in front of a byte, and what is behind it.
+pub fn around(at: usize, text: &[u8]) -> (&[u8], &[u8])
+    requires { at < length text.now }
+    ensures front { result.0.now ≡ take at text.now }
+    ensures behind { result.1.now ≡ drop (at + 1) text.now }
+{
+    (&text[..at], &text[at + 1..])
+}
+
 /// Up to the next single quote.
 fn quoted(text: &[u8]) -> Option<(&[u8], &[u8])>
     ensures { option_map (λ found. (found.0.now, found.1.now)) result ≡ quoted_at text.now (position is_quote text.now) }
 {
-    match text.iter().position(|b| *b == b'\'') {
-        Some(at) => Some((&text[..at], &text[at + 1..])),
+    match first_of(b'\'', text) {
+        Some(at) => Some(around(at, text)),
         None => None,
     }
 }
@@ -41,17 +99,14 @@ fn quoted(text: &[u8]) -> Option<(&[u8], &[u8])>
 fn bare(text: &[u8]) -> Option<(&[u8], &[u8])>
     ensures { option_map (λ found. (found.0.now, found.1.now)) result ≡ bare_at text.now (position ends_argument text.now) }
 {
-    match text.iter().position(|b| *b == b',' || *b == b')') {
-        Some(at) => {
-            let (arg, rest) = text.split_at(at);
-            if arg.iter().any(|b| *b == b' ' || *b == b'\t') {
-                None
-            } else {
-                Some((arg, rest))
-            }
-        }
-        None => None,
+    let Some(at) = argument_end(text) else {
+        return None;
+    };
+    let (arg, rest) = text.split_at(at);
+    if has_blank(arg) {
+        return None;
     }
+    Some((arg, rest))
 }
 
 /// An argument at the front, and what follows it.
@@ -118,10 +173,7 @@ fn name_len(text: &[u8]) -> usize
     ensures len { result ≡ name_len text.now }
     ensures within { result ≤ length text.now }
 {
-    match text
-        .iter()
-        .position(|b| *b == b'(' || *b == b',' || *b == b']')
-    {
+    match name_end(text) {
         Some(at) => at,
         None => text.len(),
     }

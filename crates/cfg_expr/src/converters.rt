@@ -1,8 +1,9 @@
 //! Converters by their names and arguments.
-ghost use Rattle.std.specs.Prelude.{◌≡◌, Some, None, drop, option_map, if◌then◌else◌};
+ghost use Rattle.std.specs.Prelude.{◌≡◌, ◌==◌, true, false, drop, MatchOption};
+ghost use Rattle.std.specs.List.{list_all, list_any};
 ghost use Rattle.cfg_expr.specs.Calls.{args_of};
 ghost use Rattle.cfg_expr.specs.Faults.{Gives, ReadsText};
-ghost use Rattle.cfg_expr.specs.Convs.{bare_conv, conv_with_one, conv_with_two, conv_with_three, plain_conv, flags_of, replacing, replacing_of};
+ghost use Rattle.cfg_expr.specs.Convs.{bare_conv, conv_with_one, conv_with_two, conv_with_three, plain_conv, is_flag, flags_of, replacing, replacing_of};
 ghost use Rattle.cfg_expr.specs.Exprs.{replaced, conv_of, conv_at, convs_at, goes_on};
 
 use crate::numbers::{count, number};
@@ -130,16 +131,35 @@ fn plain_conv(alloc: Global, name: &[u8], args: Args<'_>) -> Result<Conv, TextFa
     }
 }
 
+fn is_flag(b: u8) -> bool
+    ensures { result ≡ is_flag b }
+{
+    b == b'g' || b == b'i'
+}
+
+fn are_flags(text: &[u8]) -> bool
+    ensures { result ≡ list_all is_flag text.now }
+{
+    text.iter().all(|b| is_flag(*b))
+}
+
+fn has(text: &[u8], byte: u8) -> bool
+    ensures { result ≡ list_any (λ b. b == byte) text.now }
+{
+    text.iter().any(|b| *b == byte)
+}
+
 /// The letters `g` and `i`.
 fn flags_of(text: &[u8]) -> Result<Flags, TextFault>
     ensures { Gives (λ flags. record { icase = flags.icase; all = flags.all }) result (flags_of text.now) }
 {
-    if !text.iter().all(|b| *b == b'g' || *b == b'i') {
+    if !are_flags(text) {
         return Err(TextFault::Refused(TextKind::Expr));
     }
-    let icase = text.iter().any(|b| *b == b'i');
-    let all = text.iter().any(|b| *b == b'g');
-    Ok(Flags { icase, all })
+    Ok(Flags {
+        icase: has(text, b'i'),
+        all: has(text, b'g'),
+    })
 }
 
 /// A pattern, a template and flags as `regsub` has them.
@@ -226,7 +246,7 @@ fn conv_at<'t, P: Patterns>(
 
 /// What is behind a comma at the front, if there is one.
 fn behind_comma(text: &[u8]) -> Option<&[u8]>
-    ensures { option_map (λ rest. rest.now) result ≡ (if goes_on 44 text.now then Some (drop 1 text.now) else None) }
+    ensures { MatchOption result (goes_on 44 text.now ≡ false) (λ rest. (goes_on 44 text.now ≡ true) × (rest.now ≡ drop 1 text.now)) }
 {
     match text.split_first() {
         Some((b',', rest)) => Some(rest),
@@ -244,13 +264,17 @@ pub fn read_convs<'t, P: Patterns>(
 {
     let mut convs = ConvList::new(alloc);
     let mut rest = text;
-    'convs: while let Some(behind) = behind_comma(rest) {
+    'each: while let Some(behind) = behind_comma(rest) {
         if convs.len() == MAX_CONVS {
             return Err(TextFault::Refused(TextKind::Limit));
         }
-        let (conv, after) = conv_at(alloc, behind, pats)?;
-        convs.push(conv)?;
-        rest = after;
+        match conv_at(alloc, behind, pats) {
+            Ok((conv, after)) => {
+                convs.push(conv)?;
+                rest = after;
+            }
+            Err(fault) => return Err(fault),
+        }
     }
     Ok((convs, rest))
 }

@@ -2,8 +2,9 @@
 ghost use Rattle.std.specs.Prelude.{◌≡◌, option_map};
 ghost use Rattle.cfg_expr.specs.Calls.{args_of};
 ghost use Rattle.cfg_expr.specs.Faults.{Gives};
-ghost use Rattle.cfg_expr.specs.Fetches.{scope_of, is_variable_name, variable_of, variable_fetch, bare_fetch, field_fetch, field_source, fetch_with, source_with, source_at_occurrence, source_of};
+ghost use Rattle.cfg_expr.specs.Fetches.{scope_of, is_variable_byte, is_variable_name, variable_of, variable_fetch, bare_fetch, field_fetch, field_source, fetch_with, source_with, source_at_occurrence, source_of};
 
+use crate::call::{around, first_of};
 use crate::numbers::{field_name, number, occurrence, truth};
 use crate::{Args, Source, TextFault, TextKind};
 use px_sample::{Fetch, Scope, Text};
@@ -36,13 +37,17 @@ fn scope_of(text: &[u8]) -> Option<Scope>
     }
 }
 
+/// A letter, a digit, `_` or `.`.
+fn is_variable_byte(b: u8) -> bool
+    ensures { result ≡ is_variable_byte b }
+{
+    b.is_ascii_alphanumeric() || b == b'_' || b == b'.'
+}
+
 fn is_variable_name(text: &[u8]) -> bool
     ensures { result ≡ is_variable_name text.now }
 {
-    !text.is_empty()
-        && text
-            .iter()
-            .all(|b| b.is_ascii_alphanumeric() || *b == b'_' || *b == b'.')
+    !text.is_empty() && text.iter().all(|b| is_variable_byte(*b))
 }
 
 /// `SCOPE.NAME`, with the first dot between. None where the scope is unknown or the name is none.
@@ -50,9 +55,13 @@ fn is_variable_name(text: &[u8]) -> bool
 pub fn variable_of(text: &[u8]) -> Option<(Scope, &[u8])>
     ensures { option_map (λ found. (found.0, found.1.now)) result ≡ variable_of text.now }
 {
-    let at = text.iter().position(|b| *b == b'.')?;
-    let scope = scope_of(&text[..at])?;
-    let name = &text[at + 1..];
+    let Some(at) = first_of(b'.', text) else {
+        return None;
+    };
+    let (front, name) = around(at, text);
+    let Some(scope) = scope_of(front) else {
+        return None;
+    };
     if is_variable_name(name) {
         Some((scope, name))
     } else {

@@ -1,42 +1,50 @@
 //! Formats from their texts.
-ghost use Rattle.std.specs.Prelude.{◌≡◌, ◌<◌, length, IfOk};
+ghost use Rattle.std.specs.Prelude.{◌≡◌, ◌≤◌, length, IfOk};
 ghost use Rattle.cfg_expr.specs.Faults.{Gives, ReadsText};
-ghost use Rattle.cfg_expr.specs.Formats.{literal_in, sample_at, percent_at, part_at, format_of};
+ghost use Rattle.cfg_expr.specs.Formats.{piece_len, literal_in, sample_at, percent_at, part_at, format_of};
 
 use crate::expressions::expr_at;
 use crate::{Side, TextFault, TextKind};
 use log_format::{Fmt, Part, PartList};
 use px_pattern::Patterns;
-use px_sample::Text;
+use px_sample::{OutOfMemory, Text};
 use std::alloc::Global;
 
 /// The most parts of a format.
 const MAX_PARTS: u32 = 64;
 
 /// How many bytes stand for the first byte of a text: none where a `%` is not doubled.
-fn piece_len(text: &[u8]) -> usize {
-    match text {
-        [b'%', b'%', ..] => 2,
-        [b'%', ..] | [] => 0,
-        _ => 1,
+fn piece_len(text: &[u8]) -> usize
+    ensures len { result ≡ piece_len text.now }
+    ensures within { result ≤ length text.now }
+{
+    if text.is_empty() {
+        return 0;
+    }
+    if text[0] != b'%' {
+        return 1;
+    }
+    if text.len() > 1 && text[1] == b'%' {
+        2
+    } else {
+        0
     }
 }
 
 /// The longest text at the front in which each `%` is doubled, with one for two, and what is behind it.
-fn literal_in(alloc: Global, text: &[u8]) -> Result<(Text, &[u8]), TextFault>
+fn literal_in(alloc: Global, text: &[u8]) -> Result<(Text, &[u8]), OutOfMemory>
     ensures { IfOk result (λ found. literal_in text.now ≡ (found.0, found.1.now)) }
 {
     let mut literal = Text::copy(alloc, b"")?;
-    let mut at = 0;
-    'bytes: while at < text.len() {
-        let used = piece_len(&text[at..]);
-        if used == 0 {
-            break;
+    let mut rest = text;
+    'each: loop {
+        let len = piece_len(rest);
+        if len == 0 {
+            return Ok((literal, rest));
         }
-        literal.push(&text[at..at + 1])?;
-        at += used;
+        literal.push(&rest[..1])?;
+        rest = rest.split_at(len).1;
     }
-    Ok((literal, &text[at..]))
 }
 
 /// An expression behind `%[`, and what is behind its `]`.
@@ -104,13 +112,17 @@ pub fn read_format<P: Patterns>(
 {
     let mut parts = PartList::new(alloc);
     let mut rest = text;
-    'parts: while !rest.is_empty() {
+    'each: while !rest.is_empty() {
         if parts.len() == MAX_PARTS {
             return Err(TextFault::Refused(TextKind::Limit));
         }
-        let (part, behind) = part_at(alloc, side, rest, pats)?;
-        parts.push(part)?;
-        rest = behind;
+        match part_at(alloc, side, rest, pats) {
+            Ok((part, behind)) => {
+                parts.push(part)?;
+                rest = behind;
+            }
+            Err(fault) => return Err(fault),
+        }
     }
     Ok(Fmt { parts })
 }

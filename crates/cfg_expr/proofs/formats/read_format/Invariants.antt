@@ -4,13 +4,13 @@ use Rattle.cfg_expr.proofs.Readings.{Leads}
 use Rattle.cfg_expr.proofs.formats.read_format.Given as goal
 
 -- what is left of the text gives what all of it gives, and no build was refused so far
-abbrev pub invariant-parts : goal.invariant-parts
-invariant-parts g l = record {
+abbrev pub invariant-each : goal.invariant-each
+invariant-each g l = record {
   most : ℕ;
   count : length l.parts + most ≡ 64;
   leads : Leads (parts_from l.fn.side most_parts [] l.fn.text) (parts_from l.fn.side most l.parts l.rest);
   same : g.P.Patterns.refusals l.pats ≡ g.P.Patterns.refusals l.fn.pats;
 }
 
-abbrev pub decreases-parts : goal.decreases-parts
-decreases-parts g l = 64 - length l.parts
+abbrev pub decreases-each : goal.decreases-each
+decreases-each g l = 64 - length l.parts
