@@ -72,6 +72,10 @@ parts_from side zero so_far (b ∷ rest) = plain (Err kinds.Limit)
 parts_from side (suc most) so_far (b ∷ rest) =
     part_at side (b ∷ rest) >>= λ found. parts_from side most (so_far ++ found.0 ∷ []) found.1
 
+-- all parts of a text
+abbrev pub parts_at : Side → List ℕ → TextReading (List Part)
+parts_at side text = parts_from side most_parts [] text
+
 -- a text as a format of a direction
 unfoldable pub format_of : Side → List ℕ → TextReading Fmt
-format_of side text = parts_from side most_parts [] text >>= λ parts. plain (Ok (record { parts = parts }))
+format_of side text = parts_at side text >>= λ parts. plain (Ok (record { parts = parts }))

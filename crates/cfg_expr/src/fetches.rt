@@ -1,5 +1,6 @@
 //! Fetches by their names and arguments.
 ghost use Rattle.std.specs.Prelude.{◌≡◌, option_map};
+ghost use Rattle.std.specs.List.{list_all};
 ghost use Rattle.cfg_expr.specs.Calls.{args_of};
 ghost use Rattle.cfg_expr.specs.Faults.{Gives};
 ghost use Rattle.cfg_expr.specs.Fetches.{scope_of, is_variable_byte, is_variable_name, variable_of, variable_fetch, bare_fetch, field_fetch, field_source, fetch_with, source_with, source_at_occurrence, source_of};
@@ -44,10 +45,16 @@ fn is_variable_byte(b: u8) -> bool
     b.is_ascii_alphanumeric() || b == b'_' || b == b'.'
 }
 
+fn are_variable_bytes(text: &[u8]) -> bool
+    ensures { result ≡ list_all is_variable_byte text.now }
+{
+    text.iter().all(|b| is_variable_byte(*b))
+}
+
 fn is_variable_name(text: &[u8]) -> bool
     ensures { result ≡ is_variable_name text.now }
 {
-    !text.is_empty() && text.iter().all(|b| is_variable_byte(*b))
+    1 <= text.len() && are_variable_bytes(text)
 }
 
 /// `SCOPE.NAME`, with the first dot between. None where the scope is unknown or the name is none.

@@ -1,7 +1,7 @@
 //! Formats from their texts.
 ghost use Rattle.std.specs.Prelude.{◌≡◌, ◌≤◌, length, IfOk};
 ghost use Rattle.cfg_expr.specs.Faults.{Gives, ReadsText};
-ghost use Rattle.cfg_expr.specs.Formats.{piece_len, literal_in, sample_at, percent_at, part_at, format_of};
+ghost use Rattle.cfg_expr.specs.Formats.{piece_len, literal_in, sample_at, percent_at, part_at, parts_at, format_of};
 
 use crate::expressions::expr_at;
 use crate::{Side, TextFault, TextKind};
@@ -99,16 +99,14 @@ fn part_at<'t, P: Patterns>(
     }
 }
 
-/// A text as a format of a direction. Refused with Expr at a `%` that is neither doubled nor in front of an expression in
-/// brackets, or where such an expression is; with Limit at a 65th part; the leftmost fault decides.
-#[tactic(auto, unfolding(crate::specs::Formats::format_of))]
-pub fn read_format<P: Patterns>(
+/// The parts of a text.
+fn read_parts<P: Patterns>(
     alloc: Global,
     side: Side,
     text: &[u8],
     pats: &mut P,
-) -> Result<Fmt, TextFault>
-    ensures { ReadsText (λ fmt. fmt) (format_of side text.now) (P.refusals pats.old) (P.refusals pats.new) (P.last_refused pats.new) result }
+) -> Result<PartList, TextFault>
+    ensures { ReadsText (λ parts. parts) (parts_at side text.now) (P.refusals pats.old) (P.refusals pats.new) (P.last_refused pats.new) result }
 {
     let mut parts = PartList::new(alloc);
     let mut rest = text;
@@ -124,5 +122,20 @@ pub fn read_format<P: Patterns>(
             Err(fault) => return Err(fault),
         }
     }
+    Ok(parts)
+}
+
+/// A text as a format of a direction. Refused with Expr at a `%` that is neither doubled nor in front of an expression in
+/// brackets, or where such an expression is; with Limit at a 65th part; the leftmost fault decides.
+#[tactic(auto, unfolding(crate::specs::Formats::format_of))]
+pub fn read_format<P: Patterns>(
+    alloc: Global,
+    side: Side,
+    text: &[u8],
+    pats: &mut P,
+) -> Result<Fmt, TextFault>
+    ensures { ReadsText (λ fmt. fmt) (format_of side text.now) (P.refusals pats.old) (P.refusals pats.new) (P.last_refused pats.new) result }
+{
+    let parts = read_parts(alloc, side, text, pats)?;
     Ok(Fmt { parts })
 }
