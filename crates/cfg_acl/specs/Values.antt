@@ -10,6 +10,7 @@ use Rattle.acl_eval.specs.declared.condition.TestValue.TheVariants.{Range, Liter
 use Rattle.cfg_expr.specs.declared.fault.TextKind.TheVariants.{Acl}
 use Rattle.cfg_expr.specs.Steps.{◌>>=◌}
 use Rattle.cfg_expr.specs.Faults.{Told}
+use Rattle.cfg_acl.specs.declared.values.Ranges.{Ranges}
 use Rattle.cfg_acl.specs.declared.values.Operator.{Operator}
 use Rattle.cfg_acl.specs.declared.values.Operator.TheVariants.{Eq, Ge, Gt, Le, Lt}
 
@@ -73,12 +74,6 @@ number_value operator lacking word = number_at operator lacking word (position i
 abbrev pub unless_lacking : (lacking : Bool) → Told (Unit {0})
 unless_lacking true = Err Acl
 unless_lacking false = Ok tt
-
--- what is so far: the values, the operator that holds, and whether it still lacks a number
-pub record Ranges : Type 0 where
-  pub values : List TestValue
-  pub operator : Operator
-  pub lacking : Bool
 
 -- with a word that is an operator, or else a value
 abbrev pub ranges_by : Ranges → List ℕ → Option Operator → Told Ranges
