@@ -31,3 +31,7 @@ window_front xs at k end inside =
 -- and those behind it
 pub window_behind : {X : Type 0} (xs : List X) (at k end : ℕ) → drop (at + k + 1) (take end xs) ≡ drop (k + 1) (drop at (take end xs))
 window_behind xs at k end = let sum : at + (k + 1) ≡ at + k + 1 = omega arith in sym (drop-drop (k + 1) at (take end xs) ∙ ap (λ n. drop n (take end xs)) sum)
+
+-- how many there are
+pub window_len : {X : Type 0} (xs : List X) (at end : ℕ) → end ≤ length xs → length (drop at (take end xs)) ≡ end - at
+window_len xs at end within = length-drop at (take end xs) ∙ ap (λ n. n - at) (length-take-le end xs within)

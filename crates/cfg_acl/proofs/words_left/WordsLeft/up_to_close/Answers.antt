@@ -11,7 +11,7 @@ each-preserved c =
 
 pub returns-then-is_close : goal.returns-then-is_close
 returns-then-is_close c =
-    rw (c.around.ensures.front, c.around.ensures.behind)
+    rw (c.around-inside.ensures.front, c.around-inside.ensures.behind)
     (closes c.args.self c.each.number c.word.result.now c.word.ensures (sym c.is_close.ensures ∙ c.if-is_close.true) c.each.invariant)
 
 pub returns : goal.returns
