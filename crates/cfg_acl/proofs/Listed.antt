@@ -11,10 +11,10 @@ take-slice_get xs i x is = take_more xs i x (slice_get_within xs i x is) ∙ ap 
 
 -- one more is counted, or is not
 pub count-next : {X : Type 0} (p : X → Bool) (xs : List X) (i : ℕ) (x : X) → slice_get xs i ≡ Some x → p x ≡ false → count_by p (take (i + 1) xs) ≡ count_by p (take i xs)
-count-next p xs i x is no = count_by_more_no p xs i x (slice_get_within xs i x is) (ap p (get_or_from_slice_get xs i x x is) ∙ no)
+count-next p xs i x is fails = count_by_more_no p xs i x (slice_get_within xs i x is) (ap p (get_or_from_slice_get xs i x x is) ∙ fails)
 
 pub count-here : {X : Type 0} (p : X → Bool) (xs : List X) (i : ℕ) (x : X) → slice_get xs i ≡ Some x → p x ≡ true → count_by p (take (i + 1) xs) ≡ count_by p (take i xs) + 1
-count-here p xs i x is yes = count_by_more_yes p xs i x (slice_get_within xs i x is) (ap p (get_or_from_slice_get xs i x x is) ∙ yes)
+count-here p xs i x is holds = count_by_more_yes p xs i x (slice_get_within xs i x is) (ap p (get_or_from_slice_get xs i x x is) ∙ holds)
 
 -- and summed
 pub sum-here : {X : Type 0} (f : X → ℕ) (xs : List X) (i : ℕ) (x : X) → slice_get xs i ≡ Some x → sum_by f (take (i + 1) xs) ≡ sum_by f (take i xs) + f x
