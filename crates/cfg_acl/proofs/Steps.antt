@@ -1,5 +1,5 @@
 -- One more word: of patterns, of groups, of numbers.
-use Rattle.std.proofs.Common.{◌≡◌, ◌≢◌, ℕ, zero, suc, ◌+◌, ◌<◌, ◌∙◌, List, [], ◌∷◌, ◌++◌, length, Bool, true, false, cond, Result, Ok, Err, sym, ap, subst, refl, arith}
+use Rattle.std.proofs.Common.{◌≡◌, ℕ, zero, suc, ◌+◌, ◌<◌, ◌∙◌, List, [], ◌∷◌, ◌++◌, length, Bool, true, false, cond, Result, Ok, Err, sym, ap, subst, refl, arith}
 use Rattle.px_pattern.specs.Pattern.{Pattern}
 use Rattle.px_pattern.specs.Refusals.{Kept}
 use Rattle.acl_eval.specs.declared.condition.Term.{Term}
@@ -12,7 +12,7 @@ use Rattle.cfg_expr.specs.declared.fault.TextFault.{TextFault}
 use Rattle.cfg_expr.specs.declared.fault.TextFault.TheVariants as faults
 use Rattle.cfg_expr.specs.declared.side.Side.{Side}
 use Rattle.cfg_expr.specs.Steps as steps
-use Rattle.cfg_expr.specs.Reading.{Reading, plain, built, ◌>>=◌, given_by, Cause, Fails}
+use Rattle.cfg_expr.specs.Reading.{built, ◌>>=◌, given_by, Cause, Fails}
 use Rattle.cfg_expr.specs.Faults.{Told, TextReading, cause_of, FailsPlainly, Gives, ReadsText}
 use Rattle.cfg_expr.proofs.Readings.{Leads, leads_on, leads_out, fails_behind}
 use Rattle.cfg_acl.specs.declared.values.Ranges.{Ranges}

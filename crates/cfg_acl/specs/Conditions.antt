@@ -1,12 +1,12 @@
 -- `acl` lines and conditions, over the words of a line (Configuration Manual, sections 7.1 and 7.2).
-use Rattle.std.specs.Prelude.{ℕ, zero, suc, ◌-◌, ◌^◌, Bool, true, false, ◌==◌, ◌||◌, List, [], ◌∷◌, ◌++◌, length, drop, sum_by, Option, Some, None, Ok, Err, if◌then◌else◌, codes}
+use Rattle.std.specs.Prelude.{ℕ, zero, suc, ◌-◌, ◌^◌, Bool, true, false, ◌==◌, ◌||◌, List, [], ◌∷◌, ◌++◌, length, sum_by, Option, Some, None, Ok, Err, if◌then◌else◌, codes}
 use Rattle.std.specs.Str.{bytes_eq}
 use Rattle.acl_eval.specs.declared.condition.Test.{Test}
 use Rattle.acl_eval.specs.declared.condition.Term.{Term}
 use Rattle.acl_eval.specs.declared.condition.Cond.{Cond}
 use Rattle.cfg_expr.specs.declared.fault.TextKind.TheVariants.{Argument, Acl}
 use Rattle.cfg_expr.specs.declared.side.Side.{Side}
-use Rattle.cfg_expr.specs.Reading.{Reading, plain, ◌>>=◌}
+use Rattle.cfg_expr.specs.Reading.{plain, ◌>>=◌}
 use Rattle.cfg_expr.specs.Faults.{Told, TextReading}
 use Rattle.cfg_acl.specs.declared.conditions.Groups.{Groups}
 use Rattle.cfg_acl.specs.declared.written.AclLine.{AclLine}

@@ -3,8 +3,6 @@ use Rattle.std.specs.Prelude.{ℕ, ◌+◌, ◌-◌, ◌^◌, ℤ, pos, negsuc, 
 use Rattle.std.specs.Ordering.{int_eq}
 use Rattle.std.specs.Str.{bytes_eq}
 use Rattle.px_sample.specs.Cast.{number_of_text}
-use Rattle.acl_eval.specs.declared.condition.Match.{Match}
-use Rattle.acl_eval.specs.declared.condition.Match.TheVariants as matches
 use Rattle.acl_eval.specs.declared.condition.TestValue.{TestValue}
 use Rattle.acl_eval.specs.declared.condition.TestValue.TheVariants.{Range, Literal}
 use Rattle.cfg_expr.specs.declared.fault.TextKind.TheVariants.{Acl}

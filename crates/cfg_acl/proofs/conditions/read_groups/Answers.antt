@@ -1,4 +1,4 @@
-use Rattle.std.proofs.Common.{◌≡◌, ◌+◌, ◌<◌, ◌∷◌, ◌∙◌, ap, length, arith}
+use Rattle.std.proofs.Common.{◌≡◌, ◌<◌, ◌∙◌, length, arith}
 use Rattle.acl_eval.specs.declared.condition.Term.{Term}
 use Rattle.std.proofs.Common.{List}
 use Rattle.cfg_expr.specs.Faults.{cause_of}

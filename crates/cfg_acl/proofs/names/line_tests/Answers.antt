@@ -1,4 +1,4 @@
-use Rattle.std.proofs.Common.{◌≡◌, ◌+◌, ◌++◌, ◌∷◌, [], ◌∙◌, sym, ap, drop, length, length-append, arith, rules}
+use Rattle.std.proofs.Common.{◌≡◌, ◌+◌, ◌++◌, ◌∷◌, [], ◌∙◌, sym, ap, drop, length-append, arith, rules}
 use Rattle.cfg_acl.specs.Lines.{tests_from}
 use Rattle.cfg_acl.proofs.Windows.{drop-slice_get}
 use Rattle.cfg_acl.proofs.Steps.{fails_as, tests_on, tests_past, tests_out}

@@ -1,4 +1,4 @@
-use Rattle.std.proofs.Common.{◌≡◌, ◌+◌, ◌≤◌, ◌∙◌, ap, take, length, arith}
+use Rattle.std.proofs.Common.{◌+◌, ◌≤◌, ◌∙◌, ap, take, length, arith}
 use Rattle.cfg_acl.proofs.Windows.{window_front, window_len}
 use Rattle.cfg_acl.proofs.words_left.WordsLeft.around.Goals as goal
 

@@ -1,4 +1,4 @@
-use Rattle.std.proofs.Common.{◌≡◌, ◌<◌, ◌∙◌, sym, take, arith}
+use Rattle.std.proofs.Common.{◌<◌, ◌∙◌, sym, take, arith}
 use Rattle.cfg_acl.proofs.Windows.{drop-slice_get, slice_get-take}
 use Rattle.cfg_acl.proofs.words_left.WordsLeft.next.Goals as goal
 
