@@ -1,0 +1,119 @@
+//! The flags of a test.
+ghost use Rattle.std.specs.Prelude.{◌≡◌, false};
+ghost use Rattle.cfg_expr.specs.Faults.{Gives};
+ghost use Rattle.cfg_acl.specs.Flags.{match_of, flag_of, flags_from};
+
+use crate::WordsLeft;
+use acl_eval::Match;
+use cfg_expr::{TextFault, TextKind};
+
+/// The flags so far: `NO_FLAGS` in front of the first.
+#[derive(Clone, Copy, Debug)]
+pub(crate) struct Flags {
+    /// `-i`: case is ignored.
+    pub(crate) icase: bool,
+    /// The match of the last `-m`.
+    pub(crate) how: Option<Match>,
+}
+
+/// No flag so far.
+pub(crate) const NO_FLAGS: Flags = Flags {
+    icase: false,
+    how: None,
+};
+
+/// What a word says where a flag may stand.
+#[derive(Clone, Copy, Debug)]
+enum Flag {
+    IgnoreCase,
+    Match,
+    End,
+    Unknown,
+    Value,
+}
+
+/// A match by its name.
+#[tactic(auto, unfolding(crate::specs::Flags::match_of))]
+fn match_of(word: &[u8]) -> Option<Match>
+    ensures { result ≡ match_of word.now }
+{
+    if word == b"found".as_slice() {
+        Some(Match::Found)
+    } else if word == b"bool".as_slice() {
+        Some(Match::Bool)
+    } else if word == b"int".as_slice() {
+        Some(Match::Int)
+    } else if word == b"len".as_slice() {
+        Some(Match::Len)
+    } else if word == b"str".as_slice() {
+        Some(Match::Str)
+    } else if word == b"beg".as_slice() {
+        Some(Match::Beg)
+    } else if word == b"end".as_slice() {
+        Some(Match::End)
+    } else if word == b"sub".as_slice() {
+        Some(Match::Sub)
+    } else if word == b"reg".as_slice() {
+        Some(Match::Reg)
+    } else {
+        None
+    }
+}
+
+#[tactic(auto, unfolding(crate::specs::Flags::flag_of))]
+fn flag_of(word: &[u8]) -> Flag
+    ensures { result ≡ flag_of word.now }
+{
+    if word == b"-i".as_slice() {
+        Flag::IgnoreCase
+    } else if word == b"-m".as_slice() {
+        Flag::Match
+    } else if word == b"--".as_slice() {
+        Flag::End
+    } else if word.first() == Some(&b'-') {
+        Flag::Unknown
+    } else {
+        Flag::Value
+    }
+}
+
+/// The flags in front of the values, behind those so far, and the values.
+pub(crate) fn read_flags<'w>(
+    so_far: Flags,
+    words: WordsLeft<'w>,
+) -> Result<(Flags, WordsLeft<'w>), TextFault>
+    ensures { Gives (λ found. (found.0, found.1)) result (flags_from false so_far words.entry) }
+{
+    let values = words.again();
+    let mut left = words;
+    let Some(word) = left.next() else {
+        return Ok((so_far, values));
+    };
+    match flag_of(word) {
+        Flag::IgnoreCase => read_flags(
+            Flags {
+                icase: true,
+                how: so_far.how,
+            },
+            left,
+        ),
+        Flag::Match => {
+            let Some(name) = left.next() else {
+                return Err(TextFault::Refused(TextKind::Acl));
+            };
+            let Some(how) = match_of(name) else {
+                return Err(TextFault::Refused(TextKind::Acl));
+            };
+            read_flags(
+                Flags {
+                    icase: so_far.icase,
+                    how: Some(how),
+                },
+                left,
+            )
+        }
+        Flag::End => Ok((so_far, left)),
+        Flag::Unknown => Err(TextFault::Refused(TextKind::Acl)),
+        Flag::Value => Ok((so_far, values)),
+    }
+}
