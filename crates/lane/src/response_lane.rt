@@ -1,0 +1,335 @@
+//! The direction in which the client is answered: a server's heads come, interim ones are passed on or dropped, and the
+//! last that answers goes out behind them, the server's or one in its place.
+ghost use Rattle.std.specs.Prelude.{◌≡◌, ◌≢◌, ◌≤◌, ◌<◌, ◌+◌, ◌++◌, ◌∷◌, ◌⊎◌, [], length, drop, true, false, List, ℕ, Some, None, Bool, IfOk, IsTrue};
+ghost use Rattle.htx_model.specs.Blocks.{Fits};
+ghost use Rattle.http_model.specs.Finish.{finish_interim};
+ghost use Rattle.http_model.specs.Head.{Head, head_blocks};
+ghost use Rattle.http_model.specs.Reading.{Received};
+ghost use Rattle.http_model.specs.Head.{front_blocks};
+ghost use Rattle.lane.specs.Answering.{Exchange, Answers, HeadComes, PutsOut, is_interim, IsOpen, with_bytes, with_put, passes, drops, serves, replies, fresh, IsSoundAnswer, MayGoOn, shows_head};
+ghost use Rattle.lane.specs.declared.response_lane.Phase.TheVariants as phase;
+ghost use Rattle.lane.specs.declared.stage.Stage.TheVariants as stage;
+ghost use Rattle.lane.specs.declared.stage.Source.TheVariants as source;
+
+use crate::lane::Lane;
+use crate::stage::{LaneHead, Source, Stage};
+use h1_head::Side;
+use header_ops::laws::edits_of_heads;
+use http_model::{Ending, Framing, Limits};
+use htx_arena::Arena;
+use htx_model::OutOfMemory;
+use std::alloc::Global;
+
+/// What is put out.
+#[derive(Clone, Copy, Debug, PartialEq, Eq)]
+pub enum Phase {
+    /// Nothing: heads are read.
+    Heads,
+    /// An interim head, behind which heads are read on.
+    Passing,
+    /// An interim head, and then what stands in the first array in the answer's place.
+    Turning { no_body: bool },
+    /// The last that answers.
+    Answering,
+}
+
+/// The direction in which a client is answered.
+#[derive(Drop)]
+pub struct ResponseLane {
+    lane: Lane,
+    phase: Phase,
+    /// A byte of the last that answers was put out.
+    begun: bool,
+}
+
+impl ResponseLane {
+    /// A lane whose output window has this size. This call alone takes memory.
+    pub fn new(alloc: Global, limits: Limits, window: u32) -> Result<ResponseLane, OutOfMemory>
+        requires least { 1024 ≤ limits.bufsize }
+        requires most { limits.bufsize ≤ 262144 }
+        requires reserve { limits.maxrewrite + 512 ≤ limits.bufsize }
+        requires window { 64 ≤ window }
+        ensures fresh { IfOk result (λ lane. (asked : Bool) → Answers lane (fresh asked)) }
+        ensures reading { IfOk result (λ lane. lane.lane.stage ≡ stage.Reading) }
+        ensures sound { IfOk result IsSoundAnswer }
+    {
+        Ok(ResponseLane {
+            lane: Lane::new(alloc, limits, window)?,
+            phase: Phase::Heads,
+            begun: false,
+        })
+    }
+
+    /// Where the lane stands.
+    pub fn stage(&self) -> Stage
+        ensures { result ≡ self.now.lane.stage }
+    {
+        self.lane.stage()
+    }
+
+    /// Where the body stands.
+    pub fn source(&self) -> Source
+        ensures { result ≡ self.now.lane.source }
+    {
+        self.lane.source()
+    }
+
+    /// Whether a byte of the last that answers was put out.
+    pub fn begun(&self) -> bool
+        ensures { result ≡ self.now.begun }
+    {
+        self.begun
+    }
+
+    /// How many bytes can be taken.
+    pub fn room(&self) -> usize
+        ensures { result + length self.now.lane.input.items ≡ self.now.lane.input.capacity }
+    {
+        self.lane.room()
+    }
+
+    /// How the body of the head that stands in the array is framed.
+    pub fn framing(&self) -> Framing
+        ensures { result ≡ self.now.lane.framing }
+    {
+        self.lane.framing()
+    }
+
+    /// The length that a field of that head declared.
+    pub fn declared(&self) -> Option<u64>
+        ensures { result ≡ self.now.lane.declared }
+    {
+        self.lane.declared()
+    }
+
+    /// Bytes of the server's stream come.
+    pub fn take(&mut self, bytes: &[u8])
+        requires open { IsOpen self.old }
+        requires room { length self.old.lane.input.items + length bytes.now ≤ self.old.lane.input.capacity }
+        ensures answers { (p : Exchange) → Answers self.old p → Answers self.new (with_bytes p bytes.now) }
+        ensures same { (self.new.lane.stage ≡ self.old.lane.stage) × (self.new.lane.output ≡ self.old.lane.output) × (self.new.begun ≡ self.old.begun) }
+        ensures sound { IsSoundAnswer self.old → IsSoundAnswer self.new }
+    {
+        self.lane.take(bytes);
+    }
+
+    /// The server's stream ends.
+    pub fn end(&mut self, how: Ending)
+        requires { IsOpen self.old }
+        ensures answers { (p : Exchange) → Answers self.old p → Answers self.new p }
+        ensures same { (self.new.lane.stage ≡ self.old.lane.stage) × (self.new.lane.output ≡ self.old.lane.output) × (self.new.begun ≡ self.old.begun) }
+        ensures sound { IsSoundAnswer self.old → IsSoundAnswer self.new }
+    {
+        self.lane.end(how);
+    }
+
+    /// Reads the next head of the server. A stream that ended without one is refused.
+    pub fn read_head(&mut self, head_asked: bool) -> LaneHead
+        requires sound { IsSoundAnswer self.old }
+        requires reading { self.old.lane.stage ≡ stage.Reading }
+        ensures comes { (p : Exchange) → Answers self.old p → p.asked ≡ head_asked → HeadComes p self.new result }
+        ensures same { (self.new.lane.output ≡ self.old.lane.output) × (self.new.lane.ended ≡ self.old.lane.ended) × (self.new.begun ≡ self.old.begun) }
+        ensures sound { IsSoundAnswer self.new }
+    {
+        match self.lane.read_head(Side::Response { head_asked }) {
+            LaneHead::More => LaneHead::More,
+            LaneHead::Nothing => {
+                self.lane.give_up();
+                LaneHead::Refuse(502)
+            }
+            LaneHead::Head => LaneHead::Head,
+            LaneHead::Refuse(code) => LaneHead::Refuse(code),
+        }
+    }
+
+    /// The array on which rules run.
+    pub fn head(&mut self) -> &mut Arena {
+        self.lane.head()
+    }
+
+    /// The interim head that stands in the array is put out, without the fields that frame a message or speak of its
+    /// connection. Then heads are read on.
+    pub fn pass(&mut self)
+        requires sound { IsSoundAnswer self.old }
+        requires head { self.old.lane.stage ≡ stage.Head }
+        ensures answers { (p : Exchange) (got : Received) → Answers self.old p → p.pending ≡ Some got → is_interim got.head ≡ true → self.old.lane.msg.blocks ≡ head_blocks got.head
+            → Answers self.new (passes p got) }
+        ensures stage { self.new.lane.stage ≡ stage.Sending }
+        ensures same { (self.new.lane.output ≡ self.old.lane.output) × (self.new.lane.ended ≡ self.old.lane.ended) × (self.new.begun ≡ self.old.begun) }
+        ensures sound { IsSoundAnswer self.new }
+    {
+        edits_of_heads();
+        self.lane.strip();
+        self.lane.show();
+        self.phase = Phase::Passing;
+    }
+
+    /// The interim head that stands in the array goes nowhere.
+    pub fn drop_head(&mut self)
+        requires sound { IsSoundAnswer self.old }
+        requires head { self.old.lane.stage ≡ stage.Head }
+        ensures answers { (p : Exchange) (got : Received) → Answers self.old p → p.pending ≡ Some got → is_interim got.head ≡ true → Answers self.new (drops p got) }
+        ensures stage { self.new.lane.stage ≡ stage.Reading }
+        ensures same { (self.new.lane.output ≡ self.old.lane.output) × (self.new.lane.ended ≡ self.old.lane.ended) × (self.new.begun ≡ self.old.begun) }
+        ensures sound { IsSoundAnswer self.new }
+    {
+        self.lane.next();
+        self.phase = Phase::Heads;
+    }
+
+    /// The head that stands in the array is put out as the last that answers, and the body behind it in this framing.
+    pub fn send(&mut self, framing: Framing, no_body: bool)
+        requires sound { IsSoundAnswer self.old }
+        requires head { self.old.lane.stage ≡ stage.Head }
+        ensures answers { (p : Exchange) (head : Head) → Answers self.old p → self.old.lane.msg.blocks ≡ head_blocks head → Answers self.new (serves p head framing no_body) }
+        ensures stage { self.new.lane.stage ≡ stage.Sending }
+        ensures same { (self.new.lane.output ≡ self.old.lane.output) × (self.new.lane.ended ≡ self.old.lane.ended) × (self.new.begun ≡ self.old.begun) }
+        ensures sound { IsSoundAnswer self.new }
+    {
+        self.lane.send(framing, no_body);
+        self.phase = Phase::Answering;
+    }
+
+    /// The message of this list, a reply or a refusal, is put out as the last that answers. What is left of an interim
+    /// head is put out in front of it, whole.
+    pub fn answer(&mut self, list: &mut Arena, no_body: bool)
+        requires sound { IsSoundAnswer self.old }
+        requires unbegun { self.old.begun ≡ false }
+        requires fits { Fits list.old.blocks self.old.lane.limits.bufsize }
+        ensures answers { (p : Exchange) (head : Head) (body : List ℕ) → Answers self.old p → list.old.blocks ≡ front_blocks head body → Answers self.new (replies p head body no_body) }
+        ensures list { list.new.blocks ≡ [] }
+        ensures stage { (self.new.lane.stage ≡ stage.Sending) × (self.new.lane.source ≡ source.Whole) }
+        ensures same { (self.new.lane.output ≡ self.old.lane.output) × (self.new.lane.ended ≡ self.old.lane.ended) × (self.new.begun ≡ self.old.begun) }
+        ensures sound { IsSoundAnswer self.new }
+    {
+        if self.is_showing() {
+            self.lane.put_by(list);
+            self.phase = Phase::Turning { no_body };
+            return;
+        }
+        self.lane.say(list, no_body);
+        self.phase = Phase::Answering;
+    }
+
+    /// Whether an interim head is put out.
+    fn is_showing(&self) -> bool
+        ensures { result ≡ shows_head self.now.phase }
+    {
+        match self.phase {
+            Phase::Heads | Phase::Answering => false,
+            Phase::Passing | Phase::Turning { no_body: _ } => true,
+        }
+    }
+
+    /// Does all that can be done with what came and what room there is.
+    pub fn step(&mut self)
+        requires sound { IsSoundAnswer self.old }
+        requires sending { self.old.lane.stage ≡ stage.Sending }
+        ensures answers { PutsOut self.old self.new }
+        ensures no_stall { (p : Exchange) → Answers self.old p → self.new.lane.stage ≡ stage.Sending → MayGoOn self.new }
+        ensures begun { self.old.begun ≡ true → self.new.begun ≡ true }
+        ensures sound { IsSoundAnswer self.new }
+    {
+        match self.phase {
+            Phase::Heads => {}
+            Phase::Passing => self.pass_on(),
+            Phase::Turning { no_body } => self.turn_on(no_body),
+            Phase::Answering => self.answer_on(),
+        }
+    }
+
+    /// Puts out more of an interim head; heads are read on behind it.
+    fn pass_on(&mut self)
+        requires sound { IsSoundAnswer self.old }
+        requires at { self.old.phase ≡ phase.Passing }
+        ensures answers { PutsOut self.old self.new }
+        ensures no_stall { (p : Exchange) → Answers self.old p → self.new.lane.stage ≡ stage.Sending → MayGoOn self.new }
+        ensures begun { self.old.begun ≡ true → self.new.begun ≡ true }
+        ensures sound { IsSoundAnswer self.new }
+    {
+        if self.lane.show_on() {
+            self.lane.next();
+            self.phase = Phase::Heads;
+        }
+    }
+
+    /// Puts out more of an interim head, and then what stands in the first array.
+    fn turn_on(&mut self, no_body: bool)
+        requires sound { IsSoundAnswer self.old }
+        requires at { self.old.phase ≡ phase.Turning no_body }
+        ensures answers { PutsOut self.old self.new }
+        ensures no_stall { (p : Exchange) → Answers self.old p → self.new.lane.stage ≡ stage.Sending → MayGoOn self.new }
+        ensures begun { self.old.begun ≡ true → self.new.begun ≡ true }
+        ensures sound { IsSoundAnswer self.new }
+    {
+        if self.lane.show_on() {
+            self.lane.hide();
+            self.lane.say_msg(no_body);
+            self.phase = Phase::Answering;
+            self.answer_on();
+        }
+    }
+
+    /// Puts out more of the last that answers.
+    fn answer_on(&mut self)
+        requires sound { IsSoundAnswer self.old }
+        requires at { self.old.phase ≡ phase.Answering }
+        requires sending { self.old.lane.stage ≡ stage.Sending }
+        ensures answers { PutsOut self.old self.new }
+        ensures no_stall { (p : Exchange) → Answers self.old p → self.new.lane.stage ≡ stage.Sending → MayGoOn self.new }
+        ensures begun { self.old.begun ≡ true → self.new.begun ≡ true }
+        ensures sound { IsSoundAnswer self.new }
+    {
+        let before = self.lane.put();
+        self.lane.step();
+        if self.lane.put() > before {
+            self.begun = true;
+        }
+    }
+
+    /// The text that was not taken yet.
+    pub fn output(&mut self) -> &mut [u8] {
+        self.lane.output()
+    }
+
+    /// So many bytes of it were taken.
+    pub fn took(&mut self, n: usize)
+        requires { n ≤ length self.old.lane.output.items }
+        ensures output { self.new.lane.output.items ≡ drop n self.old.lane.output.items }
+        ensures answers { (p : Exchange) → Answers self.old p → Answers self.new p }
+        ensures same { (self.new.lane.stage ≡ self.old.lane.stage) × (self.new.lane.ended ≡ self.old.lane.ended) × (self.new.begun ≡ self.old.begun) }
+        ensures sound { IsSoundAnswer self.old → IsSoundAnswer self.new }
+    {
+        self.lane.took(n);
+    }
+
+    /// The next exchange begins on what is left of the stream.
+    pub fn next(&mut self)
+        requires sound { IsSoundAnswer self.old }
+        requires done { self.old.lane.stage ≡ stage.Done }
+        ensures answers { (asked : Bool) → Answers self.new (with_bytes (fresh asked) self.old.lane.input.items) }
+        ensures stage { self.new.lane.stage ≡ stage.Reading }
+        ensures same { (self.new.lane.output ≡ self.old.lane.output) × (self.new.lane.ended ≡ self.old.lane.ended) × (self.new.lane.input ≡ self.old.lane.input) }
+        ensures sound { IsSoundAnswer self.new }
+    {
+        self.lane.next();
+        self.phase = Phase::Heads;
+        self.begun = false;
+    }
+
+    /// Another server answers: what came of the one before goes, and what is put out stays.
+    pub fn restart(&mut self)
+        requires sound { IsSoundAnswer self.old }
+        requires rests { (self.old.lane.stage ≡ stage.Done) ⊎ (self.old.lane.stage ≡ stage.Reading) }
+        ensures answers { (asked : Bool) → Answers self.new (fresh asked) }
+        ensures stage { self.new.lane.stage ≡ stage.Reading }
+        ensures open { IsOpen self.new }
+        ensures same { self.new.lane.output ≡ self.old.lane.output }
+        ensures begun { self.new.begun ≡ false }
+        ensures sound { IsSoundAnswer self.new }
+    {
+        self.lane.new_stream();
+        self.phase = Phase::Heads;
+        self.begun = false;
+    }
+}
