@@ -19,16 +19,16 @@ use Rattle.h1_head.specs.Sides.{kind_of}
 use Rattle.h1_head.specs.Stream.{behind}
 use Rattle.h1_head.specs.Decides.{OnEachStream, MayWait}
 use Rattle.http_model.specs.Head.{front_blocks}
-use Rattle.lane.specs.Promise.{Promise}
-use Rattle.lane.specs.Sent.{Sent}
-use Rattle.lane.specs.Sends.{Past, Stands, IsSound, IsReading, put_out, GoesOn}
-use Rattle.lane.specs.Shown.{Shows}
-use Rattle.lane.specs.declared.stage.LaneHead.{LaneHead}
-use Rattle.lane.specs.declared.stage.LaneHead.TheVariants as says
-use Rattle.lane.specs.declared.stage.Stage.TheVariants as stage
-use Rattle.lane.specs.declared.stage.Stage.{Stage}
-use Rattle.lane.specs.declared.stage.Source.TheVariants as source
-use Rattle.lane.specs.declared.lane.Lane.{Lane}
+use Rattle.lane_core.specs.Promise.{Promise}
+use Rattle.lane_core.specs.Sent.{Sent}
+use Rattle.lane_core.specs.Sends.{Past, Stands, IsSound, IsReading, put_out, GoesOn}
+use Rattle.lane_core.specs.Shown.{Shows}
+use Rattle.lane_core.specs.declared.stage.LaneHead.{LaneHead}
+use Rattle.lane_core.specs.declared.stage.LaneHead.TheVariants as says
+use Rattle.lane_core.specs.declared.stage.Stage.TheVariants as stage
+use Rattle.lane_core.specs.declared.stage.Stage.{Stage}
+use Rattle.lane_core.specs.declared.stage.Source.TheVariants as source
+use Rattle.lane_core.specs.declared.lane.Lane.{Lane}
 use Rattle.lane.specs.declared.response_lane.Phase.{Phase}
 use Rattle.lane.specs.declared.response_lane.Phase.TheVariants as phase
 use Rattle.lane.specs.declared.response_lane.ResponseLane.{ResponseLane}

@@ -8,11 +8,11 @@ ghost use Rattle.http_model.specs.Reading.{Received};
 ghost use Rattle.http_model.specs.Head.{front_blocks};
 ghost use Rattle.lane.specs.Answering.{Exchange, Answers, HeadComes, PutsOut, is_interim, IsOpen, with_bytes, with_put, passes, drops, serves, replies, fresh, IsSoundAnswer, MayGoOn, shows_head};
 ghost use Rattle.lane.specs.declared.response_lane.Phase.TheVariants as phase;
-ghost use Rattle.lane.specs.declared.stage.Stage.TheVariants as stage;
-ghost use Rattle.lane.specs.declared.stage.Source.TheVariants as source;
+ghost use Rattle.lane_core.specs.declared.stage.Stage.TheVariants as stage;
+ghost use Rattle.lane_core.specs.declared.stage.Source.TheVariants as source;
 
-use crate::lane::Lane;
-use crate::stage::{LaneHead, Source, Stage};
+use lane_core::Lane;
+use lane_core::{LaneHead, Source, Stage};
 use h1_head::Side;
 use header_ops::laws::edits_of_heads;
 use http_model::{Ending, Framing, Limits};

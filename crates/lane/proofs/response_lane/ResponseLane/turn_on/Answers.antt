@@ -2,9 +2,9 @@ use Rattle.std.proofs.Common.{◌≡◌, List, ℕ, [], ◌++◌, Bool, true, fa
 use Rattle.wire_buf.specs.Buffer.{Buffer}
 use Rattle.htx_model.specs.Blocks.{flow}
 use Rattle.http_model.specs.Head.{front_blocks}
-use Rattle.lane.specs.Sends.{Stands, said}
+use Rattle.lane_core.specs.Sends.{Stands, said}
 use Rattle.lane.specs.Answering.{Exchange, Answers, AnswersAt, HeadsCame, ShowsLast, with_put}
-use Rattle.lane.specs.declared.lane.Lane.{Lane}
+use Rattle.lane_core.specs.declared.lane.Lane.{Lane}
 use Rattle.lane.specs.declared.response_lane.Phase.{Phase}
 use Rattle.lane.specs.declared.response_lane.Phase.TheVariants as phase
 use Rattle.lane.proofs.AnswerLemmas.{made, at_turning, sound_turning, shows_more, shown_all, turned, put_twice}

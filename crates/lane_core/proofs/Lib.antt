@@ -1,0 +1,11 @@
+pub mod FlowLemmas
+pub mod CarryLemmas
+pub mod SendLemmas
+pub mod PullLemmas
+pub mod RoomLemmas
+pub mod ReadLemmas
+pub mod StallLemmas
+pub mod HeadLemmas
+pub mod BodyLemmas
+pub mod PromiseLemmas
+pub mod ShowLemmas

@@ -1,0 +1,31 @@
+use Rattle.std.proofs.Common.{refl, [], ◌++◌, inl, true, false, ◌≡◌, sym, ap, ◌∙◌, subst, List, ℕ}
+use Rattle.std.proofs.lemmas.List.{append-nil}
+use Rattle.http_model.specs.declared.Framing.TheVariants as framing
+use Rattle.lane_core.specs.Sent.{Sent}
+use Rattle.lane_core.specs.Carried.{Carries}
+use Rattle.lane_core.specs.declared.stage.Source.TheVariants as source
+use Rattle.lane_core.proofs.CarryLemmas.{carries_head, carries_closed}
+use Rattle.lane_core.proofs.ShowLemmas.{absent_over}
+use Rattle.lane_core.proofs.lane.Lane.say_msg.Goals as goal
+
+pub returns-clause-stands : goal.returns-clause-stands
+returns-clause-stands c = λ head body is.
+    let sized = c.requires.sound.sized in
+    let s : Sent = record { head = head; given = body; framing = framing.ToClose; no_body = c.args.no_body; before = c.args.self.now.output.items } in
+    record {
+      sends = record {
+        used = [];
+        found = [];
+        section = [];
+        sized = record { least = sized.least; msg = sized.msg; out = sized.out; input = sized.input; output = sized.output };
+        has_read = c.new-self.ensures;
+        bytes = refl;
+        source = inl (absent_over c.args.self.now.limits c.new-self.result c.new-self.ensures);
+        text = λ d. subst (λ (b : List ℕ). Carries source.Whole c.new-self-2.result s b [] c.args.self.now.output.items c.args.self.now.out.blocks c.args.self.now.msg.blocks) (sym (append-nil body))
+            (carries_closed c.new-self-2.result s body c.args.self.now.output.items c.args.self.now.out.blocks c.args.self.now.msg.blocks
+            (carries_head c.new-self-2.result s c.args.self.now.output.items c.args.self.now.out.blocks c.args.self.now.msg.blocks
+            c.new-self-2.ensures.going c.new-self-2.ensures.written refl c.requires.empty is));
+      };
+      over = λ e. absurd (cc);
+      done = λ e. absurd (cc);
+    }

@@ -1,0 +1,42 @@
+//! One direction of a connection.
+ghost use Rattle.std.specs.Prelude.{◌≡◌, ◌≢◌, ◌≤◌, ◌<◌, ◌+◌, ◌++◌, ◌⊎◌, [], length, take, drop, true, false, List, ℕ, Some, None, IfOk};
+ghost use Rattle.lane_core.specs.Sends.{Past, Sends, Leads, Keeps, IsAtRest, work_left};
+ghost use Rattle.lane_core.specs.declared.stage.Source.TheVariants as source;
+
+mod calls;
+mod carry;
+mod heads;
+
+use crate::stage::{Source, Stage};
+use h1_body::BodyReader;
+use h1_write::Writer;
+use http_model::{Ending, Framing, Limits};
+use htx_arena::Arena;
+use wire_buf::Window;
+
+/// What both directions of a connection own: from the bytes that come to the text that goes out, a message after the other.
+#[derive(Drop)]
+pub struct Lane {
+    limits: Limits,
+    /// What came and was not used yet.
+    input: Window,
+    /// How the stream ended, where it has.
+    ended: Option<Ending>,
+    /// So many bytes of the window were looked at, and hold no head.
+    scanned: usize,
+    /// The message on which rules run, and what comes of its body.
+    msg: Arena,
+    /// What goes out: the writer takes from here.
+    out: Arena,
+    framing: Framing,
+    declared: Option<u64>,
+    close: bool,
+    reader: BodyReader,
+    writer: Writer,
+    /// Text that was not taken yet.
+    output: Window,
+    stage: Stage,
+    source: Source,
+    /// Text is dropped.
+    dropped: bool,
+}

@@ -1,0 +1,353 @@
+//! The calls of a lane beside reading a head.
+ghost use Rattle.std.specs.Prelude.{◌≡◌, ◌≢◌, ◌≤◌, ◌<◌, ◌+◌, ◌++◌, ◌⊎◌, [], length, take, drop, true, false, List, ℕ, Some, None, IfOk};
+ghost use Rattle.http_model.specs.Head.{Head, head_blocks};
+ghost use Rattle.htx_layout.specs.Held.{held};
+ghost use Rattle.htx_model.specs.Blocks.{flow, Fits};
+ghost use Rattle.http_model.specs.Head.{front_blocks};
+ghost use Rattle.h1_write.specs.Spelled.{is_done};
+ghost use Rattle.header_ops.specs.Headers.{without_framing};
+ghost use Rattle.lane_core.specs.Shown.{Shows, Goes};
+ghost use Rattle.h1_head.specs.declared.answer.Side.{Side};
+ghost use Rattle.lane_core.specs.Sends.{Past, Sends, Stands, GoesOn, IsAtRest, IsAllOut, IsSound, IsReady, IsReading, RestsFor, begun, said};
+ghost use Rattle.lane_core.specs.declared.stage.Stage.TheVariants as stage;
+ghost use Rattle.lane_core.specs.declared.stage.Source.TheVariants as source;
+
+use crate::lane::Lane;
+use crate::stage::{Source, Stage};
+use h1_body::BodyReader;
+use h1_write::Writer;
+use header_ops::remove_framing;
+use http_model::{Ending, Framing, Limits};
+use htx_arena::Arena;
+use htx_model::OutOfMemory;
+use htx_xfer::xfer;
+use std::alloc::Global;
+use wire_buf::Window;
+
+impl Lane {
+    ghost use Rattle.std.specs.Borrow.{sem};
+    ghost use Rattle.lane_core.specs.Lending.{LendsMsg, LendsOutput};
+
+    /// A lane whose output window has this size. This call alone takes memory.
+    pub fn new(alloc: Global, limits: Limits, window: u32) -> Result<Lane, OutOfMemory>
+        requires least { 1024 ≤ limits.bufsize }
+        requires most { limits.bufsize ≤ 262144 }
+        requires reserve { limits.maxrewrite + 512 ≤ limits.bufsize }
+        requires window { 64 ≤ window }
+        ensures reading { IfOk result (λ lane. (side : Side) → IsReading side lane) }
+        ensures input { IfOk result (λ lane. (lane.input.items ≡ []) × (lane.ended ≡ None)) }
+        ensures limits { IfOk result (λ lane. lane.limits ≡ limits) }
+    {
+        Ok(Lane {
+            limits,
+            input: Window::new(alloc, limits.bufsize)?,
+            ended: None,
+            scanned: 0,
+            msg: Arena::new(alloc, limits.bufsize)?,
+            out: Arena::new(alloc, limits.bufsize)?,
+            framing: Framing::Absent,
+            declared: None,
+            close: false,
+            reader: BodyReader::new(Framing::Absent, limits),
+            writer: Writer::new(Framing::Absent, false),
+            output: Window::new(alloc, window)?,
+            stage: Stage::Reading,
+            source: Source::Going,
+            dropped: false,
+        })
+    }
+
+    /// Where the lane stands.
+    pub fn stage(&self) -> Stage
+        ensures { result ≡ self.now.stage }
+    {
+        self.stage
+    }
+
+    /// Where the body stands.
+    pub fn source(&self) -> Source
+        ensures { result ≡ self.now.source }
+    {
+        self.source
+    }
+
+    /// How many bytes can be taken.
+    pub fn room(&self) -> usize
+        ensures { result + length self.now.input.items ≡ self.now.input.capacity }
+    {
+        self.input.room()
+    }
+
+    /// How the body of the head that stands in the array is framed.
+    pub fn framing(&self) -> Framing
+        ensures { result ≡ self.now.framing }
+    {
+        self.framing
+    }
+
+    /// The length that a field of that head declared.
+    pub fn declared(&self) -> Option<u64>
+        ensures { result ≡ self.now.declared }
+    {
+        self.declared
+    }
+
+    /// Whether a Connection element of that head was `close`.
+    pub fn close(&self) -> bool
+        ensures { result ≡ self.now.close }
+    {
+        self.close
+    }
+
+    /// Bytes of the stream come.
+    pub fn take(&mut self, bytes: &[u8])
+        requires open { self.old.ended ≡ None }
+        requires room { length self.old.input.items + length bytes.now ≤ self.old.input.capacity }
+        ensures input { self.new.input.items ≡ self.old.input.items ++ bytes.now }
+        ensures same { self.new ≡ record self.old { input = self.new.input } }
+        ensures sound { IsSound self.old → IsSound self.new }
+        ensures reading { (side : Side) → IsReading side self.old → IsReading side self.new }
+        ensures stands { (p : Past) → Stands self.old p → Stands self.new (record p { bytes = p.bytes ++ bytes.now }) }
+    {
+        self.input.push(bytes);
+    }
+
+    /// The stream ends.
+    pub fn end(&mut self, how: Ending)
+        requires { self.old.ended ≡ None }
+        ensures same { self.new ≡ record self.old { ended = Some how } }
+        ensures sound { IsSound self.old → IsSound self.new }
+        ensures reading { (side : Side) → IsReading side self.old → IsReading side self.new }
+        ensures stands { (p : Past) → Stands self.old p → Stands self.new p }
+    {
+        self.ended = Some(how);
+    }
+
+    /// The array on which rules run.
+    pub fn head(&mut self) -> &mut Arena
+        ensures* back { sem 𝓛 (LendsMsg self.entry result) }
+        ensures value { result.now ≡ self.old.msg }
+    {
+        &mut self.msg
+    }
+
+    /// The bytes of that array.
+    pub fn raw(&self) -> &[u8]
+        ensures held { held result.now self.now.msg.blocks self.now.msg.addrs }
+        ensures size { length result.now ≡ self.now.msg.size }
+    {
+        self.msg.raw()
+    }
+
+    /// The head that stands in the array is put out, and the body behind it in this framing.
+    pub fn send(&mut self, framing: Framing, no_body: bool)
+        requires ready { IsReady self.old }
+        requires head { self.old.stage ≡ stage.Head }
+        ensures stands { (head : Head) → self.old.msg.blocks ≡ head_blocks head → Stands self.new (begun self.old head framing no_body) }
+        ensures sound { IsSound self.new }
+        ensures stage { self.new.stage ≡ stage.Sending }
+        ensures same { (self.new.input ≡ self.old.input) × (self.new.ended ≡ self.old.ended) × (self.new.msg ≡ self.old.msg) × (self.new.output ≡ self.old.output) × (self.new.dropped ≡ false) }
+        ensures limits { self.new.limits ≡ self.old.limits }
+    {
+        self.reader = BodyReader::new(self.framing, self.limits);
+        self.writer = Writer::new(framing, no_body);
+        self.source = Source::Going;
+        self.stage = Stage::Sending;
+    }
+
+    /// Does all that can be done with what came and what room there is.
+    pub fn step(&mut self)
+        requires sound { IsSound self.old }
+        requires sending { self.old.stage ≡ stage.Sending }
+        ensures stands { (p : Past) → Stands self.old p → Stands self.new p }
+        ensures sound { IsSound self.new }
+        ensures input { (self.new.input.capacity ≡ self.old.input.capacity) × (length self.new.input.items ≤ length self.old.input.items) }
+        ensures ended { (self.new.ended ≡ self.old.ended) × (self.new.limits ≡ self.old.limits) }
+        ensures no_stall { (p : Past) → Stands self.old p → self.new.stage ≡ stage.Sending → GoesOn self.new }
+        ensures done { IsAllOut self.new → self.new.stage ≡ stage.Done }
+        ensures all { (p : Past) → Stands self.old p → self.new.output.items ≡ [] → self.new.dropped ≡ false → IsAtRest self.new }
+        ensures no_cut { (p : Past) → Stands self.old p → (self.new.output.items ≡ []) ⊎ (self.new.dropped ≡ true) → RestsFor self.new }
+        ensures grows { (put : List ℕ) × (self.new.output.items ≡ self.old.output.items ++ put) }
+        ensures kept { self.new.dropped ≡ self.old.dropped }
+        ensures stage { (self.new.stage ≡ stage.Sending) ⊎ (self.new.stage ≡ stage.Done) }
+    {
+        if self.dropped {
+            self.read_out();
+            return;
+        }
+        self.put_out();
+    }
+
+    /// The text that was not taken yet.
+    pub fn output(&mut self) -> &mut [u8]
+        ensures* back { sem 𝓛 (LendsOutput self.entry result) }
+        ensures value { result.now ≡ self.old.output.items }
+    {
+        self.output.bytes()
+    }
+
+    /// So many bytes of it were taken.
+    pub fn took(&mut self, n: usize)
+        requires { n ≤ length self.old.output.items }
+        ensures same { self.new ≡ record self.old { output = self.new.output } }
+        ensures output { self.new.output.items ≡ drop n self.old.output.items }
+        ensures sound { IsSound self.old → IsSound self.new }
+        ensures reading { (side : Side) → IsReading side self.old → IsReading side self.new }
+        ensures stands { (p : Past) → Stands self.old p → Stands self.new (record p { took = p.took ++ take n self.old.output.items }) }
+    {
+        self.output.drop_front(n);
+    }
+
+    /// From now on text is dropped, until `next`.
+    pub fn discard(&mut self)
+        ensures dropped { (self.new.dropped ≡ true) × (self.new.output.items ≡ []) }
+        ensures same { (self.new.stage ≡ self.old.stage) × (self.new.source ≡ self.old.source) × (self.new.input ≡ self.old.input) × (self.new.ended ≡ self.old.ended) }
+        ensures sound { IsSound self.old → IsSound self.new }
+        ensures stands { (p : Past) → Stands self.old p → Stands self.new p }
+    {
+        self.dropped = true;
+        self.msg.clear();
+        self.out.clear();
+        self.output.drop_front(self.output.len());
+    }
+
+    /// The next message: what came and what is put out stays.
+    pub fn next(&mut self)
+        requires sound { IsSound self.old }
+        ensures reading { (side : Side) → IsReading side self.new }
+        ensures same { (self.new.input ≡ self.old.input) × (self.new.ended ≡ self.old.ended) × (self.new.limits ≡ self.old.limits) × (self.new.output ≡ self.old.output) }
+    {
+        self.msg.clear();
+        self.out.clear();
+        self.source = Source::Going;
+        self.dropped = false;
+        self.scanned = 0;
+        self.stage = Stage::Reading;
+    }
+
+    /// There is no head to be had.
+    pub fn give_up(&mut self)
+        ensures same { self.new ≡ record self.old { stage = stage.Done } }
+    {
+        self.stage = Stage::Done;
+    }
+
+    /// The fields that frame the message that stands in the array, or speak of its connection, go.
+    pub fn strip(&mut self)
+        ensures blocks { self.new.msg.blocks ≡ without_framing self.old.msg.blocks }
+        ensures size { self.new.msg.size ≡ self.old.msg.size }
+        ensures same { self.new ≡ record self.old { msg = self.new.msg } }
+    {
+        remove_framing(&mut self.msg);
+    }
+
+    /// How many bytes are put out and were not taken.
+    pub fn put(&self) -> usize
+        ensures { result ≡ length self.now.output.items }
+    {
+        self.output.len()
+    }
+
+    /// What is put out and was not taken goes.
+    pub fn clear_output(&mut self)
+        ensures same { self.new ≡ record self.old { output = self.new.output } }
+        ensures empty { self.new.output.items ≡ [] }
+        ensures reading { (side : Side) → IsReading side self.old → IsReading side self.new }
+    {
+        self.output.drop_front(self.output.len());
+    }
+
+    /// The stream of another server begins.
+    pub fn new_stream(&mut self)
+        requires sound { IsSound self.old }
+        ensures reading { (side : Side) → IsReading side self.new }
+        ensures same { (self.new.input.items ≡ []) × (self.new.ended ≡ None) × (self.new.limits ≡ self.old.limits) × (self.new.output ≡ self.old.output) }
+    {
+        self.input.drop_front(self.input.len());
+        self.ended = None;
+        self.next();
+    }
+
+    /// Whatever was to be put out and isn't is dropped, and the message of this list is put out in its place: a reply,
+    /// whose body stands in it.
+    pub fn say(&mut self, list: &mut Arena, no_body: bool)
+        requires sound { IsSound self.old }
+        requires fits { Fits list.old.blocks self.old.limits.bufsize }
+        ensures stands { (head : Head) (body : List ℕ) → list.old.blocks ≡ front_blocks head body → Stands self.new (said self.old head body no_body) }
+        ensures sound { IsSound self.new }
+        ensures list { list.new.blocks ≡ [] }
+        ensures stage { (self.new.stage ≡ stage.Sending) × (self.new.source ≡ source.Whole) }
+        ensures same { (self.new.input ≡ self.old.input) × (self.new.ended ≡ self.old.ended) × (self.new.output ≡ self.old.output) × (self.new.dropped ≡ self.old.dropped) × (self.new.limits ≡ self.old.limits) }
+    {
+        self.out.clear();
+        self.put_by(list);
+        self.say_msg(no_body);
+    }
+
+    /// The blocks of this list stand in the first array alone.
+    pub fn put_by(&mut self, list: &mut Arena)
+        requires size { self.old.msg.size ≡ self.old.limits.bufsize }
+        requires fits { Fits list.old.blocks self.old.limits.bufsize }
+        ensures list { list.new.blocks ≡ [] }
+        ensures flow { flow self.new.msg.blocks ≡ flow list.old.blocks }
+        ensures same { self.new ≡ record self.old { msg = self.new.msg } }
+        ensures size { self.new.msg.size ≡ self.old.msg.size }
+        ensures sound { IsSound self.old → IsSound self.new }
+    {
+        self.msg.clear();
+        let load = self.limits.bufsize;
+        xfer(list, &mut self.msg, load);
+    }
+
+    /// The message that stands in the first array is put out: its body stands there, and none comes.
+    pub fn say_msg(&mut self, no_body: bool)
+        requires sound { IsSound self.old }
+        requires empty { self.old.out.blocks ≡ [] }
+        ensures stands { (head : Head) (body : List ℕ) → flow self.old.msg.blocks ≡ front_blocks head body → Stands self.new (said self.old head body no_body) }
+        ensures sound { IsSound self.new }
+        ensures stage { (self.new.stage ≡ stage.Sending) × (self.new.source ≡ source.Whole) }
+        ensures same { (self.new.input ≡ self.old.input) × (self.new.ended ≡ self.old.ended) × (self.new.output ≡ self.old.output) × (self.new.dropped ≡ self.old.dropped) × (self.new.limits ≡ self.old.limits) × (self.new.msg ≡ self.old.msg) × (self.new.out ≡ self.old.out) }
+    {
+        self.reader = BodyReader::new(Framing::Absent, self.limits);
+        self.writer = Writer::new(Framing::ToClose, no_body);
+        self.source = Source::Whole;
+        self.stage = Stage::Sending;
+    }
+
+    /// The head that stands in the first array is put out from the second, with no body.
+    pub fn show(&mut self)
+        requires ready { IsReady self.old }
+        ensures shows { (head : Head) → self.old.msg.blocks ≡ head_blocks head → Shows self.new.writer head [] self.new.out.blocks }
+        ensures msg { self.new.msg.blocks ≡ [] }
+        ensures sound { IsSound self.new }
+        ensures stage { (self.new.stage ≡ stage.Sending) × (self.new.source ≡ source.Whole) }
+        ensures same { (self.new.input ≡ self.old.input) × (self.new.ended ≡ self.old.ended) × (self.new.output ≡ self.old.output) × (self.new.dropped ≡ false) × (self.new.limits ≡ self.old.limits) }
+    {
+        let load = self.limits.bufsize - self.msg.room();
+        xfer(&mut self.msg, &mut self.out, load);
+        self.writer = Writer::new(Framing::Absent, true);
+        self.source = Source::Whole;
+        self.stage = Stage::Sending;
+    }
+
+    /// Writes on of a head that is shown. Whether all of it is put out.
+    pub fn show_on(&mut self) -> bool
+        ensures shows { Goes self.old self.new }
+        ensures done { result ≡ is_done self.new.writer }
+        ensures waits { result ≡ false → (self.new.output.capacity ≤ length self.new.output.items) }
+        ensures same { self.new ≡ record self.old { writer = self.new.writer; out = self.new.out; output = self.new.output } }
+        ensures sound { IsSound self.old → IsSound self.new }
+    {
+        self.writer.next(&mut self.out, true, &mut self.output);
+        self.writer.done()
+    }
+
+    /// What is left of a head that was shown stands nowhere.
+    pub fn hide(&mut self)
+        ensures empty { self.new.out.blocks ≡ [] }
+        ensures same { self.new ≡ record self.old { out = self.new.out } }
+        ensures sound { IsSound self.old → IsSound self.new }
+    {
+        self.out.clear();
+    }
+}

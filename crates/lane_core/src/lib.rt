@@ -1,0 +1,10 @@
+//! What both directions of a connection own: a message after the other, from the bytes that come to the text that goes out.
+#![tactic(auto)]
+
+mod lane;
+pub mod laws;
+mod pull;
+mod stage;
+
+pub use lane::Lane;
+pub use stage::{LaneHead, Source, Stage};
