@@ -55,7 +55,7 @@ looked side l skip n input msg r open_ fits items capacity lines waits empty siz
         };
         ready = record {
           sound = record {
-            sized = record { least = sized.least; msg = size ∙ sized.msg; out = sized.out; input = cap; output = sized.output };
+            sized = record { least = sized.least; msg = size ∙ sized.msg; out = sized.out; input = cap; output = sized.output; sieve = sized.sieve; filters = sized.filters };
             most = r.ready.sound.most;
             reserve = r.ready.sound.reserve;
             held = omega arith;
@@ -105,7 +105,7 @@ received side l used input msg framing declared close whole r is items capacity 
     record {
       ready = record {
         sound = record {
-          sized = record { least = sized.least; msg = size ∙ sized.msg; out = sized.out; input = capacity ∙ sized.input; output = sized.output };
+          sized = record { least = sized.least; msg = size ∙ sized.msg; out = sized.out; input = capacity ∙ sized.input; output = sized.output; sieve = sized.sieve; filters = sized.filters };
           most = r.ready.sound.most;
           reserve = r.ready.sound.reserve;
           held = omega arith;

@@ -4,6 +4,8 @@ pub mod SendLemmas
 pub mod PullLemmas
 pub mod RoomLemmas
 pub mod ReadLemmas
+pub mod SiftLemmas
+pub mod HoldLemmas
 pub mod StallLemmas
 pub mod HeadLemmas
 pub mod BodyLemmas

@@ -17,7 +17,8 @@ use Rattle.h1_body.specs.Section.{section_limit, HasTrailers}
 use Rattle.h1_body.specs.Trailers.{trailer_blocks}
 use Rattle.lane_core.specs.Pulled.{Pulls, IsWaiting}
 use Rattle.lane_core.proofs.SendLemmas.{waits_at}
-use Rattle.lane_core.proofs.RoomLemmas.{takes_all, trailers_fit}
+use Rattle.body_sieve.proofs.Taking.{takes_all}
+use Rattle.lane_core.proofs.RoomLemmas.{trailers_fit}
 
 -- what `feed` says of a step
 pub record Feeds (old new : BodyReader) (w : List ℕ) (room used : ℕ) (piece : Span) (given : List ℕ) (state : BodyState) : Type 0 where
@@ -32,7 +33,7 @@ take_none : (n : ℕ) → take {A = ℕ} n [] ≡ []
 take_none zero = refl
 take_none (suc n) = refl
 
-piece_length : (w : List ℕ) (used : ℕ) (piece : Span) → used ≤ length w → piece.from + piece.len ≤ used → length (bytes_of w (Some piece)) ≡ piece.len
+pub piece_length : (w : List ℕ) (used : ℕ) (piece : Span) → used ≤ length w → piece.from + piece.len ≤ used → length (bytes_of w (Some piece)) ≡ piece.len
 piece_length w used piece within span =
     let len : length (bytes_of w (Some piece)) ≡ piece.from + piece.len - piece.from = length-slice_range w piece.from (piece.from + piece.len) (omega arith) (omega arith) in
     omega arith
@@ -46,7 +47,7 @@ data_in_array w room used size n piece blocks within span free some count is =
     let all : n ≡ length p = count ∙ takes_all p size (omega arith) in
     is ∙ ap (append_data []) (take_all n p (omega arith))
 
-waits_here : (new : BodyReader) (w : List ℕ) (room used : ℕ) → 0 < room → used ≡ 0 → Waits new w room → IsWaiting new (drop used w)
+pub waits_here : (new : BodyReader) (w : List ℕ) (room used : ℕ) → 0 < room → used ≡ 0 → Waits new w room → IsWaiting new (drop used w)
 waits_here new w room used some none waits =
     subst (λ (k : ℕ). IsWaiting new (drop k w)) (sym none) (waits_at new.stage new.section_limit w room some waits)
 

@@ -35,10 +35,12 @@ use Rattle.lane_core.specs.declared.stage.Source.{Source}
 use Rattle.lane_core.specs.declared.stage.Source.TheVariants as source
 use Rattle.lane_core.specs.declared.lane.Lane.{Lane}
 use Rattle.lane_core.proofs.RoomLemmas.{some_end}
-use Rattle.lane_core.proofs.SendLemmas.{sends_going, sends_section}
+use Rattle.body_sieve.specs.declared.sieve.Sieve.{Sieve}
+use Rattle.lane_core.specs.Filtering.{HasPassed, GoesOnBy, Broken}
+use Rattle.lane_core.proofs.SendLemmas.{sends_going, sends_section, none_rests, no_filters, plain_over, plain_settled}
 
 -- no section was read while the body still comes, or where it is none
-more_section : (st : Stage) (at : BodyAt) → state_at st ≡ state.More → section_in st at ≡ []
+pub more_section : (st : Stage) (at : BodyAt) → state_at st ≡ state.More → section_in st at ≡ []
 more_section stage.Over at e = absurd (cc)
 more_section stage.UntilClose at e = refl
 more_section stage.Dead at e = absurd (cc)
@@ -73,7 +75,7 @@ no_trailers section trailers none (inl h) = h.1
 no_trailers section trailers none (inr (fields, begins, are)) = absurd (no_section section fields begins none)
 
 -- a part of the body went into the empty array
-read_on : (w : Writer) (s : Sent) (found piece put : List ℕ) (left msg : List Block) → CarriesFront w s found put left [] → msg ≡ append_data [] piece
+pub read_on : (w : Writer) (s : Sent) (found piece put : List ℕ) (left msg : List Block) → CarriesFront w s found put left [] → msg ≡ append_data [] piece
     → CarriesFront w s (found ++ piece) put left msg
 read_on w s found piece put left msg c is =
     let before : flow (c.1.taken ++ left) ≡ front_blocks s.head found = ap (λ (bs : List Block). flow (c.1.taken ++ bs)) (sym (append-nil left)) ∙ c.1.flows in (
@@ -89,7 +91,7 @@ read_on w s found piece put left msg c is =
     )
 
 -- the last part, with its trailers
-read_last : (w : Writer) (s : Sent) (found piece put : List ℕ) (left msg : List Block) (trailers : List Field) → CarriesFront w s found put left []
+pub read_last : (w : Writer) (s : Sent) (found piece put : List ℕ) (left msg : List Block) (trailers : List Field) → CarriesFront w s found put left []
     → ((msg ≡ append_data [] piece) × (trailers ≡ [])) ⊎ ((msg ≡ trailer_blocks trailers) × (piece ≡ []))
     → Carried w s put left msg (message_blocks (message_of s (found ++ piece) trailers))
 read_last w s found piece put left msg trailers c (inl is) =
@@ -133,23 +135,32 @@ pub record Reads (l : Lane) (input : Buffer ℕ) (reader : BodyReader) (msg : Co
   pub size : msg.size ≡ l.msg.size
   pub empty : l.msg.blocks ≡ []
   pub going : l.source ≡ source.Going
+  pub none : l.sieve ≡ None
 
 -- what was carried before, with the empty array
-carried : (l : Lane) (p : Past) (s : Sends l p) → l.source ≡ source.Going → l.msg.blocks ≡ [] → l.dropped ≡ false
-    → CarriesFront l.writer p.sent (p.sent.given ++ s.found) (put_out l p) l.out.blocks []
+pub carried : (l : Lane) (p : Past) (s : Sends l p) → l.source ≡ source.Going → l.msg.blocks ≡ [] → l.dropped ≡ false
+    → CarriesFront l.writer p.sent (p.sent.given ++ s.passed) (put_out l p) l.out.blocks []
 carried l p s is none d =
-    subst (λ (bs : List Block). CarriesFront l.writer p.sent (p.sent.given ++ s.found) (put_out l p) l.out.blocks bs) none
+    subst (λ (bs : List Block). CarriesFront l.writer p.sent (p.sent.given ++ s.passed) (put_out l p) l.out.blocks bs) none
     (sends_going l p s is d)
 
-further : (l : Lane) (p : Past) (s : Sends l p) (piece : List ℕ) (msg : List Block) → CarriesFront l.writer p.sent ((p.sent.given ++ s.found) ++ piece) (put_out l p) l.out.blocks msg
-    → CarriesFront l.writer p.sent (p.sent.given ++ (s.found ++ piece)) (put_out l p) l.out.blocks msg
-further l p s piece msg c = subst (λ (b : List ℕ). CarriesFront l.writer p.sent b (put_out l p) l.out.blocks msg) (append_assoc p.sent.given s.found piece) c
+pub further : (l : Lane) (p : Past) (passed piece : List ℕ) (msg : List Block) → CarriesFront l.writer p.sent ((p.sent.given ++ passed) ++ piece) (put_out l p) l.out.blocks msg
+    → CarriesFront l.writer p.sent (p.sent.given ++ (passed ++ piece)) (put_out l p) l.out.blocks msg
+further l p passed piece msg c = subst (λ (b : List ℕ). CarriesFront l.writer p.sent b (put_out l p) l.out.blocks msg) (append_assoc p.sent.given passed piece) c
+
+sections : (l : Lane) (p : Past) (s : Sends l p) → l.source ≡ source.Going → l.sieve ≡ None → s.section ≡ []
+sections l p s going none = sends_section l p s going (none_rests l.sieve none)
 
 has_read_on : (l : Lane) (p : Past) (input : Buffer ℕ) (reader : BodyReader) (msg : Contents) (used : ℕ) (st : BodyState) (r : Reads l input reader msg used st) (s : Sends l p)
     → HasRead l.limits p.reads (s.used ++ r.pulls.used) (s.found ++ r.pulls.piece) r.pulls.section reader
 has_read_on l p input reader msg used st r s =
-    subst (λ (xs : List ℕ). HasRead l.limits p.reads (s.used ++ r.pulls.used) (s.found ++ r.pulls.piece) (xs ++ r.pulls.section) reader) (sends_section l p s r.going)
+    subst (λ (xs : List ℕ). HasRead l.limits p.reads (s.used ++ r.pulls.used) (s.found ++ r.pulls.piece) (xs ++ r.pulls.section) reader) (sections l p s r.going r.none)
     (r.pulls.reads l.limits p.reads s.used s.found s.section s.has_read)
+
+passed_on : (l : Lane) (p : Past) (s : Sends l p) → l.sieve ≡ None → (piece : List ℕ) → HasPassed l.sieve p.filters (s.found ++ piece) (s.passed ++ piece)
+passed_on l p s none piece =
+    let is = no_filters l.sieve none p.filters s.found s.passed s.has_passed in
+    subst (λ (o : Option Sieve). HasPassed o p.filters (s.found ++ piece) (s.passed ++ piece)) (sym none) (is.0, ap (λ (b : List ℕ). b ++ piece) is.1)
 
 wide : (l : Lane) (p : Past) → Sends l p → 8 ≤ l.msg.size
 wide l p s = let a = s.sized.least in let b : l.msg.size ≡ l.limits.bufsize = s.sized.msg in omega arith
@@ -161,16 +172,20 @@ sends_more l p input reader msg used st r is s =
     let x = r.pulls in
     let read = has_read_on l p input reader msg used st r s in
     let none : x.section ≡ [] = sym read.sections ∙ more_section reader.stage read.at (sym x.told ∙ is) in
+    let goes : GoesOnBy None reader l.ended input.items x.section = none in
     record {
       used = s.used ++ x.used;
       found = s.found ++ x.piece;
       section = x.section;
-      sized = record { least = s.sized.least; msg = r.size ∙ s.sized.msg; out = s.sized.out; input = r.capacity ∙ s.sized.input; output = s.sized.output };
+      passed = s.passed ++ x.piece;
+      sized = record { least = s.sized.least; msg = r.size ∙ s.sized.msg; out = s.sized.out; input = r.capacity ∙ s.sized.input; output = s.sized.output; sieve = s.sized.sieve; filters = s.sized.filters };
       has_read = read;
       bytes = s.bytes ∙ ap (λ xs. s.used ++ xs) x.window ∙ sym (append_assoc s.used x.used input.items);
-      source = subst (λ (src : Source). SourceIs src reader l.ended input.items x.section) (sym r.going) none;
-      text = λ d. subst (λ (src : Source). Carries src l.writer p.sent (p.sent.given ++ (s.found ++ x.piece)) x.section (put_out l p) l.out.blocks msg.blocks) (sym r.going)
-          ((further l p s x.piece msg.blocks (read_on l.writer p.sent (p.sent.given ++ s.found) x.piece (put_out l p) l.out.blocks msg.blocks (carried l p s r.going r.empty d) (x.plain (wide l p s) none))));
+      has_passed = passed_on l p s r.none x.piece;
+      source = subst (λ (src : Source). SourceIs src l.sieve p.filters reader l.ended input.items x.section (s.found ++ x.piece) (s.passed ++ x.piece)) (sym r.going)
+          (subst (λ (o : Option Sieve). GoesOnBy o reader l.ended input.items x.section) (sym r.none) goes);
+      text = λ d. subst (λ (src : Source). Carries src l.writer p.sent (p.sent.given ++ (s.passed ++ x.piece)) x.section (put_out l p) l.out.blocks msg.blocks) (sym r.going)
+          (further l p s.passed x.piece msg.blocks (read_on l.writer p.sent (p.sent.given ++ s.passed) x.piece (put_out l p) l.out.blocks msg.blocks (carried l p s r.going r.empty d) (x.plain (wide l p s) none)));
     }
 
 -- the body was whole
@@ -182,18 +197,21 @@ sends_whole l p input reader msg used st r is s =
     let says : StateTells l.limits p.reads (s.used ++ x.used) (s.found ++ x.piece) x.section state.Whole =
     subst (λ (t : BodyState). StateTells l.limits p.reads (s.used ++ x.used) (s.found ++ x.piece) x.section t) (sym x.told ∙ is)
     (told l.limits p.reads (s.used ++ x.used) (s.found ++ x.piece) x.section reader read) in
-    let before : HasRead l.limits p.reads s.used s.found [] l.reader = subst (λ (xs : List ℕ). HasRead l.limits p.reads s.used s.found xs l.reader) (sends_section l p s r.going) s.has_read in
+    let before : HasRead l.limits p.reads s.used s.found [] l.reader = subst (λ (xs : List ℕ). HasRead l.limits p.reads s.used s.found xs l.reader) (sections l p s r.going r.none) s.has_read in
     let part = whole_part x.section x.piece says.0 msg.blocks (x.plain (wide l p s)) (λ some. x.ended l.limits p.reads s.used s.found says.0 before s.sized.msg some says.1) says.1 in
+    let passes = passed_on l p s r.none x.piece in
     record {
       used = s.used ++ x.used;
       found = s.found ++ x.piece;
       section = x.section;
-      sized = record { least = s.sized.least; msg = r.size ∙ s.sized.msg; out = s.sized.out; input = r.capacity ∙ s.sized.input; output = s.sized.output };
+      passed = s.passed ++ x.piece;
+      sized = record { least = s.sized.least; msg = r.size ∙ s.sized.msg; out = s.sized.out; input = r.capacity ∙ s.sized.input; output = s.sized.output; sieve = s.sized.sieve; filters = s.sized.filters };
       has_read = read;
       bytes = s.bytes ∙ ap (λ xs. s.used ++ xs) x.window ∙ sym (append_assoc s.used x.used input.items);
-      source = inl (sym x.told ∙ is);
+      has_passed = passes;
+      source = (inl (sym x.told ∙ is), plain_over l.sieve r.none p.filters (s.found ++ x.piece) (s.passed ++ x.piece) passes);
       text = λ d. (let c = carried l p s r.going r.empty d in
-          (says.0, says.1, subst (λ (b : List ℕ). Carried l.writer p.sent (put_out l p) l.out.blocks msg.blocks (message_blocks (message_of p.sent b says.0))) (append_assoc p.sent.given s.found x.piece) (read_last l.writer p.sent (p.sent.given ++ s.found) x.piece (put_out l p) l.out.blocks msg.blocks says.0 c part), λ e. let both : true ≡ false = sym e ∙ c.0 in absurd (cc both)));
+          (says.0, says.1, subst (λ (b : List ℕ). Carried l.writer p.sent (put_out l p) l.out.blocks msg.blocks (message_blocks (message_of p.sent b says.0))) (append_assoc p.sent.given s.passed x.piece) (read_last l.writer p.sent (p.sent.given ++ s.passed) x.piece (put_out l p) l.out.blocks msg.blocks says.0 c part), λ e. let both : true ≡ false = sym e ∙ c.0 in absurd (cc both)));
     }
 
 -- the bytes were none
@@ -203,15 +221,18 @@ sends_bad l p input reader msg used st r is s =
     let x = r.pulls in
     let read = has_read_on l p input reader msg used st r s in
     let none : x.section ≡ [] = sym read.sections ∙ bad_section reader.stage read.at (sym x.told ∙ is) in
+    let passes = passed_on l p s r.none x.piece in
     record {
       used = s.used ++ x.used;
       found = s.found ++ x.piece;
       section = x.section;
-      sized = record { least = s.sized.least; msg = r.size ∙ s.sized.msg; out = s.sized.out; input = r.capacity ∙ s.sized.input; output = s.sized.output };
+      passed = s.passed ++ x.piece;
+      sized = record { least = s.sized.least; msg = r.size ∙ s.sized.msg; out = s.sized.out; input = r.capacity ∙ s.sized.input; output = s.sized.output; sieve = s.sized.sieve; filters = s.sized.filters };
       has_read = read;
       bytes = s.bytes ∙ ap (λ xs. s.used ++ xs) x.window ∙ sym (append_assoc s.used x.used input.items);
-      source = (refl, inl (sym x.told ∙ is));
-      text = λ d. further l p s x.piece msg.blocks (read_on l.writer p.sent (p.sent.given ++ s.found) x.piece (put_out l p) l.out.blocks msg.blocks (carried l p s r.going r.empty d) (x.plain (wide l p s) none));
+      has_passed = passes;
+      source = Broken refl (inl (sym x.told ∙ is)) (plain_settled l.sieve r.none p.filters (s.found ++ x.piece) (s.passed ++ x.piece) passes);
+      text = λ d. further l p s.passed x.piece msg.blocks (read_on l.writer p.sent (p.sent.given ++ s.passed) x.piece (put_out l p) l.out.blocks msg.blocks (carried l p s r.going r.empty d) (x.plain (wide l p s) none));
     }
 
 -- a read that used nothing waits

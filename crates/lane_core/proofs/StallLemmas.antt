@@ -41,7 +41,7 @@ waiting_room l p s waits more = by (waits_short l.reader.stage l.reader.section_
 
 rests_stage : (l : Lane) (x : LaneStage) → RestsFor l → RestsFor (record l { stage = x })
 rests_stage l x (IsOver over) = IsOver over
-rests_stage l x (Waits going ended waits more) = Waits going ended waits more
+rests_stage l x (Waits going ended waits more still) = Waits going ended waits more still
 
 at_rest_stage : (l : Lane) (x : LaneStage) → IsAtRest l → IsAtRest (record l { stage = x })
 at_rest_stage l x r = record { msg = r.msg; out = r.out; rests = r.rests; end = r.end; for = rests_stage l x r.for }
@@ -52,7 +52,7 @@ goes_on l p s (inr r) over = by r.for
   where
     by : RestsFor l → GoesOn l
     by (IsOver is) = absurd (over r is)
-    by (Waits going ended waits more) = inr (going, waiting_room l p s waits more, ended)
+    by (Waits going ended waits more still) = inr (going, waiting_room l p s waits more, ended)
 
 pub at_rest : (l : Lane) (x : LaneStage) (new : Lane) (p : Past) → Sends l p → (l.output.capacity ≤ length l.output.items) ⊎ IsAtRest l → new ≡ record l { stage = x } → new.output.items ≡ [] → IsAtRest new
 at_rest l x new p s (inl full) same none =
@@ -64,7 +64,7 @@ at_rest l x new p s (inr r) same none = subst IsAtRest (sym same) (at_rest_stage
 
 pub going_on : (l : Lane) (p : Past) → Sends l p → RestsFor l → l.source ≡ source.Going → GoesOn l
 going_on l p s (IsOver is) going = absurd (is going)
-going_on l p s (Waits going ended waits more) is = inr (going, waiting_room l p s waits more, ended)
+going_on l p s (Waits going ended waits more still) is = inr (going, waiting_room l p s waits more, ended)
 
 pub rests_done : (l : Lane) (x : LaneStage) → RestsFor l → RestsFor (record l { stage = x })
 rests_done l x r = rests_stage l x r
@@ -76,9 +76,11 @@ stands_at l x p s out = record {
     used = s.used;
     found = s.found;
     section = s.section;
-    sized = record { least = s.sized.least; msg = s.sized.msg; out = s.sized.out; input = s.sized.input; output = s.sized.output };
+    passed = s.passed;
+    sized = record { least = s.sized.least; msg = s.sized.msg; out = s.sized.out; input = s.sized.input; output = s.sized.output; sieve = s.sized.sieve; filters = s.sized.filters };
     has_read = s.has_read;
     bytes = s.bytes;
+    has_passed = s.has_passed;
     source = s.source;
     text = s.text;
   };

@@ -1,6 +1,9 @@
 pub mod Sent
 pub mod Carried
 pub mod Pulled
+pub mod Filtering
+pub mod Holding
+pub mod Coming
 pub mod Sends
 pub mod Shown
 pub mod Lending

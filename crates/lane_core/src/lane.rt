@@ -1,13 +1,13 @@
 //! One direction of a connection.
-ghost use Rattle.std.specs.Prelude.{◌≡◌, ◌≢◌, ◌≤◌, ◌<◌, ◌+◌, ◌++◌, ◌⊎◌, [], length, take, drop, true, false, List, ℕ, Some, None, IfOk};
-ghost use Rattle.lane_core.specs.Sends.{Past, Sends, Leads, Keeps, IsAtRest, work_left};
-ghost use Rattle.lane_core.specs.declared.stage.Source.TheVariants as source;
 
 mod calls;
 mod carry;
+mod dropping;
 mod heads;
+mod read;
 
 use crate::stage::{Source, Stage};
+use body_sieve::Sieve;
 use h1_body::BodyReader;
 use h1_write::Writer;
 use http_model::{Ending, Framing, Limits};
@@ -32,6 +32,8 @@ pub struct Lane {
     declared: Option<u64>,
     close: bool,
     reader: BodyReader,
+    /// The filters of the bodies, where there are some.
+    sieve: Option<Sieve>,
     writer: Writer,
     /// Text that was not taken yet.
     output: Window,

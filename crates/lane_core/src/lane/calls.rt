@@ -1,6 +1,12 @@
 //! The calls of a lane beside reading a head.
-ghost use Rattle.std.specs.Prelude.{◌≡◌, ◌≢◌, ◌≤◌, ◌<◌, ◌+◌, ◌++◌, ◌⊎◌, [], length, take, drop, true, false, List, ℕ, Some, None, IfOk};
+ghost use Rattle.std.specs.Prelude.{◌≡◌, ◌≢◌, ◌≤◌, ◌<◌, ◌+◌, ◌++◌, ◌⊎◌, [], length, take, drop, true, false, List, ℕ, Some, None, Option, IfOk};
 ghost use Rattle.http_model.specs.Head.{Head, head_blocks};
+ghost use Rattle.http_model.specs.Sizes.{least_size, most_size, least_head};
+ghost use Rattle.http_model.specs.declared.Ending.{Ending};
+ghost use Rattle.body_filter.specs.declared.filter_spec.FilterSpec.{FilterSpec};
+ghost use Rattle.body_filter.specs.Valid.{AreFilters};
+ghost use Rattle.h1_body.specs.declared.reader.BodyReader.{BodyReader};
+ghost use Rattle.lane_core.specs.Filtering.{AreThese, HasPassed, SieveFits, GoesOnBy};
 ghost use Rattle.htx_layout.specs.Held.{held};
 ghost use Rattle.htx_model.specs.Blocks.{flow, Fits};
 ghost use Rattle.http_model.specs.Head.{front_blocks};
@@ -14,6 +20,8 @@ ghost use Rattle.lane_core.specs.declared.stage.Source.TheVariants as source;
 
 use crate::lane::Lane;
 use crate::stage::{Source, Stage};
+use body_filter::FilterSpec;
+use body_sieve::Sieve;
 use h1_body::BodyReader;
 use h1_write::Writer;
 use header_ops::remove_framing;
@@ -24,16 +32,46 @@ use htx_xfer::xfer;
 use std::alloc::Global;
 use wire_buf::Window;
 
+/// What lets bodies through these filters; nothing where there are none.
+fn sieve_of(alloc: Global, filters: &[FilterSpec], size: u32) -> Result<Option<Sieve>, OutOfMemory>
+    requires few { length filters.now ≤ 8 }
+    requires valid { AreFilters filters.now }
+    requires wide { 8 < size }
+    ensures these { IfOk result (λ sieve. AreThese sieve filters.now) }
+    ensures size { IfOk result (SieveFits size) }
+{
+    if filters.len() == 0 {
+        return Ok(None);
+    }
+    let sieve = Sieve::open(alloc, filters, size)?;
+    Ok(Some(sieve))
+}
+
+/// Begins a new body, where there are filters.
+fn reset(sieve: &mut Option<Sieve>)
+    ensures passed { (filters : List FilterSpec) → AreThese sieve.old filters → HasPassed sieve.new filters [] [] }
+    ensures goes { (reader : BodyReader) (ended : Option Ending) (input : List ℕ) → GoesOnBy sieve.new reader ended input [] }
+    ensures size { (size : ℕ) → SieveFits size sieve.old → SieveFits size sieve.new }
+{
+    match sieve {
+        None => {}
+        Some(sieve) => sieve.reset(),
+    }
+}
+
 impl Lane {
     ghost use Rattle.std.specs.Borrow.{sem};
     ghost use Rattle.lane_core.specs.Lending.{LendsMsg, LendsOutput};
 
-    /// A lane whose output window has this size. This call alone takes memory.
-    pub fn new(alloc: Global, limits: Limits, window: u32) -> Result<Lane, OutOfMemory>
-        requires least { 1024 ≤ limits.bufsize }
-        requires most { limits.bufsize ≤ 262144 }
-        requires reserve { limits.maxrewrite + 512 ≤ limits.bufsize }
+    /// A lane whose output window has this size, and whose bodies go through these filters. This call alone takes memory.
+    pub fn new(alloc: Global, limits: Limits, window: u32, filters: &[FilterSpec]) -> Result<Lane, OutOfMemory>
+        requires least { least_size ≤ limits.bufsize }
+        requires most { limits.bufsize ≤ most_size }
+        requires reserve { limits.maxrewrite + least_head ≤ limits.bufsize }
         requires window { 64 ≤ window }
+        requires few { length filters.now ≤ 8 }
+        requires valid { AreFilters filters.now }
+        ensures filters { IfOk result (λ lane. AreThese lane.sieve filters.now) }
         ensures reading { IfOk result (λ lane. (side : Side) → IsReading side lane) }
         ensures input { IfOk result (λ lane. (lane.input.items ≡ []) × (lane.ended ≡ None)) }
         ensures limits { IfOk result (λ lane. lane.limits ≡ limits) }
@@ -49,6 +87,7 @@ impl Lane {
             declared: None,
             close: false,
             reader: BodyReader::new(Framing::Absent, limits),
+            sieve: sieve_of(alloc, filters, limits.bufsize)?,
             writer: Writer::new(Framing::Absent, false),
             output: Window::new(alloc, window)?,
             stage: Stage::Reading,
@@ -143,12 +182,14 @@ impl Lane {
     pub fn send(&mut self, framing: Framing, no_body: bool)
         requires ready { IsReady self.old }
         requires head { self.old.stage ≡ stage.Head }
-        ensures stands { (head : Head) → self.old.msg.blocks ≡ head_blocks head → Stands self.new (begun self.old head framing no_body) }
+        ensures stands { (filters : List FilterSpec) (head : Head) → AreThese self.old.sieve filters → self.old.msg.blocks ≡ head_blocks head → Stands self.new (begun self.old filters head framing no_body) }
+        ensures filters { (filters : List FilterSpec) → AreThese self.old.sieve filters → AreThese self.new.sieve filters }
         ensures sound { IsSound self.new }
         ensures stage { self.new.stage ≡ stage.Sending }
         ensures same { (self.new.input ≡ self.old.input) × (self.new.ended ≡ self.old.ended) × (self.new.msg ≡ self.old.msg) × (self.new.output ≡ self.old.output) × (self.new.dropped ≡ false) }
         ensures limits { self.new.limits ≡ self.old.limits }
     {
+        reset(&mut self.sieve);
         self.reader = BodyReader::new(self.framing, self.limits);
         self.writer = Writer::new(framing, no_body);
         self.source = Source::Going;
@@ -161,6 +202,7 @@ impl Lane {
         requires sending { self.old.stage ≡ stage.Sending }
         ensures stands { (p : Past) → Stands self.old p → Stands self.new p }
         ensures sound { IsSound self.new }
+        ensures filters { (filters : List FilterSpec) → AreThese self.old.sieve filters → AreThese self.new.sieve filters }
         ensures input { (self.new.input.capacity ≡ self.old.input.capacity) × (length self.new.input.items ≤ length self.old.input.items) }
         ensures ended { (self.new.ended ≡ self.old.ended) × (self.new.limits ≡ self.old.limits) }
         ensures no_stall { (p : Past) → Stands self.old p → self.new.stage ≡ stage.Sending → GoesOn self.new }
@@ -201,6 +243,7 @@ impl Lane {
     /// From now on text is dropped, until `next`.
     pub fn discard(&mut self)
         ensures dropped { (self.new.dropped ≡ true) × (self.new.output.items ≡ []) }
+        ensures sieve { self.new.sieve ≡ self.old.sieve }
         ensures same { (self.new.stage ≡ self.old.stage) × (self.new.source ≡ self.old.source) × (self.new.input ≡ self.old.input) × (self.new.ended ≡ self.old.ended) }
         ensures sound { IsSound self.old → IsSound self.new }
         ensures stands { (p : Past) → Stands self.old p → Stands self.new p }
@@ -216,6 +259,7 @@ impl Lane {
         requires sound { IsSound self.old }
         ensures reading { (side : Side) → IsReading side self.new }
         ensures same { (self.new.input ≡ self.old.input) × (self.new.ended ≡ self.old.ended) × (self.new.limits ≡ self.old.limits) × (self.new.output ≡ self.old.output) }
+        ensures sieve { self.new.sieve ≡ self.old.sieve }
     {
         self.msg.clear();
         self.out.clear();
@@ -262,6 +306,7 @@ impl Lane {
         requires sound { IsSound self.old }
         ensures reading { (side : Side) → IsReading side self.new }
         ensures same { (self.new.input.items ≡ []) × (self.new.ended ≡ None) × (self.new.limits ≡ self.old.limits) × (self.new.output ≡ self.old.output) }
+        ensures sieve { self.new.sieve ≡ self.old.sieve }
     {
         self.input.drop_front(self.input.len());
         self.ended = None;
@@ -273,7 +318,8 @@ impl Lane {
     pub fn say(&mut self, list: &mut Arena, no_body: bool)
         requires sound { IsSound self.old }
         requires fits { Fits list.old.blocks self.old.limits.bufsize }
-        ensures stands { (head : Head) (body : List ℕ) → list.old.blocks ≡ front_blocks head body → Stands self.new (said self.old head body no_body) }
+        ensures stands { (filters : List FilterSpec) (head : Head) (body : List ℕ) → AreThese self.old.sieve filters → list.old.blocks ≡ front_blocks head body → Stands self.new (said self.old filters head body no_body) }
+        ensures filters { (filters : List FilterSpec) → AreThese self.old.sieve filters → AreThese self.new.sieve filters }
         ensures sound { IsSound self.new }
         ensures list { list.new.blocks ≡ [] }
         ensures stage { (self.new.stage ≡ stage.Sending) × (self.new.source ≡ source.Whole) }
@@ -303,11 +349,13 @@ impl Lane {
     pub fn say_msg(&mut self, no_body: bool)
         requires sound { IsSound self.old }
         requires empty { self.old.out.blocks ≡ [] }
-        ensures stands { (head : Head) (body : List ℕ) → flow self.old.msg.blocks ≡ front_blocks head body → Stands self.new (said self.old head body no_body) }
+        ensures stands { (filters : List FilterSpec) (head : Head) (body : List ℕ) → AreThese self.old.sieve filters → flow self.old.msg.blocks ≡ front_blocks head body → Stands self.new (said self.old filters head body no_body) }
+        ensures filters { (filters : List FilterSpec) → AreThese self.old.sieve filters → AreThese self.new.sieve filters }
         ensures sound { IsSound self.new }
         ensures stage { (self.new.stage ≡ stage.Sending) × (self.new.source ≡ source.Whole) }
         ensures same { (self.new.input ≡ self.old.input) × (self.new.ended ≡ self.old.ended) × (self.new.output ≡ self.old.output) × (self.new.dropped ≡ self.old.dropped) × (self.new.limits ≡ self.old.limits) × (self.new.msg ≡ self.old.msg) × (self.new.out ≡ self.old.out) }
     {
+        reset(&mut self.sieve);
         self.reader = BodyReader::new(Framing::Absent, self.limits);
         self.writer = Writer::new(Framing::ToClose, no_body);
         self.source = Source::Whole;
@@ -322,6 +370,7 @@ impl Lane {
         ensures sound { IsSound self.new }
         ensures stage { (self.new.stage ≡ stage.Sending) × (self.new.source ≡ source.Whole) }
         ensures same { (self.new.input ≡ self.old.input) × (self.new.ended ≡ self.old.ended) × (self.new.output ≡ self.old.output) × (self.new.dropped ≡ false) × (self.new.limits ≡ self.old.limits) }
+        ensures sieve { self.new.sieve ≡ self.old.sieve }
     {
         let load = self.limits.bufsize - self.msg.room();
         xfer(&mut self.msg, &mut self.out, load);

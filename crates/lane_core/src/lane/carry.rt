@@ -1,6 +1,8 @@
 //! A message on its way through the two arrays.
 ghost use Rattle.std.specs.Prelude.{◌≡◌, ◌≢◌, ◌≤◌, ◌<◌, ◌+◌, ◌*◌, ◌++◌, ◌⊎◌, [], length, take, drop, true, false, List, ℕ, Some, None, IfOk};
-ghost use Rattle.lane_core.specs.Sends.{Stands, GoesOn, IsAllOut, IsSound, Past, Sends, Leads, Keeps, IsAtRest, RestsFor, Stays, work_left, is_going, IsSized};
+ghost use Rattle.body_filter.specs.declared.filter_spec.FilterSpec.{FilterSpec};
+ghost use Rattle.lane_core.specs.Filtering.{AreThese, SieveRests, held_left};
+ghost use Rattle.lane_core.specs.Sends.{Stands, GoesOn, IsAllOut, IsSound, Past, Sends, Leads, Keeps, IsAtRest, IsDrained, RestsFor, reads_left, brings_left, is_going, IsSized};
 ghost use Rattle.lane_core.specs.Pulled.{IsWaiting};
 ghost use Rattle.h1_write.specs.Spelled.{IsEven, is_done};
 ghost use Rattle.h1_body.specs.Stands.{state_of, ends_of};
@@ -9,22 +11,9 @@ ghost use Rattle.lane_core.specs.declared.stage.Source.TheVariants as source;
 ghost use Rattle.lane_core.specs.declared.stage.Stage.TheVariants as stage;
 
 use crate::lane::Lane;
-use crate::pull::pull;
+use crate::sift::{Came, sift};
 use crate::stage::{Source, Stage};
-use h1_body::{BodyReader, BodyState};
-use http_model::Ending;
 use htx_xfer::xfer;
-
-/// What a closed stream makes of a body.
-fn source_at_close(reader: &BodyReader) -> Source
-    ensures whole { ends_of reader.now ≡ true → result ≡ source.Whole }
-    ensures cut { ends_of reader.now ≡ false → result ≡ source.Cut 400 }
-{
-    if reader.ended() {
-        return Source::Whole;
-    }
-    Source::Cut(400)
-}
 
 impl Lane {
     /// Whether nothing else will come behind what stands in the second array.
@@ -67,76 +56,39 @@ impl Lane {
         xfer(&mut self.msg, &mut self.out, load);
     }
 
-    /// What an end of the stream makes of a body that waits. False where the stream goes on.
-    fn meet_end(&mut self) -> bool
+    /// Lets the filters fill the empty first array. False where they wait for more of the body, or there are none.
+    pub(super) fn sift(&mut self) -> bool
+        requires sized { IsSized self.old }
+        requires empty { self.old.msg.blocks ≡ [] }
+        requires going { self.old.source ≡ source.Going }
         ensures keeps { Keeps self.old self.new }
-        ensures same { (self.new.output ≡ self.old.output) × (self.new.input ≡ self.old.input) × (self.new.msg ≡ self.old.msg) × (self.new.out ≡ self.old.out) × (self.new.reader ≡ self.old.reader) × (self.new.writer ≡ self.old.writer) }
-        ensures source { result ≡ false → (self.new.source ≡ self.old.source) × (self.old.ended ≡ None) }
-        ensures met { result ≡ true → self.new.source ≢ source.Going }
-        ensures leads { (p : Past) → Sends self.old p → self.old.source ≡ source.Going → IsWaiting self.old.reader self.old.input.items → state_of self.old.reader ≡ state.More → Sends self.new p }
-    {
-        match self.ended {
-            None => false,
-            Some(Ending::Closed) => {
-                self.source = source_at_close(&self.reader);
-                true
-            }
-            Some(Ending::Broke) => {
-                self.source = Source::Cut(400);
-                true
-            }
-        }
-    }
-
-    /// Brings the next part of the body into the empty first array. False where the lane waits for the stream.
-    fn read_body(&mut self) -> bool
-        requires { self.old.msg.blocks ≡ [] }
-        ensures keeps { Keeps self.old self.new }
-        ensures same { (self.new.output ≡ self.old.output) × (self.new.out ≡ self.old.out) × (self.new.writer ≡ self.old.writer) }
-        ensures leads { (p : Past) → Sends self.old p → self.old.source ≡ source.Going → Sends self.new p }
-        ensures nearer { self.old.source ≡ source.Going → result ≡ true → 4 * length self.new.input.items + 2 * is_going self.new.source + 2 ≤ 4 * length self.old.input.items + 2 }
-        ensures waits { (p : Past) → Sends self.old p → self.old.source ≡ source.Going → result ≡ false → (self.new.source ≡ self.old.source) × (self.new.ended ≡ None) × IsWaiting self.new.reader self.new.input.items × (state_of self.new.reader ≡ state.More) }
-        ensures sized { IsSized self.old → IsSized self.new }
-        ensures empty { (p : Past) → Sends self.old p → self.old.source ≡ source.Going → result ≡ false → self.new.msg.blocks ≡ [] }
-    {
-        let pulled = pull(&mut self.input, &mut self.reader, &mut self.msg);
-        match pulled.state {
-            BodyState::Whole => {
-                self.source = Source::Whole;
-                true
-            }
-            BodyState::Bad => {
-                self.source = Source::Cut(400);
-                true
-            }
-            BodyState::More => {
-                if pulled.used > 0 {
-                    return true;
-                }
-                self.meet_end()
-            }
-        }
-    }
-
-    /// Whether the body still comes.
-    fn is_going(&self) -> bool
-        ensures going { result ≡ true → self.now.source ≡ source.Going }
-        ensures over { result ≡ false → self.now.source ≢ source.Going }
-    {
-        match self.source {
-            Source::Going => true,
-            _ => false,
-        }
-    }
-
-    /// Fills the first array, where it is empty. False where there is nothing to bring.
-    fn fill(&mut self) -> bool
-        ensures keeps { Keeps self.old self.new }
-        ensures same { (self.new.output ≡ self.old.output) × (self.new.out ≡ self.old.out) × (self.new.writer ≡ self.old.writer) }
-        ensures sized { IsSized self.old → IsSized self.new }
+        ensures same { (self.new.output ≡ self.old.output) × (self.new.out ≡ self.old.out) × (self.new.writer ≡ self.old.writer) × (self.new.input ≡ self.old.input) × (self.new.reader ≡ self.old.reader) }
         ensures leads { Leads self.old self.new }
-        ensures nearer { result ≡ true → 4 * length self.new.input.items + 2 * is_going self.new.source < work_left self.old }
-        ensures rests { (p : Past) → Sends self.old p → result ≡ false → Stays self.old self.new }
+        ensures nearer { result ≡ true → held_left self.new.sieve + is_going self.new.source < held_left self.old.sieve + is_going self.old.source }
+        ensures reads { reads_left self.new ≤ reads_left self.old }
+        ensures rests { result ≡ false → SieveRests self.new.sieve × (self.new.msg.blocks ≡ []) × (self.new.source ≡ self.old.source) }
+        ensures sized { IsSized self.new }
+    {
+        match sift(&mut self.sieve, &mut self.msg) {
+            Came::More => true,
+            Came::Waits => false,
+            Came::Ends(source) => {
+                self.source = source;
+                true
+            }
+        }
+    }
+
+    /// Fills the first array from the filters, where it is empty. False where there is nothing to bring.
+    fn fill(&mut self) -> bool
+        requires { IsSized self.old }
+        ensures keeps { Keeps self.old self.new }
+        ensures same { (self.new.output ≡ self.old.output) × (self.new.out ≡ self.old.out) × (self.new.writer ≡ self.old.writer) × (self.new.input ≡ self.old.input) }
+        ensures sized { IsSized self.new }
+        ensures leads { Leads self.old self.new }
+        ensures nearer { result ≡ true → 2 * (held_left self.new.sieve + is_going self.new.source) < brings_left self.old }
+        ensures reads { reads_left self.new ≤ reads_left self.old }
+        ensures rests { result ≡ false → (self.old.msg.blocks ≡ []) × (self.new.msg.blocks ≡ []) × (self.new.source ≡ self.old.source) × (self.new.source ≡ source.Going → SieveRests self.new.sieve) }
     {
         if self.msg.len() > 0 {
             return true;
@@ -144,7 +96,7 @@ impl Lane {
         if !self.is_going() {
             return false;
         }
-        self.read_body()
+        self.sift()
     }
 
     /// Brings what comes next to the second array. False where there is nothing to bring.
@@ -152,11 +104,12 @@ impl Lane {
         requires sized { IsSized self.old }
         requires empty { self.old.out.blocks ≡ [] }
         ensures keeps { Keeps self.old self.new }
-        ensures same { (self.new.output ≡ self.old.output) × (self.new.writer ≡ self.old.writer) }
+        ensures same { (self.new.output ≡ self.old.output) × (self.new.writer ≡ self.old.writer) × (self.new.input ≡ self.old.input) }
         ensures sized { IsSized self.new }
         ensures leads { Leads self.old self.new }
-        ensures nearer { result ≡ true → work_left self.new < work_left self.old }
-        ensures rests { (p : Past) → Sends self.old p → result ≡ false → Stays self.old self.new }
+        ensures nearer { result ≡ true → brings_left self.new < brings_left self.old }
+        ensures reads { reads_left self.new ≤ reads_left self.old }
+        ensures rests { result ≡ false → (self.new.out ≡ self.old.out) × (self.old.msg.blocks ≡ []) × (self.new.msg.blocks ≡ []) × (self.new.source ≡ self.old.source) × (self.new.source ≡ source.Going → SieveRests self.new.sieve) }
     {
         if !self.fill() {
             return false;
@@ -165,15 +118,17 @@ impl Lane {
         true
     }
 
-    /// Writes, and brings what comes next. False where the window is full, or nothing comes.
-    fn turn(&mut self) -> bool
+    /// Writes, and brings what comes next of what was read. False where the window is full, or nothing comes.
+    fn pass_on(&mut self) -> bool
         requires { IsSized self.old }
         ensures keeps { Keeps self.old self.new }
         ensures grows { (put : List ℕ) × (self.new.output.items ≡ self.old.output.items ++ put) }
+        ensures same { self.new.input ≡ self.old.input }
         ensures sized { IsSized self.new }
         ensures leads { Leads self.old self.new }
-        ensures nearer { result ≡ true → work_left self.new < work_left self.old }
-        ensures rests { (p : Past) → Sends self.old p → result ≡ false → (self.new.output.capacity ≤ length self.new.output.items) ⊎ IsAtRest self.new }
+        ensures nearer { result ≡ true → brings_left self.new < brings_left self.old }
+        ensures reads { reads_left self.new ≤ reads_left self.old }
+        ensures rests { result ≡ false → (self.new.output.capacity ≤ length self.new.output.items) ⊎ IsDrained self.new }
     {
         self.write();
         if self.output.room() == 0 {
@@ -182,9 +137,49 @@ impl Lane {
         self.refill()
     }
 
+    /// Brings all that was read into the output window, as far as it has room.
+    fn drain(&mut self)
+        requires { IsSized self.old }
+        ensures keeps { Keeps self.old self.new }
+        ensures grows { (put : List ℕ) × (self.new.output.items ≡ self.old.output.items ++ put) }
+        ensures same { self.new.input ≡ self.old.input }
+        ensures sized { IsSized self.new }
+        ensures leads { Leads self.old self.new }
+        ensures reads { reads_left self.new ≤ reads_left self.old }
+        ensures rests { (self.new.output.capacity ≤ length self.new.output.items) ⊎ IsDrained self.new }
+    {
+        'parts: loop {
+            if !self.pass_on() {
+                break;
+            }
+        }
+    }
+
+    /// Brings what was read into the output window, and reads on. False where the window is full, or nothing comes.
+    fn turn(&mut self) -> bool
+        requires sized { IsSized self.old }
+        requires held { length self.old.input.items ≤ self.old.input.capacity }
+        ensures keeps { Keeps self.old self.new }
+        ensures grows { (put : List ℕ) × (self.new.output.items ≡ self.old.output.items ++ put) }
+        ensures sized { IsSized self.new }
+        ensures leads { Leads self.old self.new }
+        ensures nearer { result ≡ true → reads_left self.new < reads_left self.old }
+        ensures rests { (p : Past) → Sends self.old p → result ≡ false → (self.new.output.capacity ≤ length self.new.output.items) ⊎ IsAtRest self.new }
+    {
+        self.drain();
+        if self.output.room() == 0 {
+            return false;
+        }
+        if !self.is_going() {
+            return false;
+        }
+        self.read_body()
+    }
+
     /// Brings all that can be brought into the output window.
     pub(super) fn carry(&mut self)
-        requires { IsSized self.old }
+        requires sized { IsSized self.old }
+        requires held { length self.old.input.items ≤ self.old.input.capacity }
         ensures sized { IsSized self.new }
         ensures keeps { Keeps self.old self.new }
         ensures grows { (put : List ℕ) × (self.new.output.items ≡ self.old.output.items ++ put) }
@@ -230,10 +225,11 @@ impl Lane {
 
     /// Does all that can be done of a message whose text goes out.
     pub(super) fn put_out(&mut self)
-        requires sized { IsSized self.old }
+        requires sound { IsSound self.old }
         requires sending { self.old.stage ≡ stage.Sending }
         requires going { self.old.dropped ≡ false }
-        ensures sound { IsSound self.old → IsSound self.new }
+        ensures sound { IsSound self.new }
+        ensures filters { (filters : List FilterSpec) → AreThese self.old.sieve filters → AreThese self.new.sieve filters }
         ensures input { (self.new.input.capacity ≡ self.old.input.capacity) × (length self.new.input.items ≤ length self.old.input.items) }
         ensures ended { (self.new.ended ≡ self.old.ended) × (self.new.limits ≡ self.old.limits) }
         ensures grows { (put : List ℕ) × (self.new.output.items ≡ self.old.output.items ++ put) }
@@ -246,63 +242,5 @@ impl Lane {
     {
         self.carry();
         self.settle();
-    }
-
-    /// Reads the next part of the body, and drops it. False where there is nothing to read.
-    fn drop_part(&mut self) -> bool
-        requires { self.old.msg.blocks ≡ [] }
-        ensures keeps { Keeps self.old self.new }
-        ensures same { (self.new.output ≡ self.old.output) × (self.new.out ≡ self.old.out) × (self.new.writer ≡ self.old.writer) }
-        ensures sized { IsSized self.old → IsSized self.new }
-        ensures leads { self.old.dropped ≡ true → Leads self.old self.new }
-        ensures empty { result ≡ true → self.new.msg.blocks ≡ [] }
-        ensures nearer { result ≡ true → work_left self.new < work_left self.old }
-        ensures rests { (p : Past) → Sends self.old p → result ≡ false → RestsFor self.new }
-    {
-        if !self.is_going() {
-            return false;
-        }
-        if !self.read_body() {
-            return false;
-        }
-        self.msg.clear();
-        true
-    }
-
-    /// Reads what came of a body whose text is dropped.
-    pub(super) fn drop_body(&mut self)
-        ensures sized { IsSized self.old → IsSized self.new }
-        ensures keeps { Keeps self.old self.new }
-        ensures same { (self.new.output ≡ self.old.output) × (self.new.out ≡ self.old.out) × (self.new.writer ≡ self.old.writer) }
-        ensures leads { self.old.dropped ≡ true → Leads self.old self.new }
-        ensures rests { (p : Past) → self.old.dropped ≡ true → Sends self.old p → RestsFor self.new }
-    {
-        self.msg.clear();
-        'parts: loop {
-            if !self.drop_part() {
-                break;
-            }
-        }
-    }
-
-    /// Does all that can be done of a message whose text is dropped.
-    pub(super) fn read_out(&mut self)
-        requires sending { self.old.stage ≡ stage.Sending }
-        requires dropped { self.old.dropped ≡ true }
-        ensures sound { IsSound self.old → IsSound self.new }
-        ensures input { (self.new.input.capacity ≡ self.old.input.capacity) × (length self.new.input.items ≤ length self.old.input.items) }
-        ensures ended { (self.new.ended ≡ self.old.ended) × (self.new.limits ≡ self.old.limits) }
-        ensures same { (self.new.output ≡ self.old.output) × (self.new.dropped ≡ true) }
-        ensures stands { (p : Past) → Sends self.old p → Stands self.new p }
-        ensures rests { (p : Past) → Sends self.old p → RestsFor self.new }
-        ensures done { IsAllOut self.new → self.new.stage ≡ stage.Done }
-        ensures goes_on { (p : Past) → Sends self.old p → self.new.stage ≡ stage.Sending → GoesOn self.new }
-        ensures stage { (self.new.stage ≡ stage.Sending) ⊎ (self.new.stage ≡ stage.Done) }
-    {
-        self.drop_body();
-        if self.is_going() {
-            return;
-        }
-        self.stage = Stage::Done;
     }
 }

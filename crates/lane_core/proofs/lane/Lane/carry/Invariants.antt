@@ -1,5 +1,5 @@
-use Rattle.std.proofs.Common.{◌≡◌, ℕ, List, ◌++◌}
-use Rattle.lane_core.specs.Sends.{Keeps, Leads, IsSized, work_left}
+use Rattle.std.proofs.Common.{◌≡◌, ◌≤◌, ℕ, List, ◌++◌, length}
+use Rattle.lane_core.specs.Sends.{Keeps, Leads, IsSized, reads_left}
 use Rattle.lane_core.proofs.lane.Lane.carry.Given as goal
 
 abbrev pub invariant-turns : goal.invariant-turns
@@ -8,7 +8,8 @@ invariant-turns l = record {
   grows : (put : List ℕ) × (l.self.output.items ≡ l.fn.self.output.items ++ put);
   sized : IsSized l.self;
   leads : Leads l.fn.self l.self;
+  held : length l.self.input.items ≤ l.self.input.capacity;
 }
 
 abbrev pub decreases-turns : goal.decreases-turns
-decreases-turns l = work_left l.self
+decreases-turns l = reads_left l.self

@@ -11,17 +11,21 @@ returns-clause-leads c = λ p s. record {
   used = s.used;
   found = s.found;
   section = s.section;
+  passed = s.passed;
   sized = record {
     least = s.sized.least;
     msg = c.xfer.ensures.from_size ∙ s.sized.msg;
     out = c.xfer.ensures.to_size ∙ s.sized.out;
     input = s.sized.input;
     output = s.sized.output;
+    sieve = s.sized.sieve;
+    filters = s.sized.filters;
   };
   has_read = s.has_read;
   bytes = s.bytes;
+  has_passed = s.has_passed;
   source = s.source;
-  text = λ d. carries_over c.args.self.now.source c.args.self.now.writer p.sent (p.sent.given ++ s.found) s.section (put_out c.args.self.now p)
+  text = λ d. carries_over c.args.self.now.source c.args.self.now.writer p.sent (p.sent.given ++ s.passed) s.section (put_out c.args.self.now p)
       c.args.self.now.out.blocks c.xfer.new.to.blocks c.args.self.now.msg.blocks c.xfer.new.from.blocks c.requires.empty c.xfer.ensures.flow (s.text d);
 }
 

@@ -4,42 +4,45 @@ use Rattle.htx_arena.specs.Contents.{Contents}
 use Rattle.h1_body.specs.declared.reader.BodyReader.{BodyReader}
 use Rattle.h1_body.specs.Stands.{state_of}
 use Rattle.lane_core.specs.Pulled.{IsWaiting}
-use Rattle.lane_core.specs.Sends.{is_going}
+use Rattle.lane_core.specs.Sends.{end_left}
+use Rattle.lane_core.specs.declared.stage.Source.{Source}
+use Rattle.lane_core.specs.declared.stage.Source.TheVariants as source
 use Rattle.lane_core.proofs.ReadLemmas.{Reads, sends_more, sends_whole, sends_bad, read_waits, read_nearer}
-use Rattle.lane_core.proofs.lane.Lane.read_body.Goals as goal
+use Rattle.lane_core.proofs.lane.Lane.read_plain.Goals as goal
 
 pub returns-in-Whole-clause-leads : goal.returns-in-Whole-clause-leads
 returns-in-Whole-clause-leads c = λ p s is.
     let r : Reads c.args.self.now c.pull-pulled.new.input c.pull-pulled.new.reader c.pull-pulled.new.to c.pull-pulled.result.used c.pull-pulled.result.state =
-    record { pulls = c.pull-pulled.ensures.pulls; capacity = c.pull-pulled.ensures.capacity; size = c.pull-pulled.ensures.size; empty = c.requires; going = is } in
+    record { pulls = c.pull-pulled.ensures.pulls; capacity = c.pull-pulled.ensures.capacity; size = c.pull-pulled.ensures.size; empty = c.requires.empty; going = is; none = c.requires.plain } in
     sends_whole c.args.self.now p c.pull-pulled.new.input c.pull-pulled.new.reader c.pull-pulled.new.to c.pull-pulled.result.used c.pull-pulled.result.state r c.in-Whole.is s
 
 pub returns-in-Bad-clause-leads : goal.returns-in-Bad-clause-leads
 returns-in-Bad-clause-leads c = λ p s is.
     let r : Reads c.args.self.now c.pull-pulled.new.input c.pull-pulled.new.reader c.pull-pulled.new.to c.pull-pulled.result.used c.pull-pulled.result.state =
-    record { pulls = c.pull-pulled.ensures.pulls; capacity = c.pull-pulled.ensures.capacity; size = c.pull-pulled.ensures.size; empty = c.requires; going = is } in
+    record { pulls = c.pull-pulled.ensures.pulls; capacity = c.pull-pulled.ensures.capacity; size = c.pull-pulled.ensures.size; empty = c.requires.empty; going = is; none = c.requires.plain } in
     sends_bad c.args.self.now p c.pull-pulled.new.input c.pull-pulled.new.reader c.pull-pulled.new.to c.pull-pulled.result.used c.pull-pulled.result.state r c.in-Bad.is s
 
 pub returns-then-pulled-gt0-clause-leads : goal.returns-then-pulled-gt0-clause-leads
 returns-then-pulled-gt0-clause-leads c = λ p s is.
     let r : Reads c.args.self.now c.pull-pulled.new.input c.pull-pulled.new.reader c.pull-pulled.new.to c.pull-pulled.result.used c.pull-pulled.result.state =
-    record { pulls = c.pull-pulled.ensures.pulls; capacity = c.pull-pulled.ensures.capacity; size = c.pull-pulled.ensures.size; empty = c.requires; going = is } in
+    record { pulls = c.pull-pulled.ensures.pulls; capacity = c.pull-pulled.ensures.capacity; size = c.pull-pulled.ensures.size; empty = c.requires.empty; going = is; none = c.requires.plain } in
     sends_more c.args.self.now p c.pull-pulled.new.input c.pull-pulled.new.reader c.pull-pulled.new.to c.pull-pulled.result.used c.pull-pulled.result.state r c.in-More.is s
 
 pub returns-else-pulled-gt0-clause-leads : goal.returns-else-pulled-gt0-clause-leads
 returns-else-pulled-gt0-clause-leads c = λ p s is.
     let r : Reads c.args.self.now c.pull-pulled.new.input c.pull-pulled.new.reader c.pull-pulled.new.to c.pull-pulled.result.used c.pull-pulled.result.state =
-    record { pulls = c.pull-pulled.ensures.pulls; capacity = c.pull-pulled.ensures.capacity; size = c.pull-pulled.ensures.size; empty = c.requires; going = is } in
+    record { pulls = c.pull-pulled.ensures.pulls; capacity = c.pull-pulled.ensures.capacity; size = c.pull-pulled.ensures.size; empty = c.requires.empty; going = is; none = c.requires.plain } in
     c.meet_end.ensures.leads p
     (sends_more c.args.self.now p c.pull-pulled.new.input c.pull-pulled.new.reader c.pull-pulled.new.to c.pull-pulled.result.used c.pull-pulled.result.state r c.in-More.is s)
     is
+    c.requires.plain
     (read_waits c.args.self.now p c.pull-pulled.new.input c.pull-pulled.new.reader c.pull-pulled.new.to c.pull-pulled.result.used c.pull-pulled.result.state r (omega arith) s)
     (sym c.pull-pulled.ensures.pulls.told ∙ c.in-More.is)
 
 pub returns-else-pulled-gt0-clause-waits : goal.returns-else-pulled-gt0-clause-waits
 returns-else-pulled-gt0-clause-waits c = λ p s is no_more.
     let r : Reads c.args.self.now c.pull-pulled.new.input c.pull-pulled.new.reader c.pull-pulled.new.to c.pull-pulled.result.used c.pull-pulled.result.state =
-    record { pulls = c.pull-pulled.ensures.pulls; capacity = c.pull-pulled.ensures.capacity; size = c.pull-pulled.ensures.size; empty = c.requires; going = is } in
+    record { pulls = c.pull-pulled.ensures.pulls; capacity = c.pull-pulled.ensures.capacity; size = c.pull-pulled.ensures.size; empty = c.requires.empty; going = is; none = c.requires.plain } in
     let stays = c.meet_end.ensures.source no_more in
     let same = c.meet_end.ensures.same in
     let waits : IsWaiting c.pull-pulled.new.reader c.pull-pulled.new.input.items =
@@ -56,5 +59,5 @@ returns-else-pulled-gt0-clause-empty c = λ p s is no_more. ap (λ (m : Contents
 pub returns-then-pulled-gt0-clause-nearer : goal.returns-then-pulled-gt0-clause-nearer
 returns-then-pulled-gt0-clause-nearer c = λ is _.
     let step = read_nearer c.args.self.now.reader c.pull-pulled.new.reader c.args.self.now.input.items c.pull-pulled.new.input.items c.args.self.now.msg.size c.pull-pulled.result.used c.pull-pulled.new.to.blocks c.pull-pulled.result.state c.pull-pulled.ensures.pulls in
-    let one : is_going c.args.self.now.source ≡ 1 = ap is_going is in
+    let one : end_left c.args.self.now.source c.args.self.now.sieve ≡ 1 = ap (λ (x : Source). end_left x c.args.self.now.sieve) is ∙ ap (end_left source.Going) c.requires.plain in
     omega arith
