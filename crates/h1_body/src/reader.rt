@@ -5,9 +5,11 @@ ghost use Rattle.http_model.specs.declared.Framing.{Framing};
 ghost use Rattle.http_model.specs.declared.Limits.{Limits};
 ghost use Rattle.http_model.specs.Sizes.{least_size};
 ghost use Rattle.h1_body.specs.Section.{BeginsFields};
+ghost use Rattle.h1_body.specs.Scan.{IsScanned};
 ghost use Rattle.h1_body.specs.BodyOf.{StateTells, ClosedIsWhole, ClosedIsCut};
 ghost use Rattle.h1_body.specs.Stands.{HasRead, Waits, state_at, state_of, ends_at, ends_of, limit_of, bytes_of, data_len, span_of};
 
+use crate::scan::{SectionScan, behind_used, is_early, look_on};
 use crate::stages::{Found, Stage, feed_at};
 use http_model::{Framing, Limits};
 
@@ -40,6 +42,14 @@ pub struct BodyStep {
     pub trailers: Option<Span>,
     pub state: BodyState,
 }
+
+/// A step that used nothing.
+const WAITING: BodyStep = BodyStep {
+    used: 0,
+    piece: Span { from: 0, len: 0 },
+    trailers: None,
+    state: BodyState::More,
+};
 
 /// What the stage tells of the body.
 fn tell(stage: Stage) -> BodyState
@@ -141,5 +151,36 @@ impl BodyReader {
             trailers: section_of(fed.found),
             state: tell(fed.stage),
         }
+    }
+
+    /// The same over a window that has grown, of which `scan` tells what was looked at before: a trailer section is parsed only
+    /// once its empty line came, or it is none. So one that comes byte by byte is parsed a few times, and not once a byte.
+    ///
+    /// The caller keeps `scan`: a new one for bytes that were not looked at, and this one once it has dropped the bytes used.
+    pub fn feed_grown(&mut self, window: &[u8], room: u32, scan: &mut SectionScan) -> BodyStep
+        requires { IsScanned window.now scan.old }
+        ensures used { result.used ≤ length window.now }
+        ensures piece { (result.piece.len ≤ room) × (result.piece.from + result.piece.len ≤ result.used) }
+        ensures section { IfSome result.trailers (λ span. (0 < span.len) × (span.from + span.len ≤ result.used)) }
+        ensures fields { IfSome result.trailers (λ span. (fields : List grammar.Field) × BeginsFields (bytes_of window.now (Some span)) fields []) }
+        ensures alone { IfSome result.trailers (λ _. result.piece.len ≡ 0) }
+        ensures short { IfSome result.trailers (λ span. span.len ≤ limit_of self.old) }
+        ensures leads { (limits : Limits) (framing : Framing) (bytes found section : List ℕ) → HasRead limits framing bytes found section self.old
+            → HasRead limits framing (bytes ++ take result.used window.now) (found ++ bytes_of window.now (Some result.piece)) (section ++ bytes_of window.now result.trailers) self.new }
+        ensures told { (limits : Limits) (framing : Framing) (bytes found section : List ℕ) → HasRead limits framing bytes found section self.old
+            → StateTells limits framing (bytes ++ take result.used window.now) (found ++ bytes_of window.now (Some result.piece)) (section ++ bytes_of window.now result.trailers) result.state }
+        ensures state { result.state ≡ state_of self.new }
+        ensures waits { (limits : Limits) (framing : Framing) (bytes found section : List ℕ) → HasRead limits framing bytes found section self.old
+            → result.used ≡ 0 → Waits self.new window.now room }
+        ensures scanned { IsScanned (drop result.used window.now) scan.new }
+    {
+        let seen = look_on(self.stage, *scan, window);
+        if is_early(self.stage, seen, window, self.section_limit) {
+            *scan = seen;
+            return WAITING;
+        }
+        let step = self.feed(window, room);
+        *scan = behind_used(seen, window, step.used);
+        step
     }
 }

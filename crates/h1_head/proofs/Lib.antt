@@ -7,6 +7,7 @@ pub mod Fields
 pub mod Spanned
 pub mod EachSide
 pub mod Waits
+pub mod Scans
 pub mod Fronts
 pub mod Classes
 pub mod Adds

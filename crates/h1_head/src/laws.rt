@@ -10,6 +10,7 @@ ghost use Rattle.h1_head.specs.Received.{IsReceived};
 ghost use Rattle.h1_head.specs.Sides.{kind_of};
 ghost use Rattle.h1_head.specs.Stream.{behind, HeadOf, IsKnown};
 ghost use Rattle.h1_head.specs.Decides.{MayWait, RefusesFor, is_line_feed};
+ghost use Rattle.h1_head.specs.Scanned.{IsScanned};
 
 /// A stream has one reading.
 pub fn one_reading()
@@ -64,4 +65,10 @@ pub fn waits_on()
 /// Empty lines in front may be dropped before more bytes come or after.
 pub fn drops_lines()
     ensures { (window more : List ℕ) → behind (behind window ++ more) ≡ behind (window ++ more) }
+{}
+
+/// What was looked at stays so where more bytes come, and nothing was looked at before the first look.
+pub fn stays_scanned()
+    ensures more { (side : Side) → (limits : Limits) (window more : List ℕ) (scanned : ℕ) → IsScanned (kind_of side) limits window scanned → IsScanned (kind_of side) limits (window ++ more) scanned }
+    ensures none { (side : Side) → (limits : Limits) (window : List ℕ) → least_size ≤ limits.bufsize → IsScanned (kind_of side) limits window 0 }
 {}
