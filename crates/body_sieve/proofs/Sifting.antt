@@ -151,10 +151,13 @@ open_step old new last fed piece moved x other filters found passed from u st is
   where
     after : Uses filters found (passed ++ piece) new.chain (drop fed.used old.held.items)
     after = uses_on old.chain new.chain old.held.items last fed piece x.feeds (not_whole old new last fed piece moved x other) filters found passed u
+
     sieved : new.end ≡ old.end → SievedAt new.end filters found (passed ++ piece) new.chain new.held.items
     sieved same = subst (λ (e : BodyEnd). SievedAt e filters found (passed ++ piece) new.chain new.held.items) (sym same) (from new.held.items (subst (λ (h : List ℕ). Uses filters found (passed ++ piece) new.chain h) (sym x.held) after))
+
     lefts : new.end ≡ old.end → (sift_left new ≤ sift_left old) × (0 < fed.used + fed.given → sift_left new < sift_left old) × (end_left new.end < end_left old.end → sift_left new < sift_left old)
     lefts same = less_left old new last fed piece moved x (same_left old.end new.end same) filters found passed (inl u) (inl after)
+
     going : (b : Bool) → moved ≡ b → fed.state ≡ state.Going → SievedAt new.end filters found (passed ++ piece) new.chain new.held.items × Tells (answer_at state.Going b) old new piece filters found passed
     going true e on =
         let same = is_end old new last fed piece moved x state.Going on (λ h. cc) in
@@ -163,6 +166,7 @@ open_step old new last fed piece moved x other filters found passed from u st is
         let same = is_end old new last fed piece moved x state.Going on (λ h. cc) in
         let s = settled old.chain new.chain old.held.items last fed piece x.feeds on (x.none e) filters found passed after in
         (sieved same, (same, other, x.held ∙ s.0, s.1, s.2, (lefts same).0))
+
     by : (st : FedState) → fed.state ≡ st → SievedAt new.end filters found (passed ++ piece) new.chain new.held.items × Tells (answer_at st moved) old new piece filters found passed
     by state.Over e = absurd (never_over old.chain new.chain old.held.items last fed piece x.feeds e filters found (passed ++ piece) (drop fed.used old.held.items) after)
     by (state.Refused code) e =
@@ -177,22 +181,30 @@ whole_step old new last fed piece moved x whole filters found passed before st i
   where
     on : last ≡ true
     on = x.is_last whole
+
     after : Either filters found (passed ++ piece) new.chain (drop fed.used old.held.items)
     after = whole_on old.chain new.chain old.held.items last fed piece x.feeds on filters found passed before
+
     held : Either filters found (passed ++ piece) new.chain new.held.items
     held = subst (λ (h : List ℕ). Either filters found (passed ++ piece) new.chain h) (sym x.held) after
+
     sieved : new.end ≡ old.end → SievedAt new.end filters found (passed ++ piece) new.chain new.held.items
     sieved same = subst (λ (e : BodyEnd). SievedAt e filters found (passed ++ piece) new.chain new.held.items) (sym (same ∙ whole)) held
+
     lefts : end_left new.end ≤ end_left old.end → (sift_left new ≤ sift_left old) × (0 < fed.used + fed.given → sift_left new < sift_left old) × (end_left new.end < end_left old.end → sift_left new < sift_left old)
     lefts at = less_left old new last fed piece moved x at filters found passed before after
+
     is_whole : (st : FedState) → fed.state ≡ st → is_over st ≡ true → HasFilteredAll filters found (passed ++ piece) new.chain → filtered filters true found ≡ record { output = passed ++ piece; state = st }
     is_whole st e o all = x.feeds.over filters found (passed ++ piece) all (subst (λ (s : FedState). is_over s ≡ true) (sym e) o) ∙ ap (λ (s : FedState). record { output = passed ++ piece; state = s }) e
+
     refused : (code : ℕ) → fed.state ≡ state.Refused code → Either filters found (passed ++ piece) new.chain (drop fed.used old.held.items) → IsRefused old.end filters found (passed ++ piece) code
     refused code e (inl u) = inl (refused_used old.chain new.chain old.held.items last fed piece code x.feeds e filters found (passed ++ piece) (drop fed.used old.held.items) u)
     refused code e (inr all) = inr (whole, is_whole (state.Refused code) e refl all.1)
+
     accepted : fed.state ≡ state.Over → Either filters found (passed ++ piece) new.chain new.held.items → SievedAt body_end.Accepted filters found (passed ++ piece) new.chain new.held.items
     accepted e (inl u) = absurd (never_over old.chain new.chain old.held.items last fed piece x.feeds e filters found (passed ++ piece) new.held.items u)
     accepted e (inr all) = (all.0, all.1, is_whole state.Over e refl all.1)
+
     going : (b : Bool) → moved ≡ b → fed.state ≡ state.Going → SievedAt new.end filters found (passed ++ piece) new.chain new.held.items × Tells (answer_at state.Going b) old new piece filters found passed
     going true e g =
         let same = is_end old new last fed piece moved x state.Going g (λ h. cc) in
@@ -201,6 +213,7 @@ whole_step old new last fed piece moved x whole filters found passed before st i
         let nought = x.none e in
         let off : last ≡ false = (x.feeds.idle g nought.0 nought.1).1 in
         absurd (let both : true ≡ false = sym on ∙ off in cc both)
+
     by : (st : FedState) → fed.state ≡ st → SievedAt new.end filters found (passed ++ piece) new.chain new.held.items × Tells (answer_at st moved) old new piece filters found passed
     by state.Over e =
         let at = x.over e in

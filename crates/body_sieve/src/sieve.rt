@@ -110,13 +110,7 @@ fn answer_of(state: FedState, moved: bool) -> Sifted
     match state {
         FedState::Over => Sifted::Accepted,
         FedState::Refused(code) => Sifted::Refused(code),
-        FedState::Going => {
-            if moved {
-                Sifted::Gave
-            } else {
-                Sifted::Idle
-            }
-        }
+        FedState::Going => { if moved { Sifted::Gave } else { Sifted::Idle } }
     }
 }
 
@@ -218,13 +212,7 @@ impl Sieve {
         ensures size { to.new.size ≡ to.old.size }
     {
         let last = self.is_last();
-        let fed = feed_held(
-            &mut self.chain,
-            &mut self.held,
-            last,
-            &mut self.given,
-            to,
-        );
+        let fed = feed_held(&mut self.chain, &mut self.held, last, &mut self.given, to);
         self.meet(fed.state);
         answer_of(fed.state, has_moved(fed))
     }

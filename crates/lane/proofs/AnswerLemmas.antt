@@ -11,6 +11,7 @@ use Rattle.http_model.specs.Finish.{finish_interim}
 use Rattle.http_model.specs.Head.{Head, head_blocks}
 use Rattle.http_model.specs.Reading.{Received, Begins}
 use Rattle.http_model.specs.Spelling.{head_text}
+use Rattle.body_filter.specs.declared.filter_spec.FilterSpec.{FilterSpec}
 use Rattle.h1_head.specs.declared.answer.Side.TheVariants.{Response}
 use Rattle.http_model.specs.Head.{front_blocks}
 use Rattle.h1_write.specs.Spelled.{is_done}
@@ -177,7 +178,7 @@ came_at stage.Done lane p h = (h.0, h.1)
 
 came_last : (last : Last) (lane : Lane) (p : Exchange) (q : Past) → IsLast last lane p q → (left : List ℕ) × HeadsCame p.asked lane.limits lane.ended p.read p.bytes left
 came_last NotYet lane p q h = absurd h
-came_last (Serves head framed no_body) lane p q h = (h.1, h.3)
+came_last (Serves filters head framed no_body) lane p q h = (h.1, h.3)
 came_last (Replies head body no_body) lane p q h = h.0
 
 unbegun : (b : Bool) (text : List ℕ) → HasBegun b text → b ≡ false → text ≡ []
@@ -210,7 +211,7 @@ shows_by old new p q passed put same sound s = record {
 
 pub last_same : (last : Last) (old new : Lane) → SameStream old new → (p : Exchange) (q : Past) → IsLast last old p q → IsLast last new p q
 last_same NotYet old new s p q h = h
-last_same (Serves head framed no_body) old new s p q h = (
+last_same (Serves filters head framed no_body) old new s p q h = (
   h.0,
   h.1,
   h.2,
@@ -218,6 +219,7 @@ last_same (Serves head framed no_body) old new s p q h = (
   reads_same old new s p.asked h.1 (λ (more : List ℕ). Begins h.0 (q.bytes ++ more)) h.4,
   h.5,
   h.6,
+  h.7,
 )
 last_same (Replies head body no_body) old new s p q h = ((h.0.0, came_same old new s p.asked p.read p.bytes h.0.0 h.0.1), h.1)
 
@@ -226,7 +228,7 @@ at_last lane p e a = subst (λ (ph : Phase). AnswersAt ph lane p) e a
 
 last_put : (last : Last) (lane : Lane) (p : Exchange) (put : List ℕ) (q : Past) → IsLast last lane p q → IsLast last lane (with_put p put) q
 last_put NotYet lane p put q h = h
-last_put (Serves head framed no_body) lane p put q h = h
+last_put (Serves filters head framed no_body) lane p put q h = h
 last_put (Replies head body no_body) lane p put q h = h
 
 -- some text of the last was put out
@@ -268,11 +270,11 @@ pub sound_turning : (lane : ResponseLane) (no_body : Bool) → IsSoundAnswer lan
 sound_turning lane no_body s e = subst (λ (ph : Phase). IsSoundAt ph lane) e s.at
 
 -- the reply begins behind an interim head that was put out whole
-pub turned : (lane said_ : Lane) (p : Exchange) (head : Head) (body : List ℕ) (no_body : Bool) → p.last ≡ Replies head body no_body → Stands said_ (said lane head body no_body) → IsSound said_ → said_.dropped ≡ false → said_.stage ≡ stage.Sending
+pub turned : (lane said_ : Lane) (p : Exchange) (filters : List FilterSpec) (head : Head) (body : List ℕ) (no_body : Bool) → p.last ≡ Replies head body no_body → Stands said_ (said lane filters head body no_body) → IsSound said_ → said_.dropped ≡ false → said_.stage ≡ stage.Sending
     → said_.output ≡ lane.output → (left : List ℕ) → HeadsCame p.asked said_.limits said_.ended p.read p.bytes left → p.put ≡ interim_text p.passed → Answers (made said_ phase.Answering false) p
-turned lane said_ p head body no_body e stands sound kept at out left came put =
-    begins_last said_ p (said lane head body no_body) stands sound kept at
-    (subst (λ (last : Last). IsLast last said_ p (said lane head body no_body)) (sym e) ((left, came), refl))
+turned lane said_ p filters head body no_body e stands sound kept at out left came put =
+    begins_last said_ p (said lane filters head body no_body) stands sound kept at
+    (subst (λ (last : Last). IsLast last said_ p (said lane filters head body no_body)) (sym e) ((left, came), refl))
     (ap (λ (b : Buffer ℕ). b.items) out) put
 
 -- ---- the contract

@@ -11,6 +11,7 @@ use Rattle.http_model.specs.Finish.{finish_interim}
 use Rattle.http_model.specs.Head.{Head, StartLine, RequestLine, StatusLine, head_blocks}
 use Rattle.http_model.specs.Reading.{Received, HeadReading, Nothing, Refused, Begins}
 use Rattle.http_model.specs.Spelling.{head_text}
+use Rattle.body_filter.specs.declared.filter_spec.FilterSpec.{FilterSpec}
 use Rattle.h1_head.specs.declared.answer.Side.{Side}
 use Rattle.h1_head.specs.declared.answer.Side.TheVariants.{Response}
 use Rattle.h1_head.specs.Received.{IsReceived}
@@ -19,6 +20,7 @@ use Rattle.h1_head.specs.Sides.{kind_of}
 use Rattle.h1_head.specs.Stream.{behind}
 use Rattle.h1_head.specs.Decides.{OnEachStream, MayWait}
 use Rattle.http_model.specs.Head.{front_blocks}
+use Rattle.lane_core.specs.Filtering.{AreThese}
 use Rattle.lane_core.specs.Promise.{Promise}
 use Rattle.lane_core.specs.Sent.{Sent}
 use Rattle.lane_core.specs.Sends.{Past, Stands, IsSound, IsReading, put_out, GoesOn}
@@ -66,8 +68,8 @@ Reads asked limits ended left reading = OnEachStream (is_some ended) (λ more. R
 pub data Last : Type 0 where
   -- none yet
   NotYet : Last
-  -- the server's head as rules left it, and its body in this framing
-  Serves : (head : Head) → (framing : Framing) → (no_body : Bool) → Last
+  -- the server's head as rules left it, and its body through these filters in this framing
+  Serves : (filters : List FilterSpec) → (head : Head) → (framing : Framing) → (no_body : Bool) → Last
   -- a reply or a refusal in its place
   Replies : (head : Head) → (body : List ℕ) → (no_body : Bool) → Last
 
@@ -104,8 +106,8 @@ abbrev pub drops : Exchange → Received → Exchange
 drops p got = record p { read = p.read ++ got.head ∷ []; pending = None }
 
 -- or is the last, as rules left it
-abbrev pub serves : Exchange → Head → Framing → Bool → Exchange
-serves p head framed no_body = record p { last = Serves head framed no_body }
+abbrev pub serves : Exchange → List FilterSpec → Head → Framing → Bool → Exchange
+serves p filters head framed no_body = record p { last = Serves filters head framed no_body }
 
 abbrev pub replies : Exchange → Head → List ℕ → Bool → Exchange
 replies p head body no_body = record p { last = Replies head body no_body }
@@ -145,10 +147,10 @@ pub record ShowsLast (lane : Lane) (p : Exchange) : Type 0 where
 -- the message of the lane is the last that answers
 abbrev pub IsLast : Last → Lane → Exchange → Past → Type 0
 IsLast NotYet lane p q = ⊥
-IsLast (Serves head framed no_body) lane p q =
+IsLast (Serves filters head framed no_body) lane p q =
     (got : Received) × (left : List ℕ) × (p.pending ≡ Some got) × HeadsCame p.asked lane.limits lane.ended p.read p.bytes left
     × Reads p.asked lane.limits lane.ended left (λ more. Begins got (q.bytes ++ more))
-    × (q.reads ≡ got.framing) × (q.sent ≡ record { head = head; given = []; framing = framed; no_body = no_body; before = q.sent.before })
+    × (q.reads ≡ got.framing) × (q.sent ≡ record { head = head; given = []; framing = framed; no_body = no_body; before = q.sent.before }) × (q.filters ≡ filters)
 IsLast (Replies head body no_body) lane p q =
     ((left : List ℕ) × HeadsCame p.asked lane.limits lane.ended p.read p.bytes left)
     × (q.sent ≡ record { head = head; given = body; framing = framing.ToClose; no_body = no_body; before = q.sent.before })
@@ -184,6 +186,10 @@ AnswersAt phase.Answering lane p = AnswersLast lane p
 -- the lane stands for this exchange
 abbrev pub Answers : ResponseLane → Exchange → Type 0
 Answers lane p = AnswersAt lane.phase lane p
+
+-- its bodies go through these filters
+abbrev pub HasFilters : ResponseLane → List FilterSpec → Type 0
+HasFilters lane filters = AreThese lane.lane.sieve filters
 
 -- the server's stream has not ended
 abbrev pub IsOpen : ResponseLane → Type 0

@@ -5,19 +5,22 @@ ghost use Rattle.htx_model.specs.Blocks.{Fits};
 ghost use Rattle.http_model.specs.Finish.{finish_interim};
 ghost use Rattle.http_model.specs.Head.{Head, head_blocks};
 ghost use Rattle.http_model.specs.Reading.{Received};
+ghost use Rattle.http_model.specs.Sizes.{least_size, most_size, least_head};
+ghost use Rattle.body_filter.specs.Valid.{AreFilters};
+ghost use Rattle.body_filter.specs.declared.filter_spec.FilterSpec.{FilterSpec};
 ghost use Rattle.http_model.specs.Head.{front_blocks};
-ghost use Rattle.lane.specs.Answering.{Exchange, Answers, HeadComes, PutsOut, is_interim, IsOpen, with_bytes, with_put, passes, drops, serves, replies, fresh, IsSoundAnswer, MayGoOn, shows_head};
+ghost use Rattle.lane.specs.Answering.{Exchange, Answers, HeadComes, PutsOut, is_interim, IsOpen, with_bytes, with_put, passes, drops, serves, replies, fresh, IsSoundAnswer, MayGoOn, HasFilters, shows_head};
 ghost use Rattle.lane.specs.declared.response_lane.Phase.TheVariants as phase;
 ghost use Rattle.lane_core.specs.declared.stage.Stage.TheVariants as stage;
 ghost use Rattle.lane_core.specs.declared.stage.Source.TheVariants as source;
 
-use lane_core::Lane;
-use lane_core::{LaneHead, Source, Stage};
+use body_filter::FilterSpec;
 use h1_head::Side;
 use header_ops::laws::edits_of_heads;
 use http_model::{Ending, Framing, Limits};
 use htx_arena::Arena;
 use htx_model::OutOfMemory;
+use lane_core::{Lane, LaneHead, Source, Stage};
 use std::alloc::Global;
 
 /// What is put out.
@@ -43,18 +46,27 @@ pub struct ResponseLane {
 }
 
 impl ResponseLane {
-    /// A lane whose output window has this size. This call alone takes memory.
-    pub fn new(alloc: Global, limits: Limits, window: u32) -> Result<ResponseLane, OutOfMemory>
-        requires least { 1024 ≤ limits.bufsize }
-        requires most { limits.bufsize ≤ 262144 }
-        requires reserve { limits.maxrewrite + 512 ≤ limits.bufsize }
+    /// A lane whose output window has `window` bytes and whose input window has `bufsize`, and whose bodies go through these
+    /// filters. This call alone takes memory.
+    pub fn new(
+        alloc: Global,
+        limits: Limits,
+        window: u32,
+        filters: &[FilterSpec],
+    ) -> Result<ResponseLane, OutOfMemory>
+        requires least { least_size ≤ limits.bufsize }
+        requires most { limits.bufsize ≤ most_size }
+        requires reserve { limits.maxrewrite + least_head ≤ limits.bufsize }
         requires window { 64 ≤ window }
+        requires few { length filters.now ≤ 8 }
+        requires valid { AreFilters filters.now }
+        ensures filters { IfOk result (λ lane. HasFilters lane filters.now) }
         ensures fresh { IfOk result (λ lane. (asked : Bool) → Answers lane (fresh asked)) }
         ensures reading { IfOk result (λ lane. lane.lane.stage ≡ stage.Reading) }
         ensures sound { IfOk result IsSoundAnswer }
     {
         Ok(ResponseLane {
-            lane: Lane::new(alloc, limits, window)?,
+            lane: Lane::new(alloc, limits, window, filters)?,
             phase: Phase::Heads,
             begun: false,
         })
@@ -109,6 +121,7 @@ impl ResponseLane {
         ensures answers { (p : Exchange) → Answers self.old p → Answers self.new (with_bytes p bytes.now) }
         ensures same { (self.new.lane.stage ≡ self.old.lane.stage) × (self.new.lane.output ≡ self.old.lane.output) × (self.new.begun ≡ self.old.begun) }
         ensures sound { IsSoundAnswer self.old → IsSoundAnswer self.new }
+        ensures filters { (filters : List FilterSpec) → HasFilters self.old filters → HasFilters self.new filters }
     {
         self.lane.take(bytes);
     }
@@ -119,6 +132,7 @@ impl ResponseLane {
         ensures answers { (p : Exchange) → Answers self.old p → Answers self.new p }
         ensures same { (self.new.lane.stage ≡ self.old.lane.stage) × (self.new.lane.output ≡ self.old.lane.output) × (self.new.begun ≡ self.old.begun) }
         ensures sound { IsSoundAnswer self.old → IsSoundAnswer self.new }
+        ensures filters { (filters : List FilterSpec) → HasFilters self.old filters → HasFilters self.new filters }
     {
         self.lane.end(how);
     }
@@ -130,6 +144,7 @@ impl ResponseLane {
         ensures comes { (p : Exchange) → Answers self.old p → p.asked ≡ head_asked → HeadComes p self.new result }
         ensures same { (self.new.lane.output ≡ self.old.lane.output) × (self.new.lane.ended ≡ self.old.lane.ended) × (self.new.begun ≡ self.old.begun) }
         ensures sound { IsSoundAnswer self.new }
+        ensures filters { (filters : List FilterSpec) → HasFilters self.old filters → HasFilters self.new filters }
     {
         match self.lane.read_head(Side::Response { head_asked }) {
             LaneHead::More => LaneHead::More,
@@ -157,6 +172,7 @@ impl ResponseLane {
         ensures stage { self.new.lane.stage ≡ stage.Sending }
         ensures same { (self.new.lane.output ≡ self.old.lane.output) × (self.new.lane.ended ≡ self.old.lane.ended) × (self.new.begun ≡ self.old.begun) }
         ensures sound { IsSoundAnswer self.new }
+        ensures filters { (filters : List FilterSpec) → HasFilters self.old filters → HasFilters self.new filters }
     {
         edits_of_heads();
         self.lane.strip();
@@ -172,6 +188,7 @@ impl ResponseLane {
         ensures stage { self.new.lane.stage ≡ stage.Reading }
         ensures same { (self.new.lane.output ≡ self.old.lane.output) × (self.new.lane.ended ≡ self.old.lane.ended) × (self.new.begun ≡ self.old.begun) }
         ensures sound { IsSoundAnswer self.new }
+        ensures filters { (filters : List FilterSpec) → HasFilters self.old filters → HasFilters self.new filters }
     {
         self.lane.next();
         self.phase = Phase::Heads;
@@ -181,10 +198,11 @@ impl ResponseLane {
     pub fn send(&mut self, framing: Framing, no_body: bool)
         requires sound { IsSoundAnswer self.old }
         requires head { self.old.lane.stage ≡ stage.Head }
-        ensures answers { (p : Exchange) (head : Head) → Answers self.old p → self.old.lane.msg.blocks ≡ head_blocks head → Answers self.new (serves p head framing no_body) }
+        ensures answers { (p : Exchange) (filters : List FilterSpec) (head : Head) → Answers self.old p → HasFilters self.old filters → self.old.lane.msg.blocks ≡ head_blocks head → Answers self.new (serves p filters head framing no_body) }
         ensures stage { self.new.lane.stage ≡ stage.Sending }
         ensures same { (self.new.lane.output ≡ self.old.lane.output) × (self.new.lane.ended ≡ self.old.lane.ended) × (self.new.begun ≡ self.old.begun) }
         ensures sound { IsSoundAnswer self.new }
+        ensures filters { (filters : List FilterSpec) → HasFilters self.old filters → HasFilters self.new filters }
     {
         self.lane.send(framing, no_body);
         self.phase = Phase::Answering;
@@ -201,6 +219,7 @@ impl ResponseLane {
         ensures stage { (self.new.lane.stage ≡ stage.Sending) × (self.new.lane.source ≡ source.Whole) }
         ensures same { (self.new.lane.output ≡ self.old.lane.output) × (self.new.lane.ended ≡ self.old.lane.ended) × (self.new.begun ≡ self.old.begun) }
         ensures sound { IsSoundAnswer self.new }
+        ensures filters { (filters : List FilterSpec) → HasFilters self.old filters → HasFilters self.new filters }
     {
         if self.is_showing() {
             self.lane.put_by(list);
@@ -229,6 +248,7 @@ impl ResponseLane {
         ensures no_stall { (p : Exchange) → Answers self.old p → self.new.lane.stage ≡ stage.Sending → MayGoOn self.new }
         ensures begun { self.old.begun ≡ true → self.new.begun ≡ true }
         ensures sound { IsSoundAnswer self.new }
+        ensures filters { (filters : List FilterSpec) → HasFilters self.old filters → HasFilters self.new filters }
     {
         match self.phase {
             Phase::Heads => {}
@@ -246,6 +266,7 @@ impl ResponseLane {
         ensures no_stall { (p : Exchange) → Answers self.old p → self.new.lane.stage ≡ stage.Sending → MayGoOn self.new }
         ensures begun { self.old.begun ≡ true → self.new.begun ≡ true }
         ensures sound { IsSoundAnswer self.new }
+        ensures filters { (filters : List FilterSpec) → HasFilters self.old filters → HasFilters self.new filters }
     {
         if self.lane.show_on() {
             self.lane.next();
@@ -261,6 +282,7 @@ impl ResponseLane {
         ensures no_stall { (p : Exchange) → Answers self.old p → self.new.lane.stage ≡ stage.Sending → MayGoOn self.new }
         ensures begun { self.old.begun ≡ true → self.new.begun ≡ true }
         ensures sound { IsSoundAnswer self.new }
+        ensures filters { (filters : List FilterSpec) → HasFilters self.old filters → HasFilters self.new filters }
     {
         if self.lane.show_on() {
             self.lane.hide();
@@ -279,6 +301,7 @@ impl ResponseLane {
         ensures no_stall { (p : Exchange) → Answers self.old p → self.new.lane.stage ≡ stage.Sending → MayGoOn self.new }
         ensures begun { self.old.begun ≡ true → self.new.begun ≡ true }
         ensures sound { IsSoundAnswer self.new }
+        ensures filters { (filters : List FilterSpec) → HasFilters self.old filters → HasFilters self.new filters }
     {
         let before = self.lane.put();
         self.lane.step();
@@ -299,6 +322,7 @@ impl ResponseLane {
         ensures answers { (p : Exchange) → Answers self.old p → Answers self.new p }
         ensures same { (self.new.lane.stage ≡ self.old.lane.stage) × (self.new.lane.ended ≡ self.old.lane.ended) × (self.new.begun ≡ self.old.begun) }
         ensures sound { IsSoundAnswer self.old → IsSoundAnswer self.new }
+        ensures filters { (filters : List FilterSpec) → HasFilters self.old filters → HasFilters self.new filters }
     {
         self.lane.took(n);
     }
@@ -311,6 +335,7 @@ impl ResponseLane {
         ensures stage { self.new.lane.stage ≡ stage.Reading }
         ensures same { (self.new.lane.output ≡ self.old.lane.output) × (self.new.lane.ended ≡ self.old.lane.ended) × (self.new.lane.input ≡ self.old.lane.input) }
         ensures sound { IsSoundAnswer self.new }
+        ensures filters { (filters : List FilterSpec) → HasFilters self.old filters → HasFilters self.new filters }
     {
         self.lane.next();
         self.phase = Phase::Heads;
@@ -327,6 +352,7 @@ impl ResponseLane {
         ensures same { self.new.lane.output ≡ self.old.lane.output }
         ensures begun { self.new.begun ≡ false }
         ensures sound { IsSoundAnswer self.new }
+        ensures filters { (filters : List FilterSpec) → HasFilters self.old filters → HasFilters self.new filters }
     {
         self.lane.new_stream();
         self.phase = Phase::Heads;

@@ -254,3 +254,9 @@ held_rests l p input reader sieve x s =
     let idle = t.next.idle refl in
     let waits = h.waits refl in
     sends.Waits x.going idle.0 waits.0 waits.1 (subst SieveRests (sym t.is) (idle.1, idle.2 t.idle.1))
+
+-- what an end makes of it, or that none came
+pub next_met : (ended : Option Ending) (reader reader' : BodyReader) (before after : List ℕ) (sieve held_ new : Sieve) (n : ℕ) (st : BodyState) → Read reader reader' before after sieve held_ n st → st ≡ state.More → n ≡ 0
+    → (met : Bool) → (met ≡ false → (ended ≡ None) × (new ≡ held_)) → (met ≡ true → MeetsEnd ended reader' held_ new) → HoldsNext ended reader reader' before after sieve new met
+next_met ended reader reader' before after sieve held_ new n st x is none true open_ met = next_ended ended reader reader' before after sieve held_ new n st x is none (met refl)
+next_met ended reader reader' before after sieve held_ new n st x is none false open_ met = let o = open_ refl in next_waits ended reader reader' before after sieve held_ new n st x is none o.0 o.1

@@ -104,10 +104,10 @@ record PassesAll (filters : List FilterSpec) (found passed : List ℕ) : Type 0 
 uses_passes : (filters : List FilterSpec) (found passed : List ℕ) (chain : Chain) (held : List ℕ) → Uses filters found passed chain held → Passes filters found passed
 uses_passes filters found passed chain held u = record {
   on = λ whole more. (
-      (chain_meaning chain whole (held ++ more)).output,
-      ap (λ (b : List ℕ). (filtered filters whole (b ++ more)).output) u.found_is ∙ ap (λ (b : List ℕ). (filtered filters whole b).output) (append_assoc u.used held more)
-          ∙ ap (λ (f : Filtered). f.output) (u.has.goes_on whole (held ++ more)),
-    );
+    (chain_meaning chain whole (held ++ more)).output,
+    ap (λ (b : List ℕ). (filtered filters whole (b ++ more)).output) u.found_is ∙ ap (λ (b : List ℕ). (filtered filters whole b).output) (append_assoc u.used held more)
+        ∙ ap (λ (f : Filtered). f.output) (u.has.goes_on whole (held ++ more)),
+  );
 }
 
 passes_all : (filters : List FilterSpec) (found passed : List ℕ) → Passes filters found passed → PassesAll filters found passed
@@ -155,18 +155,18 @@ ended_more ended more ending how e g = subst (λ (o : Option Ending). GoesOnWith
 
 -- it is whole, with what follows it
 whole_is : (l : Lane) (p : Past) (s : Sends l p) (trailers : List Field) → IsWholeAt l.reader l.ended l.input.items s.section → HasTrailers s.section trailers
-    → (more : List ℕ) (ending : Option Ending) → GoesOnWith l.ended more ending → (read : BodyRead) → BodyTaken l p more ending read → read ≡ Reads (Whole s.found trailers (l.input.items ++ more))
-whole_is l p s trailers (inl whole) has more ending g read x =
-    one_reading l.limits p.reads (s.used ++ (l.input.items ++ more)) ending read (Reads (Whole s.found trailers (l.input.items ++ more))) (reading l p s more ending read x)
-    (whole_stays l.limits p.reads s.used s.found s.section (l.input.items ++ more) l.reader ending trailers s.has_read whole has)
-whole_is l p s trailers (inr (ended, ends, empty, none)) has more ending g read x =
-    let end = ended_more l.ended more ending ending.Closed ended g in
+    → (more : List ℕ) (last : Option Ending) → GoesOnWith l.ended more last → (read : BodyRead) → BodyTaken l p more last read → read ≡ Reads (Whole s.found trailers (l.input.items ++ more))
+whole_is l p s trailers (inl whole) has more last g read x =
+    one_reading l.limits p.reads (s.used ++ (l.input.items ++ more)) last read (Reads (Whole s.found trailers (l.input.items ++ more))) (reading l p s more last read x)
+    (whole_stays l.limits p.reads s.used s.found s.section (l.input.items ++ more) l.reader last trailers s.has_read whole has)
+whole_is l p s trailers (inr (ended, ends, empty, none)) has more last g read x =
+    let end = ended_more l.ended more last ending.Closed ended g in
     let closed = closed_whole l.reader ends l.limits p.reads s.used s.found s.section s.has_read in
     let same : closed.0 ≡ trailers = no_trailers s.section closed.0 none closed.1 ∙ sym (no_trailers s.section trailers none has) in
     let nothing : l.input.items ++ more ≡ [] = ap (λ (b : List ℕ). b ++ more) empty ∙ end.0 in
     let here : IsBodyOf l.limits p.reads s.used (Some ending.Closed) read =
     subst (λ (bytes : List ℕ). IsBodyOf l.limits p.reads bytes (Some ending.Closed) read) (ap (λ (b : List ℕ). s.used ++ b) nothing ∙ append-nil s.used)
-    (subst (λ (e : Option Ending). IsBodyOf l.limits p.reads (s.used ++ (l.input.items ++ more)) e read) end.1 (reading l p s more ending read x)) in
+    (subst (λ (e : Option Ending). IsBodyOf l.limits p.reads (s.used ++ (l.input.items ++ more)) e read) end.1 (reading l p s more last read x)) in
     one_reading l.limits p.reads s.used (Some ending.Closed) read (Reads (Whole s.found closed.0 [])) here closed.2
     ∙ ap (λ (ts : List Field). Reads (Whole s.found ts [])) same ∙ ap (λ (b : List ℕ). Reads (Whole s.found trailers b)) (sym nothing)
 
@@ -408,4 +408,3 @@ no_cut_shown l p st e (Waits going ended waits more still) =
     either : (read : BodyRead) (found : List ℕ) → body_in read ≡ found → (read ≡ More found) ⊎ InSection l → (read ≡ More (body_in read)) ⊎ InSection l
     either read found body (inl is) = inl (is ∙ ap More (sym body))
     either read found body (inr section) = inr section
-

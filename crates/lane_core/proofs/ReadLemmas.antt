@@ -148,13 +148,13 @@ pub further : (l : Lane) (p : Past) (passed piece : List ℕ) (msg : List Block)
     → CarriesFront l.writer p.sent (p.sent.given ++ (passed ++ piece)) (put_out l p) l.out.blocks msg
 further l p passed piece msg c = subst (λ (b : List ℕ). CarriesFront l.writer p.sent b (put_out l p) l.out.blocks msg) (append_assoc p.sent.given passed piece) c
 
-sections : (l : Lane) (p : Past) (s : Sends l p) → l.source ≡ source.Going → l.sieve ≡ None → s.section ≡ []
-sections l p s going none = sends_section l p s going (none_rests l.sieve none)
+open_section : (l : Lane) (p : Past) (s : Sends l p) → l.source ≡ source.Going → l.sieve ≡ None → s.section ≡ []
+open_section l p s going none = sends_section l p s going (none_rests l.sieve none)
 
 has_read_on : (l : Lane) (p : Past) (input : Buffer ℕ) (reader : BodyReader) (msg : Contents) (used : ℕ) (st : BodyState) (r : Reads l input reader msg used st) (s : Sends l p)
     → HasRead l.limits p.reads (s.used ++ r.pulls.used) (s.found ++ r.pulls.piece) r.pulls.section reader
 has_read_on l p input reader msg used st r s =
-    subst (λ (xs : List ℕ). HasRead l.limits p.reads (s.used ++ r.pulls.used) (s.found ++ r.pulls.piece) (xs ++ r.pulls.section) reader) (sections l p s r.going r.none)
+    subst (λ (xs : List ℕ). HasRead l.limits p.reads (s.used ++ r.pulls.used) (s.found ++ r.pulls.piece) (xs ++ r.pulls.section) reader) (open_section l p s r.going r.none)
     (r.pulls.reads l.limits p.reads s.used s.found s.section s.has_read)
 
 passed_on : (l : Lane) (p : Past) (s : Sends l p) → l.sieve ≡ None → (piece : List ℕ) → HasPassed l.sieve p.filters (s.found ++ piece) (s.passed ++ piece)
@@ -197,7 +197,7 @@ sends_whole l p input reader msg used st r is s =
     let says : StateTells l.limits p.reads (s.used ++ x.used) (s.found ++ x.piece) x.section state.Whole =
     subst (λ (t : BodyState). StateTells l.limits p.reads (s.used ++ x.used) (s.found ++ x.piece) x.section t) (sym x.told ∙ is)
     (told l.limits p.reads (s.used ++ x.used) (s.found ++ x.piece) x.section reader read) in
-    let before : HasRead l.limits p.reads s.used s.found [] l.reader = subst (λ (xs : List ℕ). HasRead l.limits p.reads s.used s.found xs l.reader) (sections l p s r.going r.none) s.has_read in
+    let before : HasRead l.limits p.reads s.used s.found [] l.reader = subst (λ (xs : List ℕ). HasRead l.limits p.reads s.used s.found xs l.reader) (open_section l p s r.going r.none) s.has_read in
     let part = whole_part x.section x.piece says.0 msg.blocks (x.plain (wide l p s)) (λ some. x.ended l.limits p.reads s.used s.found says.0 before s.sized.msg some says.1) says.1 in
     let passes = passed_on l p s r.none x.piece in
     record {

@@ -36,7 +36,7 @@ use Rattle.lane_core.specs.Carried.{Carried, CarriesFront, Carries}
 use Rattle.lane_core.specs.Coming.{ComesTo, Comes, ComesBy, Given, EndsWith, SameEnd, IsCutNow, came_at, idle_at}
 use Rattle.lane_core.specs.Filtering.{HasPassed, AreThese, SieveFits, SieveRests, IsWholeAt, EndsAt, GoesOnBy, CutBy, Broken, RefusedNow, RefusedWhole, held_left}
 use Rattle.lane_core.specs.Sent.{Sent, message_of}
-use Rattle.lane_core.specs.Sends.{Past, Sends, SourceIs, put_out, is_going, end_left, reads_left}
+use Rattle.lane_core.specs.Sends.{Past, Sends, SourceIs, IsSized, Keeps, put_out, is_going, end_left, reads_left}
 use Rattle.lane_core.specs.declared.sift.Came.{Came}
 use Rattle.lane_core.specs.declared.sift.Came.TheVariants as came
 use Rattle.lane_core.specs.declared.stage.Source.{Source}
@@ -48,7 +48,7 @@ use Rattle.lane_core.proofs.SendLemmas.{sends_goes}
 
 -- ---- what a step comes to
 
-given_of : (filters : List FilterSpec) (found passed : List ℕ) (old new : Sieve) (answer : Sifted) (blocks : List Block) (x : Sifts old new answer blocks) → section_in new ≡ section_in old → HasSieved filters found passed old
+abbrev given_of : (filters : List FilterSpec) (found passed : List ℕ) (old new : Sieve) (answer : Sifted) (blocks : List Block) (x : Sifts old new answer blocks) → section_in new ≡ section_in old → HasSieved filters found passed old
     → Given filters found passed old new blocks
 given_of filters found passed old new answer blocks x section has = record { piece = x.piece; put = x.put; sieved = x.sieved filters found passed has; section = section }
 
@@ -128,8 +128,7 @@ pub waits_left : (size : ℕ) (old new : Option Sieve) (blocks : List Block) →
     → SieveRests new × (blocks ≡ []) × (end_left source.Going new ≤ end_left source.Going old)
 waits_left size None new blocks x these = (subst SieveRests (sym x.0) tt, x.2, subst (λ (o : Option Sieve). end_left source.Going o ≤ 1) (sym x.0) (omega arith))
 waits_left size (Some old) new blocks x (filters, (found, passed, has)) =
-    let t = x.2 filters found passed has in
-    (
+    let t = x.2 filters found passed has in (
       subst SieveRests (sym x.1) (t.2, t.3),
       t.0,
       subst (λ (o : Option Sieve). end_left source.Going o ≤ is_open (end_of old)) (sym x.1) (subst (λ (b : BodyEnd). is_open b ≤ is_open (end_of old)) (sym t.4) (omega arith)),
@@ -274,10 +273,13 @@ sends_ended (Some old) source.Whole l p sieve msg is x s =
     sends_as l p sieve msg (came.Ends source.Whole) source.Whole s.passed x s
     (subst (λ (o : Option Sieve). HasPassed o p.filters s.found s.passed) (sym c.1) (subst (λ (v : Sieve). HasSieved p.filters s.found s.passed v) (sym t.1) has))
     (whole, at.2)
-    (λ d. (let f = carried l p s x.going x.empty d in
-        (trailers.0, trailers.1, subst (λ (b : List ℕ). Carried l.writer p.sent (put_out l p) l.out.blocks msg.blocks (message_blocks (message_of p.sent b trailers.0))) (append-nil (p.sent.given ++ s.passed))
-            (read_last l.writer p.sent (p.sent.given ++ s.passed) [] (put_out l p) l.out.blocks msg.blocks trailers.0 f (inr (put, refl))),
-        λ e. let both : true ≡ false = sym e ∙ f.0 in absurd (cc both))))
+    (λ d. (let f = carried l p s x.going x.empty d in (
+      trailers.0,
+      trailers.1,
+      subst (λ (b : List ℕ). Carried l.writer p.sent (put_out l p) l.out.blocks msg.blocks (message_blocks (message_of p.sent b trailers.0))) (append-nil (p.sent.given ++ s.passed))
+          (read_last l.writer p.sent (p.sent.given ++ s.passed) [] (put_out l p) l.out.blocks msg.blocks trailers.0 f (inr (put, refl))),
+      λ e. let both : true ≡ false = sym e ∙ f.0 in absurd (cc both),
+    )))
 sends_ended (Some old) (source.Cut code) l p sieve msg is x s =
     let c : ComesBy (came.Ends (source.Cut code)) l.msg.size (Some old) sieve msg.blocks = subst (λ (o : Option Sieve). ComesBy (came.Ends (source.Cut code)) l.msg.size o sieve msg.blocks) is x.comes in
     let has : HasSieved p.filters s.found s.passed old = subst (λ (o : Option Sieve). HasPassed o p.filters s.found s.passed) is s.has_passed in
@@ -321,3 +323,53 @@ nothing_passes (filter ∷ filters) false =
 
 pub nothing_over : (filters : List FilterSpec) → filtered filters true [] ≡ record { output = []; state = fed.Over }
 nothing_over filters = nothing_passes filters true
+
+-- ---- the lane behind a step
+
+pub step_sized : (l : Lane) (sieve : Option Sieve) (msg : Contents) (answer : Came) (src : Source) → Steps l sieve msg answer → IsSized l → IsSized (after_sift l sieve msg src)
+step_sized l sieve msg answer src x z = record {
+  least = z.least;
+  msg = x.size ∙ z.msg;
+  out = z.out;
+  input = z.input;
+  output = z.output;
+  sieve = subst (λ (n : ℕ). SieveFits n sieve) z.msg x.fits;
+  filters = (z.filters.0, these_on answer l.msg.size l.sieve sieve msg.blocks x.comes z.filters.0 z.filters.1);
+}
+
+pub step_keeps : (l : Lane) (sieve : Option Sieve) (msg : Contents) (answer : Came) (src : Source) → Steps l sieve msg answer → Keeps l (after_sift l sieve msg src)
+step_keeps l sieve msg answer src x = record {
+  limits = refl;
+  ended = refl;
+  stage = refl;
+  dropped = refl;
+  capacity = refl;
+  input_capacity = refl;
+  shrinks = omega arith;
+  filters = these_on answer l.msg.size l.sieve sieve msg.blocks x.comes;
+}
+
+pub step_more : (l : Lane) (sieve : Option Sieve) (msg : Contents) → Steps l sieve msg came.More → IsSized l
+    → (held_left sieve + is_going l.source < held_left l.sieve + is_going l.source) × (reads_left (after_sift l sieve msg l.source) ≤ reads_left l)
+step_more l sieve msg x z =
+    let m = more_left l.msg.size l.sieve sieve msg.blocks x.comes z.filters in
+    let less = m.0 in
+    let within : end_left l.source sieve ≤ end_left l.source l.sieve = subst (λ (src : Source). end_left src sieve ≤ end_left src l.sieve) (sym x.going) m.1 in
+    (omega arith, omega arith)
+
+pub step_waits : (l : Lane) (sieve : Option Sieve) (msg : Contents) → Steps l sieve msg came.Waits → IsSized l
+    → SieveRests sieve × (msg.blocks ≡ []) × (reads_left (after_sift l sieve msg l.source) ≤ reads_left l)
+step_waits l sieve msg x z =
+    let m = waits_left l.msg.size l.sieve sieve msg.blocks x.comes z.filters in
+    let within : end_left l.source sieve ≤ end_left l.source l.sieve = subst (λ (src : Source). end_left src sieve ≤ end_left src l.sieve) (sym x.going) m.2 in
+    (m.0, m.1, omega arith)
+
+pub step_ends : (l : Lane) (sieve : Option Sieve) (msg : Contents) (src : Source) → Steps l sieve msg (came.Ends src) → IsSized l
+    → (held_left sieve + is_going src < held_left l.sieve + is_going l.source) × (reads_left (after_sift l sieve msg src) ≤ reads_left l)
+step_ends l sieve msg src x z =
+    let m = ends_left src l.msg.size l.sieve sieve msg.blocks x.comes z.filters in
+    let less = m.0 in
+    let none = m.1 in
+    let no_end = m.2 in
+    let one : is_going l.source ≡ 1 = ap is_going x.going in
+    (omega arith, omega arith)

@@ -16,14 +16,14 @@ use Rattle.lane_core.specs.Pulled.{IsWaiting}
 use Rattle.lane_core.specs.Filtering.{AreThese, GoesOnBy}
 
 -- bytes left the window; their data, and the section among them, are these
-pub record Holds (old new : BodyReader) (before after piece section : List ℕ) (used_any : ℕ) (state : BodyState) : Type 0 where
+pub record Holds (old new : BodyReader) (before after piece section : List ℕ) (used_any : ℕ) (st : BodyState) : Type 0 where
   pub used : List ℕ
   pub window : before ≡ used ++ after
   pub count : length used ≡ used_any
   pub nothing : used_any ≡ 0 → piece ≡ []
   pub reads : (limits : Limits) (framing : Framing) (bytes found read : List ℕ) → HasRead limits framing bytes found read old
       → HasRead limits framing (bytes ++ used) (found ++ piece) (read ++ section) new
-  pub told : state ≡ state_of new
+  pub told : st ≡ state_of new
   pub waits : (limits : Limits) (framing : Framing) (bytes found read : List ℕ) → HasRead limits framing bytes found read old → used_any ≡ 0 → IsWaiting new after
 
 -- an end of the stream makes of an open body one that is whole or cut

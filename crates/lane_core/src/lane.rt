@@ -5,6 +5,7 @@ mod carry;
 mod dropping;
 mod heads;
 mod read;
+mod telling;
 
 use crate::stage::{Source, Stage};
 use body_sieve::Sieve;

@@ -33,6 +33,7 @@ impl Lane {
         ensures leads { Leads self.old self.new }
         ensures grows { (put : List ℕ) × (self.new.output.items ≡ self.old.output.items ++ put) }
         ensures same { (self.new.msg ≡ self.old.msg) × (self.new.input ≡ self.old.input) × (self.new.source ≡ self.old.source) × (self.new.reader ≡ self.old.reader) }
+        ensures sieve { self.new.sieve ≡ self.old.sieve }
         ensures sized { IsSized self.old → IsSized self.new }
         ensures empties { length self.new.output.items < self.new.output.capacity → self.new.out.blocks ≡ [] }
         ensures rests { length self.new.output.items < self.new.output.capacity → IsEven self.new.writer }
@@ -49,6 +50,7 @@ impl Lane {
         ensures keeps { Keeps self.old self.new }
         ensures leads { Leads self.old self.new }
         ensures same { (self.new.output ≡ self.old.output) × (self.new.input ≡ self.old.input) × (self.new.source ≡ self.old.source) × (self.new.reader ≡ self.old.reader) × (self.new.writer ≡ self.old.writer) }
+        ensures sieve { self.new.sieve ≡ self.old.sieve }
         ensures all { self.new.msg.blocks ≡ [] }
         ensures sized { IsSized self.new }
     {

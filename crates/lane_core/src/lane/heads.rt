@@ -84,6 +84,7 @@ impl Lane {
         requires { IsReading side self.old }
         ensures tells { HeadTells side self.old self.new result }
         ensures same { (self.new.limits ≡ self.old.limits) × (self.new.ended ≡ self.old.ended) }
+        ensures sieve { self.new.sieve ≡ self.old.sieve }
         ensures still { (self.new.output ≡ self.old.output) × (self.new.out ≡ self.old.out) × (self.new.dropped ≡ self.old.dropped) }
     {
         let whole = self.ended.is_some();
@@ -122,6 +123,7 @@ impl Lane {
         requires { IsReading side self.old }
         ensures tells { HeadTells side self.old self.new result }
         ensures same { (self.new.limits ≡ self.old.limits) × (self.new.ended ≡ self.old.ended) }
+        ensures sieve { self.new.sieve ≡ self.old.sieve }
         ensures still { (self.new.output ≡ self.old.output) × (self.new.out ≡ self.old.out) × (self.new.dropped ≡ self.old.dropped) }
     {
         if self.is_early() {

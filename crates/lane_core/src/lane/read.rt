@@ -35,7 +35,8 @@ impl Lane {
         ensures same { (self.new.output ≡ self.old.output) × (self.new.input ≡ self.old.input) × (self.new.msg ≡ self.old.msg) × (self.new.out ≡ self.old.out) × (self.new.reader ≡ self.old.reader) × (self.new.writer ≡ self.old.writer) }
         ensures source { result ≡ false → (self.new.source ≡ self.old.source) × (self.old.ended ≡ None) }
         ensures met { result ≡ true → self.new.source ≢ source.Going }
-        ensures leads { (p : Past) → Sends self.old p → self.old.source ≡ source.Going → IsWaiting self.old.reader self.old.input.items → state_of self.old.reader ≡ state.More → Sends self.new p }
+        ensures sieve { self.new.sieve ≡ self.old.sieve }
+        ensures leads { (p : Past) → Sends self.old p → self.old.source ≡ source.Going → self.old.sieve ≡ None → IsWaiting self.old.reader self.old.input.items → state_of self.old.reader ≡ state.More → Sends self.new p }
     {
         match self.ended {
             None => false,
@@ -60,6 +61,7 @@ impl Lane {
         ensures leads { (p : Past) → Sends self.old p → self.old.source ≡ source.Going → Sends self.new p }
         ensures nearer { self.old.source ≡ source.Going → result ≡ true → reads_left self.new < reads_left self.old }
         ensures waits { (p : Past) → Sends self.old p → self.old.source ≡ source.Going → result ≡ false → (self.new.source ≡ self.old.source) × (self.new.ended ≡ None) × IsWaiting self.new.reader self.new.input.items × (state_of self.new.reader ≡ state.More) }
+        ensures sieve { self.new.sieve ≡ self.old.sieve }
         ensures sized { IsSized self.old → IsSized self.new }
         ensures empty { (p : Past) → Sends self.old p → self.old.source ≡ source.Going → result ≡ false → self.new.msg.blocks ≡ [] }
     {

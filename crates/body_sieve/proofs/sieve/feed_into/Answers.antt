@@ -17,8 +17,7 @@ returns-clause-feeds c =
     let wide = c.requires.wide in
     let within = e.given in
     let all : taken [] size piece ≡ length piece = takes_all piece size (omega arith) in
-    let n : c.add_data.result ≡ length piece = c.add_data.ensures.taken ∙ ap (λ (bs : List Block). taken bs size piece) c.requires.empty ∙ all in
-    (
+    let n : c.add_data.result ≡ length piece = c.add_data.ensures.taken ∙ ap (λ (bs : List Block). taken bs size piece) c.requires.empty ∙ all in (
       piece,
       record {
         count = count;

@@ -25,11 +25,12 @@ returns-then-show_on-clause-answers c =
           let shown = shows_more c.args.self.now.lane c.show_on.new.self p h.0 g same c.show_on.ensures.sound in
           let whole = shown_all c.show_on.new.self (with_put p g.put) shown (sym c.show_on.ensures.done ∙ c.if-show_on.true) in
           let msg : flow c.hide.new.self.msg.blocks ≡ front_blocks h.3.0 h.3.1 = ap (λ (l : Lane). flow l.msg.blocks) (c.hide.ensures.same ∙ ap (λ (l : Lane). record l { out = c.hide.new.self.out }) same) ∙ h.3.3 in
+          let sized = (c.hide.ensures.sound (c.show_on.ensures.sound c.requires.sound.sound)).sized in
           let limits = c.say_msg.ensures.same.4 ∙ ap (λ (l : Lane). l.limits) c.hide.ensures.same ∙ ap (λ (l : Lane). l.limits) same in
           let ended = c.say_msg.ensures.same.1 ∙ ap (λ (l : Lane). l.ended) c.hide.ensures.same ∙ ap (λ (l : Lane). l.ended) same in
           let kept = c.say_msg.ensures.same.3 ∙ ap (λ (l : Lane). l.dropped) c.hide.ensures.same ∙ ap (λ (l : Lane). l.dropped) same ∙ c.requires.sound.kept in
           subst (λ (b : Bool). Answers (made c.say_msg.new.self phase.Answering b) (with_put p g.put)) (sym none)
-          (turned c.hide.new.self c.say_msg.new.self (with_put p g.put) h.3.0 h.3.1 c.args.no_body h.3.2 (c.say_msg.ensures.stands h.3.0 h.3.1 msg) c.say_msg.ensures.sound kept c.say_msg.ensures.stage.0
+          (turned c.hide.new.self c.say_msg.new.self (with_put p g.put) sized.filters.0 h.3.0 h.3.1 c.args.no_body h.3.2 (c.say_msg.ensures.stands sized.filters.0 h.3.0 h.3.1 sized.filters.1 msg) c.say_msg.ensures.sound kept c.say_msg.ensures.stage.0
           c.say_msg.ensures.same.2 h.2.0 (came_same c.args.self.now.lane c.say_msg.new.self (record { limits = limits; ended = ended }) p.asked p.read p.bytes h.2.0 h.2.1) whole)));
     }
 
@@ -41,11 +42,12 @@ returns-then-show_on-clause-no_stall c = λ p a e. c.answer_on.ensures.no_stall 
     let shown = shows_more c.args.self.now.lane c.show_on.new.self p h.0 g same c.show_on.ensures.sound in
     let whole = shown_all c.show_on.new.self (with_put p g.put) shown (sym c.show_on.ensures.done ∙ c.if-show_on.true) in
     let msg : flow c.hide.new.self.msg.blocks ≡ front_blocks h.3.0 h.3.1 = ap (λ (l : Lane). flow l.msg.blocks) (c.hide.ensures.same ∙ ap (λ (l : Lane). record l { out = c.hide.new.self.out }) same) ∙ h.3.3 in
+    let sized = (c.hide.ensures.sound (c.show_on.ensures.sound c.requires.sound.sound)).sized in
     let limits = c.say_msg.ensures.same.4 ∙ ap (λ (l : Lane). l.limits) c.hide.ensures.same ∙ ap (λ (l : Lane). l.limits) same in
     let ended = c.say_msg.ensures.same.1 ∙ ap (λ (l : Lane). l.ended) c.hide.ensures.same ∙ ap (λ (l : Lane). l.ended) same in
     let kept = c.say_msg.ensures.same.3 ∙ ap (λ (l : Lane). l.dropped) c.hide.ensures.same ∙ ap (λ (l : Lane). l.dropped) same ∙ c.requires.sound.kept in
     subst (λ (b : Bool). Answers (made c.say_msg.new.self phase.Answering b) (with_put p g.put)) (sym none)
-    (turned c.hide.new.self c.say_msg.new.self (with_put p g.put) h.3.0 h.3.1 c.args.no_body h.3.2 (c.say_msg.ensures.stands h.3.0 h.3.1 msg) c.say_msg.ensures.sound kept c.say_msg.ensures.stage.0
+    (turned c.hide.new.self c.say_msg.new.self (with_put p g.put) sized.filters.0 h.3.0 h.3.1 c.args.no_body h.3.2 (c.say_msg.ensures.stands sized.filters.0 h.3.0 h.3.1 sized.filters.1 msg) c.say_msg.ensures.sound kept c.say_msg.ensures.stage.0
     c.say_msg.ensures.same.2 h.2.0 (came_same c.args.self.now.lane c.say_msg.new.self (record { limits = limits; ended = ended }) p.asked p.read p.bytes h.2.0 h.2.1) whole)) e
 
 pub returns-else-show_on-clause-answers : goal.returns-else-show_on-clause-answers
