@@ -31,8 +31,8 @@ use Rattle.lane_core.specs.declared.stage.Stage.TheVariants as stage
 use Rattle.lane_core.specs.declared.stage.Stage.{Stage}
 use Rattle.lane_core.specs.declared.stage.Source.TheVariants as source
 use Rattle.lane_core.specs.declared.lane.Lane.{Lane}
-use Rattle.lane.specs.declared.response_lane.Phase.{Phase}
-use Rattle.lane.specs.declared.response_lane.Phase.TheVariants as phase
+use Rattle.lane.specs.declared.phase.Phase.{Phase}
+use Rattle.lane.specs.declared.phase.Phase.TheVariants as phase
 use Rattle.lane.specs.declared.response_lane.ResponseLane.{ResponseLane}
 
 -- ---- what came

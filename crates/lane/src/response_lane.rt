@@ -10,10 +10,11 @@ ghost use Rattle.body_filter.specs.Valid.{AreFilters};
 ghost use Rattle.body_filter.specs.declared.filter_spec.FilterSpec.{FilterSpec};
 ghost use Rattle.http_model.specs.Head.{front_blocks};
 ghost use Rattle.lane.specs.Answering.{Exchange, Answers, HeadComes, PutsOut, is_interim, IsOpen, with_bytes, with_put, passes, drops, serves, replies, fresh, IsSoundAnswer, MayGoOn, HasFilters, shows_head};
-ghost use Rattle.lane.specs.declared.response_lane.Phase.TheVariants as phase;
+ghost use Rattle.lane.specs.declared.phase.Phase.TheVariants as phase;
 ghost use Rattle.lane_core.specs.declared.stage.Stage.TheVariants as stage;
 ghost use Rattle.lane_core.specs.declared.stage.Source.TheVariants as source;
 
+use crate::phase::Phase;
 use body_filter::FilterSpec;
 use h1_head::Side;
 use header_ops::laws::edits_of_heads;
@@ -22,19 +23,6 @@ use htx_arena::Arena;
 use htx_model::OutOfMemory;
 use lane_core::{Lane, LaneHead, Source, Stage};
 use std::alloc::Global;
-
-/// What is put out.
-#[derive(Clone, Copy, Debug, PartialEq, Eq)]
-pub enum Phase {
-    /// Nothing: heads are read.
-    Heads,
-    /// An interim head, behind which heads are read on.
-    Passing,
-    /// An interim head, and then what stands in the first array in the answer's place.
-    Turning { no_body: bool },
-    /// The last that answers.
-    Answering,
-}
 
 /// The direction in which a client is answered.
 #[derive(Drop)]

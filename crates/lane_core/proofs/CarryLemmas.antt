@@ -15,7 +15,8 @@ use Rattle.lane_core.specs.Sent.{Sent, message_of}
 use Rattle.lane_core.specs.Carried.{Carried, CarriesFront, Carries, EndIsOut}
 use Rattle.lane_core.specs.declared.stage.Source.{Source}
 use Rattle.lane_core.specs.declared.stage.Source.TheVariants as source
-use Rattle.lane_core.proofs.FlowLemmas.{head_flow, flow-front, flow-middle, flow_none, none_first, none_second}
+use Rattle.htx_model.proofs.Flows.{flow-front}
+use Rattle.lane_core.proofs.FlowLemmas.{head_flow, flow-middle, flow_none, none_first, none_second}
 
 -- ---- text is put out
 

@@ -7,45 +7,8 @@ use Rattle.htx_model.specs.Blocks.{flow, joined, append_data}
 use Rattle.http_model.specs.Head.{Field, Head, StartLine, head_blocks, header_block, line_block}
 use Rattle.http_model.specs.Head as head
 use Rattle.http_model.specs.Head.{front_blocks, message_blocks, ended_trailers, trailer_block}
-use Rattle.htx_model.proofs.Flows.{flow-append}
+use Rattle.htx_model.proofs.Flows.{flow-append, flow-front}
 use Rattle.h1_body.specs.Trailers as body
-
-joined_twice : (p q : List ℕ) (fs : List Block) → joined (Data p) (joined (Data q) fs) ≡ joined (Data (p ++ q)) fs
-joined_twice p q [] = refl
-joined_twice p q (Data r ∷ fs) = ap (λ (x : List ℕ). Data x ∷ fs) (sym (append_assoc p q r))
-joined_twice p q (RequestLine a b c ∷ fs) = refl
-joined_twice p q (ResponseLine a b c ∷ fs) = refl
-joined_twice p q (Header n v ∷ fs) = refl
-joined_twice p q (EndHeaders ∷ fs) = refl
-joined_twice p q (Trailer n v ∷ fs) = refl
-joined_twice p q (EndTrailers ∷ fs) = refl
-
-data_left : (p : List ℕ) (fs zs : List Block) → flow (joined (Data p) fs ++ zs) ≡ joined (Data p) (flow (fs ++ zs))
-data_left p [] zs = refl
-data_left p (Data q ∷ fs) zs = sym (joined_twice p q (flow (fs ++ zs)))
-data_left p (RequestLine a b c ∷ fs) zs = refl
-data_left p (ResponseLine a b c ∷ fs) zs = refl
-data_left p (Header n v ∷ fs) zs = refl
-data_left p (EndHeaders ∷ fs) zs = refl
-data_left p (Trailer n v ∷ fs) zs = refl
-data_left p (EndTrailers ∷ fs) zs = refl
-
-joined_left : (b : Block) (fs zs : List Block) → flow (joined b fs ++ zs) ≡ joined b (flow (fs ++ zs))
-joined_left (Data p) fs zs = data_left p fs zs
-joined_left (RequestLine a b c) fs zs = refl
-joined_left (ResponseLine a b c) fs zs = refl
-joined_left (Header n v) fs zs = refl
-joined_left EndHeaders fs zs = refl
-joined_left (Trailer n v) fs zs = refl
-joined_left EndTrailers fs zs = refl
-
-flow_flow : (xs zs : List Block) → flow (flow xs ++ zs) ≡ flow (xs ++ zs)
-flow_flow [] zs = refl
-flow_flow (b ∷ xs) zs = joined_left b (flow xs) zs ∙ ap (joined b) (flow_flow xs zs)
-
--- what comes behind does not see the bounds in front
-pub flow-front : (xs ys zs : List Block) → flow xs ≡ flow ys → flow (xs ++ zs) ≡ flow (ys ++ zs)
-flow-front xs ys zs e = sym (flow_flow xs zs) ∙ ap (λ (f : List Block). flow (f ++ zs)) e ∙ flow_flow ys zs
 
 -- in the middle
 pub flow-middle : (before xs ys zs : List Block) → flow xs ≡ flow ys → flow (before ++ (xs ++ zs)) ≡ flow (before ++ (ys ++ zs))

@@ -39,7 +39,8 @@ use Rattle.lane_core.specs.Promise.{Promise, BodyTaken, OnEachBody, GoesOnWith, 
 use Rattle.lane_core.specs.declared.stage.Source.{Source}
 use Rattle.lane_core.specs.declared.stage.Source.TheVariants as source
 use Rattle.lane_core.specs.declared.lane.Lane.{Lane}
-use Rattle.lane_core.proofs.FlowLemmas.{flow-front, front_flow, front_more, front_ended}
+use Rattle.htx_model.proofs.Flows.{flow-front}
+use Rattle.lane_core.proofs.FlowLemmas.{front_flow, front_more, front_ended}
 use Rattle.lane_core.proofs.ReadLemmas.{no_trailers}
 use Rattle.lane_core.proofs.BodyLemmas.{grows, whole_stays, bad_stays, waiting_body, waiting_cut, waiting_open, waiting_not_whole, IsNotWhole}
 use Rattle.lane_core.proofs.SendLemmas.{plain_settled}

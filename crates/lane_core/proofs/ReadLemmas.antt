@@ -28,7 +28,8 @@ use Rattle.h1_write.specs.Spelled.{has_ended}
 use Rattle.http_model.specs.Head.{front_blocks, message_blocks, ended_trailers, trailer_block}
 use Rattle.lane_core.specs.Sent.{Sent, message_of}
 use Rattle.lane_core.specs.Carried.{Carried, CarriesFront, Carries}
-use Rattle.lane_core.proofs.FlowLemmas.{flow-front, front_flow, front_more, front_ended, same_trailers}
+use Rattle.htx_model.proofs.Flows.{flow-front}
+use Rattle.lane_core.proofs.FlowLemmas.{front_flow, front_more, front_ended, same_trailers}
 use Rattle.lane_core.specs.Pulled.{Pulls, IsWaiting}
 use Rattle.lane_core.specs.Sends.{Past, Sends, SourceIs, put_out}
 use Rattle.lane_core.specs.declared.stage.Source.{Source}

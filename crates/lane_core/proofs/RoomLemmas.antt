@@ -19,17 +19,6 @@ use Rattle.htx_xfer.specs.Moved.{payload}
 use Rattle.h1_body.specs.Section.{section_limit, HasTrailers, BeginsFields, is_kept, kept, folded, trailers_of}
 use Rattle.h1_body.specs.Trailers.{trailer_blocks, kept_blocks}
 
--- bytes that fit are all taken
-taken_now : (n : ℕ) (p : List ℕ) (size : ℕ) → nat_le (load (append_data [] (take (suc n) p))) size ≡ true → taken_of (suc n) [] size p ≡ suc n
-taken_now n p size h = ap (λ b. cond b (suc n) (taken_of n [] size p)) h
-
-pub takes_all : (p : List ℕ) (size : ℕ) → length p + 8 ≤ size → taken [] size p ≡ length p
-takes_all [] size fits = refl
-takes_all (x ∷ p) size fits =
-    let all : take (suc (length p)) (x ∷ p) ≡ x ∷ p = take-length (x ∷ p) in
-    let small : load (append_data [] (x ∷ p)) ≤ size = omega arith in
-    taken_now (length p) (x ∷ p) size (ap (λ (q : List ℕ). nat_le (load (append_data [] q)) size) all ∙ le-leb _ _ small)
-
 -- ---- trailers
 
 skipped : (bytes : List ℕ) → length (skip_ows bytes) ≤ length bytes

@@ -147,7 +147,7 @@ whole_open reader ended input section open_ (inr h) = absurd (let both : None �
 
 cut_open : (reader : BodyReader) (ended : Option Ending) (input : List ℕ) → ended ≡ None → IsCutAt reader ended input → state_of reader ≡ state.Bad
 cut_open reader ended input open_ (inl bad) = bad
-cut_open reader ended input open_ (inr (how, is, rest)) = absurd (let both : None ≡ Some how = sym open_ ∙ is in cc both)
+cut_open reader ended input open_ (inr h) = absurd (let both : None ≡ Some h.0 = sym open_ ∙ h.1 in cc both)
 
 ends_open : (e : BodyEnd) (reader : BodyReader) (ended later : Option Ending) (input grown section : List ℕ) → ended ≡ None → EndsAt e reader ended input section → EndsAt e reader later grown section
 ends_open body_end.Open reader ended later input grown section open_ h = h

@@ -46,6 +46,15 @@ fn sieve_of(alloc: Global, filters: &[FilterSpec], size: u32) -> Result<Option<S
     Ok(Some(sieve))
 }
 
+/// Puts bytes that fit behind those in a window.
+fn push_all(input: &mut Window, bytes: &[u8])
+    requires { length input.old.items + length bytes.now ≤ input.old.capacity }
+    ensures items { input.new.items ≡ input.old.items ++ bytes.now }
+    ensures capacity { input.new.capacity ≡ input.old.capacity }
+{
+    input.push(bytes);
+}
+
 /// Begins a new body, where there are filters.
 pub(super) fn reset(sieve: &mut Option<Sieve>)
     ensures passed { (filters : List FilterSpec) → AreThese sieve.old filters → HasPassed sieve.new filters [] [] }
@@ -152,7 +161,7 @@ impl Lane {
         ensures reading { (side : Side) → IsReading side self.old → IsReading side self.new }
         ensures stands { (p : Past) → Stands self.old p → Stands self.new (record p { bytes = p.bytes ++ bytes.now }) }
     {
-        self.input.push(bytes);
+        push_all(&mut self.input, bytes);
     }
 
     /// The stream ends.
