@@ -3,6 +3,8 @@ use Rattle.std.specs.Prelude.{◌≡◌, ◌≢◌, ℕ, ◌<◌, ◌≤◌, ◌
 use Rattle.std.specs.List.{flat_map}
 use Rattle.std.specs.Str.{bytes_eq}
 use Rattle.http_model.specs.declared.Ending.{Ending}
+use Rattle.wire_buf.specs.Buffer.{Buffer}
+use Rattle.htx_model.specs.Block.{Block}
 use Rattle.htx_model.specs.Blocks.{flow}
 use Rattle.http_model.specs.declared.Framing.{Framing}
 use Rattle.http_model.specs.declared.Framing.TheVariants as framing
@@ -29,6 +31,7 @@ use Rattle.lane_core.specs.declared.stage.LaneHead.{LaneHead}
 use Rattle.lane_core.specs.declared.stage.LaneHead.TheVariants as says
 use Rattle.lane_core.specs.declared.stage.Stage.TheVariants as stage
 use Rattle.lane_core.specs.declared.stage.Stage.{Stage}
+use Rattle.lane_core.specs.declared.stage.Source.{Source}
 use Rattle.lane_core.specs.declared.stage.Source.TheVariants as source
 use Rattle.lane_core.specs.declared.lane.Lane.{Lane}
 use Rattle.lane.specs.declared.phase.Phase.{Phase}
@@ -186,6 +189,61 @@ AnswersAt phase.Answering lane p = AnswersLast lane p
 -- the lane stands for this exchange
 abbrev pub Answers : ResponseLane → Exchange → Type 0
 Answers lane p = AnswersAt lane.phase lane p
+
+-- ---- what is seen of it
+
+abbrev pub stage_of : ResponseLane → Stage
+stage_of lane = lane.lane.stage
+
+abbrev pub source_of : ResponseLane → Source
+source_of lane = lane.lane.source
+
+-- the bytes that came and were not used, in their window, and how many it can hold
+abbrev pub input_of : ResponseLane → List ℕ
+input_of lane = lane.lane.input.items
+
+abbrev pub came_in : ResponseLane → Buffer ℕ
+came_in lane = lane.lane.input
+
+abbrev pub most_of : ResponseLane → ℕ
+most_of lane = lane.lane.input.capacity
+
+-- how the stream ended, where it has
+abbrev pub ended_of : ResponseLane → Option Ending
+ended_of lane = lane.lane.ended
+
+-- the text that was put out and not taken, and its window
+abbrev pub output_of : ResponseLane → List ℕ
+output_of lane = lane.lane.output.items
+
+abbrev pub window_of : ResponseLane → Buffer ℕ
+window_of lane = lane.lane.output
+
+abbrev pub limits_of : ResponseLane → Limits
+limits_of lane = lane.lane.limits
+
+-- the blocks on which rules run, and where each lies in its array
+abbrev pub blocks_of : ResponseLane → List Block
+blocks_of lane = lane.lane.msg.blocks
+
+abbrev pub addrs_of : ResponseLane → List ℕ
+addrs_of lane = lane.lane.msg.addrs
+
+abbrev pub framing_of : ResponseLane → Framing
+framing_of lane = lane.lane.framing
+
+abbrev pub declared_of : ResponseLane → Option ℕ
+declared_of lane = lane.lane.declared
+
+abbrev pub close_of : ResponseLane → Bool
+close_of lane = lane.lane.close
+
+-- whether a byte of the last that answers was put out
+abbrev pub has_begun : ResponseLane → Bool
+has_begun lane = lane.begun
+
+abbrev pub phase_of : ResponseLane → Phase
+phase_of lane = lane.phase
 
 -- its bodies go through these filters
 abbrev pub HasFilters : ResponseLane → List FilterSpec → Type 0

@@ -9,10 +9,12 @@ ghost use Rattle.http_model.specs.Sizes.{least_size, most_size, least_head};
 ghost use Rattle.body_filter.specs.Valid.{AreFilters};
 ghost use Rattle.body_filter.specs.declared.filter_spec.FilterSpec.{FilterSpec};
 ghost use Rattle.http_model.specs.Head.{front_blocks};
-ghost use Rattle.lane.specs.Answering.{Exchange, Answers, HeadComes, PutsOut, is_interim, IsOpen, with_bytes, with_put, passes, drops, serves, replies, fresh, IsSoundAnswer, MayGoOn, HasFilters, shows_head};
+ghost use Rattle.lane.specs.Answering.{Exchange, Answers, HeadComes, PutsOut, is_interim, IsOpen, with_bytes, with_put, passes, drops, serves, replies, fresh, IsSoundAnswer, MayGoOn, HasFilters, shows_head, stage_of, source_of, input_of, came_in, most_of, ended_of, output_of, window_of, limits_of, blocks_of, addrs_of, framing_of, declared_of, close_of, has_begun, phase_of};
 ghost use Rattle.lane.specs.declared.phase.Phase.TheVariants as phase;
 ghost use Rattle.lane_core.specs.declared.stage.Stage.TheVariants as stage;
 ghost use Rattle.lane_core.specs.declared.stage.Source.TheVariants as source;
+
+mod views;
 
 use crate::phase::Phase;
 use body_filter::FilterSpec;
@@ -50,7 +52,7 @@ impl ResponseLane {
         requires valid { AreFilters filters.now }
         ensures filters { IfOk result (λ lane. HasFilters lane filters.now) }
         ensures fresh { IfOk result (λ lane. (asked : Bool) → Answers lane (fresh asked)) }
-        ensures reading { IfOk result (λ lane. lane.lane.stage ≡ stage.Reading) }
+        ensures reading { IfOk result (λ lane. stage_of lane ≡ stage.Reading) }
         ensures sound { IfOk result IsSoundAnswer }
     {
         Ok(ResponseLane {
@@ -60,54 +62,12 @@ impl ResponseLane {
         })
     }
 
-    /// Where the lane stands.
-    pub fn stage(&self) -> Stage
-        ensures { result ≡ self.now.lane.stage }
-    {
-        self.lane.stage()
-    }
-
-    /// Where the body stands.
-    pub fn source(&self) -> Source
-        ensures { result ≡ self.now.lane.source }
-    {
-        self.lane.source()
-    }
-
-    /// Whether a byte of the last that answers was put out.
-    pub fn begun(&self) -> bool
-        ensures { result ≡ self.now.begun }
-    {
-        self.begun
-    }
-
-    /// How many bytes can be taken.
-    pub fn room(&self) -> usize
-        ensures { result + length self.now.lane.input.items ≡ self.now.lane.input.capacity }
-    {
-        self.lane.room()
-    }
-
-    /// How the body of the head that stands in the array is framed.
-    pub fn framing(&self) -> Framing
-        ensures { result ≡ self.now.lane.framing }
-    {
-        self.lane.framing()
-    }
-
-    /// The length that a field of that head declared.
-    pub fn declared(&self) -> Option<u64>
-        ensures { result ≡ self.now.lane.declared }
-    {
-        self.lane.declared()
-    }
-
     /// Bytes of the server's stream come.
     pub fn take(&mut self, bytes: &[u8])
         requires open { IsOpen self.old }
-        requires room { length self.old.lane.input.items + length bytes.now ≤ self.old.lane.input.capacity }
+        requires room { length (input_of self.old) + length bytes.now ≤ most_of self.old }
         ensures answers { (p : Exchange) → Answers self.old p → Answers self.new (with_bytes p bytes.now) }
-        ensures same { (self.new.lane.stage ≡ self.old.lane.stage) × (self.new.lane.output ≡ self.old.lane.output) × (self.new.begun ≡ self.old.begun) }
+        ensures same { (stage_of self.new ≡ stage_of self.old) × (window_of self.new ≡ window_of self.old) × (has_begun self.new ≡ has_begun self.old) }
         ensures sound { IsSoundAnswer self.old → IsSoundAnswer self.new }
         ensures filters { (filters : List FilterSpec) → HasFilters self.old filters → HasFilters self.new filters }
     {
@@ -118,7 +78,7 @@ impl ResponseLane {
     pub fn end(&mut self, how: Ending)
         requires { IsOpen self.old }
         ensures answers { (p : Exchange) → Answers self.old p → Answers self.new p }
-        ensures same { (self.new.lane.stage ≡ self.old.lane.stage) × (self.new.lane.output ≡ self.old.lane.output) × (self.new.begun ≡ self.old.begun) }
+        ensures same { (stage_of self.new ≡ stage_of self.old) × (window_of self.new ≡ window_of self.old) × (has_begun self.new ≡ has_begun self.old) }
         ensures sound { IsSoundAnswer self.old → IsSoundAnswer self.new }
         ensures filters { (filters : List FilterSpec) → HasFilters self.old filters → HasFilters self.new filters }
     {
@@ -128,9 +88,9 @@ impl ResponseLane {
     /// Reads the next head of the server. A stream that ended without one is refused.
     pub fn read_head(&mut self, head_asked: bool) -> LaneHead
         requires sound { IsSoundAnswer self.old }
-        requires reading { self.old.lane.stage ≡ stage.Reading }
+        requires reading { stage_of self.old ≡ stage.Reading }
         ensures comes { (p : Exchange) → Answers self.old p → p.asked ≡ head_asked → HeadComes p self.new result }
-        ensures same { (self.new.lane.output ≡ self.old.lane.output) × (self.new.lane.ended ≡ self.old.lane.ended) × (self.new.begun ≡ self.old.begun) }
+        ensures same { (window_of self.new ≡ window_of self.old) × (ended_of self.new ≡ ended_of self.old) × (has_begun self.new ≡ has_begun self.old) }
         ensures sound { IsSoundAnswer self.new }
         ensures filters { (filters : List FilterSpec) → HasFilters self.old filters → HasFilters self.new filters }
     {
@@ -154,11 +114,11 @@ impl ResponseLane {
     /// connection. Then heads are read on.
     pub fn pass(&mut self)
         requires sound { IsSoundAnswer self.old }
-        requires head { self.old.lane.stage ≡ stage.Head }
-        ensures answers { (p : Exchange) (got : Received) → Answers self.old p → p.pending ≡ Some got → is_interim got.head ≡ true → self.old.lane.msg.blocks ≡ head_blocks got.head
+        requires head { stage_of self.old ≡ stage.Head }
+        ensures answers { (p : Exchange) (got : Received) → Answers self.old p → p.pending ≡ Some got → is_interim got.head ≡ true → blocks_of self.old ≡ head_blocks got.head
             → Answers self.new (passes p got) }
-        ensures stage { self.new.lane.stage ≡ stage.Sending }
-        ensures same { (self.new.lane.output ≡ self.old.lane.output) × (self.new.lane.ended ≡ self.old.lane.ended) × (self.new.begun ≡ self.old.begun) }
+        ensures stage { stage_of self.new ≡ stage.Sending }
+        ensures same { (window_of self.new ≡ window_of self.old) × (ended_of self.new ≡ ended_of self.old) × (has_begun self.new ≡ has_begun self.old) }
         ensures sound { IsSoundAnswer self.new }
         ensures filters { (filters : List FilterSpec) → HasFilters self.old filters → HasFilters self.new filters }
     {
@@ -171,10 +131,10 @@ impl ResponseLane {
     /// The interim head that stands in the array goes nowhere.
     pub fn drop_head(&mut self)
         requires sound { IsSoundAnswer self.old }
-        requires head { self.old.lane.stage ≡ stage.Head }
+        requires head { stage_of self.old ≡ stage.Head }
         ensures answers { (p : Exchange) (got : Received) → Answers self.old p → p.pending ≡ Some got → is_interim got.head ≡ true → Answers self.new (drops p got) }
-        ensures stage { self.new.lane.stage ≡ stage.Reading }
-        ensures same { (self.new.lane.output ≡ self.old.lane.output) × (self.new.lane.ended ≡ self.old.lane.ended) × (self.new.begun ≡ self.old.begun) }
+        ensures stage { stage_of self.new ≡ stage.Reading }
+        ensures same { (window_of self.new ≡ window_of self.old) × (ended_of self.new ≡ ended_of self.old) × (has_begun self.new ≡ has_begun self.old) }
         ensures sound { IsSoundAnswer self.new }
         ensures filters { (filters : List FilterSpec) → HasFilters self.old filters → HasFilters self.new filters }
     {
@@ -185,10 +145,10 @@ impl ResponseLane {
     /// The head that stands in the array is put out as the last that answers, and the body behind it in this framing.
     pub fn send(&mut self, framing: Framing, no_body: bool)
         requires sound { IsSoundAnswer self.old }
-        requires head { self.old.lane.stage ≡ stage.Head }
-        ensures answers { (p : Exchange) (filters : List FilterSpec) (head : Head) → Answers self.old p → HasFilters self.old filters → self.old.lane.msg.blocks ≡ head_blocks head → Answers self.new (serves p filters head framing no_body) }
-        ensures stage { self.new.lane.stage ≡ stage.Sending }
-        ensures same { (self.new.lane.output ≡ self.old.lane.output) × (self.new.lane.ended ≡ self.old.lane.ended) × (self.new.begun ≡ self.old.begun) }
+        requires head { stage_of self.old ≡ stage.Head }
+        ensures answers { (p : Exchange) (filters : List FilterSpec) (head : Head) → Answers self.old p → HasFilters self.old filters → blocks_of self.old ≡ head_blocks head → Answers self.new (serves p filters head framing no_body) }
+        ensures stage { stage_of self.new ≡ stage.Sending }
+        ensures same { (window_of self.new ≡ window_of self.old) × (ended_of self.new ≡ ended_of self.old) × (has_begun self.new ≡ has_begun self.old) }
         ensures sound { IsSoundAnswer self.new }
         ensures filters { (filters : List FilterSpec) → HasFilters self.old filters → HasFilters self.new filters }
     {
@@ -200,12 +160,12 @@ impl ResponseLane {
     /// head is put out in front of it, whole.
     pub fn answer(&mut self, list: &mut Arena, no_body: bool)
         requires sound { IsSoundAnswer self.old }
-        requires unbegun { self.old.begun ≡ false }
-        requires fits { Fits list.old.blocks self.old.lane.limits.bufsize }
+        requires unbegun { has_begun self.old ≡ false }
+        requires fits { Fits list.old.blocks (limits_of self.old).bufsize }
         ensures answers { (p : Exchange) (head : Head) (body : List ℕ) → Answers self.old p → list.old.blocks ≡ front_blocks head body → Answers self.new (replies p head body no_body) }
         ensures list { list.new.blocks ≡ [] }
-        ensures stage { (self.new.lane.stage ≡ stage.Sending) × (self.new.lane.source ≡ source.Whole) }
-        ensures same { (self.new.lane.output ≡ self.old.lane.output) × (self.new.lane.ended ≡ self.old.lane.ended) × (self.new.begun ≡ self.old.begun) }
+        ensures stage { (stage_of self.new ≡ stage.Sending) × (source_of self.new ≡ source.Whole) }
+        ensures same { (window_of self.new ≡ window_of self.old) × (ended_of self.new ≡ ended_of self.old) × (has_begun self.new ≡ has_begun self.old) }
         ensures sound { IsSoundAnswer self.new }
         ensures filters { (filters : List FilterSpec) → HasFilters self.old filters → HasFilters self.new filters }
     {
@@ -220,7 +180,7 @@ impl ResponseLane {
 
     /// Whether an interim head is put out.
     fn is_showing(&self) -> bool
-        ensures { result ≡ shows_head self.now.phase }
+        ensures { result ≡ shows_head (phase_of self.now) }
     {
         match self.phase {
             Phase::Heads | Phase::Answering => false,
@@ -231,10 +191,10 @@ impl ResponseLane {
     /// Does all that can be done with what came and what room there is.
     pub fn step(&mut self)
         requires sound { IsSoundAnswer self.old }
-        requires sending { self.old.lane.stage ≡ stage.Sending }
+        requires sending { stage_of self.old ≡ stage.Sending }
         ensures answers { PutsOut self.old self.new }
-        ensures no_stall { (p : Exchange) → Answers self.old p → self.new.lane.stage ≡ stage.Sending → MayGoOn self.new }
-        ensures begun { self.old.begun ≡ true → self.new.begun ≡ true }
+        ensures no_stall { (p : Exchange) → Answers self.old p → stage_of self.new ≡ stage.Sending → MayGoOn self.new }
+        ensures begun { has_begun self.old ≡ true → has_begun self.new ≡ true }
         ensures sound { IsSoundAnswer self.new }
         ensures filters { (filters : List FilterSpec) → HasFilters self.old filters → HasFilters self.new filters }
     {
@@ -249,10 +209,10 @@ impl ResponseLane {
     /// Puts out more of an interim head; heads are read on behind it.
     fn pass_on(&mut self)
         requires sound { IsSoundAnswer self.old }
-        requires at { self.old.phase ≡ phase.Passing }
+        requires at { phase_of self.old ≡ phase.Passing }
         ensures answers { PutsOut self.old self.new }
-        ensures no_stall { (p : Exchange) → Answers self.old p → self.new.lane.stage ≡ stage.Sending → MayGoOn self.new }
-        ensures begun { self.old.begun ≡ true → self.new.begun ≡ true }
+        ensures no_stall { (p : Exchange) → Answers self.old p → stage_of self.new ≡ stage.Sending → MayGoOn self.new }
+        ensures begun { has_begun self.old ≡ true → has_begun self.new ≡ true }
         ensures sound { IsSoundAnswer self.new }
         ensures filters { (filters : List FilterSpec) → HasFilters self.old filters → HasFilters self.new filters }
     {
@@ -265,10 +225,10 @@ impl ResponseLane {
     /// Puts out more of an interim head, and then what stands in the first array.
     fn turn_on(&mut self, no_body: bool)
         requires sound { IsSoundAnswer self.old }
-        requires at { self.old.phase ≡ phase.Turning no_body }
+        requires at { phase_of self.old ≡ phase.Turning no_body }
         ensures answers { PutsOut self.old self.new }
-        ensures no_stall { (p : Exchange) → Answers self.old p → self.new.lane.stage ≡ stage.Sending → MayGoOn self.new }
-        ensures begun { self.old.begun ≡ true → self.new.begun ≡ true }
+        ensures no_stall { (p : Exchange) → Answers self.old p → stage_of self.new ≡ stage.Sending → MayGoOn self.new }
+        ensures begun { has_begun self.old ≡ true → has_begun self.new ≡ true }
         ensures sound { IsSoundAnswer self.new }
         ensures filters { (filters : List FilterSpec) → HasFilters self.old filters → HasFilters self.new filters }
     {
@@ -283,11 +243,11 @@ impl ResponseLane {
     /// Puts out more of the last that answers.
     fn answer_on(&mut self)
         requires sound { IsSoundAnswer self.old }
-        requires at { self.old.phase ≡ phase.Answering }
-        requires sending { self.old.lane.stage ≡ stage.Sending }
+        requires at { phase_of self.old ≡ phase.Answering }
+        requires sending { stage_of self.old ≡ stage.Sending }
         ensures answers { PutsOut self.old self.new }
-        ensures no_stall { (p : Exchange) → Answers self.old p → self.new.lane.stage ≡ stage.Sending → MayGoOn self.new }
-        ensures begun { self.old.begun ≡ true → self.new.begun ≡ true }
+        ensures no_stall { (p : Exchange) → Answers self.old p → stage_of self.new ≡ stage.Sending → MayGoOn self.new }
+        ensures begun { has_begun self.old ≡ true → has_begun self.new ≡ true }
         ensures sound { IsSoundAnswer self.new }
         ensures filters { (filters : List FilterSpec) → HasFilters self.old filters → HasFilters self.new filters }
     {
@@ -305,10 +265,10 @@ impl ResponseLane {
 
     /// So many bytes of it were taken.
     pub fn took(&mut self, n: usize)
-        requires { n ≤ length self.old.lane.output.items }
-        ensures output { self.new.lane.output.items ≡ drop n self.old.lane.output.items }
+        requires { n ≤ length (output_of self.old) }
+        ensures output { output_of self.new ≡ drop n (output_of self.old) }
         ensures answers { (p : Exchange) → Answers self.old p → Answers self.new p }
-        ensures same { (self.new.lane.stage ≡ self.old.lane.stage) × (self.new.lane.ended ≡ self.old.lane.ended) × (self.new.begun ≡ self.old.begun) }
+        ensures same { (stage_of self.new ≡ stage_of self.old) × (ended_of self.new ≡ ended_of self.old) × (has_begun self.new ≡ has_begun self.old) }
         ensures sound { IsSoundAnswer self.old → IsSoundAnswer self.new }
         ensures filters { (filters : List FilterSpec) → HasFilters self.old filters → HasFilters self.new filters }
     {
@@ -318,10 +278,10 @@ impl ResponseLane {
     /// The next exchange begins on what is left of the stream.
     pub fn next(&mut self)
         requires sound { IsSoundAnswer self.old }
-        requires done { self.old.lane.stage ≡ stage.Done }
-        ensures answers { (asked : Bool) → Answers self.new (with_bytes (fresh asked) self.old.lane.input.items) }
-        ensures stage { self.new.lane.stage ≡ stage.Reading }
-        ensures same { (self.new.lane.output ≡ self.old.lane.output) × (self.new.lane.ended ≡ self.old.lane.ended) × (self.new.lane.input ≡ self.old.lane.input) }
+        requires done { stage_of self.old ≡ stage.Done }
+        ensures answers { (asked : Bool) → Answers self.new (with_bytes (fresh asked) (input_of self.old)) }
+        ensures stage { stage_of self.new ≡ stage.Reading }
+        ensures same { (window_of self.new ≡ window_of self.old) × (ended_of self.new ≡ ended_of self.old) × (came_in self.new ≡ came_in self.old) }
         ensures sound { IsSoundAnswer self.new }
         ensures filters { (filters : List FilterSpec) → HasFilters self.old filters → HasFilters self.new filters }
     {
@@ -333,12 +293,12 @@ impl ResponseLane {
     /// Another server answers: what came of the one before goes, and what is put out stays.
     pub fn restart(&mut self)
         requires sound { IsSoundAnswer self.old }
-        requires rests { (self.old.lane.stage ≡ stage.Done) ⊎ (self.old.lane.stage ≡ stage.Reading) }
+        requires rests { (stage_of self.old ≡ stage.Done) ⊎ (stage_of self.old ≡ stage.Reading) }
         ensures answers { (asked : Bool) → Answers self.new (fresh asked) }
-        ensures stage { self.new.lane.stage ≡ stage.Reading }
+        ensures stage { stage_of self.new ≡ stage.Reading }
         ensures open { IsOpen self.new }
-        ensures same { self.new.lane.output ≡ self.old.lane.output }
-        ensures begun { self.new.begun ≡ false }
+        ensures same { window_of self.new ≡ window_of self.old }
+        ensures begun { has_begun self.new ≡ false }
         ensures sound { IsSoundAnswer self.new }
         ensures filters { (filters : List FilterSpec) → HasFilters self.old filters → HasFilters self.new filters }
     {
