@@ -1,9 +1,8 @@
 //! A body on its way through filters.
-ghost use Rattle.std.specs.Prelude.{◌≡◌, ◌≢◌, ◌≤◌, ◌<◌, ◌+◌, ◌-◌, ◌++◌, ◌⊎◌, [], length, drop, true, false, List, ℕ, IfOk, Bool};
+ghost use Rattle.std.specs.Prelude.{◌≡◌, ◌≢◌, ◌≤◌, ◌<◌, ◌+◌, ◌++◌, [], length, drop, true, false, List, ℕ, IfOk};
 ghost use Rattle.htx_model.specs.Blocks.{append_data, Fits};
-ghost use Rattle.httparse.specs.Grammar as grammar;
 ghost use Rattle.http_model.specs.Head.{Field};
-ghost use Rattle.h1_body.specs.Section.{BeginsFields, HasTrailers};
+ghost use Rattle.h1_body.specs.Section.{HasTrailers};
 ghost use Rattle.h1_body.specs.Trailers.{trailer_blocks};
 ghost use Rattle.body_filter.specs.Valid.{AreFilters};
 ghost use Rattle.body_filter.specs.declared.filter_spec.FilterSpec.{FilterSpec};

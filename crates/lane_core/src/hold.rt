@@ -1,12 +1,9 @@
 //! The next part of a body, from the window into what its filters hold.
-ghost use Rattle.std.specs.Prelude.{◌≡◌, ◌≤◌, ◌<◌, ◌+◌, ◌++◌, [], length, take, drop, true, false, List, ℕ, None, IfSome};
-ghost use Rattle.http_model.specs.declared.Limits.{Limits};
-ghost use Rattle.http_model.specs.declared.Framing.{Framing};
+ghost use Rattle.std.specs.Prelude.{◌≡◌, ◌≤◌, ◌<◌, ◌+◌, ◌++◌, length, drop, true, false, List, ℕ, None, IfSome};
 ghost use Rattle.body_filter.specs.declared.filter_spec.FilterSpec.{FilterSpec};
 ghost use Rattle.body_sieve.specs.Sieved.{IsSieve, IsIdle, IsStill, HasSieved, end_of, held_in, section_in};
 ghost use Rattle.body_sieve.specs.declared.sieve.BodyEnd.TheVariants as body_end;
-ghost use Rattle.h1_body.specs.Stands.{HasRead, ends_of, bytes_of};
-ghost use Rattle.h1_body.specs.declared.reader.BodyState.TheVariants as state;
+ghost use Rattle.h1_body.specs.Stands.{ends_of, bytes_of};
 ghost use Rattle.lane_core.specs.Filtering.{SieveFits, SieveRests};
 ghost use Rattle.lane_core.specs.Holding.{Holds, HoldsNext, HoldsBy, MeetsEnd};
 

@@ -1,5 +1,5 @@
 //! What the definitions say together.
-ghost use Rattle.std.specs.Prelude.{◌≡◌, ◌<◌, [], ◌++◌, List, ℕ, false};
+ghost use Rattle.std.specs.Prelude.{◌≡◌, [], false};
 ghost use Rattle.h1_body.specs.BodyOf.{BodyRead};
 ghost use Rattle.lane_core.specs.Promise.{Promise, BodyTaken, ShowsNoCut, body_sent};
 ghost use Rattle.lane_core.specs.Sent.{Cut, SpellsAs};

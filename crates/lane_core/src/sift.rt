@@ -1,5 +1,5 @@
 //! What the filters hold, on its way into the first array.
-ghost use Rattle.std.specs.Prelude.{◌≡◌, ◌≢◌, ◌≤◌, [], true, false};
+ghost use Rattle.std.specs.Prelude.{◌≡◌, ◌≢◌, [], true, false};
 ghost use Rattle.body_sieve.specs.Sieved.{IsSieve, end_of};
 ghost use Rattle.body_sieve.specs.declared.sieve.BodyEnd.TheVariants as body_end;
 ghost use Rattle.lane_core.specs.Coming.{Comes, ComesBy, came_at, idle_at};

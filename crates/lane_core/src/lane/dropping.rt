@@ -1,12 +1,8 @@
 //! A body whose text is dropped.
-ghost use Rattle.std.specs.Prelude.{◌≡◌, ◌≢◌, ◌≤◌, ◌<◌, ◌+◌, ◌*◌, ◌++◌, ◌⊎◌, [], length, take, drop, true, false, List, ℕ, Some, None, IfOk};
+ghost use Rattle.std.specs.Prelude.{◌≡◌, ◌≤◌, ◌<◌, ◌+◌, ◌⊎◌, [], length, true, false, List};
 ghost use Rattle.body_filter.specs.declared.filter_spec.FilterSpec.{FilterSpec};
 ghost use Rattle.lane_core.specs.Filtering.{AreThese, SieveRests, held_left};
-ghost use Rattle.lane_core.specs.Sends.{Stands, GoesOn, IsAllOut, IsSound, Past, Sends, Leads, Keeps, IsAtRest, IsDrained, RestsFor, reads_left, brings_left, is_going, IsSized};
-ghost use Rattle.lane_core.specs.Pulled.{IsWaiting};
-ghost use Rattle.h1_write.specs.Spelled.{IsEven, is_done};
-ghost use Rattle.h1_body.specs.Stands.{state_of, ends_of};
-ghost use Rattle.h1_body.specs.declared.reader.BodyState.TheVariants as state;
+ghost use Rattle.lane_core.specs.Sends.{Stands, GoesOn, IsAllOut, IsSound, Past, Sends, Leads, Keeps, RestsFor, reads_left, is_going, IsSized};
 ghost use Rattle.lane_core.specs.declared.stage.Source.TheVariants as source;
 ghost use Rattle.lane_core.specs.declared.stage.Stage.TheVariants as stage;
 

@@ -1,20 +1,13 @@
 //! Messages that stand whole in an array, and heads that go out alone.
-ghost use Rattle.std.specs.Prelude.{◌≡◌, ◌≢◌, ◌≤◌, ◌<◌, ◌+◌, ◌++◌, ◌⊎◌, [], length, take, drop, true, false, List, ℕ, Some, None, Option, IfOk};
+ghost use Rattle.std.specs.Prelude.{◌≡◌, ◌≤◌, [], length, false, List, ℕ};
 ghost use Rattle.http_model.specs.Head.{Head, head_blocks};
-ghost use Rattle.http_model.specs.Sizes.{least_size, most_size, least_head};
-ghost use Rattle.http_model.specs.declared.Ending.{Ending};
 ghost use Rattle.body_filter.specs.declared.filter_spec.FilterSpec.{FilterSpec};
-ghost use Rattle.body_filter.specs.Valid.{AreFilters};
-ghost use Rattle.h1_body.specs.declared.reader.BodyReader.{BodyReader};
-ghost use Rattle.lane_core.specs.Filtering.{AreThese, HasPassed, SieveFits, GoesOnBy};
-ghost use Rattle.htx_layout.specs.Held.{held};
+ghost use Rattle.lane_core.specs.Filtering.{AreThese};
 ghost use Rattle.htx_model.specs.Blocks.{flow, Fits};
 ghost use Rattle.http_model.specs.Head.{front_blocks};
 ghost use Rattle.h1_write.specs.Spelled.{is_done};
-ghost use Rattle.header_ops.specs.Headers.{without_framing};
 ghost use Rattle.lane_core.specs.Shown.{Shows, Goes};
-ghost use Rattle.h1_head.specs.declared.answer.Side.{Side};
-ghost use Rattle.lane_core.specs.Sends.{Past, Sends, Stands, GoesOn, IsAtRest, IsAllOut, IsSound, IsReady, IsReading, RestsFor, begun, said};
+ghost use Rattle.lane_core.specs.Sends.{Stands, IsSound, IsReady, said};
 ghost use Rattle.lane_core.specs.declared.stage.Stage.TheVariants as stage;
 ghost use Rattle.lane_core.specs.declared.stage.Source.TheVariants as source;
 
