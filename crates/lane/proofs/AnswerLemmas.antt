@@ -1,23 +1,16 @@
 -- What the calls of a lane that answers make of an exchange.
-use Rattle.std.proofs.Common.{◌≡◌, ◌≢◌, ℕ, ◌<◌, ◌≤◌, ◌⊎◌, inl, inr, List, [], ◌∷◌, ◌++◌, Bool, true, false, refl, sym, ap, ◌∙◌, subst, length, append_assoc, take, drop, arith, ◌+◌, length-append}
-use Rattle.std.specs.Prelude.{Option, Some, None, is_some}
-use Rattle.std.proofs.lemmas.List.{append-nil, take-append-drop, nil_from_length}
+use Rattle.std.proofs.Common.{◌≡◌, ◌≢◌, ℕ, ◌<◌, ◌≤◌, ◌⊎◌, inl, inr, List, [], ◌∷◌, ◌++◌, Bool, true, false, refl, sym, ap, ◌∙◌, subst, length, append_assoc, arith, ◌+◌, length-append}
+use Rattle.std.specs.Prelude.{Option, Some}
+use Rattle.std.proofs.lemmas.List.{append-nil, nil_from_length}
 use Rattle.wire_buf.specs.Buffer.{Buffer}
-use Rattle.htx_model.specs.Block.{Block}
-use Rattle.htx_model.specs.Blocks.{flow}
-use Rattle.http_model.specs.declared.Framing.{Framing}
-use Rattle.http_model.specs.declared.Framing.TheVariants as framing
-use Rattle.http_model.specs.Finish.{finish_interim}
-use Rattle.http_model.specs.Head.{Head, head_blocks}
+use Rattle.http_model.specs.Head.{Head}
 use Rattle.http_model.specs.Reading.{Received, Begins}
-use Rattle.http_model.specs.Spelling.{head_text}
 use Rattle.body_filter.specs.declared.filter_spec.FilterSpec.{FilterSpec}
 use Rattle.h1_head.specs.declared.answer.Side.TheVariants.{Response}
-use Rattle.http_model.specs.Head.{front_blocks}
 use Rattle.h1_write.specs.Spelled.{is_done}
-use Rattle.lane_core.specs.Sends.{Past, Stands, IsSound, IsReading, put_out, begun, said}
+use Rattle.lane_core.specs.Sends.{Past, Stands, IsSound, IsReading, put_out, said}
 use Rattle.lane_core.specs.Shown.{Shows, Goes}
-use Rattle.lane.specs.Answering.{Exchange, Last, NotYet, Serves, Replies, HeadsCame, Reads, HeadsAt, ShowsLast, AnswersLast, AnswersAt, Answers, IsSoundAt, IsSoundAnswer, IsLast, interim_text, fresh, with_bytes, with_put, passes, drops, serves, replies, is_interim, shows_head, HasBegun, AnswerPromise}
+use Rattle.lane.specs.Answering.{Exchange, Last, NotYet, Serves, Replies, HeadsCame, Reads, HeadsAt, ShowsLast, AnswersLast, AnswersAt, Answers, IsSoundAt, IsSoundAnswer, IsLast, interim_text, fresh, with_bytes, with_put, is_interim, shows_head, HasBegun, AnswerPromise}
 use Rattle.lane_core.specs.declared.stage.Stage.{Stage}
 use Rattle.lane_core.specs.declared.stage.Stage.TheVariants as stage
 use Rattle.lane_core.specs.declared.stage.Source.TheVariants as source

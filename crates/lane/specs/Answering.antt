@@ -1,5 +1,5 @@
 -- What a lane that answers a client stands for.
-use Rattle.std.specs.Prelude.{◌≡◌, ◌≢◌, ℕ, ◌<◌, ◌≤◌, ◌⊎◌, List, [], ◌∷◌, ◌++◌, Bool, true, false, Option, Some, None, length, is_some, take, codes, ⊤}
+use Rattle.std.specs.Prelude.{◌≡◌, ◌≢◌, ℕ, ◌<◌, ◌⊎◌, List, [], ◌∷◌, ◌++◌, Bool, true, false, Option, Some, None, length, is_some, take, codes}
 use Rattle.std.specs.List.{flat_map}
 use Rattle.std.specs.Str.{bytes_eq}
 use Rattle.http_model.specs.declared.Ending.{Ending}
@@ -14,17 +14,15 @@ use Rattle.http_model.specs.Head.{Head, StartLine, RequestLine, StatusLine, head
 use Rattle.http_model.specs.Reading.{Received, HeadReading, Nothing, Refused, Begins}
 use Rattle.http_model.specs.Spelling.{head_text}
 use Rattle.body_filter.specs.declared.filter_spec.FilterSpec.{FilterSpec}
-use Rattle.h1_head.specs.declared.answer.Side.{Side}
 use Rattle.h1_head.specs.declared.answer.Side.TheVariants.{Response}
 use Rattle.h1_head.specs.Received.{IsReceived}
 use Rattle.h1_head.specs.Response.{ResponseOf}
 use Rattle.h1_head.specs.Sides.{kind_of}
 use Rattle.h1_head.specs.Stream.{behind}
-use Rattle.h1_head.specs.Decides.{OnEachStream, MayWait}
+use Rattle.h1_head.specs.Decides.{OnEachStream}
 use Rattle.http_model.specs.Head.{front_blocks}
 use Rattle.lane_core.specs.Filtering.{AreThese}
 use Rattle.lane_core.specs.Promise.{Promise}
-use Rattle.lane_core.specs.Sent.{Sent}
 use Rattle.lane_core.specs.Sends.{Past, Stands, IsSound, IsReading, put_out, GoesOn}
 use Rattle.lane_core.specs.Shown.{Shows}
 use Rattle.lane_core.specs.declared.stage.LaneHead.{LaneHead}

@@ -1,5 +1,5 @@
 -- What a lane of requests stands for, in words of its own.
-use Rattle.std.specs.Prelude.{◌≡◌, ◌≢◌, ℕ, ◌≤◌, ◌<◌, ◌⊎◌, Bool, List, Option, None, length}
+use Rattle.std.specs.Prelude.{ℕ, Bool, List, Option}
 use Rattle.http_model.specs.declared.Ending.{Ending}
 use Rattle.http_model.specs.declared.Framing.{Framing}
 use Rattle.http_model.specs.declared.Limits.{Limits}
@@ -9,7 +9,7 @@ use Rattle.h1_head.specs.declared.answer.Side.TheVariants as side
 use Rattle.body_filter.specs.declared.filter_spec.FilterSpec.{FilterSpec}
 use Rattle.lane_core.specs.Filtering.{AreThese}
 use Rattle.lane_core.specs.Heads.{HeadTells}
-use Rattle.lane_core.specs.Promise.{Promise, ShowsNoCut}
+use Rattle.lane_core.specs.Promise.{Promise}
 use Rattle.lane_core.specs.Sends.{Past, Stands, IsSound, IsReady, IsReading, IsAtRest, RestsFor, GoesOn, begun}
 use Rattle.lane_core.specs.declared.stage.LaneHead.{LaneHead}
 use Rattle.lane_core.specs.declared.stage.Stage.{Stage}

@@ -1,13 +1,12 @@
-use Rattle.std.proofs.Common.{◌≡◌, List, ℕ, [], ◌∷◌, ◌++◌, Bool, true, false, refl, sym, ap, ◌∙◌, subst}
+use Rattle.std.proofs.Common.{◌≡◌, ℕ, [], ◌∷◌, ◌++◌, refl, sym, ap, ◌∙◌, subst}
 use Rattle.wire_buf.specs.Buffer.{Buffer}
-use Rattle.htx_model.specs.Block.{Block}
 use Rattle.header_ops.specs.Headers.{without_framing}
 use Rattle.http_model.specs.Finish.{finish_interim}
 use Rattle.http_model.specs.Head.{head_blocks}
 use Rattle.lane.specs.Answering.{HeadsCame, passes}
 use Rattle.lane_core.specs.declared.lane.Lane.{Lane}
 use Rattle.lane.proofs.AnswerLemmas.{at_head, head_sound, came_behind, shows_first}
-use Rattle.lane.proofs.InterimLemmas.{SameStream, came_same}
+use Rattle.lane.proofs.InterimLemmas.{came_same}
 use Rattle.lane.proofs.response_lane.ResponseLane.pass.Goals as goal
 
 pub returns-clause-answers : goal.returns-clause-answers

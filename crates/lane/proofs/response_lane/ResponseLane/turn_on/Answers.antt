@@ -1,14 +1,13 @@
-use Rattle.std.proofs.Common.{◌≡◌, List, ℕ, [], ◌++◌, Bool, true, false, refl, sym, ap, ◌∙◌, subst, append_assoc}
+use Rattle.std.proofs.Common.{◌≡◌, List, ℕ, ◌++◌, Bool, sym, ap, ◌∙◌, subst, append_assoc}
 use Rattle.wire_buf.specs.Buffer.{Buffer}
 use Rattle.htx_model.specs.Blocks.{flow}
 use Rattle.http_model.specs.Head.{front_blocks}
-use Rattle.lane_core.specs.Sends.{Stands, said}
-use Rattle.lane.specs.Answering.{Exchange, Answers, AnswersAt, HeadsCame, ShowsLast, with_put}
+use Rattle.lane.specs.Answering.{Exchange, Answers, AnswersAt, with_put}
 use Rattle.lane_core.specs.declared.lane.Lane.{Lane}
 use Rattle.lane.specs.declared.phase.Phase.{Phase}
 use Rattle.lane.specs.declared.phase.Phase.TheVariants as phase
 use Rattle.lane.proofs.AnswerLemmas.{made, at_turning, sound_turning, shows_more, shown_all, turned, put_twice}
-use Rattle.lane.proofs.InterimLemmas.{SameStream, came_same}
+use Rattle.lane.proofs.InterimLemmas.{came_same}
 use Rattle.lane.proofs.response_lane.ResponseLane.turn_on.Goals as goal
 
 pub returns-then-show_on-clause-answers : goal.returns-then-show_on-clause-answers
