@@ -1,5 +1,5 @@
 -- Bytes that were read, and more behind them. These belong to the crate of bodies.
-use Rattle.std.proofs.Common.{◌≡◌, ◌≢◌, ℕ, ◌+◌, ◌<◌, ◌≤◌, ◌⊎◌, inl, inr, List, [], ◌∷◌, ◌++◌, Bool, true, false, refl, sym, ap, ◌∙◌, subst, length, arith, append_assoc}
+use Rattle.std.proofs.Common.{◌≡◌, ℕ, ◌+◌, ◌<◌, ◌≤◌, ◌⊎◌, inl, inr, List, [], ◌∷◌, ◌++◌, true, false, refl, sym, ap, ◌∙◌, subst, length, arith, append_assoc}
 use Rattle.std.specs.Prelude.{Option, Some, None}
 use Rattle.std.specs.List.{fold}
 use Rattle.std.proofs.lemmas.List.{append-nil, length-append, nil_from_length}
@@ -12,9 +12,9 @@ use Rattle.http_model.specs.declared.Ending.{Ending}
 use Rattle.http_model.specs.declared.Ending.TheVariants as ending
 use Rattle.http_model.specs.Head.{Field}
 use Rattle.http_model.specs.Reading.{Whole, Broke, Bad}
-use Rattle.h1_body.specs.Body.{BodyAt, Left, UntilClose, InLine, InData, AtReturn, AtFeed, InSection, Over, Hopeless, Goes, step, data_in, line_start}
-use Rattle.h1_body.specs.BodyOf.{BodyRead, Reads, More, IsBodyOf, BodyOf, Tells, SectionTells, unfinished, closes}
-use Rattle.h1_body.specs.Section.{section_limit, HasTrailers, BeginsFields, BeginsSection, IsHopelessSection, HasNoSectionWithin, trailers_of}
+use Rattle.h1_body.specs.Body.{BodyAt, Left, UntilClose, InLine, InData, AtReturn, AtFeed, InSection, Over, Hopeless, Goes, step, data_in}
+use Rattle.h1_body.specs.BodyOf.{BodyRead, Reads, More, IsBodyOf, Tells, SectionTells, unfinished, closes}
+use Rattle.h1_body.specs.Section.{section_limit, HasTrailers, BeginsSection, HasNoSectionWithin, trailers_of}
 use Rattle.h1_body.specs.Stands.{HasRead, Stands, start_of, state_at, state_of, ends_at, ends_of, section_in, WaitsAt}
 use Rattle.h1_body.specs.declared.stages.Stage.{Stage}
 use Rattle.h1_body.specs.declared.stages.Stage.TheVariants as stage
@@ -22,7 +22,7 @@ use Rattle.h1_body.specs.declared.reader.BodyReader.{BodyReader}
 use Rattle.h1_body.specs.declared.reader.BodyState.TheVariants as state
 use Rattle.h1_body.proofs.Runs.{goes_both}
 use Rattle.h1_body.proofs.Lines.{section_goes}
-use Rattle.h1_body.proofs.Told.{tells_at, one_reading, closed_whole}
+use Rattle.h1_body.proofs.Told.{tells_at}
 use Rattle.lane_core.specs.Pulled.{IsWaiting}
 use Rattle.lane_core.specs.Promise.{body_in, IsCut}
 use Rattle.lane_core.proofs.ReadLemmas.{no_trailers, no_section}

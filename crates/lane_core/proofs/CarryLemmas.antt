@@ -1,21 +1,18 @@
 -- A message on its way through the two arrays.
-use Rattle.std.proofs.Common.{◌≡◌, ℕ, ◌<◌, ◌⊎◌, inl, inr, List, [], ◌∷◌, ◌++◌, Bool, true, false, refl, sym, ap, ◌∙◌, subst, append_assoc, length, arith}
-use Rattle.std.specs.Prelude.{map}
+use Rattle.std.proofs.Common.{◌≡◌, ℕ, ◌⊎◌, inl, inr, List, [], ◌++◌, Bool, true, false, refl, sym, ap, ◌∙◌, subst, append_assoc}
 use Rattle.std.proofs.lemmas.List.{append-nil}
 use Rattle.htx_model.specs.Block.{Block}
-use Rattle.htx_model.specs.Blocks.{flow, append_data}
-use Rattle.http_model.specs.Head.{Field, Head, head_blocks}
-use Rattle.h1_body.specs.Section.{HasTrailers}
+use Rattle.htx_model.specs.Blocks.{flow}
+use Rattle.http_model.specs.Head.{Head, head_blocks}
 use Rattle.h1_write.specs.declared.writer.Writer.{Writer}
 use Rattle.h1_write.specs.Spelled.{HasWritten, Writes, has_ended, is_done, IsEven}
-use Rattle.http_model.specs.Head.{front_blocks, message_blocks, ended_trailers, trailer_block}
+use Rattle.http_model.specs.Head.{front_blocks, message_blocks}
 use Rattle.htx_model.proofs.Flows.{flow-append}
 use Rattle.h1_write.proofs.Told.{grown_told}
 use Rattle.lane_core.specs.Sent.{Sent, message_of}
 use Rattle.lane_core.specs.Carried.{Carried, CarriesFront, Carries, EndIsOut}
 use Rattle.lane_core.specs.declared.stage.Source.{Source}
 use Rattle.lane_core.specs.declared.stage.Source.TheVariants as source
-use Rattle.htx_model.proofs.Flows.{flow-front}
 use Rattle.lane_core.proofs.FlowLemmas.{head_flow, flow-middle, flow_none, none_first, none_second}
 
 -- ---- text is put out

@@ -1,9 +1,8 @@
 -- What reading a head makes of a lane.
-use Rattle.std.proofs.Common.{◌≡◌, ◌≢◌, ℕ, zero, suc, ◌+◌, ◌-◌, ◌<◌, ◌≤◌, ◌⊎◌, inl, inr, List, [], ◌∷◌, ◌++◌, Bool, true, false, refl, sym, ap, ◌∙◌, subst, length, take, drop, get_or, cond, arith, append_assoc}
-use Rattle.std.specs.Prelude.{◌==◌, ◌&&◌, ◌||◌, count_by}
-use Rattle.std.specs.List.{list_any, flat_map}
-use Rattle.std.proofs.lemmas.List.{append-nil, take-append-drop, take-append-le, take_at, take_all, length-append, length-drop}
-use Rattle.std.proofs.lemmas.List.Sums.{sum_by-cons, sum_by-append}
+use Rattle.std.proofs.Common.{◌≡◌, ℕ, ◌-◌, ◌<◌, ◌≤◌, List, [], ◌++◌, Bool, false, refl, sym, ap, ◌∙◌, subst, length, take, drop, arith}
+use Rattle.std.specs.Prelude.{count_by}
+use Rattle.std.specs.List.{list_any}
+use Rattle.std.proofs.lemmas.List.{take-append-drop, take_all, length-drop}
 use Rattle.h1_head.specs.Numbers.{most_lines}
 use Rattle.h1_head.specs.declared.answer.Side.{Side}
 use Rattle.h1_head.specs.Sides.{kind_of}
@@ -11,7 +10,7 @@ use Rattle.h1_head.specs.Stream.{behind, HasNone, HeadOf}
 use Rattle.h1_head.specs.Decides.{MayWait, is_line_feed}
 use Rattle.h1_head.proofs.EachSide.{each_is_lawful}
 use Rattle.h1_head.proofs.Waits.{behind_again, behind_more, waits_on}
-use Rattle.std.specs.Prelude.{Option, Some, None, is_some}
+use Rattle.std.specs.Prelude.{Option, None, is_some}
 use Rattle.std.proofs.lemmas.List.{length-take-le}
 use Rattle.wire_buf.specs.Buffer.{Buffer}
 use Rattle.htx_arena.specs.Contents.{Contents}

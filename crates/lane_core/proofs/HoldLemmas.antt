@@ -1,25 +1,24 @@
 -- What a step of the reader brings to the filters.
-use Rattle.std.proofs.Common.{◌≡◌, ◌≢◌, ℕ, ◌+◌, ◌*◌, ◌<◌, ◌≤◌, ◌⊎◌, inl, inr, List, [], ◌∷◌, ◌++◌, Bool, true, false, refl, sym, ap, ◌∙◌, subst, length, take, drop, arith, append_assoc}
-use Rattle.std.specs.Prelude.{Option, Some, None, IfSome}
-use Rattle.std.proofs.lemmas.List.{append-nil, take-append-drop, length-take-le, length-append, nil_from_length}
+use Rattle.std.proofs.Common.{◌≡◌, ◌≢◌, ℕ, ◌+◌, ◌*◌, ◌<◌, inl, inr, List, [], ◌++◌, Bool, true, false, refl, sym, ap, ◌∙◌, subst, length, take, drop, arith, append_assoc}
+use Rattle.std.specs.Prelude.{Option, Some, None}
+use Rattle.std.proofs.lemmas.List.{take-append-drop, length-take-le, length-append, nil_from_length}
 use Rattle.wire_buf.specs.Buffer.{Buffer}
 use Rattle.http_model.specs.declared.Limits.{Limits}
 use Rattle.http_model.specs.declared.Framing.{Framing}
 use Rattle.http_model.specs.declared.Ending.{Ending}
-use Rattle.http_model.specs.declared.Ending.TheVariants as ending
-use Rattle.h1_body.specs.Stands.{HasRead, Waits, state_of, ends_of, bytes_of}
+use Rattle.h1_body.specs.Stands.{HasRead, state_of, bytes_of}
 use Rattle.h1_body.specs.declared.reader.BodyReader.{BodyReader}
 use Rattle.h1_body.specs.declared.reader.BodyState.{BodyState}
 use Rattle.h1_body.specs.declared.reader.BodyState.TheVariants as state
 use Rattle.h1_body.specs.declared.reader.Span.{Span}
 use Rattle.body_filter.specs.declared.filter_spec.FilterSpec.{FilterSpec}
-use Rattle.body_sieve.specs.Sieved.{HasSieved, SievedAt, IsSieve, IsIdle, IsStill, end_of, held_in, section_in, is_open}
+use Rattle.body_sieve.specs.Sieved.{HasSieved, SievedAt, IsIdle, IsStill, end_of, held_in, section_in, is_open}
 use Rattle.body_sieve.specs.declared.sieve.BodyEnd.{BodyEnd}
 use Rattle.body_sieve.specs.declared.sieve.BodyEnd.TheVariants as body_end
 use Rattle.body_sieve.specs.declared.sieve.Sieve.{Sieve}
 use Rattle.lane_core.specs.Pulled.{IsWaiting}
 use Rattle.lane_core.specs.Carried.{Carries}
-use Rattle.lane_core.specs.Filtering.{HasPassed, AreThese, SieveFits, SieveRests, IsWholeAt, IsCutAt, EndsAt, GoesOnBy}
+use Rattle.lane_core.specs.Filtering.{HasPassed, AreThese, SieveFits, SieveRests, EndsAt, GoesOnBy}
 use Rattle.lane_core.specs.Holding.{Holds, MeetsEnd, HoldsSo, HoldsNext, HoldsBy}
 use Rattle.lane_core.specs.Sends.{Past, Sends, SourceIs, RestsFor, put_out, reads_left, end_left}
 use Rattle.lane_core.specs.Sends as sends

@@ -1,5 +1,5 @@
 -- What a lane that sends a message says of the bytes that came.
-use Rattle.std.proofs.Common.{◌≡◌, ℕ, ◌⊎◌, inl, inr, List, [], ◌∷◌, ◌++◌, Bool, true, false, refl, sym, ap, ◌∙◌, subst, append_assoc}
+use Rattle.std.proofs.Common.{◌≡◌, ℕ, ◌⊎◌, inl, inr, List, [], ◌++◌, Bool, true, false, refl, sym, ap, ◌∙◌, subst, append_assoc}
 use Rattle.std.specs.Prelude.{Option, Some, None, map}
 use Rattle.std.proofs.lemmas.List.{append-nil}
 use Rattle.htx_model.specs.Block.{Block}
@@ -8,34 +8,31 @@ use Rattle.http_model.specs.Head.{Field}
 use Rattle.http_model.specs.Reading.{Whole, Broke, Bad}
 use Rattle.http_model.specs.declared.Ending.{Ending}
 use Rattle.http_model.specs.declared.Ending.TheVariants as ending
-use Rattle.h1_body.specs.BodyOf.{BodyRead, Reads, More, IsBodyOf, StateTells}
+use Rattle.h1_body.specs.BodyOf.{BodyRead, Reads, More, IsBodyOf}
 use Rattle.h1_body.specs.Section.{HasTrailers}
-use Rattle.h1_body.specs.Stands.{HasRead, state_of, ends_of}
-use Rattle.h1_body.specs.declared.reader.BodyReader.{BodyReader}
+use Rattle.h1_body.specs.Stands.{state_of}
 use Rattle.h1_body.specs.declared.reader.BodyState.TheVariants as body_state
 use Rattle.h1_body.proofs.Told.{one_reading, closed_whole}
-use Rattle.body_filter.specs.declared.chain.Chain.{Chain}
 use Rattle.body_filter.specs.declared.filter_spec.FilterSpec.{FilterSpec}
 use Rattle.body_filter.specs.declared.filter_spec.FedState.{FedState}
 use Rattle.body_filter.specs.declared.filter_spec.FedState.TheVariants as state
-use Rattle.body_filter.specs.Chain.{HasFiltered, HasFilteredAll, chain_meaning}
 use Rattle.body_filter.specs.Filter.{Filtered, filtered}
-use Rattle.body_sieve.specs.Sieved.{Uses, SievedAt, IsIdle, IsStill}
+use Rattle.body_sieve.specs.Sieved.{SievedAt}
 use Rattle.body_sieve.specs.declared.sieve.BodyEnd.{BodyEnd}
 use Rattle.body_sieve.specs.declared.sieve.BodyEnd.TheVariants as body_end
 use Rattle.body_sieve.specs.declared.sieve.Sieve.{Sieve}
 use Rattle.h1_write.specs.declared.writer.Stage.{Stage}
 use Rattle.h1_write.specs.declared.writer.Stage.TheVariants as at
 use Rattle.h1_write.specs.declared.writer.Writer.{Writer}
-use Rattle.h1_write.specs.Spelled.{HasWritten, has_ended, is_done, IsEven, done_at, ended_at}
+use Rattle.h1_write.specs.Spelled.{IsEven, done_at, ended_at}
 use Rattle.http_model.specs.Head.{front_blocks, message_blocks, ended_trailers, trailer_block}
 use Rattle.h1_write.proofs.Told.{front_told, cut_front_told, whole_told, cut_told}
 use Rattle.lane_core.specs.Sent.{Sent, Finish, Cut, Ends, SpellsAs, IsFrontOf, message_of}
 use Rattle.lane_core.specs.Carried.{Carried, CarriesFront, Carries, EndIsOut}
 use Rattle.lane_core.specs.Pulled.{IsWaiting}
 use Rattle.lane_core.specs.Sends.{Past, Sends, Stands, SourceIs, IsAllOut, IsAtRest, RestsFor, IsOver, Waits, put_out}
-use Rattle.lane_core.specs.Filtering.{HasPassed, SieveRests, IsWholeAt, IsCutAt, EndsAt, GoesOnBy, CutBy, Broken, RefusedNow, RefusedWhole}
-use Rattle.lane_core.specs.Promise.{Promise, BodyTaken, OnEachBody, GoesOnWith, body_in, body_sent, filter_of, finish_of, ends_as, IsCut, IsCutWith, IsWholeWith, ShowsNoCut, InSection}
+use Rattle.lane_core.specs.Filtering.{HasPassed, SieveRests, IsWholeAt, IsCutAt, CutBy, Broken, RefusedNow, RefusedWhole}
+use Rattle.lane_core.specs.Promise.{Promise, BodyTaken, OnEachBody, GoesOnWith, body_in, body_sent, filter_of, finish_of, ends_as, IsCut, IsCutWith, ShowsNoCut, InSection}
 use Rattle.lane_core.specs.declared.stage.Source.{Source}
 use Rattle.lane_core.specs.declared.stage.Source.TheVariants as source
 use Rattle.lane_core.specs.declared.lane.Lane.{Lane}
@@ -45,6 +42,7 @@ use Rattle.lane_core.proofs.ReadLemmas.{no_trailers}
 use Rattle.lane_core.proofs.BodyLemmas.{grows, whole_stays, bad_stays, waiting_body, waiting_cut, waiting_open, waiting_not_whole, IsNotWhole}
 use Rattle.lane_core.proofs.SendLemmas.{plain_settled}
 use Rattle.lane_core.proofs.SiftLemmas.{some_trailers}
+use Rattle.lane_core.proofs.PassLemmas.{Passes, Came, GoesOn, CutHere, WholeHere, came_by}
 
 -- ---- a message that is carried
 
@@ -91,58 +89,6 @@ nothing_left w s put left msg all c none empty = ap flow (sym (append-nil c.take
 spelled_cut : (w : Writer) (s : Sent) (found put : List ℕ) (left msg : List Block) → CarriesFront w s found put left msg → left ≡ [] → msg ≡ [] → IsEven w → SpellsAs s found Cut put
 spelled_cut w s found put left msg c none empty even =
     (c.1.text, c.1.put_is, cut_told s.framing s.no_body c.1.taken left c.1.text w (message_of s found []) c.1.has even (not_done w.stage c.0) refl (nothing_left w s put left msg (front_blocks s.head found) c.1 none empty))
-
--- ---- what the filters make of it
-
--- what passed is a front of what passes, however the body goes on
-record Passes (filters : List FilterSpec) (found passed : List ℕ) : Type 0 where
-  pub on : (whole : Bool) (more : List ℕ) → (rest : List ℕ) × ((filtered filters whole (found ++ more)).output ≡ passed ++ rest)
-
--- of a body whose end has come
-record PassesAll (filters : List FilterSpec) (found passed : List ℕ) : Type 0 where
-  pub all : (rest : List ℕ) × ((filtered filters true found).output ≡ passed ++ rest)
-
-uses_passes : (filters : List FilterSpec) (found passed : List ℕ) (chain : Chain) (held : List ℕ) → Uses filters found passed chain held → Passes filters found passed
-uses_passes filters found passed chain held u = record {
-  on = λ whole more. (
-    (chain_meaning chain whole (held ++ more)).output,
-    ap (λ (b : List ℕ). (filtered filters whole (b ++ more)).output) u.found_is ∙ ap (λ (b : List ℕ). (filtered filters whole b).output) (append_assoc u.used held more)
-        ∙ ap (λ (f : Filtered). f.output) (u.has.goes_on whole (held ++ more)),
-  );
-}
-
-passes_all : (filters : List FilterSpec) (found passed : List ℕ) → Passes filters found passed → PassesAll filters found passed
-passes_all filters found passed p =
-    let h = p.on true [] in
-    record { all = (h.0, ap (λ (b : List ℕ). (filtered filters true b).output) (sym (append-nil found)) ∙ h.1) }
-
-at_end : (filters : List FilterSpec) (found passed : List ℕ) (chain : Chain) → HasFilteredAll filters found passed chain → PassesAll filters found passed
-at_end filters found passed chain h = record { all = ((chain_meaning chain true []).output, ap (λ (f : Filtered). f.output) h.ends) }
-
-all_passes : (whole : Bool) (body more : List ℕ) → (filtered [] whole (body ++ more)).output ≡ body ++ more
-unfolding filtered
-all_passes whole body more = refl
-
--- the filters' state, with what it tells of the body: while the body may go on, or once its end has come
-data Came (filters : List FilterSpec) (reader : BodyReader) (ended : Option Ending) (input section found passed : List ℕ) : Type 0 where
-  GoesOn : Passes filters found passed → Came filters reader ended input section found passed
-  CutHere : IsCutAt reader ended input → Passes filters found passed → Came filters reader ended input section found passed
-  WholeHere : IsWholeAt reader ended input section → PassesAll filters found passed → Came filters reader ended input section found passed
-
-came_at : (at : BodyEnd) (filters : List FilterSpec) (reader : BodyReader) (ended : Option Ending) (input section found passed : List ℕ) (chain : Chain) (held : List ℕ) → EndsAt at reader ended input section → SievedAt at filters found passed chain held
-    → Came filters reader ended input section found passed
-came_at body_end.Open filters reader ended input section found passed chain held e s = GoesOn (uses_passes filters found passed chain held s)
-came_at body_end.Cut filters reader ended input section found passed chain held e s = CutHere e (uses_passes filters found passed chain held s)
-came_at body_end.Whole filters reader ended input section found passed chain held e (inl u) = WholeHere e (passes_all filters found passed (uses_passes filters found passed chain held u))
-came_at body_end.Whole filters reader ended input section found passed chain held e (inr all) = WholeHere e (at_end filters found passed chain all.1)
-came_at body_end.Accepted filters reader ended input section found passed chain held e s = WholeHere e (at_end filters found passed chain s.1)
-
-came_by : (sieve : Option Sieve) (filters : List FilterSpec) (reader : BodyReader) (ended : Option Ending) (input section found passed : List ℕ) → GoesOnBy sieve reader ended input section → HasPassed sieve filters found passed
-    → Came filters reader ended input section found passed
-came_by None filters reader ended input section found passed g h = GoesOn (record {
-  on = λ whole more. (more, ap (λ (fs : List FilterSpec). (filtered fs whole (found ++ more)).output) h.0 ∙ all_passes whole found more ∙ ap (λ (b : List ℕ). b ++ more) (sym h.1));
-})
-came_by (Some sieve) filters reader ended input section found passed g h = came_at sieve.end filters reader ended input section found passed sieve.chain sieve.held.items g.0 h
 
 -- ---- what the bytes come to
 

@@ -1,12 +1,12 @@
 -- A step of the reader, into an empty array.
-use Rattle.std.proofs.Common.{◌≡◌, ◌≢◌, ℕ, zero, suc, ◌+◌, ◌-◌, ◌<◌, ◌≤◌, ◌⊎◌, inl, inr, List, [], ◌∷◌, ◌++◌, Bool, true, false, refl, sym, ap, ◌∙◌, subst, length, take, drop, arith}
-use Rattle.std.specs.Prelude.{Option, Some, None, map, slice_range, IsOk, OnOk, ◌↔◌, Result, Ok, Err}
-use Rattle.std.proofs.lemmas.List.{append-nil, take-append-drop, take_all, nil_from_length, length-take-le}
+use Rattle.std.proofs.Common.{◌≡◌, ℕ, zero, suc, ◌+◌, ◌-◌, ◌<◌, ◌≤◌, List, [], ◌++◌, refl, sym, ap, ◌∙◌, subst, length, take, drop, arith}
+use Rattle.std.specs.Prelude.{Some, IsOk, OnOk, ◌↔◌, Result, Ok, Err}
+use Rattle.std.proofs.lemmas.List.{take-append-drop, take_all, nil_from_length, length-take-le}
 use Rattle.httparse.proofs.RunLemmas.{length-slice_range}
 use Rattle.http_model.specs.declared.Framing.{Framing}
 use Rattle.http_model.specs.declared.Limits.{Limits}
 use Rattle.http_model.specs.Head.{Field}
-use Rattle.htx_model.specs.Block.{Block, Data}
+use Rattle.htx_model.specs.Block.{Block}
 use Rattle.htx_model.specs.Blocks.{load, Fits, append_data, taken}
 use Rattle.htx_arena.specs.declared.arena.Full.{Full}
 use Rattle.h1_body.specs.declared.reader.BodyReader.{BodyReader}

@@ -1,7 +1,7 @@
 -- What a step of the reader makes of a message that is sent.
-use Rattle.std.proofs.Common.{◌≡◌, ◌≢◌, ℕ, ◌+◌, ◌*◌, ◌<◌, ◌≤◌, ◌⊎◌, inl, inr, List, [], ◌∷◌, ◌++◌, Bool, true, false, refl, sym, ap, ◌∙◌, subst, length, arith, append_assoc}
-use Rattle.std.specs.Prelude.{Option, Some, None, map}
-use Rattle.std.proofs.lemmas.List.{append-nil, map-append, length-append}
+use Rattle.std.proofs.Common.{◌≡◌, ◌≢◌, ℕ, ◌+◌, ◌≤◌, ◌⊎◌, inl, inr, List, [], ◌∷◌, ◌++◌, true, false, refl, sym, ap, ◌∙◌, subst, length, arith, append_assoc}
+use Rattle.std.specs.Prelude.{Option, None, map}
+use Rattle.std.proofs.lemmas.List.{append-nil, length-append}
 use Rattle.wire_buf.specs.Buffer.{Buffer}
 use Rattle.htx_model.specs.Block.{Block}
 use Rattle.htx_arena.specs.Contents.{Contents}
@@ -9,8 +9,6 @@ use Rattle.http_model.specs.Head.{Field}
 use Rattle.std.specs.List.{flat_map}
 use Rattle.httparse.specs.Grammar as grammar
 use Rattle.httparse.specs.Grammar.{print_section, print_field, print_end}
-use Rattle.http_model.specs.declared.Limits.{Limits}
-use Rattle.http_model.specs.declared.Framing.{Framing}
 use Rattle.h1_body.specs.Body.{BodyAt}
 use Rattle.h1_body.specs.declared.stages.Stage.{Stage}
 use Rattle.h1_body.specs.declared.stages.Stage.TheVariants as stage
@@ -20,11 +18,10 @@ use Rattle.h1_body.specs.declared.reader.BodyState.TheVariants as state
 use Rattle.h1_body.specs.BodyOf.{StateTells}
 use Rattle.h1_body.specs.Section.{HasTrailers, BeginsFields}
 use Rattle.h1_body.specs.Trailers.{trailer_blocks}
-use Rattle.h1_body.specs.Stands.{HasRead, state_at, state_of, section_in}
+use Rattle.h1_body.specs.Stands.{HasRead, state_at, section_in}
 use Rattle.h1_body.proofs.Told.{told}
 use Rattle.htx_model.specs.Blocks.{flow, append_data}
 use Rattle.h1_write.specs.declared.writer.Writer.{Writer}
-use Rattle.h1_write.specs.Spelled.{has_ended}
 use Rattle.http_model.specs.Head.{front_blocks, message_blocks, ended_trailers, trailer_block}
 use Rattle.lane_core.specs.Sent.{Sent, message_of}
 use Rattle.lane_core.specs.Carried.{Carried, CarriesFront, Carries}

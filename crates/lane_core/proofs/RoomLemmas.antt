@@ -1,22 +1,20 @@
 -- What fits an empty array.
-use Rattle.std.proofs.Common.{◌≡◌, ℕ, zero, suc, ◌+◌, ◌*◌, ◌-◌, ◌<◌, ◌≤◌, ◌⊎◌, inl, inr, List, [], ◌∷◌, ◌++◌, Bool, true, false, refl, sym, ap, ◌∙◌, subst, length, take, cond, arith, sum_by}
-use Rattle.std.specs.Prelude.{nat_le, map, filter, reverse, All}
+use Rattle.std.proofs.Common.{◌≡◌, ℕ, suc, ◌+◌, ◌*◌, ◌<◌, ◌≤◌, inl, inr, List, [], ◌∷◌, ◌++◌, true, false, refl, sym, ap, ◌∙◌, subst, length, cond, arith}
+use Rattle.std.specs.Prelude.{map, filter, reverse}
 use Rattle.std.specs.List.{flat_map}
 use Rattle.std.specs.Str.{str_to_ascii_lowercase}
 use Rattle.std.proofs.lemmas.List.{length-append, length-map, length-reverse, append-nil}
 use Rattle.std.proofs.lemmas.List.Sums.{sum_by-cons, sum_by-append}
 use Rattle.std.specs.Char.{to_ascii_lowercase}
-use Rattle.std.proofs.Math.Seq.{take-length}
-use Rattle.std.proofs.lemmas.Bool.{le-leb}
 use Rattle.httparse.specs.Grammar as grammar
 use Rattle.httparse.specs.Grammar.{LineEnd, crlf, lf, print_end, print_field, print_section, field_value, trim_ows, skip_ows, is_ows}
 use Rattle.httparse.specs.Spans.{name_and_value}
 use Rattle.http_model.specs.declared.Limits.{Limits}
 use Rattle.http_model.specs.Head.{Field, trailer_block, ended_trailers}
-use Rattle.htx_model.specs.Block.{Block, Data, weight, payload_len, EndTrailers}
-use Rattle.htx_model.specs.Blocks.{load, append_data, taken_of, taken}
+use Rattle.htx_model.specs.Block.{Block, weight, payload_len, EndTrailers}
+use Rattle.htx_model.specs.Blocks.{load}
 use Rattle.htx_xfer.specs.Moved.{payload}
-use Rattle.h1_body.specs.Section.{section_limit, HasTrailers, BeginsFields, is_kept, kept, folded, trailers_of}
+use Rattle.h1_body.specs.Section.{section_limit, HasTrailers, is_kept, folded}
 use Rattle.h1_body.specs.Trailers.{trailer_blocks, kept_blocks}
 
 -- ---- trailers

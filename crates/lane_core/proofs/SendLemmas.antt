@@ -1,5 +1,5 @@
 -- What an end of the stream makes of a message that is sent.
-use Rattle.std.proofs.Common.{◌≡◌, ℕ, ◌<◌, ◌≤◌, ◌⊎◌, inl, inr, List, [], ◌∷◌, ◌++◌, Bool, true, false, refl, sym, ap, ◌∙◌, subst, length, arith}
+use Rattle.std.proofs.Common.{◌≡◌, ℕ, ◌<◌, inl, inr, List, [], ◌++◌, Bool, true, false, refl, sym, ap, ◌∙◌, subst, arith}
 use Rattle.std.specs.Prelude.{Option, Some, None}
 use Rattle.std.proofs.lemmas.List.{nil_from_length}
 use Rattle.http_model.specs.declared.Ending.{Ending}
@@ -16,7 +16,7 @@ use Rattle.body_filter.specs.declared.filter_spec.FedState.TheVariants as fed
 use Rattle.body_filter.specs.Filter.{filtered}
 use Rattle.body_sieve.specs.declared.sieve.BodyEnd.{BodyEnd}
 use Rattle.body_sieve.specs.declared.sieve.Sieve.{Sieve}
-use Rattle.lane_core.specs.Filtering.{HasPassed, SieveRests, GoesOnBy, EndsAt, CutBy, Broken}
+use Rattle.lane_core.specs.Filtering.{HasPassed, SieveRests, GoesOnBy, EndsAt, Broken}
 use Rattle.lane_core.specs.Sends.{Past, Sends, SourceIs, put_out}
 use Rattle.lane_core.specs.declared.stage.Source.{Source}
 use Rattle.lane_core.specs.declared.stage.Source.TheVariants as source

@@ -1,5 +1,5 @@
 -- A message that stands in the array with its body, and a head that is put out alone.
-use Rattle.std.proofs.Common.{◌≡◌, ℕ, ◌⊎◌, inl, inr, List, [], ◌∷◌, ◌++◌, Bool, true, false, refl, sym, ap, ◌∙◌, subst, append_assoc}
+use Rattle.std.proofs.Common.{◌≡◌, ℕ, inl, inr, List, [], ◌++◌, true, false, refl, sym, ap, ◌∙◌, append_assoc}
 use Rattle.std.proofs.lemmas.List.{append-nil}
 use Rattle.htx_model.specs.Block.{Block}
 use Rattle.htx_model.specs.Blocks.{flow}
@@ -18,12 +18,11 @@ use Rattle.h1_write.specs.declared.writer.Stage.TheVariants as at
 use Rattle.h1_write.specs.declared.writer.Writer.{Writer}
 use Rattle.h1_write.specs.declared.units.Coding.{Coding}
 use Rattle.h1_write.specs.declared.units.Place.{Place}
-use Rattle.h1_write.specs.Spelled.{HasWritten, Writes, Begins, is_done, done_at, has_ended}
-use Rattle.http_model.specs.Head.{front_blocks, message_blocks}
+use Rattle.h1_write.specs.Spelled.{Writes, Begins, is_done, done_at}
+use Rattle.http_model.specs.Head.{message_blocks}
 use Rattle.h1_write.proofs.Told.{front_told, whole_told}
 use Rattle.htx_model.proofs.Flows.{flow-append}
 use Rattle.lane_core.specs.Shown.{Shows}
-use Rattle.lane_core.proofs.FlowLemmas.{flow-middle}
 
 -- a body that is absent is over
 over_at : (st : Stage) (most : ℕ) (at : BodyAt) → Over [] ≡ at → Stands most st at → state_at st ≡ state.Whole

@@ -1,8 +1,7 @@
 -- A lane that waits has room.
-use Rattle.std.proofs.Common.{◌≡◌, ◌≢◌, ℕ, ◌+◌, ◌*◌, ◌<◌, ◌≤◌, ◌⊎◌, inl, inr, List, [], ◌∷◌, ◌++◌, Bool, true, false, refl, sym, ap, ◌∙◌, subst, length, arith, append_assoc}
+use Rattle.std.proofs.Common.{◌≡◌, ◌≢◌, ℕ, ◌+◌, ◌*◌, ◌<◌, ◌≤◌, ◌⊎◌, inl, inr, List, [], ◌++◌, true, false, refl, sym, ap, ◌∙◌, subst, length, arith, append_assoc}
 use Rattle.std.specs.Prelude.{Option, Some, None, nat_lt, if◌then◌else◌}
-use Rattle.std.specs.List.{fold}
-use Rattle.h1_body.specs.Body.{BodyAt, InLine, line_start, step}
+use Rattle.h1_body.specs.Body.{line_start}
 use Rattle.h1_body.specs.declared.stages.Stage.{Stage}
 use Rattle.h1_body.specs.declared.stages.Stage.TheVariants as at
 use Rattle.h1_body.specs.declared.reader.BodyState.TheVariants as state
@@ -23,7 +22,7 @@ use Rattle.body_sieve.specs.declared.sieve.BodyEnd.TheVariants as body_end
 use Rattle.body_sieve.specs.declared.sieve.Sieve.{Sieve}
 use Rattle.lane_core.specs.Filtering.{IsWholeAt, IsCutAt, EndsAt, GoesOnBy, CutBy, Broken, RefusedNow, RefusedWhole, held_left}
 use Rattle.lane_core.specs.declared.stage.Source.{Source}
-use Rattle.lane_core.specs.Sends.{Past, Sends, SourceIs, IsAtRest, IsDrained, RestsFor, IsOver, Waits, GoesOn, IsSized, IsAllOut, Stands, reads_left, brings_left, end_left, is_going}
+use Rattle.lane_core.specs.Sends.{Past, Sends, SourceIs, IsAtRest, IsDrained, RestsFor, IsOver, Waits, GoesOn, IsAllOut, Stands, reads_left, brings_left, end_left, is_going}
 use Rattle.lane_core.specs.declared.stage.Stage.{Stage as LaneStage}
 use Rattle.lane_core.specs.declared.stage.Stage.TheVariants as stage
 use Rattle.lane_core.specs.declared.stage.Source.TheVariants as source

@@ -1,12 +1,12 @@
 -- What filters make of a body on its way.
-use Rattle.std.specs.Prelude.{◌≡◌, ◌≢◌, ℕ, ◌⊎◌, List, [], ◌++◌, Bool, true, false, Option, Some, None, ⊤}
+use Rattle.std.specs.Prelude.{◌≡◌, ℕ, ◌⊎◌, List, [], ◌++◌, Bool, true, false, Option, Some, None, ⊤}
 use Rattle.http_model.specs.declared.Ending.{Ending}
 use Rattle.http_model.specs.declared.Ending.TheVariants as ending
 use Rattle.h1_body.specs.declared.reader.BodyReader.{BodyReader}
 use Rattle.h1_body.specs.declared.reader.BodyState.TheVariants as state
 use Rattle.h1_body.specs.Stands.{state_of, ends_of}
 use Rattle.body_filter.specs.declared.filter_spec.FilterSpec.{FilterSpec}
-use Rattle.body_filter.specs.declared.filter_spec.FedState.TheVariants.{Going, Over, Refused}
+use Rattle.body_filter.specs.declared.filter_spec.FedState.TheVariants.{Refused}
 use Rattle.body_filter.specs.Filter.{filtered}
 use Rattle.body_sieve.specs.Sieved.{IsSieve, HasSieved, IsIdle, IsStill, IsSettled, end_of, section_in, sift_left}
 use Rattle.body_sieve.specs.declared.sieve.BodyEnd.{BodyEnd}

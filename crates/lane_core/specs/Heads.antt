@@ -1,9 +1,7 @@
 -- What a lane says of the head that comes.
-use Rattle.std.specs.Prelude.{◌≡◌, ℕ, ◌+◌, ◌<◌, ◌≤◌, ◌==◌, List, [], ◌++◌, Bool, true, false, Option, Some, None, is_some, length, take}
-use Rattle.http_model.specs.declared.Ending.{Ending}
-use Rattle.http_model.specs.declared.Limits.{Limits}
+use Rattle.std.specs.Prelude.{◌≡◌, ℕ, ◌<◌, List, ◌++◌, true, false, None, is_some, length}
 use Rattle.http_model.specs.Head.{Head, head_blocks}
-use Rattle.http_model.specs.Reading.{Received, Nothing, Refused, Begins}
+use Rattle.http_model.specs.Reading.{Nothing, Refused, Begins}
 use Rattle.h1_head.specs.declared.answer.Side.{Side}
 use Rattle.h1_head.specs.Sides.{kind_of}
 use Rattle.h1_head.specs.Stream.{behind, HeadOf}

@@ -1,5 +1,5 @@
 -- The contract of a lane that sends a message: its text, against the bytes that came behind the head and all that may follow them.
-use Rattle.std.specs.Prelude.{◌≡◌, ℕ, ◌<◌, length, Option, Some, None, List, [], ◌++◌, Bool, true, false, ◌⊎◌, ⊤}
+use Rattle.std.specs.Prelude.{◌≡◌, ℕ, ◌<◌, length, Option, Some, None, List, [], ◌++◌, true, false, ◌⊎◌, ⊤}
 use Rattle.http_model.specs.declared.Ending.{Ending}
 use Rattle.http_model.specs.Head.{Field}
 use Rattle.http_model.specs.Reading.{Whole, Broke, Bad}
@@ -10,7 +10,7 @@ use Rattle.body_filter.specs.declared.filter_spec.FilterSpec.{FilterSpec}
 use Rattle.body_filter.specs.declared.filter_spec.FedState.{FedState}
 use Rattle.body_filter.specs.declared.filter_spec.FedState.TheVariants.{Going, Over, Refused}
 use Rattle.body_filter.specs.Filter.{Filtered, filtered}
-use Rattle.lane_core.specs.Sent.{Sent, Finish, Cut, Ends, SpellsAs, IsFrontOf}
+use Rattle.lane_core.specs.Sent.{Finish, Cut, Ends, SpellsAs, IsFrontOf}
 use Rattle.lane_core.specs.Sends.{Past, put_out}
 use Rattle.lane_core.specs.declared.stage.Stage.TheVariants as stage
 use Rattle.lane_core.specs.declared.stage.Source.TheVariants as source

@@ -1,10 +1,9 @@
 -- What a lane stands for while it sends a message.
-use Rattle.std.specs.Prelude.{◌≡◌, ◌≢◌, ℕ, ◌+◌, ◌*◌, ◌<◌, ◌≤◌, ◌⊎◌, List, [], ◌++◌, Bool, true, false, Option, Some, None, length, take, map, nat_lt, if◌then◌else◌}
+use Rattle.std.specs.Prelude.{◌≡◌, ◌≢◌, ℕ, ◌+◌, ◌*◌, ◌<◌, ◌≤◌, ◌⊎◌, List, [], ◌++◌, Bool, true, false, Option, Some, None, length, take, nat_lt, if◌then◌else◌}
 use Rattle.http_model.specs.declared.Framing.{Framing}
 use Rattle.http_model.specs.declared.Framing.TheVariants as framing
-use Rattle.http_model.specs.declared.Limits.{Limits}
 use Rattle.http_model.specs.declared.Ending.{Ending}
-use Rattle.http_model.specs.Head.{Field, Head}
+use Rattle.http_model.specs.Head.{Head}
 use Rattle.http_model.specs.Sizes.{least_size, most_size, least_head}
 use Rattle.body_filter.specs.declared.filter_spec.FilterSpec.{FilterSpec}
 use Rattle.body_filter.specs.declared.filter_spec.FedState.TheVariants.{Over}
@@ -18,8 +17,7 @@ use Rattle.h1_head.specs.Stream.{behind}
 use Rattle.h1_head.specs.Decides.{MayWait}
 use Rattle.h1_body.specs.declared.reader.BodyReader.{BodyReader}
 use Rattle.h1_body.specs.declared.reader.BodyState.TheVariants as state
-use Rattle.h1_body.specs.Section.{HasTrailers}
-use Rattle.h1_body.specs.Stands.{HasRead, state_of, ends_of}
+use Rattle.h1_body.specs.Stands.{HasRead, state_of}
 use Rattle.lane_core.specs.Sent.{Sent}
 use Rattle.h1_write.specs.Spelled.{IsEven}
 use Rattle.lane_core.specs.Carried.{Carries, EndIsOut}

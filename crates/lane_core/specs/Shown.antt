@@ -1,5 +1,5 @@
 -- A head that is put out alone: an interim response.
-use Rattle.std.specs.Prelude.{◌≡◌, ℕ, List, [], ◌++◌, Bool, true, false}
+use Rattle.std.specs.Prelude.{◌≡◌, ℕ, List, ◌++◌, true}
 use Rattle.htx_model.specs.Block.{Block}
 use Rattle.htx_model.specs.Blocks.{flow}
 use Rattle.http_model.specs.declared.Framing.TheVariants as framing

@@ -1,4 +1,4 @@
-use Rattle.std.proofs.Common.{◌≡◌, ℕ, ◌<◌, ◌≤◌, refl, sym, ◌∙◌, arith, rules}
+use Rattle.std.proofs.Common.{arith}
 use Rattle.lane_core.proofs.HoldLemmas.{Read, next_whole, next_bad, next_more, next_met}
 use Rattle.lane_core.proofs.hold.hold_next.Goals as goal
 

@@ -1,4 +1,4 @@
-use Rattle.std.proofs.Common.{◌≡◌, ◌≤◌, ◌+◌, ℕ, List, ◌++◌, drop, sym, ◌∙◌, subst, length, arith}
+use Rattle.std.proofs.Common.{ℕ, List, drop, sym, ◌∙◌, subst}
 use Rattle.std.specs.Prelude.{Some}
 use Rattle.h1_body.specs.Stands.{bytes_of}
 use Rattle.lane_core.specs.Holding.{Holds}

@@ -1,4 +1,4 @@
-use Rattle.std.proofs.Common.{◌≡◌, ℕ, ◌+◌, ◌-◌, ◌<◌, ◌≤◌, List, [], ◌++◌, ap, sym, ◌∙◌, subst, take, arith, Option, Some}
+use Rattle.std.proofs.Common.{◌≡◌, ℕ, ◌+◌, ◌-◌, ◌<◌, ◌≤◌, List, [], ◌++◌, ap, ◌∙◌, subst, take, arith, Option, Some}
 use Rattle.std.specs.Prelude.{IfSome, IsOk, ◌↔◌}
 use Rattle.http_model.specs.Head.{Field}
 use Rattle.h1_body.specs.Section.{HasTrailers}
@@ -6,7 +6,7 @@ use Rattle.h1_body.specs.Trailers.{trailer_blocks}
 use Rattle.htx_model.specs.Block.{Block}
 use Rattle.htx_model.specs.Blocks.{load, Fits, taken, append_data}
 use Rattle.h1_body.specs.declared.reader.Span.{Span}
-use Rattle.lane_core.proofs.PullLemmas.{Feeds, pulled_plain, pulled_ended}
+use Rattle.lane_core.proofs.PullLemmas.{pulled_plain, pulled_ended}
 use Rattle.h1_body.specs.Stands.{HasRead, bytes_of}
 use Rattle.lane_core.proofs.pull.read_part.Goals as goal
 

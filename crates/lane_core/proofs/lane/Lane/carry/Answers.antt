@@ -1,4 +1,4 @@
-use Rattle.std.proofs.Common.{◌≡◌, Bool, false, rules}
+use Rattle.std.proofs.Common.{◌≡◌, false, rules}
 use Rattle.lane_core.proofs.lane.Lane.carry.Goals as goal
 
 pub returns-clause-rests : goal.returns-clause-rests

@@ -1,4 +1,4 @@
-use Rattle.std.proofs.Common.{◌≡◌, ◌≤◌, List, [], true, length}
+use Rattle.std.proofs.Common.{◌≡◌, ◌≤◌, [], true, length}
 use Rattle.lane_core.specs.Sends.{IsSized, Keeps, Leads, reads_left}
 use Rattle.lane_core.proofs.lane.Lane.drop_body.Given as goal
 

@@ -1,4 +1,4 @@
-use Rattle.std.proofs.Common.{◌≡◌, ◌≤◌, ◌+◌, List, [], true}
+use Rattle.std.proofs.Common.{◌≡◌, ◌≤◌, ◌+◌, [], true}
 use Rattle.lane_core.specs.Filtering.{held_left}
 use Rattle.lane_core.specs.Sends.{IsSized, Keeps, Leads, reads_left, is_going}
 use Rattle.lane_core.proofs.lane.Lane.drop_held.Given as goal

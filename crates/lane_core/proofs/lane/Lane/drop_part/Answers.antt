@@ -1,4 +1,4 @@
-use Rattle.std.proofs.Common.{◌≡◌, Bool, false, ◌∙◌, rules}
+use Rattle.std.proofs.Common.{◌≡◌, false, ◌∙◌, rules}
 use Rattle.lane_core.proofs.StallLemmas.{sends_cleared}
 use Rattle.lane_core.proofs.lane.Lane.drop_part.Goals as goal
 

@@ -1,4 +1,4 @@
-use Rattle.std.proofs.Common.{◌≡◌, ℕ, ◌∙◌, ap, arith}
+use Rattle.std.proofs.Common.{◌≡◌, ◌∙◌, ap, arith}
 use Rattle.htx_model.specs.Blocks.{load}
 use Rattle.lane_core.proofs.RoomLemmas.{payload-le}
 use Rattle.lane_core.proofs.CarryLemmas.{carries_over}

@@ -1,4 +1,4 @@
-use Rattle.std.proofs.Common.{◌≡◌, ℕ, Bool, true, false, List, [], ◌∷◌, ◌≤◌, ap, sym, ◌∙◌, subst, length, drop, Option, Some, None, refl, rules, arith}
+use Rattle.std.proofs.Common.{◌≡◌, ℕ, Bool, true, false, ap, sym, ◌∙◌, subst, drop, Option, Some, None, refl}
 use Rattle.std.specs.Prelude.{is_some}
 use Rattle.wire_buf.specs.Buffer.{Buffer}
 use Rattle.http_model.specs.declared.Ending.{Ending}

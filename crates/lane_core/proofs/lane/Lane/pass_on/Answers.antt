@@ -1,4 +1,4 @@
-use Rattle.std.proofs.Common.{◌≡◌, ℕ, ◌<◌, ◌≤◌, arith}
+use Rattle.std.proofs.Common.{◌≡◌, arith}
 use Rattle.lane_core.specs.Sends.{reads_left, brings_left}
 use Rattle.lane_core.proofs.StallLemmas.{reads_same, brings_same}
 use Rattle.lane_core.proofs.lane.Lane.pass_on.Goals as goal

@@ -1,4 +1,4 @@
-use Rattle.std.proofs.Common.{◌≡◌, ◌∙◌, ap}
+use Rattle.std.proofs.Common.{◌∙◌, ap}
 use Rattle.htx_arena.specs.Contents.{Contents}
 use Rattle.lane_core.specs.Sends.{Waits}
 use Rattle.lane_core.proofs.SendLemmas.{none_rests}

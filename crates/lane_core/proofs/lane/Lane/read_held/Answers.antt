@@ -1,6 +1,4 @@
-use Rattle.std.proofs.Common.{◌≡◌, ℕ, ◌≤◌, ◌<◌, ◌∙◌, ap, sym, subst, arith, true, false, Bool, refl}
-use Rattle.body_sieve.specs.declared.sieve.Sieve.{Sieve}
-use Rattle.lane_core.specs.Filtering.{SieveFits}
+use Rattle.std.proofs.Common.{◌∙◌, subst, Bool, refl}
 use Rattle.lane_core.proofs.HoldLemmas.{Took, sends_held, held_rests, took_nearer, took_these}
 use Rattle.lane_core.proofs.lane.Lane.read_held.Goals as goal
 

@@ -1,6 +1,5 @@
 use Rattle.std.proofs.Common.{◌≡◌, rules}
-use Rattle.lane_core.proofs.StallLemmas.{going_on, rests_done}
-use Rattle.lane_core.specs.declared.stage.Stage.TheVariants as stage
+use Rattle.lane_core.proofs.StallLemmas.{going_on}
 use Rattle.lane_core.specs.declared.stage.Source.TheVariants as source
 use Rattle.lane_core.proofs.lane.Lane.read_out.Goals as goal
 

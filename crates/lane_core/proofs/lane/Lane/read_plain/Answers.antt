@@ -1,4 +1,4 @@
-use Rattle.std.proofs.Common.{◌≡◌, ℕ, refl, sym, ap, ◌∙◌, subst, arith, rules}
+use Rattle.std.proofs.Common.{◌≡◌, ℕ, sym, ap, ◌∙◌, subst, arith}
 use Rattle.wire_buf.specs.Buffer.{Buffer}
 use Rattle.htx_arena.specs.Contents.{Contents}
 use Rattle.h1_body.specs.declared.reader.BodyReader.{BodyReader}

@@ -1,4 +1,4 @@
-use Rattle.std.proofs.Common.{◌≡◌, ℕ, ◌+◌, ◌*◌, ◌<◌, ◌≤◌, true, rules, arith}
+use Rattle.std.proofs.Common.{◌≡◌, ◌+◌, ◌*◌, true, rules, arith}
 use Rattle.lane_core.specs.Filtering.{held_left}
 use Rattle.lane_core.specs.Sends.{reads_left, brings_left, is_going}
 use Rattle.lane_core.proofs.StallLemmas.{reads_same, brings_none}

@@ -1,9 +1,9 @@
-use Rattle.std.proofs.Common.{◌≡◌, sym, ap, ◌∙◌, subst}
+use Rattle.std.proofs.Common.{sym, ap, ◌∙◌, subst}
 use Rattle.htx_model.specs.Blocks.{flow}
 use Rattle.std.specs.Prelude.{Option}
 use Rattle.body_sieve.specs.declared.sieve.Sieve.{Sieve}
 use Rattle.lane_core.specs.Filtering.{AreThese}
-use Rattle.lane_core.specs.Sends.{Past, Stands, said}
+use Rattle.lane_core.specs.Sends.{Stands, said}
 use Rattle.lane_core.specs.declared.lane.Lane.{Lane}
 use Rattle.lane_core.proofs.FlowLemmas.{front_flow}
 use Rattle.lane_core.proofs.lane.Lane.say.Goals as goal

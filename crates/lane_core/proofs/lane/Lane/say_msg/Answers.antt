@@ -1,10 +1,10 @@
-use Rattle.std.proofs.Common.{refl, [], ◌++◌, inl, true, false, ◌≡◌, sym, ap, ◌∙◌, subst, List, ℕ}
+use Rattle.std.proofs.Common.{refl, [], inl, sym, subst, List, ℕ}
 use Rattle.std.proofs.lemmas.List.{append-nil}
 use Rattle.http_model.specs.declared.Framing.TheVariants as framing
 use Rattle.lane_core.specs.Sent.{Sent}
 use Rattle.lane_core.specs.Carried.{Carries}
 use Rattle.lane_core.specs.declared.stage.Source.TheVariants as source
-use Rattle.lane_core.proofs.SiftLemmas.{these_now, nothing_over}
+use Rattle.lane_core.proofs.StepLemmas.{these_now, nothing_over}
 use Rattle.lane_core.proofs.CarryLemmas.{carries_head, carries_closed}
 use Rattle.lane_core.proofs.ShowLemmas.{absent_over}
 use Rattle.lane_core.proofs.lane.Lane.say_msg.Goals as goal

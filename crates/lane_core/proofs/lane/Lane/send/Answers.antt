@@ -1,5 +1,5 @@
-use Rattle.std.proofs.Common.{refl, [], ◌++◌}
-use Rattle.lane_core.proofs.SiftLemmas.{these_now, nothing_over}
+use Rattle.std.proofs.Common.{refl, []}
+use Rattle.lane_core.proofs.StepLemmas.{these_now}
 use Rattle.lane_core.proofs.CarryLemmas.{carries_head, head_front}
 use Rattle.lane_core.proofs.lane.Lane.send.Goals as goal
 

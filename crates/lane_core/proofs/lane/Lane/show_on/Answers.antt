@@ -1,4 +1,3 @@
-use Rattle.std.proofs.Common.{◌≡◌}
 use Rattle.lane_core.proofs.ShowLemmas.{shows_on}
 use Rattle.lane_core.proofs.lane.Lane.show_on.Goals as goal
 

@@ -1,7 +1,8 @@
-use Rattle.std.proofs.Common.{◌≡◌, ℕ, ◌+◌, ◌<◌, ◌≤◌, refl, sym, subst, true, false, Bool, arith}
+use Rattle.std.proofs.Common.{ℕ, refl, sym, subst}
 use Rattle.lane_core.specs.Filtering.{SieveFits}
 use Rattle.lane_core.specs.declared.sift.Came.TheVariants as came
-use Rattle.lane_core.proofs.SiftLemmas.{Steps, sends_given, sends_waiting, sends_ended, step_sized, step_keeps, step_more, step_waits, step_ends}
+use Rattle.lane_core.proofs.SiftLemmas.{Steps, sends_given, sends_waiting, sends_ended}
+use Rattle.lane_core.proofs.StepLemmas.{step_sized, step_keeps, step_more, step_waits, step_ends}
 use Rattle.lane_core.proofs.lane.Lane.sift.Goals as goal
 
 pub sift-requires-clause-sieve : goal.sift-requires-clause-sieve

@@ -1,4 +1,4 @@
-use Rattle.std.proofs.Common.{◌≡◌, Bool, true, false, ap, sym, ◌∙◌, inl, inr, rules, ◌⊎◌, List, [], ℕ}
+use Rattle.std.proofs.Common.{◌≡◌, true, false, sym, ◌∙◌, inl, inr, ◌⊎◌, []}
 use Rattle.lane_core.specs.Sends.{RestsFor, IsAtRest}
 use Rattle.lane_core.specs.declared.lane.Lane.{Lane}
 use Rattle.lane_core.proofs.lane.Lane.step.Goals as goal

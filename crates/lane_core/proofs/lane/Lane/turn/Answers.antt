@@ -1,6 +1,5 @@
-use Rattle.std.proofs.Common.{◌≡◌, ℕ, ◌<◌, ◌≤◌, ◌∙◌, inr, ap, sym, subst, arith, length, rules}
+use Rattle.std.proofs.Common.{◌≡◌, ◌<◌, ◌∙◌, inr, ap, sym, subst, arith, length, rules}
 use Rattle.htx_arena.specs.Contents.{Contents}
-use Rattle.h1_write.specs.declared.writer.Writer.{Writer}
 use Rattle.h1_write.specs.Spelled.{IsEven}
 use Rattle.lane_core.specs.Carried.{EndIsOut}
 use Rattle.lane_core.specs.declared.stage.Source.{Source}

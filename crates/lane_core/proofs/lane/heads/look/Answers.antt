@@ -1,4 +1,4 @@
-use Rattle.std.proofs.Common.{◌≡◌, ℕ, List, ◌++◌, subst}
+use Rattle.std.proofs.Common.{ℕ, List, ◌++◌, subst}
 use Rattle.http_model.specs.Reading.{Refused}
 use Rattle.h1_head.specs.Answers.{IfRefuse}
 use Rattle.h1_head.specs.Sides.{kind_of}
