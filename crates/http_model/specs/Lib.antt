@@ -5,5 +5,6 @@ pub mod Head
 pub mod Fields
 pub mod Finish
 pub mod Refusal
+pub mod Reply
 pub mod Spelling
 pub mod Reading

@@ -5,8 +5,11 @@ pub use Rattle.rule_model.specs.Patterns
 pub use Rattle.rule_model.specs.Valid
 pub mod Given
 pub mod Edits
+pub mod Pieces
 pub mod Lines
 pub mod Replacing
 pub mod Replies
 pub mod Steps
 pub mod Acts
+pub mod Removed
+pub mod Outcome

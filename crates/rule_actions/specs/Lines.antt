@@ -28,13 +28,17 @@ origin_of target = origin_text (target_parts target).scheme (target_parts target
 abbrev pub query_of : List ℕ → List ℕ
 query_of target = query_text (target_parts target).query
 
+-- the path, which may be empty
+abbrev pub path_of : List ℕ → List ℕ
+path_of target = (target_parts target).path
+
 -- path and query
 abbrev pub pathq_of : List ℕ → List ℕ
-pathq_of target = (target_parts target).path ++ query_of target
+pathq_of target = path_of target ++ query_of target
 
 -- a part of a target
 abbrev pub part_of : TargetPart → List ℕ → List ℕ
-part_of Path target = (target_parts target).path
+part_of Path target = path_of target
 part_of Pathq target = pathq_of target
 part_of Uri target = target
 
@@ -62,15 +66,19 @@ queried (Some query) text = 63 ∷ text
 
 -- the target with another query
 abbrev pub with_query : (target text : List ℕ) → List ℕ
-with_query target text = origin_of target ++ ((target_parts target).path ++ queried (target_parts target).query text)
+with_query target text = origin_of target ++ (path_of target ++ queried (target_parts target).query text)
 
 -- a byte of a target: no control byte, no blank
 abbrev pub is_target_byte : ℕ → Bool
 is_target_byte b = nat_lt 32 b && not (b == 127)
 
--- a target that may be sent: not empty, without such a byte
+-- each byte of the text is one
+abbrev pub are_target_bytes : List ℕ → Bool
+are_target_bytes text = list_all is_target_byte text
+
+-- a target that may be sent: not empty, without another byte
 abbrev pub is_target : List ℕ → Bool
-is_target target = nat_lt 0 (length target) && list_all is_target_byte target
+is_target target = nat_lt 0 (length target) && are_target_bytes target
 
 -- the edit of a target, where it may be sent
 abbrev pub sent_to : (size : ℕ) → Env → (method target version : List ℕ) → Result Env Why
@@ -78,12 +86,12 @@ sent_to size env method target version =
     if is_target target then edited size env (with_line env.head (RequestLine method target version)) else Err Bytes
 
 -- what is made of a request line; nothing is made of an answer's
+abbrev pub made_of : StartLine → Env → ((method target version : List ℕ) → Result Env Why) → Result Env Why
+made_of (RequestLine method target version) env make = make method target version
+made_of (StatusLine version status reason) env make = Ok env
+
 abbrev pub on_request : Env → ((method target version : List ℕ) → Result Env Why) → Result Env Why
-on_request env make = by_line env.head.line
-  where
-    by_line : StartLine → Result Env Why
-    by_line (RequestLine method target version) = make method target version
-    by_line (StatusLine version status reason) = Ok env
+on_request env make = made_of env.head.line env make
 
 -- another target, made of the one so far
 abbrev pub retargeted : (size : ℕ) → Env → (List ℕ → List ℕ) → Result Env Why
@@ -95,19 +103,24 @@ retargeted size env make = on_request env (λ method target version. sent_to siz
 abbrev pub is_head : List ℕ → Bool
 is_head method = bytes_eq method (codes "HEAD")
 
+-- both are so, or neither is
+abbrev pub agree : Bool → Bool → Bool
+agree true b = b
+agree false b = not b
+
 -- A method that may take the place of another: a token other than CONNECT, and HEAD only for HEAD.
 abbrev pub may_become : (old new : List ℕ) → Bool
-may_become old new = is_token new && (not (bytes_eq new (codes "CONNECT")) && is_head old == is_head new)
-  where
-    ◌==◌ : Bool → Bool → Bool
-    true == b = b
-    false == b = not b
+may_become old new = is_token new && (not (bytes_eq new (codes "CONNECT")) && agree (is_head old) (is_head new))
+
+-- the edit of a method, where it may take the other's place
+abbrev pub sent_by : (size : ℕ) → Env → (method text target version : List ℕ) → Result Env Why
+sent_by size env method text target version =
+    if may_become method text then edited size env (with_line env.head (RequestLine text target version)) else Err Bytes
 
 -- another method
 abbrev pub remethoded : (size : ℕ) → Env → (text : List ℕ) → Result Env Why
 remethoded size env text =
-    on_request env (λ method target version.
-    if may_become method text then edited size env (with_line env.head (RequestLine text target version)) else Err Bytes)
+    on_request env (λ method target version. sent_by size env method text target version)
 
 -- ---- statuses
 
@@ -120,12 +133,17 @@ abbrev pub reason_by : (code : ℕ) → Option (List ℕ) → List ℕ
 reason_by code None = reason_of code
 reason_by code (Some reason) = reason
 
--- another status and reason; the status of an answer without a body stays
+-- what is made of a status line; nothing is made of a request's
+abbrev pub made_of_status : StartLine → Env → ((version status reason : List ℕ) → Result Env Why) → Result Env Why
+made_of_status (RequestLine method target version) env make = Ok env
+made_of_status (StatusLine version status reason) env make = make version status reason
+
+-- a status and a reason in the place of others; the status of an answer without a body stays
+abbrev pub stated : (size : ℕ) → Env → (code : ℕ) → (reason version status : List ℕ) → Result Env Why
+stated size env code reason version status =
+    if not (is_bodiless_text status) && are_value_bytes reason
+    then edited size env (with_line env.head (StatusLine version (decimal code) reason)) else Err Bytes
+
+-- another status and reason
 abbrev pub restated : (size : ℕ) → Env → (code : ℕ) → (reason : List ℕ) → Result Env Why
-restated size env code reason = by_line env.head.line
-  where
-    by_line : StartLine → Result Env Why
-    by_line (RequestLine method target version) = Ok env
-    by_line (StatusLine version status old) =
-        if not (is_bodiless_text status) && are_value_bytes reason
-        then edited size env (with_line env.head (StatusLine version (decimal code) reason)) else Err Bytes
+restated size env code reason = made_of_status env.head.line env (λ version status old. stated size env code reason version status)

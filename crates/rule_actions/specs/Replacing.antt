@@ -1,8 +1,7 @@
 -- Values in which a pattern matches, with a template in their place (Configuration Manual, section 4.2, "replace-header").
-use Rattle.std.specs.Prelude.{ℕ, zero, suc, ◌+◌, List, [], ◌∷◌, ◌++◌, length, drop, slice_get, slice_set, slice_range, Bool, true, false, ◌&&◌, nat_le, is_some, Option, Some, None, if◌then◌else◌, Result, Ok, Err}
-use Rattle.std.specs.List.{list_any, list_all}
+use Rattle.std.specs.Prelude.{ℕ, zero, suc, ◌+◌, List, [], ◌∷◌, ◌++◌, length, drop, slice_get, slice_set, slice_range, Bool, is_some, Option, Some, None, if◌then◌else◌, Result, Ok, Err}
+use Rattle.std.specs.List.{list_any}
 use Rattle.http_model.specs.declared.Why.{Why}
-use Rattle.http_model.specs.declared.Why.TheVariants.{Bytes}
 use Rattle.http_model.specs.Head.{Head, Field}
 use Rattle.http_model.specs.Fields.{is_named}
 use Rattle.px_bytes.specs.Values.{placed_values, values_of}
@@ -13,7 +12,7 @@ use Rattle.px_conv.specs.Regsub.{groups_of}
 use Rattle.px_conv.specs.Template.{expanded}
 use Rattle.log_format.specs.declared.fmt.Fmt.{Fmt}
 use Rattle.rule_actions.specs.Given.{Env, text_on}
-use Rattle.rule_actions.specs.Edits.{Step, edited, by_text, by_value, are_value_bytes}
+use Rattle.rule_actions.specs.Edits.{Step, by_text, by_value}
 
 -- the pattern matches somewhere in a text
 abbrev pub matches : Pattern → List ℕ → Bool
@@ -49,13 +48,14 @@ places name (field ∷ fields) at = if is_named name field then at ∷ places na
 abbrev pub with_value : Head → ℕ → Field → List ℕ → Head
 with_value head at field value = record { line = head.line; fields = slice_set head.fields at (field.0, value) }
 
+-- what is made of a field, where there is one
+abbrev pub made_of_field : Option Field → Env → (Field → Result Env Why) → Result Env Why
+made_of_field None env make = Ok env
+made_of_field (Some field) env make = make field
+
 -- what is made of the field at a place, as the environment has it
 abbrev pub on_field : Env → ℕ → (Field → Result Env Why) → Result Env Why
-on_field env at make = by (slice_get env.head.fields at)
-  where
-    by : Option Field → Result Env Why
-    by None = Ok env
-    by (Some field) = make field
+on_field env at make = made_of_field (slice_get env.head.fields at) env make
 
 -- one whole field value
 abbrev pub replace_whole : (size : ℕ) → Pattern → Fmt → ℕ → Step
@@ -75,16 +75,12 @@ rebuilt make field from (placed ∷ others) =
 abbrev pub replaced_values : Pattern → (template field : List ℕ) → List ℕ
 replaced_values pat template field = rebuilt (replaced pat template) field 0 (placed_values field)
 
--- what comes of a value is within the buffer, where the pattern matches in it
-abbrev pub is_short_made : (size : ℕ) → Pattern → (template value : List ℕ) → Bool
-is_short_made size pat template value = if matches pat value then nat_le (length (replaced pat template value)) size else true
-
--- the values of one field, all of which are read before the field is edited
+-- The values of one field, all of which are read before the field is edited. What is made is the whole field value, which is
+-- within the buffer before it is trimmed.
 abbrev pub replace_values : (size : ℕ) → Pattern → Fmt → ℕ → Step
 replace_values size pat fmt at env =
     on_field env at (λ field.
     if list_any (matches pat) (values_of field.1)
     then by_text size (text_on size env fmt) (λ template.
-        if list_all (is_short_made size pat template) (values_of field.1)
-        then by_value size env (replaced_values pat template field.1) (with_value env.head at field) else Err Bytes)
+        by_text size (replaced_values pat template field.1) (λ text. by_value size env text (with_value env.head at field)))
     else Ok env)

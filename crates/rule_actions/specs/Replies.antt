@@ -1,5 +1,5 @@
 -- What `redirect` and `return` send, without the field that speaks of the connection.
-use Rattle.std.specs.Prelude.{ℕ, List, [], ◌∷◌, ◌++◌, map, Bool, true, false, not, ◌&&◌, ◌||◌, ◌==◌, length, nat_le, nat_eq, codes, decimal, Option, Some, None, if◌then◌else◌, Result, Ok, Err}
+use Rattle.std.specs.Prelude.{ℕ, List, [], ◌∷◌, ◌++◌, map, Bool, true, false, not, ◌&&◌, ◌||◌, ◌==◌, length, nat_le, nat_eq, codes, Option, Some, None, option_map, if◌then◌else◌, Result, Ok, Err}
 use Rattle.std.specs.List.{list_all, ends_with}
 use Rattle.std.specs.Str.{bytes_eq}
 use Rattle.http_model.specs.declared.Why.{Why}
@@ -8,8 +8,8 @@ use Rattle.http_model.specs.declared.Framing.{Framing}
 use Rattle.http_model.specs.declared.Framing.TheVariants.{Absent, Length}
 use Rattle.http_model.specs.Blocks.{load}
 use Rattle.http_model.specs.Head.{Field, StartLine, RequestLine, StatusLine, Message, message_blocks, front_blocks}
-use Rattle.http_model.specs.Finish.{length_field}
-use Rattle.http_model.specs.Refusal.{reason_of, closing}
+use Rattle.http_model.specs.Refusal.{closing}
+use Rattle.http_model.specs.Reply.{reply_head, with_fields, redirect_reply}
 use Rattle.px_bytes.specs.Blanks.{trimmed}
 use Rattle.uri_parts.specs.Target.{TargetParts, target_parts}
 use Rattle.uri_parts.specs.Cut.{query_text}
@@ -51,18 +51,22 @@ led_query parts = if is_star parts.path then [] else query_text parts.query
 abbrev pub led_prefix : List ℕ → List ℕ
 led_prefix text = if bytes_eq text (codes "/") then [] else text
 
--- a `/` at the end, where it is asked for and does not stand there
-abbrev pub slashed : Bool → List ℕ → List ℕ
-slashed asked text = if asked && not (ends_with nat_eq text (codes "/")) then text ++ codes "/" else text
+-- A `/` behind the path, where it is asked for and the path does not end with one. A path is never empty here.
+abbrev pub slash_behind : Bool → (path : List ℕ) → List ℕ
+slash_behind asked path = if asked && not (ends_with nat_eq path (codes "/")) then codes "/" else []
 
--- the location, by the text of the format, the parts of the target and the first Host value
+-- the location, by the text of the format, the first Host value and the parts of the target
 abbrev pub location_by : RedirectTo → (drop_query append_slash : Bool) → (text host : List ℕ) → TargetParts → List ℕ
 location_by (Location fmt) drop_query append_slash text host parts = text
 location_by (Prefix fmt) drop_query append_slash text host parts =
-    if drop_query then slashed append_slash (led_prefix text ++ led_path parts)
-    else led_prefix text ++ (led_path parts ++ led_query parts)
+    led_prefix text ++ (led_path parts ++ (if drop_query then slash_behind append_slash (led_path parts) else led_query parts))
 location_by (Scheme fmt) drop_query append_slash text host parts =
     text ++ (codes "://" ++ (host ++ (led_path parts ++ (if drop_query then [] else led_query parts))))
+
+-- the same on an environment
+abbrev pub location_on : RedirectTo → (drop_query append_slash : Bool) → (text : List ℕ) → Env → List ℕ
+location_on to drop_query append_slash text env =
+    location_by to drop_query append_slash text (host_in (front_blocks env.head env.body)) (target_parts (target_of env.head.line))
 
 -- the format of a location
 abbrev pub format_of : RedirectTo → Fmt
@@ -70,28 +74,16 @@ format_of (Location fmt) = fmt
 format_of (Prefix fmt) = fmt
 format_of (Scheme fmt) = fmt
 
--- a reply that leads to a location
-abbrev pub redirection : (code : ℕ) → (location : List ℕ) → Message
-redirection code location =
-    record {
-      head = record {
-        line = StatusLine (codes "HTTP/1.1") (decimal code) (reason_of code);
-        fields = length_field 0 ∷ (codes "location", location) ∷ [];
-      };
-      framing = Length 0;
-      body = [];
-      trailers = [];
-    }
-
--- what a redirect makes of a location: it fails for its bytes before it fails for room
+-- what a redirect makes of a location, which is within the buffer before it is trimmed; it fails for its bytes before it
+-- fails for room
 abbrev pub led_to : (size code : ℕ) → (location : List ℕ) → Result Message Why
-led_to size code location = if are_value_bytes location then fitting size (redirection code (trimmed location)) else Err Bytes
+led_to size code location = if are_value_bytes location then fitting size (redirect_reply code (trimmed location)) else Err Bytes
 
 -- one step
 unfoldable pub redirected : (size : ℕ) → RedirectTo → (code : ℕ) → (drop_query append_slash : Bool) → Env → Result Message Why
 redirected size to code drop_query append_slash env =
     by_text size (text_on size env (format_of to)) (λ text.
-    led_to size code (location_by to drop_query append_slash text (host_in (front_blocks env.head env.body)) (target_parts (target_of env.head.line))))
+    by_text size (location_on to drop_query append_slash text env) (led_to size code))
 
 -- ---- replies
 
@@ -117,10 +109,6 @@ abbrev pub is_good_type : Option (List ℕ) → Bool
 is_good_type None = true
 is_good_type (Some text) = are_value_bytes text
 
-abbrev pub type_fields : Option (List ℕ) → List Field
-type_fields None = []
-type_fields (Some text) = (codes "content-type", trimmed text) ∷ []
-
 -- the text of a field is within the buffer and may stand in a field value
 abbrev pub is_good_hdr : (size : ℕ) → Env → Hdr → Bool
 is_good_hdr size env hdr = nat_le (length (text_on size env hdr.value)) size && are_value_bytes (text_on size env hdr.value)
@@ -129,20 +117,17 @@ abbrev pub hdr_field : (size : ℕ) → Env → Hdr → Field
 hdr_field size env hdr = (hdr.name, trimmed (text_on size env hdr.value))
 
 -- the length of the payload, but for a status with which no body is sent
-abbrev pub length_by : (status length : ℕ) → List Field
-length_by status len = if is_bodiless status then [] else length_field len ∷ []
+abbrev pub length_by : (status len : ℕ) → Option ℕ
+length_by status len = if is_bodiless status then None else Some len
 
-abbrev pub framing_by : (status length : ℕ) → Framing
+abbrev pub framing_by : (status len : ℕ) → Framing
 framing_by status len = if is_bodiless status then Absent else Length len
 
--- the reply, by its payload and its fields
+-- the reply, by its type, its payload and its fields
 abbrev pub returning : (status : ℕ) → (content_type : Option (List ℕ)) → (body : List ℕ) → List Field → Message
 returning status content_type body fields =
     record {
-      head = record {
-        line = StatusLine (codes "HTTP/1.1") (decimal status) (reason_of status);
-        fields = length_by status (length body) ++ (type_fields content_type ++ fields);
-      };
+      head = with_fields fields (reply_head status (option_map trimmed content_type) (length_by status (length body)));
       framing = framing_by status (length body);
       body = body;
       trailers = [];

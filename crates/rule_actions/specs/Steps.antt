@@ -20,7 +20,7 @@ use Rattle.rule_actions.specs.declared.part.TargetPart.TheVariants.{Path, Pathq,
 use Rattle.rule_actions.specs.Given.{Env, text_on, sample_on}
 use Rattle.rule_actions.specs.Edits.{Step, edited, by_text, by_value}
 use Rattle.rule_actions.specs.Lines.{retargeted, remethoded, restated, reason_by, with_part, with_query, part_of, on_request, sent_to}
-use Rattle.rule_actions.specs.Replacing.{by_match, places, replace_whole, replace_values}
+use Rattle.rule_actions.specs.Replacing.{matches, by_match, places, replace_whole, replace_values}
 
 -- ---- fields
 
@@ -37,11 +37,15 @@ is_meant (Str text) name = same_name name text
 is_meant (Beg text) name = begins_with name text
 is_meant (End text) name = ends_with name text
 is_meant (Sub text) name = has_part name text
-is_meant (Reg pat) name = Rattle.rule_actions.specs.Replacing.matches pat (str_to_ascii_lowercase name)
+is_meant (Reg pat) name = matches pat (str_to_ascii_lowercase name)
 
 -- the field goes: its name is meant, and does not frame the message or speak of its connection
 abbrev pub goes : DelBy → Field → Bool
 goes by field = is_meant by field.0 && not (is_named_among framing_names field)
+
+-- fields go in whose name a pattern matches
+abbrev pub by_pattern : Pattern → DelBy
+by_pattern pat = Reg pat
 
 abbrev pub without_meant : DelBy → Head → Head
 without_meant by head = record { line = head.line; fields = filter (λ field. not (goes by field)) head.fields }

@@ -2,6 +2,22 @@
 //! front of it.
 #![tactic(auto)]
 
+mod fields;
+mod line;
+mod making;
 mod part;
+mod removal;
+mod replace;
+mod scratch;
+mod side;
+mod status;
+mod stepped;
+mod target;
+mod texts;
+mod variables;
 
 pub use part::TargetPart;
+pub use scratch::Scratch;
+pub use side::Side;
+pub use stepped::Stepped;
+pub use texts::is_met;

@@ -1,0 +1,73 @@
+//! Actions on fields by the text of a format.
+ghost use Rattle.std.specs.Prelude.{◌≡◌, ◌≤◌, false, length, IsOk, IfOk};
+ghost use Rattle.http_model.specs.Sizes.{most_name};
+ghost use Rattle.log_format.specs.Format as formats;
+ghost use Rattle.rule_actions.specs.Given.{Env};
+ghost use Rattle.rule_actions.specs.Steps.{add_step, set_step};
+ghost use Rattle.rule_actions.specs.Outcome.{IsScratch, IsAt, Came, IsFront};
+
+use crate::fields::{add_made, set_made};
+use crate::scratch::Scratch;
+use crate::side::Side;
+use crate::stepped::Stepped;
+use crate::texts::write_text;
+use http_model::Why;
+use htx_arena::Arena;
+use log_format::Fmt;
+use px_expr::Searchers;
+use px_sample::{OutOfMemory, Vars};
+use std::alloc::Global;
+
+/// `add-header`.
+pub(crate) fn add_header<'c>(
+    alloc: Global,
+    searchers: &mut Searchers<'c>,
+    name: &[u8],
+    fmt: &'c Fmt,
+    side: Side<'_>,
+    msg: &mut Arena,
+    vars: &Vars,
+    scratch: &mut Scratch,
+) -> Result<Stepped, OutOfMemory>
+    requires scratch { IsScratch msg.old.size scratch.old }
+    requires front { IsFront msg.old.blocks }
+    requires named { 1 ≤ length name.now }
+    requires short { length name.now ≤ most_name }
+    ensures came { IfOk result (λ step. (env : Env) → IsAt side.entry env msg.old.blocks vars.now
+        → Came side.entry env (add_step msg.old.size name.now fmt.now env) step msg.new.blocks vars.now) }
+    ensures succeeds { formats.holds_pattern fmt.now ≡ false → IsOk result }
+    ensures size { msg.new.size ≡ msg.old.size }
+    ensures scratch { IsScratch msg.old.size scratch.new }
+{
+    if !write_text(alloc, searchers, fmt, side, msg, vars, scratch)? {
+        return Ok(Stepped::Failed(Why::Bytes));
+    }
+    Ok(add_made(msg, name, scratch.text.bytes()))
+}
+
+/// `set-header`. Nothing goes before the text is made and known to be good.
+pub(crate) fn set_header<'c>(
+    alloc: Global,
+    searchers: &mut Searchers<'c>,
+    name: &[u8],
+    fmt: &'c Fmt,
+    side: Side<'_>,
+    msg: &mut Arena,
+    vars: &Vars,
+    scratch: &mut Scratch,
+) -> Result<Stepped, OutOfMemory>
+    requires scratch { IsScratch msg.old.size scratch.old }
+    requires front { IsFront msg.old.blocks }
+    requires named { 1 ≤ length name.now }
+    requires short { length name.now ≤ most_name }
+    ensures came { IfOk result (λ step. (env : Env) → IsAt side.entry env msg.old.blocks vars.now
+        → Came side.entry env (set_step msg.old.size name.now fmt.now env) step msg.new.blocks vars.now) }
+    ensures succeeds { formats.holds_pattern fmt.now ≡ false → IsOk result }
+    ensures size { msg.new.size ≡ msg.old.size }
+    ensures scratch { IsScratch msg.old.size scratch.new }
+{
+    if !write_text(alloc, searchers, fmt, side, msg, vars, scratch)? {
+        return Ok(Stepped::Failed(Why::Bytes));
+    }
+    Ok(set_made(msg, name, scratch.text.bytes()))
+}
