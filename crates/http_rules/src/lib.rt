@@ -8,6 +8,6 @@ pub use config::{Config, Filters};
 pub use http_model::{Limits, Why};
 pub use px_link::{Address, OutOfMemory};
 pub use rule_model::{
-    Action, ActionName, Cond, DelBy, Direction, Expr, Fmt, Hdr, HdrList, Pat, Payload, RedirectTo,
-    Rule, Rules, Scope, Text, stands_in,
+    Action, ActionName, Cond, DelBy, Direction, Expr, Fmt, Hdr, HdrList, Part, PartList, Pat, Payload,
+    RedirectTo, Rule, Rules, Scope, Text, stands_in,
 };

@@ -1,12 +1,16 @@
 -- What a step came to, by its edit and by its text.
-use Rattle.std.proofs.Common.{◌≡◌, ℕ, ◌≤◌, List, [], ◌∷◌, Bool, true, false, cond, refl, sym, ap, ◌∙◌, subst, length}
+use Rattle.std.proofs.Common.{◌≡◌, ℕ, ◌≤◌, List, [], ◌∷◌, Bool, true, false, cond, not, filter, refl, sym, ap, ◌∙◌, subst, length}
 use Rattle.std.specs.Prelude.{◌↔◌, Result, Ok, Err, OnOk, OnErr, IsOk, nat_le}
-use Rattle.std.proofs.lemmas.Bool.{le-leb, leb-true}
+use Rattle.std.proofs.lemmas.Bool.{le-leb, leb-true, false≢true}
 use Rattle.http_model.specs.declared.Why.{Why}
 use Rattle.http_model.specs.declared.Why.TheVariants.{Room, Bytes}
 use Rattle.http_model.specs.Block.{Block, Header}
 use Rattle.http_model.specs.Blocks.{load, Fits}
-use Rattle.http_model.specs.Head.{Head, front_blocks}
+use Rattle.http_model.specs.Head.{Head, StartLine, RequestLine, StatusLine, line_block, front_blocks}
+use Rattle.htx_arena.specs.Contents.{Contents}
+use Rattle.htx_arena.specs.declared.arena.Full.{Full}
+use Rattle.header_ops.specs.Matching.{is_field_matching, is_header_matching, without_matching}
+use Rattle.header_ops.specs.declared.matching.NameMatch.{NameMatch}
 use Rattle.http_model.specs.Fields.{add_field, set_field}
 use Rattle.session_model.specs.Env.{env_with_head}
 use Rattle.px_bytes.specs.Blanks.{trimmed}
@@ -19,7 +23,7 @@ use Rattle.rule_actions.specs.declared.stepped.Stepped.TheVariants.{Done, Failed
 use Rattle.rule_actions.specs.Given.{Env}
 use Rattle.rule_actions.specs.Edits.{edited, by_text, by_value, are_value_bytes, fits_with}
 use Rattle.rule_actions.specs.Outcome.{IsOn, IsAt, Came, IsMade, IsFront, step_by}
-use Rattle.rule_actions.proofs.Fronts.{front_ends, front_with, front_set}
+use Rattle.rule_actions.proofs.Fronts.{front_ends, front_with, front_set, front_filtered}
 
 -- the blocks of an environment have an end of headers
 pub ends_at : (blocks : List Block) → IsFront blocks → HasEnd blocks
@@ -48,16 +52,16 @@ full side env vars head size blocks at too = by (fits_with size env.body head) (
     by false e = (refl, at)
 
 -- an edit of the array that is the edit of the head
-pub edit_came : {T X : Type 0} (side : Side) (env : Env) (vars : Variables) (head : Head) (size : ℕ) (old new wanted : List Block) (r : Result T X) (step : Stepped)
-    → IsAt side env old vars → wanted ≡ front_blocks head env.body → OnOk r (new ≡ wanted) → (IsOk r ↔ Fits wanted size) → OnErr r (new ≡ old)
-    → OnOk r (step ≡ Done) → OnErr r (step ≡ Failed Room) → Came side env (edited size env head) step new vars
-edit_came side env vars head size old new wanted (Ok done) step at is made fits same ok err =
-    subst (λ (s : Stepped). Came side env (edited size env head) s new vars) (sym ok)
-    (went side env vars head size old new at (made ∙ is) (subst (λ (bs : List Block). load bs ≤ size) is (fits.0 refl)))
-edit_came side env vars head size old new wanted (Err x) step at is made fits same ok err =
-    let bad : load (front_blocks head env.body) ≤ size → ⊥ = λ h. let e : false ≡ true = fits.1 (subst (λ (bs : List Block). load bs ≤ size) (sym is) h) in cc in
-    subst (λ (s : Stepped). Came side env (edited size env head) s new vars) (sym err)
-    (full side env vars head size new (record { on = at.on; blocks_are = same ∙ at.blocks_are; vars_are = at.vars_are }) bad)
+pub edit_came : {T : Type 0} (side : Side) (env : Env) (vars : Variables) (head : Head) (size : ℕ) (old new : Contents) (wanted : List Block) (r : Result T Full) (step : Stepped)
+    → IsAt side env old.blocks vars → wanted ≡ front_blocks head env.body → OnOk r (new.blocks ≡ wanted) → (IsOk r ↔ Fits wanted size) → OnErr r (new ≡ old) → step ≡ step_by r
+    → Came side env (edited size env head) step new.blocks vars
+edit_came side env vars head size old new wanted (Ok done) step at is made fits same by =
+    subst (λ (s : Stepped). Came side env (edited size env head) s new.blocks vars) (sym by)
+    (went side env vars head size old.blocks new.blocks at (made ∙ is) (subst (λ (bs : List Block). load bs ≤ size) is (fits.0 refl)))
+edit_came side env vars head size old new wanted (Err x) step at is made fits same by =
+    let bad : load (front_blocks head env.body) ≤ size → ⊥ = λ h. false≢true (fits.1 (subst (λ (bs : List Block). load bs ≤ size) (sym is) h)) in
+    subst (λ (s : Stepped). Came side env (edited size env head) s new.blocks vars) (sym by)
+    (full side env vars head size new.blocks (record { on = at.on; blocks_are = ap (λ (x : Contents). x.blocks) same ∙ at.blocks_are; vars_are = at.vars_are }) bad)
 
 -- a text that is no field value
 pub bad_value : (side : Side) (env : Env) (vars : Variables) (size : ℕ) (text : List ℕ) (edit : List ℕ → Head) (blocks : List Block) → are_value_bytes text ≡ false → IsAt side env blocks vars
@@ -96,20 +100,38 @@ short_text side env vars size text held make step blocks made came = by (nat_le 
     by false e = absurd cc
 
 -- one more field
-pub added : {T X : Type 0} (side : Side) (env : Env) (vars : Variables) (name value : List ℕ) (size : ℕ) (old new : List Block) (r : Result T X) (step : Stepped)
-    → IsAt side env old vars → OnOk r (new ≡ with_header (Header name value) old) → (IsOk r ↔ Fits (with_header (Header name value) old) size) → OnErr r (new ≡ old)
-    → OnOk r (step ≡ Done) → OnErr r (step ≡ Failed Room) → Came side env (edited size env (add_field name value env.head)) step new vars
-added side env vars name value size old new r step at made fits same ok err =
-    edit_came side env vars (add_field name value env.head) size old new (with_header (Header name value) old) r step at
-    (ap (with_header (Header name value)) at.blocks_are ∙ front_with name value env.head env.body) made fits same ok err
+pub added : {T : Type 0} (side : Side) (env : Env) (vars : Variables) (name value text : List ℕ) (size : ℕ) (old new : Contents) (r : Result T Full) (step : Stepped)
+    → IsAt side env old.blocks vars → are_value_bytes text ≡ true → value ≡ trimmed text → OnOk r (new.blocks ≡ with_header (Header name value) old.blocks) → (IsOk r ↔ Fits (with_header (Header name value) old.blocks) size) → OnErr r (new ≡ old)
+    → step ≡ step_by r → Came side env (by_value size env text (λ v. add_field name v env.head)) step new.blocks vars
+added side env vars name value text size old new r step at good trims made fits same by =
+    good_value side env vars size text (λ v. add_field name v env.head) step new.blocks good
+    (subst (λ (v : List ℕ). Came side env (edited size env (add_field name v env.head)) step new.blocks vars) trims
+    (edit_came side env vars (add_field name value env.head) size old new (with_header (Header name value) old.blocks) r step at
+    (ap (with_header (Header name value)) at.blocks_are ∙ front_with name value env.head env.body) made fits same by))
 
 -- one in place of all of its name
-pub set : {T X : Type 0} (side : Side) (env : Env) (vars : Variables) (name value : List ℕ) (size : ℕ) (old new : List Block) (r : Result T X) (step : Stepped)
-    → IsAt side env old vars → OnOk r (new ≡ set_header name value old) → (IsOk r ↔ Fits (set_header name value old) size) → OnErr r (new ≡ old)
-    → OnOk r (step ≡ Done) → OnErr r (step ≡ Failed Room) → Came side env (edited size env (set_field name value env.head)) step new vars
-set side env vars name value size old new r step at made fits same ok err =
-    edit_came side env vars (set_field name value env.head) size old new (set_header name value old) r step at
-    (ap (set_header name value) at.blocks_are ∙ front_set name value env.head env.body) made fits same ok err
+pub set : {T : Type 0} (side : Side) (env : Env) (vars : Variables) (name value text : List ℕ) (size : ℕ) (old new : Contents) (r : Result T Full) (step : Stepped)
+    → IsAt side env old.blocks vars → are_value_bytes text ≡ true → value ≡ trimmed text → OnOk r (new.blocks ≡ set_header name value old.blocks) → (IsOk r ↔ Fits (set_header name value old.blocks) size) → OnErr r (new ≡ old)
+    → step ≡ step_by r → Came side env (by_value size env text (λ v. set_field name v env.head)) step new.blocks vars
+set side env vars name value text size old new r step at good trims made fits same by =
+    good_value side env vars size text (λ v. set_field name v env.head) step new.blocks good
+    (subst (λ (v : List ℕ). Came side env (edited size env (set_field name v env.head)) step new.blocks vars) trims
+    (edit_came side env vars (set_field name value env.head) size old new (set_header name value old.blocks) r step at
+    (ap (set_header name value) at.blocks_are ∙ front_set name value env.head env.body) made fits same by))
+
+-- fields that went
+pub taken : (side : Side) (env : Env) (vars : Variables) (which : NameMatch) (size : ℕ) (old new : List Block) → IsAt side env old vars → new ≡ without_matching which old → load new ≤ size
+    → Came side env (edited size env (record { line = env.head.line; fields = filter (λ f. not (is_field_matching which f)) env.head.fields })) Done new vars
+taken side env vars which size old new at gone fits =
+    let is : new ≡ front_blocks (record { line = env.head.line; fields = filter (λ f. not (is_field_matching which f)) env.head.fields }) env.body =
+        gone ∙ ap (without_matching which) at.blocks_are
+        ∙ front_filtered (λ b. not (is_header_matching which b)) (λ f. not (is_field_matching which f)) (λ f. refl) (line_stays which) refl (λ bytes. refl) env.head env.body
+    in
+    went side env vars (record { line = env.head.line; fields = filter (λ f. not (is_field_matching which f)) env.head.fields }) size old new at is (subst (λ (bs : List Block). load bs ≤ size) is fits)
+  where
+    line_stays : (w : NameMatch) (line : StartLine) → not (is_header_matching w (line_block line)) ≡ true
+    line_stays w (RequestLine a b c) = refl
+    line_stays w (StatusLine a b c) = refl
 
 -- blocks that a step left have the form of those that it began with
 pub front_left : (side : Side) (vars left : Variables) (old new : List Block) (make : Env → Result Env Why) (step : Stepped) → IsFront old

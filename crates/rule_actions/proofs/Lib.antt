@@ -3,3 +3,4 @@ pub mod Came
 pub mod Places
 pub mod Lines
 pub mod Targets
+pub mod Doing

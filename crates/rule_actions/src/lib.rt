@@ -14,6 +14,7 @@ mod status;
 mod stepped;
 mod target;
 mod texts;
+mod values;
 mod variables;
 
 pub use part::TargetPart;

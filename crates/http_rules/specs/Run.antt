@@ -1,0 +1,42 @@
+-- What a run of rules leaves in arrays and variables.
+use Rattle.std.specs.Prelude.{◌≡◌, ℕ, List, [], Bool}
+use Rattle.http_model.specs.Block.{Block}
+use Rattle.http_model.specs.Head.{Head, StartLine, RequestLine, StatusLine, front_blocks, head_blocks, message_blocks}
+use Rattle.session_model.specs.Env.{Verdict, Pass, Reply, Deny, Fail}
+use Rattle.px_sample.specs.Variables.{Variables}
+use Rattle.rule_model.specs.declared.rule.Rule.{Rule}
+use Rattle.rule_actions.specs.Given.{Env}
+use Rattle.rule_actions.specs.Outcome.{IsAt}
+use Rattle.rule_actions.specs.declared.side.Side.{Side}
+use Rattle.http_rules.specs.declared.verdict.Verdict.{Verdict as Answer}
+use Rattle.http_rules.specs.declared.verdict.Verdict.TheVariants as verdicts
+use Rattle.http_rules.specs.declared.verdict.Ruled.{Ruled}
+use Rattle.http_rules.specs.declared.verdict.Ruled.TheVariants.{Goes, Ends}
+use Rattle.http_rules.specs.Rules.{Comes, by_rule}
+
+-- The verdict is this one. What stands in the array and in the variables is the environment of that moment, after a failure the
+-- one in front of the failing step; a reply stands in its own array, which is empty otherwise.
+abbrev pub Leaves : Side → Comes → Answer → List Block → Variables → List Block → Type 0
+Leaves side (Pass left) verdicts.Pass blocks vars reply = IsAt side left blocks vars × (reply ≡ [])
+Leaves side (Reply m left) verdicts.Reply blocks vars reply = IsAt side left blocks vars × (reply ≡ message_blocks m)
+Leaves side (Deny code left) (verdicts.Deny told) blocks vars reply = (told ≡ code) × IsAt side left blocks vars × (reply ≡ [])
+Leaves side (Fail why left) (verdicts.Fail told) blocks vars reply = (told ≡ why) × IsAt side left blocks vars × (reply ≡ [])
+Leaves side comes verdict blocks vars reply = ⊥
+
+-- one rule goes on, so the others decide on the environment that it leaves
+pub record GoesOn (side : Side) (size : ℕ) (rule : Rule) (strict : Bool) (env : Env) (mode : Bool) (blocks : List Block) (vars : Variables) (reply : List Block) : Type 0 where
+  pub next : Env
+  pub at_next : IsAt side next blocks vars
+  pub no_reply : reply ≡ []
+  pub others : (rest : Bool → Env → Comes) → by_rule size rule strict env rest ≡ rest mode next
+
+-- one rule decides, whatever stands behind it
+pub record EndsRules (side : Side) (size : ℕ) (rule : Rule) (strict : Bool) (env : Env) (verdict : Answer) (blocks : List Block) (vars : Variables) (reply : List Block) : Type 0 where
+  pub comes : Comes
+  pub leaves : Leaves side comes verdict blocks vars reply
+  pub whatever : (rest : Bool → Env → Comes) → by_rule size rule strict env rest ≡ comes
+
+-- what one rule came to
+abbrev pub RuleLeaves : Side → (size : ℕ) → Rule → (strict : Bool) → Env → Ruled → List Block → Variables → List Block → Type 0
+RuleLeaves side size rule strict env (Goes mode) blocks vars reply = GoesOn side size rule strict env mode blocks vars reply
+RuleLeaves side size rule strict env (Ends verdict) blocks vars reply = EndsRules side size rule strict env verdict blocks vars reply
