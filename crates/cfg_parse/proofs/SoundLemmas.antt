@@ -19,9 +19,9 @@ use Rattle.log_format.specs.declared.fmt.Fmt.{Fmt}
 use Rattle.rule_model.specs.declared.rule.Rule.{Rule}
 use Rattle.rule_model.specs.declared.action.Action.TheVariants.{Allow, AddHeader, SetHeader}
 use Rattle.rule_model.specs.declared.names.Direction.TheVariants as directions
-use Rattle.rule_model.specs.Valid.{IsName, IsMadeName, IsGoodAction, IsGoodRule, AreRules}
+use Rattle.rule_model.specs.Valid.{IsName, IsMadeName, IsGoodRule}
 use Rattle.http_rules.specs.declared.config.Config.{Config}
-use Rattle.http_rules.specs.Valid.{AreLimits, HasPort, HasHost, IsChain, IsValid}
+use Rattle.http_rules.specs.Valid.{AreLimits, HasPort, HasHost, IsChain, IsBuilt, AreRun, IsValid}
 use Rattle.cfg_parse.specs.declared.fault.CfgKind.{CfgKind}
 use Rattle.cfg_parse.specs.declared.fault.CfgKind.TheVariants.{Argument, Section, Keyword, FramingName, Limit, Missing, Unbuilt}
 use Rattle.cfg_parse.specs.declared.fault.CfgFault.{CfgFault}
@@ -169,29 +169,30 @@ made_field-good arguments field e =
     same_name b.0 (literal_format c.0.0) field d.1.1 (made_name-good a.0.0 b.0 b.1.0)
 
 -- a rule of requests, as the lines of today make them
-abbrev IsGood : Rule → Type 0
-IsGood rule = IsGoodRule directions.Request rule
+record IsGood (rule : Rule) : Type 0 where
+  pub good : IsGoodRule directions.Request rule
+  pub built : IsBuilt rule
 
 action_rule-good : (name : ActionName) (arguments : List (List ℕ)) (rule : Rule) → action_rule name arguments ≡ Ok rule → IsGood rule
 unfolding action_rule
 action_rule-good actions.Allow arguments rule e =
     let b = bind_ok (no_more arguments) (λ ended. Ok (record { action = Allow; cond = None })) rule e in
     let made : Rule = record { action = Allow; cond = None } in
-    subst IsGood (ok_is made rule b.1.1) (record { stands = refl; good = tt })
+    subst IsGood (ok_is made rule b.1.1) (record { good = record { stands = refl; good = tt }; built = refl })
 action_rule-good actions.AddHeader arguments rule e =
     let b = bind_ok (made_field arguments) (λ field. Ok (record { action = AddHeader field.0 field.1; cond = None })) rule e in
     let made : Rule = record { action = AddHeader b.0.0 b.0.1; cond = None } in
-    subst IsGood (ok_is made rule b.1.1) (record { stands = refl; good = made_field-good arguments b.0 b.1.0 })
+    subst IsGood (ok_is made rule b.1.1) (record { good = record { stands = refl; good = made_field-good arguments b.0 b.1.0 }; built = refl })
 action_rule-good actions.SetHeader arguments rule e =
     let b = bind_ok (made_field arguments) (λ field. Ok (record { action = SetHeader field.0 field.1; cond = None })) rule e in
     let made : Rule = record { action = SetHeader b.0.0 b.0.1; cond = None } in
-    subst IsGood (ok_is made rule b.1.1) (record { stands = refl; good = made_field-good arguments b.0 b.1.0 })
+    subst IsGood (ok_is made rule b.1.1) (record { good = record { stands = refl; good = made_field-good arguments b.0 b.1.0 }; built = refl })
 action_rule-good actions.Later arguments rule e = absurd cc
 action_rule-good actions.Unknown arguments rule e = absurd cc
 
-rules_push : (rules : List Rule) (rule : Rule) → AllByRecursion IsGood rules → IsGood rule → AllByRecursion IsGood (rules ++ rule ∷ [])
-rules_push [] rule all good = (good, tt)
-rules_push (r ∷ rules) rule all good = (all.0, rules_push rules rule all.1 good)
+rules_push : (P : Rule → Type 0) (rules : List Rule) (rule : Rule) → AllByRecursion P rules → P rule → AllByRecursion P (rules ++ rule ∷ [])
+rules_push P [] rule all good = (good, tt)
+rules_push P (r ∷ rules) rule all good = (all.0, rules_push P rules rule all.1 good)
 
 -- ---- the configuration so far
 
@@ -200,9 +201,9 @@ pub record IsSound (draft : Draft) : Type 0 where
   pub bufsize : IfSome draft.bufsize (λ n. (1024 ≤ n) × (n ≤ 262144))
   pub bind : IfSome draft.bind HasPort
   pub server : IfSome draft.server (λ a. HasPort a × HasHost a)
-  pub request : AreRules directions.Request draft.request
-  pub response : AreRules directions.Response draft.response
-  pub after : AreRules directions.After draft.after
+  pub request : AreRun directions.Request draft.request
+  pub response : AreRun directions.Response draft.response
+  pub after : AreRun directions.After draft.after
   pub req_filters : IsChain draft.req_filters
   pub res_filters : IsChain draft.res_filters
 
@@ -271,7 +272,8 @@ rule_line-sound draft arguments s =
     keeps_bind (argument arguments) _ (λ action is. keeps_bind (action_rule (action_name_of action.0) action.1) _ (λ rule rule-is. keeps_if (ltb (length draft.request) 1024) Limit _ (λ test.
     let len : length (draft.request ++ rule ∷ []) ≡ length draft.request + 1 = length-append draft.request (rule ∷ []) in
     let few : length (draft.request ++ rule ∷ []) ≤ 1024 = grind (arith, nat_tests) in
-    record { bufsize = s.bufsize; bind = s.bind; server = s.server; request = record { each = rules_push draft.request rule s.request.each (action_rule-good (action_name_of action.0) action.1 rule rule-is); few = few }; response = s.response; after = s.after; req_filters = s.req_filters; res_filters = s.res_filters })))
+    let made : IsGood rule = action_rule-good (action_name_of action.0) action.1 rule rule-is in
+    record { bufsize = s.bufsize; bind = s.bind; server = s.server; request = record { valid = record { each = rules_push (IsGoodRule directions.Request) draft.request rule s.request.valid.each made.good; few = few }; built = rules_push IsBuilt draft.request rule s.request.built made.built }; response = s.response; after = s.after; req_filters = s.req_filters; res_filters = s.res_filters })))
 
 filter_added-sound : (draft : Draft) (direction : Direction) (filter : FilterSpec) → IsSound draft → IsFilter filter → Keeps (filter_added draft direction filter)
 filter_added-sound draft Request filter s good =
@@ -340,7 +342,7 @@ lines_from-sound number draft (line ∷ others) s =
     behind-sound number (line_of draft line) (λ next. lines_from (number + 1) next others) (line_of-sound draft line s) (λ next sound. lines_from-sound (number + 1) next others sound)
 
 start-sound : IsSound start
-start-sound = record { bufsize = tt; bind = tt; server = tt; request = record { each = tt; few = omega arith }; response = record { each = tt; few = omega arith }; after = record { each = tt; few = omega arith }; req_filters = none_chain; res_filters = none_chain }
+start-sound = record { bufsize = tt; bind = tt; server = tt; request = record { valid = record { each = tt; few = omega arith }; built = tt }; response = record { valid = record { each = tt; few = omega arith }; built = tt }; after = record { valid = record { each = tt; few = omega arith }; built = tt }; req_filters = none_chain; res_filters = none_chain }
 
 -- the size of the buffer of a sound draft
 bufsize-within : (bufsize : Option ℕ) → IfSome bufsize (λ n. (1024 ≤ n) × (n ≤ 262144)) → (1024 ≤ unwrap_or bufsize 16384) × (unwrap_or bufsize 16384 ≤ 262144)

@@ -1,10 +1,13 @@
 -- What a run of rules leaves in arrays and variables.
-use Rattle.std.specs.Prelude.{◌≡◌, ℕ, List, [], Bool}
+use Rattle.std.specs.Prelude.{◌≡◌, ℕ, List, [], Bool, not, ◌&&◌, if◌then◌else◌}
 use Rattle.http_model.specs.Block.{Block}
-use Rattle.http_model.specs.Head.{Head, StartLine, RequestLine, StatusLine, front_blocks, head_blocks, message_blocks}
+use Rattle.http_model.specs.Head.{Head, head_blocks, message_blocks}
 use Rattle.session_model.specs.Env.{Verdict, Pass, Reply, Deny, Fail}
 use Rattle.px_sample.specs.Variables.{Variables}
+use Rattle.rule_model.specs.declared.action.Action.{Action}
 use Rattle.rule_model.specs.declared.rule.Rule.{Rule}
+use Rattle.rule_actions.specs.declared.act.Acted.{Acted}
+use Rattle.rule_actions.specs.declared.act.Acted.TheVariants as acted
 use Rattle.rule_actions.specs.Given.{Env}
 use Rattle.rule_actions.specs.Outcome.{IsAt}
 use Rattle.rule_actions.specs.declared.side.Side.{Side}
@@ -12,7 +15,7 @@ use Rattle.http_rules.specs.declared.verdict.Verdict.{Verdict as Answer}
 use Rattle.http_rules.specs.declared.verdict.Verdict.TheVariants as verdicts
 use Rattle.http_rules.specs.declared.verdict.Ruled.{Ruled}
 use Rattle.http_rules.specs.declared.verdict.Ruled.TheVariants.{Goes, Ends}
-use Rattle.http_rules.specs.Rules.{Comes, by_rule}
+use Rattle.http_rules.specs.Rules.{Comes, by_rule, answers, mode_after}
 
 -- The verdict is this one. What stands in the array and in the variables is the environment of that moment, after a failure the
 -- one in front of the failing step; a reply stands in its own array, which is empty otherwise.
@@ -21,7 +24,30 @@ Leaves side (Pass left) verdicts.Pass blocks vars reply = IsAt side left blocks 
 Leaves side (Reply m left) verdicts.Reply blocks vars reply = IsAt side left blocks vars × (reply ≡ message_blocks m)
 Leaves side (Deny code left) (verdicts.Deny told) blocks vars reply = (told ≡ code) × IsAt side left blocks vars × (reply ≡ [])
 Leaves side (Fail why left) (verdicts.Fail told) blocks vars reply = (told ≡ why) × IsAt side left blocks vars × (reply ≡ [])
-Leaves side comes verdict blocks vars reply = ⊥
+Leaves side (Pass left) verdicts.Reply blocks vars reply = ⊥
+Leaves side (Pass left) (verdicts.Deny told) blocks vars reply = ⊥
+Leaves side (Pass left) (verdicts.Fail told) blocks vars reply = ⊥
+Leaves side (Reply m left) verdicts.Pass blocks vars reply = ⊥
+Leaves side (Reply m left) (verdicts.Deny told) blocks vars reply = ⊥
+Leaves side (Reply m left) (verdicts.Fail told) blocks vars reply = ⊥
+Leaves side (Deny code left) verdicts.Pass blocks vars reply = ⊥
+Leaves side (Deny code left) verdicts.Reply blocks vars reply = ⊥
+Leaves side (Deny code left) (verdicts.Fail told) blocks vars reply = ⊥
+Leaves side (Fail why left) verdicts.Pass blocks vars reply = ⊥
+Leaves side (Fail why left) verdicts.Reply blocks vars reply = ⊥
+Leaves side (Fail why left) (verdicts.Deny told) blocks vars reply = ⊥
+
+-- what an action's outcome means under a mode
+abbrev pub ruled_by : (strict : Bool) → Action → Acted → Ruled
+ruled_by strict action acted.Next = Goes (mode_after strict action)
+ruled_by strict action acted.Stop = Ends verdicts.Pass
+ruled_by strict action acted.Reply = Ends verdicts.Reply
+ruled_by strict action (acted.Deny code) = Ends (verdicts.Deny code)
+ruled_by strict action (acted.Failed why) = if not strict && not (answers action) then Goes strict else Ends (verdicts.Fail why)
+
+-- the blocks are those of a head
+abbrev pub IsHead : List Block → Type 0
+IsHead blocks = (head : Head) × (blocks ≡ head_blocks head)
 
 -- one rule goes on, so the others decide on the environment that it leaves
 pub record GoesOn (side : Side) (size : ℕ) (rule : Rule) (strict : Bool) (env : Env) (mode : Bool) (blocks : List Block) (vars : Variables) (reply : List Block) : Type 0 where

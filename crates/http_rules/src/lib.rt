@@ -2,12 +2,23 @@
 #![tactic(auto)]
 
 mod config;
+mod laws;
+mod lives;
+mod run;
+mod verdict;
 
 pub use body_filter::FilterSpec;
 pub use config::{Config, Filters};
 pub use http_model::{Limits, Why};
+pub use laws::body_stays;
+pub use lives::{begin_answer, begin_exchange};
+pub use px_expr::Searchers;
+pub use px_sample::Vars;
+pub use rule_actions::Scratch;
 pub use px_link::{Address, OutOfMemory};
 pub use rule_model::{
     Action, ActionName, Cond, DelBy, Direction, Expr, Fmt, Hdr, HdrList, Part, PartList, Pat, Payload,
     RedirectTo, Rule, Rules, Scope, Text, stands_in,
 };
+pub use run::{run_request, run_response};
+pub use verdict::Verdict;

@@ -1,27 +1,235 @@
 //! Rules run on a message in an array, in their order.
-ghost use Rattle.std.specs.Prelude.{◌≡◌, ◌≤◌, [], true, false, length, IsOk, IfOk};
-ghost use Rattle.std.specs.List.{list_any};
-ghost use Rattle.http_model.specs.Head.{Head, head_blocks};
-ghost use Rattle.session_model.specs.Env.{request_env, response_env, reply_env};
-ghost use Rattle.rule_model.specs.Valid.{AreRules, IsGoodRule};
+ghost use Rattle.std.specs.Prelude.{◌≡◌, [], true, false, IsOk, IfOk};
+ghost use Rattle.std.specs.List.{AllByRecursion};
+ghost use Rattle.http_model.specs.Head.{Head, head_blocks, front_blocks};
+ghost use Rattle.session_model.specs.Env.{request_env, response_env};
+ghost use Rattle.std.specs.Prelude.{List, ℕ};
+ghost use Rattle.rule_model.specs.Valid.{IsGoodAction};
 ghost use Rattle.rule_model.specs.Patterns.{rules_hold_pattern, rule_holds_pattern, cond_holds_pattern};
-ghost use Rattle.rule_model.specs.declared.names.Direction.{Direction as List_};
+ghost use Rattle.rule_model.specs.declared.names.Direction.TheVariants as directions;
 ghost use Rattle.rule_actions.specs.Given.{Env};
 ghost use Rattle.rule_actions.specs.Outcome.{IsScratch, IsAt, IsFront};
 ghost use Rattle.http_rules.specs.Rules as spec;
-ghost use Rattle.http_rules.specs.Run.{Leaves, RuleLeaves};
+ghost use Rattle.http_rules.specs.Run.{Leaves, RuleLeaves, ruled_by, IsHead};
+ghost use Rattle.http_rules.specs.Valid.{AreRun, IsBuilt};
+ghost use Rattle.rule_actions.specs.declared.side.Side.TheVariants as sides;
 
 use crate::verdict::{Ruled, Verdict};
 use htx_arena::Arena;
 use px_expr::Searchers;
 use px_sample::{OutOfMemory, Vars};
 use rule_actions::{Acted, Scratch, Side, is_met, run_action};
-use rule_model::{Action, Cond, Rule, Rules};
+use rule_model::{Action, Rule, Rules};
 use std::alloc::Global;
 
-/// Whether the action answers by itself.
+/// Whether the action answers by itself, so that a failure of its is never passed over.
 fn answers(action: &Action) -> bool
     ensures { result ≡ spec.answers action.now }
 {
-    matches!(action, Action::Redirect { .. } | Action::Return { .. })
+    match action {
+        Action::Redirect { .. } | Action::Return { .. } => true,
+        Action::Allow
+        | Action::Deny(_)
+        | Action::AddHeader(_, _)
+        | Action::SetHeader(_, _)
+        | Action::DelHeader(_)
+        | Action::ReplaceHeader(_, _, _)
+        | Action::ReplaceValue(_, _, _)
+        | Action::SetMethod(_)
+        | Action::SetPath(_)
+        | Action::SetPathq(_)
+        | Action::SetUri(_)
+        | Action::SetQuery(_)
+        | Action::ReplacePath(_, _)
+        | Action::ReplacePathq(_, _)
+        | Action::ReplaceUri(_, _)
+        | Action::SetStatus(_, _)
+        | Action::SetVar(_, _, _)
+        | Action::UnsetVar(_, _)
+        | Action::StrictMode(_) => false,
+    }
+}
+
+/// The mode behind an action.
+fn mode_after(strict: bool, action: &Action) -> bool
+    ensures { result ≡ spec.mode_after strict action.now }
+{
+    match action {
+        Action::StrictMode(on) => *on,
+        Action::Allow
+        | Action::Deny(_)
+        | Action::AddHeader(_, _)
+        | Action::SetHeader(_, _)
+        | Action::DelHeader(_)
+        | Action::ReplaceHeader(_, _, _)
+        | Action::ReplaceValue(_, _, _)
+        | Action::SetMethod(_)
+        | Action::SetPath(_)
+        | Action::SetPathq(_)
+        | Action::SetUri(_)
+        | Action::SetQuery(_)
+        | Action::ReplacePath(_, _)
+        | Action::ReplacePathq(_, _)
+        | Action::ReplaceUri(_, _)
+        | Action::SetStatus(_, _)
+        | Action::Redirect { .. }
+        | Action::Return { .. }
+        | Action::SetVar(_, _, _)
+        | Action::UnsetVar(_, _) => strict,
+    }
+}
+
+/// What an action's outcome means under a mode.
+fn outcome_of(strict: bool, action: &Action, acted: Acted) -> Ruled
+    ensures { result ≡ ruled_by strict action.now acted }
+{
+    match acted {
+        Acted::Next => Ruled::Goes(mode_after(strict, action)),
+        Acted::Stop => Ruled::Ends(Verdict::Pass),
+        Acted::Reply => Ruled::Ends(Verdict::Reply),
+        Acted::Deny(code) => Ruled::Ends(Verdict::Deny(code)),
+        Acted::Failed(why) => {
+            if !strict && !answers(action) {
+                Ruled::Goes(strict)
+            } else {
+                Ruled::Ends(Verdict::Fail(why))
+            }
+        }
+    }
+}
+
+/// Whether the condition of a rule holds.
+fn runs<'c>(
+    alloc: Global,
+    searchers: &mut Searchers<'c>,
+    rule: &'c Rule,
+    side: Side<'_>,
+    msg: &Arena,
+    vars: &Vars,
+    scratch: &mut Scratch,
+) -> Result<bool, OutOfMemory>
+    requires { IsScratch msg.now.size scratch.old }
+    ensures truth { IfOk result (λ truth. (env : Env) → IsAt side.entry env msg.now.blocks vars.now → truth ≡ spec.runs msg.now.size rule.now.cond env) }
+    ensures succeeds { cond_holds_pattern rule.now.cond ≡ false → IsOk result }
+    ensures scratch { IsScratch msg.now.size scratch.new }
+{
+    match &rule.cond {
+        Some(cond) => is_met(alloc, searchers, cond, side, msg, vars, scratch),
+        None => Ok(true),
+    }
+}
+
+/// Runs one rule under a mode.
+fn run_rule<'c>(
+    alloc: Global,
+    searchers: &mut Searchers<'c>,
+    rule: &'c Rule,
+    strict: bool,
+    side: Side<'_>,
+    msg: &mut Arena,
+    vars: &mut Vars,
+    scratch: &mut Scratch,
+    reply: &mut Arena,
+) -> Result<Ruled, OutOfMemory>
+    requires scratch { IsScratch msg.old.size scratch.old }
+    requires front { IsFront msg.old.blocks }
+    requires reply_size { reply.old.size ≡ msg.old.size }
+    requires no_reply { reply.old.blocks ≡ [] }
+    requires valid { IsGoodAction rule.now.action }
+    requires built { IsBuilt rule.now }
+    ensures ruled { IfOk result (λ ruled. (env : Env) → IsAt side.entry env msg.old.blocks vars.old → RuleLeaves side.entry msg.old.size rule.now strict env ruled msg.new.blocks vars.new reply.new.blocks) }
+    ensures succeeds { rule_holds_pattern rule.now ≡ false → IsOk result }
+    ensures size { msg.new.size ≡ msg.old.size }
+    ensures scratch { IsScratch msg.old.size scratch.new }
+    ensures reply_size { reply.new.size ≡ msg.old.size }
+{
+    if !runs(alloc, searchers, rule, side, msg, vars, scratch)? {
+        return Ok(Ruled::Goes(strict));
+    }
+    let acted = run_action(alloc, searchers, &rule.action, side, msg, vars, scratch, reply)?;
+    Ok(outcome_of(strict, &rule.action, acted))
+}
+
+/// Runs rules in their order. The first one that does not go on decides.
+fn run_rules<'c>(
+    alloc: Global,
+    searchers: &mut Searchers<'c>,
+    rules: &'c Rules,
+    side: Side<'_>,
+    msg: &mut Arena,
+    vars: &mut Vars,
+    scratch: &mut Scratch,
+    reply: &mut Arena,
+) -> Result<Verdict, OutOfMemory>
+    requires scratch { IsScratch msg.old.size scratch.old }
+    requires front { IsFront msg.old.blocks }
+    requires reply_size { reply.old.size ≡ msg.old.size }
+    requires no_reply { reply.old.blocks ≡ [] }
+    requires good { AllByRecursion (λ rule. IsGoodAction rule.action) rules.now }
+    requires built { AllByRecursion IsBuilt rules.now }
+    ensures leaves { IfOk result (λ verdict. (env : Env) → IsAt side.entry env msg.old.blocks vars.old → Leaves side.entry (spec.rules_of msg.old.size rules.now env) verdict msg.new.blocks vars.new reply.new.blocks) }
+    ensures succeeds { rules_hold_pattern rules.now ≡ false → IsOk result }
+    ensures size { msg.new.size ≡ msg.old.size }
+    ensures scratch { IsScratch msg.old.size scratch.new }
+    ensures reply_size { reply.new.size ≡ msg.old.size }
+{
+    let mut strict = true;
+    for at in 0..rules.len() {
+        let rule = rules.get(at);
+        match run_rule(alloc, searchers, rule, strict, side, msg, vars, scratch, reply)? {
+            Ruled::Goes(mode) => strict = mode,
+            Ruled::Ends(verdict) => return Ok(verdict),
+        }
+    }
+    Ok(Verdict::Pass)
+}
+
+/// Runs the rules of requests on a head. Pass leaves the edited head; Reply leaves a reply in its array, without a field that speaks
+/// of the connection; Fail leaves the head in front of the step that failed.
+pub fn run_request<'c>(
+    alloc: Global,
+    searchers: &mut Searchers<'c>,
+    rules: &'c Rules,
+    msg: &mut Arena,
+    vars: &mut Vars,
+    scratch: &mut Scratch,
+    reply: &mut Arena,
+) -> Result<Verdict, OutOfMemory>
+    requires scratch { IsScratch msg.old.size scratch.old }
+    requires head { IsHead msg.old.blocks }
+    requires reply_size { reply.old.size ≡ msg.old.size }
+    requires no_reply { reply.old.blocks ≡ [] }
+    requires valid { AreRun directions.Request rules.now }
+    ensures runs { IfOk result (λ verdict. (head : Head) → msg.old.blocks ≡ head_blocks head → Leaves sides.Request (spec.rules_of msg.old.size rules.now (request_env vars.old head)) verdict msg.new.blocks vars.new reply.new.blocks) }
+    ensures succeeds { rules_hold_pattern rules.now ≡ false → IsOk result }
+    ensures size { msg.new.size ≡ msg.old.size }
+    ensures scratch { IsScratch msg.old.size scratch.new }
+    ensures reply_size { reply.new.size ≡ msg.old.size }
+{
+    run_rules(alloc, searchers, rules, Side::Request, msg, vars, scratch, reply)
+}
+
+/// Runs the rules of responses on a head, which answers a request of this method. As `run_request`.
+pub fn run_response<'c>(
+    alloc: Global,
+    searchers: &mut Searchers<'c>,
+    rules: &'c Rules,
+    method: &[u8],
+    msg: &mut Arena,
+    vars: &mut Vars,
+    scratch: &mut Scratch,
+    reply: &mut Arena,
+) -> Result<Verdict, OutOfMemory>
+    requires scratch { IsScratch msg.old.size scratch.old }
+    requires head { IsHead msg.old.blocks }
+    requires reply_size { reply.old.size ≡ msg.old.size }
+    requires no_reply { reply.old.blocks ≡ [] }
+    requires valid { AreRun directions.Response rules.now }
+    ensures runs { IfOk result (λ verdict. (head : Head) → msg.old.blocks ≡ head_blocks head → Leaves (sides.Answer method.entry) (spec.rules_of msg.old.size rules.now (response_env vars.old method.now head)) verdict msg.new.blocks vars.new reply.new.blocks) }
+    ensures succeeds { rules_hold_pattern rules.now ≡ false → IsOk result }
+    ensures size { msg.new.size ≡ msg.old.size }
+    ensures scratch { IsScratch msg.old.size scratch.new }
+    ensures reply_size { reply.new.size ≡ msg.old.size }
+{
+    run_rules(alloc, searchers, rules, Side::Answer(method), msg, vars, scratch, reply)
 }

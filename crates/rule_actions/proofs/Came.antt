@@ -151,3 +151,10 @@ front_left side vars left old new make step front came =
     by_side (Answer method) h =
         let env : Env = record { is_request = false; head = front.0; body = front.1; method = method.now; vars = vars } in
         of_came env (make env) step (Answer method) (h env (record { on = (refl, refl); blocks_are = front.2; vars_are = refl }))
+
+-- a text that was made and is not longer than the buffer, as it is lent
+pub short_made : (side : Side) (env : Env) (vars : Variables) (size : ℕ) (text held lent : List ℕ) (fits : Bool) (make : List ℕ → Result Env Why) (step : Stepped) (blocks : List Block) → IsMade size text fits held
+    → fits ≡ true → lent ≡ held → Came side env (make lent) step blocks vars → Came side env (by_text size text make) step blocks vars
+short_made side env vars size text held lent fits make step blocks made good is came =
+    short_text side env vars size text held make step blocks (subst (λ (b : Bool). IsMade size text b held) good made)
+    (subst (λ (bytes : List ℕ). Came side env (make bytes) step blocks vars) is came)

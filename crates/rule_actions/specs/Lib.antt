@@ -11,5 +11,5 @@ pub mod Replacing
 pub mod Replies
 pub mod Steps
 pub mod Acts
-pub mod Removed
 pub mod Outcome
+pub mod Does

@@ -64,6 +64,12 @@ queried None [] = []
 queried None (b ∷ text) = 63 ∷ b ∷ text
 queried (Some query) text = 63 ∷ text
 
+-- the `?` in front of a text, where a query, with its own `?`, stood there before
+abbrev pub mark_by : (query text : List ℕ) → List ℕ
+mark_by [] [] = []
+mark_by [] (b ∷ text) = 63 ∷ []
+mark_by (b ∷ query) text = 63 ∷ []
+
 -- the target with another query
 abbrev pub with_query : (target text : List ℕ) → List ℕ
 with_query target text = origin_of target ++ (path_of target ++ queried (target_parts target).query text)

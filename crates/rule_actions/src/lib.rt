@@ -2,21 +2,21 @@
 //! front of it.
 #![tactic(auto)]
 
+mod act;
 mod fields;
 mod line;
 mod making;
 mod part;
 mod removal;
-mod replace;
 mod scratch;
 mod side;
 mod status;
 mod stepped;
 mod target;
 mod texts;
-mod values;
 mod variables;
 
+pub use act::{Acted, run_action};
 pub use part::TargetPart;
 pub use scratch::Scratch;
 pub use side::Side;

@@ -60,16 +60,23 @@ pub(crate) fn around(part: TargetPart, target: &[u8]) -> (&[u8], &[u8])
     }
 }
 
-/// What stands in front of a new query: the target without its query, and a `?` where one is there or the query is not empty.
+/// The `?` in front of a new query: where there was one, or the query is not empty.
+fn mark_before(query: &[u8], text: &[u8]) -> &'static [u8]
+    ensures { result.now ≡ spec.mark_by query.now text.now }
+{
+    match query {
+        [_, ..] => b"?",
+        [] => match text {
+            [_, ..] => b"?",
+            [] => &[],
+        },
+    }
+}
+
+/// What stands in front of a new query: the target without its query, and the `?`, if there is to be one.
 pub(crate) fn before_query<'a>(target: &'a [u8], text: &[u8]) -> (&'a [u8], &'a [u8])
     ensures { result.0.now ++ (result.1.now ++ text.now) ≡ spec.with_query target.now text.now }
 {
     let (front, query) = cut_query(target);
-    if !query.is_empty() {
-        return (front, b"?");
-    }
-    if text.is_empty() {
-        return (front, &[]);
-    }
-    (front, b"?")
+    (front, mark_before(query, text))
 }

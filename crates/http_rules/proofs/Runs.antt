@@ -1,0 +1,144 @@
+-- A run of rules, rule by rule.
+use Rattle.std.proofs.Common.{◌≡◌, ℕ, zero, suc, ◌+◌, ◌≤◌, List, [], ◌∷◌, Bool, true, false, cond, refl, sym, ap, ◌∙◌, subst, length, drop, arith, add-one}
+use Rattle.std.specs.Prelude.{slice_get, Some, not, ◌&&◌}
+use Rattle.std.specs.List.{AllByRecursion}
+use Rattle.std.proofs.Math.ListN.{drop_of_length-le}
+use Rattle.http_model.specs.declared.Why.{Why}
+use Rattle.http_model.specs.Block.{Block}
+use Rattle.http_model.specs.Head.{front_blocks}
+use Rattle.session_model.specs.Env.{Pass, Reply, Deny, Fail}
+use Rattle.px_sample.specs.Variables.{Variables}
+use Rattle.rule_model.specs.declared.action.Action.{Action}
+use Rattle.rule_model.specs.declared.rule.Rule.{Rule}
+use Rattle.rule_actions.specs.Given.{Env}
+use Rattle.rule_actions.specs.declared.side.Side.{Side}
+use Rattle.rule_actions.specs.declared.side.Side.TheVariants.{Request, Answer}
+use Rattle.rule_actions.specs.declared.act.Acted.{Acted}
+use Rattle.rule_actions.specs.declared.act.Acted.TheVariants as acted
+use Rattle.rule_actions.specs.Acts.{Act, Next, Stop, Replies, Denies, Fails, act}
+use Rattle.rule_actions.specs.Does.{Does}
+use Rattle.rule_actions.specs.Outcome.{IsAt, IsOn, IsFront}
+use Rattle.http_rules.specs.declared.verdict.Ruled.{Ruled}
+use Rattle.http_rules.specs.declared.verdict.Ruled.TheVariants.{Goes, Ends}
+use Rattle.http_rules.specs.declared.verdict.Verdict.{Verdict as Answered}
+use Rattle.http_rules.specs.declared.verdict.Verdict.TheVariants as verdicts
+use Rattle.http_rules.specs.Rules.{Comes, answers, mode_after, runs, behind, by_rule, walk, rules_of}
+use Rattle.http_rules.specs.Run.{Leaves, GoesOn, EndsRules, RuleLeaves, ruled_by}
+
+-- a rule that does not run
+pub passed_over : (side : Side) (size : ℕ) (rule : Rule) (strict : Bool) (env : Env) (blocks : List Block) (vars : Variables) (reply : List Block)
+    → IsAt side env blocks vars → reply ≡ [] → runs size rule.cond env ≡ false → RuleLeaves side size rule strict env (Goes strict) blocks vars reply
+passed_over side size rule strict env blocks vars reply at none off =
+    record {
+      next = env;
+      at_next = at;
+      no_reply = none;
+      others = λ rest. ap (λ (t : Bool). cond t (behind strict rule.action env (act size rule.action env) rest) (rest strict env)) off;
+    }
+
+-- one that does
+pub ran : (side : Side) (size : ℕ) (rule : Rule) (strict : Bool) (env : Env) (done : Acted) (blocks : List Block) (vars : Variables) (reply : List Block)
+    → Does side env (act size rule.action env) done blocks vars reply → runs size rule.cond env ≡ true → RuleLeaves side size rule strict env (ruled_by strict rule.action done) blocks vars reply
+ran side size rule strict env done blocks vars reply does on = by (act size rule.action env) done refl does
+  where
+    known : (o : Act) → act size rule.action env ≡ o → (rest : Bool → Env → Comes) → by_rule size rule strict env rest ≡ behind strict rule.action env o rest
+    known o e rest =
+        ap (λ (t : Bool). cond t (behind strict rule.action env (act size rule.action env) rest) (rest strict env)) on
+        ∙ ap (λ (x : Act). behind strict rule.action env x rest) e
+    failed : (t : Bool) (why told : Why) (left : Env) → (not strict && not (answers rule.action)) ≡ t → act size rule.action env ≡ Fails why left → told ≡ why → IsAt side left blocks vars → reply ≡ []
+        → RuleLeaves side size rule strict env (cond t (Goes strict) (Ends (verdicts.Fail told))) blocks vars reply
+    failed true why told left off e same at none =
+        record { next = left; at_next = at; no_reply = none; others = λ rest. known (Fails why left) e rest ∙ ap (λ (t : Bool). cond t (rest strict left) (Fail why left)) off }
+    failed false why told left off e same at none =
+        record { comes = Fail why left; leaves = (same, at, none); whatever = λ rest. known (Fails why left) e rest ∙ ap (λ (t : Bool). cond t (rest strict left) (Fail why left)) off }
+    by : (o : Act) (d : Acted) → act size rule.action env ≡ o → Does side env o d blocks vars reply → RuleLeaves side size rule strict env (ruled_by strict rule.action d) blocks vars reply
+    by (Next next) acted.Next e h = record { next = next; at_next = h.0; no_reply = h.1; others = known (Next next) e }
+    by (Next next) acted.Stop e h = absurd h
+    by (Next next) acted.Reply e h = absurd h
+    by (Next next) (acted.Deny told) e h = absurd h
+    by (Next next) (acted.Failed told) e h = absurd h
+    by Stop acted.Next e h = absurd h
+    by Stop acted.Stop e h = record { comes = Pass env; leaves = (h.0, h.1); whatever = known Stop e }
+    by Stop acted.Reply e h = absurd h
+    by Stop (acted.Deny told) e h = absurd h
+    by Stop (acted.Failed told) e h = absurd h
+    by (Replies m) acted.Next e h = absurd h
+    by (Replies m) acted.Stop e h = absurd h
+    by (Replies m) acted.Reply e h = record { comes = Reply m env; leaves = (h.0, h.1); whatever = known (Replies m) e }
+    by (Replies m) (acted.Deny told) e h = absurd h
+    by (Replies m) (acted.Failed told) e h = absurd h
+    by (Denies code) acted.Next e h = absurd h
+    by (Denies code) acted.Stop e h = absurd h
+    by (Denies code) acted.Reply e h = absurd h
+    by (Denies code) (acted.Deny told) e h = record { comes = Deny code env; leaves = (h.0, h.1, h.2); whatever = known (Denies code) e }
+    by (Denies code) (acted.Failed told) e h = absurd h
+    by (Fails why left) acted.Next e h = absurd h
+    by (Fails why left) acted.Stop e h = absurd h
+    by (Fails why left) acted.Reply e h = absurd h
+    by (Fails why left) (acted.Deny told) e h = absurd h
+    by (Fails why left) (acted.Failed told) e h = failed (not strict && not (answers rule.action)) why told left refl e h.0 h.1 h.2
+
+-- the rules from a place on begin with the one that stands there
+drop_get : (rules : List Rule) (at : ℕ) (rule : Rule) → slice_get rules at ≡ Some rule → drop at rules ≡ rule ∷ drop (suc at) rules
+drop_get [] at rule is = cc
+drop_get (r ∷ rules) zero rule is = let same : r ≡ rule = cc in ap (λ (x : Rule). x ∷ rules) same
+drop_get (r ∷ rules) (suc at) rule is = drop_get rules at rule is
+
+-- what holds of each rule holds of the one at a place
+pub at_place : (P : Rule → Type 0) (rules : List Rule) (at : ℕ) (rule : Rule) → slice_get rules at ≡ Some rule → AllByRecursion P rules → P rule
+at_place P [] at rule is all = cc
+at_place P (r ∷ rules) zero rule is all = let same : r ≡ rule = cc in subst P same all.0
+at_place P (r ∷ rules) (suc at) rule is all = at_place P rules at rule is all.1
+
+-- where a run stands: on an environment of which the rules that are left make what all make of the first
+pub record Reached (side : Side) (size : ℕ) (rules : List Rule) (env : Env) (at : ℕ) (strict : Bool) (blocks : List Block) (vars : Variables) : Type 0 where
+  pub now : Env
+  pub at_now : IsAt side now blocks vars
+  pub left : walk size (drop at rules) strict now ≡ rules_of size rules env
+
+pub begins : (side : Side) (size : ℕ) (rules : List Rule) (env : Env) (blocks : List Block) (vars : Variables) → IsAt side env blocks vars → Reached side size rules env 0 true blocks vars
+begins side size rules env blocks vars at = record { now = env; at_now = at; left = refl }
+
+first_rule : (size : ℕ) (rules : List Rule) (at : ℕ) (rule : Rule) (strict : Bool) (now : Env) → slice_get rules at ≡ Some rule
+    → walk size (drop at rules) strict now ≡ by_rule size rule strict now (walk size (drop (suc at) rules))
+first_rule size rules at rule strict now is = ap (λ (rs : List Rule). walk size rs strict now) (drop_get rules at rule is)
+
+-- a rule behind which the next one runs
+pub goes_on : (side : Side) (size : ℕ) (rules : List Rule) (env : Env) (at : ℕ) (rule : Rule) (strict mode : Bool) (old new : List Block) (vars left_vars : Variables) (reply : List Block)
+    → slice_get rules at ≡ Some rule → (r : Reached side size rules env at strict old vars) → RuleLeaves side size rule strict r.now (Goes mode) new left_vars reply
+    → Reached side size rules env (at + 1) mode new left_vars
+goes_on side size rules env at rule strict mode old new vars left_vars reply is r on =
+    let same : at + 1 ≡ suc at = omega arith in
+    record {
+      now = on.next;
+      at_now = on.at_next;
+      left =
+          ap (λ (n : ℕ). walk size (drop n rules) mode on.next) same ∙ sym (on.others (walk size (drop (suc at) rules)))
+          ∙ sym (first_rule size rules at rule strict r.now is) ∙ r.left;
+    }
+
+-- one that decides
+pub ends : (side : Side) (size : ℕ) (rules : List Rule) (env : Env) (at : ℕ) (rule : Rule) (strict : Bool) (verdict : Answered) (old new : List Block) (vars left_vars : Variables) (reply : List Block)
+    → slice_get rules at ≡ Some rule → (r : Reached side size rules env at strict old vars) → RuleLeaves side size rule strict r.now (Ends verdict) new left_vars reply
+    → Leaves side (rules_of size rules env) verdict new left_vars reply
+ends side size rules env at rule strict verdict old new vars left_vars reply is r over =
+    let comes : over.comes ≡ rules_of size rules env = sym (over.whatever (walk size (drop (suc at) rules))) ∙ sym (first_rule size rules at rule strict r.now is) ∙ r.left in
+    subst (λ (c : Comes). Leaves side c verdict new left_vars reply) comes over.leaves
+
+-- all rules have run
+pub over : (side : Side) (size : ℕ) (rules : List Rule) (env : Env) (at : ℕ) (strict : Bool) (blocks : List Block) (vars : Variables) (reply : List Block)
+    → length rules ≤ at → Reached side size rules env at strict blocks vars → reply ≡ [] → Leaves side (rules_of size rules env) verdicts.Pass blocks vars reply
+over side size rules env at strict blocks vars reply all r none =
+    let comes : Pass r.now ≡ rules_of size rules env = sym (ap (λ (rs : List Rule). walk size rs strict r.now) (drop_of_length-le rules all)) ∙ r.left in
+    subst (λ (c : Comes). Leaves side c verdicts.Pass blocks vars reply) comes (r.at_now, none)
+
+-- an environment that an array holds
+pub held : (side : Side) (blocks : List Block) (vars : Variables) → IsFront blocks → (env : Env) × IsAt side env blocks vars
+held Request blocks vars front =
+    (record { is_request = true; head = front.0; body = front.1; method = []; vars = vars }, record { on = refl; blocks_are = front.2; vars_are = refl })
+held (Answer method) blocks vars front =
+    (record { is_request = false; head = front.0; body = front.1; method = method.now; vars = vars }, record { on = (refl, refl); blocks_are = front.2; vars_are = refl })
+
+-- what a run reached holds a head
+pub front_of : (side : Side) (size : ℕ) (rules : List Rule) (env : Env) (at : ℕ) (strict : Bool) (blocks : List Block) (vars : Variables) → Reached side size rules env at strict blocks vars → IsFront blocks
+front_of side size rules env at strict blocks vars r = (r.now.head, r.now.body, r.at_now.blocks_are)
