@@ -45,12 +45,14 @@ ran side size rule strict env done blocks vars reply does on = by (act size rule
     known o e rest =
         ap (λ (t : Bool). cond t (behind strict rule.action env (act size rule.action env) rest) (rest strict env)) on
         ∙ ap (λ (x : Act). behind strict rule.action env x rest) e
+
     failed : (t : Bool) (why told : Why) (left : Env) → (not strict && not (answers rule.action)) ≡ t → act size rule.action env ≡ Fails why left → told ≡ why → IsAt side left blocks vars → reply ≡ []
         → RuleLeaves side size rule strict env (cond t (Goes strict) (Ends (verdicts.Fail told))) blocks vars reply
     failed true why told left off e same at none =
         record { next = left; at_next = at; no_reply = none; others = λ rest. known (Fails why left) e rest ∙ ap (λ (t : Bool). cond t (rest strict left) (Fail why left)) off }
     failed false why told left off e same at none =
         record { comes = Fail why left; leaves = (same, at, none); whatever = λ rest. known (Fails why left) e rest ∙ ap (λ (t : Bool). cond t (rest strict left) (Fail why left)) off }
+
     by : (o : Act) (d : Acted) → act size rule.action env ≡ o → Does side env o d blocks vars reply → RuleLeaves side size rule strict env (ruled_by strict rule.action d) blocks vars reply
     by (Next next) acted.Next e h = record { next = next; at_next = h.0; no_reply = h.1; others = known (Next next) e }
     by (Next next) acted.Stop e h = absurd h

@@ -13,12 +13,12 @@ pub use http_model::{Limits, Why};
 pub use laws::body_stays;
 pub use lives::{begin_answer, begin_exchange};
 pub use px_expr::Searchers;
+pub use px_link::{Address, OutOfMemory};
 pub use px_sample::Vars;
 pub use rule_actions::Scratch;
-pub use px_link::{Address, OutOfMemory};
 pub use rule_model::{
-    Action, ActionName, Cond, DelBy, Direction, Expr, Fmt, Hdr, HdrList, Part, PartList, Pat, Payload,
-    RedirectTo, Rule, Rules, Scope, Text, stands_in,
+    Action, ActionName, Cond, DelBy, Direction, Expr, Fmt, Hdr, HdrList, Part, PartList, Pat,
+    Payload, RedirectTo, Rule, Rules, Scope, Text, stands_in,
 };
-pub use run::{run_request, run_response};
+pub use run::{run_after, run_request, run_response};
 pub use verdict::Verdict;

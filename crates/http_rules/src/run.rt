@@ -129,24 +129,20 @@ fn run_rule<'c>(
     msg: &mut Arena,
     vars: &mut Vars,
     scratch: &mut Scratch,
-    reply: &mut Arena,
 ) -> Result<Ruled, OutOfMemory>
     requires scratch { IsScratch msg.old.size scratch.old }
     requires front { IsFront msg.old.blocks }
-    requires reply_size { reply.old.size ≡ msg.old.size }
-    requires no_reply { reply.old.blocks ≡ [] }
     requires valid { IsGoodAction rule.now.action }
     requires built { IsBuilt rule.now }
-    ensures ruled { IfOk result (λ ruled. (env : Env) → IsAt side.entry env msg.old.blocks vars.old → RuleLeaves side.entry msg.old.size rule.now strict env ruled msg.new.blocks vars.new reply.new.blocks) }
+    ensures ruled { IfOk result (λ ruled. (env : Env) → IsAt side.entry env msg.old.blocks vars.old → RuleLeaves side.entry msg.old.size rule.now strict env ruled msg.new.blocks vars.new []) }
     ensures succeeds { rule_holds_pattern rule.now ≡ false → IsOk result }
     ensures size { msg.new.size ≡ msg.old.size }
     ensures scratch { IsScratch msg.old.size scratch.new }
-    ensures reply_size { reply.new.size ≡ msg.old.size }
 {
     if !runs(alloc, searchers, rule, side, msg, vars, scratch)? {
         return Ok(Ruled::Goes(strict));
     }
-    let acted = run_action(alloc, searchers, &rule.action, side, msg, vars, scratch, reply)?;
+    let acted = run_action(alloc, searchers, &rule.action, side, msg, vars, scratch)?;
     Ok(outcome_of(strict, &rule.action, acted))
 }
 
@@ -159,24 +155,20 @@ fn run_rules<'c>(
     msg: &mut Arena,
     vars: &mut Vars,
     scratch: &mut Scratch,
-    reply: &mut Arena,
 ) -> Result<Verdict, OutOfMemory>
     requires scratch { IsScratch msg.old.size scratch.old }
     requires front { IsFront msg.old.blocks }
-    requires reply_size { reply.old.size ≡ msg.old.size }
-    requires no_reply { reply.old.blocks ≡ [] }
     requires good { AllByRecursion (λ rule. IsGoodAction rule.action) rules.now }
     requires built { AllByRecursion IsBuilt rules.now }
-    ensures leaves { IfOk result (λ verdict. (env : Env) → IsAt side.entry env msg.old.blocks vars.old → Leaves side.entry (spec.rules_of msg.old.size rules.now env) verdict msg.new.blocks vars.new reply.new.blocks) }
+    ensures leaves { IfOk result (λ verdict. (env : Env) → IsAt side.entry env msg.old.blocks vars.old → Leaves side.entry (spec.rules_of msg.old.size rules.now env) verdict msg.new.blocks vars.new []) }
     ensures succeeds { rules_hold_pattern rules.now ≡ false → IsOk result }
     ensures size { msg.new.size ≡ msg.old.size }
     ensures scratch { IsScratch msg.old.size scratch.new }
-    ensures reply_size { reply.new.size ≡ msg.old.size }
 {
     let mut strict = true;
     for at in 0..rules.len() {
         let rule = rules.get(at);
-        match run_rule(alloc, searchers, rule, strict, side, msg, vars, scratch, reply)? {
+        match run_rule(alloc, searchers, rule, strict, side, msg, vars, scratch)? {
             Ruled::Goes(mode) => strict = mode,
             Ruled::Ends(verdict) => return Ok(verdict),
         }
@@ -184,8 +176,8 @@ fn run_rules<'c>(
     Ok(Verdict::Pass)
 }
 
-/// Runs the rules of requests on a head. Pass leaves the edited head; Reply leaves a reply in its array, without a field that speaks
-/// of the connection; Fail leaves the head in front of the step that failed.
+/// Runs the rules of requests on a head. Pass leaves the edited head; Reply would leave a reply in its own array, without a field that
+/// speaks of the connection; Fail leaves the head in front of the step that failed.
 pub fn run_request<'c>(
     alloc: Global,
     searchers: &mut Searchers<'c>,
@@ -204,9 +196,9 @@ pub fn run_request<'c>(
     ensures succeeds { rules_hold_pattern rules.now ≡ false → IsOk result }
     ensures size { msg.new.size ≡ msg.old.size }
     ensures scratch { IsScratch msg.old.size scratch.new }
-    ensures reply_size { reply.new.size ≡ msg.old.size }
+    ensures reply_size { reply.new.size ≡ reply.old.size }
 {
-    run_rules(alloc, searchers, rules, Side::Request, msg, vars, scratch, reply)
+    run_rules(alloc, searchers, rules, Side::Request, msg, vars, scratch)
 }
 
 /// Runs the rules of responses on a head, which answers a request of this method. As `run_request`.
@@ -229,7 +221,45 @@ pub fn run_response<'c>(
     ensures succeeds { rules_hold_pattern rules.now ≡ false → IsOk result }
     ensures size { msg.new.size ≡ msg.old.size }
     ensures scratch { IsScratch msg.old.size scratch.new }
-    ensures reply_size { reply.new.size ≡ msg.old.size }
+    ensures reply_size { reply.new.size ≡ reply.old.size }
 {
-    run_rules(alloc, searchers, rules, Side::Answer(method), msg, vars, scratch, reply)
+    run_rules(
+        alloc,
+        searchers,
+        rules,
+        Side::Answer(method),
+        msg,
+        vars,
+        scratch,
+    )
+}
+
+/// Runs the rules on what the client is sent: on a head, with a body or none behind it, that answers a request of this method, which is
+/// empty where no head was read. They neither reply nor deny.
+pub fn run_after<'c>(
+    alloc: Global,
+    searchers: &mut Searchers<'c>,
+    rules: &'c Rules,
+    method: &[u8],
+    msg: &mut Arena,
+    vars: &mut Vars,
+    scratch: &mut Scratch,
+) -> Result<Verdict, OutOfMemory>
+    requires scratch { IsScratch msg.old.size scratch.old }
+    requires front { IsFront msg.old.blocks }
+    requires valid { AreRun directions.After rules.now }
+    ensures runs { IfOk result (λ verdict. (head : Head) (body : List ℕ) → msg.old.blocks ≡ front_blocks head body → Leaves (sides.Answer method.entry) (spec.rules_of msg.old.size rules.now (record { is_request = false; head = head; body = body; method = method.now; vars = vars.old })) verdict msg.new.blocks vars.new []) }
+    ensures succeeds { rules_hold_pattern rules.now ≡ false → IsOk result }
+    ensures size { msg.new.size ≡ msg.old.size }
+    ensures scratch { IsScratch msg.old.size scratch.new }
+{
+    run_rules(
+        alloc,
+        searchers,
+        rules,
+        Side::Answer(method),
+        msg,
+        vars,
+        scratch,
+    )
 }

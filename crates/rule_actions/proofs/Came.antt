@@ -124,8 +124,8 @@ pub taken : (side : Side) (env : Env) (vars : Variables) (which : NameMatch) (si
     → Came side env (edited size env (record { line = env.head.line; fields = filter (λ f. not (is_field_matching which f)) env.head.fields })) Done new vars
 taken side env vars which size old new at gone fits =
     let is : new ≡ front_blocks (record { line = env.head.line; fields = filter (λ f. not (is_field_matching which f)) env.head.fields }) env.body =
-        gone ∙ ap (without_matching which) at.blocks_are
-        ∙ front_filtered (λ b. not (is_header_matching which b)) (λ f. not (is_field_matching which f)) (λ f. refl) (line_stays which) refl (λ bytes. refl) env.head env.body
+    gone ∙ ap (without_matching which) at.blocks_are
+    ∙ front_filtered (λ b. not (is_header_matching which b)) (λ f. not (is_field_matching which f)) (λ f. refl) (line_stays which) refl (λ bytes. refl) env.head env.body
     in
     went side env vars (record { line = env.head.line; fields = filter (λ f. not (is_field_matching which f)) env.head.fields }) size old new at is (subst (λ (bs : List Block). load bs ≤ size) is fits)
   where
@@ -144,6 +144,7 @@ front_left side vars left old new make step front came =
     of_came env (Ok next) (Failed why) on c = absurd c
     of_came env (Err why) Done on c = absurd c
     of_came env (Err why) (Failed reason) on c = (env.head, env.body, c.1.blocks_are)
+
     by_side : (on : Side) → ((env : Env) → IsAt on env old vars → Came on env (make env) step new left) → IsFront new
     by_side Request h =
         let env : Env = record { is_request = true; head = front.0; body = front.1; method = []; vars = vars } in

@@ -47,17 +47,25 @@ several side env (Replies m) came blocks vars reply h none = absurd h
 several side env (Denies code) came blocks vars reply h none = absurd h
 
 -- the actions of one step by name
-pub deleted : (side : Side) (env : Env) (size : ℕ) (by : DelBy) (came : Stepped) (blocks : List Block) (vars : Variables) (reply : List Block) → Came side env (del_step size by env) came blocks vars → reply ≡ []
-    → Does side env (act size (actions.DelHeader by) env) (acted_by came) blocks vars reply
+pub deleted : (side : Side) (env : Env) (size : ℕ) (by : DelBy) (action : Action) (came : Stepped) (done : Acted) (blocks : List Block) (vars : Variables) → action ≡ actions.DelHeader by → done ≡ acted_by came
+    → Came side env (del_step size by env) came blocks vars → Does side env (act size action env) done blocks vars []
 unfolding act steps_of
-deleted side env size by came blocks vars reply c none = one side env (del_step size by) came blocks vars reply c none
+deleted side env size by action came done blocks vars is told c =
+    subst (λ (a : Action). Does side env (act size a env) done blocks vars []) (sym is)
+    (subst (λ (d : Acted). Does side env (act size (actions.DelHeader by) env) d blocks vars []) (sym told) (one side env (del_step size by) came blocks vars [] c refl))
 
-pub restated_status : (side : Side) (env : Env) (size code : ℕ) (reason : Option (List ℕ)) (came : Stepped) (blocks : List Block) (vars : Variables) (reply : List Block)
-    → Came side env (restated size env code (reason_by code reason)) came blocks vars → reply ≡ [] → Does side env (act size (actions.SetStatus code reason) env) (acted_by came) blocks vars reply
+pub stated_anew : (side : Side) (env : Env) (size code : ℕ) (reason : Option (List ℕ)) (action : Action) (came : Stepped) (done : Acted) (blocks : List Block) (vars : Variables) → action ≡ actions.SetStatus code reason → done ≡ acted_by came
+    → Came side env (restated size env code (reason_by code reason)) came blocks vars → Does side env (act size action env) done blocks vars []
 unfolding act steps_of
-restated_status side env size code reason came blocks vars reply c none = one side env (λ e. restated size e code (reason_by code reason)) came blocks vars reply c none
+stated_anew side env size code reason action came done blocks vars is told c =
+    subst (λ (a : Action). Does side env (act size a env) done blocks vars []) (sym is)
+    (subst (λ (d : Acted). Does side env (act size (actions.SetStatus code reason) env) d blocks vars []) (sym told)
+    (one side env (λ e. restated size e code (reason_by code reason)) came blocks vars [] c refl))
 
-pub unset : (side : Side) (env : Env) (size : ℕ) (scope : Scope) (name : List ℕ) (came : Stepped) (blocks : List Block) (vars : Variables) (reply : List Block)
-    → Came side env (unset_var_step scope name env) came blocks vars → reply ≡ [] → Does side env (act size (actions.UnsetVar scope name) env) (acted_by came) blocks vars reply
+pub unset : (side : Side) (env : Env) (size : ℕ) (scope : Scope) (name given : List ℕ) (action : Action) (came : Stepped) (done : Acted) (blocks : List Block) (vars : Variables) → action ≡ actions.UnsetVar scope name → done ≡ acted_by came
+    → given ≡ name → Came side env (unset_var_step scope given env) came blocks vars → Does side env (act size action env) done blocks vars []
 unfolding act steps_of
-unset side env size scope name came blocks vars reply c none = one side env (unset_var_step scope name) came blocks vars reply c none
+unset side env size scope name given action came done blocks vars is told same c =
+    subst (λ (a : Action). Does side env (act size a env) done blocks vars []) (sym is)
+    (subst (λ (d : Acted). Does side env (act size (actions.UnsetVar scope name) env) d blocks vars []) (sym told)
+    (one side env (unset_var_step scope name) came blocks vars [] (subst (λ (n : List ℕ). Came side env (unset_var_step scope n env) came blocks vars) same c) refl))

@@ -82,5 +82,5 @@ replace_values size pat fmt at env =
     on_field env at (λ field.
     if list_any (matches pat) (values_of field.1)
     then by_text size (text_on size env fmt) (λ template.
-        by_text size (replaced_values pat template field.1) (λ text. by_value size env text (with_value env.head at field)))
+    by_text size (replaced_values pat template field.1) (λ text. by_value size env text (with_value env.head at field)))
     else Ok env)

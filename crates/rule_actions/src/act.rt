@@ -47,7 +47,7 @@ fn done_by(step: Stepped) -> Acted
     }
 }
 
-/// Runs an action on a message. A reply would stand in `reply`, which is empty.
+/// Runs an action on a message.
 #[tactic(auto, using(crate::proofs::Doing::one), unfolding(crate::specs::Acts::act, crate::specs::Steps::steps_of))]
 pub fn run_action<'c>(
     alloc: Global,
@@ -57,29 +57,44 @@ pub fn run_action<'c>(
     msg: &mut Arena,
     vars: &mut Vars,
     scratch: &mut Scratch,
-    reply: &mut Arena,
 ) -> Result<Acted, OutOfMemory>
     requires scratch { IsScratch msg.old.size scratch.old }
     requires front { IsFront msg.old.blocks }
-    requires no_reply { reply.old.blocks ≡ [] }
     requires valid { IsGoodAction action.now }
     requires built { is_built action.now ≡ true }
     ensures came { IfOk result (λ done. (env : Env) → IsAt side.entry env msg.old.blocks vars.old
-        → Does side.entry env (act msg.old.size action.now env) done msg.new.blocks vars.new reply.new.blocks) }
+        → Does side.entry env (act msg.old.size action.now env) done msg.new.blocks vars.new []) }
     ensures succeeds { action_holds_pattern action.now ≡ false → IsOk result }
     ensures size { msg.new.size ≡ msg.old.size }
     ensures scratch { IsScratch msg.old.size scratch.new }
-    ensures reply_size { reply.new.size ≡ reply.old.size }
 {
     match action {
         Action::Allow => Ok(Acted::Stop),
         Action::Deny(code) => Ok(Acted::Deny(*code)),
         Action::AddHeader(name, fmt) => {
-            let step = add_header(alloc, searchers, name.as_slice(), fmt, side, msg, vars, scratch)?;
+            let step = add_header(
+                alloc,
+                searchers,
+                name.as_slice(),
+                fmt,
+                side,
+                msg,
+                vars,
+                scratch,
+            )?;
             Ok(done_by(step))
         }
         Action::SetHeader(name, fmt) => {
-            let step = set_header(alloc, searchers, name.as_slice(), fmt, side, msg, vars, scratch)?;
+            let step = set_header(
+                alloc,
+                searchers,
+                name.as_slice(),
+                fmt,
+                side,
+                msg,
+                vars,
+                scratch,
+            )?;
             Ok(done_by(step))
         }
         Action::DelHeader(by) => Ok(done_by(del_header(by, msg))),
@@ -88,15 +103,42 @@ pub fn run_action<'c>(
             Ok(done_by(step))
         }
         Action::SetPath(fmt) => {
-            let step = set_part(alloc, searchers, TargetPart::Path, fmt, side, msg, vars, scratch)?;
+            let step = set_part(
+                alloc,
+                searchers,
+                TargetPart::Path,
+                fmt,
+                side,
+                msg,
+                vars,
+                scratch,
+            )?;
             Ok(done_by(step))
         }
         Action::SetPathq(fmt) => {
-            let step = set_part(alloc, searchers, TargetPart::Pathq, fmt, side, msg, vars, scratch)?;
+            let step = set_part(
+                alloc,
+                searchers,
+                TargetPart::Pathq,
+                fmt,
+                side,
+                msg,
+                vars,
+                scratch,
+            )?;
             Ok(done_by(step))
         }
         Action::SetUri(fmt) => {
-            let step = set_part(alloc, searchers, TargetPart::Uri, fmt, side, msg, vars, scratch)?;
+            let step = set_part(
+                alloc,
+                searchers,
+                TargetPart::Uri,
+                fmt,
+                side,
+                msg,
+                vars,
+                scratch,
+            )?;
             Ok(done_by(step))
         }
         Action::SetQuery(fmt) => {
@@ -105,7 +147,17 @@ pub fn run_action<'c>(
         }
         Action::SetStatus(code, reason) => Ok(done_by(set_status(*code, reason, msg, scratch))),
         Action::SetVar(scope, name, expr) => {
-            let step = set_var(alloc, searchers, *scope, name.as_slice(), expr, side, msg, vars, scratch)?;
+            let step = set_var(
+                alloc,
+                searchers,
+                *scope,
+                name.as_slice(),
+                expr,
+                side,
+                msg,
+                vars,
+                scratch,
+            )?;
             Ok(done_by(step))
         }
         Action::UnsetVar(scope, name) => Ok(done_by(unset_var(*scope, name.as_slice(), vars))),

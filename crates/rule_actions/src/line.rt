@@ -14,9 +14,9 @@ use crate::fields::{hold, step_of};
 use crate::part::TargetPart;
 use crate::stepped::Stepped;
 use crate::target::{around, before_query};
+use http_model::Why;
 use htx_arena::Arena;
 use htx_view::request_parts;
-use http_model::Why;
 use px_bytes::is_token;
 use px_sample::Buf;
 

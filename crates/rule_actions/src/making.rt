@@ -101,7 +101,12 @@ pub(crate) fn set_method<'c>(
     if !write_text(alloc, searchers, fmt, side, msg, vars, scratch)? {
         return Ok(Stepped::Failed(Why::Bytes));
     }
-    let Scratch { text, buf, spare, .. } = scratch;
+    let Scratch {
+        text,
+        buf,
+        spare,
+        ..
+    } = scratch;
     Ok(put_method(msg, text.bytes(), buf, spare))
 }
 
@@ -127,7 +132,12 @@ pub(crate) fn set_part<'c>(
     if !write_text(alloc, searchers, fmt, side, msg, vars, scratch)? {
         return Ok(Stepped::Failed(Why::Bytes));
     }
-    let Scratch { text, made, buf, spare } = scratch;
+    let Scratch {
+        text,
+        made,
+        buf,
+        spare,
+    } = scratch;
     Ok(put_part(msg, part, text.bytes(), made, buf, spare))
 }
 
@@ -152,7 +162,12 @@ pub(crate) fn set_query<'c>(
     if !write_text(alloc, searchers, fmt, side, msg, vars, scratch)? {
         return Ok(Stepped::Failed(Why::Bytes));
     }
-    let Scratch { text, made, buf, spare } = scratch;
+    let Scratch {
+        text,
+        made,
+        buf,
+        spare,
+    } = scratch;
     Ok(put_query(msg, text.bytes(), made, buf, spare))
 }
 
@@ -167,7 +182,12 @@ fn reason_by(code: u16, reason: &Option<Text>) -> &[u8]
 }
 
 /// `set-status`.
-pub(crate) fn set_status(code: u16, reason: &Option<Text>, msg: &mut Arena, scratch: &mut Scratch) -> Stepped
+pub(crate) fn set_status(
+    code: u16,
+    reason: &Option<Text>,
+    msg: &mut Arena,
+    scratch: &mut Scratch,
+) -> Stepped
     requires scratch { IsScratch msg.old.size scratch.old }
     requires front { IsFront msg.old.blocks }
     ensures came { (side : On) (env : Env) (vars : Variables) → IsAt side env msg.old.blocks vars

@@ -8,9 +8,9 @@ ghost use Rattle.rule_actions.specs.Outcome.{IsAt, Came, IsFront};
 
 use crate::fields::{are_value_bytes, hold, step_of};
 use crate::stepped::Stepped;
+use http_model::Why;
 use htx_arena::Arena;
 use htx_view::response_parts;
-use http_model::Why;
 use px_bytes::write_decimal;
 use px_sample::Buf;
 

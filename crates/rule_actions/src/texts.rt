@@ -10,8 +10,8 @@ ghost use Rattle.rule_actions.specs.Outcome.{IsScratch, IsAt, IsMade};
 use crate::scratch::Scratch;
 use crate::side::Side;
 use acl_eval::{Cond, holds};
-use htx_arena::Arena;
 use http_fetch::{ReqEnv, ResEnv};
+use htx_arena::Arena;
 use log_format::{Fmt, format};
 use px_expr::{Expr, Searchers, eval};
 use px_sample::{OutOfMemory, Sample, Vars};
@@ -32,9 +32,22 @@ pub(crate) fn write_text<'c>(
     ensures succeeds { formats.holds_pattern fmt.now ≡ false → IsOk result }
     ensures scratch { IsScratch msg.now.size scratch.new }
 {
-    let Scratch { text, buf, spare, .. } = scratch;
+    let Scratch {
+        text,
+        buf,
+        spare,
+        ..
+    } = scratch;
     match side {
-        Side::Request => format(alloc, searchers, fmt, &ReqEnv::new(msg, vars), text, buf, spare),
+        Side::Request => format(
+            alloc,
+            searchers,
+            fmt,
+            &ReqEnv::new(msg, vars),
+            text,
+            buf,
+            spare,
+        ),
         Side::Answer(method) => {
             let env = ResEnv::new(msg, method, vars);
             format(alloc, searchers, fmt, &env, text, buf, spare)

@@ -1,4 +1,4 @@
-use Rattle.std.proofs.Common.{◌≡◌, []}
+use Rattle.std.proofs.Common.{◌≡◌}
 use Rattle.rule_actions.specs.Given.{Env}
 use Rattle.rule_actions.specs.Outcome.{IsScratch, IsAt, IsFront}
 use Rattle.http_rules.proofs.Runs.{Reached}
@@ -9,8 +9,6 @@ abbrev pub invariant-loop-at : goal.invariant-loop-at
 invariant-loop-at l = record {
   reached : (env : Env) → IsAt l.side env l.initial.msg.blocks l.initial.vars → Reached l.side l.initial.msg.size l.rules env l.at l.strict l.msg.blocks l.vars;
   front : IsFront l.msg.blocks;
-  no_reply : l.reply.blocks ≡ [];
   size : l.msg.size ≡ l.initial.msg.size;
   scratch : IsScratch l.initial.msg.size l.scratch;
-  reply_size : l.reply.size ≡ l.initial.msg.size;
 }

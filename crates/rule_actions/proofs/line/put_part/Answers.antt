@@ -11,7 +11,7 @@ returns-in-Done-clause-came c =
     let part = c.args.part in
     let is = sym c.in-Some.ensures in
     let pieces : c.around.result.0.now ++ (text ++ c.around.result.1.now) ≡ with_part part line.b.now text =
-        ap (λ (x : List ℕ). x ++ (text ++ c.around.result.1.now)) c.around.ensures.front ∙ ap (λ (x : List ℕ). front_of part line.b.now ++ (text ++ x)) c.around.ensures.back
+    ap (λ (x : List ℕ). x ++ (text ++ c.around.result.1.now)) c.around.ensures.front ∙ ap (λ (x : List ℕ). front_of part line.b.now ++ (text ++ x)) c.around.ensures.back
     in
     let good : is_target (with_part part line.b.now text) ≡ true = sym (ap (λ (x : List ℕ). is_target x) pieces) ∙ c.in-Done.ensures.made.0 in
     sent side env vars c.args.msg.now.size (λ target. with_part part target text) c.bytes.result.now c.put_target.result c.args.msg.now.blocks c.put_target.new.msg.blocks

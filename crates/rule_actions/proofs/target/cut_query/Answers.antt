@@ -7,7 +7,7 @@ use Rattle.rule_actions.proofs.target.cut_query.Goals as goal
 
 -- the bytes of the query are counted
 counted : (c : goal.After-split_at) → c.query_len.result ≡ length (query_of c.args.target.now)
-counted c = c.query_len.ensures ∙ ap (λ (p : TargetParts). length (query_text p.query)) c.cut_target.ensures
+counted c = c.query_len.ensures ∙ ap (λ (p : TargetParts). length (query_text p.query)) c.cut_target-parts.ensures
 
 -- what the target is
 spelled : (c : goal.After-split_at) → (origin_of c.args.target.now ++ path_of c.args.target.now) ++ query_of c.args.target.now ≡ c.args.target.now
