@@ -7,8 +7,10 @@ use Rattle.std.proofs.lemmas.List.{append-nil}
 use Rattle.http_model.specs.declared.Why.{Why}
 use Rattle.http_model.specs.Block.{Block}
 use Rattle.http_model.specs.Head.{Head, head_blocks, front_blocks}
-use Rattle.session_model.specs.Env.{Pass, Reply, Deny, Fail}
-use Rattle.px_sample.specs.Variables.{Variables}
+use Rattle.session_model.specs.Env.{Pass, Reply, Deny, Fail, request_env}
+use Rattle.px_sample.specs.Variables.{Variables, no_variables}
+use Rattle.http_rules.specs.declared.config.Config.{Config}
+use Rattle.forward_core.specs.Ruled.{ruled}
 use Rattle.rule_model.specs.declared.action.Action.{Action}
 use Rattle.rule_model.specs.declared.action.Action.TheVariants as actions
 use Rattle.rule_model.specs.declared.rule.Rule.{Rule}
@@ -131,3 +133,8 @@ never_denies side size rules env told blocks vars reply no' h = no_deny side (ru
 -- the blocks of a head with no body
 pub bare : (head : Head) (body : List ℕ) → body ≡ [] → front_blocks head body ≡ head_blocks head
 bare head body none = ap (λ (b : List ℕ). front_blocks head b) none ∙ append-nil (head_blocks head)
+
+-- the rules of a configuration on a head, with its sizes and no variable
+pub same_rules : (cfg : Config) (head : Head) (size : ℕ) (vars : Variables) → size ≡ cfg.limits.bufsize → vars ≡ no_variables → rules_of size cfg.request (request_env vars head) ≡ ruled cfg head
+same_rules cfg head size vars sized none =
+    ap (λ (n : ℕ). rules_of n cfg.request (request_env vars head)) sized ∙ ap (λ (v : Variables). rules_of cfg.limits.bufsize cfg.request (request_env v head)) none

@@ -51,7 +51,8 @@ pub fn ask<'c>(
 {
     edits_of_heads();
     body_stays();
-    match run_request(alloc, searchers, &cfg.request, msg, vars, scratch, reply)? {
+    let verdict = run_request(alloc, searchers, &cfg.request, msg, vars, scratch, reply)?;
+    match verdict {
         Verdict::Pass => Ok(finish_request(msg)),
         Verdict::Fail(_) => Ok(Err(Full)),
         Verdict::Reply => Ok(Err(Full)),

@@ -139,7 +139,15 @@ fn ask_fresh(alloc: Global, cfg: &Config, msg: &mut Arena) -> Result<Result<(), 
     let mut vars = Vars::new(alloc)?;
     let mut scratch = Scratch::new(alloc, cfg.limits.bufsize)?;
     let mut reply = Arena::new(alloc, cfg.limits.bufsize)?;
-    ask(alloc, &mut searchers, cfg, msg, &mut vars, &mut scratch, &mut reply)
+    ask(
+        alloc,
+        &mut searchers,
+        cfg,
+        msg,
+        &mut vars,
+        &mut scratch,
+        &mut reply,
+    )
 }
 
 /// One exchange, which is the whole session: the client's bytes are one request, and the server's are one answer.
@@ -169,9 +177,12 @@ pub fn one_exchange(
     match read_client(client, cfg.limits, &mut msg) {
         ClientAsks::Unserved => Err(ExchangeFault::Unbuilt),
         ClientAsks::Refused(code) => Ok(refuse(alloc, code)?),
-        ClientAsks::Plain => match ask_fresh(alloc, cfg, &mut msg)? {
-            Ok(()) => Ok(forward(alloc, &msg, server)?),
-            Err(_) => Ok(refuse(alloc, 500)?),
-        },
+        ClientAsks::Plain => {
+            let asked = ask_fresh(alloc, cfg, &mut msg)?;
+            match asked {
+                Ok(()) => Ok(forward(alloc, &msg, server)?),
+                Err(_) => Ok(refuse(alloc, 500)?),
+            }
+        }
     }
 }

@@ -168,7 +168,8 @@ fn run_rules<'c>(
     let mut strict = true;
     for at in 0..rules.len() {
         let rule = rules.get(at);
-        match run_rule(alloc, searchers, rule, strict, side, msg, vars, scratch)? {
+        let outcome = run_rule(alloc, searchers, rule, strict, side, msg, vars, scratch)?;
+        match outcome {
             Ruled::Goes(mode) => strict = mode,
             Ruled::Ends(verdict) => return Ok(verdict),
         }

@@ -13,6 +13,6 @@ returns-then-not-branch-clause-ruled c =
 pub returns-clause-ruled : goal.returns-clause-ruled
 returns-clause-ruled c =
     λ env at.
-    subst (λ (r : Ruled). RuleLeaves c.args.side c.args.msg.now.size c.args.rule.now c.args.strict env r c.run_action-acted.new.msg.blocks c.run_action-acted.new.vars []) (sym c.outcome_of.ensures)
-    (ran c.args.side c.args.msg.now.size c.args.rule.now c.args.strict env c.in_ok-acted.field-0 c.run_action-acted.new.msg.blocks c.run_action-acted.new.vars []
+    subst (λ (r : Ruled). RuleLeaves c.args.side c.args.msg.now.size c.args.rule.now c.args.strict env r c.run_action.new.msg.blocks c.run_action.new.vars []) (sym c.outcome_of.ensures)
+    (ran c.args.side c.args.msg.now.size c.args.rule.now c.args.strict env c.in_ok-acted.acted c.run_action.new.msg.blocks c.run_action.new.vars []
     (c.in_ok-acted.ensures.came env at) (sym (c.in_ok-runs.ensures.truth env at) ∙ c.if-not-branch.false))
