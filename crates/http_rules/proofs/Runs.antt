@@ -5,8 +5,12 @@ use Rattle.std.specs.List.{AllByRecursion}
 use Rattle.std.proofs.Math.ListN.{drop_of_length-le}
 use Rattle.http_model.specs.declared.Why.{Why}
 use Rattle.http_model.specs.Block.{Block}
-use Rattle.http_model.specs.Head.{front_blocks}
-use Rattle.session_model.specs.Env.{Pass, Reply, Deny, Fail}
+use denote.Ref.{Bor}
+use Rattle.std.proofs.lemmas.List.{append-nil}
+use Rattle.http_model.specs.Head.{Head, head_blocks, front_blocks}
+use Rattle.rule_model.specs.declared.names.Direction.{Direction}
+use Rattle.rule_model.specs.Valid.{IsGoodAction, IsGoodRule}
+use Rattle.session_model.specs.Env.{Pass, Reply, Deny, Fail, request_env, response_env}
 use Rattle.px_sample.specs.Variables.{Variables}
 use Rattle.rule_model.specs.declared.action.Action.{Action}
 use Rattle.rule_model.specs.declared.rule.Rule.{Rule}
@@ -23,7 +27,7 @@ use Rattle.http_rules.specs.declared.verdict.Ruled.TheVariants.{Goes, Ends}
 use Rattle.http_rules.specs.declared.verdict.Verdict.{Verdict as Answered}
 use Rattle.http_rules.specs.declared.verdict.Verdict.TheVariants as verdicts
 use Rattle.http_rules.specs.Rules.{Comes, answers, mode_after, runs, behind, by_rule, walk, rules_of}
-use Rattle.http_rules.specs.Run.{Leaves, GoesOn, EndsRules, RuleLeaves, ruled_by}
+use Rattle.http_rules.specs.Run.{Leaves, GoesOn, EndsRules, RuleLeaves, ruled_by, IsHead}
 
 -- a rule that does not run
 pub passed_over : (side : Side) (size : ℕ) (rule : Rule) (strict : Bool) (env : Env) (blocks : List Block) (vars : Variables) (reply : List Block)
@@ -144,3 +148,29 @@ held (Answer method) blocks vars front =
 -- what a run reached holds a head
 pub front_of : (side : Side) (size : ℕ) (rules : List Rule) (env : Env) (at : ℕ) (strict : Bool) (blocks : List Block) (vars : Variables) → Reached side size rules env at strict blocks vars → IsFront blocks
 front_of side size rules env at strict blocks vars r = (r.now.head, r.now.body, r.at_now.blocks_are)
+
+-- a request's head, as its rules begin with it
+pub on_request : (head : Head) (blocks : List Block) (vars : Variables) → blocks ≡ head_blocks head → IsAt Request (request_env vars head) blocks vars
+on_request head blocks vars is = record { on = refl; blocks_are = is ∙ sym (append-nil (head_blocks head)); vars_are = refl }
+
+-- the head of an answer
+pub on_answer : (method : Bor (List ℕ)) (head : Head) (blocks : List Block) (vars : Variables) → blocks ≡ head_blocks head → IsAt (Answer method) (response_env vars method.now head) blocks vars
+on_answer method head blocks vars is = record { on = (refl, refl); blocks_are = is ∙ sym (append-nil (head_blocks head)); vars_are = refl }
+
+-- the head of an answer, with a body or none behind it
+pub on_sent : (method : Bor (List ℕ)) (head : Head) (body : List ℕ) (blocks : List Block) (vars : Variables) → blocks ≡ front_blocks head body
+    → IsAt (Answer method) (record { is_request = false; head = head; body = body; method = method.now; vars = vars }) blocks vars
+on_sent method head body blocks vars is = record { on = (refl, refl); blocks_are = is; vars_are = refl }
+
+-- the blocks of a head have no body behind them
+pub head_front : (blocks : List Block) → IsHead blocks → IsFront blocks
+head_front blocks h = (h.0, [], h.1 ∙ sym (append-nil (head_blocks h.0)))
+
+-- the actions of rules that stand in a direction are good
+pub good_actions : (direction : Direction) (rules : List Rule) → AllByRecursion (IsGoodRule direction) rules → AllByRecursion (λ (rule : Rule). IsGoodAction rule.action) rules
+good_actions direction [] all = tt
+good_actions direction (rule ∷ rules) all = (all.0.good, good_actions direction rules all.1)
+
+-- no reply was written
+pub no_reply : (side : Side) (comes : Comes) (verdict : Answered) (blocks : List Block) (vars : Variables) (reply : List Block) → reply ≡ [] → Leaves side comes verdict blocks vars [] → Leaves side comes verdict blocks vars reply
+no_reply side comes verdict blocks vars reply none h = subst (λ (bs : List Block). Leaves side comes verdict blocks vars bs) (sym none) h
