@@ -84,7 +84,7 @@ first_none : (a b : Bool) → (a || b) ≡ false → a ≡ false
 first_none true b no' = no'
 first_none false b no' = refl
 
-others_none : (a b : Bool) → (a || b) ≡ false → b ≡ false
+pub others_none : (a b : Bool) → (a || b) ≡ false → b ≡ false
 others_none true b no' = absurd (false≢true (sym no'))
 others_none false b no' = no'
 

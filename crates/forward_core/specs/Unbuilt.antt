@@ -45,10 +45,6 @@ has_later_rules cfg = not (length cfg.response + length cfg.after == 0) || list_
 abbrev pub has_filters : Config → Bool
 has_filters cfg = not (length cfg.req_filters + length cfg.res_filters == 0)
 
--- the configuration has filters or such rules
-abbrev pub is_later_config : Config → Bool
-is_later_config cfg = has_filters cfg || has_later_rules cfg
-
--- a session is not served yet: its configuration has more, or its client is another one
+-- a session is not served yet: its configuration has filters or such rules, or its client is another one
 abbrev pub IsUnbuilt : Config → List ℕ → Type 0
-IsUnbuilt cfg client = IsTrue (is_later_config cfg) ⊎ IsOtherClient cfg.limits client
+IsUnbuilt cfg client = IsTrue (has_filters cfg) ⊎ (IsTrue (has_later_rules cfg) ⊎ IsOtherClient cfg.limits client)

@@ -8,7 +8,7 @@ ghost use Rattle.forward_core.specs.Ruled.{IsRuled};
 ghost use Rattle.session_model.specs.Session.{Session};
 ghost use Rattle.forward_core.specs.First.{meaning_of, IsFirstServer, closed};
 ghost use Rattle.std.specs.List.{list_any};
-ghost use Rattle.forward_core.specs.Unbuilt.{has_filters, has_later_rules, is_later_config, decides, IsUnbuilt};
+ghost use Rattle.forward_core.specs.Unbuilt.{has_filters, has_later_rules, decides, IsUnbuilt};
 
 use crate::answer::answer_text;
 use crate::ask::ask;

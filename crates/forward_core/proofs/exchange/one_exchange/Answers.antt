@@ -1,7 +1,8 @@
-use Rattle.std.proofs.Common.{subst}
+use Rattle.std.proofs.Common.{sym, ◌∙◌, subst}
 use Rattle.std.specs.Prelude.{Result}
 use Rattle.htx_arena.specs.declared.arena.Full.{Full}
 use Rattle.forward_core.specs.Ruled.{IsRuled}
+use Rattle.forward_core.proofs.Ruling.{others_none}
 use Rattle.forward_core.proofs.Sessions.{head_refused, rules_refused, forwarded_session}
 use Rattle.forward_core.proofs.exchange.one_exchange.Goals as goal
 
@@ -23,3 +24,6 @@ returns-clause-session c =
     let unsent = subst (λ (r : Result (Unit {0}) Full). IsRuled c.args.cfg.now x.head c.ask_fresh.new.msg.blocks r) c.in-Err.is (c.in_ok-asked.ensures x.head x.blocks_are) in
     rules_refused c.args.cfg.now c.args.client.now c.args.server.now c.read_client.new.msg.blocks c.in_ok-refuse-in-Err.field-0
     c.requires.valid.limits.least x unsent c.in_ok-refuse-in-Err.ensures
+
+pub ask_fresh-requires-clause-plain : goal.ask_fresh-requires-clause-plain
+ask_fresh-requires-clause-plain c = others_none _ _ (sym c.has_later_rules.ensures ∙ c.if-has_later_rules.false)
