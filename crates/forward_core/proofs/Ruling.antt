@@ -31,13 +31,13 @@ GoesOn (Replies m) = ⊥
 GoesOn (Denies code) = ⊥
 GoesOn (Fails why left) = Unit {0}
 
+one_step : (env : Env) (others : Env → Act) (r : Result Env Why) → ((next : Env) → GoesOn (others next)) → GoesOn (after_step env r others)
+one_step env others (Ok next) rest = rest next
+one_step env others (Err why) rest = tt
+
 in_turn : (steps : List Step) (env : Env) → GoesOn (run_steps steps env)
 in_turn [] env = tt
-in_turn (step ∷ steps) env = by (step env)
-  where
-    by : (r : Result Env Why) → GoesOn (after_step env r (run_steps steps))
-    by (Ok next) = in_turn steps next
-    by (Err why) = tt
+in_turn (step ∷ steps) env = one_step env (run_steps steps) (step env) (λ next. in_turn steps next)
 
 act_goes : (size : ℕ) (action : Action) (env : Env) → action_decides action ≡ false → GoesOn (act size action env)
 unfolding act
@@ -88,15 +88,18 @@ pub others_none : (a b : Bool) → (a || b) ≡ false → b ≡ false
 others_none true b no' = absurd (false≢true (sym no'))
 others_none false b no' = no'
 
+chosen : (t : Bool) (a b : Comes) → PassOrFail a → PassOrFail b → PassOrFail (cond t a b)
+chosen true a b x y = x
+chosen false a b x y = y
+
 walk_goes : (size : ℕ) (rules : List Rule) (strict : Bool) (env : Env) → list_any decides rules ≡ false → PassOrFail (walk size rules strict env)
 walk_goes size [] strict env no' = tt
-walk_goes size (rule ∷ rules) strict env no' = by (runs size rule.cond env)
-  where
-    by : (t : Bool) → PassOrFail (cond t (behind strict rule.action env (act size rule.action env) (walk size rules)) (walk size rules strict env))
-    by true =
-        behind_goes strict rule.action env (act size rule.action env) (walk size rules) (act_goes size rule.action env (first_none (decides rule) (list_any decides rules) no'))
-        (λ mode next. walk_goes size rules mode next (others_none (decides rule) (list_any decides rules) no'))
-    by false = walk_goes size rules strict env (others_none (decides rule) (list_any decides rules) no')
+walk_goes size (rule ∷ rules) strict env no' =
+    let others = others_none (decides rule) (list_any decides rules) no' in
+    chosen (runs size rule.cond env) (behind strict rule.action env (act size rule.action env) (walk size rules)) (walk size rules strict env)
+    (behind_goes strict rule.action env (act size rule.action env) (walk size rules) (act_goes size rule.action env (first_none (decides rule) (list_any decides rules) no'))
+        (λ mode next. walk_goes size rules mode next others))
+    (walk_goes size rules strict env others)
 
 -- what a run that passed left
 pub passed : (side : Side) (comes : Comes) (blocks : List Block) (vars : Variables) (reply : List Block) → Leaves side comes verdicts.Pass blocks vars reply → (left : Env) × (comes ≡ Pass left) × IsAt side left blocks vars

@@ -1,6 +1,6 @@
 -- No rule changes the body behind a head.
 use Rattle.std.proofs.Common.{◌≡◌, ℕ, suc, List, [], ◌∷◌, Bool, true, false, cond, map, refl, sym, ap, subst, ◌∙◌, length}
-use Rattle.std.specs.Prelude.{Option, Some, None, Result, Ok, Err, nat_le, slice_get, not, ◌&&◌}
+use Rattle.std.specs.Prelude.{Option, Some, None, Result, Ok, Err, nat_le, slice_get, not, ◌&&◌, decimal}
 use Rattle.std.specs.List.{AllByRecursion, list_any}
 use Rattle.http_model.specs.declared.Why.{Why}
 use Rattle.http_model.specs.declared.Why.TheVariants.{Room, Bytes}
@@ -59,7 +59,9 @@ method size env m text t v =
     either env (may_become m text) (edited size env (with_line env.head (RequestLine text t v))) (Err Bytes) (edit size env (with_line env.head (RequestLine text t v))) tt
 
 status : (size : ℕ) (env : Env) (code : ℕ) (reason version old : List ℕ) → Keeps env (stated size env code reason version old)
-status size env code reason version old = either env (not (is_bodiless_text old) && are_value_bytes reason) (edited size env _) (Err Bytes) (edit size env _) tt
+status size env code reason version old =
+    let head = with_line env.head (StatusLine version (decimal code) reason) in
+    either env (not (is_bodiless_text old) && are_value_bytes reason) (edited size env head) (Err Bytes) (edit size env head) tt
 
 matched : (size : ℕ) (env : Env) (pat : Pattern) (fmt : Fmt) (text : List ℕ) (make : List ℕ → Result Env Why) → ((made : List ℕ) → Keeps env (make made)) → Keeps env (by_match size env pat fmt text make)
 matched size env pat fmt text make x =
@@ -76,10 +78,15 @@ whole size pat fmt k env =
     on_one env (slice_get env.head.fields k) _ (λ field. matched size env pat fmt field.1 _ (λ text. value size env text (with_value env.head k field)))
 
 listed : (size : ℕ) (pat : Pattern) (fmt : Fmt) (k : ℕ) (env : Env) → Keeps env (replace_values size pat fmt k env)
-listed size pat fmt k env =
-    on_one env (slice_get env.head.fields k) _ (λ field.
-    either env (list_any (matches pat) (values_of field.1)) _ (Ok env)
-    (texted size env (text_on size env fmt) _ (texted size env (replaced_values pat (text_on size env fmt) field.1) _ (value size env (replaced_values pat (text_on size env fmt) field.1) (with_value env.head k field)))) refl)
+listed size pat fmt k env = on_one env (slice_get env.head.fields k) _ (λ field. one field)
+  where
+    one : (field : Field) → Keeps env (cond (list_any (matches pat) (values_of field.1))
+        (by_text size (text_on size env fmt) (λ template. by_text size (replaced_values pat template field.1) (λ text. by_value size env text (with_value env.head k field)))) (Ok env))
+    one field =
+        either env (list_any (matches pat) (values_of field.1))
+        (by_text size (text_on size env fmt) (λ template. by_text size (replaced_values pat template field.1) (λ text. by_value size env text (with_value env.head k field)))) (Ok env)
+        (texted size env (text_on size env fmt) (λ template. by_text size (replaced_values pat template field.1) (λ text. by_value size env text (with_value env.head k field)))
+        (texted size env (replaced_values pat (text_on size env fmt) field.1) (λ text. by_value size env text (with_value env.head k field)) (value size env (replaced_values pat (text_on size env fmt) field.1) (with_value env.head k field)))) refl
 
 -- ---- steps in turn
 
@@ -100,13 +107,13 @@ further env next (Replies m) same x = tt
 further env next (Denies code) same x = tt
 further env next (Fails why left) same x = x ∙ same
 
+one_step : (env : Env) (others : Env → Act) (r : Result Env Why) → Keeps env r → ((next : Env) → KeepsAct next (others next)) → KeepsAct env (after_step env r others)
+one_step env others (Ok next) x rest = further env next (others next) x (rest next)
+one_step env others (Err why) x rest = refl
+
 in_turn : (steps : List Step) (env : Env) → StepsKeep steps → KeepsAct env (run_steps steps env)
 in_turn [] env all = refl
-in_turn (step ∷ steps) env all = by (step env) (all.0 env)
-  where
-    by : (r : Result Env Why) → Keeps env r → KeepsAct env (after_step env r (run_steps steps))
-    by (Ok next) x = further env next (run_steps steps next) x (in_turn steps next all.1)
-    by (Err why) x = refl
+in_turn (step ∷ steps) env all = one_step env (run_steps steps) (step env) (all.0 env) (λ next. in_turn steps next all.1)
 
 each_place : (f : ℕ → Step) (places : List ℕ) → ((k : ℕ) (env : Env) → Keeps env (f k env)) → StepsKeep (map f places)
 each_place f [] x = tt
@@ -189,13 +196,16 @@ behind_keeps strict action env (Fails why left) others x rest = by (not strict &
     by true = on_to env left (others strict left) x (rest strict left)
     by false = x
 
+chosen : (env : Env) (t : Bool) (a b : Comes) → KeepsComes env a → KeepsComes env b → KeepsComes env (cond t a b)
+chosen env true a b x y = x
+chosen env false a b x y = y
+
 pub walk_keeps : (size : ℕ) (rules : List Rule) (strict : Bool) (env : Env) → KeepsComes env (walk size rules strict env)
 walk_keeps size [] strict env = refl
-walk_keeps size (rule ∷ rules) strict env = by (runs size rule.cond env)
-  where
-    by : (t : Bool) → KeepsComes env (cond t (behind strict rule.action env (act size rule.action env) (walk size rules)) (walk size rules strict env))
-    by true = behind_keeps strict rule.action env (act size rule.action env) (walk size rules) (act_keeps size rule.action env) (λ mode next. walk_keeps size rules mode next)
-    by false = walk_keeps size rules strict env
+walk_keeps size (rule ∷ rules) strict env =
+    chosen env (runs size rule.cond env) (behind strict rule.action env (act size rule.action env) (walk size rules)) (walk size rules strict env)
+    (behind_keeps strict rule.action env (act size rule.action env) (walk size rules) (act_keeps size rule.action env) (λ mode next. walk_keeps size rules mode next))
+    (walk_keeps size rules strict env)
 
 pub passes_body : (size : ℕ) (rules : List Rule) (env left : Env) → rules_of size rules env ≡ Pass left → left.body ≡ env.body
 passes_body size rules env left is = subst (λ (c : Comes). KeepsComes env c) is (walk_keeps size rules true env)
