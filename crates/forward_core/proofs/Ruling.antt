@@ -17,6 +17,7 @@ use Rattle.rule_model.specs.declared.rule.Rule.{Rule}
 use Rattle.rule_actions.specs.declared.side.Side.{Side}
 use Rattle.rule_actions.specs.Given.{Env}
 use Rattle.rule_actions.specs.Edits.{Step}
+use Rattle.rule_actions.specs.Steps.{steps_of}
 use Rattle.rule_actions.specs.Acts.{Act, Next, Stop, Replies, Denies, Fails, after_step, run_steps, act}
 use Rattle.rule_actions.specs.Outcome.{IsAt}
 use Rattle.http_rules.specs.declared.verdict.Verdict.TheVariants as verdicts
@@ -45,23 +46,23 @@ act_goes size actions.Allow env no' = tt
 act_goes size (actions.Deny code) env no' = absurd (false≢true (sym no'))
 act_goes size (actions.Redirect to code drop_query append_slash) env no' = absurd (false≢true (sym no'))
 act_goes size (actions.Return status content_type payload hdrs) env no' = absurd (false≢true (sym no'))
-act_goes size (actions.AddHeader name fmt) env no' = in_turn _ env
-act_goes size (actions.SetHeader name fmt) env no' = in_turn _ env
-act_goes size (actions.DelHeader by) env no' = in_turn _ env
-act_goes size (actions.ReplaceHeader name pat fmt) env no' = in_turn _ env
-act_goes size (actions.ReplaceValue name pat fmt) env no' = in_turn _ env
-act_goes size (actions.SetMethod fmt) env no' = in_turn _ env
-act_goes size (actions.SetPath fmt) env no' = in_turn _ env
-act_goes size (actions.SetPathq fmt) env no' = in_turn _ env
-act_goes size (actions.SetUri fmt) env no' = in_turn _ env
-act_goes size (actions.SetQuery fmt) env no' = in_turn _ env
-act_goes size (actions.ReplacePath pat fmt) env no' = in_turn _ env
-act_goes size (actions.ReplacePathq pat fmt) env no' = in_turn _ env
-act_goes size (actions.ReplaceUri pat fmt) env no' = in_turn _ env
-act_goes size (actions.SetStatus code reason) env no' = in_turn _ env
-act_goes size (actions.SetVar scope name expr) env no' = in_turn _ env
-act_goes size (actions.UnsetVar scope name) env no' = in_turn _ env
-act_goes size (actions.StrictMode on) env no' = in_turn _ env
+act_goes size (actions.AddHeader name fmt) env no' = in_turn (steps_of size (actions.AddHeader name fmt) env) env
+act_goes size (actions.SetHeader name fmt) env no' = in_turn (steps_of size (actions.SetHeader name fmt) env) env
+act_goes size (actions.DelHeader by) env no' = in_turn (steps_of size (actions.DelHeader by) env) env
+act_goes size (actions.ReplaceHeader name pat fmt) env no' = in_turn (steps_of size (actions.ReplaceHeader name pat fmt) env) env
+act_goes size (actions.ReplaceValue name pat fmt) env no' = in_turn (steps_of size (actions.ReplaceValue name pat fmt) env) env
+act_goes size (actions.SetMethod fmt) env no' = in_turn (steps_of size (actions.SetMethod fmt) env) env
+act_goes size (actions.SetPath fmt) env no' = in_turn (steps_of size (actions.SetPath fmt) env) env
+act_goes size (actions.SetPathq fmt) env no' = in_turn (steps_of size (actions.SetPathq fmt) env) env
+act_goes size (actions.SetUri fmt) env no' = in_turn (steps_of size (actions.SetUri fmt) env) env
+act_goes size (actions.SetQuery fmt) env no' = in_turn (steps_of size (actions.SetQuery fmt) env) env
+act_goes size (actions.ReplacePath pat fmt) env no' = in_turn (steps_of size (actions.ReplacePath pat fmt) env) env
+act_goes size (actions.ReplacePathq pat fmt) env no' = in_turn (steps_of size (actions.ReplacePathq pat fmt) env) env
+act_goes size (actions.ReplaceUri pat fmt) env no' = in_turn (steps_of size (actions.ReplaceUri pat fmt) env) env
+act_goes size (actions.SetStatus code reason) env no' = in_turn (steps_of size (actions.SetStatus code reason) env) env
+act_goes size (actions.SetVar scope name expr) env no' = in_turn (steps_of size (actions.SetVar scope name expr) env) env
+act_goes size (actions.UnsetVar scope name) env no' = in_turn (steps_of size (actions.UnsetVar scope name) env) env
+act_goes size (actions.StrictMode on) env no' = in_turn (steps_of size (actions.StrictMode on) env) env
 
 abbrev PassOrFail : Comes → Type 0
 PassOrFail (Pass left) = Unit {0}

@@ -18,9 +18,11 @@ use Rattle.rule_actions.specs.Given.{Env, text_on}
 use Rattle.rule_actions.specs.Edits.{Step, edited, by_text, by_value, are_value_bytes, fits_with}
 use Rattle.rule_actions.specs.Lines.{made_of, made_of_status, with_line, is_target, sent_to, may_become, stated, is_bodiless_text}
 use Rattle.rule_actions.specs.Lines as lines
-use Rattle.rule_actions.specs.Replacing.{matches, replaced, by_match, with_value, made_of_field, replace_whole, replaced_values, replace_values}
+use Rattle.rule_actions.specs.Replacing.{places, matches, replaced, by_match, with_value, made_of_field, replace_whole, replaced_values, replace_values}
 use Rattle.rule_actions.specs.Replies.{redirected, returned}
-use Rattle.rule_actions.specs.Steps.{steps_of}
+use Rattle.http_model.specs.Fields.{add_field, set_field}
+use Rattle.rule_actions.specs.declared.part.TargetPart.TheVariants as parts
+use Rattle.rule_actions.specs.Steps.{add_step, set_step, without_meant, method_step, part_step, query_step, replace_part, steps_of}
 use Rattle.rule_actions.specs.Acts.{Act, Next, Stop, Replies, Denies, Fails, after_step, run_steps, replying, act}
 use Rattle.http_rules.specs.Rules.{Comes, answers, mode_after, runs, behind, by_rule, walk, rules_of}
 
@@ -119,24 +121,56 @@ each_place : (f : ℕ → Step) (places : List ℕ) → ((k : ℕ) (env : Env) �
 each_place f [] x = tt
 each_place f (k ∷ places) x = (λ env. x k env, each_place f places x)
 
+-- the steps by name
+add_keeps : (size : ℕ) (name : List ℕ) (fmt : Fmt) (e : Env) → Keeps e (add_step size name fmt e)
+add_keeps size name fmt e =
+    texted size e (text_on size e fmt) (λ text. by_value size e text (λ value. add_field name value e.head)) (value size e (text_on size e fmt) (λ value. add_field name value e.head))
+
+set_keeps : (size : ℕ) (name : List ℕ) (fmt : Fmt) (e : Env) → Keeps e (set_step size name fmt e)
+set_keeps size name fmt e =
+    texted size e (text_on size e fmt) (λ text. by_value size e text (λ value. set_field name value e.head)) (value size e (text_on size e fmt) (λ value. set_field name value e.head))
+
+method_keeps : (size : ℕ) (fmt : Fmt) (e : Env) → Keeps e (method_step size fmt e)
+method_keeps size fmt e =
+    texted size e (text_on size e fmt) (lines.remethoded size e)
+    (asked e e.head.line (λ m t v. lines.sent_by size e m (text_on size e fmt) t v) (λ m t v. method size e m (text_on size e fmt) t v))
+
+part_keeps : (size : ℕ) (part : TargetPart) (fmt : Fmt) (e : Env) → Keeps e (part_step size part fmt e)
+part_keeps size part fmt e =
+    texted size e (text_on size e fmt) (λ text. lines.retargeted size e (λ target. lines.with_part part target text))
+    (asked e e.head.line (λ m t v. sent_to size e m (lines.with_part part t (text_on size e fmt)) v) (λ m t v. target size e m (lines.with_part part t (text_on size e fmt)) v))
+
+query_keeps : (size : ℕ) (fmt : Fmt) (e : Env) → Keeps e (query_step size fmt e)
+query_keeps size fmt e =
+    texted size e (text_on size e fmt) (λ text. lines.retargeted size e (λ target. lines.with_query target text))
+    (asked e e.head.line (λ m t v. sent_to size e m (lines.with_query t (text_on size e fmt)) v) (λ m t v. target size e m (lines.with_query t (text_on size e fmt)) v))
+
+replace_keeps : (size : ℕ) (part : TargetPart) (pat : Pattern) (fmt : Fmt) (e : Env) → Keeps e (replace_part size part pat fmt e)
+replace_keeps size part pat fmt e =
+    asked e e.head.line (λ m t v. by_match size e pat fmt (lines.part_of part t) (λ text. sent_to size e m (lines.with_part part t text) v))
+    (λ m t v. matched size e pat fmt (lines.part_of part t) (λ text. sent_to size e m (lines.with_part part t text) v) (λ text. target size e m (lines.with_part part t text) v))
+
+status_keeps : (size code : ℕ) (reason : List ℕ) (e : Env) → Keeps e (lines.restated size e code reason)
+status_keeps size code reason e = told e e.head.line (λ v s r. stated size e code reason v s) (λ v s r. status size e code reason v s)
+
 steps_keep : (size : ℕ) (action : Action) (env : Env) → StepsKeep (steps_of size action env)
 unfolding steps_of
 steps_keep size actions.Allow env = tt
 steps_keep size (actions.Deny code) env = tt
-steps_keep size (actions.AddHeader name fmt) env = (λ e. texted size e (text_on size e fmt) _ (value size e (text_on size e fmt) _), tt)
-steps_keep size (actions.SetHeader name fmt) env = (λ e. texted size e (text_on size e fmt) _ (value size e (text_on size e fmt) _), tt)
-steps_keep size (actions.DelHeader by) env = (λ e. edit size e _, tt)
-steps_keep size (actions.ReplaceHeader name pat fmt) env = each_place (replace_whole size pat fmt) _ (whole size pat fmt)
-steps_keep size (actions.ReplaceValue name pat fmt) env = each_place (replace_values size pat fmt) _ (listed size pat fmt)
-steps_keep size (actions.SetMethod fmt) env = (λ e. texted size e (text_on size e fmt) _ (asked e e.head.line _ (λ m t v. method size e m (text_on size e fmt) t v)), tt)
-steps_keep size (actions.SetPath fmt) env = (λ e. texted size e (text_on size e fmt) _ (asked e e.head.line _ (λ m t v. target size e m _ v)), tt)
-steps_keep size (actions.SetPathq fmt) env = (λ e. texted size e (text_on size e fmt) _ (asked e e.head.line _ (λ m t v. target size e m _ v)), tt)
-steps_keep size (actions.SetUri fmt) env = (λ e. texted size e (text_on size e fmt) _ (asked e e.head.line _ (λ m t v. target size e m _ v)), tt)
-steps_keep size (actions.SetQuery fmt) env = (λ e. texted size e (text_on size e fmt) _ (asked e e.head.line _ (λ m t v. target size e m _ v)), tt)
-steps_keep size (actions.ReplacePath pat fmt) env = (λ e. asked e e.head.line _ (λ m t v. matched size e pat fmt _ _ (λ text. target size e m _ v)), tt)
-steps_keep size (actions.ReplacePathq pat fmt) env = (λ e. asked e e.head.line _ (λ m t v. matched size e pat fmt _ _ (λ text. target size e m _ v)), tt)
-steps_keep size (actions.ReplaceUri pat fmt) env = (λ e. asked e e.head.line _ (λ m t v. matched size e pat fmt _ _ (λ text. target size e m _ v)), tt)
-steps_keep size (actions.SetStatus code reason) env = (λ e. told e e.head.line _ (λ v s r. status size e code _ v s), tt)
+steps_keep size (actions.AddHeader name fmt) env = (add_keeps size name fmt, tt)
+steps_keep size (actions.SetHeader name fmt) env = (set_keeps size name fmt, tt)
+steps_keep size (actions.DelHeader by) env = (λ e. edit size e (without_meant by e.head), tt)
+steps_keep size (actions.ReplaceHeader name pat fmt) env = each_place (replace_whole size pat fmt) (places name env.head.fields 0) (whole size pat fmt)
+steps_keep size (actions.ReplaceValue name pat fmt) env = each_place (replace_values size pat fmt) (places name env.head.fields 0) (listed size pat fmt)
+steps_keep size (actions.SetMethod fmt) env = (method_keeps size fmt, tt)
+steps_keep size (actions.SetPath fmt) env = (part_keeps size parts.Path fmt, tt)
+steps_keep size (actions.SetPathq fmt) env = (part_keeps size parts.Pathq fmt, tt)
+steps_keep size (actions.SetUri fmt) env = (part_keeps size parts.Uri fmt, tt)
+steps_keep size (actions.SetQuery fmt) env = (query_keeps size fmt, tt)
+steps_keep size (actions.ReplacePath pat fmt) env = (replace_keeps size parts.Path pat fmt, tt)
+steps_keep size (actions.ReplacePathq pat fmt) env = (replace_keeps size parts.Pathq pat fmt, tt)
+steps_keep size (actions.ReplaceUri pat fmt) env = (replace_keeps size parts.Uri pat fmt, tt)
+steps_keep size (actions.SetStatus code reason) env = (status_keeps size code (lines.reason_by code reason), tt)
 steps_keep size (actions.Redirect to code drop_query append_slash) env = tt
 steps_keep size (actions.Return status content_type payload hdrs) env = tt
 steps_keep size (actions.SetVar scope name expr) env = (λ e. refl, tt)
@@ -153,23 +187,23 @@ act_keeps size actions.Allow env = tt
 act_keeps size (actions.Deny code) env = tt
 act_keeps size (actions.Redirect to code drop_query append_slash) env = reply_keeps env (redirected size to code drop_query append_slash env)
 act_keeps size (actions.Return status content_type payload hdrs) env = reply_keeps env (returned size status content_type payload hdrs env)
-act_keeps size (actions.AddHeader name fmt) env = in_turn _ env (steps_keep size (actions.AddHeader name fmt) env)
-act_keeps size (actions.SetHeader name fmt) env = in_turn _ env (steps_keep size (actions.SetHeader name fmt) env)
-act_keeps size (actions.DelHeader by) env = in_turn _ env (steps_keep size (actions.DelHeader by) env)
-act_keeps size (actions.ReplaceHeader name pat fmt) env = in_turn _ env (steps_keep size (actions.ReplaceHeader name pat fmt) env)
-act_keeps size (actions.ReplaceValue name pat fmt) env = in_turn _ env (steps_keep size (actions.ReplaceValue name pat fmt) env)
-act_keeps size (actions.SetMethod fmt) env = in_turn _ env (steps_keep size (actions.SetMethod fmt) env)
-act_keeps size (actions.SetPath fmt) env = in_turn _ env (steps_keep size (actions.SetPath fmt) env)
-act_keeps size (actions.SetPathq fmt) env = in_turn _ env (steps_keep size (actions.SetPathq fmt) env)
-act_keeps size (actions.SetUri fmt) env = in_turn _ env (steps_keep size (actions.SetUri fmt) env)
-act_keeps size (actions.SetQuery fmt) env = in_turn _ env (steps_keep size (actions.SetQuery fmt) env)
-act_keeps size (actions.ReplacePath pat fmt) env = in_turn _ env (steps_keep size (actions.ReplacePath pat fmt) env)
-act_keeps size (actions.ReplacePathq pat fmt) env = in_turn _ env (steps_keep size (actions.ReplacePathq pat fmt) env)
-act_keeps size (actions.ReplaceUri pat fmt) env = in_turn _ env (steps_keep size (actions.ReplaceUri pat fmt) env)
-act_keeps size (actions.SetStatus code reason) env = in_turn _ env (steps_keep size (actions.SetStatus code reason) env)
-act_keeps size (actions.SetVar scope name expr) env = in_turn _ env (steps_keep size (actions.SetVar scope name expr) env)
-act_keeps size (actions.UnsetVar scope name) env = in_turn _ env (steps_keep size (actions.UnsetVar scope name) env)
-act_keeps size (actions.StrictMode on) env = in_turn _ env (steps_keep size (actions.StrictMode on) env)
+act_keeps size (actions.AddHeader name fmt) env = in_turn (steps_of size (actions.AddHeader name fmt) env) env (steps_keep size (actions.AddHeader name fmt) env)
+act_keeps size (actions.SetHeader name fmt) env = in_turn (steps_of size (actions.SetHeader name fmt) env) env (steps_keep size (actions.SetHeader name fmt) env)
+act_keeps size (actions.DelHeader by) env = in_turn (steps_of size (actions.DelHeader by) env) env (steps_keep size (actions.DelHeader by) env)
+act_keeps size (actions.ReplaceHeader name pat fmt) env = in_turn (steps_of size (actions.ReplaceHeader name pat fmt) env) env (steps_keep size (actions.ReplaceHeader name pat fmt) env)
+act_keeps size (actions.ReplaceValue name pat fmt) env = in_turn (steps_of size (actions.ReplaceValue name pat fmt) env) env (steps_keep size (actions.ReplaceValue name pat fmt) env)
+act_keeps size (actions.SetMethod fmt) env = in_turn (steps_of size (actions.SetMethod fmt) env) env (steps_keep size (actions.SetMethod fmt) env)
+act_keeps size (actions.SetPath fmt) env = in_turn (steps_of size (actions.SetPath fmt) env) env (steps_keep size (actions.SetPath fmt) env)
+act_keeps size (actions.SetPathq fmt) env = in_turn (steps_of size (actions.SetPathq fmt) env) env (steps_keep size (actions.SetPathq fmt) env)
+act_keeps size (actions.SetUri fmt) env = in_turn (steps_of size (actions.SetUri fmt) env) env (steps_keep size (actions.SetUri fmt) env)
+act_keeps size (actions.SetQuery fmt) env = in_turn (steps_of size (actions.SetQuery fmt) env) env (steps_keep size (actions.SetQuery fmt) env)
+act_keeps size (actions.ReplacePath pat fmt) env = in_turn (steps_of size (actions.ReplacePath pat fmt) env) env (steps_keep size (actions.ReplacePath pat fmt) env)
+act_keeps size (actions.ReplacePathq pat fmt) env = in_turn (steps_of size (actions.ReplacePathq pat fmt) env) env (steps_keep size (actions.ReplacePathq pat fmt) env)
+act_keeps size (actions.ReplaceUri pat fmt) env = in_turn (steps_of size (actions.ReplaceUri pat fmt) env) env (steps_keep size (actions.ReplaceUri pat fmt) env)
+act_keeps size (actions.SetStatus code reason) env = in_turn (steps_of size (actions.SetStatus code reason) env) env (steps_keep size (actions.SetStatus code reason) env)
+act_keeps size (actions.SetVar scope name expr) env = in_turn (steps_of size (actions.SetVar scope name expr) env) env (steps_keep size (actions.SetVar scope name expr) env)
+act_keeps size (actions.UnsetVar scope name) env = in_turn (steps_of size (actions.UnsetVar scope name) env) env (steps_keep size (actions.UnsetVar scope name) env)
+act_keeps size (actions.StrictMode on) env = in_turn (steps_of size (actions.StrictMode on) env) env (steps_keep size (actions.StrictMode on) env)
 
 -- ---- rules in turn
 
