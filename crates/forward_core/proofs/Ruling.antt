@@ -99,7 +99,7 @@ walk_goes size (rule ∷ rules) strict env no' =
     let others = others_none (decides rule) (list_any decides rules) no' in
     chosen (runs size rule.cond env) (behind strict rule.action env (act size rule.action env) (walk size rules)) (walk size rules strict env)
     (behind_goes strict rule.action env (act size rule.action env) (walk size rules) (act_goes size rule.action env (first_none (decides rule) (list_any decides rules) no'))
-        (λ mode next. walk_goes size rules mode next others))
+    (λ mode next. walk_goes size rules mode next others))
     (walk_goes size rules strict env others)
 
 -- what a run that passed left

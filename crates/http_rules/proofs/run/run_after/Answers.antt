@@ -19,7 +19,7 @@ pub run_rules-requires-clause-good : goal.run_rules-requires-clause-good
 run_rules-requires-clause-good c = good_actions directions.After c.args.rules.now c.requires.valid.valid.each
 
 pub returns-clause-runs : goal.returns-clause-runs
-returns-clause-runs c = 
+returns-clause-runs c =
     IfOk-weaker c.run_rules.result
     (λ (verdict : Verdict). (env : Env) → IsAt (sides.Answer c.args.method) env c.args.msg.now.blocks c.args.vars.now → Leaves (sides.Answer c.args.method) (rules_of c.args.msg.now.size c.args.rules.now env) verdict c.run_rules.new.msg.blocks c.run_rules.new.vars [])
     (λ (verdict : Verdict). (head : Head) (body : List ℕ) → c.args.msg.now.blocks ≡ front_blocks head body → Leaves (sides.Answer c.args.method) (rules_of c.args.msg.now.size c.args.rules.now (record { is_request = false; head = head; body = body; method = c.args.method.now; vars = c.args.vars.now })) verdict c.run_rules.new.msg.blocks c.run_rules.new.vars [])

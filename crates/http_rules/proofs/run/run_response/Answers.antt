@@ -19,7 +19,7 @@ pub run_rules-requires-clause-good : goal.run_rules-requires-clause-good
 run_rules-requires-clause-good c = good_actions directions.Response c.args.rules.now c.requires.valid.valid.each
 
 pub returns-clause-runs : goal.returns-clause-runs
-returns-clause-runs c = 
+returns-clause-runs c =
     IfOk-weaker c.run_rules.result
     (λ (verdict : Verdict). (env : Env) → IsAt (sides.Answer c.args.method) env c.args.msg.now.blocks c.args.vars.now → Leaves (sides.Answer c.args.method) (rules_of c.args.msg.now.size c.args.rules.now env) verdict c.run_rules.new.msg.blocks c.run_rules.new.vars [])
     (λ (verdict : Verdict). (head : Head) → c.args.msg.now.blocks ≡ head_blocks head → Leaves (sides.Answer c.args.method) (rules_of c.args.msg.now.size c.args.rules.now (response_env c.args.vars.now c.args.method.now head)) verdict c.run_rules.new.msg.blocks c.run_rules.new.vars c.args.reply.now.blocks)
