@@ -40,19 +40,19 @@ fn made_of_texts(alloc: Global, kind: &str, row: Row<'_>) -> Option<Result<Vec<u
     }
 }
 
-/// What a row of conditions or of the program comes to.
-fn made_of_messages(alloc: Global, kind: &str, row: Row<'_>) -> Option<Result<Vec<u8>, Fault>> {
-    match case_rules::made(alloc, kind, row) {
-        Some(made) => Some(made),
-        None => case_session::made(alloc, kind, row),
-    }
-}
-
 /// What a row of texts, of bodies or of the program comes to.
 fn made_of_wholes(alloc: Global, kind: &str, row: Row<'_>) -> Option<Result<Vec<u8>, Fault>> {
     match made_of_texts(alloc, kind, row) {
         Some(made) => Some(made),
-        None => made_of_messages(alloc, kind, row),
+        None => made_of_rules(alloc, kind, row),
+    }
+}
+
+/// What a row of conditions or of the program comes to.
+fn made_of_rules(alloc: Global, kind: &str, row: Row<'_>) -> Option<Result<Vec<u8>, Fault>> {
+    match case_rules::made(alloc, kind, row) {
+        Some(made) => Some(made),
+        None => case_session::made(alloc, kind, row),
     }
 }
 
