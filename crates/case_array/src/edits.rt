@@ -20,7 +20,7 @@ fn say_array(step: &Step<'_>, msg: &Arena, answers: &mut Answers) -> Result<bool
 }
 
 /// Takes a step.
-fn step_message(step: &Step<'_>, msg: &mut Arena, answers: &mut Answers) -> Result<(), Fault> {
+pub fn step_message(step: &Step<'_>, msg: &mut Arena, answers: &mut Answers) -> Result<(), Fault> {
     if say_array(step, msg, answers)? {
         return Ok(());
     }
@@ -42,8 +42,8 @@ fn array_of(alloc: Global, text: &str) -> Result<Arena, Fault> {
     Ok(Arena::new(alloc, size as u32)?)
 }
 
-/// Takes steps.
-fn step_all(
+/// Takes steps, with semicolons between them.
+pub fn step_all(
     alloc: Global,
     steps: &str,
     msg: &mut Arena,

@@ -7,5 +7,5 @@ mod fields;
 mod insertions;
 mod messages;
 
-pub use edits::made;
+pub use edits::{made, step_all, step_message};
 pub use messages::say_blocks;

@@ -12,6 +12,7 @@ pub fn made(alloc: Global, kind: &str, row: Row<'_>) -> Option<Result<Vec<u8>, F
         "commands" => Some(commands::asked(alloc, row)),
         "help" => Some(commands::help_has(alloc, row)),
         "records" => Some(records::recorded(alloc, row)),
+        "malformed_records" => Some(records::refused(alloc, row)),
         "reports" => Some(records::reported(alloc, row)),
         _ => None,
     }

@@ -1,7 +1,7 @@
 //! Records and reports.
 use case_rows::{Answers, Fault, Row, Step, decoded, quoted};
 use px_link::{Bytes, Close, End};
-use rec_format::{Report, Sent, read_first_record, write_report};
+use rec_format::{RecFault, RecKind, Report, Sent, read_first_record, read_record, write_report};
 use std::alloc::Global;
 
 /// NAME, a text, and the client's bytes, the server's and the body of a record of the first form, or `none`.
@@ -15,6 +15,25 @@ pub fn recorded(alloc: Global, row: Row<'_>) -> Result<Vec<u8>, Fault> {
             answers.quote(record.body);
         }
         None => answers.say(b"none"),
+    }
+    answers.into_text()
+}
+
+/// Says where a record is refused, and why.
+fn say_refusal(place: u32, kind: RecKind, answers: &mut Answers) {
+    answers.count(u64::from(place));
+    answers.say(b"");
+    answers.more_name(&kind);
+}
+
+/// NAME, a text, and the place of the refused line and the kind of the refusal, or `read`.
+pub fn refused(alloc: Global, row: Row<'_>) -> Result<Vec<u8>, Fault> {
+    let text = decoded(alloc, row.field(1).as_bytes())?;
+    let mut answers = Answers::new(alloc);
+    match read_record(alloc, &text) {
+        Ok(_record) => answers.say(b"read"),
+        Err(RecFault::Refused { place, kind }) => say_refusal(place, kind, &mut answers),
+        Err(RecFault::OutOfMemory) => return Err(Fault::OutOfMemory),
     }
     answers.into_text()
 }

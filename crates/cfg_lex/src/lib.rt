@@ -6,8 +6,6 @@ mod draft;
 mod fault;
 mod item;
 mod reading;
-#[cfg(test)]
-mod tests;
 mod words;
 
 pub use fault::LineFault;

@@ -32,27 +32,35 @@ fn made_of_parts(alloc: Global, kind: &str, row: Row<'_>) -> Option<Result<Vec<u
     }
 }
 
-/// What a row of texts or of bodies comes to.
-fn made_of_texts(alloc: Global, kind: &str, row: Row<'_>) -> Option<Result<Vec<u8>, Fault>> {
-    match case_text::made(alloc, kind, row) {
+/// What a row of bodies or of written messages comes to.
+fn made_of_messages(alloc: Global, kind: &str, row: Row<'_>) -> Option<Result<Vec<u8>, Fault>> {
+    match case_bodies::made(alloc, kind, row) {
         Some(made) => Some(made),
-        None => case_bodies::made(alloc, kind, row),
-    }
-}
-
-/// What a row of texts, of bodies or of the program comes to.
-fn made_of_wholes(alloc: Global, kind: &str, row: Row<'_>) -> Option<Result<Vec<u8>, Fault>> {
-    match made_of_texts(alloc, kind, row) {
-        Some(made) => Some(made),
-        None => made_of_rules(alloc, kind, row),
+        None => case_writing::made(alloc, kind, row),
     }
 }
 
 /// What a row of conditions or of the program comes to.
-fn made_of_rules(alloc: Global, kind: &str, row: Row<'_>) -> Option<Result<Vec<u8>, Fault>> {
+fn made_of_program(alloc: Global, kind: &str, row: Row<'_>) -> Option<Result<Vec<u8>, Fault>> {
     match case_rules::made(alloc, kind, row) {
         Some(made) => Some(made),
         None => case_session::made(alloc, kind, row),
+    }
+}
+
+/// What a row of texts or of messages comes to.
+fn made_of_texts(alloc: Global, kind: &str, row: Row<'_>) -> Option<Result<Vec<u8>, Fault>> {
+    match case_text::made(alloc, kind, row) {
+        Some(made) => Some(made),
+        None => made_of_messages(alloc, kind, row),
+    }
+}
+
+/// What a row of texts, of messages or of the program comes to.
+fn made_of_wholes(alloc: Global, kind: &str, row: Row<'_>) -> Option<Result<Vec<u8>, Fault>> {
+    match made_of_texts(alloc, kind, row) {
+        Some(made) => Some(made),
+        None => made_of_program(alloc, kind, row),
     }
 }
 

@@ -1,15 +1,15 @@
 -- The two consequences of standing for a history.
-use Rattle.std.proofs.Common.{◌≡◌, ℕ, ◌+◌, List, [], ◌∷◌, ◌++◌, Bool, true, false, Option, Some, None, length, sym, ap, subst, ◌∙◌, refl, append_assoc, arith, map, min, replicate, if◌then◌else◌}
+use Rattle.std.proofs.Common.{◌≡◌, ℕ, ◌+◌, List, [], ◌∷◌, ◌++◌, Bool, true, false, Option, Some, None, length, sym, ap, subst, ◌∙◌, refl, append_assoc, arith, map, min, replicate}
 use Rattle.std.specs.List.{flat_map, AllZip}
 use Rattle.std.proofs.lemmas.List.{append-nil, map-append}
 use Rattle.std.proofs.lemmas.Grind.{flat_map-append}
 use Rattle.http_model.specs.declared.End.{End}
 use Rattle.http_model.specs.declared.End.TheVariants as end
 use Rattle.http_model.specs.Spelling.{Spells}
-use Rattle.session_model.specs.Stream.{Stream, Server, NotThere, Open, Sent}
+use Rattle.session_model.specs.Stream.{Stream, Server, NotThere, Sent}
 use Rattle.session_model.specs.Meaning.{Meaning}
 use Rattle.session_model.specs.Asking.{Asks}
-use Rattle.session_model.specs.Session.{Exchange, Over, Next, Follow, first_bit, Out, out_of, close_of}
+use Rattle.session_model.specs.Session.{Exchange, Over, Follow, first_bit, Out, out_of, close_of}
 use Rattle.session_core.specs.History.{Past, Coming, Connect, Continues, ContinuesServer, IsPrefix, Fronts, BitFits, sent_of, prepend, prepended, broken, broken_server, connected}
 use Rattle.session_core.specs.Sided.{Sided, asker_in, replied_to, RequestSeen, AnswerSeen, RequestsAsk, RequestAsks, Perhaps}
 use Rattle.session_core.specs.Stands.{One, Puts, Follows, IsUnopened, IsServing, Refusing, IsReplying, EndsWith, IsOver, InPhase, Holds, most, kept_with}

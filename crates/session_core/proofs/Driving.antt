@@ -10,9 +10,8 @@ use Rattle.session_core.specs.Sided.{Sided, RequestSeen, AnswerSeen, asker_in, A
 use Rattle.session_core.specs.Stands.{Serves, InPhase, Holds}
 use Rattle.session_core.specs.Waits.{is_empty, is_serving, is_opening, is_telling, is_turned, has_ended, takes_client, over_by, wants_of}
 use Rattle.session_core.specs.Consequences.{IsFinal, IsFront, out_of_past}
-use Rattle.session_core.specs.Drives.{WantsMean, IsAlone, WantsSay, HasBegun, BegunSays, IsAskedFor}
+use Rattle.session_core.specs.Drives.{WantsMean, IsAlone, WantsSay, BegunSays, IsAskedFor}
 use Rattle.session_core.specs.declared.machine.At.{At}
-use Rattle.session_core.specs.declared.machine.Wants.{Wants}
 use Rattle.session_core.specs.declared.Phase.{Phase}
 use Rattle.session_core.specs.declared.Phase.TheVariants as phase
 use Rattle.session_core.proofs.Streams.{Splits}

@@ -5,10 +5,8 @@ use Rattle.std.proofs.lemmas.List.{append-nil, append_cancel_right, take-append-
 use Rattle.http_model.specs.declared.Ending.{Ending}
 use Rattle.session_model.specs.Stream.{Stream}
 use Rattle.session_model.specs.Meaning.{Meaning}
-use Rattle.session_model.specs.Session.{interim_text}
-use Rattle.session_model.specs.Answering.{sent_interim}
-use Rattle.session_core.specs.History.{Past, Coming, Connect, Continues, close_by, prepended, gains, ends, no_stream, connected, at_last, given_by, ended_by, taking, stopping, closing_by}
-use Rattle.session_core.specs.Sided.{Sided, Asking, asker_in, RequestSeen, AnswerSeen, Requests, BodyGoes, RequestGoes, is_all, AnswersSo, IsBefore, IsUncut}
+use Rattle.session_core.specs.History.{Past, Coming, Connect, Continues, close_by, prepended, gains, ends, at_last, given_by, ended_by, taking, stopping, closing_by}
+use Rattle.session_core.specs.Sided.{Sided, Asking, RequestSeen, AnswerSeen, Requests, BodyGoes, RequestGoes, is_all}
 use Rattle.session_core.specs.Stands.{IsBehind, Serves, IsServing, InPhase, Holds}
 use Rattle.session_core.specs.declared.machine.At.{At}
 use Rattle.session_core.specs.declared.Phase.{Phase}

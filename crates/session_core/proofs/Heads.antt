@@ -6,7 +6,7 @@ use Rattle.session_model.specs.Stream.{Stream}
 use Rattle.session_model.specs.Env.{Env, Pass, request_env}
 use Rattle.session_model.specs.Meaning.{Meaning, declares_too_much}
 use Rattle.session_model.specs.Asking.{Asks, Sends, asked_by, request_fits}
-use Rattle.session_core.specs.History.{Coming, Continues, prepend}
+use Rattle.session_core.specs.History.{Coming, Continues}
 use Rattle.session_core.specs.Sided.{Asking, BodyGoes, RequestGoes, IfSettled}
 use Rattle.session_core.specs.Lanes.{HeadCame}
 use Rattle.session_core.specs.declared.Source.{Source}

@@ -18,7 +18,7 @@ use Rattle.session_model.specs.Answering.{Final, Refuses, Replies, Answers, Plai
 use Rattle.session_model.specs.Session.{SpellsFinal, interim_text}
 use Rattle.session_core.specs.History.{Coming, Continues, IsPrefix, prepend, prepended}
 use Rattle.session_core.specs.Sided.{Asking, asker_in, AnswerGoes, Interims, Perhaps, IfTold}
-use Rattle.session_core.specs.Lanes.{HeadsPassed, FinalCame, LastSo, AnswerBody, IsTotalAnswers}
+use Rattle.session_core.specs.Lanes.{HeadsPassed, LastSo, AnswerBody, IsTotalAnswers}
 use Rattle.session_core.specs.declared.Told.{Told}
 use Rattle.session_core.specs.declared.Told.TheVariants as told
 use Rattle.session_core.proofs.Streams.{Splits, continues_prepend}

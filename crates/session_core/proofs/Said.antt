@@ -1,5 +1,5 @@
 -- Exchanges with no server open: a refusal or a reply.
-use Rattle.std.proofs.Common.{◌≡◌, ℕ, List, [], ◌∷◌, Bool, true, false, Option, Some, None, sym, ap, refl, arith}
+use Rattle.std.proofs.Common.{◌≡◌, ℕ, List, [], ◌∷◌, Bool, true, false, Option, None, sym, ap, refl, arith}
 use Rattle.std.specs.List.{AllZip}
 use Rattle.http_model.specs.declared.End.TheVariants as end
 use Rattle.http_model.specs.Head.{Message}

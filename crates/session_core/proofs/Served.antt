@@ -6,7 +6,7 @@ use Rattle.http_model.specs.declared.Close.{Close}
 use Rattle.http_model.specs.declared.Close.TheVariants.{Clean, Failed}
 use Rattle.http_model.specs.declared.End.{End}
 use Rattle.http_model.specs.declared.End.TheVariants as end
-use Rattle.http_model.specs.Head.{Head, Message}
+use Rattle.http_model.specs.Head.{Message}
 use Rattle.http_model.specs.Spelling.{Spells}
 use Rattle.session_model.specs.Stream.{Stream, Server, Open, Sent}
 use Rattle.session_model.specs.Meaning.{Meaning}

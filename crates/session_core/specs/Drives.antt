@@ -1,16 +1,14 @@
 -- What a driver reads off a core: what its wants say of windows, rooms and its history, and what `begun` says of the bytes put out.
-use Rattle.std.specs.Prelude.{◌≡◌, ◌≢◌, ℕ, ◌<◌, List, [], ◌∷◌, ◌++◌, Bool, true, false, Option, Some, None}
+use Rattle.std.specs.Prelude.{◌≡◌, ◌≢◌, ℕ, ◌<◌, List, [], ◌∷◌, ◌++◌, Bool, true, false, Some, None}
 use Rattle.http_model.specs.declared.Close.{Close}
-use Rattle.http_model.specs.declared.End.{End}
 use Rattle.session_model.specs.Stream.{Stream}
 use Rattle.session_model.specs.Meaning.{Meaning}
-use Rattle.session_model.specs.Asking.{Asked, Sends, Asks}
+use Rattle.session_model.specs.Asking.{Sends, Asks}
 use Rattle.session_model.specs.Answering.{Answered, AnswersFrom}
 use Rattle.session_model.specs.Session.{interim_text}
 use Rattle.session_core.specs.History.{Past, Connect, Continues, close_by}
 use Rattle.session_core.specs.Sided.{RequestSeen, AnswerSeen, Asking, asker_in, Perhaps, Interims, HoldsList, finished_blocks, forwarded_to}
 use Rattle.session_core.specs.Awaits.{awaits_continue}
-use Rattle.session_core.specs.Waits.{is_serving}
 use Rattle.session_core.specs.declared.machine.Wants.{Wants}
 
 -- What wants say of windows and rooms, and of whether a server is open.

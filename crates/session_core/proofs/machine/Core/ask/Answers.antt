@@ -1,5 +1,5 @@
 use Rattle.std.proofs.lemmas.Bool.{false≢true}
-use Rattle.std.proofs.Common.{◌≡◌, [], false, subst, refl}
+use Rattle.std.proofs.Common.{[], subst, refl}
 use Rattle.session_core.proofs.Working.{at_is}
 use Rattle.session_core.proofs.Turning.{asks_more, asks_nothing, asks_refusal, asks_reply, asks_server}
 use Rattle.session_core.specs.Leads.{AsksTo}

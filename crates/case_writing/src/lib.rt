@@ -1,0 +1,8 @@
+//! Rows of messages that are written as text or go from one array to another, and what they come to.
+#![tactic(auto)]
+
+mod kinds;
+mod spellings;
+mod transfers;
+
+pub use kinds::made;

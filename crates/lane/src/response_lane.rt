@@ -1,0 +1,309 @@
+//! The direction in which the client is answered: a server's heads come, interim ones are passed on or dropped, and the
+//! last that answers goes out behind them, the server's or one in its place.
+ghost use Rattle.std.specs.Prelude.{◌≡◌, ◌≢◌, ◌≤◌, ◌<◌, ◌+◌, ◌++◌, ◌∷◌, ◌⊎◌, [], length, drop, true, false, List, ℕ, Some, None, Bool, IfOk, IsTrue};
+ghost use Rattle.htx_model.specs.Blocks.{Fits};
+ghost use Rattle.http_model.specs.Finish.{finish_interim};
+ghost use Rattle.http_model.specs.Head.{Head, head_blocks};
+ghost use Rattle.http_model.specs.Reading.{Received};
+ghost use Rattle.http_model.specs.Sizes.{least_size, most_size, least_head};
+ghost use Rattle.body_filter.specs.Valid.{AreFilters};
+ghost use Rattle.body_filter.specs.declared.filter_spec.FilterSpec.{FilterSpec};
+ghost use Rattle.http_model.specs.Head.{front_blocks};
+ghost use Rattle.lane.specs.Answering.{Exchange, Answers, HeadComes, PutsOut, is_interim, IsOpen, with_bytes, with_put, passes, drops, serves, replies, fresh, IsSoundAnswer, MayGoOn, HasFilters, shows_head, stage_of, source_of, input_of, came_in, most_of, ended_of, output_of, window_of, limits_of, blocks_of, addrs_of, framing_of, declared_of, close_of, has_begun, phase_of};
+ghost use Rattle.lane.specs.declared.phase.Phase.TheVariants as phase;
+ghost use Rattle.lane_core.specs.declared.stage.Stage.TheVariants as stage;
+ghost use Rattle.lane_core.specs.declared.stage.Source.TheVariants as source;
+
+mod views;
+
+use crate::phase::Phase;
+use body_filter::FilterSpec;
+use h1_head::Side;
+use header_ops::laws::edits_of_heads;
+use http_model::{Ending, Framing, Limits};
+use htx_arena::Arena;
+use htx_model::OutOfMemory;
+use lane_core::{Lane, LaneHead, Source, Stage};
+use std::alloc::Global;
+
+/// The direction in which a client is answered.
+#[derive(Drop)]
+pub struct ResponseLane {
+    lane: Lane,
+    phase: Phase,
+    /// A byte of the last that answers was put out.
+    begun: bool,
+}
+
+impl ResponseLane {
+    /// A lane whose output window has `window` bytes and whose input window has `bufsize`, and whose bodies go through these
+    /// filters. This call alone takes memory.
+    pub fn new(
+        alloc: Global,
+        limits: Limits,
+        window: u32,
+        filters: &[FilterSpec],
+    ) -> Result<ResponseLane, OutOfMemory>
+        requires least { least_size ≤ limits.bufsize }
+        requires most { limits.bufsize ≤ most_size }
+        requires reserve { limits.maxrewrite + least_head ≤ limits.bufsize }
+        requires window { 64 ≤ window }
+        requires few { length filters.now ≤ 8 }
+        requires valid { AreFilters filters.now }
+        ensures filters { IfOk result (λ lane. HasFilters lane filters.now) }
+        ensures fresh { IfOk result (λ lane. (asked : Bool) → Answers lane (fresh asked)) }
+        ensures reading { IfOk result (λ lane. stage_of lane ≡ stage.Reading) }
+        ensures sound { IfOk result IsSoundAnswer }
+    {
+        Ok(ResponseLane {
+            lane: Lane::new(alloc, limits, window, filters)?,
+            phase: Phase::Heads,
+            begun: false,
+        })
+    }
+
+    /// Bytes of the server's stream come.
+    pub fn take(&mut self, bytes: &[u8])
+        requires open { IsOpen self.old }
+        requires room { length (input_of self.old) + length bytes.now ≤ most_of self.old }
+        ensures answers { (p : Exchange) → Answers self.old p → Answers self.new (with_bytes p bytes.now) }
+        ensures same { (stage_of self.new ≡ stage_of self.old) × (window_of self.new ≡ window_of self.old) × (has_begun self.new ≡ has_begun self.old) }
+        ensures sound { IsSoundAnswer self.old → IsSoundAnswer self.new }
+        ensures filters { (filters : List FilterSpec) → HasFilters self.old filters → HasFilters self.new filters }
+    {
+        self.lane.take(bytes);
+    }
+
+    /// The server's stream ends.
+    pub fn end(&mut self, how: Ending)
+        requires { IsOpen self.old }
+        ensures answers { (p : Exchange) → Answers self.old p → Answers self.new p }
+        ensures same { (stage_of self.new ≡ stage_of self.old) × (window_of self.new ≡ window_of self.old) × (has_begun self.new ≡ has_begun self.old) }
+        ensures sound { IsSoundAnswer self.old → IsSoundAnswer self.new }
+        ensures filters { (filters : List FilterSpec) → HasFilters self.old filters → HasFilters self.new filters }
+    {
+        self.lane.end(how);
+    }
+
+    /// Reads the next head of the server. A stream that ended without one is refused.
+    pub fn read_head(&mut self, head_asked: bool) -> LaneHead
+        requires sound { IsSoundAnswer self.old }
+        requires reading { stage_of self.old ≡ stage.Reading }
+        ensures comes { (p : Exchange) → Answers self.old p → p.asked ≡ head_asked → HeadComes p self.new result }
+        ensures same { (window_of self.new ≡ window_of self.old) × (ended_of self.new ≡ ended_of self.old) × (has_begun self.new ≡ has_begun self.old) }
+        ensures sound { IsSoundAnswer self.new }
+        ensures filters { (filters : List FilterSpec) → HasFilters self.old filters → HasFilters self.new filters }
+    {
+        match self.lane.read_head(Side::Response { head_asked }) {
+            LaneHead::More => LaneHead::More,
+            LaneHead::Nothing => {
+                self.lane.give_up();
+                LaneHead::Refuse(502)
+            }
+            LaneHead::Head => LaneHead::Head,
+            LaneHead::Refuse(code) => LaneHead::Refuse(code),
+        }
+    }
+
+    /// The array on which rules run.
+    pub fn head(&mut self) -> &mut Arena {
+        self.lane.head()
+    }
+
+    /// The interim head that stands in the array is put out, without the fields that frame a message or speak of its
+    /// connection. Then heads are read on.
+    pub fn pass(&mut self)
+        requires sound { IsSoundAnswer self.old }
+        requires head { stage_of self.old ≡ stage.Head }
+        ensures answers { (p : Exchange) (got : Received) → Answers self.old p → p.pending ≡ Some got → is_interim got.head ≡ true → blocks_of self.old ≡ head_blocks got.head
+            → Answers self.new (passes p got) }
+        ensures stage { stage_of self.new ≡ stage.Sending }
+        ensures same { (window_of self.new ≡ window_of self.old) × (ended_of self.new ≡ ended_of self.old) × (has_begun self.new ≡ has_begun self.old) }
+        ensures sound { IsSoundAnswer self.new }
+        ensures filters { (filters : List FilterSpec) → HasFilters self.old filters → HasFilters self.new filters }
+    {
+        edits_of_heads();
+        self.lane.strip();
+        self.lane.show();
+        self.phase = Phase::Passing;
+    }
+
+    /// The interim head that stands in the array goes nowhere.
+    pub fn drop_head(&mut self)
+        requires sound { IsSoundAnswer self.old }
+        requires head { stage_of self.old ≡ stage.Head }
+        ensures answers { (p : Exchange) (got : Received) → Answers self.old p → p.pending ≡ Some got → is_interim got.head ≡ true → Answers self.new (drops p got) }
+        ensures stage { stage_of self.new ≡ stage.Reading }
+        ensures same { (window_of self.new ≡ window_of self.old) × (ended_of self.new ≡ ended_of self.old) × (has_begun self.new ≡ has_begun self.old) }
+        ensures sound { IsSoundAnswer self.new }
+        ensures filters { (filters : List FilterSpec) → HasFilters self.old filters → HasFilters self.new filters }
+    {
+        self.lane.next();
+        self.phase = Phase::Heads;
+    }
+
+    /// The head that stands in the array is put out as the last that answers, and the body behind it in this framing.
+    pub fn send(&mut self, framing: Framing, no_body: bool)
+        requires sound { IsSoundAnswer self.old }
+        requires head { stage_of self.old ≡ stage.Head }
+        ensures answers { (p : Exchange) (filters : List FilterSpec) (head : Head) → Answers self.old p → HasFilters self.old filters → blocks_of self.old ≡ head_blocks head → Answers self.new (serves p filters head framing no_body) }
+        ensures stage { stage_of self.new ≡ stage.Sending }
+        ensures same { (window_of self.new ≡ window_of self.old) × (ended_of self.new ≡ ended_of self.old) × (has_begun self.new ≡ has_begun self.old) }
+        ensures sound { IsSoundAnswer self.new }
+        ensures filters { (filters : List FilterSpec) → HasFilters self.old filters → HasFilters self.new filters }
+    {
+        self.lane.send(framing, no_body);
+        self.phase = Phase::Answering;
+    }
+
+    /// The message of this list, a reply or a refusal, is put out as the last that answers. What is left of an interim
+    /// head is put out in front of it, whole.
+    pub fn answer(&mut self, list: &mut Arena, no_body: bool)
+        requires sound { IsSoundAnswer self.old }
+        requires unbegun { has_begun self.old ≡ false }
+        requires fits { Fits list.old.blocks (limits_of self.old).bufsize }
+        ensures answers { (p : Exchange) (head : Head) (body : List ℕ) → Answers self.old p → list.old.blocks ≡ front_blocks head body → Answers self.new (replies p head body no_body) }
+        ensures list { list.new.blocks ≡ [] }
+        ensures stage { (stage_of self.new ≡ stage.Sending) × (source_of self.new ≡ source.Whole) }
+        ensures same { (window_of self.new ≡ window_of self.old) × (ended_of self.new ≡ ended_of self.old) × (has_begun self.new ≡ has_begun self.old) }
+        ensures sound { IsSoundAnswer self.new }
+        ensures filters { (filters : List FilterSpec) → HasFilters self.old filters → HasFilters self.new filters }
+    {
+        if self.is_showing() {
+            self.lane.put_by(list);
+            self.phase = Phase::Turning { no_body };
+            return;
+        }
+        self.lane.say(list, no_body);
+        self.phase = Phase::Answering;
+    }
+
+    /// Whether an interim head is put out.
+    fn is_showing(&self) -> bool
+        ensures { result ≡ shows_head (phase_of self.now) }
+    {
+        match self.phase {
+            Phase::Heads | Phase::Answering => false,
+            Phase::Passing | Phase::Turning { no_body: _ } => true,
+        }
+    }
+
+    /// Does all that can be done with what came and what room there is.
+    pub fn step(&mut self)
+        requires sound { IsSoundAnswer self.old }
+        requires sending { stage_of self.old ≡ stage.Sending }
+        ensures answers { PutsOut self.old self.new }
+        ensures no_stall { (p : Exchange) → Answers self.old p → stage_of self.new ≡ stage.Sending → MayGoOn self.new }
+        ensures begun { has_begun self.old ≡ true → has_begun self.new ≡ true }
+        ensures sound { IsSoundAnswer self.new }
+        ensures filters { (filters : List FilterSpec) → HasFilters self.old filters → HasFilters self.new filters }
+    {
+        match self.phase {
+            Phase::Heads => {}
+            Phase::Passing => self.pass_on(),
+            Phase::Turning { no_body } => self.turn_on(no_body),
+            Phase::Answering => self.answer_on(),
+        }
+    }
+
+    /// Puts out more of an interim head; heads are read on behind it.
+    fn pass_on(&mut self)
+        requires sound { IsSoundAnswer self.old }
+        requires at { phase_of self.old ≡ phase.Passing }
+        ensures answers { PutsOut self.old self.new }
+        ensures no_stall { (p : Exchange) → Answers self.old p → stage_of self.new ≡ stage.Sending → MayGoOn self.new }
+        ensures begun { has_begun self.old ≡ true → has_begun self.new ≡ true }
+        ensures sound { IsSoundAnswer self.new }
+        ensures filters { (filters : List FilterSpec) → HasFilters self.old filters → HasFilters self.new filters }
+    {
+        if self.lane.show_on() {
+            self.lane.next();
+            self.phase = Phase::Heads;
+        }
+    }
+
+    /// Puts out more of an interim head, and then what stands in the first array.
+    fn turn_on(&mut self, no_body: bool)
+        requires sound { IsSoundAnswer self.old }
+        requires at { phase_of self.old ≡ phase.Turning no_body }
+        ensures answers { PutsOut self.old self.new }
+        ensures no_stall { (p : Exchange) → Answers self.old p → stage_of self.new ≡ stage.Sending → MayGoOn self.new }
+        ensures begun { has_begun self.old ≡ true → has_begun self.new ≡ true }
+        ensures sound { IsSoundAnswer self.new }
+        ensures filters { (filters : List FilterSpec) → HasFilters self.old filters → HasFilters self.new filters }
+    {
+        if self.lane.show_on() {
+            self.lane.hide();
+            self.lane.say_msg(no_body);
+            self.phase = Phase::Answering;
+            self.answer_on();
+        }
+    }
+
+    /// Puts out more of the last that answers.
+    fn answer_on(&mut self)
+        requires sound { IsSoundAnswer self.old }
+        requires at { phase_of self.old ≡ phase.Answering }
+        requires sending { stage_of self.old ≡ stage.Sending }
+        ensures answers { PutsOut self.old self.new }
+        ensures no_stall { (p : Exchange) → Answers self.old p → stage_of self.new ≡ stage.Sending → MayGoOn self.new }
+        ensures begun { has_begun self.old ≡ true → has_begun self.new ≡ true }
+        ensures sound { IsSoundAnswer self.new }
+        ensures filters { (filters : List FilterSpec) → HasFilters self.old filters → HasFilters self.new filters }
+    {
+        let before = self.lane.put();
+        self.lane.step();
+        if self.lane.put() > before {
+            self.begun = true;
+        }
+    }
+
+    /// The text that was not taken yet.
+    pub fn output(&mut self) -> &mut [u8] {
+        self.lane.output()
+    }
+
+    /// So many bytes of it were taken.
+    pub fn took(&mut self, n: usize)
+        requires { n ≤ length (output_of self.old) }
+        ensures output { output_of self.new ≡ drop n (output_of self.old) }
+        ensures answers { (p : Exchange) → Answers self.old p → Answers self.new p }
+        ensures same { (stage_of self.new ≡ stage_of self.old) × (ended_of self.new ≡ ended_of self.old) × (has_begun self.new ≡ has_begun self.old) }
+        ensures sound { IsSoundAnswer self.old → IsSoundAnswer self.new }
+        ensures filters { (filters : List FilterSpec) → HasFilters self.old filters → HasFilters self.new filters }
+    {
+        self.lane.took(n);
+    }
+
+    /// The next exchange begins on what is left of the stream.
+    pub fn next(&mut self)
+        requires sound { IsSoundAnswer self.old }
+        requires done { stage_of self.old ≡ stage.Done }
+        ensures answers { (asked : Bool) → Answers self.new (with_bytes (fresh asked) (input_of self.old)) }
+        ensures stage { stage_of self.new ≡ stage.Reading }
+        ensures same { (window_of self.new ≡ window_of self.old) × (ended_of self.new ≡ ended_of self.old) × (came_in self.new ≡ came_in self.old) }
+        ensures sound { IsSoundAnswer self.new }
+        ensures filters { (filters : List FilterSpec) → HasFilters self.old filters → HasFilters self.new filters }
+    {
+        self.lane.next();
+        self.phase = Phase::Heads;
+        self.begun = false;
+    }
+
+    /// Another server answers: what came of the one before goes, and what is put out stays.
+    pub fn restart(&mut self)
+        requires sound { IsSoundAnswer self.old }
+        requires rests { (stage_of self.old ≡ stage.Done) ⊎ (stage_of self.old ≡ stage.Reading) }
+        ensures answers { (asked : Bool) → Answers self.new (fresh asked) }
+        ensures stage { stage_of self.new ≡ stage.Reading }
+        ensures open { IsOpen self.new }
+        ensures same { window_of self.new ≡ window_of self.old }
+        ensures begun { has_begun self.new ≡ false }
+        ensures sound { IsSoundAnswer self.new }
+        ensures filters { (filters : List FilterSpec) → HasFilters self.old filters → HasFilters self.new filters }
+    {
+        self.lane.new_stream();
+        self.phase = Phase::Heads;
+        self.begun = false;
+    }
+}

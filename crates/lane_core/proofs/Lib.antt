@@ -1,0 +1,15 @@
+pub mod FlowLemmas
+pub mod CarryLemmas
+pub mod SendLemmas
+pub mod PullLemmas
+pub mod RoomLemmas
+pub mod ReadLemmas
+pub mod SiftLemmas
+pub mod StepLemmas
+pub mod HoldLemmas
+pub mod StallLemmas
+pub mod HeadLemmas
+pub mod BodyLemmas
+pub mod PassLemmas
+pub mod PromiseLemmas
+pub mod ShowLemmas

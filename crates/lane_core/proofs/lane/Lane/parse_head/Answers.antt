@@ -1,0 +1,31 @@
+use Rattle.std.proofs.Common.{◌≡◌, ℕ, Bool, true, false, ap, sym, ◌∙◌, subst, drop, Option, Some, None, refl}
+use Rattle.std.specs.Prelude.{is_some}
+use Rattle.wire_buf.specs.Buffer.{Buffer}
+use Rattle.http_model.specs.declared.Ending.{Ending}
+use Rattle.h1_head.specs.Sides.{kind_of}
+use Rattle.h1_head.specs.Decides.{MayWait}
+use Rattle.lane_core.proofs.HeadLemmas.{looked, received}
+use Rattle.lane_core.proofs.lane.Lane.parse_head.Goals as goal
+
+not_ended : (o : Option Ending) (whole : Bool) → whole ≡ is_some o → whole ≡ false → o ≡ None
+not_ended None whole is no_end = refl
+not_ended (Some how) whole is no_end = let both : true ≡ false = sym is ∙ no_end in absurd (cc both)
+
+pub returns-else-whole-clause-tells : goal.returns-else-whole-clause-tells
+returns-else-whole-clause-tells c =
+    let l = c.args.self.now in
+    let more = c.in-More.ensures in
+    let same : c.look.new.input.items ≡ c.args.self.now.input.items = ap (λ (b : Buffer ℕ). b.items) more.same in
+    let capacity : c.drop_front.new.self.capacity ≡ c.args.self.now.input.capacity = c.drop_front.ensures.capacity ∙ ap (λ (b : Buffer ℕ). b.capacity) more.same in
+    looked c.args.side c.args.self.now c.in-More.skip c.len-self.result c.drop_front.new.self c.look.new.to c.requires
+    (not_ended c.args.self.now.ended c.is_some-whole.result c.is_some-whole.ensures c.if-whole.false)
+    more.skip (c.drop_front.ensures.items ∙ ap (drop c.in-More.skip) same) capacity more.lines
+    (subst (λ (b : Bool). MayWait (kind_of c.args.side) c.args.self.now.limits b c.args.self.now.input.items) c.if-whole.false more.waits)
+    more.unkept more.size c.len-self.ensures.len
+
+pub returns-in-Head-clause-tells : goal.returns-in-Head-clause-tells
+returns-in-Head-clause-tells c =
+    let got = c.in-Head.ensures in
+    let same : c.look.new.input.items ≡ c.args.self.now.input.items = ap (λ (b : Buffer ℕ). b.items) got.same in
+    received c.args.side c.args.self.now c.in-Head.used c.drop_front-in-Head.new.self c.look.new.to c.in-Head.framing c.in-Head.declared c.in-Head.close c.is_some-whole.result c.requires c.is_some-whole.ensures
+    (c.drop_front-in-Head.ensures.items ∙ ap (drop c.in-Head.used) same) (c.drop_front-in-Head.ensures.capacity ∙ ap (λ (b : Buffer ℕ). b.capacity) got.same) got.head got.size

@@ -1,0 +1,5 @@
+use Rattle.lane_core.proofs.PromiseLemmas as lemmas
+use Rattle.lane_core.proofs.laws.no_cut_shown.Goals as goal
+
+pub returns : goal.returns
+returns c = lemmas.no_cut_shown

@@ -1,0 +1,25 @@
+use Rattle.std.proofs.Common.{◌++◌, List, sym, ap, ◌∙◌, subst}
+use Rattle.htx_model.specs.Block.{Block}
+use Rattle.htx_model.specs.Blocks.{Fits}
+use Rattle.h1_body.specs.Trailers.{trailer_blocks}
+use Rattle.lane_core.specs.Coming.{Comes, came_at}
+use Rattle.lane_core.specs.declared.sift.Came.{Came}
+use Rattle.lane_core.proofs.SiftLemmas.{comes}
+use Rattle.lane_core.proofs.sift.sift_into.Goals as goal
+
+pub returns-then-is_accepted-clause-comes : goal.returns-then-is_accepted-clause-comes
+returns-then-is_accepted-clause-comes c = λ filters found passed has. (
+  c.is_accepted.ensures.accepted c.if-is_accepted.true,
+  c.add_section.ensures.same,
+  λ trailers are fits. c.add_section.ensures.added trailers are (subst (λ (bs : List Block). Fits (bs ++ trailer_blocks trailers) c.args.to.now.size) (sym c.requires.empty) fits)
+      ∙ ap (λ (bs : List Block). bs ++ trailer_blocks trailers) c.requires.empty,
+)
+
+pub returns-clause-comes : goal.returns-clause-comes
+returns-clause-comes c =
+    let old = c.args.sieve.now in
+    let new = c.sift-answer.new.self in
+    let size = c.args.to.now.size in
+    let blocks = c.sift-answer.new.to.blocks in
+    subst (λ (a : Came). Comes a size old new blocks) (sym (c.came_by.ensures ∙ ap (came_at c.sift-answer.result) c.end.ensures))
+    (comes c.sift-answer.result size old new blocks c.sift-answer.ensures.sifts c.sift-answer.ensures.section (c.is_accepted.ensures.other c.if-is_accepted.false))

@@ -1,0 +1,11 @@
+pub mod Sent
+pub mod Carried
+pub mod Pulled
+pub mod Filtering
+pub mod Holding
+pub mod Coming
+pub mod Sends
+pub mod Shown
+pub mod Lending
+pub mod Heads
+pub mod Promise

@@ -1,0 +1,323 @@
+//! The calls of a lane beside reading a head.
+ghost use Rattle.std.specs.Prelude.{◌≡◌, ◌≤◌, ◌<◌, ◌+◌, ◌++◌, ◌⊎◌, [], length, take, drop, true, false, List, ℕ, Some, None, Option, IfOk};
+ghost use Rattle.http_model.specs.Head.{Head, head_blocks};
+ghost use Rattle.http_model.specs.Sizes.{least_size, most_size, least_head};
+ghost use Rattle.http_model.specs.declared.Ending.{Ending};
+ghost use Rattle.body_filter.specs.declared.filter_spec.FilterSpec.{FilterSpec};
+ghost use Rattle.body_filter.specs.Valid.{AreFilters};
+ghost use Rattle.h1_body.specs.declared.reader.BodyReader.{BodyReader};
+ghost use Rattle.lane_core.specs.Filtering.{AreThese, HasPassed, SieveFits, GoesOnBy};
+ghost use Rattle.htx_layout.specs.Held.{held};
+ghost use Rattle.header_ops.specs.Headers.{without_framing};
+ghost use Rattle.h1_head.specs.declared.answer.Side.{Side};
+ghost use Rattle.lane_core.specs.Sends.{Past, Stands, GoesOn, IsAtRest, IsAllOut, IsSound, IsReady, IsReading, RestsFor, begun};
+ghost use Rattle.lane_core.specs.declared.stage.Stage.TheVariants as stage;
+
+use crate::lane::Lane;
+use crate::stage::{Source, Stage};
+use body_filter::FilterSpec;
+use body_sieve::Sieve;
+use h1_body::BodyReader;
+use h1_write::Writer;
+use header_ops::remove_framing;
+use http_model::{Ending, Framing, Limits};
+use htx_arena::Arena;
+use htx_model::OutOfMemory;
+use std::alloc::Global;
+use wire_buf::Window;
+
+/// What lets bodies through these filters; nothing where there are none.
+fn sieve_of(alloc: Global, filters: &[FilterSpec], size: u32) -> Result<Option<Sieve>, OutOfMemory>
+    requires few { length filters.now ≤ 8 }
+    requires valid { AreFilters filters.now }
+    requires wide { 8 < size }
+    ensures these { IfOk result (λ sieve. AreThese sieve filters.now) }
+    ensures size { IfOk result (SieveFits size) }
+{
+    if filters.len() == 0 {
+        return Ok(None);
+    }
+    let sieve = Sieve::open(alloc, filters, size)?;
+    Ok(Some(sieve))
+}
+
+/// Puts bytes that fit behind those in a window.
+fn push_all(input: &mut Window, bytes: &[u8])
+    requires { length input.old.items + length bytes.now ≤ input.old.capacity }
+    ensures items { input.new.items ≡ input.old.items ++ bytes.now }
+    ensures capacity { input.new.capacity ≡ input.old.capacity }
+{
+    input.push(bytes);
+}
+
+/// Begins a new body, where there are filters.
+pub(super) fn reset(sieve: &mut Option<Sieve>)
+    ensures passed { (filters : List FilterSpec) → AreThese sieve.old filters → HasPassed sieve.new filters [] [] }
+    ensures goes { (reader : BodyReader) (ended : Option Ending) (input : List ℕ) → GoesOnBy sieve.new reader ended input [] }
+    ensures size { (size : ℕ) → SieveFits size sieve.old → SieveFits size sieve.new }
+{
+    match sieve {
+        None => {}
+        Some(sieve) => sieve.reset(),
+    }
+}
+
+impl Lane {
+    ghost use Rattle.std.specs.Borrow.{sem};
+    ghost use Rattle.lane_core.specs.Lending.{LendsMsg, LendsOutput};
+
+    /// A lane whose output window has this size, and whose bodies go through these filters. This call alone takes memory.
+    pub fn new(
+        alloc: Global,
+        limits: Limits,
+        window: u32,
+        filters: &[FilterSpec],
+    ) -> Result<Lane, OutOfMemory>
+        requires least { least_size ≤ limits.bufsize }
+        requires most { limits.bufsize ≤ most_size }
+        requires reserve { limits.maxrewrite + least_head ≤ limits.bufsize }
+        requires window { 64 ≤ window }
+        requires few { length filters.now ≤ 8 }
+        requires valid { AreFilters filters.now }
+        ensures filters { IfOk result (λ lane. AreThese lane.sieve filters.now) }
+        ensures reading { IfOk result (λ lane. (side : Side) → IsReading side lane) }
+        ensures input { IfOk result (λ lane. (lane.input.items ≡ []) × (lane.ended ≡ None)) }
+        ensures limits { IfOk result (λ lane. lane.limits ≡ limits) }
+    {
+        Ok(Lane {
+            limits,
+            input: Window::new(alloc, limits.bufsize)?,
+            ended: None,
+            scanned: 0,
+            msg: Arena::new(alloc, limits.bufsize)?,
+            out: Arena::new(alloc, limits.bufsize)?,
+            framing: Framing::Absent,
+            declared: None,
+            close: false,
+            reader: BodyReader::new(Framing::Absent, limits),
+            sieve: sieve_of(alloc, filters, limits.bufsize)?,
+            writer: Writer::new(Framing::Absent, false),
+            output: Window::new(alloc, window)?,
+            stage: Stage::Reading,
+            source: Source::Going,
+            dropped: false,
+        })
+    }
+
+    /// Where the lane stands.
+    pub fn stage(&self) -> Stage
+        ensures { result ≡ self.now.stage }
+    {
+        self.stage
+    }
+
+    /// Where the body stands.
+    pub fn source(&self) -> Source
+        ensures { result ≡ self.now.source }
+    {
+        self.source
+    }
+
+    /// How many bytes can be taken.
+    pub fn room(&self) -> usize
+        ensures { result + length self.now.input.items ≡ self.now.input.capacity }
+    {
+        self.input.room()
+    }
+
+    /// How the body of the head that stands in the array is framed.
+    pub fn framing(&self) -> Framing
+        ensures { result ≡ self.now.framing }
+    {
+        self.framing
+    }
+
+    /// The length that a field of that head declared.
+    pub fn declared(&self) -> Option<u64>
+        ensures { result ≡ self.now.declared }
+    {
+        self.declared
+    }
+
+    /// Whether a Connection element of that head was `close`.
+    pub fn close(&self) -> bool
+        ensures { result ≡ self.now.close }
+    {
+        self.close
+    }
+
+    /// Bytes of the stream come.
+    pub fn take(&mut self, bytes: &[u8])
+        requires open { self.old.ended ≡ None }
+        requires room { length self.old.input.items + length bytes.now ≤ self.old.input.capacity }
+        ensures input { self.new.input.items ≡ self.old.input.items ++ bytes.now }
+        ensures same { self.new ≡ record self.old { input = self.new.input } }
+        ensures sound { IsSound self.old → IsSound self.new }
+        ensures reading { (side : Side) → IsReading side self.old → IsReading side self.new }
+        ensures stands { (p : Past) → Stands self.old p → Stands self.new (record p { bytes = p.bytes ++ bytes.now }) }
+    {
+        push_all(&mut self.input, bytes);
+    }
+
+    /// The stream ends.
+    pub fn end(&mut self, how: Ending)
+        requires { self.old.ended ≡ None }
+        ensures same { self.new ≡ record self.old { ended = Some how } }
+        ensures sound { IsSound self.old → IsSound self.new }
+        ensures reading { (side : Side) → IsReading side self.old → IsReading side self.new }
+        ensures stands { (p : Past) → Stands self.old p → Stands self.new p }
+    {
+        self.ended = Some(how);
+    }
+
+    /// The array on which rules run.
+    pub fn head(&mut self) -> &mut Arena
+        ensures* back { sem 𝓛 (LendsMsg self.entry result) }
+        ensures value { result.now ≡ self.old.msg }
+    {
+        &mut self.msg
+    }
+
+    /// The bytes of that array.
+    pub fn raw(&self) -> &[u8]
+        ensures held { held result.now self.now.msg.blocks self.now.msg.addrs }
+        ensures size { length result.now ≡ self.now.msg.size }
+    {
+        self.msg.raw()
+    }
+
+    /// The head that stands in the array is put out, and the body behind it in this framing.
+    pub fn send(&mut self, framing: Framing, no_body: bool)
+        requires ready { IsReady self.old }
+        requires head { self.old.stage ≡ stage.Head }
+        ensures stands { (filters : List FilterSpec) (head : Head) → AreThese self.old.sieve filters → self.old.msg.blocks ≡ head_blocks head → Stands self.new (begun self.old filters head framing no_body) }
+        ensures filters { (filters : List FilterSpec) → AreThese self.old.sieve filters → AreThese self.new.sieve filters }
+        ensures sound { IsSound self.new }
+        ensures stage { self.new.stage ≡ stage.Sending }
+        ensures same { (self.new.input ≡ self.old.input) × (self.new.ended ≡ self.old.ended) × (self.new.msg ≡ self.old.msg) × (self.new.output ≡ self.old.output) × (self.new.dropped ≡ false) }
+        ensures limits { self.new.limits ≡ self.old.limits }
+    {
+        reset(&mut self.sieve);
+        self.reader = BodyReader::new(self.framing, self.limits);
+        self.writer = Writer::new(framing, no_body);
+        self.source = Source::Going;
+        self.stage = Stage::Sending;
+    }
+
+    /// Does all that can be done with what came and what room there is.
+    pub fn step(&mut self)
+        requires sound { IsSound self.old }
+        requires sending { self.old.stage ≡ stage.Sending }
+        ensures stands { (p : Past) → Stands self.old p → Stands self.new p }
+        ensures sound { IsSound self.new }
+        ensures filters { (filters : List FilterSpec) → AreThese self.old.sieve filters → AreThese self.new.sieve filters }
+        ensures input { (self.new.input.capacity ≡ self.old.input.capacity) × (length self.new.input.items ≤ length self.old.input.items) }
+        ensures ended { (self.new.ended ≡ self.old.ended) × (self.new.limits ≡ self.old.limits) }
+        ensures no_stall { (p : Past) → Stands self.old p → self.new.stage ≡ stage.Sending → GoesOn self.new }
+        ensures done { IsAllOut self.new → self.new.stage ≡ stage.Done }
+        ensures all { (p : Past) → Stands self.old p → self.new.output.items ≡ [] → self.new.dropped ≡ false → IsAtRest self.new }
+        ensures no_cut { (p : Past) → Stands self.old p → (self.new.output.items ≡ []) ⊎ (self.new.dropped ≡ true) → RestsFor self.new }
+        ensures grows { (put : List ℕ) × (self.new.output.items ≡ self.old.output.items ++ put) }
+        ensures kept { self.new.dropped ≡ self.old.dropped }
+        ensures stage { (self.new.stage ≡ stage.Sending) ⊎ (self.new.stage ≡ stage.Done) }
+    {
+        if self.dropped {
+            self.read_out();
+            return;
+        }
+        self.put_out();
+    }
+
+    /// The text that was not taken yet.
+    pub fn output(&mut self) -> &mut [u8]
+        ensures* back { sem 𝓛 (LendsOutput self.entry result) }
+        ensures value { result.now ≡ self.old.output.items }
+    {
+        self.output.bytes()
+    }
+
+    /// So many bytes of it were taken.
+    pub fn took(&mut self, n: usize)
+        requires { n ≤ length self.old.output.items }
+        ensures same { self.new ≡ record self.old { output = self.new.output } }
+        ensures output { self.new.output.items ≡ drop n self.old.output.items }
+        ensures sound { IsSound self.old → IsSound self.new }
+        ensures reading { (side : Side) → IsReading side self.old → IsReading side self.new }
+        ensures stands { (p : Past) → Stands self.old p → Stands self.new (record p { took = p.took ++ take n self.old.output.items }) }
+    {
+        self.output.drop_front(n);
+    }
+
+    /// From now on text is dropped, until `next`.
+    pub fn discard(&mut self)
+        ensures dropped { (self.new.dropped ≡ true) × (self.new.output.items ≡ []) }
+        ensures sieve { self.new.sieve ≡ self.old.sieve }
+        ensures same { (self.new.stage ≡ self.old.stage) × (self.new.source ≡ self.old.source) × (self.new.input ≡ self.old.input) × (self.new.ended ≡ self.old.ended) }
+        ensures sound { IsSound self.old → IsSound self.new }
+        ensures stands { (p : Past) → Stands self.old p → Stands self.new p }
+    {
+        self.dropped = true;
+        self.msg.clear();
+        self.out.clear();
+        self.output.drop_front(self.output.len());
+    }
+
+    /// The next message: what came and what is put out stays.
+    pub fn next(&mut self)
+        requires sound { IsSound self.old }
+        ensures reading { (side : Side) → IsReading side self.new }
+        ensures same { (self.new.input ≡ self.old.input) × (self.new.ended ≡ self.old.ended) × (self.new.limits ≡ self.old.limits) × (self.new.output ≡ self.old.output) }
+        ensures sieve { self.new.sieve ≡ self.old.sieve }
+    {
+        self.msg.clear();
+        self.out.clear();
+        self.source = Source::Going;
+        self.dropped = false;
+        self.scanned = 0;
+        self.stage = Stage::Reading;
+    }
+
+    /// There is no head to be had.
+    pub fn give_up(&mut self)
+        ensures same { self.new ≡ record self.old { stage = stage.Done } }
+    {
+        self.stage = Stage::Done;
+    }
+
+    /// The fields that frame the message that stands in the array, or speak of its connection, go.
+    pub fn strip(&mut self)
+        ensures blocks { self.new.msg.blocks ≡ without_framing self.old.msg.blocks }
+        ensures size { self.new.msg.size ≡ self.old.msg.size }
+        ensures same { self.new ≡ record self.old { msg = self.new.msg } }
+    {
+        remove_framing(&mut self.msg);
+    }
+
+    /// How many bytes are put out and were not taken.
+    pub fn put(&self) -> usize
+        ensures { result ≡ length self.now.output.items }
+    {
+        self.output.len()
+    }
+
+    /// What is put out and was not taken goes.
+    pub fn clear_output(&mut self)
+        ensures same { self.new ≡ record self.old { output = self.new.output } }
+        ensures empty { self.new.output.items ≡ [] }
+        ensures reading { (side : Side) → IsReading side self.old → IsReading side self.new }
+    {
+        self.output.drop_front(self.output.len());
+    }
+
+    /// The stream of another server begins.
+    pub fn new_stream(&mut self)
+        requires sound { IsSound self.old }
+        ensures reading { (side : Side) → IsReading side self.new }
+        ensures same { (self.new.input.items ≡ []) × (self.new.ended ≡ None) × (self.new.limits ≡ self.old.limits) × (self.new.output ≡ self.old.output) }
+        ensures sieve { self.new.sieve ≡ self.old.sieve }
+    {
+        self.input.drop_front(self.input.len());
+        self.ended = None;
+        self.next();
+    }
+}
