@@ -1,5 +1,5 @@
 //! Which interpreter a kind of rows has.
-use crate::conditions;
+use crate::{conditions, readings};
 use case_rows::{Fault, Row};
 use std::alloc::Global;
 
@@ -8,6 +8,9 @@ pub fn made(alloc: Global, kind: &str, row: Row<'_>) -> Option<Result<Vec<u8>, F
     match kind {
         "conditions" => Some(conditions::of_request(alloc, row)),
         "response_conditions" => Some(conditions::of_response(alloc, row)),
+        "acl_lines" => Some(readings::acl_line(alloc, row)),
+        "read_expressions" => Some(readings::expression(alloc, row)),
+        "read_formats" => Some(readings::format(alloc, row)),
         _ => None,
     }
 }

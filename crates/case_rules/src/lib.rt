@@ -1,9 +1,11 @@
-//! Rows of conditions, and what they come to.
+//! Rows of conditions, and of expressions, formats and `acl` lines that are read, and what they come to.
 #![tactic(auto)]
 
 mod conditions;
 mod kinds;
 mod lines;
 mod messages;
+mod readings;
+mod sayings;
 
 pub use kinds::made;

@@ -16,7 +16,7 @@ pub enum RuleEnd {
 }
 
 /// The words of a line.
-fn words_in(alloc: Global, line: &[u8]) -> Result<Words, Fault> {
+pub fn words_in(alloc: Global, line: &[u8]) -> Result<Words, Fault> {
     match words_of_line(alloc, line) {
         Ok(words) => Ok(words),
         Err(LineFault::OutOfMemory) => Err(Fault::OutOfMemory),
@@ -50,7 +50,7 @@ fn add_line(
 }
 
 /// The `acl` lines of a text, each with a line feed behind it.
-fn lines_in(alloc: Global, text: &[u8], pats: &mut RealPatterns) -> Result<AclList, Fault> {
+pub fn lines_in(alloc: Global, text: &[u8], pats: &mut RealPatterns) -> Result<AclList, Fault> {
     let mut lines = AclList::new(alloc);
     let mut rest = text;
     for _ in 0..text.len() {
@@ -73,6 +73,15 @@ fn refusal(kind: TextKind) -> &'static [u8] {
     }
 }
 
+/// The name of a refusal.
+pub fn refused(fault: TextFault) -> Result<&'static [u8], Fault> {
+    match fault {
+        TextFault::Refused(kind) => Ok(refusal(kind)),
+        TextFault::Pattern => Ok(b"Pattern"),
+        TextFault::OutOfMemory => Err(Fault::OutOfMemory),
+    }
+}
+
 /// What ends a rule on this side, where these `acl` lines stand above it.
 pub fn rule_end(alloc: Global, side: Side, lines: &[u8], end: &[u8]) -> Result<RuleEnd, Fault> {
     let mut pats = RealPatterns::new();
@@ -81,8 +90,6 @@ pub fn rule_end(alloc: Global, side: Side, lines: &[u8], end: &[u8]) -> Result<R
     match read_rule_end(alloc, side, &lines, WordsLeft::from(&words, 0), &mut pats) {
         Ok(None) => Ok(RuleEnd::Absent),
         Ok(Some(cond)) => Ok(RuleEnd::Condition(cond)),
-        Err(TextFault::Refused(kind)) => Ok(RuleEnd::Refused(refusal(kind))),
-        Err(TextFault::Pattern) => Ok(RuleEnd::Refused(b"Pattern")),
-        Err(TextFault::OutOfMemory) => Err(Fault::OutOfMemory),
+        Err(fault) => Ok(RuleEnd::Refused(refused(fault)?)),
     }
 }
