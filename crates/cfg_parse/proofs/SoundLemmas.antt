@@ -15,10 +15,13 @@ use Rattle.cfg_lex.specs.Words.{words_of}
 use Rattle.px_bytes.specs.Tokens.{is_token, is_token_byte}
 use Rattle.px_bytes.specs.Numbers.{decimal_of}
 use Rattle.px_link.specs.declared.address.Address.{Address}
-use Rattle.http_rules.specs.declared.rule.Rule.{Rule}
-use Rattle.http_rules.specs.declared.rule.Action.TheVariants.{Allow, AddHeader, SetHeader}
+use Rattle.log_format.specs.declared.fmt.Fmt.{Fmt}
+use Rattle.rule_model.specs.declared.rule.Rule.{Rule}
+use Rattle.rule_model.specs.declared.action.Action.TheVariants.{Allow, AddHeader, SetHeader}
+use Rattle.rule_model.specs.declared.names.Direction.TheVariants as directions
+use Rattle.rule_model.specs.Valid.{IsName, IsMadeName, IsGoodRule}
 use Rattle.http_rules.specs.declared.config.Config.{Config}
-use Rattle.http_rules.specs.Valid.{AreLimits, IsMadeName, IsGoodAction, HasPort, HasHost, IsChain, IsValid}
+use Rattle.http_rules.specs.Valid.{AreLimits, HasPort, HasHost, IsChain, IsBuilt, AreRun, IsValid}
 use Rattle.cfg_parse.specs.declared.fault.CfgKind.{CfgKind}
 use Rattle.cfg_parse.specs.declared.fault.CfgKind.TheVariants.{Argument, Section, Keyword, FramingName, Limit, Missing, Unbuilt}
 use Rattle.cfg_parse.specs.declared.fault.CfgFault.{CfgFault}
@@ -35,7 +38,7 @@ use Rattle.cfg_parse.specs.Reading.{◌>>=◌, argument, no_more}
 use Rattle.cfg_parse.specs.Keywords.{first_word_of, action_name_of, is_framing_name, is_timeout_name}
 use Rattle.cfg_parse.specs.Numbers.{number_up_to, size_of, is_time, is_colon, as_port, port_of, address_at, address_of, server_address_of}
 use Rattle.cfg_parse.specs.Draft.{start, is_before, belongs}
-use Rattle.cfg_parse.specs.Rules.{made_name, made_field, action_rule, rule_line}
+use Rattle.cfg_parse.specs.Rules.{literal_format, made_name, made_field, action_rule, rule_line}
 use Rattle.body_filter.specs.declared.filter_spec.FilterSpec.{FilterSpec}
 use Rattle.body_filter.specs.Valid.{IsFilter}
 use Rattle.cfg_parse.specs.declared.filters.Direction.{Direction}
@@ -147,43 +150,49 @@ made_name-good word name e =
     let full : ltb 0 (length (str_to_ascii_lowercase word)) ≡ true = grind (arith, nat_tests) in
     let bytes = tokens_lower word parts.1 in
     let token : is_token (str_to_ascii_lowercase word) ≡ true = rw (full, bytes) refl in
-    subst IsMadeName same (record { some = some; short = short; token = token; lower = str_lower_twice word; free = second.0 })
+    let named : IsName (str_to_ascii_lowercase word) = record { some = some; short = short; token = token; lower = str_lower_twice word } in
+    subst IsMadeName same (record { named = named; free = second.0 })
 
 -- a pair whose first part is a made name
-same_name : (name text : List ℕ) (field : List ℕ × List ℕ) → given (name, text) ≡ given field → IsMadeName name → IsMadeName field.0
-same_name name text field same good =
-    let is : name ≡ field.0 = ap (λ (f : List ℕ × List ℕ). f.0) (ok_is (name, text) field same) in
+same_name : (name : List ℕ) (fmt : Fmt) (field : List ℕ × Fmt) → given (name, fmt) ≡ given field → IsMadeName name → IsMadeName field.0
+same_name name fmt field same good =
+    let is : name ≡ field.0 = ap (λ (f : List ℕ × Fmt). f.0) (ok_is (name, fmt) field same) in
     subst IsMadeName is good
 
-made_field-good : (arguments : List (List ℕ)) (field : List ℕ × List ℕ) → made_field arguments ≡ Ok field → IsMadeName field.0
+made_field-good : (arguments : List (List ℕ)) (field : List ℕ × Fmt) → made_field arguments ≡ Ok field → IsMadeName field.0
 unfolding made_field
 made_field-good arguments field e =
-    let a = bind_ok (argument arguments) (λ word. made_name word.0 >>= λ name. argument word.1 >>= λ text. no_more text.1 >>= λ ended. Ok (name, text.0)) field e in
-    let b = bind_ok (made_name a.0.0) (λ name. argument a.0.1 >>= λ text. no_more text.1 >>= λ ended. Ok (name, text.0)) field a.1.1 in
-    let c = bind_ok (argument a.0.1) (λ text. no_more text.1 >>= λ ended. Ok (b.0, text.0)) field b.1.1 in
-    let d = bind_ok (no_more c.0.1) (λ ended. Ok (b.0, c.0.0)) field c.1.1 in
-    same_name b.0 c.0.0 field d.1.1 (made_name-good a.0.0 b.0 b.1.0)
+    let a = bind_ok (argument arguments) (λ word. made_name word.0 >>= λ name. argument word.1 >>= λ text. no_more text.1 >>= λ ended. Ok (name, literal_format text.0)) field e in
+    let b = bind_ok (made_name a.0.0) (λ name. argument a.0.1 >>= λ text. no_more text.1 >>= λ ended. Ok (name, literal_format text.0)) field a.1.1 in
+    let c = bind_ok (argument a.0.1) (λ text. no_more text.1 >>= λ ended. Ok (b.0, literal_format text.0)) field b.1.1 in
+    let d = bind_ok (no_more c.0.1) (λ ended. Ok (b.0, literal_format c.0.0)) field c.1.1 in
+    same_name b.0 (literal_format c.0.0) field d.1.1 (made_name-good a.0.0 b.0 b.1.0)
 
-action_rule-good : (name : ActionName) (arguments : List (List ℕ)) (rule : Rule) → action_rule name arguments ≡ Ok rule → IsGoodAction rule.action
+-- a rule of requests, as the lines of today make them
+record IsGood (rule : Rule) : Type 0 where
+  pub good : IsGoodRule directions.Request rule
+  pub built : IsBuilt rule
+
+action_rule-good : (name : ActionName) (arguments : List (List ℕ)) (rule : Rule) → action_rule name arguments ≡ Ok rule → IsGood rule
 unfolding action_rule
 action_rule-good actions.Allow arguments rule e =
-    let b = bind_ok (no_more arguments) (λ ended. Ok (record { action = Allow })) rule e in
-    let made : Rule = record { action = Allow } in
-    subst (λ (r : Rule). IsGoodAction r.action) (ok_is made rule b.1.1) tt
+    let b = bind_ok (no_more arguments) (λ ended. Ok (record { action = Allow; cond = None })) rule e in
+    let made : Rule = record { action = Allow; cond = None } in
+    subst IsGood (ok_is made rule b.1.1) (record { good = record { stands = refl; good = tt }; built = refl })
 action_rule-good actions.AddHeader arguments rule e =
-    let b = bind_ok (made_field arguments) (λ field. Ok (record { action = AddHeader field.0 field.1 })) rule e in
-    let made : Rule = record { action = AddHeader b.0.0 b.0.1 } in
-    subst (λ (r : Rule). IsGoodAction r.action) (ok_is made rule b.1.1) (made_field-good arguments b.0 b.1.0)
+    let b = bind_ok (made_field arguments) (λ field. Ok (record { action = AddHeader field.0 field.1; cond = None })) rule e in
+    let made : Rule = record { action = AddHeader b.0.0 b.0.1; cond = None } in
+    subst IsGood (ok_is made rule b.1.1) (record { good = record { stands = refl; good = made_field-good arguments b.0 b.1.0 }; built = refl })
 action_rule-good actions.SetHeader arguments rule e =
-    let b = bind_ok (made_field arguments) (λ field. Ok (record { action = SetHeader field.0 field.1 })) rule e in
-    let made : Rule = record { action = SetHeader b.0.0 b.0.1 } in
-    subst (λ (r : Rule). IsGoodAction r.action) (ok_is made rule b.1.1) (made_field-good arguments b.0 b.1.0)
+    let b = bind_ok (made_field arguments) (λ field. Ok (record { action = SetHeader field.0 field.1; cond = None })) rule e in
+    let made : Rule = record { action = SetHeader b.0.0 b.0.1; cond = None } in
+    subst IsGood (ok_is made rule b.1.1) (record { good = record { stands = refl; good = made_field-good arguments b.0 b.1.0 }; built = refl })
 action_rule-good actions.Later arguments rule e = absurd cc
 action_rule-good actions.Unknown arguments rule e = absurd cc
 
-rules_push : (rules : List Rule) (rule : Rule) → AllByRecursion (λ (r : Rule). IsGoodAction r.action) rules → IsGoodAction rule.action → AllByRecursion (λ (r : Rule). IsGoodAction r.action) (rules ++ rule ∷ [])
-rules_push [] rule all good = (good, tt)
-rules_push (r ∷ rules) rule all good = (all.0, rules_push rules rule all.1 good)
+rules_push : (P : Rule → Type 0) (rules : List Rule) (rule : Rule) → AllByRecursion P rules → P rule → AllByRecursion P (rules ++ rule ∷ [])
+rules_push P [] rule all good = (good, tt)
+rules_push P (r ∷ rules) rule all good = (all.0, rules_push P rules rule all.1 good)
 
 -- ---- the configuration so far
 
@@ -192,8 +201,9 @@ pub record IsSound (draft : Draft) : Type 0 where
   pub bufsize : IfSome draft.bufsize (λ n. (1024 ≤ n) × (n ≤ 262144))
   pub bind : IfSome draft.bind HasPort
   pub server : IfSome draft.server (λ a. HasPort a × HasHost a)
-  pub rules : AllByRecursion (λ (r : Rule). IsGoodAction r.action) draft.request
-  pub few : length draft.request ≤ 1024
+  pub request : AreRun directions.Request draft.request
+  pub response : AreRun directions.Response draft.response
+  pub after : AreRun directions.After draft.after
   pub req_filters : IsChain draft.req_filters
   pub res_filters : IsChain draft.res_filters
 
@@ -216,23 +226,23 @@ keeps_if false kind x keeps = tt
 
 section_line-sound : (draft : Draft) (word : SectionWord) (arguments : List (List ℕ)) → IsSound draft → Keeps (section_line draft word arguments)
 unfolding section_line
-section_line-sound draft Global arguments s = keeps_bind (no_more arguments) _ (λ ended is. record { bufsize = s.bufsize; bind = s.bind; server = s.server; rules = s.rules; few = s.few; req_filters = s.req_filters; res_filters = s.res_filters })
-section_line-sound draft Defaults arguments s = keeps_bind (no_more arguments) _ (λ ended is. record { bufsize = s.bufsize; bind = s.bind; server = s.server; rules = s.rules; few = s.few; req_filters = s.req_filters; res_filters = s.res_filters })
+section_line-sound draft Global arguments s = keeps_bind (no_more arguments) _ (λ ended is. record { bufsize = s.bufsize; bind = s.bind; server = s.server; request = s.request; response = s.response; after = s.after; req_filters = s.req_filters; res_filters = s.res_filters })
+section_line-sound draft Defaults arguments s = keeps_bind (no_more arguments) _ (λ ended is. record { bufsize = s.bufsize; bind = s.bind; server = s.server; request = s.request; response = s.response; after = s.after; req_filters = s.req_filters; res_filters = s.res_filters })
 section_line-sound draft Listen arguments s =
-    keeps_unless draft.has_listen Section _ (keeps_bind (argument arguments) _ (λ name is. keeps_bind (no_more name.1) _ (λ ended ends. record { bufsize = s.bufsize; bind = s.bind; server = s.server; rules = s.rules; few = s.few; req_filters = s.req_filters; res_filters = s.res_filters })))
+    keeps_unless draft.has_listen Section _ (keeps_bind (argument arguments) _ (λ name is. keeps_bind (no_more name.1) _ (λ ended ends. record { bufsize = s.bufsize; bind = s.bind; server = s.server; request = s.request; response = s.response; after = s.after; req_filters = s.req_filters; res_filters = s.res_filters })))
 section_line-sound draft Other arguments s = tt
 
 bufsize_line-sound : (draft : Draft) (arguments : List (List ℕ)) → IsSound draft → Keeps (bufsize_line draft arguments)
 unfolding bufsize_line
 bufsize_line-sound draft arguments s =
     keeps_bind (argument arguments) _ (λ word is. keeps_bind (size_of 1024 262144 word.0) _ (λ size size-is. keeps_bind (no_more word.1) _ (λ ended ends.
-    record { bufsize = size_of-within 1024 262144 word.0 size size-is; bind = s.bind; server = s.server; rules = s.rules; few = s.few; req_filters = s.req_filters; res_filters = s.res_filters })))
+    record { bufsize = size_of-within 1024 262144 word.0 size size-is; bind = s.bind; server = s.server; request = s.request; response = s.response; after = s.after; req_filters = s.req_filters; res_filters = s.res_filters })))
 
 maxrewrite_line-sound : (draft : Draft) (arguments : List (List ℕ)) → IsSound draft → Keeps (maxrewrite_line draft arguments)
 unfolding maxrewrite_line
 maxrewrite_line-sound draft arguments s =
     keeps_bind (argument arguments) _ (λ word is. keeps_bind (number_up_to most_size word.0) _ (λ size size-is. keeps_bind (no_more word.1) _ (λ ended ends.
-    record { bufsize = s.bufsize; bind = s.bind; server = s.server; rules = s.rules; few = s.few; req_filters = s.req_filters; res_filters = s.res_filters })))
+    record { bufsize = s.bufsize; bind = s.bind; server = s.server; request = s.request; response = s.response; after = s.after; req_filters = s.req_filters; res_filters = s.res_filters })))
 
 mode_line-sound : (draft : Draft) (arguments : List (List ℕ)) → IsSound draft → Keeps (mode_line draft arguments)
 unfolding mode_line
@@ -248,13 +258,13 @@ bind_line-sound : (draft : Draft) (arguments : List (List ℕ)) → IsSound draf
 unfolding bind_line
 bind_line-sound draft arguments s =
     keeps_unless (is_some draft.bind) Argument _ (keeps_bind (argument arguments) _ (λ word is. keeps_bind (address_of word.0) _ (λ address address-is. keeps_bind (no_more word.1) _ (λ ended ends.
-    record { bufsize = s.bufsize; bind = address_of-port word.0 address address-is; server = s.server; rules = s.rules; few = s.few; req_filters = s.req_filters; res_filters = s.res_filters }))))
+    record { bufsize = s.bufsize; bind = address_of-port word.0 address address-is; server = s.server; request = s.request; response = s.response; after = s.after; req_filters = s.req_filters; res_filters = s.res_filters }))))
 
 server_line-sound : (draft : Draft) (arguments : List (List ℕ)) → IsSound draft → Keeps (server_line draft arguments)
 unfolding server_line
 server_line-sound draft arguments s =
     keeps_unless (is_some draft.server) Argument _ (keeps_bind (argument arguments) _ (λ name name-is. keeps_bind (argument name.1) _ (λ word is. keeps_bind (server_address_of word.0) _ (λ address address-is. keeps_bind (no_more word.1) _ (λ ended ends.
-    record { bufsize = s.bufsize; bind = s.bind; server = server_address_of-good word.0 address address-is; rules = s.rules; few = s.few; req_filters = s.req_filters; res_filters = s.res_filters })))))
+    record { bufsize = s.bufsize; bind = s.bind; server = server_address_of-good word.0 address address-is; request = s.request; response = s.response; after = s.after; req_filters = s.req_filters; res_filters = s.res_filters })))))
 
 rule_line-sound : (draft : Draft) (arguments : List (List ℕ)) → IsSound draft → Keeps (rule_line draft arguments)
 unfolding rule_line
@@ -262,15 +272,16 @@ rule_line-sound draft arguments s =
     keeps_bind (argument arguments) _ (λ action is. keeps_bind (action_rule (action_name_of action.0) action.1) _ (λ rule rule-is. keeps_if (ltb (length draft.request) 1024) Limit _ (λ test.
     let len : length (draft.request ++ rule ∷ []) ≡ length draft.request + 1 = length-append draft.request (rule ∷ []) in
     let few : length (draft.request ++ rule ∷ []) ≤ 1024 = grind (arith, nat_tests) in
-    record { bufsize = s.bufsize; bind = s.bind; server = s.server; rules = rules_push draft.request rule s.rules (action_rule-good (action_name_of action.0) action.1 rule rule-is); few = few; req_filters = s.req_filters; res_filters = s.res_filters })))
+    let made : IsGood rule = action_rule-good (action_name_of action.0) action.1 rule rule-is in
+    record { bufsize = s.bufsize; bind = s.bind; server = s.server; request = record { valid = record { each = rules_push (IsGoodRule directions.Request) draft.request rule s.request.valid.each made.good; few = few }; built = rules_push IsBuilt draft.request rule s.request.built made.built }; response = s.response; after = s.after; req_filters = s.req_filters; res_filters = s.res_filters })))
 
 filter_added-sound : (draft : Draft) (direction : Direction) (filter : FilterSpec) → IsSound draft → IsFilter filter → Keeps (filter_added draft direction filter)
 filter_added-sound draft Request filter s good =
     keeps_bind (with_filter draft.req_filters filter) _ (λ filters is.
-    record { bufsize = s.bufsize; bind = s.bind; server = s.server; rules = s.rules; few = s.few; req_filters = chain_more draft.req_filters filter filters s.req_filters good is; res_filters = s.res_filters })
+    record { bufsize = s.bufsize; bind = s.bind; server = s.server; request = s.request; response = s.response; after = s.after; req_filters = chain_more draft.req_filters filter filters s.req_filters good is; res_filters = s.res_filters })
 filter_added-sound draft Response filter s good =
     keeps_bind (with_filter draft.res_filters filter) _ (λ filters is.
-    record { bufsize = s.bufsize; bind = s.bind; server = s.server; rules = s.rules; few = s.few; req_filters = s.req_filters; res_filters = chain_more draft.res_filters filter filters s.res_filters good is })
+    record { bufsize = s.bufsize; bind = s.bind; server = s.server; request = s.request; response = s.response; after = s.after; req_filters = s.req_filters; res_filters = chain_more draft.res_filters filter filters s.res_filters good is })
 
 filter_setting-sound : (draft : Draft) (arguments : List (List ℕ)) → IsSound draft → Keeps (filter_setting draft arguments)
 unfolding filter_setting
@@ -331,7 +342,7 @@ lines_from-sound number draft (line ∷ others) s =
     behind-sound number (line_of draft line) (λ next. lines_from (number + 1) next others) (line_of-sound draft line s) (λ next sound. lines_from-sound (number + 1) next others sound)
 
 start-sound : IsSound start
-start-sound = record { bufsize = tt; bind = tt; server = tt; rules = tt; few = omega arith; req_filters = none_chain; res_filters = none_chain }
+start-sound = record { bufsize = tt; bind = tt; server = tt; request = record { valid = record { each = tt; few = omega arith }; built = tt }; response = record { valid = record { each = tt; few = omega arith }; built = tt }; after = record { valid = record { each = tt; few = omega arith }; built = tt }; req_filters = none_chain; res_filters = none_chain }
 
 -- the size of the buffer of a sound draft
 bufsize-within : (bufsize : Option ℕ) → IfSome bufsize (λ n. (1024 ≤ n) × (n ≤ 262144)) → (1024 ≤ unwrap_or bufsize 16384) × (unwrap_or bufsize 16384 ≤ 262144)
@@ -347,7 +358,7 @@ with_addresses-valid draft (Some bind) (Some server) config s suits b v e =
     let test = passed draft.has_listen Missing (Ok made) config e in
     let within = bufsize-within draft.bufsize s.bufsize in
     let limits : AreLimits (limits_of draft) = record { least = within.0; most = within.1; leaves = omega (arith, within.0, suits) } in
-    subst IsValid (ok_is made config test.1) (record { limits = limits; bind_port = b; server_port = v.0; server_host = v.1; rules = s.rules; few = s.few; req_filters = s.req_filters; res_filters = s.res_filters })
+    subst IsValid (ok_is made config test.1) (record { limits = limits; bind_port = b; server_port = v.0; server_host = v.1; request = s.request; response = s.response; after = s.after; req_filters = s.req_filters; res_filters = s.res_filters })
 
 whole-valid : (draft : Draft) (config : Config) → IsSound draft → whole draft ≡ Ok config → IsValid config
 unfolding whole

@@ -17,6 +17,8 @@ start =
       bind = None;
       server = None;
       request = [];
+      response = [];
+      after = [];
       req_filters = [];
       res_filters = [];
     }

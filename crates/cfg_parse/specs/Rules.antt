@@ -1,11 +1,13 @@
 -- The lines of `http-request`.
-use Rattle.std.specs.Prelude.{ℕ, ◌++◌, List, [], ◌∷◌, length, Bool, true, false, not, ◌&&◌, nat_le, nat_lt, if◌then◌else◌, Result, Ok, Err}
+use Rattle.std.specs.Prelude.{ℕ, ◌++◌, List, [], ◌∷◌, length, Bool, true, false, not, ◌&&◌, nat_le, nat_lt, if◌then◌else◌, None, Result, Ok, Err}
 use Rattle.std.specs.List.{list_any}
 use Rattle.std.specs.Str.{str_to_ascii_lowercase}
 use Rattle.http_model.specs.Sizes.{most_name}
 use Rattle.px_bytes.specs.Tokens.{is_token}
-use Rattle.http_rules.specs.declared.rule.Rule.{Rule}
-use Rattle.http_rules.specs.declared.rule.Action.TheVariants.{Allow, AddHeader, SetHeader}
+use Rattle.log_format.specs.declared.fmt.Fmt.{Fmt}
+use Rattle.log_format.specs.declared.fmt.Part.TheVariants.{Literal}
+use Rattle.rule_model.specs.declared.rule.Rule.{Rule}
+use Rattle.rule_model.specs.declared.action.Action.TheVariants.{Allow, AddHeader, SetHeader}
 use Rattle.cfg_parse.specs.declared.fault.CfgKind.{CfgKind}
 use Rattle.cfg_parse.specs.declared.fault.CfgKind.TheVariants.{Argument, Keyword, FramingName, Limit}
 use Rattle.cfg_parse.specs.declared.keywords.ActionName.{ActionName}
@@ -35,20 +37,24 @@ made_name word =
     else (if is_framing_name (str_to_ascii_lowercase word) then Err FramingName
     else Ok (str_to_ascii_lowercase word))
 
+-- the format that is a text as it stands
+abbrev pub literal_format : List ℕ → Fmt
+literal_format text = record { parts = Literal text ∷ [] }
+
 -- NAME TEXT
-unfoldable pub made_field : List (List ℕ) → Result (List ℕ × List ℕ) CfgKind
+unfoldable pub made_field : List (List ℕ) → Result (List ℕ × Fmt) CfgKind
 made_field arguments = do
   word ← argument arguments
   name ← made_name word.0
   text ← argument word.1
   ended ← no_more text.1
-  Ok (name, text.0)
+  Ok (name, literal_format text.0)
 
 -- what follows an action
 unfoldable pub action_rule : ActionName → List (List ℕ) → Result Rule CfgKind
-action_rule actions.Allow arguments = no_more arguments >>= λ ended. Ok (record { action = Allow })
-action_rule actions.AddHeader arguments = made_field arguments >>= λ field. Ok (record { action = AddHeader field.0 field.1 })
-action_rule actions.SetHeader arguments = made_field arguments >>= λ field. Ok (record { action = SetHeader field.0 field.1 })
+action_rule actions.Allow arguments = no_more arguments >>= λ ended. Ok (record { action = Allow; cond = None })
+action_rule actions.AddHeader arguments = made_field arguments >>= λ field. Ok (record { action = AddHeader field.0 field.1; cond = None })
+action_rule actions.SetHeader arguments = made_field arguments >>= λ field. Ok (record { action = SetHeader field.0 field.1; cond = None })
 action_rule actions.Later arguments = Err Keyword
 action_rule actions.Unknown arguments = Err Keyword
 

@@ -41,6 +41,8 @@ made_config draft bind server =
       bind = bind;
       server = server;
       request = draft.request;
+      response = draft.response;
+      after = draft.after;
       req_filters = draft.req_filters;
       res_filters = draft.res_filters;
     }

@@ -4,7 +4,8 @@ ghost use Rattle.std.specs.Prelude.{◌≡◌};
 ghost use Rattle.std.specs.List.{list_any};
 ghost use Rattle.cfg_parse.specs.Reading.{Gives, Leaves};
 ghost use Rattle.cfg_parse.specs.Keywords.{asks_for_more};
-ghost use Rattle.cfg_parse.specs.Rules.{is_unbuilt_rule, made_name, made_field, action_rule, rule_line};
+ghost use Rattle.std.specs.Prelude.{IfOk};
+ghost use Rattle.cfg_parse.specs.Rules.{is_unbuilt_rule, literal_format, made_name, made_field, action_rule, rule_line};
 
 use crate::arguments::Arguments;
 use crate::draft::Draft;
@@ -12,9 +13,8 @@ use crate::fault::{CfgKind, LineRefusal};
 use crate::keywords::{ActionName, action_name_of, asks_for_more, is_framing_name};
 use crate::limits::MAX_RULES;
 use http_model::MAX_NAME;
-use http_rules::{Action, Rule};
+use http_rules::{Action, Fmt, OutOfMemory, Part, PartList, Rule, Text};
 use px_bytes::{fold, is_token};
-use px_link::Bytes;
 use std::alloc::Global;
 
 fn any_asks_for_more(mut arguments: Arguments<'_>) -> bool
@@ -47,7 +47,7 @@ pub fn is_unbuilt_rule(mut arguments: Arguments<'_>) -> bool
 
 /// The name of a field that a rule makes, in lower case.
 #[tactic(auto, unfolding(crate::specs::Rules::made_name))]
-fn made_name(alloc: Global, word: &[u8]) -> Result<Bytes, LineRefusal>
+fn made_name(alloc: Global, word: &[u8]) -> Result<Text, LineRefusal>
     ensures { Gives (λ name. name) result (made_name word.now) }
 {
     if !is_token(word) || word.len() > MAX_NAME {
@@ -58,19 +58,28 @@ fn made_name(alloc: Global, word: &[u8]) -> Result<Bytes, LineRefusal>
     if is_framing_name(&name) {
         return Err(LineRefusal::Refused(CfgKind::FramingName));
     }
-    Ok(Bytes::from(name))
+    Ok(Text::copy(alloc, &name)?)
+}
+
+/// The format that is a text as it stands.
+fn literal_format(alloc: Global, text: &[u8]) -> Result<Fmt, OutOfMemory>
+    ensures { IfOk result (λ fmt. fmt ≡ literal_format text.now) }
+{
+    let mut parts = PartList::new(alloc);
+    parts.push(Part::Literal(Text::copy(alloc, text)?))?;
+    Ok(Fmt { parts })
 }
 
 /// `NAME TEXT`.
 #[tactic(auto, unfolding(crate::specs::Rules::made_field))]
-fn made_field(alloc: Global, arguments: Arguments<'_>) -> Result<(Bytes, Bytes), LineRefusal>
+fn made_field(alloc: Global, arguments: Arguments<'_>) -> Result<(Text, Fmt), LineRefusal>
     ensures { Gives (λ field. field) result (made_field arguments.entry) }
 {
     let (word, arguments) = arguments.argument()?;
     let name = made_name(alloc, word)?;
     let (text, arguments) = arguments.argument()?;
     arguments.no_more()?;
-    Ok((name, Bytes::copy(alloc, text)?))
+    Ok((name, literal_format(alloc, text)?))
 }
 
 /// The rule of an action and the words behind it.
@@ -88,18 +97,18 @@ fn action_rule(
             Action::Allow
         }
         ActionName::AddHeader => {
-            let (name, text) = made_field(alloc, arguments)?;
-            Action::AddHeader { name, text }
+            let (name, fmt) = made_field(alloc, arguments)?;
+            Action::AddHeader(name, fmt)
         }
         ActionName::SetHeader => {
-            let (name, text) = made_field(alloc, arguments)?;
-            Action::SetHeader { name, text }
+            let (name, fmt) = made_field(alloc, arguments)?;
+            Action::SetHeader(name, fmt)
         }
         ActionName::Later | ActionName::Unknown => {
             return Err(LineRefusal::Refused(CfgKind::Keyword));
         }
     };
-    Ok(Rule { action })
+    Ok(Rule { action, cond: None })
 }
 
 /// One more rule, of the words behind `http-request`.

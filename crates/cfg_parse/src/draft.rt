@@ -13,7 +13,7 @@ pub enum Section {
     Listen,
 }
 
-#[derive(Debug, Drop)]
+#[derive(Drop)]
 pub struct Draft {
     pub section: Section,
     /// A `listen` section has begun.
@@ -23,6 +23,8 @@ pub struct Draft {
     pub bind: Option<Address>,
     pub server: Option<Address>,
     pub request: Rules,
+    pub response: Rules,
+    pub after: Rules,
     pub req_filters: Filters,
     pub res_filters: Filters,
 }

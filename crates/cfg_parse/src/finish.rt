@@ -23,6 +23,8 @@ pub fn start(alloc: Global) -> Draft
         bind: None,
         server: None,
         request: Rules::new(alloc),
+        response: Rules::new(alloc),
+        after: Rules::new(alloc),
         req_filters: Filters::new(alloc),
         res_filters: Filters::new(alloc),
     }
@@ -56,6 +58,8 @@ pub fn whole(draft: Draft) -> Result<Config, LineRefusal>
         bind,
         server,
         request,
+        response,
+        after,
         req_filters,
         res_filters,
         ..
@@ -66,6 +70,8 @@ pub fn whole(draft: Draft) -> Result<Config, LineRefusal>
             bind,
             server,
             request,
+            response,
+            after,
             req_filters,
             res_filters,
         }),

@@ -12,6 +12,7 @@ use Rattle.htx_arena.specs.declared.arena.Full.{Full}
 use Rattle.header_ops.specs.Headers.{with_header, without_framing, HasEnd}
 use Rattle.http_rules.specs.declared.config.Config.{Config}
 use Rattle.session_model.specs.Env.{Env, Pass}
+use Rattle.px_sample.specs.Variables.{Variables}
 use Rattle.forward_core.specs.Texts.{finished_blocks}
 use Rattle.forward_core.specs.Ruled.{ruled, IsRuled, sent_head, sent_fits}
 
@@ -28,7 +29,7 @@ pub head_ends : (blocks : List Block) (h : Head) → ((k : Head) → HasEnd (hea
 head_ends blocks h ends is = subst HasEnd (sym is) (ends h)
 
 -- what the finish makes of the blocks that the rules left
-pub asked : {T : Type 0} (cfg : Config) (head : Head) (left : Env (Unit {0})) (old new : List Block) (result : Result T Full)
+pub asked : {T : Type 0} (cfg : Config) (head : Head) (left : Env (Variables)) (old new : List Block) (result : Result T Full)
     → ((h : Head) → finished_blocks (head_blocks h) ≡ head_blocks (finish_request h Absent))
     → ruled cfg head ≡ Pass left → old ≡ head_blocks left.head
     → OnOk result (new ≡ finished_blocks old) → (IsOk result ↔ Fits (finished_blocks old) cfg.limits.bufsize) → IsRuled cfg head new result

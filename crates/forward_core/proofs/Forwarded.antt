@@ -26,16 +26,18 @@ use Rattle.forward_core.specs.Texts.{answer_text}
 use Rattle.forward_core.specs.Client.{plain_received, IsPlainHead}
 use Rattle.forward_core.specs.Ruled.{IsSent, sent_head}
 use Rattle.forward_core.proofs.Small.{IsSmall, sent_as_is}
+use Rattle.px_sample.specs.Variables.{Variables, no_variables}
+use Rattle.http_rules.specs.Lives.{renewed, answering}
 use Rattle.forward_core.specs.First.{meaning_of, first_response, first_received, closed}
 
 -- ---- a refusal
 
 -- a client whose request is refused, with no server
-pub refused : (cfg : Config) (client : List ℕ) (code : ℕ) (method : List ℕ) (vars : Unit {0}) (text : List ℕ) → 1024 ≤ cfg.limits.bufsize → IsSmall code
-    → Asks (meaning_of cfg) tt (closed client) (Refused code false method vars) → Spells true false (closing (refusal code)) text
+pub refused : (cfg : Config) (client : List ℕ) (code : ℕ) (method : List ℕ) (vars : Variables) (text : List ℕ) → 1024 ≤ cfg.limits.bufsize → IsSmall code
+    → Asks (meaning_of cfg) no_variables (closed client) (Refused code false method vars) → Spells true false (closing (refusal code)) text
     → Session (meaning_of cfg) (closed client) [] (record { exchanges = 1; how = end.Closed; cut = None; client = record { bytes = text; close = Clean }; servers = [] })
 refused cfg client code method vars text size small asks spelled =
-    let sent : Spells true false (refusal_sent (meaning_of cfg) code method tt) text = subst (λ (m : Message). Spells true false m text) (sym (sent_as_is cfg code method size small)) spelled in
+    let sent : Spells true false (refusal_sent (meaning_of cfg) code method (answering vars)) text = subst (λ (m : Message). Spells true false m text) (sym (sent_as_is cfg code method (answering vars) size small)) spelled in
     record {
       exchanges = record { connects = []; client = text; bit = None; after = Over end.Closed } ∷ [];
       follow = (Refused code false method vars, [], asks, (refl, record { said = text; spelled = sent; exchange = refl }), (refl, refl, refl));
@@ -45,7 +47,7 @@ refused cfg client code method vars text size small asks spelled =
 -- ---- a request that is sent
 
 -- the request as it goes to the server, behind which the client's bytes end
-abbrev pub sent_request : Env (Unit {0}) → Asker → Request (Unit {0})
+abbrev pub sent_request : Env (Variables) → Asker → Request (Variables)
 sent_request left asker =
     record {
       message = record { head = sent_head left.head; framing = Absent; body = []; trailers = [] };
@@ -56,13 +58,13 @@ sent_request left asker =
     }
 
 -- the head that goes to the server
-abbrev pub sent_on : Head → Env (Unit {0}) → Forwarded (Unit {0})
+abbrev pub sent_on : Head → Env (Variables) → Forwarded (Variables)
 sent_on head left = record { received = plain_received head; head = left.head; vars = left.vars; rest = closed [] }
 
 -- the exchange: the server's text, and the client's
-abbrev pub one_exchange : (text answer : List ℕ) → Exchange (Unit {0})
-one_exchange text answer =
-    record { connects = Some (record { bytes = text; close = Clean }) ∷ []; client = answer; bit = None; after = Next (closed []) tt }
+abbrev pub one_exchange : (text answer : List ℕ) → Variables → Exchange Variables
+one_exchange text answer vars =
+    record { connects = Some (record { bytes = text; close = Clean }) ∷ []; client = answer; bit = None; after = Next (closed []) (renewed (answering vars)) }
 
 -- who asks by a GET of HTTP/1.1 and keeps the connection
 abbrev pub good_asker : List ℕ → Asker
@@ -102,12 +104,12 @@ answer_fits cfg n body few size =
     (omega (arith, length-decimal-le 6 n (lit< tt) (omega arith) (omega arith)))
 
 -- the client of a request of the first form gets the answer of the first form
-client_gets : (cfg : Config) (left : Env (Unit {0})) (method server answer body : List ℕ) → 1024 ≤ cfg.limits.bufsize → length body ≤ 65536
+client_gets : (cfg : Config) (left : Env (Variables)) (method server answer body : List ℕ) → 1024 ≤ cfg.limits.bufsize → length body ≤ 65536
     → server ≡ first_response (length body) ++ body → answer ≡ answer_text (length body) body
-    → ClientGets (meaning_of cfg) (sent_request left (good_asker method)) true (closed server) answer (Next (closed []) tt)
+    → ClientGets (meaning_of cfg) (sent_request left (good_asker method)) true (closed server) answer (Next (closed []) (renewed (answering left.vars)))
 client_gets cfg left method server answer body size few gives is =
     record {
-      answered = record { interim = []; final = Answers (answer_message (length body) body) false tt };
+      answered = record { interim = []; final = Answers (answer_message (length body) body) false (answering left.vars) };
       answers = record {
         heads = [];
         interim = refl;
@@ -123,14 +125,14 @@ client_gets cfg left method server answer body size few gives is =
       goes_on = refl;
     }
   where
-    answers_amended : AnswersAmended (meaning_of cfg) (good_asker method) (first_received (length body)) (closed body) (Edited (first_received (length body)).head tt) (Answers (answer_message (length body) body) false tt)
+    answers_amended : AnswersAmended (meaning_of cfg) (good_asker method) (first_received (length body)) (closed body) (Edited (first_received (length body)).head (answering left.vars)) (Answers (answer_message (length body) body) false (answering left.vars))
     answers_amended =
         rw (answer_fits cfg (length body) body few size)
         (reading.Whole body [] [], inl (body, [], sym (append-nil body), refl, refl), refl)
 
 -- a request of the first form is asked for
-asks_for : (cfg : Config) (client : List ℕ) (head : Head) (left : Env (Unit {0})) → RequestOf cfg.limits client (reading.Begins (plain_received head) [])
-    → IsSent cfg head left → Asks (meaning_of cfg) tt (closed client) (Sends (sent_on head left))
+asks_for : (cfg : Config) (client : List ℕ) (head : Head) (left : Env (Variables)) → RequestOf cfg.limits client (reading.Begins (plain_received head) [])
+    → IsSent cfg head left → Asks (meaning_of cfg) no_variables (closed client) (Sends (sent_on head left))
 asks_for cfg client head left reads sent =
     record {
       head = reading.Begins (plain_received head) [];
@@ -139,13 +141,13 @@ asks_for cfg client head left reads sent =
     }
 
 -- the exchange of a request that is sent and answered
-serves : (cfg : Config) (text answer server body : List ℕ) (head : Head) (left : Env (Unit {0})) → IsPlainHead head → 1024 ≤ cfg.limits.bufsize
+serves : (cfg : Config) (text answer server body : List ℕ) (head : Head) (left : Env (Variables)) → IsPlainHead head → 1024 ≤ cfg.limits.bufsize
     → text ≡ head_text (sent_head left.head) → length body ≤ 65536 → server ≡ first_response (length body) ++ body → answer ≡ answer_text (length body) body
-    → ServesOpen (meaning_of cfg) (sent_on head left) (closed server) false (one_exchange text answer)
+    → ServesOpen (meaning_of cfg) (sent_on head left) (closed server) false (one_exchange text answer left.vars)
 serves cfg text answer server body head left plain size is few gives answers = (
   reading.Whole [] [] [],
   refl,
-  subst (λ (a : Asker). Serves (meaning_of cfg) (sent_request left a) (closed server) false (one_exchange text answer)) (sym (asker_is head left.head plain)) (
+  subst (λ (a : Asker). Serves (meaning_of cfg) (sent_request left a) (closed server) false (one_exchange text answer left.vars)) (sym (asker_is head left.head plain)) (
     record {
       text = text;
       taken = text;
@@ -158,14 +160,14 @@ serves cfg text answer server body head left plain size is few gives answers = (
 )
 
 -- the session of a request of the first form, whose server gives an answer of the first form
-pub forwarded : (cfg : Config) (client server text answer body : List ℕ) (head : Head) (left : Env (Unit {0})) → RequestOf cfg.limits client (reading.Begins (plain_received head) [])
+pub forwarded : (cfg : Config) (client server text answer body : List ℕ) (head : Head) (left : Env (Variables)) → RequestOf cfg.limits client (reading.Begins (plain_received head) [])
     → IsPlainHead head → IsSent cfg head left → 1024 ≤ cfg.limits.bufsize → text ≡ head_text (sent_head left.head)
     → length body ≤ 65536 → server ≡ first_response (length body) ++ body → answer ≡ answer_text (length body) body
     → Session (meaning_of cfg) (closed client) (Open (closed server) false ∷ [])
     (record { exchanges = 1; how = end.Done; cut = None; client = record { bytes = answer; close = Clean }; servers = Some (record { bytes = text; close = Clean }) ∷ [] })
 forwarded cfg client server text answer body head left reads plain sent size is few gives answers =
     record {
-      exchanges = one_exchange text answer ∷ [];
+      exchanges = one_exchange text answer left.vars ∷ [];
       follow = (
         Sends (sent_on head left),
         [],

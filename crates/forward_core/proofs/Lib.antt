@@ -1,3 +1,4 @@
+pub mod Ruling
 pub mod Refusals
 pub mod Forwarded
 pub mod Plains

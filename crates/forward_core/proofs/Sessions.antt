@@ -23,6 +23,7 @@ use Rattle.forward_core.specs.Client.{plain_received, IsPlainHead, ReadsPlain}
 use Rattle.forward_core.specs.Texts.{blocks_text}
 use Rattle.forward_core.specs.Out.{servers_by, sent_by, out_of_one, IsRefused, IsForwarded}
 use Rattle.forward_core.specs.declared.exchange.One.{One}
+use Rattle.px_sample.specs.Variables.{Variables, no_variables}
 use Rattle.forward_core.proofs.Forwarded.{refused, forwarded}
 use Rattle.forward_core.proofs.Small.{IsSmall, small_500, small_head}
 
@@ -42,12 +43,12 @@ text_of_blocks h = by_line h.line
 -- ---- what is asked
 
 -- a refused head is a refusal
-pub asks_refused : (cfg : Config) (client : List ℕ) (code : ℕ) → RequestOf cfg.limits client (reading.Refused code) → Asks (meaning_of cfg) tt (closed client) (Refused code false [] tt)
+pub asks_refused : (cfg : Config) (client : List ℕ) (code : ℕ) → RequestOf cfg.limits client (reading.Refused code) → Asks (meaning_of cfg) no_variables (closed client) (Refused code false [] no_variables)
 asks_refused cfg client code reads = record { head = reading.Refused code; reads = reads; asks = refl }
 
 -- a rule that fails, and a finished head that doesn't fit, are the refusal 500, with the method and the variables of that moment
 pub asks_fails : (cfg : Config) (client : List ℕ) (head : Head) → RequestOf cfg.limits client (Begins (plain_received head) []) → IsPlainHead head → IsUnsent cfg head
-    → (method : List ℕ) × (vars : Unit {0}) × Asks (meaning_of cfg) tt (closed client) (Refused 500 false method vars)
+    → (method : List ℕ) × (vars : Variables) × Asks (meaning_of cfg) no_variables (closed client) (Refused 500 false method vars)
 asks_fails cfg client head reads plain (inl x) = (
   method_in x.1,
   x.1.vars,
@@ -80,8 +81,8 @@ session_by cfg client server one text how is ends s =
     (subst (λ (o : Out). Session (meaning_of cfg) (closed client) (servers_by text server) o) (out_is one text how is ends) s)
 
 -- a refusal is a session with no server
-refused_session : (cfg : Config) (client server : List ℕ) (code : ℕ) (method : List ℕ) (vars : Unit {0}) (one : One) → 1024 ≤ cfg.limits.bufsize → IsSmall code
-    → Asks (meaning_of cfg) tt (closed client) (Refused code false method vars) → IsRefused code one
+refused_session : (cfg : Config) (client server : List ℕ) (code : ℕ) (method : List ℕ) (vars : Variables) (one : One) → 1024 ≤ cfg.limits.bufsize → IsSmall code
+    → Asks (meaning_of cfg) no_variables (closed client) (Refused code false method vars) → IsRefused code one
     → Session (meaning_of cfg) (closed client) (servers_by one.to_server server) (out_of_one one)
 refused_session cfg client server code method vars one size small asks r =
     session_by cfg client server one None end.Closed r.server r.how (refused cfg client code method vars one.to_client size small asks r.client)
@@ -90,7 +91,7 @@ refused_session cfg client server code method vars one size small asks r =
 pub head_refused : (cfg : Config) (client server : List ℕ) (code : ℕ) (one : One) → 1024 ≤ cfg.limits.bufsize → RequestOf cfg.limits client (reading.Refused code) → IsRefused code one
     → Session (meaning_of cfg) (closed client) (servers_by one.to_server server) (out_of_one one)
 head_refused cfg client server code one size reads r =
-    refused_session cfg client server code [] tt one size (small_head cfg.limits client code reads) (asks_refused cfg client code reads) r
+    refused_session cfg client server code [] no_variables one size (small_head cfg.limits client code reads) (asks_refused cfg client code reads) r
 
 -- that of a rule that fails, or of a finished head that doesn't fit
 pub rules_refused : (cfg : Config) (client server : List ℕ) (blocks : List Block) (one : One) → 1024 ≤ cfg.limits.bufsize
@@ -102,7 +103,7 @@ rules_refused cfg client server blocks one size x unsent r =
 
 -- a request that was sent and answered is a session with one server
 pub forwarded_session : (cfg : Config) (client server : List ℕ) (blocks sent : List Block) (one : One) → 1024 ≤ cfg.limits.bufsize → IsFirstServer server
-    → (x : ReadsPlain cfg.limits client blocks) (left : Env (Unit {0})) → IsSent cfg x.head left
+    → (x : ReadsPlain cfg.limits client blocks) (left : Env (Variables)) → IsSent cfg x.head left
     → sent ≡ head_blocks (sent_head left.head) → IsForwarded sent server one
     → Session (meaning_of cfg) (closed client) (servers_by one.to_server server) (out_of_one one)
 forwarded_session cfg client server blocks sent one size first x left goes is f =

@@ -15,6 +15,7 @@ use Rattle.h1_head.specs.declared.answer.HeadWhy.{HeadWhy}
 use Rattle.h1_head.specs.declared.answer.HeadWhy.TheVariants as why
 use Rattle.http_rules.specs.declared.config.Config.{Config}
 use Rattle.session_model.specs.Amending.{refusal_sent, closing_fits}
+use Rattle.px_sample.specs.Variables.{Variables}
 use Rattle.forward_core.specs.First.{meaning_of}
 
 -- the refusal weighs no more than the least buffer has
@@ -77,8 +78,8 @@ small_head limits client code (inl x) = subst IsSmall (sym x.1) small_400
 small_head limits client code (inr x) = subst IsSmall (sym x.2) (small_by x.0)
 
 -- with no rule on what the client is sent, it is sent as it is
-pub sent_as_is : (cfg : Config) (code : ℕ) (method : List ℕ) → 1024 ≤ cfg.limits.bufsize → IsSmall code
-    → refusal_sent (meaning_of cfg) code method tt ≡ closing (refusal code)
-sent_as_is cfg code method size small =
+pub sent_as_is : (cfg : Config) (code : ℕ) (method : List ℕ) (vars : Variables) → 1024 ≤ cfg.limits.bufsize → IsSmall code
+    → refusal_sent (meaning_of cfg) code method vars ≡ closing (refusal code)
+sent_as_is cfg code method vars size small =
     let fits : closing_fits (meaning_of cfg) (refusal code) ≡ true = le-leb (load (message_blocks (closing (refusal code)))) cfg.limits.bufsize (omega arith) in
     rw fits refl

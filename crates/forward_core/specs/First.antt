@@ -12,6 +12,8 @@ use Rattle.session_model.specs.Stream.{Stream}
 use Rattle.session_model.specs.Meaning.{Meaning, no_filters}
 use Rattle.http_rules.specs.declared.config.Config.{Config}
 use Rattle.http_rules.specs.Rules.{rules_of, after_of}
+use Rattle.http_rules.specs.Lives.{renewed, answering}
+use Rattle.px_sample.specs.Variables.{Variables, no_variables}
 
 -- a body that isn't in chunks (RFC 9112 section 6.3)
 abbrev pub PlainBody : Framing → List ℕ → Ending → BodyReading → Type 0
@@ -44,22 +46,22 @@ abbrev pub FirstResponse : List ℕ → HeadReading → Type 0
 FirstResponse bytes r =
     (n : ℕ) × (rest : List ℕ) × (bytes ≡ first_response n ++ rest) × (r ≡ reading.Begins (first_received n) rest)
 
--- Requests are read in full and ruled; responses and bodies as far as the first form has them. There are no variables, no
--- rules on what the client is sent, and no filters.
+-- Requests are read in full and ruled; responses and bodies as far as the first form has them. There are no rules on what the
+-- client is sent, and no filters.
 abbrev pub meaning_of : Config → Meaning
 meaning_of cfg =
     record {
       limits = cfg.limits;
-      Vars = Unit {0};
-      begins = tt;
-      renewed = λ vars. vars;
-      answering = λ vars. vars;
+      Vars = Variables;
+      begins = no_variables;
+      renewed = renewed;
+      answering = answering;
       reads_request = RequestOf cfg.limits;
       reads_response = λ head_asked. FirstResponse;
       reads_body = PlainBody;
-      request_rules = rules_of cfg.limits cfg.request;
-      response_rules = rules_of cfg.limits [];
-      after_rules = after_of cfg.limits [];
+      request_rules = rules_of cfg.limits.bufsize cfg.request;
+      response_rules = rules_of cfg.limits.bufsize [];
+      after_rules = after_of cfg.limits.bufsize [];
       request_filters = no_filters;
       response_filters = no_filters;
     }

@@ -10,10 +10,11 @@ use Rattle.htx_arena.specs.declared.arena.Full.{Full}
 use Rattle.http_rules.specs.declared.config.Config.{Config}
 use Rattle.http_rules.specs.Rules.{rules_of}
 use Rattle.session_model.specs.Env.{Env, Verdict, Pass, Fail, request_env}
+use Rattle.px_sample.specs.Variables.{Variables, no_variables}
 
 -- what the rules of a configuration make of a head
-abbrev pub ruled : Config → Head → Verdict (Unit {0})
-ruled cfg head = rules_of cfg.limits cfg.request (request_env tt head)
+abbrev pub ruled : Config → Head → Verdict Variables
+ruled cfg head = rules_of cfg.limits.bufsize cfg.request (request_env no_variables head)
 
 -- the head as the server is sent it, of the one that the rules made
 abbrev pub sent_head : Head → Head
@@ -23,17 +24,17 @@ abbrev pub sent_fits : Config → Head → Bool
 sent_fits cfg edited = nat_le (load (head_blocks (sent_head edited))) cfg.limits.bufsize
 
 -- the rules pass, and the finished head fits
-pub record IsSent (cfg : Config) (head : Head) (left : Env (Unit {0})) : Type 0 where
+pub record IsSent (cfg : Config) (head : Head) (left : Env (Variables)) : Type 0 where
   pub passes : ruled cfg head ≡ Pass left
   pub fits : sent_fits cfg left.head ≡ true
 
 -- a rule fails, or the finished head doesn't fit
 abbrev pub IsUnsent : Config → Head → Type 0
 IsUnsent cfg head =
-    ((why : Why) × (left : Env (Unit {0})) × (ruled cfg head ≡ Fail why left))
-    ⊎ ((left : Env (Unit {0})) × (ruled cfg head ≡ Pass left) × (sent_fits cfg left.head ≡ false))
+    ((why : Why) × (left : Env (Variables)) × (ruled cfg head ≡ Fail why left))
+    ⊎ ((left : Env (Variables)) × (ruled cfg head ≡ Pass left) × (sent_fits cfg left.head ≡ false))
 
 -- the head is to be sent, and these are its finished blocks; or it isn't
 abbrev pub IsRuled : Config → Head → List Block → {T : Type 0} → Result T Full → Type 0
-IsRuled cfg head blocks (Ok done) = (left : Env (Unit {0})) × IsSent cfg head left × (blocks ≡ head_blocks (sent_head left.head))
+IsRuled cfg head blocks (Ok done) = (left : Env (Variables)) × IsSent cfg head left × (blocks ≡ head_blocks (sent_head left.head))
 IsRuled cfg head blocks (Err full) = IsUnsent cfg head

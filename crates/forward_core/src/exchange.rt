@@ -1,9 +1,14 @@
 //! One exchange of the first form.
 ghost use Rattle.std.specs.Prelude.{◌≡◌, IfOk, OnOk, IsErrOf, Some, None};
+ghost use Rattle.std.specs.Prelude.{false};
+ghost use Rattle.http_model.specs.Head.{Head, head_blocks};
 ghost use Rattle.http_rules.specs.Valid.{IsValid};
+ghost use Rattle.http_rules.specs.Run.{IsHead};
+ghost use Rattle.forward_core.specs.Ruled.{IsRuled};
 ghost use Rattle.session_model.specs.Session.{Session};
 ghost use Rattle.forward_core.specs.First.{meaning_of, IsFirstServer, closed};
-ghost use Rattle.forward_core.specs.Unbuilt.{has_filters, IsUnbuilt};
+ghost use Rattle.std.specs.List.{list_any};
+ghost use Rattle.forward_core.specs.Unbuilt.{has_filters, has_later_rules, decides, IsUnbuilt};
 
 use crate::answer::answer_text;
 use crate::ask::ask;
@@ -11,8 +16,8 @@ use crate::client::{ClientAsks, read_client};
 use crate::refusal::refusal_text;
 use crate::text::head_text;
 use http_model::{End, OutOfMemory};
-use http_rules::Config;
-use htx_arena::Arena;
+use http_rules::{Action, Config, Rule, Rules, Scratch, Searchers, Vars};
+use htx_arena::{Arena, Full};
 use px_link::Bytes;
 use std::alloc::Global;
 
@@ -53,6 +58,52 @@ fn has_filters(cfg: &Config) -> bool
     cfg.filter_count() != 0
 }
 
+/// Whether a rule decides by itself what the client is sent.
+fn rule_decides(rule: &Rule) -> bool
+    ensures { result ≡ decides rule.now }
+{
+    match &rule.action {
+        Action::Deny(_) | Action::Redirect { .. } | Action::Return { .. } => true,
+        Action::Allow
+        | Action::AddHeader(_, _)
+        | Action::SetHeader(_, _)
+        | Action::DelHeader(_)
+        | Action::ReplaceHeader(_, _, _)
+        | Action::ReplaceValue(_, _, _)
+        | Action::SetMethod(_)
+        | Action::SetPath(_)
+        | Action::SetPathq(_)
+        | Action::SetUri(_)
+        | Action::SetQuery(_)
+        | Action::ReplacePath(_, _)
+        | Action::ReplacePathq(_, _)
+        | Action::ReplaceUri(_, _)
+        | Action::SetStatus(_, _)
+        | Action::SetVar(_, _, _)
+        | Action::UnsetVar(_, _)
+        | Action::StrictMode(_) => false,
+    }
+}
+
+/// Whether some rule does.
+fn any_decides(rules: &Rules) -> bool
+    ensures { result ≡ list_any decides rules.now }
+{
+    for at in 0..rules.len() {
+        if rule_decides(rules.get(at)) {
+            return true;
+        }
+    }
+    false
+}
+
+/// Whether rules run on what the client is sent, or a rule of requests decides that.
+fn has_later_rules(cfg: &Config) -> bool
+    ensures { result ≡ has_later_rules cfg.now }
+{
+    cfg.answer_rule_count() != 0 || any_decides(&cfg.request)
+}
+
 /// A refusal, with no server.
 fn refuse(alloc: Global, code: u16) -> Result<One, OutOfMemory>
     ensures { IfOk result (IsRefused code) }
@@ -76,6 +127,29 @@ fn forward(alloc: Global, msg: &Arena, server: &[u8]) -> Result<One, OutOfMemory
     })
 }
 
+/// What the rules and the finish make of a head, with no variable set before.
+fn ask_fresh(alloc: Global, cfg: &Config, msg: &mut Arena) -> Result<Result<(), Full>, OutOfMemory>
+    requires size { msg.old.size ≡ cfg.now.limits.bufsize }
+    requires valid { IsValid cfg.now }
+    requires plain { list_any decides cfg.now.request ≡ false }
+    requires head { IsHead msg.old.blocks }
+    ensures { IfOk result (λ asked. (head : Head) → msg.old.blocks ≡ head_blocks head → IsRuled cfg.now head msg.new.blocks asked) }
+{
+    let mut searchers = Searchers::new(alloc);
+    let mut vars = Vars::new(alloc)?;
+    let mut scratch = Scratch::new(alloc, cfg.limits.bufsize)?;
+    let mut reply = Arena::new(alloc, cfg.limits.bufsize)?;
+    ask(
+        alloc,
+        &mut searchers,
+        cfg,
+        msg,
+        &mut vars,
+        &mut scratch,
+        &mut reply,
+    )
+}
+
 /// One exchange, which is the whole session: the client's bytes are one request, and the server's are one answer.
 pub fn one_exchange(
     alloc: Global,
@@ -96,13 +170,19 @@ pub fn one_exchange(
     if has_filters(cfg) {
         return Err(ExchangeFault::Unbuilt);
     }
+    if has_later_rules(cfg) {
+        return Err(ExchangeFault::Unbuilt);
+    }
     let mut msg = Arena::new(alloc, cfg.limits.bufsize)?;
     match read_client(client, cfg.limits, &mut msg) {
         ClientAsks::Unserved => Err(ExchangeFault::Unbuilt),
         ClientAsks::Refused(code) => Ok(refuse(alloc, code)?),
-        ClientAsks::Plain => match ask(cfg, &mut msg) {
-            Ok(()) => Ok(forward(alloc, &msg, server)?),
-            Err(_) => Ok(refuse(alloc, 500)?),
-        },
+        ClientAsks::Plain => {
+            let asked = ask_fresh(alloc, cfg, &mut msg)?;
+            match asked {
+                Ok(()) => Ok(forward(alloc, &msg, server)?),
+                Err(_) => Ok(refuse(alloc, 500)?),
+            }
+        }
     }
 }

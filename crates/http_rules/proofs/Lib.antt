@@ -1,2 +1,2 @@
-pub mod RuleLemmas
 pub mod Runs
+pub mod Bodies

@@ -1,20 +1,88 @@
 -- A run of rules, rule by rule.
-use Rattle.std.proofs.Common.{◌≡◌, ℕ, zero, suc, ◌+◌, ◌≤◌, List, [], ◌∷◌, Bool, true, refl, sym, ap, ◌∙◌, subst, length, drop, arith}
-use Rattle.std.specs.Prelude.{slice_get, Some}
+use Rattle.std.proofs.Common.{◌≡◌, ℕ, zero, suc, ◌+◌, ◌≤◌, List, [], ◌∷◌, Bool, true, false, cond, refl, sym, ap, ◌∙◌, subst, length, drop, arith, add-one}
+use Rattle.std.specs.Prelude.{slice_get, Some, not, ◌&&◌}
 use Rattle.std.specs.List.{AllByRecursion}
 use Rattle.std.proofs.Math.ListN.{drop_of_length-le}
-use Rattle.http_model.specs.declared.Limits.{Limits}
 use Rattle.http_model.specs.declared.Why.{Why}
 use Rattle.http_model.specs.Block.{Block}
-use Rattle.http_model.specs.Head.{Head, head_blocks}
-use Rattle.session_model.specs.Env.{Env, Fail, request_env}
-use Rattle.http_rules.specs.declared.rule.Action.{Action}
-use Rattle.http_rules.specs.declared.rule.Action.TheVariants.{Allow, AddHeader, SetHeader}
-use Rattle.http_rules.specs.declared.rule.Rule.{Rule}
-use Rattle.http_rules.specs.declared.run.Step.TheVariants as step
-use Rattle.http_rules.specs.declared.run.Verdict.TheVariants as verdict
-use Rattle.http_rules.specs.Rules.{Act, Next, Stop, Replies, Denies, Fails, act, mode_after, behind, walk, rules_of}
-use Rattle.http_rules.specs.Run.{Steps, Runs, HoldsHead}
+use denote.Ref.{Bor}
+use Rattle.std.proofs.lemmas.List.{append-nil}
+use Rattle.http_model.specs.Head.{Head, head_blocks, front_blocks}
+use Rattle.rule_model.specs.declared.names.Direction.{Direction}
+use Rattle.rule_model.specs.Valid.{IsGoodAction, IsGoodRule}
+use Rattle.session_model.specs.Env.{Pass, Reply, Deny, Fail, request_env, response_env}
+use Rattle.px_sample.specs.Variables.{Variables}
+use Rattle.rule_model.specs.declared.action.Action.{Action}
+use Rattle.rule_model.specs.declared.rule.Rule.{Rule}
+use Rattle.rule_actions.specs.Given.{Env}
+use Rattle.rule_actions.specs.declared.side.Side.{Side}
+use Rattle.rule_actions.specs.declared.side.Side.TheVariants.{Request, Answer}
+use Rattle.rule_actions.specs.declared.act.Acted.{Acted}
+use Rattle.rule_actions.specs.declared.act.Acted.TheVariants as acted
+use Rattle.rule_actions.specs.Acts.{Act, Next, Stop, Replies, Denies, Fails, act}
+use Rattle.rule_actions.specs.Does.{Does}
+use Rattle.rule_actions.specs.Outcome.{IsAt, IsOn, IsFront}
+use Rattle.http_rules.specs.declared.verdict.Ruled.{Ruled}
+use Rattle.http_rules.specs.declared.verdict.Ruled.TheVariants.{Goes, Ends}
+use Rattle.http_rules.specs.declared.verdict.Verdict.{Verdict as Answered}
+use Rattle.http_rules.specs.declared.verdict.Verdict.TheVariants as verdicts
+use Rattle.http_rules.specs.Rules.{Comes, answers, mode_after, runs, behind, by_rule, walk, rules_of}
+use Rattle.http_rules.specs.Run.{Leaves, GoesOn, EndsRules, RuleLeaves, ruled_by, IsHead}
+
+-- a rule that does not run
+pub passed_over : (side : Side) (size : ℕ) (rule : Rule) (strict : Bool) (env : Env) (blocks : List Block) (vars : Variables) (reply : List Block)
+    → IsAt side env blocks vars → reply ≡ [] → runs size rule.cond env ≡ false → RuleLeaves side size rule strict env (Goes strict) blocks vars reply
+passed_over side size rule strict env blocks vars reply at none off =
+    record {
+      next = env;
+      at_next = at;
+      no_reply = none;
+      others = λ rest. ap (λ (t : Bool). cond t (behind strict rule.action env (act size rule.action env) rest) (rest strict env)) off;
+    }
+
+-- one that does
+pub ran : (side : Side) (size : ℕ) (rule : Rule) (strict : Bool) (env : Env) (done : Acted) (blocks : List Block) (vars : Variables) (reply : List Block)
+    → Does side env (act size rule.action env) done blocks vars reply → runs size rule.cond env ≡ true → RuleLeaves side size rule strict env (ruled_by strict rule.action done) blocks vars reply
+ran side size rule strict env done blocks vars reply does on = by (act size rule.action env) done refl does
+  where
+    known : (o : Act) → act size rule.action env ≡ o → (rest : Bool → Env → Comes) → by_rule size rule strict env rest ≡ behind strict rule.action env o rest
+    known o e rest =
+        ap (λ (t : Bool). cond t (behind strict rule.action env (act size rule.action env) rest) (rest strict env)) on
+        ∙ ap (λ (x : Act). behind strict rule.action env x rest) e
+
+    failed : (t : Bool) (why told : Why) (left : Env) → (not strict && not (answers rule.action)) ≡ t → act size rule.action env ≡ Fails why left → told ≡ why → IsAt side left blocks vars → reply ≡ []
+        → RuleLeaves side size rule strict env (cond t (Goes strict) (Ends (verdicts.Fail told))) blocks vars reply
+    failed true why told left off e same at none =
+        record { next = left; at_next = at; no_reply = none; others = λ rest. known (Fails why left) e rest ∙ ap (λ (t : Bool). cond t (rest strict left) (Fail why left)) off }
+    failed false why told left off e same at none =
+        record { comes = Fail why left; leaves = (same, at, none); whatever = λ rest. known (Fails why left) e rest ∙ ap (λ (t : Bool). cond t (rest strict left) (Fail why left)) off }
+
+    by : (o : Act) (d : Acted) → act size rule.action env ≡ o → Does side env o d blocks vars reply → RuleLeaves side size rule strict env (ruled_by strict rule.action d) blocks vars reply
+    by (Next next) acted.Next e h = record { next = next; at_next = h.0; no_reply = h.1; others = known (Next next) e }
+    by (Next next) acted.Stop e h = absurd h
+    by (Next next) acted.Reply e h = absurd h
+    by (Next next) (acted.Deny told) e h = absurd h
+    by (Next next) (acted.Failed told) e h = absurd h
+    by Stop acted.Next e h = absurd h
+    by Stop acted.Stop e h = record { comes = Pass env; leaves = (h.0, h.1); whatever = known Stop e }
+    by Stop acted.Reply e h = absurd h
+    by Stop (acted.Deny told) e h = absurd h
+    by Stop (acted.Failed told) e h = absurd h
+    by (Replies m) acted.Next e h = absurd h
+    by (Replies m) acted.Stop e h = absurd h
+    by (Replies m) acted.Reply e h = record { comes = Reply m env; leaves = (h.0, h.1); whatever = known (Replies m) e }
+    by (Replies m) (acted.Deny told) e h = absurd h
+    by (Replies m) (acted.Failed told) e h = absurd h
+    by (Denies code) acted.Next e h = absurd h
+    by (Denies code) acted.Stop e h = absurd h
+    by (Denies code) acted.Reply e h = absurd h
+    by (Denies code) (acted.Deny told) e h = record { comes = Deny code env; leaves = (h.0, h.1, h.2); whatever = known (Denies code) e }
+    by (Denies code) (acted.Failed told) e h = absurd h
+    by (Fails why left) acted.Next e h = absurd h
+    by (Fails why left) acted.Stop e h = absurd h
+    by (Fails why left) acted.Reply e h = absurd h
+    by (Fails why left) (acted.Deny told) e h = absurd h
+    by (Fails why left) (acted.Failed told) e h = failed (not strict && not (answers rule.action)) why told left refl e h.0 h.1 h.2
 
 -- the rules from a place on begin with the one that stands there
 drop_get : (rules : List Rule) (at : ℕ) (rule : Rule) → slice_get rules at ≡ Some rule → drop at rules ≡ rule ∷ drop (suc at) rules
@@ -29,72 +97,80 @@ at_place P (r ∷ rules) zero rule is all = let same : r ≡ rule = cc in subst 
 at_place P (r ∷ rules) (suc at) rule is all = at_place P rules at rule is all.1
 
 -- where a run stands: on an environment of which the rules that are left make what all make of the first
-pub record Reached (limits : Limits) (rules : List Rule) (head : Head) (at : ℕ) (blocks : List Block) : Type 0 where
-  pub now : Env (Unit {0})
-  pub holds : HoldsHead now blocks
-  pub left : walk limits (drop at rules) true now ≡ rules_of limits rules (request_env (tt {0}) head)
+pub record Reached (side : Side) (size : ℕ) (rules : List Rule) (env : Env) (at : ℕ) (strict : Bool) (blocks : List Block) (vars : Variables) : Type 0 where
+  pub now : Env
+  pub at_now : IsAt side now blocks vars
+  pub left : walk size (drop at rules) strict now ≡ rules_of size rules env
 
--- a run begins on the request's head
-pub begins : (limits : Limits) (rules : List Rule) (head : Head) (blocks : List Block) → blocks ≡ head_blocks head → Reached limits rules head 0 blocks
-begins limits rules head blocks is =
-    record { now = request_env tt head; holds = record { head = is; bare = refl }; left = refl }
+pub begins : (side : Side) (size : ℕ) (rules : List Rule) (env : Env) (blocks : List Block) (vars : Variables) → IsAt side env blocks vars → Reached side size rules env 0 true blocks vars
+begins side size rules env blocks vars at = record { now = env; at_now = at; left = refl }
 
--- the mode stays on behind each action
-mode_stays : (action : Action) → mode_after true action ≡ true
-mode_stays Allow = refl
-mode_stays (AddHeader name text) = refl
-mode_stays (SetHeader name text) = refl
-
--- what the rules that are left make of an environment, by the first of them
-first_rule : (limits : Limits) (rules : List Rule) (at : ℕ) (rule : Rule) (now : Env (Unit {0})) → slice_get rules at ≡ Some rule
-    → walk limits (drop at rules) true now ≡ behind true rule.action now (act limits rule.action now) (walk limits (drop (suc at) rules))
-first_rule limits rules at rule now is = ap (λ (rs : List Rule). walk limits rs true now) (drop_get rules at rule is)
+first_rule : (size : ℕ) (rules : List Rule) (at : ℕ) (rule : Rule) (strict : Bool) (now : Env) → slice_get rules at ≡ Some rule
+    → walk size (drop at rules) strict now ≡ by_rule size rule strict now (walk size (drop (suc at) rules))
+first_rule size rules at rule strict now is = ap (λ (rs : List Rule). walk size rs strict now) (drop_get rules at rule is)
 
 -- a rule behind which the next one runs
-pub goes_on : (limits : Limits) (rules : List Rule) (head : Head) (at : ℕ) (rule : Rule) (old new : List Block) → slice_get rules at ≡ Some rule
-    → ((env : Env (Unit {0})) → HoldsHead env old → Steps env (act limits rule.action env) step.Next new) → Reached limits rules head at old → Reached limits rules head (at + 1) new
-goes_on limits rules head at rule old new is steps r = by (act limits rule.action r.now) (steps r.now r.holds) (sym (first_rule limits rules at rule r.now is) ∙ r.left)
-  where
-    by : (o : Act (Unit {0})) → Steps r.now o step.Next new → behind true rule.action r.now o (walk limits (drop (suc at) rules)) ≡ rules_of limits rules (request_env (tt {0}) head) → Reached limits rules head (at + 1) new
-    by (Next next) s e =
-        let same : at + 1 ≡ suc at = omega arith in
-        record {
-          now = next;
-          holds = s;
-          left =
-              ap (λ (n : ℕ). walk limits (drop n rules) true next) same
-              ∙ ap (λ (strict : Bool). walk limits (drop (suc at) rules) strict next) (sym (mode_stays rule.action)) ∙ e;
-        }
-    by Stop s e = absurd s
-    by (Replies m) s e = absurd s
-    by (Denies code) s e = absurd s
-    by (Fails why left) s e = absurd s
+pub goes_on : (side : Side) (size : ℕ) (rules : List Rule) (env : Env) (at : ℕ) (rule : Rule) (strict mode : Bool) (old new : List Block) (vars left_vars : Variables) (reply : List Block)
+    → slice_get rules at ≡ Some rule → (r : Reached side size rules env at strict old vars) → RuleLeaves side size rule strict r.now (Goes mode) new left_vars reply
+    → Reached side size rules env (at + 1) mode new left_vars
+goes_on side size rules env at rule strict mode old new vars left_vars reply is r on =
+    let same : at + 1 ≡ suc at = omega arith in
+    record {
+      now = on.next;
+      at_now = on.at_next;
+      left =
+          ap (λ (n : ℕ). walk size (drop n rules) mode on.next) same ∙ sym (on.others (walk size (drop (suc at) rules)))
+          ∙ sym (first_rule size rules at rule strict r.now is) ∙ r.left;
+    }
 
--- a rule that stops
-pub stops : (limits : Limits) (rules : List Rule) (head : Head) (at : ℕ) (rule : Rule) (old new : List Block) → slice_get rules at ≡ Some rule
-    → ((env : Env (Unit {0})) → HoldsHead env old → Steps env (act limits rule.action env) step.Stop new) → Reached limits rules head at old → Runs limits rules head verdict.Pass new
-stops limits rules head at rule old new is steps r = by (act limits rule.action r.now) (steps r.now r.holds) (sym (first_rule limits rules at rule r.now is) ∙ r.left)
-  where
-    by : (o : Act (Unit {0})) → Steps r.now o step.Stop new → behind true rule.action r.now o (walk limits (drop (suc at) rules)) ≡ rules_of limits rules (request_env (tt {0}) head) → Runs limits rules head verdict.Pass new
-    by (Next next) s e = absurd s
-    by Stop s e = (r.now, sym e, s.head)
-    by (Replies m) s e = absurd s
-    by (Denies code) s e = absurd s
-    by (Fails why left) s e = absurd s
-
--- a rule that fails
-pub fails : (limits : Limits) (rules : List Rule) (head : Head) (at : ℕ) (rule : Rule) (why : Why) (old new : List Block) → slice_get rules at ≡ Some rule
-    → ((env : Env (Unit {0})) → HoldsHead env old → Steps env (act limits rule.action env) (step.Failed why) new) → Reached limits rules head at old → Runs limits rules head (verdict.Fail why) new
-fails limits rules head at rule why old new is steps r = by (act limits rule.action r.now) (steps r.now r.holds) (sym (first_rule limits rules at rule r.now is) ∙ r.left)
-  where
-    by : (o : Act (Unit {0})) → Steps r.now o (step.Failed why) new → behind true rule.action r.now o (walk limits (drop (suc at) rules)) ≡ rules_of limits rules (request_env (tt {0}) head) → Runs limits rules head (verdict.Fail why) new
-    by (Next next) s e = absurd s
-    by Stop s e = absurd s
-    by (Replies m) s e = absurd s
-    by (Denies code) s e = absurd s
-    by (Fails reason left) s e = (left, sym e ∙ ap (λ (w : Why). Fail w left) (sym s.0), s.1.head)
+-- one that decides
+pub ends : (side : Side) (size : ℕ) (rules : List Rule) (env : Env) (at : ℕ) (rule : Rule) (strict : Bool) (verdict : Answered) (old new : List Block) (vars left_vars : Variables) (reply : List Block)
+    → slice_get rules at ≡ Some rule → (r : Reached side size rules env at strict old vars) → RuleLeaves side size rule strict r.now (Ends verdict) new left_vars reply
+    → Leaves side (rules_of size rules env) verdict new left_vars reply
+ends side size rules env at rule strict verdict old new vars left_vars reply is r over =
+    let comes : over.comes ≡ rules_of size rules env = sym (over.whatever (walk size (drop (suc at) rules))) ∙ sym (first_rule size rules at rule strict r.now is) ∙ r.left in
+    subst (λ (c : Comes). Leaves side c verdict new left_vars reply) comes over.leaves
 
 -- all rules have run
-pub ends : (limits : Limits) (rules : List Rule) (head : Head) (at : ℕ) (blocks : List Block) → length rules ≤ at → Reached limits rules head at blocks → Runs limits rules head verdict.Pass blocks
-ends limits rules head at blocks all r =
-    (r.now, sym r.left ∙ ap (λ (rs : List Rule). walk limits rs true r.now) (drop_of_length-le rules all), r.holds.head)
+pub over : (side : Side) (size : ℕ) (rules : List Rule) (env : Env) (at : ℕ) (strict : Bool) (blocks : List Block) (vars : Variables) (reply : List Block)
+    → length rules ≤ at → Reached side size rules env at strict blocks vars → reply ≡ [] → Leaves side (rules_of size rules env) verdicts.Pass blocks vars reply
+over side size rules env at strict blocks vars reply all r none =
+    let comes : Pass r.now ≡ rules_of size rules env = sym (ap (λ (rs : List Rule). walk size rs strict r.now) (drop_of_length-le rules all)) ∙ r.left in
+    subst (λ (c : Comes). Leaves side c verdicts.Pass blocks vars reply) comes (r.at_now, none)
+
+-- an environment that an array holds
+pub held : (side : Side) (blocks : List Block) (vars : Variables) → IsFront blocks → (env : Env) × IsAt side env blocks vars
+held Request blocks vars front =
+    (record { is_request = true; head = front.0; body = front.1; method = []; vars = vars }, record { on = refl; blocks_are = front.2; vars_are = refl })
+held (Answer method) blocks vars front =
+    (record { is_request = false; head = front.0; body = front.1; method = method.now; vars = vars }, record { on = (refl, refl); blocks_are = front.2; vars_are = refl })
+
+-- what a run reached holds a head
+pub front_of : (side : Side) (size : ℕ) (rules : List Rule) (env : Env) (at : ℕ) (strict : Bool) (blocks : List Block) (vars : Variables) → Reached side size rules env at strict blocks vars → IsFront blocks
+front_of side size rules env at strict blocks vars r = (r.now.head, r.now.body, r.at_now.blocks_are)
+
+-- a request's head, as its rules begin with it
+pub on_request : (head : Head) (blocks : List Block) (vars : Variables) → blocks ≡ head_blocks head → IsAt Request (request_env vars head) blocks vars
+on_request head blocks vars is = record { on = refl; blocks_are = is ∙ sym (append-nil (head_blocks head)); vars_are = refl }
+
+-- the head of an answer
+pub on_answer : (method : Bor (List ℕ)) (head : Head) (blocks : List Block) (vars : Variables) → blocks ≡ head_blocks head → IsAt (Answer method) (response_env vars method.now head) blocks vars
+on_answer method head blocks vars is = record { on = (refl, refl); blocks_are = is ∙ sym (append-nil (head_blocks head)); vars_are = refl }
+
+-- the head of an answer, with a body or none behind it
+pub on_sent : (method : Bor (List ℕ)) (head : Head) (body : List ℕ) (blocks : List Block) (vars : Variables) → blocks ≡ front_blocks head body
+    → IsAt (Answer method) (record { is_request = false; head = head; body = body; method = method.now; vars = vars }) blocks vars
+on_sent method head body blocks vars is = record { on = (refl, refl); blocks_are = is; vars_are = refl }
+
+-- the blocks of a head have no body behind them
+pub head_front : (blocks : List Block) → IsHead blocks → IsFront blocks
+head_front blocks h = (h.0, [], h.1 ∙ sym (append-nil (head_blocks h.0)))
+
+-- the actions of rules that stand in a direction are good
+pub good_actions : (direction : Direction) (rules : List Rule) → AllByRecursion (IsGoodRule direction) rules → AllByRecursion (λ (rule : Rule). IsGoodAction rule.action) rules
+good_actions direction [] all = tt
+good_actions direction (rule ∷ rules) all = (all.0.good, good_actions direction rules all.1)
+
+-- no reply was written
+pub no_reply : (side : Side) (comes : Comes) (verdict : Answered) (blocks : List Block) (vars : Variables) (reply : List Block) → reply ≡ [] → Leaves side comes verdict blocks vars [] → Leaves side comes verdict blocks vars reply
+no_reply side comes verdict blocks vars reply none h = subst (λ (bs : List Block). Leaves side comes verdict blocks vars bs) (sym none) h

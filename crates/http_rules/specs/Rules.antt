@@ -1,97 +1,110 @@
 -- What rules make of an environment, in their order, with the mode of failures.
-use Rattle.std.specs.Prelude.{ℕ, List, [], ◌∷◌, Bool, true, false, not, ◌&&◌, if◌then◌else◌, Result, Ok, Err}
-use Rattle.std.specs.List.{AllByRecursion}
-use Rattle.http_model.specs.declared.Limits.{Limits}
-use Rattle.http_model.specs.declared.Why.{Why}
-use Rattle.http_model.specs.Head.{Message}
-use Rattle.session_model.specs.Env.{Env, Verdict, Pass, Reply, Deny, Fail, Amended, Edited, Plain}
-use Rattle.http_rules.specs.declared.rule.Action.{Action}
-use Rattle.http_rules.specs.declared.rule.Action.TheVariants.{Allow, AddHeader, SetHeader}
-use Rattle.http_rules.specs.declared.rule.Rule.{Rule}
-use Rattle.http_rules.specs.Steps.{Step, steps_of}
-
--- What one rule makes of an environment: one for the next rule, no further rule, a reply, a refusal, or a failure, with the
--- environment in front of the failing step.
-pub data Act (Vars : Type 0) : Type 0 where
-  Next : Env Vars → Act Vars
-  Stop : Act Vars
-  Replies : Message → Act Vars
-  Denies : (code : ℕ) → Act Vars
-  Fails : Why → Env Vars → Act Vars
-
--- what comes behind a step: a step that fails decides, and undoes nothing
-abbrev pub after_step : {Vars : Type 0} → Env Vars → Result (Env Vars) Why → (Env Vars → Act Vars) → Act Vars
-after_step env (Ok next) others = others next
-after_step env (Err why) others = Fails why env
-
--- steps in turn
-abbrev pub run_steps : {Vars : Type 0} → List (Step Vars) → Env Vars → Act Vars
-run_steps [] env = Next env
-run_steps (step ∷ steps) env = after_step env (step env) (run_steps steps)
-
--- what one rule makes of an environment
-abbrev pub act : {Vars : Type 0} → Limits → Action → Env Vars → Act Vars
-act limits Allow env = Stop
-act limits action env = run_steps (steps_of limits action env) env
+use Rattle.std.specs.Prelude.{ℕ, List, [], ◌∷◌, Bool, true, false, not, ◌&&◌, Option, Some, None, if◌then◌else◌}
+use Rattle.px_sample.specs.Variables.{Variables}
+use Rattle.session_model.specs.Env.{Verdict, Pass, Reply, Deny, Fail, Amended, Edited, Plain}
+use Rattle.acl_eval.specs.declared.condition.Cond.{Cond}
+use Rattle.rule_model.specs.declared.action.Action.{Action}
+use Rattle.rule_model.specs.declared.action.Action.TheVariants as actions
+use Rattle.rule_model.specs.declared.rule.Rule.{Rule}
+use Rattle.rule_actions.specs.Given.{Env, holds_on}
+use Rattle.rule_actions.specs.Acts.{Act, Next, Stop, Replies, Denies, Fails, act}
 
 -- the action answers by itself, so that a failure of its is never passed over
 abbrev pub answers : Action → Bool
-answers Allow = false
-answers (AddHeader name text) = false
-answers (SetHeader name text) = false
+answers actions.Allow = false
+answers (actions.Deny code) = false
+answers (actions.AddHeader name fmt) = false
+answers (actions.SetHeader name fmt) = false
+answers (actions.DelHeader by) = false
+answers (actions.ReplaceHeader name pat fmt) = false
+answers (actions.ReplaceValue name pat fmt) = false
+answers (actions.SetMethod fmt) = false
+answers (actions.SetPath fmt) = false
+answers (actions.SetPathq fmt) = false
+answers (actions.SetUri fmt) = false
+answers (actions.SetQuery fmt) = false
+answers (actions.ReplacePath pat fmt) = false
+answers (actions.ReplacePathq pat fmt) = false
+answers (actions.ReplaceUri pat fmt) = false
+answers (actions.SetStatus code reason) = false
+answers (actions.Redirect to code drop_query append_slash) = true
+answers (actions.Return status content_type payload hdrs) = true
+answers (actions.SetVar scope name expr) = false
+answers (actions.UnsetVar scope name) = false
+answers (actions.StrictMode on) = false
 
 -- the mode behind an action
 abbrev pub mode_after : (strict : Bool) → Action → Bool
-mode_after strict Allow = strict
-mode_after strict (AddHeader name text) = strict
-mode_after strict (SetHeader name text) = strict
+mode_after strict (actions.StrictMode on) = on
+mode_after strict actions.Allow = strict
+mode_after strict (actions.Deny code) = strict
+mode_after strict (actions.AddHeader name fmt) = strict
+mode_after strict (actions.SetHeader name fmt) = strict
+mode_after strict (actions.DelHeader by) = strict
+mode_after strict (actions.ReplaceHeader name pat fmt) = strict
+mode_after strict (actions.ReplaceValue name pat fmt) = strict
+mode_after strict (actions.SetMethod fmt) = strict
+mode_after strict (actions.SetPath fmt) = strict
+mode_after strict (actions.SetPathq fmt) = strict
+mode_after strict (actions.SetUri fmt) = strict
+mode_after strict (actions.SetQuery fmt) = strict
+mode_after strict (actions.ReplacePath pat fmt) = strict
+mode_after strict (actions.ReplacePathq pat fmt) = strict
+mode_after strict (actions.ReplaceUri pat fmt) = strict
+mode_after strict (actions.SetStatus code reason) = strict
+mode_after strict (actions.Redirect to code drop_query append_slash) = strict
+mode_after strict (actions.Return status content_type payload hdrs) = strict
+mode_after strict (actions.SetVar scope name expr) = strict
+mode_after strict (actions.UnsetVar scope name) = strict
+
+-- what rules come to, with the variables of the four scopes
+abbrev pub Comes : Type 0
+Comes = Verdict Variables
+
+-- a rule without a condition always runs
+abbrev pub runs : (size : ℕ) → Option Cond → Env → Bool
+runs size None env = true
+runs size (Some cond) env = holds_on size env cond
 
 -- What rules come to behind one of them: what the others make of its environment, or its result. A failure is passed over
--- while the mode is off.
-abbrev pub behind : {Vars : Type 0} → (strict : Bool) → Action → Env Vars → Act Vars → (Bool → Env Vars → Verdict Vars) → Verdict Vars
+-- while the mode is off, and undoes nothing.
+abbrev pub behind : (strict : Bool) → Action → Env → Act → (Bool → Env → Comes) → Comes
 behind strict action env (Next next) others = others (mode_after strict action) next
 behind strict action env Stop others = Pass env
 behind strict action env (Replies m) others = Reply m env
 behind strict action env (Denies code) others = Deny code env
 behind strict action env (Fails why left) others = if not strict && not (answers action) then others strict left else Fail why left
 
+-- one rule, and those behind it
+abbrev pub by_rule : (size : ℕ) → Rule → (strict : Bool) → Env → (Bool → Env → Comes) → Comes
+by_rule size rule strict env others =
+    if runs size rule.cond env then behind strict rule.action env (act size rule.action env) others else others strict env
+
 -- what rules make of an environment, in their order and under a mode; the first that does not go on decides
-abbrev pub walk : {Vars : Type 0} → Limits → List Rule → (strict : Bool) → Env Vars → Verdict Vars
-walk limits [] strict env = Pass env
-walk limits (rule ∷ rules) strict env = behind strict rule.action env (act limits rule.action env) (walk limits rules)
+abbrev pub walk : (size : ℕ) → List Rule → (strict : Bool) → Env → Comes
+walk size [] strict env = Pass env
+walk size (rule ∷ rules) strict env = by_rule size rule strict env (walk size rules)
 
 -- the mode begins as on: a failure decides
-abbrev pub rules_of : {Vars : Type 0} → Limits → List Rule → Env Vars → Verdict Vars
-rules_of limits rules env = walk limits rules true env
+abbrev pub rules_of : (size : ℕ) → List Rule → Env → Comes
+rules_of size rules env = walk size rules true env
 
--- what rules on all that the client is sent come to: the edited head, or plain where one fails; they neither reply nor deny
-abbrev pub after_of : {Vars : Type 0} → Limits → List Rule → Env Vars → Amended Vars
-after_of {Vars = Vars} limits rules env = amended_by (rules_of limits rules env)
-  where
-    amended_by : Verdict Vars → Amended Vars
-    amended_by (Pass left) = Edited left.head left.vars
-    amended_by (Reply m left) = Plain
-    amended_by (Deny code left) = Plain
-    amended_by (Fail why left) = Plain
+-- the edited head and the variables, or plain where rules neither passed
+abbrev pub amended_by : Comes → Amended Variables
+amended_by (Pass left) = Edited left.head left.vars
+amended_by (Reply m left) = Plain
+amended_by (Deny code left) = Plain
+amended_by (Fail why left) = Plain
+
+-- what the rules on all that the client is sent come to; they neither reply nor deny
+abbrev pub after_of : (size : ℕ) → List Rule → Env → Amended Variables
+after_of size rules env = amended_by (rules_of size rules env)
 
 -- ---- words of the laws
 
 -- what further rules make of a verdict
-abbrev pub on_pass : {Vars : Type 0} → Verdict Vars → (Env Vars → Verdict Vars) → Verdict Vars
+abbrev pub on_pass : Comes → (Env → Comes) → Comes
 on_pass (Pass env) others = others env
 on_pass (Reply message env) others = Reply message env
 on_pass (Deny code env) others = Deny code env
 on_pass (Fail why env) others = Fail why env
-
--- the rule neither stops nor changes the mode
-abbrev pub GoesOn : Rule → Type 0
-GoesOn rule = goes_on rule.action
-  where
-    goes_on : Action → Type 0
-    goes_on Allow = ⊥
-    goes_on (AddHeader name text) = Unit {0}
-    goes_on (SetHeader name text) = Unit {0}
-
--- none of the rules does
-abbrev pub AreRunThrough : List Rule → Type 0
-AreRunThrough rules = AllByRecursion GoesOn rules

@@ -1,51 +1,68 @@
--- What a run of rules leaves in an array.
-use Rattle.std.specs.Prelude.{◌≡◌, List, [], Result, Ok, Err}
-use Rattle.http_model.specs.declared.Limits.{Limits}
-use Rattle.http_model.specs.declared.Why.TheVariants.{Room}
+-- What a run of rules leaves in arrays and variables.
+use Rattle.std.specs.Prelude.{◌≡◌, ℕ, List, [], Bool, not, ◌&&◌, if◌then◌else◌}
 use Rattle.http_model.specs.Block.{Block}
-use Rattle.http_model.specs.Head.{Head, head_blocks}
-use Rattle.session_model.specs.Env.{Env, Pass, Fail, request_env}
-use Rattle.htx_arena.specs.declared.arena.Full.{Full}
-use Rattle.http_rules.specs.declared.rule.Rule.{Rule}
-use Rattle.http_rules.specs.declared.run.Step.{Step}
-use Rattle.http_rules.specs.declared.run.Step.TheVariants as step
-use Rattle.http_rules.specs.declared.run.Verdict.{Verdict}
-use Rattle.http_rules.specs.declared.run.Verdict.TheVariants as verdict
-use Rattle.http_rules.specs.Rules.{Act, Next, Stop, Replies, Denies, Fails, rules_of}
+use Rattle.http_model.specs.Head.{Head, head_blocks, message_blocks}
+use Rattle.session_model.specs.Env.{Verdict, Pass, Reply, Deny, Fail}
+use Rattle.px_sample.specs.Variables.{Variables}
+use Rattle.rule_model.specs.declared.action.Action.{Action}
+use Rattle.rule_model.specs.declared.rule.Rule.{Rule}
+use Rattle.rule_actions.specs.declared.act.Acted.{Acted}
+use Rattle.rule_actions.specs.declared.act.Acted.TheVariants as acted
+use Rattle.rule_actions.specs.Given.{Env}
+use Rattle.rule_actions.specs.Outcome.{IsAt}
+use Rattle.rule_actions.specs.declared.side.Side.{Side}
+use Rattle.http_rules.specs.declared.verdict.Verdict.{Verdict as Answer}
+use Rattle.http_rules.specs.declared.verdict.Verdict.TheVariants as verdicts
+use Rattle.http_rules.specs.declared.verdict.Ruled.{Ruled}
+use Rattle.http_rules.specs.declared.verdict.Ruled.TheVariants.{Goes, Ends}
+use Rattle.http_rules.specs.Rules.{Comes, by_rule, answers, mode_after}
+
+-- The verdict is this one. What stands in the array and in the variables is the environment of that moment, after a failure the
+-- one in front of the failing step; a reply stands in its own array, which is empty otherwise.
+abbrev pub Leaves : Side → Comes → Answer → List Block → Variables → List Block → Type 0
+Leaves side (Pass left) verdicts.Pass blocks vars reply = IsAt side left blocks vars × (reply ≡ [])
+Leaves side (Reply m left) verdicts.Reply blocks vars reply = IsAt side left blocks vars × (reply ≡ message_blocks m)
+Leaves side (Deny code left) (verdicts.Deny told) blocks vars reply = (told ≡ code) × IsAt side left blocks vars × (reply ≡ [])
+Leaves side (Fail why left) (verdicts.Fail told) blocks vars reply = (told ≡ why) × IsAt side left blocks vars × (reply ≡ [])
+Leaves side (Pass left) verdicts.Reply blocks vars reply = ⊥
+Leaves side (Pass left) (verdicts.Deny told) blocks vars reply = ⊥
+Leaves side (Pass left) (verdicts.Fail told) blocks vars reply = ⊥
+Leaves side (Reply m left) verdicts.Pass blocks vars reply = ⊥
+Leaves side (Reply m left) (verdicts.Deny told) blocks vars reply = ⊥
+Leaves side (Reply m left) (verdicts.Fail told) blocks vars reply = ⊥
+Leaves side (Deny code left) verdicts.Pass blocks vars reply = ⊥
+Leaves side (Deny code left) verdicts.Reply blocks vars reply = ⊥
+Leaves side (Deny code left) (verdicts.Fail told) blocks vars reply = ⊥
+Leaves side (Fail why left) verdicts.Pass blocks vars reply = ⊥
+Leaves side (Fail why left) verdicts.Reply blocks vars reply = ⊥
+Leaves side (Fail why left) (verdicts.Deny told) blocks vars reply = ⊥
+
+-- what an action's outcome means under a mode
+abbrev pub ruled_by : (strict : Bool) → Action → Acted → Ruled
+ruled_by strict action acted.Next = Goes (mode_after strict action)
+ruled_by strict action acted.Stop = Ends verdicts.Pass
+ruled_by strict action acted.Reply = Ends verdicts.Reply
+ruled_by strict action (acted.Deny code) = Ends (verdicts.Deny code)
+ruled_by strict action (acted.Failed why) = if not strict && not (answers action) then Goes strict else Ends (verdicts.Fail why)
 
 -- the blocks are those of a head
 abbrev pub IsHead : List Block → Type 0
 IsHead blocks = (head : Head) × (blocks ≡ head_blocks head)
 
--- the blocks are those of an environment's head, with no body behind it
-pub record HoldsHead {Vars : Type 0} (env : Env Vars) (blocks : List Block) : Type 0 where
-  pub head : blocks ≡ head_blocks env.head
-  pub bare : env.body ≡ []
+-- one rule goes on, so the others decide on the environment that it leaves
+pub record GoesOn (side : Side) (size : ℕ) (rule : Rule) (strict : Bool) (env : Env) (mode : Bool) (blocks : List Block) (vars : Variables) (reply : List Block) : Type 0 where
+  pub next : Env
+  pub at_next : IsAt side next blocks vars
+  pub no_reply : reply ≡ []
+  pub others : (rest : Bool → Env → Comes) → by_rule size rule strict env rest ≡ rest mode next
 
--- the step that an edit was
-abbrev pub step_by : {T : Type 0} → Result T Full → Step
-step_by (Ok done) = step.Next
-step_by (Err full) = step.Failed Room
+-- one rule decides, whatever stands behind it
+pub record EndsRules (side : Side) (size : ℕ) (rule : Rule) (strict : Bool) (env : Env) (verdict : Answer) (blocks : List Block) (vars : Variables) (reply : List Block) : Type 0 where
+  pub comes : Comes
+  pub leaves : Leaves side comes verdict blocks vars reply
+  pub whatever : (rest : Bool → Env → Comes) → by_rule size rule strict env rest ≡ comes
 
--- The step is this act on an environment, and leaves its blocks: of the environment that comes of it, or of the one in front
--- of the step that failed.
-abbrev pub Steps : {Vars : Type 0} → Env Vars → Act Vars → Step → List Block → Type 0
-Steps env (Next next) step.Next blocks = HoldsHead next blocks
-Steps env (Next next) step.Stop blocks = ⊥
-Steps env (Next next) (step.Failed why) blocks = ⊥
-Steps env Stop step.Next blocks = ⊥
-Steps env Stop step.Stop blocks = HoldsHead env blocks
-Steps env Stop (step.Failed why) blocks = ⊥
-Steps env (Replies m) s blocks = ⊥
-Steps env (Denies code) s blocks = ⊥
-Steps env (Fails reason left) step.Next blocks = ⊥
-Steps env (Fails reason left) step.Stop blocks = ⊥
-Steps env (Fails reason left) (step.Failed why) blocks = (why ≡ reason) × HoldsHead left blocks
-
--- The verdict is that of the rules on a request's head: the head's blocks are left where they pass, and where one fails, for
--- this reason, those of the head in front of the step that failed.
-abbrev pub Runs : Limits → List Rule → Head → Verdict → List Block → Type 0
-Runs limits rules head verdict.Pass blocks =
-    (left : Env (Unit {0})) × (rules_of limits rules (request_env tt head) ≡ Pass left) × (blocks ≡ head_blocks left.head)
-Runs limits rules head (verdict.Fail why) blocks =
-    (left : Env (Unit {0})) × (rules_of limits rules (request_env tt head) ≡ Fail why left) × (blocks ≡ head_blocks left.head)
+-- what one rule came to
+abbrev pub RuleLeaves : Side → (size : ℕ) → Rule → (strict : Bool) → Env → Ruled → List Block → Variables → List Block → Type 0
+RuleLeaves side size rule strict env (Goes mode) blocks vars reply = GoesOn side size rule strict env mode blocks vars reply
+RuleLeaves side size rule strict env (Ends verdict) blocks vars reply = EndsRules side size rule strict env verdict blocks vars reply

@@ -3,15 +3,22 @@
 
 mod config;
 mod laws;
-mod rule;
+mod lives;
 mod run;
-#[cfg(test)]
-mod tests;
+mod verdict;
 
 pub use body_filter::FilterSpec;
 pub use config::{Config, Filters};
 pub use http_model::{Limits, Why};
-pub use laws::{allow_ends_the_rules, failing_step_decides, rules_go_on};
-pub use px_link::{Address, Bytes, OutOfMemory};
-pub use rule::{Action, Rule, Rules};
-pub use run::{Verdict, run_request};
+pub use laws::body_stays;
+pub use lives::{begin_answer, begin_exchange};
+pub use px_expr::Searchers;
+pub use px_link::{Address, OutOfMemory};
+pub use px_sample::Vars;
+pub use rule_actions::Scratch;
+pub use rule_model::{
+    Action, ActionName, Cond, DelBy, Direction, Expr, Fmt, Hdr, HdrList, Part, PartList, Pat,
+    Payload, RedirectTo, Rule, Rules, Scope, Text, stands_in,
+};
+pub use run::{run_after, run_request, run_response};
+pub use verdict::Verdict;

@@ -1,126 +1,266 @@
-//! Rules run on a head in an array.
-ghost use Rattle.std.specs.Prelude.{◌≡◌, ◌≤◌, length};
-ghost use Rattle.std.specs.List.{AllByRecursion, list_all};
-ghost use Rattle.http_model.specs.Head.{Head, head_blocks};
-ghost use Rattle.http_model.specs.Fields.{add_field, set_field};
-ghost use Rattle.http_model.specs.Sizes.{most_name};
-ghost use Rattle.session_model.specs.Env.{Env};
-ghost use Rattle.http_rules.specs.Steps.{is_good_text, is_value_byte, edited_by};
-ghost use Rattle.http_rules.specs.Rules.{Next, after_step, act};
-ghost use Rattle.http_rules.specs.Valid.{IsGoodAction};
-ghost use Rattle.http_rules.specs.Run.{Steps, Runs, IsHead, HoldsHead, step_by};
+//! Rules run on a message in an array, in their order.
+ghost use Rattle.std.specs.Prelude.{◌≡◌, [], true, false, IsOk, IfOk};
+ghost use Rattle.std.specs.List.{AllByRecursion};
+ghost use Rattle.http_model.specs.Head.{Head, head_blocks, front_blocks};
+ghost use Rattle.session_model.specs.Env.{request_env, response_env};
+ghost use Rattle.std.specs.Prelude.{List, ℕ};
+ghost use Rattle.rule_model.specs.Valid.{IsGoodAction};
+ghost use Rattle.rule_model.specs.Patterns.{rules_hold_pattern, rule_holds_pattern, cond_holds_pattern};
+ghost use Rattle.rule_model.specs.declared.names.Direction.TheVariants as directions;
+ghost use Rattle.rule_actions.specs.Given.{Env};
+ghost use Rattle.rule_actions.specs.Outcome.{IsScratch, IsAt, IsFront};
+ghost use Rattle.http_rules.specs.Rules as spec;
+ghost use Rattle.http_rules.specs.Run.{Leaves, RuleLeaves, ruled_by, IsHead};
+ghost use Rattle.http_rules.specs.Valid.{AreRun, IsBuilt};
+ghost use Rattle.rule_actions.specs.declared.side.Side.TheVariants as sides;
 
-use crate::rule::{Action, Rule, Rules};
-use header_ops::laws::edits_of_heads;
-use header_ops::{add_field, set_field};
-use http_model::{Limits, Why};
-use htx_arena::{Arena, Full};
-use px_bytes::trim;
+use crate::verdict::{Ruled, Verdict};
+use htx_arena::Arena;
+use px_expr::Searchers;
+use px_sample::{OutOfMemory, Vars};
+use rule_actions::{Acted, Scratch, Side, is_met, run_action};
+use rule_model::{Action, Rule, Rules};
+use std::alloc::Global;
 
-/// What rules make of a request's head: the edited head is to be sent, or a rule failed.
-#[derive(Clone, Copy, Debug, PartialEq, Eq)]
-pub enum Verdict {
-    Pass,
-    Fail(Why),
-}
-
-/// What one rule makes of a head.
-#[derive(Clone, Copy, Debug, PartialEq, Eq)]
-enum Step {
-    Next,
-    Stop,
-    Failed(Why),
-}
-
-/// Whether each byte may stand in a field value.
-fn are_value_bytes(value: &[u8]) -> bool
-    ensures { result ≡ list_all is_value_byte value.now }
+/// Whether the action answers by itself, so that a failure of its is never passed over.
+fn answers(action: &Action) -> bool
+    ensures { result ≡ spec.answers action.now }
 {
-    value.iter().all(|b| (*b >= 32 || *b == b'\t') && *b != 127)
-}
-
-/// Whether a text is within the buffer and its value may stand in a field.
-fn is_good_text(limits: Limits, text: &[u8]) -> bool
-    ensures { result ≡ is_good_text limits text.now }
-{
-    text.len() <= limits.bufsize as usize && are_value_bytes(trim(text))
-}
-
-/// The step that an edit was.
-fn step_of(edited: Result<(), Full>) -> Step
-    ensures { result ≡ step_by edited }
-{
-    match edited {
-        Ok(()) => Step::Next,
-        Err(Full) => Step::Failed(Why::Room),
+    match action {
+        Action::Redirect { .. } | Action::Return { .. } => true,
+        Action::Allow
+        | Action::Deny(_)
+        | Action::AddHeader(_, _)
+        | Action::SetHeader(_, _)
+        | Action::DelHeader(_)
+        | Action::ReplaceHeader(_, _, _)
+        | Action::ReplaceValue(_, _, _)
+        | Action::SetMethod(_)
+        | Action::SetPath(_)
+        | Action::SetPathq(_)
+        | Action::SetUri(_)
+        | Action::SetQuery(_)
+        | Action::ReplacePath(_, _)
+        | Action::ReplacePathq(_, _)
+        | Action::ReplaceUri(_, _)
+        | Action::SetStatus(_, _)
+        | Action::SetVar(_, _, _)
+        | Action::UnsetVar(_, _)
+        | Action::StrictMode(_) => false,
     }
 }
 
-/// One more field behind the others.
-fn add_made(limits: Limits, msg: &mut Arena, name: &[u8], text: &[u8]) -> Step
-    requires head { IsHead msg.old.blocks }
-    requires size { msg.old.size ≡ limits.bufsize }
-    requires named { 1 ≤ length name.now }
-    requires short { length name.now ≤ most_name }
-    ensures step { (env : Env (Unit {0})) → HoldsHead env msg.old.blocks
-        → Steps env (after_step env (edited_by limits env text.now (λ value. add_field name.now value env.head)) Next) result msg.new.blocks }
-    ensures size { msg.new.size ≡ msg.old.size }
+/// The mode behind an action.
+fn mode_after(strict: bool, action: &Action) -> bool
+    ensures { result ≡ spec.mode_after strict action.now }
 {
-    edits_of_heads();
-    if !is_good_text(limits, text) {
-        return Step::Failed(Why::Bytes);
-    }
-    step_of(add_field(msg, name, trim(text)))
-}
-
-/// One field in place of all of its name.
-fn set_made(limits: Limits, msg: &mut Arena, name: &[u8], text: &[u8]) -> Step
-    requires head { IsHead msg.old.blocks }
-    requires size { msg.old.size ≡ limits.bufsize }
-    requires named { 1 ≤ length name.now }
-    requires short { length name.now ≤ most_name }
-    ensures step { (env : Env (Unit {0})) → HoldsHead env msg.old.blocks
-        → Steps env (after_step env (edited_by limits env text.now (λ value. set_field name.now value env.head)) Next) result msg.new.blocks }
-    ensures size { msg.new.size ≡ msg.old.size }
-{
-    edits_of_heads();
-    // Nothing is removed before the text is known to be good.
-    if !is_good_text(limits, text) {
-        return Step::Failed(Why::Bytes);
-    }
-    step_of(set_field(msg, name, trim(text)))
-}
-
-/// What one rule makes of a head.
-fn run_rule(rule: &Rule, limits: Limits, msg: &mut Arena) -> Step
-    requires head { IsHead msg.old.blocks }
-    requires size { msg.old.size ≡ limits.bufsize }
-    requires valid { IsGoodAction rule.now.action }
-    ensures step { (env : Env (Unit {0})) → HoldsHead env msg.old.blocks
-        → Steps env (act limits rule.now.action env) result msg.new.blocks }
-    ensures size { msg.new.size ≡ msg.old.size }
-{
-    match &rule.action {
-        Action::Allow => Step::Stop,
-        Action::AddHeader { name, text } => add_made(limits, msg, name.as_slice(), text.as_slice()),
-        Action::SetHeader { name, text } => set_made(limits, msg, name.as_slice(), text.as_slice()),
+    match action {
+        Action::StrictMode(on) => *on,
+        Action::Allow
+        | Action::Deny(_)
+        | Action::AddHeader(_, _)
+        | Action::SetHeader(_, _)
+        | Action::DelHeader(_)
+        | Action::ReplaceHeader(_, _, _)
+        | Action::ReplaceValue(_, _, _)
+        | Action::SetMethod(_)
+        | Action::SetPath(_)
+        | Action::SetPathq(_)
+        | Action::SetUri(_)
+        | Action::SetQuery(_)
+        | Action::ReplacePath(_, _)
+        | Action::ReplacePathq(_, _)
+        | Action::ReplaceUri(_, _)
+        | Action::SetStatus(_, _)
+        | Action::Redirect { .. }
+        | Action::Return { .. }
+        | Action::SetVar(_, _, _)
+        | Action::UnsetVar(_, _) => strict,
     }
 }
 
-/// Runs the rules of requests on a head, in their order. The first one that fails or allows decides.
-pub fn run_request(rules: &Rules, limits: Limits, msg: &mut Arena) -> Verdict
-    requires head { IsHead msg.old.blocks }
-    requires size { msg.old.size ≡ limits.bufsize }
-    requires valid { AllByRecursion (λ rule. IsGoodAction rule.action) rules.now }
-    ensures runs { (head : Head) → msg.old.blocks ≡ head_blocks head → Runs limits rules.now head result msg.new.blocks }
-    ensures size { msg.new.size ≡ msg.old.size }
+/// What an action's outcome means under a mode.
+fn outcome_of(strict: bool, action: &Action, acted: Acted) -> Ruled
+    ensures { result ≡ ruled_by strict action.now acted }
 {
-    for at in 0..rules.len() {
-        match run_rule(rules.get(at), limits, msg) {
-            Step::Next => {}
-            Step::Stop => return Verdict::Pass,
-            Step::Failed(why) => return Verdict::Fail(why),
+    match acted {
+        Acted::Next => Ruled::Goes(mode_after(strict, action)),
+        Acted::Stop => Ruled::Ends(Verdict::Pass),
+        Acted::Reply => Ruled::Ends(Verdict::Reply),
+        Acted::Deny(code) => Ruled::Ends(Verdict::Deny(code)),
+        Acted::Failed(why) => {
+            if !strict && !answers(action) {
+                Ruled::Goes(strict)
+            } else {
+                Ruled::Ends(Verdict::Fail(why))
+            }
         }
     }
-    Verdict::Pass
+}
+
+/// Whether the condition of a rule holds.
+fn runs<'c>(
+    alloc: Global,
+    searchers: &mut Searchers<'c>,
+    rule: &'c Rule,
+    side: Side<'_>,
+    msg: &Arena,
+    vars: &Vars,
+    scratch: &mut Scratch,
+) -> Result<bool, OutOfMemory>
+    requires { IsScratch msg.now.size scratch.old }
+    ensures truth { IfOk result (λ truth. (env : Env) → IsAt side.entry env msg.now.blocks vars.now → truth ≡ spec.runs msg.now.size rule.now.cond env) }
+    ensures succeeds { cond_holds_pattern rule.now.cond ≡ false → IsOk result }
+    ensures scratch { IsScratch msg.now.size scratch.new }
+{
+    match &rule.cond {
+        Some(cond) => is_met(alloc, searchers, cond, side, msg, vars, scratch),
+        None => Ok(true),
+    }
+}
+
+/// Runs one rule under a mode.
+fn run_rule<'c>(
+    alloc: Global,
+    searchers: &mut Searchers<'c>,
+    rule: &'c Rule,
+    strict: bool,
+    side: Side<'_>,
+    msg: &mut Arena,
+    vars: &mut Vars,
+    scratch: &mut Scratch,
+) -> Result<Ruled, OutOfMemory>
+    requires scratch { IsScratch msg.old.size scratch.old }
+    requires front { IsFront msg.old.blocks }
+    requires valid { IsGoodAction rule.now.action }
+    requires built { IsBuilt rule.now }
+    ensures ruled { IfOk result (λ ruled. (env : Env) → IsAt side.entry env msg.old.blocks vars.old → RuleLeaves side.entry msg.old.size rule.now strict env ruled msg.new.blocks vars.new []) }
+    ensures succeeds { rule_holds_pattern rule.now ≡ false → IsOk result }
+    ensures size { msg.new.size ≡ msg.old.size }
+    ensures scratch { IsScratch msg.old.size scratch.new }
+{
+    if !runs(alloc, searchers, rule, side, msg, vars, scratch)? {
+        return Ok(Ruled::Goes(strict));
+    }
+    let acted = run_action(alloc, searchers, &rule.action, side, msg, vars, scratch)?;
+    Ok(outcome_of(strict, &rule.action, acted))
+}
+
+/// Runs rules in their order. The first one that does not go on decides.
+fn run_rules<'c>(
+    alloc: Global,
+    searchers: &mut Searchers<'c>,
+    rules: &'c Rules,
+    side: Side<'_>,
+    msg: &mut Arena,
+    vars: &mut Vars,
+    scratch: &mut Scratch,
+) -> Result<Verdict, OutOfMemory>
+    requires scratch { IsScratch msg.old.size scratch.old }
+    requires front { IsFront msg.old.blocks }
+    requires good { AllByRecursion (λ rule. IsGoodAction rule.action) rules.now }
+    requires built { AllByRecursion IsBuilt rules.now }
+    ensures leaves { IfOk result (λ verdict. (env : Env) → IsAt side.entry env msg.old.blocks vars.old → Leaves side.entry (spec.rules_of msg.old.size rules.now env) verdict msg.new.blocks vars.new []) }
+    ensures succeeds { rules_hold_pattern rules.now ≡ false → IsOk result }
+    ensures size { msg.new.size ≡ msg.old.size }
+    ensures scratch { IsScratch msg.old.size scratch.new }
+{
+    let mut strict = true;
+    for at in 0..rules.len() {
+        let rule = rules.get(at);
+        let outcome = run_rule(alloc, searchers, rule, strict, side, msg, vars, scratch)?;
+        match outcome {
+            Ruled::Goes(mode) => strict = mode,
+            Ruled::Ends(verdict) => return Ok(verdict),
+        }
+    }
+    Ok(Verdict::Pass)
+}
+
+/// Runs the rules of requests on a head. Pass leaves the edited head; Reply would leave a reply in its own array, without a field that
+/// speaks of the connection; Fail leaves the head in front of the step that failed.
+pub fn run_request<'c>(
+    alloc: Global,
+    searchers: &mut Searchers<'c>,
+    rules: &'c Rules,
+    msg: &mut Arena,
+    vars: &mut Vars,
+    scratch: &mut Scratch,
+    reply: &mut Arena,
+) -> Result<Verdict, OutOfMemory>
+    requires scratch { IsScratch msg.old.size scratch.old }
+    requires head { IsHead msg.old.blocks }
+    requires reply_size { reply.old.size ≡ msg.old.size }
+    requires no_reply { reply.old.blocks ≡ [] }
+    requires valid { AreRun directions.Request rules.now }
+    ensures runs { IfOk result (λ verdict. (head : Head) → msg.old.blocks ≡ head_blocks head → Leaves sides.Request (spec.rules_of msg.old.size rules.now (request_env vars.old head)) verdict msg.new.blocks vars.new reply.new.blocks) }
+    ensures succeeds { rules_hold_pattern rules.now ≡ false → IsOk result }
+    ensures size { msg.new.size ≡ msg.old.size }
+    ensures scratch { IsScratch msg.old.size scratch.new }
+    ensures reply_size { reply.new.size ≡ reply.old.size }
+{
+    run_rules(alloc, searchers, rules, Side::Request, msg, vars, scratch)
+}
+
+/// Runs the rules of responses on a head, which answers a request of this method. As `run_request`.
+pub fn run_response<'c>(
+    alloc: Global,
+    searchers: &mut Searchers<'c>,
+    rules: &'c Rules,
+    method: &[u8],
+    msg: &mut Arena,
+    vars: &mut Vars,
+    scratch: &mut Scratch,
+    reply: &mut Arena,
+) -> Result<Verdict, OutOfMemory>
+    requires scratch { IsScratch msg.old.size scratch.old }
+    requires head { IsHead msg.old.blocks }
+    requires reply_size { reply.old.size ≡ msg.old.size }
+    requires no_reply { reply.old.blocks ≡ [] }
+    requires valid { AreRun directions.Response rules.now }
+    ensures runs { IfOk result (λ verdict. (head : Head) → msg.old.blocks ≡ head_blocks head → Leaves (sides.Answer method.entry) (spec.rules_of msg.old.size rules.now (response_env vars.old method.now head)) verdict msg.new.blocks vars.new reply.new.blocks) }
+    ensures succeeds { rules_hold_pattern rules.now ≡ false → IsOk result }
+    ensures size { msg.new.size ≡ msg.old.size }
+    ensures scratch { IsScratch msg.old.size scratch.new }
+    ensures reply_size { reply.new.size ≡ reply.old.size }
+{
+    run_rules(
+        alloc,
+        searchers,
+        rules,
+        Side::Answer(method),
+        msg,
+        vars,
+        scratch,
+    )
+}
+
+/// Runs the rules on what the client is sent: on a head, with a body or none behind it, that answers a request of this method, which is
+/// empty where no head was read. They neither reply nor deny.
+pub fn run_after<'c>(
+    alloc: Global,
+    searchers: &mut Searchers<'c>,
+    rules: &'c Rules,
+    method: &[u8],
+    msg: &mut Arena,
+    vars: &mut Vars,
+    scratch: &mut Scratch,
+) -> Result<Verdict, OutOfMemory>
+    requires scratch { IsScratch msg.old.size scratch.old }
+    requires front { IsFront msg.old.blocks }
+    requires valid { AreRun directions.After rules.now }
+    ensures runs { IfOk result (λ verdict. (head : Head) (body : List ℕ) → msg.old.blocks ≡ front_blocks head body → Leaves (sides.Answer method.entry) (spec.rules_of msg.old.size rules.now (record { is_request = false; head = head; body = body; method = method.now; vars = vars.old })) verdict msg.new.blocks vars.new []) }
+    ensures succeeds { rules_hold_pattern rules.now ≡ false → IsOk result }
+    ensures size { msg.new.size ≡ msg.old.size }
+    ensures scratch { IsScratch msg.old.size scratch.new }
+{
+    run_rules(
+        alloc,
+        searchers,
+        rules,
+        Side::Answer(method),
+        msg,
+        vars,
+        scratch,
+    )
 }

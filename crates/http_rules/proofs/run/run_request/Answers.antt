@@ -1,26 +1,26 @@
-use Rattle.std.proofs.Common.{◌∙◌, refl}
-use Rattle.http_rules.specs.Valid.{IsGoodAction}
-use Rattle.http_rules.proofs.Runs.{at_place, begins, goes_on, stops, fails}
+use Rattle.std.specs.Prelude.{◌≡◌, ℕ, List, [], false}
+use Rattle.http_model.specs.Head.{Head, head_blocks, front_blocks}
+use Rattle.rule_actions.specs.Given.{Env}
+use Rattle.rule_actions.specs.Outcome.{IsAt}
+use Rattle.http_rules.specs.declared.verdict.Verdict.{Verdict}
+use Rattle.http_rules.specs.Run.{Leaves}
+use Rattle.std.proofs.lemmas.Result.{IfOk-weaker}
+use Rattle.session_model.specs.Env.{request_env, response_env}
+use Rattle.rule_model.specs.declared.names.Direction.TheVariants as directions
+use Rattle.rule_actions.specs.declared.side.Side.TheVariants as sides
+use Rattle.http_rules.specs.Rules.{rules_of}
+use Rattle.http_rules.proofs.Runs.{on_request, on_answer, on_sent, head_front, good_actions, no_reply}
 use Rattle.http_rules.proofs.run.run_request.Goals as goal
 
-pub run_rule-requires-clause-valid : goal.run_rule-requires-clause-valid
-run_rule-requires-clause-valid c = at_place (λ rule. IsGoodAction rule.action) c.args.rules.now c.loop-at.at c.get.result.now c.get.ensures c.requires.valid
+pub run_rules-requires-clause-front : goal.run_rules-requires-clause-front
+run_rules-requires-clause-front c = head_front c.args.msg.now.blocks c.requires.head
 
-pub returns-in-Stop-clause-runs : goal.returns-in-Stop-clause-runs
-returns-in-Stop-clause-runs c =
-    λ head is. stops c.args.limits c.args.rules.now head c.loop-at.at c.get.result.now c.loop-at.msg.blocks c.run_rule.new.msg.blocks c.get.ensures c.in-Stop.ensures.step (c.loop-at.invariant.reached head is)
+pub run_rules-requires-clause-good : goal.run_rules-requires-clause-good
+run_rules-requires-clause-good c = good_actions directions.Request c.args.rules.now c.requires.valid.valid.each
 
-pub returns-in-Failed-clause-runs : goal.returns-in-Failed-clause-runs
-returns-in-Failed-clause-runs c =
-    λ head is. fails c.args.limits c.args.rules.now head c.loop-at.at c.get.result.now c.in-Failed.why c.loop-at.msg.blocks c.run_rule.new.msg.blocks c.get.ensures c.in-Failed.ensures.step (c.loop-at.invariant.reached head is)
-
-pub loop-at-init : goal.loop-at-init
-loop-at-init c =
-    record { reached = λ head is. begins c.args.limits c.args.rules.now head c.args.msg.now.blocks is; size = refl }
-
-pub loop-at-preserved : goal.loop-at-preserved
-loop-at-preserved c =
-    record {
-      reached = λ head is. goes_on c.args.limits c.args.rules.now head c.loop-at.at c.get.result.now c.loop-at.msg.blocks c.run_rule.new.msg.blocks c.get.ensures c.in-Next.ensures.step (c.loop-at.invariant.reached head is);
-      size = c.run_rule.ensures.size ∙ c.loop-at.invariant.size;
-    }
+pub returns-clause-runs : goal.returns-clause-runs
+returns-clause-runs c = 
+    IfOk-weaker c.run_rules.result
+    (λ (verdict : Verdict). (env : Env) → IsAt sides.Request env c.args.msg.now.blocks c.args.vars.now → Leaves sides.Request (rules_of c.args.msg.now.size c.args.rules.now env) verdict c.run_rules.new.msg.blocks c.run_rules.new.vars [])
+    (λ (verdict : Verdict). (head : Head) → c.args.msg.now.blocks ≡ head_blocks head → Leaves sides.Request (rules_of c.args.msg.now.size c.args.rules.now (request_env c.args.vars.now head)) verdict c.run_rules.new.msg.blocks c.run_rules.new.vars c.args.reply.now.blocks)
+    (λ verdict h. λ head is. no_reply sides.Request (rules_of c.args.msg.now.size c.args.rules.now (request_env c.args.vars.now head)) verdict c.run_rules.new.msg.blocks c.run_rules.new.vars c.args.reply.now.blocks c.requires.no_reply (h (request_env c.args.vars.now head) (on_request head c.args.msg.now.blocks c.args.vars.now is))) c.run_rules.ensures.leaves

@@ -1,0 +1,24 @@
+//! What rules come to.
+use http_model::Why;
+
+/// What rules make of a message.
+#[derive(Clone, Copy, Debug, PartialEq, Eq)]
+pub enum Verdict {
+    /// The edited message goes on.
+    Pass,
+    /// A reply is sent, which stands in an array of its own.
+    Reply,
+    /// A refusal with this code is sent.
+    Deny(u16),
+    /// A rule failed: the refusal 500 is sent.
+    Fail(Why),
+}
+
+/// What one rule came to.
+#[derive(Clone, Copy, Debug, PartialEq, Eq)]
+pub(crate) enum Ruled {
+    /// The next one runs, under this mode.
+    Goes(bool),
+    /// No other one does.
+    Ends(Verdict),
+}

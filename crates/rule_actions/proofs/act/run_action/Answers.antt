@@ -1,0 +1,20 @@
+use Rattle.rule_actions.proofs.Doing.{deleted, stated_anew, unset}
+use Rattle.rule_actions.proofs.act.run_action.Goals as goal
+
+pub returns-in-DelHeader-clause-came : goal.returns-in-DelHeader-clause-came
+returns-in-DelHeader-clause-came c =
+    λ env at.
+    deleted c.args.side env c.args.msg.now.size c.in-DelHeader.by c.args.action.now c.del_header.result c.done_by-in-DelHeader.result c.del_header.new.msg.blocks c.args.vars.now
+    c.in-DelHeader.is c.done_by-in-DelHeader.ensures (c.del_header.ensures.came c.args.side env c.args.vars.now at)
+
+pub returns-in-SetStatus-clause-came : goal.returns-in-SetStatus-clause-came
+returns-in-SetStatus-clause-came c =
+    λ env at.
+    stated_anew c.args.side env c.args.msg.now.size c.in-SetStatus.code c.in-SetStatus.reason c.args.action.now c.set_status.result c.done_by-in-SetStatus.result c.set_status.new.msg.blocks c.args.vars.now
+    c.in-SetStatus.is c.done_by-in-SetStatus.ensures (c.set_status.ensures.came c.args.side env c.args.vars.now at)
+
+pub returns-in-UnsetVar-clause-came : goal.returns-in-UnsetVar-clause-came
+returns-in-UnsetVar-clause-came c =
+    λ env at.
+    unset c.args.side env c.args.msg.now.size c.in-UnsetVar.scope c.in-UnsetVar.name c.as_slice-in-UnsetVar.result.now c.args.action.now c.unset_var.result c.done_by-in-UnsetVar.result c.args.msg.now.blocks c.unset_var.new.vars
+    c.in-UnsetVar.is c.done_by-in-UnsetVar.ensures c.as_slice-in-UnsetVar.ensures (c.unset_var.ensures c.args.side env c.args.msg.now.blocks at)

@@ -1,0 +1,173 @@
+//! What one action makes of a message.
+ghost use Rattle.std.specs.Prelude.{◌≡◌, [], false, true, IsOk, IfOk};
+ghost use Rattle.rule_model.specs.Valid.{IsGoodAction};
+ghost use Rattle.rule_model.specs.Patterns.{action_holds_pattern};
+ghost use Rattle.rule_actions.specs.Given.{Env};
+ghost use Rattle.rule_actions.specs.Acts.{act, is_built};
+ghost use Rattle.rule_actions.specs.Outcome.{IsScratch, IsAt, IsFront};
+
+use crate::making::{add_header, set_header, set_method, set_part, set_query, set_status};
+use crate::part::TargetPart;
+use crate::removal::del_header;
+use crate::scratch::Scratch;
+use crate::side::Side;
+use crate::stepped::Stepped;
+use crate::variables::{set_var, unset_var};
+use http_model::Why;
+use htx_arena::Arena;
+use px_expr::Searchers;
+use px_sample::{OutOfMemory, Vars};
+use rule_model::Action;
+use std::alloc::Global;
+
+/// What an action made of a message.
+#[derive(Clone, Copy, Debug, PartialEq, Eq)]
+pub enum Acted {
+    /// The next rule may run.
+    Next,
+    /// No later rule runs.
+    Stop,
+    /// A reply stands in its array.
+    Reply,
+    /// A refusal with this code.
+    Deny(u16),
+    /// A step failed, and the message is as it was before that step.
+    Failed(Why),
+}
+
+ghost use Rattle.rule_actions.specs.Does.{Does, acted_by};
+
+/// What a step means for its action.
+fn done_by(step: Stepped) -> Acted
+    ensures { result ≡ acted_by step }
+{
+    match step {
+        Stepped::Done => Acted::Next,
+        Stepped::Failed(why) => Acted::Failed(why),
+    }
+}
+
+/// Runs an action on a message.
+#[tactic(auto, using(crate::proofs::Doing::one), unfolding(crate::specs::Acts::act, crate::specs::Steps::steps_of))]
+pub fn run_action<'c>(
+    alloc: Global,
+    searchers: &mut Searchers<'c>,
+    action: &'c Action,
+    side: Side<'_>,
+    msg: &mut Arena,
+    vars: &mut Vars,
+    scratch: &mut Scratch,
+) -> Result<Acted, OutOfMemory>
+    requires scratch { IsScratch msg.old.size scratch.old }
+    requires front { IsFront msg.old.blocks }
+    requires valid { IsGoodAction action.now }
+    requires built { is_built action.now ≡ true }
+    ensures came { IfOk result (λ done. (env : Env) → IsAt side.entry env msg.old.blocks vars.old
+        → Does side.entry env (act msg.old.size action.now env) done msg.new.blocks vars.new []) }
+    ensures succeeds { action_holds_pattern action.now ≡ false → IsOk result }
+    ensures size { msg.new.size ≡ msg.old.size }
+    ensures scratch { IsScratch msg.old.size scratch.new }
+{
+    match action {
+        Action::Allow => Ok(Acted::Stop),
+        Action::Deny(code) => Ok(Acted::Deny(*code)),
+        Action::AddHeader(name, fmt) => {
+            let step = add_header(
+                alloc,
+                searchers,
+                name.as_slice(),
+                fmt,
+                side,
+                msg,
+                vars,
+                scratch,
+            )?;
+            Ok(done_by(step))
+        }
+        Action::SetHeader(name, fmt) => {
+            let step = set_header(
+                alloc,
+                searchers,
+                name.as_slice(),
+                fmt,
+                side,
+                msg,
+                vars,
+                scratch,
+            )?;
+            Ok(done_by(step))
+        }
+        Action::DelHeader(by) => Ok(done_by(del_header(by, msg))),
+        Action::SetMethod(fmt) => {
+            let step = set_method(alloc, searchers, fmt, side, msg, vars, scratch)?;
+            Ok(done_by(step))
+        }
+        Action::SetPath(fmt) => {
+            let step = set_part(
+                alloc,
+                searchers,
+                TargetPart::Path,
+                fmt,
+                side,
+                msg,
+                vars,
+                scratch,
+            )?;
+            Ok(done_by(step))
+        }
+        Action::SetPathq(fmt) => {
+            let step = set_part(
+                alloc,
+                searchers,
+                TargetPart::Pathq,
+                fmt,
+                side,
+                msg,
+                vars,
+                scratch,
+            )?;
+            Ok(done_by(step))
+        }
+        Action::SetUri(fmt) => {
+            let step = set_part(
+                alloc,
+                searchers,
+                TargetPart::Uri,
+                fmt,
+                side,
+                msg,
+                vars,
+                scratch,
+            )?;
+            Ok(done_by(step))
+        }
+        Action::SetQuery(fmt) => {
+            let step = set_query(alloc, searchers, fmt, side, msg, vars, scratch)?;
+            Ok(done_by(step))
+        }
+        Action::SetStatus(code, reason) => Ok(done_by(set_status(*code, reason, msg, scratch))),
+        Action::SetVar(scope, name, expr) => {
+            let step = set_var(
+                alloc,
+                searchers,
+                *scope,
+                name.as_slice(),
+                expr,
+                side,
+                msg,
+                vars,
+                scratch,
+            )?;
+            Ok(done_by(step))
+        }
+        Action::UnsetVar(scope, name) => Ok(done_by(unset_var(*scope, name.as_slice(), vars))),
+        Action::StrictMode(_) => Ok(Acted::Next),
+        Action::ReplaceHeader(_, _, _)
+        | Action::ReplaceValue(_, _, _)
+        | Action::ReplacePath(_, _)
+        | Action::ReplacePathq(_, _)
+        | Action::ReplaceUri(_, _)
+        | Action::Redirect { .. }
+        | Action::Return { .. } => unreachable!(),
+    }
+}

@@ -1,0 +1,24 @@
+//! What one rule makes of a message in an array: each action is a list of steps, and a step that fails leaves what stood in
+//! front of it.
+#![tactic(auto)]
+
+mod act;
+mod fields;
+mod line;
+mod making;
+mod part;
+mod removal;
+mod scratch;
+mod side;
+mod status;
+mod stepped;
+mod target;
+mod texts;
+mod variables;
+
+pub use act::{Acted, run_action};
+pub use part::TargetPart;
+pub use scratch::Scratch;
+pub use side::Side;
+pub use stepped::Stepped;
+pub use texts::is_met;

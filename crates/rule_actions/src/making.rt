@@ -1,0 +1,199 @@
+//! Actions by the text of a format.
+ghost use Rattle.std.specs.Prelude.{◌≡◌, ◌≤◌, false, length, IsOk, IfOk};
+ghost use Rattle.http_model.specs.Sizes.{most_name};
+ghost use Rattle.log_format.specs.Format as formats;
+ghost use Rattle.rule_actions.specs.Given.{Env};
+ghost use Rattle.rule_actions.specs.Steps.{add_step, set_step, method_step, part_step, query_step};
+ghost use Rattle.rule_actions.specs.Lines.{restated, reason_by};
+ghost use Rattle.rule_actions.specs.declared.side.Side.{Side as On};
+ghost use Rattle.px_sample.specs.Variables.{Variables};
+ghost use Rattle.rule_actions.specs.Outcome.{IsScratch, IsAt, Came, IsFront};
+
+use crate::fields::{add_made, set_made};
+use crate::line::{put_method, put_part, put_query};
+use crate::part::TargetPart;
+use crate::scratch::Scratch;
+use crate::side::Side;
+use crate::status::put_status;
+use crate::stepped::Stepped;
+use crate::texts::write_text;
+use http_model::Why;
+use htx_arena::Arena;
+use log_format::Fmt;
+use px_expr::{Searchers, Text};
+use px_reply::reason_of;
+use px_sample::{OutOfMemory, Vars};
+use std::alloc::Global;
+
+/// `add-header`.
+pub(crate) fn add_header<'c>(
+    alloc: Global,
+    searchers: &mut Searchers<'c>,
+    name: &[u8],
+    fmt: &'c Fmt,
+    side: Side<'_>,
+    msg: &mut Arena,
+    vars: &Vars,
+    scratch: &mut Scratch,
+) -> Result<Stepped, OutOfMemory>
+    requires scratch { IsScratch msg.old.size scratch.old }
+    requires front { IsFront msg.old.blocks }
+    requires named { 1 ≤ length name.now }
+    requires short { length name.now ≤ most_name }
+    ensures came { IfOk result (λ step. (env : Env) → IsAt side.entry env msg.old.blocks vars.now
+        → Came side.entry env (add_step msg.old.size name.now fmt.now env) step msg.new.blocks vars.now) }
+    ensures succeeds { formats.holds_pattern fmt.now ≡ false → IsOk result }
+    ensures size { msg.new.size ≡ msg.old.size }
+    ensures scratch { IsScratch msg.old.size scratch.new }
+{
+    if !write_text(alloc, searchers, fmt, side, msg, vars, scratch)? {
+        return Ok(Stepped::Failed(Why::Bytes));
+    }
+    Ok(add_made(msg, name, scratch.text.bytes()))
+}
+
+/// `set-header`.
+pub(crate) fn set_header<'c>(
+    alloc: Global,
+    searchers: &mut Searchers<'c>,
+    name: &[u8],
+    fmt: &'c Fmt,
+    side: Side<'_>,
+    msg: &mut Arena,
+    vars: &Vars,
+    scratch: &mut Scratch,
+) -> Result<Stepped, OutOfMemory>
+    requires scratch { IsScratch msg.old.size scratch.old }
+    requires front { IsFront msg.old.blocks }
+    requires named { 1 ≤ length name.now }
+    requires short { length name.now ≤ most_name }
+    ensures came { IfOk result (λ step. (env : Env) → IsAt side.entry env msg.old.blocks vars.now
+        → Came side.entry env (set_step msg.old.size name.now fmt.now env) step msg.new.blocks vars.now) }
+    ensures succeeds { formats.holds_pattern fmt.now ≡ false → IsOk result }
+    ensures size { msg.new.size ≡ msg.old.size }
+    ensures scratch { IsScratch msg.old.size scratch.new }
+{
+    // Nothing goes before the text is made.
+    if !write_text(alloc, searchers, fmt, side, msg, vars, scratch)? {
+        return Ok(Stepped::Failed(Why::Bytes));
+    }
+    Ok(set_made(msg, name, scratch.text.bytes()))
+}
+
+/// `set-method`.
+pub(crate) fn set_method<'c>(
+    alloc: Global,
+    searchers: &mut Searchers<'c>,
+    fmt: &'c Fmt,
+    side: Side<'_>,
+    msg: &mut Arena,
+    vars: &Vars,
+    scratch: &mut Scratch,
+) -> Result<Stepped, OutOfMemory>
+    requires scratch { IsScratch msg.old.size scratch.old }
+    requires front { IsFront msg.old.blocks }
+    ensures came { IfOk result (λ step. (env : Env) → IsAt side.entry env msg.old.blocks vars.now
+        → Came side.entry env (method_step msg.old.size fmt.now env) step msg.new.blocks vars.now) }
+    ensures succeeds { formats.holds_pattern fmt.now ≡ false → IsOk result }
+    ensures size { msg.new.size ≡ msg.old.size }
+    ensures scratch { IsScratch msg.old.size scratch.new }
+{
+    if !write_text(alloc, searchers, fmt, side, msg, vars, scratch)? {
+        return Ok(Stepped::Failed(Why::Bytes));
+    }
+    let Scratch {
+        text,
+        buf,
+        spare,
+        ..
+    } = scratch;
+    Ok(put_method(msg, text.bytes(), buf, spare))
+}
+
+/// `set-path`, `set-pathq` and `set-uri`.
+pub(crate) fn set_part<'c>(
+    alloc: Global,
+    searchers: &mut Searchers<'c>,
+    part: TargetPart,
+    fmt: &'c Fmt,
+    side: Side<'_>,
+    msg: &mut Arena,
+    vars: &Vars,
+    scratch: &mut Scratch,
+) -> Result<Stepped, OutOfMemory>
+    requires scratch { IsScratch msg.old.size scratch.old }
+    requires front { IsFront msg.old.blocks }
+    ensures came { IfOk result (λ step. (env : Env) → IsAt side.entry env msg.old.blocks vars.now
+        → Came side.entry env (part_step msg.old.size part fmt.now env) step msg.new.blocks vars.now) }
+    ensures succeeds { formats.holds_pattern fmt.now ≡ false → IsOk result }
+    ensures size { msg.new.size ≡ msg.old.size }
+    ensures scratch { IsScratch msg.old.size scratch.new }
+{
+    if !write_text(alloc, searchers, fmt, side, msg, vars, scratch)? {
+        return Ok(Stepped::Failed(Why::Bytes));
+    }
+    let Scratch {
+        text,
+        made,
+        buf,
+        spare,
+    } = scratch;
+    Ok(put_part(msg, part, text.bytes(), made, buf, spare))
+}
+
+/// `set-query`.
+pub(crate) fn set_query<'c>(
+    alloc: Global,
+    searchers: &mut Searchers<'c>,
+    fmt: &'c Fmt,
+    side: Side<'_>,
+    msg: &mut Arena,
+    vars: &Vars,
+    scratch: &mut Scratch,
+) -> Result<Stepped, OutOfMemory>
+    requires scratch { IsScratch msg.old.size scratch.old }
+    requires front { IsFront msg.old.blocks }
+    ensures came { IfOk result (λ step. (env : Env) → IsAt side.entry env msg.old.blocks vars.now
+        → Came side.entry env (query_step msg.old.size fmt.now env) step msg.new.blocks vars.now) }
+    ensures succeeds { formats.holds_pattern fmt.now ≡ false → IsOk result }
+    ensures size { msg.new.size ≡ msg.old.size }
+    ensures scratch { IsScratch msg.old.size scratch.new }
+{
+    if !write_text(alloc, searchers, fmt, side, msg, vars, scratch)? {
+        return Ok(Stepped::Failed(Why::Bytes));
+    }
+    let Scratch {
+        text,
+        made,
+        buf,
+        spare,
+    } = scratch;
+    Ok(put_query(msg, text.bytes(), made, buf, spare))
+}
+
+/// The reason that is given, or the table's.
+fn reason_by(code: u16, reason: &Option<Text>) -> &[u8]
+    ensures { result.now ≡ reason_by code reason.now }
+{
+    match reason {
+        Some(reason) => reason.as_slice(),
+        None => reason_of(code),
+    }
+}
+
+/// `set-status`.
+pub(crate) fn set_status(
+    code: u16,
+    reason: &Option<Text>,
+    msg: &mut Arena,
+    scratch: &mut Scratch,
+) -> Stepped
+    requires scratch { IsScratch msg.old.size scratch.old }
+    requires front { IsFront msg.old.blocks }
+    ensures came { (side : On) (env : Env) (vars : Variables) → IsAt side env msg.old.blocks vars
+        → Came side env (restated msg.old.size env code (reason_by code reason.now)) result msg.new.blocks vars }
+    ensures size { msg.new.size ≡ msg.old.size }
+    ensures scratch { IsScratch msg.old.size scratch.new }
+{
+    put_status(msg, code, reason_by(code, reason), &mut scratch.buf)
+}

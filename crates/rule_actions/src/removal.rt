@@ -1,0 +1,42 @@
+//! `del-header` by a name or a part of one.
+ghost use Rattle.std.specs.Prelude.{◌≡◌, false, not, filter};
+ghost use Rattle.header_ops.specs.Matching.{is_field_matching};
+ghost use Rattle.px_sample.specs.Variables.{Variables};
+ghost use Rattle.rule_model.specs.Patterns.{del_holds_pattern};
+ghost use Rattle.rule_actions.specs.declared.side.Side.{Side as On};
+ghost use Rattle.rule_actions.specs.Given.{Env};
+ghost use Rattle.rule_actions.specs.Edits.{edited};
+ghost use Rattle.rule_actions.specs.Steps.{del_step};
+ghost use Rattle.rule_actions.specs.Outcome.{IsAt, Came};
+
+use crate::stepped::Stepped;
+use header_ops::{NameMatch, remove_where};
+use htx_arena::Arena;
+use rule_model::DelBy;
+
+/// Removes the fields whose names are meant. Those that frame the message or speak of its connection stay.
+fn remove_meant(msg: &mut Arena, which: &NameMatch<'_>) -> Stepped
+    ensures came { (side : On) (env : Env) (vars : Variables) → IsAt side env msg.old.blocks vars
+        → Came side env (edited msg.old.size env (record { line = env.head.line; fields = filter (λ field. not (is_field_matching which.now field)) env.head.fields })) result msg.new.blocks vars }
+    ensures size { msg.new.size ≡ msg.old.size }
+{
+    remove_where(msg, which);
+    let _room = msg.room();
+    Stepped::Done
+}
+
+/// `del-header`.
+pub(crate) fn del_header(by: &DelBy, msg: &mut Arena) -> Stepped
+    requires { del_holds_pattern by.now ≡ false }
+    ensures came { (side : On) (env : Env) (vars : Variables) → IsAt side env msg.old.blocks vars
+        → Came side env (del_step msg.old.size by.now env) result msg.new.blocks vars }
+    ensures size { msg.new.size ≡ msg.old.size }
+{
+    match by {
+        DelBy::Str(text) => remove_meant(msg, &NameMatch::Str(text.as_slice())),
+        DelBy::Beg(text) => remove_meant(msg, &NameMatch::Beg(text.as_slice())),
+        DelBy::End(text) => remove_meant(msg, &NameMatch::End(text.as_slice())),
+        DelBy::Sub(text) => remove_meant(msg, &NameMatch::Sub(text.as_slice())),
+        DelBy::Reg(_) => unreachable!(),
+    }
+}

@@ -1,0 +1,7 @@
+//! Which message rules run on.
+/// A request, or what answers a request of this method.
+#[derive(Clone, Copy, Debug)]
+pub enum Side<'a> {
+    Request,
+    Answer(&'a [u8]),
+}

@@ -1,0 +1,9 @@
+//! What a step came to.
+use http_model::Why;
+
+/// A step was done, or failed and changed nothing.
+#[derive(Clone, Copy, Debug, PartialEq, Eq)]
+pub enum Stepped {
+    Done,
+    Failed(Why),
+}

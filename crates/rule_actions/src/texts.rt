@@ -1,0 +1,106 @@
+//! The texts of formats, the samples of expressions and the truth of conditions, on the message that rules run on.
+ghost use Rattle.std.specs.Prelude.{◌≡◌, false, IsOk, IfOk};
+ghost use Rattle.log_format.specs.Format as formats;
+ghost use Rattle.px_expr.specs.Expr as exprs;
+ghost use Rattle.acl_eval.specs.Condition as conditions;
+ghost use Rattle.px_sample.specs.Sample.{value_in};
+ghost use Rattle.rule_actions.specs.Given.{Env, text_on, sample_on, holds_on};
+ghost use Rattle.rule_actions.specs.Outcome.{IsScratch, IsAt, IsMade};
+
+use crate::scratch::Scratch;
+use crate::side::Side;
+use acl_eval::{Cond, holds};
+use http_fetch::{ReqEnv, ResEnv};
+use htx_arena::Arena;
+use log_format::{Fmt, format};
+use px_expr::{Expr, Searchers, eval};
+use px_sample::{OutOfMemory, Sample, Vars};
+use std::alloc::Global;
+
+/// Writes the text of a format into `scratch.text`; false where it is longer than the array.
+pub(crate) fn write_text<'c>(
+    alloc: Global,
+    searchers: &mut Searchers<'c>,
+    fmt: &'c Fmt,
+    side: Side<'_>,
+    msg: &Arena,
+    vars: &Vars,
+    scratch: &mut Scratch,
+) -> Result<bool, OutOfMemory>
+    requires { IsScratch msg.now.size scratch.old }
+    ensures made { IfOk result (λ fits. (env : Env) → IsAt side.entry env msg.now.blocks vars.now → IsMade msg.now.size (text_on msg.now.size env fmt.now) fits scratch.new.text.bytes) }
+    ensures succeeds { formats.holds_pattern fmt.now ≡ false → IsOk result }
+    ensures scratch { IsScratch msg.now.size scratch.new }
+{
+    let Scratch {
+        text,
+        buf,
+        spare,
+        ..
+    } = scratch;
+    match side {
+        Side::Request => format(
+            alloc,
+            searchers,
+            fmt,
+            &ReqEnv::new(msg, vars),
+            text,
+            buf,
+            spare,
+        ),
+        Side::Answer(method) => {
+            let env = ResEnv::new(msg, method, vars);
+            format(alloc, searchers, fmt, &env, text, buf, spare)
+        }
+    }
+}
+
+/// The sample of an expression; its bytes stand in `scratch.buf`.
+pub(crate) fn sample_of<'c>(
+    alloc: Global,
+    searchers: &mut Searchers<'c>,
+    expr: &'c Expr,
+    side: Side<'_>,
+    msg: &Arena,
+    vars: &Vars,
+    scratch: &mut Scratch,
+) -> Result<Sample, OutOfMemory>
+    requires { IsScratch msg.now.size scratch.old }
+    ensures value { IfOk result (λ made. (env : Env) → IsAt side.entry env msg.now.blocks vars.now → value_in made scratch.new.buf.bytes ≡ sample_on msg.now.size env expr.now) }
+    ensures succeeds { exprs.holds_pattern expr.now ≡ false → IsOk result }
+    ensures scratch { IsScratch msg.now.size scratch.new }
+{
+    let Scratch { buf, spare, .. } = scratch;
+    match side {
+        Side::Request => eval(alloc, searchers, expr, &ReqEnv::new(msg, vars), buf, spare),
+        Side::Answer(method) => {
+            let env = ResEnv::new(msg, method, vars);
+            eval(alloc, searchers, expr, &env, buf, spare)
+        }
+    }
+}
+
+/// Whether a condition holds.
+pub fn is_met<'c>(
+    alloc: Global,
+    searchers: &mut Searchers<'c>,
+    cond: &'c Cond,
+    side: Side<'_>,
+    msg: &Arena,
+    vars: &Vars,
+    scratch: &mut Scratch,
+) -> Result<bool, OutOfMemory>
+    requires { IsScratch msg.now.size scratch.old }
+    ensures truth { IfOk result (λ truth. (env : Env) → IsAt side.entry env msg.now.blocks vars.now → truth ≡ holds_on msg.now.size env cond.now) }
+    ensures succeeds { conditions.holds_pattern cond.now ≡ false → IsOk result }
+    ensures scratch { IsScratch msg.now.size scratch.new }
+{
+    let Scratch { buf, spare, .. } = scratch;
+    match side {
+        Side::Request => holds(alloc, searchers, cond, &ReqEnv::new(msg, vars), buf, spare),
+        Side::Answer(method) => {
+            let env = ResEnv::new(msg, method, vars);
+            holds(alloc, searchers, cond, &env, buf, spare)
+        }
+    }
+}

@@ -1,0 +1,50 @@
+//! Actions on variables.
+ghost use Rattle.std.specs.Prelude.{◌≡◌, false, IsOk, IfOk};
+ghost use Rattle.px_expr.specs.Expr as exprs;
+ghost use Rattle.rule_actions.specs.Given.{Env};
+ghost use Rattle.rule_actions.specs.Steps.{set_var_step, unset_var_step};
+ghost use Rattle.rule_actions.specs.Outcome.{IsScratch, IsAt, Came};
+ghost use Rattle.rule_actions.specs.declared.side.Side.{Side as On};
+ghost use Rattle.htx_model.specs.Block.{Block};
+ghost use Rattle.std.specs.Prelude.{List};
+
+use crate::scratch::Scratch;
+use crate::side::Side;
+use crate::stepped::Stepped;
+use crate::texts::sample_of;
+use htx_arena::Arena;
+use px_expr::{Expr, Searchers};
+use px_sample::{OutOfMemory, Scope, Vars};
+use std::alloc::Global;
+
+/// `set-var`.
+pub(crate) fn set_var<'c>(
+    alloc: Global,
+    searchers: &mut Searchers<'c>,
+    scope: Scope,
+    name: &[u8],
+    expr: &'c Expr,
+    side: Side<'_>,
+    msg: &Arena,
+    vars: &mut Vars,
+    scratch: &mut Scratch,
+) -> Result<Stepped, OutOfMemory>
+    requires { IsScratch msg.now.size scratch.old }
+    ensures came { IfOk result (λ step. (env : Env) → IsAt side.entry env msg.now.blocks vars.old
+        → Came side.entry env (set_var_step msg.now.size scope name.now expr.now env) step msg.now.blocks vars.new) }
+    ensures succeeds { exprs.holds_pattern expr.now ≡ false → IsOk result }
+    ensures scratch { IsScratch msg.now.size scratch.new }
+{
+    let made = sample_of(alloc, searchers, expr, side, msg, vars, scratch)?;
+    vars.set(scope, name, made, &scratch.buf);
+    Ok(Stepped::Done)
+}
+
+/// `unset-var`.
+pub(crate) fn unset_var(scope: Scope, name: &[u8], vars: &mut Vars) -> Stepped
+    ensures { (side : On) (env : Env) (blocks : List Block) → IsAt side env blocks vars.old
+        → Came side env (unset_var_step scope name.now env) result blocks vars.new }
+{
+    vars.unset(scope, name);
+    Stepped::Done
+}
