@@ -33,8 +33,8 @@ fn magnitude(digits: &[u8]) -> Option<u64>
     Some(value)
 }
 
-/// The number that a text writes: an optional `-` and digits.
-fn number_of_bytes(text: &[u8]) -> Option<i64>
+/// The number that a text writes: an optional `-` and digits, within 64 bits. None for any other text.
+pub fn number_of_bytes(text: &[u8]) -> Option<i64>
     ensures { result ≡ number_of_text text.now }
 {
     if text.first() == Some(&b'-') {

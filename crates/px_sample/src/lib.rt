@@ -19,7 +19,7 @@ mod text;
 mod vars;
 
 pub use buf::Buf;
-pub use cast::{into_text, number_in, truth_in};
+pub use cast::{into_text, number_in, number_of_bytes, truth_in};
 pub use env::Env;
 pub use fetch::Fetch;
 pub use htx_model::OutOfMemory;

@@ -1,0 +1,241 @@
+//! Conditions: groups of terms behind `if` or `unless`.
+ghost use Rattle.std.specs.Prelude.{◌≡◌, ◌+◌, ◌<◌, ◌≤◌, length, IfOk};
+ghost use Rattle.cfg_expr.specs.Faults.{Gives, ReadsText};
+ghost use Rattle.cfg_acl.specs.Conditions.{is_or, is_open, braces, tests_at, negated_or_not, marked, term_at, with_group, with_word, groups_of, condition_of, rule_end};
+
+use crate::copies::move_on;
+use crate::names::named_tests;
+use crate::test::read_test;
+use crate::{AclList, WordsLeft};
+use acl_eval::{Cond, GroupList, Term, TermList, TestList};
+use cfg_expr::{Side, TextFault, TextKind};
+use px_pattern::Patterns;
+use std::alloc::Global;
+
+#[tactic(auto, unfolding(crate::specs::Conditions::is_or))]
+fn is_or(word: &[u8]) -> bool
+    ensures { result ≡ is_or word.now }
+{
+    word == b"or".as_slice() || word == b"||".as_slice()
+}
+
+#[tactic(auto, unfolding(crate::specs::Conditions::is_open))]
+fn is_open(word: &[u8]) -> bool
+    ensures { result ≡ is_open word.now }
+{
+    word == b"{".as_slice()
+}
+
+/// The test in braces, and the words behind them.
+#[tactic(auto, unfolding(crate::specs::Conditions::braces))]
+fn read_braces<'w, P: Patterns>(
+    alloc: Global,
+    side: Side,
+    words: WordsLeft<'w>,
+    pats: &mut P,
+) -> Result<(TestList, WordsLeft<'w>), TextFault>
+    ensures { ReadsText (λ found. found) (braces side words.entry) (P.refusals pats.old) (P.refusals pats.new) (P.last_refused pats.new) result }
+{
+    let (inside, behind) = words.up_to_close();
+    let (criterion, inside) = inside.word_or(TextKind::Acl)?;
+    let written = read_test(alloc, Some(side), criterion, inside, pats)?;
+    let test = move_on(side, written)?;
+    let Some(behind) = behind else {
+        return Err(TextFault::Refused(TextKind::Acl));
+    };
+    let mut tests = TestList::new(alloc);
+    tests.push(test)?;
+    Ok((tests, behind))
+}
+
+/// The tests of a name or of braces, and the words behind.
+fn tests_at<'w, P: Patterns>(
+    alloc: Global,
+    side: Side,
+    lines: &AclList,
+    word: &[u8],
+    others: WordsLeft<'w>,
+    pats: &mut P,
+) -> Result<(TestList, WordsLeft<'w>), TextFault>
+    ensures { ReadsText (λ found. found) (tests_at side lines.now word.now others.entry) (P.refusals pats.old) (P.refusals pats.new) (P.last_refused pats.new) result }
+{
+    if is_open(word) {
+        return read_braces(alloc, side, others, pats);
+    }
+    let tests = named_tests(alloc, side, lines, word)?;
+    Ok((tests, others))
+}
+
+/// A term, of which it is known whether it is negated.
+fn term_of<'w, P: Patterns>(
+    alloc: Global,
+    not: bool,
+    side: Side,
+    lines: &AclList,
+    word: &[u8],
+    others: WordsLeft<'w>,
+    pats: &mut P,
+) -> Result<(Term, WordsLeft<'w>), TextFault>
+    ensures { ReadsText (λ found. found) (negated_or_not not side lines.now word.now others.entry) (P.refusals pats.old) (P.refusals pats.new) (P.last_refused pats.new) result }
+{
+    let (tests, others) = tests_at(alloc, side, lines, word, others, pats)?;
+    Ok((Term { not, tests }, others))
+}
+
+/// A negated term, of which the `!` is its own word or is joined to what follows.
+fn marked<'w, P: Patterns>(
+    alloc: Global,
+    side: Side,
+    lines: &AclList,
+    joined: &[u8],
+    others: WordsLeft<'w>,
+    pats: &mut P,
+) -> Result<(Term, WordsLeft<'w>), TextFault>
+    ensures { ReadsText (λ found. found) (marked side lines.now joined.now others.entry) (P.refusals pats.old) (P.refusals pats.new) (P.last_refused pats.new) result }
+{
+    if !joined.is_empty() {
+        return term_of(alloc, true, side, lines, joined, others, pats);
+    }
+    let (word, others) = others.word_or(TextKind::Acl)?;
+    term_of(alloc, true, side, lines, word, others, pats)
+}
+
+/// A term that begins with this word, and the words behind it.
+#[tactic(auto, unfolding(crate::specs::Conditions::term_at))]
+fn term_at<'w, P: Patterns>(
+    alloc: Global,
+    side: Side,
+    lines: &AclList,
+    word: &[u8],
+    others: WordsLeft<'w>,
+    pats: &mut P,
+) -> Result<(Term, WordsLeft<'w>), TextFault>
+    ensures { ReadsText (λ found. found) (term_at side lines.now word.now others.entry) (P.refusals pats.old) (P.refusals pats.new) (P.last_refused pats.new) result }
+{
+    match word.split_first() {
+        Some((b'!', joined)) => marked(alloc, side, lines, joined, others, pats),
+        _ => term_of(alloc, false, side, lines, word, others, pats),
+    }
+}
+
+/// The groups so far, and the terms of the group that goes on.
+#[derive(Drop)]
+struct Groups {
+    whole: GroupList,
+    terms: TermList,
+}
+
+impl Groups {
+    /// With one more group, which has a term.
+    fn closed(self) -> Result<GroupList, TextFault>
+        requires { length self.whole < 1000 }
+        ensures groups { Gives (λ groups. groups) result (with_group self.whole self.terms) }
+        ensures few { IfOk result (λ groups. length groups ≤ length self.whole + 1) }
+    {
+        let Groups { mut whole, terms } = self;
+        if terms.is_empty() {
+            return Err(TextFault::Refused(TextKind::Acl));
+        }
+        whole.push(terms)?;
+        Ok(whole)
+    }
+}
+
+/// With a word, and those behind it that its term takes.
+#[tactic(auto, unfolding(crate::specs::Conditions::with_word))]
+fn with_word<'w, P: Patterns>(
+    alloc: Global,
+    side: Side,
+    lines: &AclList,
+    so_far: Groups,
+    word: &[u8],
+    others: WordsLeft<'w>,
+    pats: &mut P,
+) -> Result<(Groups, WordsLeft<'w>), TextFault>
+    requires { length so_far.whole + length so_far.terms < 1000 }
+    ensures reads { ReadsText (λ found. (record { whole = found.0.whole; terms = found.0.terms }, found.1)) (with_word side lines.now (record { whole = so_far.whole; terms = so_far.terms }) word.now others.entry) (P.refusals pats.old) (P.refusals pats.new) (P.last_refused pats.new) result }
+    ensures few { IfOk result (λ found. length found.0.whole + length found.0.terms ≤ length so_far.whole + length so_far.terms + 1) }
+{
+    if is_or(word) {
+        let whole = so_far.closed()?;
+        let terms = TermList::new(alloc);
+        return Ok((Groups { whole, terms }, others));
+    }
+    let (term, behind) = term_at(alloc, side, lines, word, others, pats)?;
+    let Groups { whole, mut terms } = so_far;
+    terms.push(term)?;
+    Ok((Groups { whole, terms }, behind))
+}
+
+/// Groups of terms, which `or` or `||` joins.
+fn read_groups<P: Patterns>(
+    alloc: Global,
+    side: Side,
+    lines: &AclList,
+    words: WordsLeft<'_>,
+    pats: &mut P,
+) -> Result<GroupList, TextFault>
+    ensures { ReadsText (λ groups. groups) (groups_of side lines.now words.entry) (P.refusals pats.old) (P.refusals pats.new) (P.last_refused pats.new) result }
+{
+    let mut groups = Groups {
+        whole: GroupList::new(alloc),
+        terms: TermList::new(alloc),
+    };
+    let most = words.len();
+    let mut left = words;
+    'terms: for _at in 0..most {
+        let Some(word) = left.next() else {
+            break;
+        };
+        let (next, behind) = with_word(alloc, side, lines, groups, word, left, pats)?;
+        groups = next;
+        left = behind;
+    }
+    if left.len() > 0 {
+        return Err(TextFault::Refused(TextKind::Acl));
+    }
+    groups.closed()
+}
+
+/// The condition behind `if` or `unless`.
+#[tactic(auto, unfolding(crate::specs::Conditions::condition_of))]
+fn read_condition<P: Patterns>(
+    alloc: Global,
+    side: Side,
+    lines: &AclList,
+    unless: bool,
+    words: WordsLeft<'_>,
+    pats: &mut P,
+) -> Result<Option<Cond>, TextFault>
+    ensures { ReadsText (λ cond. cond) (condition_of side lines.now unless words.entry) (P.refusals pats.old) (P.refusals pats.new) (P.last_refused pats.new) result }
+{
+    let groups = read_groups(alloc, side, lines, words, pats)?;
+    Ok(Some(Cond { unless, groups }))
+}
+
+/// What ends a rule of a direction: nothing, or `if` or `unless` and a condition over the `acl` lines above. Refused with
+/// Argument where another word stands there; with Acl where the condition is malformed, or a name has no line above or a
+/// fetch that the direction does not have; with Expr where an expression in braces is. The first refused word decides, and
+/// a missing one counts as behind the last.
+#[tactic(auto, unfolding(crate::specs::Conditions::rule_end))]
+pub fn read_rule_end<P: Patterns>(
+    alloc: Global,
+    side: Side,
+    lines: &AclList,
+    words: WordsLeft<'_>,
+    pats: &mut P,
+) -> Result<Option<Cond>, TextFault>
+    ensures { ReadsText (λ cond. cond) (rule_end side lines.now words.entry) (P.refusals pats.old) (P.refusals pats.new) (P.last_refused pats.new) result }
+{
+    let mut others = words;
+    let Some(word) = others.next() else {
+        return Ok(None);
+    };
+    if word == b"if".as_slice() {
+        return read_condition(alloc, side, lines, false, others, pats);
+    }
+    if word == b"unless".as_slice() {
+        return read_condition(alloc, side, lines, true, others, pats);
+    }
+    Err(TextFault::Refused(TextKind::Argument))
+}

@@ -1,0 +1,227 @@
+//! What a name of an `acl` line or of the predefined ones stands for.
+ghost use Rattle.std.specs.Prelude.{◌≡◌, ◌∷◌, [], Some, None, option_map, is_some, IfOk};
+ghost use Rattle.cfg_expr.specs.Faults.{Gives};
+ghost use Rattle.cfg_acl.specs.Lines.{is_name_byte, is_acl_name, is_predefined, declared_name, plain_test, predefined_of, predefined_test, is_of_requests, has_predefined, is_named, named_tests, tests_from};
+
+use crate::copies::copy_on;
+use crate::{AclLine, AclList};
+use acl_eval::{Match, Test, TestList, TestValue, ValueList};
+use cfg_expr::{Side, TextFault, TextKind};
+use px_expr::{ConvList, Expr};
+use px_sample::{Fetch, OutOfMemory, Text};
+use std::alloc::Global;
+
+/// A predefined name.
+#[derive(Clone, Copy, Debug, PartialEq, Eq)]
+enum Predefined {
+    True,
+    False,
+    MethGet,
+    MethHead,
+    MethPost,
+    MethPut,
+    MethDelete,
+    MethOptions,
+    Http10,
+    Http11,
+    HttpUrlSlash,
+    HttpUrlStar,
+}
+
+#[tactic(auto, unfolding(crate::specs::Lines::predefined_of))]
+fn predefined_of(name: &[u8]) -> Option<Predefined>
+    ensures { result ≡ predefined_of name.now }
+{
+    if name == b"TRUE".as_slice() {
+        Some(Predefined::True)
+    } else if name == b"FALSE".as_slice() {
+        Some(Predefined::False)
+    } else if name == b"METH_GET".as_slice() {
+        Some(Predefined::MethGet)
+    } else if name == b"METH_HEAD".as_slice() {
+        Some(Predefined::MethHead)
+    } else if name == b"METH_POST".as_slice() {
+        Some(Predefined::MethPost)
+    } else if name == b"METH_PUT".as_slice() {
+        Some(Predefined::MethPut)
+    } else if name == b"METH_DELETE".as_slice() {
+        Some(Predefined::MethDelete)
+    } else if name == b"METH_OPTIONS".as_slice() {
+        Some(Predefined::MethOptions)
+    } else if name == b"HTTP_1.0".as_slice() {
+        Some(Predefined::Http10)
+    } else if name == b"HTTP_1.1".as_slice() {
+        Some(Predefined::Http11)
+    } else if name == b"HTTP_URL_SLASH".as_slice() {
+        Some(Predefined::HttpUrlSlash)
+    } else if name == b"HTTP_URL_STAR".as_slice() {
+        Some(Predefined::HttpUrlStar)
+    } else {
+        None
+    }
+}
+
+/// No line may declare the name.
+fn is_predefined(name: &[u8]) -> bool
+    ensures { result ≡ is_predefined name.now }
+{
+    predefined_of(name).is_some()
+}
+
+/// A fetch without converters, tried against nothing yet.
+fn empty_test(alloc: Global, fetch: Fetch, how: Match) -> Test
+    ensures { result ≡ plain_test fetch how [] }
+{
+    Test {
+        expr: Expr {
+            fetch,
+            convs: ConvList::new(alloc),
+        },
+        how,
+        icase: false,
+        values: ValueList::new(alloc),
+    }
+}
+
+/// A fetch without converters, tried against a text.
+fn text_test(alloc: Global, fetch: Fetch, how: Match, text: &[u8]) -> Result<Test, OutOfMemory>
+    ensures { IfOk result (λ test. test ≡ plain_test fetch how (text.now ∷ [])) }
+{
+    let mut test = empty_test(alloc, fetch, how);
+    test.values.push(TestValue::Literal(Text::copy(alloc, text)?))?;
+    Ok(test)
+}
+
+/// The method is this one.
+fn method_test(alloc: Global, method: &[u8]) -> Result<Test, OutOfMemory>
+    ensures { IfOk result (λ test. test ≡ plain_test Fetch.Method Match.Str (method.now ∷ [])) }
+{
+    text_test(alloc, Fetch::Method, Match::Str, method)
+}
+
+/// The method is one of these.
+fn methods_test(alloc: Global, first: &[u8], second: &[u8]) -> Result<Test, OutOfMemory>
+    ensures { IfOk result (λ test. test ≡ plain_test Fetch.Method Match.Str (first.now ∷ second.now ∷ [])) }
+{
+    let mut test = method_test(alloc, first)?;
+    test.values.push(TestValue::Literal(Text::copy(alloc, second)?))?;
+    Ok(test)
+}
+
+/// What a predefined name stands for.
+fn predefined_test(alloc: Global, which: Predefined) -> Result<Test, OutOfMemory>
+    ensures { IfOk result (λ test. test ≡ predefined_test which) }
+{
+    match which {
+        Predefined::True => Ok(empty_test(alloc, Fetch::AlwaysTrue, Match::Bool)),
+        Predefined::False => Ok(empty_test(alloc, Fetch::AlwaysFalse, Match::Bool)),
+        Predefined::MethGet => methods_test(alloc, b"GET", b"HEAD"),
+        Predefined::MethHead => method_test(alloc, b"HEAD"),
+        Predefined::MethPost => method_test(alloc, b"POST"),
+        Predefined::MethPut => method_test(alloc, b"PUT"),
+        Predefined::MethDelete => method_test(alloc, b"DELETE"),
+        Predefined::MethOptions => method_test(alloc, b"OPTIONS"),
+        Predefined::Http10 => text_test(alloc, Fetch::ReqVer, Match::Str, b"1.0"),
+        Predefined::Http11 => text_test(alloc, Fetch::ReqVer, Match::Str, b"1.1"),
+        Predefined::HttpUrlSlash => text_test(alloc, Fetch::Url, Match::Beg, b"/"),
+        Predefined::HttpUrlStar => text_test(alloc, Fetch::Url, Match::Str, b"*"),
+    }
+}
+
+fn is_of_requests(which: Predefined) -> bool
+    ensures { result ≡ is_of_requests which }
+{
+    match which {
+        Predefined::Http10
+        | Predefined::Http11
+        | Predefined::HttpUrlSlash
+        | Predefined::HttpUrlStar => true,
+        _ => false,
+    }
+}
+
+/// The direction has the predefined name.
+fn has_predefined(side: Side, which: Predefined) -> bool
+    ensures { result ≡ has_predefined side which }
+{
+    match side {
+        Side::Request => true,
+        Side::Response => !is_of_requests(which),
+    }
+}
+
+fn is_acl_name(word: &[u8]) -> bool
+    ensures { result ≡ is_acl_name word.now }
+{
+    !word.is_empty() && word.iter().all(|b| is_name_byte(*b))
+}
+
+/// A letter, a digit, `-`, `_`, `.` or `:`.
+fn is_name_byte(b: u8) -> bool
+    ensures { result ≡ is_name_byte b }
+{
+    b.is_ascii_alphanumeric() || b == b'-' || b == b'_' || b == b'.' || b == b':'
+}
+
+/// A line may declare the name.
+pub(crate) fn check_name(word: &[u8]) -> Result<(), TextFault>
+    ensures { Gives (λ nothing. word.now) result (declared_name word.now) }
+{
+    if !is_acl_name(word) {
+        return Err(TextFault::Refused(TextKind::Argument));
+    }
+    if is_predefined(word) {
+        return Err(TextFault::Refused(TextKind::Acl));
+    }
+    Ok(())
+}
+
+pub(crate) fn is_named(line: &AclLine, name: &[u8]) -> bool
+    ensures { result ≡ is_named name.now line.now }
+{
+    line.name.as_slice() == name
+}
+
+/// Copies of the tests of all lines of a name.
+fn line_tests(
+    alloc: Global,
+    side: Side,
+    lines: &AclList,
+    name: &[u8],
+) -> Result<TestList, TextFault>
+    ensures { Gives (λ tests. tests) result (tests_from side name.now [] lines.now) }
+{
+    let mut tests = TestList::new(alloc);
+    'lines: for at in 0..lines.len() {
+        let line = lines.get(at);
+        if is_named(line, name) {
+            tests.push(copy_on(alloc, side, &line.test)?)?;
+        }
+    }
+    Ok(tests)
+}
+
+/// The tests that a name stands for in a direction.
+pub(crate) fn named_tests(
+    alloc: Global,
+    side: Side,
+    lines: &AclList,
+    name: &[u8],
+) -> Result<TestList, TextFault>
+    ensures { Gives (λ tests. tests) result (named_tests side lines.now name.now) }
+{
+    let Some(which) = predefined_of(name) else {
+        let tests = line_tests(alloc, side, lines, name)?;
+        return if tests.is_empty() {
+            Err(TextFault::Refused(TextKind::Acl))
+        } else {
+            Ok(tests)
+        };
+    };
+    if !has_predefined(side, which) {
+        return Err(TextFault::Refused(TextKind::Acl));
+    }
+    let mut tests = TestList::new(alloc);
+    tests.push(predefined_test(alloc, which)?)?;
+    Ok(tests)
+}

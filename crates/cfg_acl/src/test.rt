@@ -1,0 +1,63 @@
+//! A test: CRITERION FLAGS VALUES.
+ghost use Rattle.std.specs.Prelude.{◌≡◌};
+ghost use Rattle.cfg_expr.specs.Faults.{ReadsText};
+ghost use Rattle.cfg_acl.specs.Tests.{first_of_two, chosen_match, test_behind, test_of};
+
+use crate::criterion::{Criterion, default_match, read_criterion};
+use crate::flags::{Flags, read_flags};
+use crate::values::read_values;
+use crate::{WordsLeft, WrittenTest};
+use acl_eval::Match;
+use cfg_expr::{Side, TextFault};
+use px_pattern::Patterns;
+use std::alloc::Global;
+
+/// The match that counts.
+fn chosen_match(criterion: &Criterion, flags: Flags) -> Match
+    ensures { result ≡ chosen_match criterion.now flags }
+{
+    match flags.how {
+        Some(how) => how,
+        None => match criterion.how {
+            Some(how) => how,
+            None => default_match(&criterion.written),
+        },
+    }
+}
+
+/// What stands behind the criterion.
+#[tactic(auto, unfolding(crate::specs::Tests::test_behind))]
+fn test_behind<P: Patterns>(
+    alloc: Global,
+    criterion: Criterion,
+    words: WordsLeft<'_>,
+    pats: &mut P,
+) -> Result<WrittenTest, TextFault>
+    ensures { ReadsText (λ test. test) (test_behind criterion words.entry) (P.refusals pats.old) (P.refusals pats.new) (P.last_refused pats.new) result }
+{
+    let (flags, words) = read_flags(words)?;
+    let how = chosen_match(&criterion, flags);
+    let icase = flags.icase;
+    let values = read_values(alloc, how, icase, words, pats)?;
+    Ok(WrittenTest {
+        written: criterion.written,
+        how,
+        icase,
+        values,
+    })
+}
+
+/// The test of a criterion and the words behind it; of a direction, or of none yet.
+#[tactic(auto, unfolding(crate::specs::Tests::test_of))]
+pub(crate) fn read_test<P: Patterns>(
+    alloc: Global,
+    place: Option<Side>,
+    word: &[u8],
+    words: WordsLeft<'_>,
+    pats: &mut P,
+) -> Result<WrittenTest, TextFault>
+    ensures { ReadsText (λ test. test) (test_of place word.now words.entry) (P.refusals pats.old) (P.refusals pats.new) (P.last_refused pats.new) result }
+{
+    let criterion = read_criterion(alloc, place, word, pats)?;
+    test_behind(alloc, criterion, words, pats)
+}

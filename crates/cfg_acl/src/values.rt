@@ -1,0 +1,284 @@
+//! The values of a test.
+ghost use Rattle.std.specs.Prelude.{◌≡◌, [], Some, None, Ok};
+ghost use Rattle.cfg_expr.specs.Faults.{Gives, ReadsText};
+ghost use Rattle.cfg_acl.specs.Values.{operator_of, numbers_by, number, bound, range, number_value, with_word, no_ranges, ranges_from, literals};
+ghost use Rattle.cfg_acl.specs.Tests.{patterns_from, needs_none, some_values, values_of};
+
+use crate::WordsLeft;
+use acl_eval::{Match, TestValue, ValueList};
+use cfg_expr::{TextFault, TextKind, build};
+use px_pattern::Patterns;
+use px_sample::{Text, number_of_bytes};
+use std::alloc::Global;
+
+/// What holds for the single numbers that follow.
+#[derive(Clone, Copy, Debug, PartialEq, Eq)]
+enum Operator {
+    Eq,
+    Ge,
+    Gt,
+    Le,
+    Lt,
+}
+
+#[tactic(auto, unfolding(crate::specs::Values::operator_of))]
+fn operator_of(word: &[u8]) -> Option<Operator>
+    ensures { result ≡ operator_of word.now }
+{
+    if word == b"eq".as_slice() {
+        Some(Operator::Eq)
+    } else if word == b"ge".as_slice() {
+        Some(Operator::Ge)
+    } else if word == b"gt".as_slice() {
+        Some(Operator::Gt)
+    } else if word == b"le".as_slice() {
+        Some(Operator::Le)
+    } else if word == b"lt".as_slice() {
+        Some(Operator::Lt)
+    } else {
+        None
+    }
+}
+
+fn at_least(low: i64) -> TestValue
+    ensures { result ≡ TestValue.Range (Some low) None }
+{
+    TestValue::Range {
+        low: Some(low),
+        high: None,
+    }
+}
+
+fn at_most(high: i64) -> TestValue
+    ensures { result ≡ TestValue.Range None (Some high) }
+{
+    TestValue::Range {
+        low: None,
+        high: Some(high),
+    }
+}
+
+fn between(low: i64, high: i64) -> TestValue
+    ensures { result ≡ TestValue.Range (Some low) (Some high) }
+{
+    TestValue::Range {
+        low: Some(low),
+        high: Some(high),
+    }
+}
+
+/// The numbers that stand so to a number; the range from 1 to 0 where there is none.
+fn numbers_by(operator: Operator, n: i64) -> TestValue
+    ensures { result ≡ numbers_by operator n }
+{
+    match operator {
+        Operator::Eq => between(n, n),
+        Operator::Ge => at_least(n),
+        Operator::Gt => {
+            if n == i64::MAX {
+                between(1, 0)
+            } else {
+                at_least(n + 1)
+            }
+        }
+        Operator::Le => at_most(n),
+        Operator::Lt => {
+            if n == i64::MIN {
+                between(1, 0)
+            } else {
+                at_most(n - 1)
+            }
+        }
+    }
+}
+
+fn number(text: &[u8]) -> Result<i64, TextFault>
+    ensures { Gives (λ n. n) result (number text.now) }
+{
+    match number_of_bytes(text) {
+        Some(n) => Ok(n),
+        None => Err(TextFault::Refused(TextKind::Acl)),
+    }
+}
+
+/// A bound of a range, or nothing.
+fn bound(text: &[u8]) -> Result<Option<i64>, TextFault>
+    ensures { Gives (λ n. n) result (bound text.now) }
+{
+    if text.is_empty() {
+        return Ok(None);
+    }
+    Ok(Some(number(text)?))
+}
+
+/// Both bounds, of which there is one at least.
+fn range(low: Option<i64>, high: Option<i64>) -> Result<TestValue, TextFault>
+    ensures { Gives (λ value. value) result (range low high) }
+{
+    match low {
+        Some(least) => Ok(TestValue::Range {
+            low: Some(least),
+            high,
+        }),
+        None => match high {
+            Some(most) => Ok(at_most(most)),
+            None => Err(TextFault::Refused(TextKind::Acl)),
+        },
+    }
+}
+
+/// A value of `int` or `len`, and whether the operator still lacks a number.
+#[tactic(auto, unfolding(crate::specs::Values::number_value))]
+fn number_value(
+    operator: Operator,
+    lacking: bool,
+    word: &[u8],
+) -> Result<(TestValue, bool), TextFault>
+    ensures { Gives (λ found. found) result (number_value operator lacking word.now) }
+{
+    match word.iter().position(|b| *b == b':') {
+        Some(at) => {
+            let low = bound(&word[..at])?;
+            let high = bound(&word[at + 1..])?;
+            Ok((range(low, high)?, lacking))
+        }
+        None => Ok((numbers_by(operator, number(word)?), false)),
+    }
+}
+
+/// The values so far, the operator that holds, and whether it lacks a number.
+#[derive(Drop)]
+struct Ranges {
+    values: ValueList,
+    operator: Operator,
+    lacking: bool,
+}
+
+impl Ranges {
+    /// With a word that is an operator, or else a value.
+    #[tactic(auto, unfolding(crate::specs::Values::with_word))]
+    fn with_word(self, word: &[u8]) -> Result<Ranges, TextFault>
+        ensures { Gives (λ next. record { values = next.values; operator = next.operator; lacking = next.lacking }) result (with_word (record { values = self.values; operator = self.operator; lacking = self.lacking }) word.now) }
+    {
+        let Ranges {
+            mut values,
+            operator,
+            lacking,
+        } = self;
+        match operator_of(word) {
+            Some(operator) => {
+                if lacking {
+                    return Err(TextFault::Refused(TextKind::Acl));
+                }
+                Ok(Ranges {
+                    values,
+                    operator,
+                    lacking: true,
+                })
+            }
+            None => {
+                let (value, lacking) = number_value(operator, lacking, word)?;
+                values.push(value)?;
+                Ok(Ranges {
+                    values,
+                    operator,
+                    lacking,
+                })
+            }
+        }
+    }
+}
+
+/// The values of `int` and `len`.
+fn read_ranges(alloc: Global, mut words: WordsLeft<'_>) -> Result<ValueList, TextFault>
+    ensures { Gives (λ values. values) result (ranges_from no_ranges words.entry) }
+{
+    let mut ranges = Ranges {
+        values: ValueList::new(alloc),
+        operator: Operator::Eq,
+        lacking: false,
+    };
+    'words: while let Some(word) = words.next() {
+        ranges = ranges.with_word(word)?;
+    }
+    if ranges.lacking {
+        return Err(TextFault::Refused(TextKind::Acl));
+    }
+    Ok(ranges.values)
+}
+
+/// Texts, as they stand.
+fn read_literals(alloc: Global, mut words: WordsLeft<'_>) -> Result<ValueList, TextFault>
+    ensures { Gives (λ values. values) result (Ok (literals words.entry)) }
+{
+    let mut values = ValueList::new(alloc);
+    'words: while let Some(word) = words.next() {
+        values.push(TestValue::Literal(Text::copy(alloc, word)?))?;
+    }
+    Ok(values)
+}
+
+/// Patterns, which ignore case where `-i` stands in front.
+fn read_patterns<P: Patterns>(
+    alloc: Global,
+    icase: bool,
+    mut words: WordsLeft<'_>,
+    pats: &mut P,
+) -> Result<ValueList, TextFault>
+    ensures { ReadsText (λ values. values) (patterns_from icase [] words.entry) (P.refusals pats.old) (P.refusals pats.new) (P.last_refused pats.new) result }
+{
+    let mut values = ValueList::new(alloc);
+    'words: while let Some(word) = words.next() {
+        let pat = build(alloc, word, icase, pats)?;
+        values.push(TestValue::Pattern(pat))?;
+    }
+    Ok(values)
+}
+
+/// One value or more.
+fn some_values<P: Patterns>(
+    alloc: Global,
+    how: Match,
+    icase: bool,
+    words: WordsLeft<'_>,
+    pats: &mut P,
+) -> Result<ValueList, TextFault>
+    ensures { ReadsText (λ values. values) (some_values how icase words.entry) (P.refusals pats.old) (P.refusals pats.new) (P.last_refused pats.new) result }
+{
+    match how {
+        Match::Found | Match::Bool => Err(TextFault::Refused(TextKind::Acl)),
+        Match::Int | Match::Len => read_ranges(alloc, words),
+        Match::Str | Match::Beg | Match::End | Match::Sub => read_literals(alloc, words),
+        Match::Reg => read_patterns(alloc, icase, words, pats),
+    }
+}
+
+fn needs_none(how: Match) -> bool
+    ensures { result ≡ needs_none how }
+{
+    match how {
+        Match::Found | Match::Bool => true,
+        _ => false,
+    }
+}
+
+/// The values of a match.
+#[tactic(auto, unfolding(crate::specs::Tests::values_of))]
+pub(crate) fn read_values<P: Patterns>(
+    alloc: Global,
+    how: Match,
+    icase: bool,
+    words: WordsLeft<'_>,
+    pats: &mut P,
+) -> Result<ValueList, TextFault>
+    ensures { ReadsText (λ values. values) (values_of how icase words.entry) (P.refusals pats.old) (P.refusals pats.new) (P.last_refused pats.new) result }
+{
+    if words.len() > 0 {
+        return some_values(alloc, how, icase, words, pats);
+    }
+    if needs_none(how) {
+        Ok(ValueList::new(alloc))
+    } else {
+        Err(TextFault::Refused(TextKind::Acl))
+    }
+}

@@ -1,0 +1,109 @@
+//! The words of a line that are still to be read.
+ghost use Rattle.std.specs.Prelude.{◌≡◌, ◌≤◌, ◌∷◌, [], drop, length, MatchOption};
+ghost use Rattle.cfg_expr.specs.Faults.{Gives};
+ghost use Rattle.cfg_acl.specs.Words.{is_close, up_to_close, word_or};
+
+use cfg_expr::{TextFault, TextKind};
+use cfg_lex::Words;
+use std::marker::Model;
+
+/// Words of a line that are still to be read, up to its end or to some word. Contracts see the list of them.
+#[derive(Drop)]
+pub struct WordsLeft<'a> {
+    words: &'a Words,
+    at: u32,
+    end: u32,
+}
+
+impl<'a> Model for WordsLeft<'a> {
+    ghost use Rattle.std.specs.Prelude.{List, ℕ, ◌≤◌, drop, take, length};
+
+    ghost Value = { List (List ℕ) };
+
+    ghost view = { λ left. drop left.at (take left.end left.words.now) };
+
+    ghost invariant = { λ left. (left.at ≤ left.end) × (left.end ≤ length left.words.now) × (left.end ≤ 64) };
+}
+
+impl<'a> WordsLeft<'a> {
+    /// The words of a line from one on.
+    pub fn from(words: &'a Words, at: u32) -> WordsLeft<'a>
+        requires { at ≤ length words.now }
+        ensures { result ≡ drop at words.now }
+    {
+        WordsLeft {
+            words,
+            at,
+            end: words.len(),
+        }
+    }
+
+    /// The same words once more.
+    pub fn again(&self) -> WordsLeft<'a>
+        ensures { result ≡ self.now }
+    {
+        WordsLeft {
+            words: self.words,
+            at: self.at,
+            end: self.end,
+        }
+    }
+
+    /// How many there are.
+    pub fn len(&self) -> u32
+        ensures words { result ≡ length self.now }
+        ensures few { result ≤ 64 }
+    {
+        self.end - self.at
+    }
+
+    /// The next word, if there is one.
+    pub fn next(&mut self) -> Option<&'a [u8]>
+        ensures { MatchOption result
+            ((self.old ≡ []) × (self.new ≡ []))
+            (λ word. self.old ≡ word.now ∷ self.new) }
+    {
+        if self.at == self.end {
+            return None;
+        }
+        let word = self.words.word(self.at);
+        self.at += 1;
+        Some(word)
+    }
+
+    /// The next word and those behind it; a missing one is refused with a kind.
+    pub fn word_or(mut self, kind: TextKind) -> Result<(&'a [u8], WordsLeft<'a>), TextFault>
+        ensures { Gives (λ found. (found.0.now, found.1)) result (word_or kind self.entry) }
+    {
+        match self.next() {
+            Some(word) => Ok((word, self)),
+            None => Err(TextFault::Refused(kind)),
+        }
+    }
+
+    /// The words up to the first `}`, and those behind it; where there is no `}`, all words.
+    pub fn up_to_close(self) -> (WordsLeft<'a>, Option<WordsLeft<'a>>)
+        ensures { up_to_close self.entry ≡ (result.0, result.1) }
+    {
+        let WordsLeft { words, at, end } = self;
+        for i in at..end {
+            if is_close(words.word(i)) {
+                let inside = WordsLeft { words, at, end: i };
+                let behind = WordsLeft {
+                    words,
+                    at: i + 1,
+                    end,
+                };
+                return (inside, Some(behind));
+            }
+        }
+        (WordsLeft { words, at, end }, None)
+    }
+}
+
+#[tactic(auto, unfolding(crate::specs::Words::is_close))]
+fn is_close(word: &[u8]) -> bool
+    ensures { result ≡ is_close word.now }
+{
+    word == b"}".as_slice()
+}

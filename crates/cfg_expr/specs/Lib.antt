@@ -1,0 +1,9 @@
+pub mod Steps
+pub mod Reading
+pub mod Faults
+pub mod Calls
+pub mod Sides
+pub mod Fetches
+pub mod Convs
+pub mod Exprs
+pub mod Formats
