@@ -4,7 +4,6 @@ pub use Rattle.http_model.specs.Finish
 pub use Rattle.session_model.specs.Env
 pub use Rattle.session_model.specs.Meaning
 pub use Rattle.body_filter.specs.Filter
-pub mod Steps
-pub mod Rules
+pub use Rattle.rule_model.specs.Directions
+pub use Rattle.rule_model.specs.Patterns
 pub mod Valid
-pub mod Run

@@ -1,17 +1,14 @@
 -- Which configurations are valid: those that loading gives, and that the layers above take.
 use Rattle.std.specs.Prelude.{◌≡◌, ℕ, ◌+◌, ◌≤◌, List, length, count_by, Bool, true, false, codes}
-use Rattle.std.specs.List.{list_any, AllByRecursion}
-use Rattle.std.specs.Str.{bytes_eq, str_to_ascii_lowercase}
+use Rattle.std.specs.Str.{bytes_eq}
 use Rattle.http_model.specs.declared.Limits.{Limits}
-use Rattle.http_model.specs.Sizes.{least_size, most_size, least_head, most_name}
-use Rattle.http_model.specs.Finish.{framing_names}
-use Rattle.px_bytes.specs.Tokens.{is_token}
+use Rattle.http_model.specs.Sizes.{least_size, most_size, least_head}
 use Rattle.px_link.specs.declared.address.Address.{Address}
 use Rattle.body_filter.specs.declared.filter_spec.FilterSpec.{FilterSpec}
 use Rattle.body_filter.specs.declared.filter_spec.FilterSpec.TheVariants.{Limit, Deny, Replace}
 use Rattle.body_filter.specs.Valid.{AreFilters}
-use Rattle.http_rules.specs.declared.rule.Action.{Action}
-use Rattle.http_rules.specs.declared.rule.Action.TheVariants.{Allow, AddHeader, SetHeader}
+use Rattle.rule_model.specs.declared.names.Direction.TheVariants as directions
+use Rattle.rule_model.specs.Valid.{AreRules}
 use Rattle.http_rules.specs.declared.config.Config.{Config}
 
 -- sizes within their limits, of which a received head leaves at least 512 bytes
@@ -19,20 +16,6 @@ pub record AreLimits (limits : Limits) : Type 0 where
   pub least : least_size ≤ limits.bufsize
   pub most : limits.bufsize ≤ most_size
   pub leaves : limits.maxrewrite + least_head ≤ limits.bufsize
-
--- a name of a field that a rule may make: a token of 1 to 255 bytes in lower case that frames no message
-pub record IsMadeName (name : List ℕ) : Type 0 where
-  pub some : 1 ≤ length name
-  pub short : length name ≤ most_name
-  pub token : is_token name ≡ true
-  pub lower : str_to_ascii_lowercase name ≡ name
-  pub free : list_any (λ framing. bytes_eq framing name) framing_names ≡ false
-
--- the action's name may be made
-abbrev pub IsGoodAction : Action → Type 0
-IsGoodAction Allow = Unit {0}
-IsGoodAction (AddHeader name text) = IsMadeName name
-IsGoodAction (SetHeader name text) = IsMadeName name
 
 -- an address with a port
 pub record HasPort (address : Address) : Type 0 where
@@ -61,7 +44,8 @@ pub record IsValid (config : Config) : Type 0 where
   pub bind_port : HasPort config.bind
   pub server_port : HasPort config.server
   pub server_host : HasHost config.server
-  pub rules : AllByRecursion (λ rule. IsGoodAction rule.action) config.request
-  pub few : length config.request ≤ 1024
+  pub request : AreRules directions.Request config.request
+  pub response : AreRules directions.Response config.response
+  pub after : AreRules directions.After config.after
   pub req_filters : IsChain config.req_filters
   pub res_filters : IsChain config.res_filters

@@ -1,16 +1,16 @@
 ghost use Rattle.std.specs.Prelude.{◌≡◌, ◌+◌, length};
 
-use crate::rule::Rules;
 use body_filter::FilterSpec;
 use http_model::Limits;
 use px_link::{Address, ItemList};
+use rule_model::Rules;
 
 /// The filters of one direction, in the order in which bodies pass through them.
 pub type Filters = ItemList<FilterSpec>;
 
-/// What a proxy does: its sizes, where it listens, whom it sends requests to, and the rules of its requests
+/// What a proxy does: its sizes, where it listens, whom it sends requests to, its rules and its filters
 /// (Configuration Manual, section 4).
-#[derive(Debug, Drop)]
+#[derive(Drop)]
 pub struct Config {
     pub limits: Limits,
     /// Where clients connect to. An empty host or `*` is every address of the machine.
@@ -19,6 +19,10 @@ pub struct Config {
     pub server: Address,
     /// The `http-request` rules, in their order, at most 1024.
     pub request: Rules,
+    /// The `http-response` rules, as many at most.
+    pub response: Rules,
+    /// The `http-after-response` rules, as many at most: they run on each final response, reply and refusal.
+    pub after: Rules,
     /// What the bodies of requests pass through, at most 8 filters, of them one that replaces.
     pub req_filters: Filters,
     /// The same for the bodies of responses.
@@ -31,5 +35,12 @@ impl Config {
         ensures { result ≡ length self.now.req_filters + length self.now.res_filters }
     {
         u64::from(self.req_filters.len()) + u64::from(self.res_filters.len())
+    }
+
+    /// How many rules run on what a client is sent: those of responses, and those behind them.
+    pub fn answer_rule_count(&self) -> u64
+        ensures { result ≡ length self.now.response + length self.now.after }
+    {
+        u64::from(self.response.len()) + u64::from(self.after.len())
     }
 }

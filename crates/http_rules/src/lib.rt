@@ -2,16 +2,12 @@
 #![tactic(auto)]
 
 mod config;
-mod laws;
-mod rule;
-mod run;
-#[cfg(test)]
-mod tests;
 
 pub use body_filter::FilterSpec;
 pub use config::{Config, Filters};
 pub use http_model::{Limits, Why};
-pub use laws::{allow_ends_the_rules, failing_step_decides, rules_go_on};
-pub use px_link::{Address, Bytes, OutOfMemory};
-pub use rule::{Action, Rule, Rules};
-pub use run::{Verdict, run_request};
+pub use px_link::{Address, OutOfMemory};
+pub use rule_model::{
+    Action, ActionName, Cond, DelBy, Direction, Expr, Fmt, Hdr, HdrList, Pat, Payload, RedirectTo,
+    Rule, Rules, Scope, Text, stands_in,
+};

@@ -1,0 +1,16 @@
+//! The rules of a configuration as types: actions with their arguments, conditions, and the lists in which each action may
+//! stand. Nothing here runs a rule or knows of a message.
+#![tactic(auto)]
+
+mod action;
+mod names;
+mod reply;
+mod rule;
+
+pub use acl_eval::Cond;
+pub use action::{Action, DelBy};
+pub use log_format::{Fmt, Part, PartList};
+pub use names::{ActionName, Direction, stands_in};
+pub use px_expr::{ConvList, Expr, Fetch, OutOfMemory, Pat, Scope, Text};
+pub use reply::{Hdr, HdrList, Payload, RedirectTo};
+pub use rule::{Rule, Rules};
