@@ -1,0 +1,4 @@
+pub mod FaultLemmas
+pub mod NameLemmas
+pub mod GoodLemmas
+pub mod OptionLemmas
