@@ -1,13 +1,14 @@
 -- `acl` lines and conditions, over the words of a line (Configuration Manual, sections 7.1 and 7.2).
-use Rattle.std.specs.Prelude.{ℕ, zero, suc, Bool, true, false, ◌==◌, ◌||◌, List, [], ◌∷◌, ◌++◌, length, drop, sum_by, Option, Some, None, Ok, Err, if◌then◌else◌, codes}
+use Rattle.std.specs.Prelude.{ℕ, zero, suc, ◌-◌, ◌^◌, Bool, true, false, ◌==◌, ◌||◌, List, [], ◌∷◌, ◌++◌, length, sum_by, Option, Some, None, Ok, Err, if◌then◌else◌, codes}
 use Rattle.std.specs.Str.{bytes_eq}
 use Rattle.acl_eval.specs.declared.condition.Test.{Test}
 use Rattle.acl_eval.specs.declared.condition.Term.{Term}
 use Rattle.acl_eval.specs.declared.condition.Cond.{Cond}
 use Rattle.cfg_expr.specs.declared.fault.TextKind.TheVariants.{Argument, Acl}
 use Rattle.cfg_expr.specs.declared.side.Side.{Side}
-use Rattle.cfg_expr.specs.Reading.{Reading, plain, ◌>>=◌}
+use Rattle.cfg_expr.specs.Reading.{plain, ◌>>=◌}
 use Rattle.cfg_expr.specs.Faults.{Told, TextReading}
+use Rattle.cfg_acl.specs.declared.conditions.Groups.{Groups}
 use Rattle.cfg_acl.specs.declared.written.AclLine.{AclLine}
 use Rattle.cfg_acl.specs.Words.{word_or, up_to_close}
 use Rattle.cfg_acl.specs.Values.{needed}
@@ -81,19 +82,14 @@ abbrev pub with_group : List (List Term) → List Term → Told (List (List Term
 with_group groups [] = Err Acl
 with_group groups (term ∷ terms) = Ok (groups ++ (term ∷ terms) ∷ [])
 
--- the groups so far, and the terms of the group that goes on
-pub record Groups : Type 0 where
-  pub whole : List (List Term)
-  pub terms : List Term
-
 -- with a word, and those behind it that its term takes
 unfoldable pub with_word : Side → List AclLine → Groups → List ℕ → List (List ℕ) → TextReading (Groups × List (List ℕ))
 with_word side lines so_far word others =
     if is_or word then
-      (plain (with_group so_far.whole so_far.terms) >>= λ whole. plain (Ok (record { whole = whole; terms = [] }, others)))
+    (plain (with_group so_far.whole so_far.terms) >>= λ whole. plain (Ok (record { whole = whole; terms = [] }, others)))
     else
-      (term_at side lines word others >>= λ found.
-      plain (Ok (record { whole = so_far.whole; terms = so_far.terms ++ found.0 ∷ [] }, found.1)))
+    (term_at side lines word others >>= λ found.
+    plain (Ok (record { whole = so_far.whole; terms = so_far.terms ++ found.0 ∷ [] }, found.1)))
 
 -- Groups of terms, which `or` or `||` joins. There are at most as many terms as words.
 unfoldable pub groups_from : Side → List AclLine → (most : ℕ) → Groups → List (List ℕ) → TextReading (List (List Term))
@@ -130,3 +126,7 @@ tests_in term = length term.tests
 -- and a condition
 abbrev pub test_count : Cond → ℕ
 test_count cond = sum_by (sum_by tests_in) cond.groups
+
+-- the greatest count that is told
+abbrev pub most_count : ℕ
+most_count = 2 ^ 64 - 1

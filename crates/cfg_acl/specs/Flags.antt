@@ -25,11 +25,6 @@ match_of word =
     else (if bytes_eq word (codes "reg") then Some matches.Reg
     else None))))))))
 
--- the match that the next word names, and the words behind it
-abbrev pub match_at : List (List ℕ) → Told (Match × List (List ℕ))
-match_at [] = Err Acl
-match_at (word ∷ others) = needed (match_of word) >>= λ how. Ok (how, others)
-
 -- it begins with `-`
 abbrev pub is_dashed : List ℕ → Bool
 is_dashed [] = false

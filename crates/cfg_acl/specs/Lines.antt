@@ -18,7 +18,7 @@ use Rattle.cfg_acl.specs.declared.names.Predefined.{Predefined}
 use Rattle.cfg_acl.specs.declared.names.Predefined.TheVariants as names
 use Rattle.cfg_acl.specs.declared.written.WrittenTest.{WrittenTest}
 use Rattle.cfg_acl.specs.declared.written.AclLine.{AclLine}
-use Rattle.cfg_acl.specs.Values.{needed, literals}
+use Rattle.cfg_acl.specs.Values.{literals}
 
 -- ---- a test in a direction
 

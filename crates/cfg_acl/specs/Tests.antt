@@ -1,7 +1,6 @@
 -- A test: CRITERION FLAGS VALUES (Configuration Manual, section 7.1).
-use Rattle.std.specs.Prelude.{ℕ, ◌-◌, Bool, true, false, ◌==◌, ◌||◌, List, [], ◌∷◌, ◌++◌, length, take, drop, slice_get, Option, Some, None, is_some, Ok, Err, if◌then◌else◌, codes}
+use Rattle.std.specs.Prelude.{ℕ, ◌-◌, Bool, true, false, ◌||◌, List, [], ◌∷◌, ◌++◌, length, take, drop, slice_get, Option, Some, None, Ok, Err, if◌then◌else◌, codes}
 use Rattle.std.specs.Str.{bytes_eq}
-use Rattle.px_pattern.specs.Pattern.{Pattern}
 use Rattle.px_sample.specs.declared.fetch.Fetch.{Fetch}
 use Rattle.px_sample.specs.declared.fetch.Fetch.TheVariants as fetches
 use Rattle.px_conv.specs.declared.conv.Conv.{Conv}
@@ -15,8 +14,8 @@ use Rattle.cfg_expr.specs.declared.side.Side.{Side}
 use Rattle.cfg_expr.specs.declared.source.Source.{Source}
 use Rattle.cfg_expr.specs.declared.source.Source.TheVariants as sources
 use Rattle.cfg_expr.specs.declared.source.Written.{Written}
-use Rattle.cfg_expr.specs.Reading.{Reading, plain, built, ◌>>=◌}
-use Rattle.cfg_expr.specs.Faults.{Told, TextReading}
+use Rattle.cfg_expr.specs.Reading.{plain, built, ◌>>=◌}
+use Rattle.cfg_expr.specs.Faults.{TextReading}
 use Rattle.cfg_expr.specs.Calls.{Form, form_in}
 use Rattle.cfg_expr.specs.Fetches.{expected, placed_source}
 use Rattle.cfg_expr.specs.Exprs.{convs_at, ended}

@@ -3,13 +3,12 @@ use Rattle.std.specs.Prelude.{ℕ, ◌+◌, ◌-◌, ◌^◌, ℤ, pos, negsuc, 
 use Rattle.std.specs.Ordering.{int_eq}
 use Rattle.std.specs.Str.{bytes_eq}
 use Rattle.px_sample.specs.Cast.{number_of_text}
-use Rattle.acl_eval.specs.declared.condition.Match.{Match}
-use Rattle.acl_eval.specs.declared.condition.Match.TheVariants as matches
 use Rattle.acl_eval.specs.declared.condition.TestValue.{TestValue}
 use Rattle.acl_eval.specs.declared.condition.TestValue.TheVariants.{Range, Literal}
 use Rattle.cfg_expr.specs.declared.fault.TextKind.TheVariants.{Acl}
 use Rattle.cfg_expr.specs.Steps.{◌>>=◌}
 use Rattle.cfg_expr.specs.Faults.{Told}
+use Rattle.cfg_acl.specs.declared.values.Ranges.{Ranges}
 use Rattle.cfg_acl.specs.declared.values.Operator.{Operator}
 use Rattle.cfg_acl.specs.declared.values.Operator.TheVariants.{Eq, Ge, Gt, Le, Lt}
 
@@ -73,12 +72,6 @@ number_value operator lacking word = number_at operator lacking word (position i
 abbrev pub unless_lacking : (lacking : Bool) → Told (Unit {0})
 unless_lacking true = Err Acl
 unless_lacking false = Ok tt
-
--- what is so far: the values, the operator that holds, and whether it still lacks a number
-pub record Ranges : Type 0 where
-  pub values : List TestValue
-  pub operator : Operator
-  pub lacking : Bool
 
 -- with a word that is an operator, or else a value
 abbrev pub ranges_by : Ranges → List ℕ → Option Operator → Told Ranges

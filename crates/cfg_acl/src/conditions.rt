@@ -153,7 +153,7 @@ fn with_word<'w, P: Patterns>(
     pats: &mut P,
 ) -> Result<(Groups, WordsLeft<'w>), TextFault>
     requires { length so_far.whole + length so_far.terms < 1000 }
-    ensures reads { ReadsText (λ found. (record { whole = found.0.whole; terms = found.0.terms }, found.1)) (with_word side lines.now (record { whole = so_far.whole; terms = so_far.terms }) word.now others.entry) (P.refusals pats.old) (P.refusals pats.new) (P.last_refused pats.new) result }
+    ensures reads { ReadsText (λ found. found) (with_word side lines.now so_far word.now others.entry) (P.refusals pats.old) (P.refusals pats.new) (P.last_refused pats.new) result }
     ensures few { IfOk result (λ found. length found.0.whole + length found.0.terms ≤ length so_far.whole + length so_far.terms + 1) }
 {
     if is_or(word) {
@@ -181,15 +181,19 @@ fn read_groups<P: Patterns>(
         whole: GroupList::new(alloc),
         terms: TermList::new(alloc),
     };
-    let most = words.len();
+    let count = words.len();
     let mut left = words;
-    'terms: for _at in 0..most {
+    'each: for _at in 0..count {
         let Some(word) = left.next() else {
-            break;
+            return groups.closed();
         };
-        let (next, behind) = with_word(alloc, side, lines, groups, word, left, pats)?;
-        groups = next;
-        left = behind;
+        match with_word(alloc, side, lines, groups, word, left, pats) {
+            Ok((next, behind)) => {
+                groups = next;
+                left = behind;
+            }
+            Err(fault) => return Err(fault),
+        }
     }
     if left.len() > 0 {
         return Err(TextFault::Refused(TextKind::Acl));

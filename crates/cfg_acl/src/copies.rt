@@ -64,7 +64,7 @@ fn copy_convs(alloc: Global, convs: &ConvList) -> Result<ConvList, OutOfMemory>
     ensures { IfOk result (λ copied. copied ≡ convs.now) }
 {
     let mut copied = ConvList::new(alloc);
-    for at in 0..convs.len() {
+    'each: for at in 0..convs.len() {
         copied.push(copy_conv(alloc, convs.get(at))?)?;
     }
     Ok(copied)
@@ -87,18 +87,14 @@ fn copy_values(alloc: Global, values: &ValueList) -> Result<ValueList, OutOfMemo
     ensures { IfOk result (λ copied. copied ≡ values.now) }
 {
     let mut copied = ValueList::new(alloc);
-    for at in 0..values.len() {
+    'each: for at in 0..values.len() {
         copied.push(copy_value(alloc, values.get(at))?)?;
     }
     Ok(copied)
 }
 
 /// A copy of a test with the fetch that its source is in a direction.
-pub(crate) fn copy_on(
-    alloc: Global,
-    side: Side,
-    written: &WrittenTest,
-) -> Result<Test, TextFault>
+pub(crate) fn copy_on(alloc: Global, side: Side, written: &WrittenTest) -> Result<Test, TextFault>
     ensures { Gives (λ test. test) result (test_on side written.now) }
 {
     let source = copy_source(alloc, &written.written.source)?;

@@ -5,7 +5,9 @@ ghost use Rattle.cfg_expr.specs.Faults.{ReadsText};
 ghost use Rattle.cfg_acl.specs.Tests.{takes_suffix, suffix_match, match_in, fetch_form, criterion_of, fetch_match, source_match, conv_match, default_match};
 
 use acl_eval::Match;
-use cfg_expr::{Call, Side, Source, TextFault, TextKind, Written, call_in, placed_source, read_convs};
+use cfg_expr::{
+    Call, Side, Source, TextFault, TextKind, Written, call_in, placed_source, read_convs,
+};
 use px_expr::Conv;
 use px_pattern::Patterns;
 use px_sample::Fetch;

@@ -1,13 +1,13 @@
 //! The flags of a test.
 ghost use Rattle.std.specs.Prelude.{◌≡◌, false};
 ghost use Rattle.cfg_expr.specs.Faults.{Gives};
-ghost use Rattle.cfg_acl.specs.Flags.{match_of, match_at, flag_of, no_flags, flags_from};
+ghost use Rattle.cfg_acl.specs.Flags.{match_of, flag_of, flags_from};
 
 use crate::WordsLeft;
 use acl_eval::Match;
 use cfg_expr::{TextFault, TextKind};
 
-/// The flags so far.
+/// The flags so far: `NO_FLAGS` in front of the first.
 #[derive(Clone, Copy, Debug)]
 pub(crate) struct Flags {
     /// `-i`: case is ignored.
@@ -15,6 +15,12 @@ pub(crate) struct Flags {
     /// The match of the last `-m`.
     pub(crate) how: Option<Match>,
 }
+
+/// No flag so far.
+pub(crate) const NO_FLAGS: Flags = Flags {
+    icase: false,
+    how: None,
+};
 
 /// What a word says where a flag may stand.
 #[derive(Clone, Copy, Debug)]
@@ -71,41 +77,43 @@ fn flag_of(word: &[u8]) -> Flag
     }
 }
 
-/// The match behind `-m`, and the words behind it.
-fn read_match(words: WordsLeft<'_>) -> Result<(Match, WordsLeft<'_>), TextFault>
-    ensures { Gives (λ found. (found.0, found.1)) result (match_at words.entry) }
+/// The flags in front of the values, behind those so far, and the values.
+pub(crate) fn read_flags<'w>(
+    so_far: Flags,
+    words: WordsLeft<'w>,
+) -> Result<(Flags, WordsLeft<'w>), TextFault>
+    ensures { Gives (λ found. (found.0, found.1)) result (flags_from false so_far words.entry) }
 {
-    let (name, behind) = words.word_or(TextKind::Acl)?;
-    match match_of(name) {
-        Some(how) => Ok((how, behind)),
-        None => Err(TextFault::Refused(TextKind::Acl)),
-    }
-}
-
-/// The flags in front of the values, and the values.
-pub(crate) fn read_flags(words: WordsLeft<'_>) -> Result<(Flags, WordsLeft<'_>), TextFault>
-    ensures { Gives (λ found. (found.0, found.1)) result (flags_from false no_flags words.entry) }
-{
-    let mut flags = Flags {
-        icase: false,
-        how: None,
-    };
+    let values = words.again();
     let mut left = words;
-    'flags: loop {
-        let values = left.again();
-        let Some(word) = left.next() else {
-            return Ok((flags, left));
-        };
-        match flag_of(word) {
-            Flag::IgnoreCase => flags.icase = true,
-            Flag::Match => {
-                let (how, behind) = read_match(left)?;
-                flags.how = Some(how);
-                left = behind;
-            }
-            Flag::End => return Ok((flags, left)),
-            Flag::Unknown => return Err(TextFault::Refused(TextKind::Acl)),
-            Flag::Value => return Ok((flags, values)),
+    let Some(word) = left.next() else {
+        return Ok((so_far, values));
+    };
+    match flag_of(word) {
+        Flag::IgnoreCase => read_flags(
+            Flags {
+                icase: true,
+                how: so_far.how,
+            },
+            left,
+        ),
+        Flag::Match => {
+            let Some(name) = left.next() else {
+                return Err(TextFault::Refused(TextKind::Acl));
+            };
+            let Some(how) = match_of(name) else {
+                return Err(TextFault::Refused(TextKind::Acl));
+            };
+            read_flags(
+                Flags {
+                    icase: so_far.icase,
+                    how: Some(how),
+                },
+                left,
+            )
         }
+        Flag::End => Ok((so_far, left)),
+        Flag::Unknown => Err(TextFault::Refused(TextKind::Acl)),
+        Flag::Value => Ok((so_far, values)),
     }
 }

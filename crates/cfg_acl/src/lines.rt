@@ -23,10 +23,11 @@ fn count_named(lines: &AclList, name: &[u8]) -> u32
     ensures { result ≡ count_by (is_named name.now) lines.now }
 {
     let mut count = 0;
-    'lines: for at in 0..lines.len() {
-        if is_named(lines.get(at), name) {
-            count += 1;
+    'each: for at in 0..lines.len() {
+        if !is_named(lines.get(at), name) {
+            continue;
         }
+        count += 1;
     }
     count
 }

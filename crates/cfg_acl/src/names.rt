@@ -1,5 +1,6 @@
 //! What a name of an `acl` line or of the predefined ones stands for.
 ghost use Rattle.std.specs.Prelude.{◌≡◌, ◌∷◌, [], Some, None, option_map, is_some, IfOk};
+ghost use Rattle.std.specs.List.{list_all};
 ghost use Rattle.cfg_expr.specs.Faults.{Gives};
 ghost use Rattle.cfg_acl.specs.Lines.{is_name_byte, is_acl_name, is_predefined, declared_name, plain_test, predefined_of, predefined_test, is_of_requests, has_predefined, is_named, named_tests, tests_from};
 
@@ -88,7 +89,8 @@ fn text_test(alloc: Global, fetch: Fetch, how: Match, text: &[u8]) -> Result<Tes
     ensures { IfOk result (λ test. test ≡ plain_test fetch how (text.now ∷ [])) }
 {
     let mut test = empty_test(alloc, fetch, how);
-    test.values.push(TestValue::Literal(Text::copy(alloc, text)?))?;
+    test.values
+        .push(TestValue::Literal(Text::copy(alloc, text)?))?;
     Ok(test)
 }
 
@@ -104,7 +106,8 @@ fn methods_test(alloc: Global, first: &[u8], second: &[u8]) -> Result<Test, OutO
     ensures { IfOk result (λ test. test ≡ plain_test Fetch.Method Match.Str (first.now ∷ second.now ∷ [])) }
 {
     let mut test = method_test(alloc, first)?;
-    test.values.push(TestValue::Literal(Text::copy(alloc, second)?))?;
+    test.values
+        .push(TestValue::Literal(Text::copy(alloc, second)?))?;
     Ok(test)
 }
 
@@ -150,10 +153,16 @@ fn has_predefined(side: Side, which: Predefined) -> bool
     }
 }
 
+fn are_name_bytes(word: &[u8]) -> bool
+    ensures { result ≡ list_all is_name_byte word.now }
+{
+    word.iter().all(|b| is_name_byte(*b))
+}
+
 fn is_acl_name(word: &[u8]) -> bool
     ensures { result ≡ is_acl_name word.now }
 {
-    !word.is_empty() && word.iter().all(|b| is_name_byte(*b))
+    1 <= word.len() && are_name_bytes(word)
 }
 
 /// A letter, a digit, `-`, `_`, `.` or `:`.
@@ -192,10 +201,14 @@ fn line_tests(
     ensures { Gives (λ tests. tests) result (tests_from side name.now [] lines.now) }
 {
     let mut tests = TestList::new(alloc);
-    'lines: for at in 0..lines.len() {
+    'each: for at in 0..lines.len() {
         let line = lines.get(at);
-        if is_named(line, name) {
-            tests.push(copy_on(alloc, side, &line.test)?)?;
+        if !is_named(line, name) {
+            continue;
+        }
+        match copy_on(alloc, side, &line.test) {
+            Ok(test) => tests.push(test)?,
+            Err(fault) => return Err(fault),
         }
     }
     Ok(tests)

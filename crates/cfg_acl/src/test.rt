@@ -4,7 +4,7 @@ ghost use Rattle.cfg_expr.specs.Faults.{ReadsText};
 ghost use Rattle.cfg_acl.specs.Tests.{first_of_two, chosen_match, test_behind, test_of};
 
 use crate::criterion::{Criterion, default_match, read_criterion};
-use crate::flags::{Flags, read_flags};
+use crate::flags::{Flags, NO_FLAGS, read_flags};
 use crate::values::read_values;
 use crate::{WordsLeft, WrittenTest};
 use acl_eval::Match;
@@ -35,7 +35,7 @@ fn test_behind<P: Patterns>(
 ) -> Result<WrittenTest, TextFault>
     ensures { ReadsText (λ test. test) (test_behind criterion words.entry) (P.refusals pats.old) (P.refusals pats.new) (P.last_refused pats.new) result }
 {
-    let (flags, words) = read_flags(words)?;
+    let (flags, words) = read_flags(NO_FLAGS, words)?;
     let how = chosen_match(&criterion, flags);
     let icase = flags.icase;
     let values = read_values(alloc, how, icase, words, pats)?;

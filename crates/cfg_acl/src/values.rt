@@ -1,12 +1,12 @@
 //! The values of a test.
-ghost use Rattle.std.specs.Prelude.{◌≡◌, [], Some, None, Ok};
+ghost use Rattle.std.specs.Prelude.{◌≡◌, ◌+◌, ◌<◌, ◌≤◌, [], length, Some, None, Ok, IfOk};
 ghost use Rattle.cfg_expr.specs.Faults.{Gives, ReadsText};
 ghost use Rattle.cfg_acl.specs.Values.{operator_of, numbers_by, number, bound, range, number_value, with_word, no_ranges, ranges_from, literals};
 ghost use Rattle.cfg_acl.specs.Tests.{patterns_from, needs_none, some_values, values_of};
 
 use crate::WordsLeft;
 use acl_eval::{Match, TestValue, ValueList};
-use cfg_expr::{TextFault, TextKind, build};
+use cfg_expr::{TextFault, TextKind, around, build, first_of};
 use px_pattern::Patterns;
 use px_sample::{Text, number_of_bytes};
 use std::alloc::Global;
@@ -136,10 +136,11 @@ fn number_value(
 ) -> Result<(TestValue, bool), TextFault>
     ensures { Gives (λ found. found) result (number_value operator lacking word.now) }
 {
-    match word.iter().position(|b| *b == b':') {
+    match first_of(b':', word) {
         Some(at) => {
-            let low = bound(&word[..at])?;
-            let high = bound(&word[at + 1..])?;
+            let (front, behind) = around(at, word);
+            let low = bound(front)?;
+            let high = bound(behind)?;
             Ok((range(low, high)?, lacking))
         }
         None => Ok((numbers_by(operator, number(word)?), false)),
@@ -158,7 +159,9 @@ impl Ranges {
     /// With a word that is an operator, or else a value.
     #[tactic(auto, unfolding(crate::specs::Values::with_word))]
     fn with_word(self, word: &[u8]) -> Result<Ranges, TextFault>
-        ensures { Gives (λ next. record { values = next.values; operator = next.operator; lacking = next.lacking }) result (with_word (record { values = self.values; operator = self.operator; lacking = self.lacking }) word.now) }
+        requires { length self.values < 64 }
+        ensures few { IfOk result (λ next. length next.values ≤ length self.values + 1) }
+        ensures words { Gives (λ next. next) result (with_word self word.now) }
     {
         let Ranges {
             mut values,
@@ -191,6 +194,7 @@ impl Ranges {
 
 /// The values of `int` and `len`.
 fn read_ranges(alloc: Global, mut words: WordsLeft<'_>) -> Result<ValueList, TextFault>
+    requires { length words ≤ 64 }
     ensures { Gives (λ values. values) result (ranges_from no_ranges words.entry) }
 {
     let mut ranges = Ranges {
@@ -198,8 +202,11 @@ fn read_ranges(alloc: Global, mut words: WordsLeft<'_>) -> Result<ValueList, Tex
         operator: Operator::Eq,
         lacking: false,
     };
-    'words: while let Some(word) = words.next() {
-        ranges = ranges.with_word(word)?;
+    'each: while let Some(word) = words.next() {
+        match ranges.with_word(word) {
+            Ok(next) => ranges = next,
+            Err(fault) => return Err(fault),
+        }
     }
     if ranges.lacking {
         return Err(TextFault::Refused(TextKind::Acl));
@@ -209,10 +216,11 @@ fn read_ranges(alloc: Global, mut words: WordsLeft<'_>) -> Result<ValueList, Tex
 
 /// Texts, as they stand.
 fn read_literals(alloc: Global, mut words: WordsLeft<'_>) -> Result<ValueList, TextFault>
+    requires { length words ≤ 64 }
     ensures { Gives (λ values. values) result (Ok (literals words.entry)) }
 {
     let mut values = ValueList::new(alloc);
-    'words: while let Some(word) = words.next() {
+    'each: while let Some(word) = words.next() {
         values.push(TestValue::Literal(Text::copy(alloc, word)?))?;
     }
     Ok(values)
@@ -225,12 +233,15 @@ fn read_patterns<P: Patterns>(
     mut words: WordsLeft<'_>,
     pats: &mut P,
 ) -> Result<ValueList, TextFault>
+    requires { length words ≤ 64 }
     ensures { ReadsText (λ values. values) (patterns_from icase [] words.entry) (P.refusals pats.old) (P.refusals pats.new) (P.last_refused pats.new) result }
 {
     let mut values = ValueList::new(alloc);
-    'words: while let Some(word) = words.next() {
-        let pat = build(alloc, word, icase, pats)?;
-        values.push(TestValue::Pattern(pat))?;
+    'each: while let Some(word) = words.next() {
+        match build(alloc, word, icase, pats) {
+            Ok(pat) => values.push(TestValue::Pattern(pat))?,
+            Err(fault) => return Err(fault),
+        }
     }
     Ok(values)
 }
@@ -243,6 +254,7 @@ fn some_values<P: Patterns>(
     words: WordsLeft<'_>,
     pats: &mut P,
 ) -> Result<ValueList, TextFault>
+    requires { length words ≤ 64 }
     ensures { ReadsText (λ values. values) (some_values how icase words.entry) (P.refusals pats.old) (P.refusals pats.new) (P.last_refused pats.new) result }
 {
     match how {

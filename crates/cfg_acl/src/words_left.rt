@@ -1,5 +1,5 @@
 //! The words of a line that are still to be read.
-ghost use Rattle.std.specs.Prelude.{◌≡◌, ◌≤◌, ◌∷◌, [], drop, length, MatchOption};
+ghost use Rattle.std.specs.Prelude.{◌≡◌, ◌≤◌, ◌<◌, ◌+◌, ◌∷◌, [], Some, take, drop, length, slice_get, MatchOption};
 ghost use Rattle.cfg_expr.specs.Faults.{Gives};
 ghost use Rattle.cfg_acl.specs.Words.{is_close, up_to_close, word_or};
 
@@ -71,6 +71,35 @@ impl<'a> WordsLeft<'a> {
         Some(word)
     }
 
+    /// A word by its number, counted from 0.
+    fn word(&self, number: u32) -> &'a [u8]
+        requires { number < length self.now }
+        ensures { slice_get self.now number ≡ Some result.now }
+    {
+        self.words.word(self.at + number)
+    }
+
+    /// The words in front of one, and those behind it.
+    fn around(self, number: u32) -> (WordsLeft<'a>, WordsLeft<'a>)
+        requires { number < length self }
+        ensures front { result.0 ≡ take number self.entry }
+        ensures behind { result.1 ≡ drop (number + 1) self.entry }
+    {
+        let WordsLeft { words, at, end } = self;
+        let stop = at + number;
+        let front = WordsLeft {
+            words,
+            at,
+            end: stop,
+        };
+        let behind = WordsLeft {
+            words,
+            at: stop + 1,
+            end,
+        };
+        (front, behind)
+    }
+
     /// The next word and those behind it; a missing one is refused with a kind.
     pub fn word_or(mut self, kind: TextKind) -> Result<(&'a [u8], WordsLeft<'a>), TextFault>
         ensures { Gives (λ found. (found.0.now, found.1)) result (word_or kind self.entry) }
@@ -85,19 +114,13 @@ impl<'a> WordsLeft<'a> {
     pub fn up_to_close(self) -> (WordsLeft<'a>, Option<WordsLeft<'a>>)
         ensures { up_to_close self.entry ≡ (result.0, result.1) }
     {
-        let WordsLeft { words, at, end } = self;
-        for i in at..end {
-            if is_close(words.word(i)) {
-                let inside = WordsLeft { words, at, end: i };
-                let behind = WordsLeft {
-                    words,
-                    at: i + 1,
-                    end,
-                };
+        'each: for number in 0..self.len() {
+            if is_close(self.word(number)) {
+                let (inside, behind) = self.around(number);
                 return (inside, Some(behind));
             }
         }
-        (WordsLeft { words, at, end }, None)
+        (self, None)
     }
 }
 

@@ -1,10 +1,10 @@
 -- What is left of a reading, step by step.
-use Rattle.std.proofs.Common.{◌≡◌, ℕ, zero, suc, List, [], ◌∷◌, ◌++◌, Some, Ok, Err, ap, ◌∙◌, sym, subst, refl, arith}
+use Rattle.std.proofs.Common.{◌≡◌, ℕ, zero, suc, List, [], ◌∷◌, ◌++◌, Some, Ok, ap, ◌∙◌, subst, refl, arith}
 use Rattle.std.specs.Prelude.{slice_get}
 use Rattle.std.proofs.lemmas.Option.{slice_get_within}
 use Rattle.px_pattern.specs.Pattern.{Pattern}
 use Rattle.px_pattern.specs.Refusals.{Kept, Rose}
-use Rattle.cfg_expr.specs.Reading.{Reading, plain, ◌>>=◌, given_by, asked_by, Cause, Refused, Unbuilt, NoMemory, Fails}
+use Rattle.cfg_expr.specs.Reading.{Reading, ◌>>=◌, given_by, asked_by, Cause, Refused, Unbuilt, NoMemory, Fails}
 
 -- what stands in a list stands behind another too
 pub found_behind : {A : Type 0} (xs ys : List A) (n : ℕ) (x : A) → slice_get ys n ≡ Some x → (m : ℕ) × (slice_get (xs ++ ys) m ≡ Some x)

@@ -1,16 +1,16 @@
 -- One more converter, and one more part.
-use Rattle.std.proofs.Common.{◌≡◌, ◌≢◌, ℕ, zero, suc, ◌+◌, List, [], ◌∷◌, ◌++◌, length, drop, true, false, Ok, Err, ap, ◌∙◌, sym, subst, refl, arith, cond, length-append}
+use Rattle.std.proofs.Common.{◌≡◌, ◌≢◌, ℕ, zero, suc, ◌+◌, List, [], ◌∷◌, ◌++◌, length, drop, true, false, Ok, Err, ap, ◌∙◌, subst, refl, arith, cond, length-append}
 use Rattle.px_pattern.specs.Refusals.{Kept}
 use Rattle.px_conv.specs.declared.conv.Conv.{Conv}
 use Rattle.log_format.specs.declared.fmt.Part.{Part}
 use Rattle.cfg_expr.specs.declared.fault.TextKind.{TextKind}
 use Rattle.cfg_expr.specs.declared.fault.TextKind.TheVariants as kinds
 use Rattle.cfg_expr.specs.declared.side.Side.{Side}
-use Rattle.cfg_expr.specs.Reading.{Reading, plain, ◌>>=◌, Cause, Refused, Unbuilt, NoMemory, Fails}
+use Rattle.cfg_expr.specs.Reading.{plain, ◌>>=◌, Cause, Fails}
 use Rattle.cfg_expr.specs.Faults.{TextReading}
 use Rattle.cfg_expr.specs.Exprs.{goes_on, conv_at, convs_from}
 use Rattle.cfg_expr.specs.Formats.{part_at, parts_from}
-use Rattle.cfg_expr.proofs.Readings.{Leads, leads_on, leads_out, fails_left}
+use Rattle.cfg_expr.proofs.Readings.{Leads, leads_on, leads_out}
 
 -- where a comma follows, one more converter may come
 convs_more : (most : ℕ) (convs : List Conv) (rest : List ℕ) → goes_on 44 rest ≡ true →

@@ -7,7 +7,7 @@ use Rattle.px_expr.specs.declared.expr.Expr.{Expr}
 use Rattle.cfg_expr.specs.declared.fault.TextKind.TheVariants as kinds
 use Rattle.cfg_expr.specs.declared.side.Side.{Side}
 use Rattle.cfg_expr.specs.declared.source.Written.{Written}
-use Rattle.cfg_expr.specs.Reading.{Reading, plain, built, ◌>>=◌}
+use Rattle.cfg_expr.specs.Reading.{plain, built, ◌>>=◌}
 use Rattle.cfg_expr.specs.Faults.{Told, TextReading}
 use Rattle.cfg_expr.specs.Calls.{Form, form_in}
 use Rattle.cfg_expr.specs.Fetches.{expected, placed_source, with_fetch}

@@ -5,7 +5,7 @@ use Rattle.log_format.specs.declared.fmt.Part.TheVariants.{Literal, Sample}
 use Rattle.log_format.specs.declared.fmt.Fmt.{Fmt}
 use Rattle.cfg_expr.specs.declared.fault.TextKind.TheVariants as kinds
 use Rattle.cfg_expr.specs.declared.side.Side.{Side}
-use Rattle.cfg_expr.specs.Reading.{Reading, plain, ◌>>=◌}
+use Rattle.cfg_expr.specs.Reading.{plain, ◌>>=◌}
 use Rattle.cfg_expr.specs.Faults.{Told, TextReading}
 use Rattle.cfg_expr.specs.Exprs.{expr_at}
 

@@ -13,7 +13,7 @@ mod patterns;
 mod side;
 mod source;
 
-pub use call::{Args, Call, call_in};
+pub use call::{Args, Call, around, call_in, first_of};
 pub use converters::read_convs;
 pub use expressions::{placed_source, read_expr, read_written};
 pub use fault::{TextFault, TextKind};

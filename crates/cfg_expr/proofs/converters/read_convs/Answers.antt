@@ -1,4 +1,4 @@
-use Rattle.std.proofs.Common.{◌≡◌, ◌++◌, ◌∷◌, [], ap, length, ◌∙◌, arith, rules, refl}
+use Rattle.std.proofs.Common.{◌≡◌, ◌++◌, ◌∷◌, [], ◌∙◌, arith, rules, refl}
 use Rattle.cfg_expr.specs.Exprs.{convs_at}
 use Rattle.cfg_expr.specs.Faults.{cause_of}
 use Rattle.cfg_expr.proofs.Readings.{leads_begin}

@@ -1,5 +1,5 @@
-use Rattle.std.proofs.Common.{◌≡◌, ◌≢◌, ◌++◌, ◌∷◌, [], take, drop, ap, length, ◌∙◌, arith, rules, refl}
-use Rattle.cfg_expr.proofs.Texts.{literal_stop, literal_step, literal_end, literal_on, first_byte}
+use Rattle.std.proofs.Common.{◌≡◌, ◌≢◌, ◌++◌, take, drop, ap, ◌∙◌, arith, rules}
+use Rattle.cfg_expr.proofs.Texts.{literal_end, literal_on, first_byte}
 use Rattle.cfg_expr.specs.Formats.{piece_len}
 use Rattle.cfg_expr.proofs.formats.literal_in.Goals as goal
 

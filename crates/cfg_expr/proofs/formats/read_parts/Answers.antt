@@ -1,4 +1,4 @@
-use Rattle.std.proofs.Common.{◌≡◌, ◌≢◌, ◌++◌, ◌∷◌, [], sym, ap, length, ◌∙◌, arith, rules, refl}
+use Rattle.std.proofs.Common.{◌≡◌, ◌≢◌, ◌++◌, ◌∷◌, [], sym, length, ◌∙◌, arith, rules, refl}
 use Rattle.cfg_expr.specs.Formats.{parts_at}
 use Rattle.cfg_expr.specs.Faults.{cause_of}
 use Rattle.cfg_expr.proofs.Readings.{leads_begin}

@@ -1,0 +1,4 @@
+pub mod Windows
+pub mod Closing
+pub mod Listed
+pub mod Steps
