@@ -1,5 +1,5 @@
 -- Names in lower case, and names of variables.
-use Rattle.std.proofs.Common.{inl, inr, ◌≡◌, ℕ, ◌+◌, ◌≤◌, ◌<◌, Bool, true, false, ltb, leb, List, [], ◌∷◌, length, take, drop, Option, Some, None, cond, refl, sym, ap, subst, ◌∙◌, arith}
+use Rattle.std.proofs.Common.{inl, inr, ◌≡◌, ℕ, ◌+◌, ◌≤◌, ◌<◌, Bool, true, false, ltb, leb, List, [], ◌∷◌, length, take, drop, Option, Some, None, cond, Ok, refl, sym, ap, subst, ◌∙◌, arith}
 use Rattle.std.specs.Prelude.{◌&&◌, ◌||◌, ◌⊎◌, ◌==◌, position}
 use Rattle.std.specs.List.{list_all}
 use Rattle.std.specs.Char.{to_ascii_lowercase, is_ascii_alphanumeric}
@@ -11,6 +11,7 @@ use Rattle.px_bytes.specs.Tokens.{is_token, is_token_byte}
 use Rattle.px_sample.specs.declared.scope.Scope.{Scope}
 use Rattle.cfg_expr.specs.Fetches as fetches
 use Rattle.cfg_expr.specs.Fetches.{is_variable_name, is_dot, scope_of, variable_in, variable_at, variable_of}
+use Rattle.cfg_action.specs.Faults.{Read}
 use Rattle.rule_model.specs.Valid.{IsName, IsVariableName, is_variable_byte}
 
 lower_twice : (c : ℕ) → to_ascii_lowercase (to_ascii_lowercase c) ≡ to_ascii_lowercase c
@@ -67,6 +68,13 @@ lower_name word name is same =
     let token : is_token (str_to_ascii_lowercase word) ≡ true = rw (full, bytes) refl in
     rw same (record { some = some; short = short; token = token; lower = str_lower_twice word })
 
+
+abbrev given : List ℕ → Read (List ℕ)
+given name = Ok name
+
+-- a name that was read is the one that was meant
+pub read_is : (x y : List ℕ) → given x ≡ given y → x ≡ y
+read_is x y e = cc
 
 -- ---- variables
 

@@ -1,7 +1,7 @@
 //! The arguments of a rule, word by word.
-ghost use Rattle.std.specs.Prelude.{◌≡◌, option_map, IfOk};
+ghost use Rattle.std.specs.Prelude.{◌≡◌, option_map, IfOk, Ok};
 ghost use Rattle.std.specs.List.{list_any};
-ghost use Rattle.std.specs.Str.{bytes_eq};
+ghost use Rattle.std.specs.Str.{bytes_eq, str_to_ascii_lowercase};
 ghost use Rattle.rule_model.specs.Valid.{IsName, IsMadeName, IsCode, IsVariableName};
 ghost use Rattle.cfg_action.specs.Faults.{Gives, ReadsRule, argument};
 ghost use Rattle.cfg_action.specs.Arguments.{name_of, made_name, made_name_at, is_name, is_framing, code_of, variable_behind, bracketed};
@@ -37,8 +37,16 @@ fn is_name(word: &[u8]) -> bool
     is_token(word) && word.len() <= MAX_NAME
 }
 
+/// A word in lower case.
+fn lowered(alloc: Global, word: &[u8]) -> Result<Text, RuleFault>
+    ensures { Gives (λ name. name) result (Ok (str_to_ascii_lowercase word.now)) }
+{
+    let mut name = Vec::from_slice(alloc, word)?;
+    fold(&mut name);
+    Ok(Text::copy(alloc, &name)?)
+}
+
 /// The name of a field, in lower case.
-#[tactic(auto, using(crate::proofs::NameLemmas::lower_name))]
 pub fn name_of(alloc: Global, word: &[u8]) -> Result<Text, RuleFault>
     ensures name { Gives (λ name. name) result (name_of word.now) }
     ensures good { IfOk result IsName }
@@ -46,9 +54,8 @@ pub fn name_of(alloc: Global, word: &[u8]) -> Result<Text, RuleFault>
     if !is_name(word) {
         return Err(RuleFault::Refused(RuleKind::Argument));
     }
-    let mut name = Vec::from_slice(alloc, word)?;
-    fold(&mut name);
-    Ok(Text::copy(alloc, &name)?)
+    let name = lowered(alloc, word)?;
+    Ok(name)
 }
 
 /// The name is in a table.
