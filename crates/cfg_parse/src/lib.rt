@@ -2,7 +2,6 @@
 //! `http-request` rules that are read today. Nothing here runs a rule.
 #![tactic(auto)]
 
-mod actions;
 mod address;
 mod arguments;
 mod draft;
@@ -12,6 +11,7 @@ mod finish;
 mod keywords;
 mod limits;
 mod lines;
+mod rule_lines;
 mod sections;
 mod settings;
 mod sizes;

@@ -1,0 +1,90 @@
+//! The lines of `acl`, `http-request`, `http-response` and `http-after-response`.
+
+ghost use Rattle.std.specs.Prelude.{◌≡◌, ◌-◌, ◌^◌, min, length, OnOk};
+ghost use Rattle.cfg_parse.specs.Reading.{Leaves};
+ghost use Rattle.cfg_parse.specs.Asking.{ReadsLine};
+ghost use Rattle.cfg_parse.specs.Sound.{IsSound};
+ghost use Rattle.cfg_parse.specs.Rules.{tests_of, rules_in, rule_added, rule_line, acl_setting};
+
+use crate::arguments::Arguments;
+use crate::draft::Draft;
+use crate::fault::{CfgKind, LineRefusal};
+use crate::limits::{MAX_RULES, MAX_TESTS};
+use cfg_acl::{count_tests, read_acl};
+use cfg_action::read_rule;
+use http_rules::{Cond, Direction, Rule};
+use px_pattern::Patterns;
+use std::alloc::Global;
+
+/// How many tests a rule's condition has; the greatest number where there are more.
+fn tests_of(cond: &Option<Cond>) -> u64
+    ensures { result ≡ min (tests_of cond.now) (2 ^ 64 - 1) }
+{
+    match cond {
+        Some(cond) => count_tests(cond),
+        None => 0,
+    }
+}
+
+/// How many rules of a direction there are so far.
+fn rule_count(draft: &Draft, direction: Direction) -> u32
+    ensures { result ≡ length (rules_in draft.now direction) }
+{
+    match direction {
+        Direction::Request => draft.request.len(),
+        Direction::Response => draft.response.len(),
+        Direction::After => draft.after.len(),
+    }
+}
+
+/// One more rule of a direction.
+#[tactic(auto, unfolding(crate::specs::Rules::rule_added))]
+fn add_rule(draft: &mut Draft, direction: Direction, rule: Rule) -> Result<(), LineRefusal>
+    ensures { Leaves result draft.new (rule_added draft.old direction rule) }
+{
+    let tests = tests_of(&rule.cond);
+    if rule_count(draft, direction) >= MAX_RULES {
+        return Err(LineRefusal::Refused(CfgKind::Limit));
+    }
+    if tests > MAX_TESTS || draft.tests > MAX_TESTS - tests {
+        return Err(LineRefusal::Refused(CfgKind::Limit));
+    }
+    match direction {
+        Direction::Request => draft.request.push(rule)?,
+        Direction::Response => draft.response.push(rule)?,
+        Direction::After => draft.after.push(rule)?,
+    }
+    draft.tests += tests;
+    Ok(())
+}
+
+/// The rule that the words behind `http-request` and its like say.
+#[tactic(auto, using(crate::proofs::SoundLemmas::lefts), unfolding(crate::specs::Rules::rule_line))]
+pub fn read_rule_line<P: Patterns>(
+    alloc: Global,
+    draft: &mut Draft,
+    direction: Direction,
+    arguments: Arguments<'_>,
+    pats: &mut P,
+) -> Result<(), LineRefusal>
+    ensures reads { ReadsLine (λ nothing. draft.new) (rule_line draft.old direction arguments.entry) (P.refusals pats.old) (P.refusals pats.new) (P.last_refused pats.new) result }
+    ensures sound { IsSound draft.old → OnOk result (IsSound draft.new) }
+{
+    let rule = read_rule(alloc, direction, &draft.acls, arguments.left(), pats)?;
+    add_rule(draft, direction, rule)
+}
+
+/// The words behind `acl`.
+#[tactic(auto, using(crate::proofs::SoundLemmas::lefts), unfolding(crate::specs::Rules::acl_setting))]
+pub fn read_acl_line<P: Patterns>(
+    alloc: Global,
+    draft: &mut Draft,
+    arguments: Arguments<'_>,
+    pats: &mut P,
+) -> Result<(), LineRefusal>
+    ensures reads { ReadsLine (λ nothing. draft.new) (acl_setting draft.old arguments.entry) (P.refusals pats.old) (P.refusals pats.new) (P.last_refused pats.new) result }
+    ensures sound { IsSound draft.old → OnOk result (IsSound draft.new) }
+{
+    read_acl(alloc, arguments.left(), &mut draft.acls, pats)?;
+    Ok(())
+}
