@@ -12,22 +12,24 @@ use Rattle.http_model.specs.Sizes.{most_size}
 use Rattle.px_bytes.specs.Numbers.{decimal_of}
 use Rattle.px_link.specs.declared.address.Address.{Address}
 use Rattle.http_rules.specs.declared.config.Config.{Config}
-use Rattle.http_rules.specs.Valid.{AreLimits, HasPort, HasHost, IsChain, IsValid}
+use Rattle.http_rules.specs.Valid.{AreLimits, HasPort, HasHost, IsChain, IsBuilt, AreRun, IsValid}
 use Rattle.cfg_parse.specs.declared.fault.CfgKind.{CfgKind}
-use Rattle.cfg_parse.specs.declared.fault.CfgKind.TheVariants.{Argument, Section, Limit, Missing}
+use Rattle.cfg_parse.specs.declared.fault.CfgKind.TheVariants.{Argument, Section, Limit, Missing, Unbuilt}
 use Rattle.cfg_parse.specs.declared.fault.CfgFault.{CfgFault}
 use Rattle.cfg_parse.specs.declared.draft.Draft.{Draft}
 use Rattle.cfg_parse.specs.declared.fault.LineRefusal.{LineRefusal}
 use Rattle.rule_model.specs.declared.rule.Rule.{Rule}
 use Rattle.rule_model.specs.declared.names.Direction.{Direction as Rules}
 use Rattle.rule_model.specs.declared.names.Direction.TheVariants as lists
-use Rattle.rule_model.specs.Valid.{IsGoodRule, AreRules}
+use Rattle.rule_model.specs.declared.action.Action.{Action}
+use Rattle.rule_model.specs.Valid.{IsGoodRule}
+use Rattle.rule_actions.specs.Acts.{is_built}
 use Rattle.cfg_acl.specs.declared.written.AclLine.{AclLine}
 use Rattle.cfg_parse.specs.Reading.{◌>>=◌, argument, no_more, Leaves}
 use Rattle.cfg_parse.specs.Keywords.{is_timeout_name}
 use Rattle.cfg_parse.specs.Draft.{start, has_listen}
 use Rattle.cfg_parse.specs.Settings.{section_line, bufsize_line, maxrewrite_line, mode_line, timeout_line, bind_line, server_line}
-use Rattle.cfg_parse.specs.Rules.{tests_of, rule_added}
+use Rattle.cfg_parse.specs.Rules.{tests_of, rules_in, has_room, with_rule, rule_added}
 use Rattle.cfg_parse.specs.Sound.{IsSound}
 use Rattle.cfg_parse.specs.Whole.{bufsize_of, maxrewrite_of, limits_of, made_config, with_addresses, whole, of_text, Configures}
 use Rattle.cfg_parse.specs.declared.keywords.SectionWord.{SectionWord}
@@ -150,27 +152,41 @@ server_line-sound draft arguments s =
     keeps_unless (is_some draft.server) Argument _ (keeps_bind (argument arguments) _ (λ name name-is. keeps_bind (argument name.1) _ (λ word is. keeps_bind (server_address_of word.0) _ (λ address address-is. keeps_bind (no_more word.1) _ (λ ended ends.
     record { bufsize = s.bufsize; bind = s.bind; server = server_address_of-good word.0 address address-is; request = s.request; response = s.response; after = s.after; req_filters = s.req_filters; res_filters = s.res_filters })))))
 
-rules_push : (direction : Rules) (rules : List Rule) (rule : Rule) → AllByRecursion (IsGoodRule direction) rules → IsGoodRule direction rule → AllByRecursion (IsGoodRule direction) (rules ++ rule ∷ [])
-rules_push direction [] rule all good = (good, tt)
-rules_push direction (r ∷ rules) rule all good = (all.0, rules_push direction rules rule all.1 good)
+rules_push : (P : Rule → Type 0) (rules : List Rule) (rule : Rule) → AllByRecursion P rules → P rule → AllByRecursion P (rules ++ rule ∷ [])
+rules_push P [] rule all good = (good, tt)
+rules_push P (r ∷ rules) rule all good = (all.0, rules_push P rules rule all.1 good)
 
-one_more : (direction : Rules) (rules : List Rule) (rule : Rule) → AreRules direction rules → IsGoodRule direction rule → ltb (length rules) 1024 ≡ true → AreRules direction (rules ++ rule ∷ [])
-one_more direction rules rule all good room =
+room_is : (draft : Draft) (direction : Rules) (tests : ℕ) → has_room draft direction tests ≡ true → length (rules_in draft direction) + 1 ≤ 1024
+unfolding has_room
+room_is draft direction tests room =
+    let both = and_true (ltb (length (rules_in draft direction)) 1024) (leb (draft.tests + tests) 65536) room in
+    grind (arith, nat_tests)
+
+one_more : (direction : Rules) (rules : List Rule) (rule : Rule) → AreRun direction rules → IsGoodRule direction rule → length rules + 1 ≤ 1024 → is_built rule.action ≡ true
+    → AreRun direction (rules ++ rule ∷ [])
+one_more direction rules rule all good room runs =
     let len : length (rules ++ rule ∷ []) ≡ length rules + 1 = length-append rules (rule ∷ []) in
-    let few : length (rules ++ rule ∷ []) ≤ 1024 = grind (arith, nat_tests) in
-    record { each = rules_push direction rules rule all.each good; few = few }
+    let few : length (rules ++ rule ∷ []) ≤ 1024 = omega (arith, len, room) in
+    record {
+      valid = record { each = rules_push (IsGoodRule direction) rules rule all.valid.each good; few = few };
+      built = rules_push IsBuilt rules rule all.built runs;
+    }
+
+with_rule-sound : (draft : Draft) (direction : Rules) (rule : Rule) → IsSound draft → IsGoodRule direction rule → length (rules_in draft direction) + 1 ≤ 1024 → is_built rule.action ≡ true
+    → IsSound (with_rule draft direction rule)
+with_rule-sound draft lists.Request rule s good room runs =
+    record { bufsize = s.bufsize; bind = s.bind; server = s.server; request = one_more lists.Request draft.request rule s.request good room runs; response = s.response; after = s.after; req_filters = s.req_filters; res_filters = s.res_filters }
+with_rule-sound draft lists.Response rule s good room runs =
+    record { bufsize = s.bufsize; bind = s.bind; server = s.server; request = s.request; response = one_more lists.Response draft.response rule s.response good room runs; after = s.after; req_filters = s.req_filters; res_filters = s.res_filters }
+with_rule-sound draft lists.After rule s good room runs =
+    record { bufsize = s.bufsize; bind = s.bind; server = s.server; request = s.request; response = s.response; after = one_more lists.After draft.after rule s.after good room runs; req_filters = s.req_filters; res_filters = s.res_filters }
 
 rule_added-sound : (draft : Draft) (direction : Rules) (rule : Rule) → IsSound draft → IsGoodRule direction rule → Keeps (rule_added draft direction rule)
 unfolding rule_added
-rule_added-sound draft lists.Request rule s good =
-    keeps_if (ltb (length draft.request) 1024 && leb (draft.tests + tests_of rule.cond) 65536) Limit _ (λ test.
-    record { bufsize = s.bufsize; bind = s.bind; server = s.server; request = one_more lists.Request draft.request rule s.request good (and_true _ _ test).0; response = s.response; after = s.after; req_filters = s.req_filters; res_filters = s.res_filters })
-rule_added-sound draft lists.Response rule s good =
-    keeps_if (ltb (length draft.response) 1024 && leb (draft.tests + tests_of rule.cond) 65536) Limit _ (λ test.
-    record { bufsize = s.bufsize; bind = s.bind; server = s.server; request = s.request; response = one_more lists.Response draft.response rule s.response good (and_true _ _ test).0; after = s.after; req_filters = s.req_filters; res_filters = s.res_filters })
-rule_added-sound draft lists.After rule s good =
-    keeps_if (ltb (length draft.after) 1024 && leb (draft.tests + tests_of rule.cond) 65536) Limit _ (λ test.
-    record { bufsize = s.bufsize; bind = s.bind; server = s.server; request = s.request; response = s.response; after = one_more lists.After draft.after rule s.after good (and_true _ _ test).0; req_filters = s.req_filters; res_filters = s.res_filters })
+rule_added-sound draft direction rule s good =
+    keeps_if (has_room draft direction (tests_of rule.cond)) Limit _ (λ room.
+    keeps_if (is_built rule.action) Unbuilt _ (λ runs.
+    with_rule-sound draft direction rule s good (room_is draft direction (tests_of rule.cond) room) runs))
 
 filter_added-sound : (draft : Draft) (direction : Direction) (filter : FilterSpec) → IsSound draft → IsFilter filter → Keeps (filter_added draft direction filter)
 filter_added-sound draft Request filter s good =
@@ -227,8 +243,8 @@ pub ruleset lefts = (section_left, bufsize_left, maxrewrite_left, mode_left, tim
 
 -- ---- all lines
 
-no_rules : (direction : Rules) → AreRules direction []
-no_rules direction = record { each = tt; few = omega arith }
+no_rules : (direction : Rules) → AreRun direction []
+no_rules direction = record { valid = record { each = tt; few = omega arith }; built = tt }
 
 pub start-sound : IsSound start
 start-sound = record { bufsize = tt; bind = tt; server = tt; request = no_rules lists.Request; response = no_rules lists.Response; after = no_rules lists.After; req_filters = none_chain; res_filters = none_chain }

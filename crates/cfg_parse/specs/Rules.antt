@@ -4,11 +4,12 @@ use Rattle.acl_eval.specs.declared.condition.Cond.{Cond}
 use Rattle.rule_model.specs.declared.names.Direction.{Direction}
 use Rattle.rule_model.specs.declared.names.Direction.TheVariants.{Request, Response, After}
 use Rattle.rule_model.specs.declared.rule.Rule.{Rule}
+use Rattle.rule_actions.specs.Acts.{is_built}
 use Rattle.cfg_acl.specs.Conditions.{acl_line, test_count}
 use Rattle.cfg_action.specs.Rules.{rule_of}
 use Rattle.cfg_expr.specs.Reading.{Reading, plain, ◌>>=◌}
 use Rattle.cfg_parse.specs.declared.fault.CfgKind.{CfgKind}
-use Rattle.cfg_parse.specs.declared.fault.CfgKind.TheVariants.{Limit}
+use Rattle.cfg_parse.specs.declared.fault.CfgKind.TheVariants.{Limit, Unbuilt}
 use Rattle.cfg_parse.specs.declared.draft.Draft.{Draft}
 use Rattle.cfg_parse.specs.Limits.{most_rules, most_tests}
 use Rattle.cfg_parse.specs.Asking.{LineReading, of_text, of_rule}
@@ -30,13 +31,18 @@ with_rule draft Request rule = record draft { tests = draft.tests + tests_of rul
 with_rule draft Response rule = record draft { tests = draft.tests + tests_of rule.cond; response = draft.response ++ rule ∷ [] }
 with_rule draft After rule = record draft { tests = draft.tests + tests_of rule.cond; after = draft.after ++ rule ∷ [] }
 
--- one more rule of a direction: of at most so many, with so many tests in all conditions
+-- one more rule of a direction fits: of at most so many, with so many tests in all conditions
+unfoldable pub has_room : Draft → Direction → (tests : ℕ) → Bool
+has_room draft direction tests = nat_lt (length (rules_in draft direction)) most_rules && nat_le (draft.tests + tests) most_tests
+
+-- one more rule of a direction; an action that is not run yet is refused last
 unfoldable pub rule_added : Draft → Direction → Rule → Result Draft CfgKind
 rule_added draft direction rule =
-    if nat_lt (length (rules_in draft direction)) most_rules && nat_le (draft.tests + tests_of rule.cond) most_tests
-    then Ok (with_rule draft direction rule) else Err Limit
+    if has_room draft direction (tests_of rule.cond)
+    then (if is_built rule.action then Ok (with_rule draft direction rule) else Err Unbuilt)
+    else Err Limit
 
--- the words behind `http-request` and its like; too many rules or tests are refused last
+-- the words behind `http-request` and its like; what there is no room for, or is not run yet, is refused last
 unfoldable pub rule_line : Draft → Direction → List (List ℕ) → LineReading Draft
 rule_line draft direction arguments =
     of_rule (rule_of direction draft.acls arguments) >>= λ rule. plain (rule_added draft direction rule)

@@ -1,10 +1,11 @@
 //! The lines of `acl`, `http-request`, `http-response` and `http-after-response`.
 
 ghost use Rattle.std.specs.Prelude.{◌≡◌, ◌-◌, ◌^◌, min, length, OnOk};
+ghost use Rattle.rule_actions.specs.Acts.{is_built};
 ghost use Rattle.cfg_parse.specs.Reading.{Leaves};
 ghost use Rattle.cfg_parse.specs.Asking.{ReadsLine};
 ghost use Rattle.cfg_parse.specs.Sound.{IsSound};
-ghost use Rattle.cfg_parse.specs.Rules.{tests_of, rules_in, rule_added, rule_line, acl_setting};
+ghost use Rattle.cfg_parse.specs.Rules.{tests_of, rules_in, has_room, rule_added, rule_line, acl_setting};
 
 use crate::arguments::Arguments;
 use crate::draft::Draft;
@@ -12,7 +13,7 @@ use crate::fault::{CfgKind, LineRefusal};
 use crate::limits::{MAX_RULES, MAX_TESTS};
 use cfg_acl::{count_tests, read_acl};
 use cfg_action::read_rule;
-use http_rules::{Cond, Direction, Rule};
+use http_rules::{Action, Cond, DelBy, Direction, Rule};
 use px_pattern::Patterns;
 use std::alloc::Global;
 
@@ -37,24 +38,47 @@ fn rule_count(draft: &Draft, direction: Direction) -> u32
     }
 }
 
+/// One more rule with this condition fits behind those of a direction.
+#[tactic(auto, unfolding(crate::specs::Rules::has_room))]
+fn has_room(draft: &Draft, direction: Direction, cond: &Option<Cond>) -> bool
+    ensures { result ≡ has_room draft.now direction (tests_of cond.now) }
+{
+    let tests = tests_of(cond);
+    rule_count(draft, direction) < MAX_RULES
+        && tests <= MAX_TESTS
+        && draft.tests <= MAX_TESTS - tests
+}
+
+/// The action is one that is run today.
+fn is_built(action: &Action) -> bool
+    ensures { result ≡ is_built action.now }
+{
+    match action {
+        Action::DelHeader(DelBy::Reg(_)) => false,
+        Action::ReplaceHeader(_, _, _) | Action::ReplaceValue(_, _, _) => false,
+        Action::ReplacePath(_, _) | Action::ReplacePathq(_, _) | Action::ReplaceUri(_, _) => false,
+        Action::Redirect { .. } | Action::Return { .. } => false,
+        _ => true,
+    }
+}
+
 /// One more rule of a direction.
-#[tactic(auto, unfolding(crate::specs::Rules::rule_added))]
+#[tactic(auto, unfolding(crate::specs::Rules::rule_added, crate::specs::Rules::has_room))]
 fn add_rule(draft: &mut Draft, direction: Direction, rule: Rule) -> Result<(), LineRefusal>
     ensures { Leaves result draft.new (rule_added draft.old direction rule) }
 {
-    let tests = tests_of(&rule.cond);
-    if rule_count(draft, direction) >= MAX_RULES {
+    if !has_room(draft, direction, &rule.cond) {
         return Err(LineRefusal::Refused(CfgKind::Limit));
     }
-    if tests > MAX_TESTS || draft.tests > MAX_TESTS - tests {
-        return Err(LineRefusal::Refused(CfgKind::Limit));
+    if !is_built(&rule.action) {
+        return Err(LineRefusal::Refused(CfgKind::Unbuilt));
     }
+    draft.tests += tests_of(&rule.cond);
     match direction {
         Direction::Request => draft.request.push(rule)?,
         Direction::Response => draft.response.push(rule)?,
         Direction::After => draft.after.push(rule)?,
     }
-    draft.tests += tests;
     Ok(())
 }
 
