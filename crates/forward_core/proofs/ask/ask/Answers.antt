@@ -44,10 +44,10 @@ pub returns-in-Reply : goal.returns-in-Reply
 returns-in-Reply c =
     λ head is.
     let leaves = subst (λ (v : Verdict). Leaves sides.Request (rules_of c.args.msg.now.size c.args.cfg.now.request (request_env c.args.vars.now head)) v c.run_request.new.msg.blocks c.run_request.new.vars c.run_request.new.reply.blocks) c.in-Reply.is (c.in_ok-verdict.ensures.runs head is) in
-    absurd (never_replies sides.Request _ _ _ _ _ _ c.requires.plain leaves)
+    absurd (never_replies sides.Request c.args.msg.now.size c.args.cfg.now.request (request_env c.args.vars.now head) c.run_request.new.msg.blocks c.run_request.new.vars c.run_request.new.reply.blocks c.requires.plain leaves)
 
 pub returns-in-Deny : goal.returns-in-Deny
 returns-in-Deny c =
     λ head is.
     let leaves = subst (λ (v : Verdict). Leaves sides.Request (rules_of c.args.msg.now.size c.args.cfg.now.request (request_env c.args.vars.now head)) v c.run_request.new.msg.blocks c.run_request.new.vars c.run_request.new.reply.blocks) c.in-Deny.is (c.in_ok-verdict.ensures.runs head is) in
-    absurd (never_denies sides.Request _ _ _ _ _ _ _ c.requires.plain leaves)
+    absurd (never_denies sides.Request c.args.msg.now.size c.args.cfg.now.request (request_env c.args.vars.now head) c.in-Deny.field-0 c.run_request.new.msg.blocks c.run_request.new.vars c.run_request.new.reply.blocks c.requires.plain leaves)

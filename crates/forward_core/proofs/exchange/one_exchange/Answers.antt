@@ -14,14 +14,14 @@ returns-in-Refused-clause-session c =
 pub returns-in-Ok-clause-session : goal.returns-in-Ok-clause-session
 returns-in-Ok-clause-session c =
     let x = c.in-Plain.ensures.plain in
-    let ruled = subst (λ (r : Result (Unit {0}) Full). IsRuled c.args.cfg.now x.head c.ask_fresh.new.msg.blocks r) c.in-Ok.is (c.in_ok-asked.ensures x.head x.blocks_are) in
+    let ruled = subst (λ (r : Result (Unit {0}) Full). IsRuled c.args.cfg.now x.head c.ask_fresh.new.msg.blocks r) c.in-Ok.is (c.in_ok-asked-in-Plain.ensures x.head x.blocks_are) in
     forwarded_session c.args.cfg.now c.args.client.now c.args.server.now c.read_client.new.msg.blocks c.ask_fresh.new.msg.blocks c.in_ok-forward-in-Ok.field-0
     c.requires.valid.limits.least c.requires.server x ruled.0 ruled.1 ruled.2 c.in_ok-forward-in-Ok.ensures
 
 pub returns-clause-session : goal.returns-clause-session
 returns-clause-session c =
     let x = c.in-Plain.ensures.plain in
-    let unsent = subst (λ (r : Result (Unit {0}) Full). IsRuled c.args.cfg.now x.head c.ask_fresh.new.msg.blocks r) c.in-Err.is (c.in_ok-asked.ensures x.head x.blocks_are) in
+    let unsent = subst (λ (r : Result (Unit {0}) Full). IsRuled c.args.cfg.now x.head c.ask_fresh.new.msg.blocks r) c.in-Err.is (c.in_ok-asked-in-Plain.ensures x.head x.blocks_are) in
     rules_refused c.args.cfg.now c.args.client.now c.args.server.now c.read_client.new.msg.blocks c.in_ok-refuse-in-Err.field-0
     c.requires.valid.limits.least x unsent c.in_ok-refuse-in-Err.ensures
 
