@@ -68,7 +68,6 @@ lower_name word name is same =
     let token : is_token (str_to_ascii_lowercase word) ≡ true = rw (full, bytes) refl in
     rw same (record { some = some; short = short; token = token; lower = str_lower_twice word })
 
-
 abbrev given : List ℕ → Read (List ℕ)
 given name = Ok name
 

@@ -53,7 +53,7 @@ code_of least most word = within least most (decimal_of most_digits word)
 unfoldable pub bracketed : (begin : List ℕ) → List ℕ → Option (List ℕ)
 bracketed begin word =
     if starts_with nat_eq word begin && ends_with nat_eq word (codes ")") then
-      (if nat_lt (length begin) (length word) then Some (take (length word - 1 - length begin) (drop (length begin) word)) else None)
+    (if nat_lt (length begin) (length word) then Some (take (length word - 1 - length begin) (drop (length begin) word)) else None)
     else None
 
 abbrev pub variable_in : Option (List ℕ) → Option (Scope × List ℕ)

@@ -125,11 +125,7 @@ fn bracketed<'t>(begin: &[u8], word: &'t [u8]) -> Option<&'t [u8]>
 
 /// `SCOPE.NAME` in brackets.
 #[tactic(auto, using(crate::proofs::NameLemmas::variable_named))]
-pub fn variable_behind(
-    alloc: Global,
-    begin: &[u8],
-    word: &[u8],
-) -> Result<(Scope, Text), RuleFault>
+pub fn variable_behind(alloc: Global, begin: &[u8], word: &[u8]) -> Result<(Scope, Text), RuleFault>
     ensures variable { Gives (λ variable. (variable.0, variable.1)) result (variable_behind begin.now word.now) }
     ensures good { IfOk result (λ variable. IsVariableName variable.1) }
 {

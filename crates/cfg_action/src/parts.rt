@@ -2,6 +2,7 @@
 ghost use Rattle.std.specs.Prelude.{IfOk};
 ghost use Rattle.rule_model.specs.declared.names.ActionName.{ActionName};
 ghost use Rattle.cfg_action.specs.Faults.{Gives};
+
 use crate::fault::RuleFault;
 use crate::redirect::{RedirectOptions, redirect_of};
 use crate::returns::{ReturnOptions, return_of};

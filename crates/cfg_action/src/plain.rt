@@ -114,10 +114,7 @@ fn reason_behind(
 
 /// `set-status`, of the words behind it.
 #[tactic(auto, unfolding(crate::specs::Plain::status_set))]
-pub fn status_set(
-    alloc: Global,
-    words: WordsLeft<'_>,
-) -> Result<(Action, WordsLeft<'_>), RuleFault>
+pub fn status_set(alloc: Global, words: WordsLeft<'_>) -> Result<(Action, WordsLeft<'_>), RuleFault>
     ensures gives { Gives (λ found. (found.0, found.1)) result (status_set words.entry) }
     ensures good { IfOk result (λ found. IsNamed names.SetStatus found.0) }
 {

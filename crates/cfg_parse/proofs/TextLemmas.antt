@@ -86,11 +86,11 @@ leads_out text number draft now others line before mid after kept refusals.Patte
     let r = line_of draft line in
     let behind = λ (d : Draft). lines_from (number + 1) d others in
     let placed : slice_get (map (λ p. (number, p)) r.asks) fails.number ≡ Some (number, fails.pattern) =
-        slice_get-map (λ p. (number, p)) r.asks fails.number ∙ ap (option_map (λ p. (number, p))) fails.asked in
+    slice_get-map (λ p. (number, p)) r.asks fails.number ∙ ap (option_map (λ p. (number, p))) fails.asked in
     let front = found_before (map (λ p. (number, p)) r.asks) (later_asks r.gives behind) fails.number (number, fails.pattern) placed in
     let found = h.asks front.0 (number, fails.pattern) front.1 in
     let asked : slice_get (read_whole text).asks found.0 ≡ Some (number, fails.pattern) =
-        ap (λ (read : Placed Config). slice_get read.asks found.0) (short_read text short) ∙ found.1 in
+    ap (λ (read : Placed Config). slice_get read.asks found.0) (short_read text short) ∙ found.1 in
     let Told : Option (ℕ × Pattern) → Type 0 = λ o. IsSomeAnd o (λ (line, p). kept ≡ Some (p.text, p.icase)) in
     record {
       r = Some found.0;

@@ -68,4 +68,3 @@ unfoldable pub server_line : Draft → List (List ℕ) → Result Draft CfgKind
 server_line draft arguments =
     if is_some draft.server then Err Argument
     else (argument arguments >>= λ name. argument name.1 >>= λ word. server_address_of word.0 >>= λ address. no_more word.1 >>= λ ended. Ok (record draft { server = Some address }))
-

@@ -13,9 +13,7 @@ use crate::filters::set_filter;
 use crate::keywords::{FirstWord, Places, Setting, first_word_of};
 use crate::rule_lines::{read_acl_line, read_rule_line};
 use crate::sections::begin_section;
-use crate::settings::{
-    read_mode, read_timeout, set_bind, set_bufsize, set_maxrewrite, set_server,
-};
+use crate::settings::{read_mode, read_timeout, set_bind, set_bufsize, set_maxrewrite, set_server};
 use cfg_lex::words_of_line;
 use http_rules::Direction;
 use px_pattern::Patterns;

@@ -64,7 +64,11 @@ pub fn read_timeout(draft: &mut Draft, arguments: Arguments<'_>) -> Result<(), L
 }
 
 #[tactic(auto, unfolding(crate::specs::Settings::bind_line))]
-pub fn set_bind(alloc: Global, draft: &mut Draft, arguments: Arguments<'_>) -> Result<(), LineRefusal>
+pub fn set_bind(
+    alloc: Global,
+    draft: &mut Draft,
+    arguments: Arguments<'_>,
+) -> Result<(), LineRefusal>
     ensures { Leaves result draft.new (bind_line draft.old arguments.entry) }
 {
     if draft.bind.is_some() {
@@ -78,7 +82,11 @@ pub fn set_bind(alloc: Global, draft: &mut Draft, arguments: Arguments<'_>) -> R
 }
 
 #[tactic(auto, unfolding(crate::specs::Settings::server_line))]
-pub fn set_server(alloc: Global, draft: &mut Draft, arguments: Arguments<'_>) -> Result<(), LineRefusal>
+pub fn set_server(
+    alloc: Global,
+    draft: &mut Draft,
+    arguments: Arguments<'_>,
+) -> Result<(), LineRefusal>
     ensures { Leaves result draft.new (server_line draft.old arguments.entry) }
 {
     if draft.server.is_some() {

@@ -76,11 +76,7 @@ fn whole_at_end(draft: Draft) -> Result<Config, CfgFault>
 }
 
 /// All lines in turn, and what they come to.
-fn read_lines<P: Patterns>(
-    alloc: Global,
-    text: &[u8],
-    pats: &mut P,
-) -> Result<Config, CfgFault>
+fn read_lines<P: Patterns>(alloc: Global, text: &[u8], pats: &mut P) -> Result<Config, CfgFault>
     requires { length text.now ≤ most_text }
     ensures loads { Loads text.now (P.refusals pats.old) (P.refusals pats.new) (P.last_refused pats.new) result }
     ensures valid { IfOk result IsValid }

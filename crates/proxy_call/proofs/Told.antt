@@ -96,9 +96,17 @@ pub refused : (files : Option (List NamedBytes)) (builder : Builder) (name bytes
 refused None builder name bytes line kind r loads = tt
 refused (Some fs) builder name bytes line kind r loads =
     let builds : Builds (take 1048577 r.0) loads.r builder.before builder.now builder.kept =
-        subst (λ t. Builds t loads.r builder.before builder.now builder.kept) r.2 loads.builds in
-    (loads.r, (r.0, r.1, (sym (same_config r.0 loads.r) ∙ ap (λ t. config_of t loads.r) (sym r.2) ∙ loads.configures,
-    same_builds r.0 loads.r builder.before builder.now builder.kept builds)))
+    subst (λ t. Builds t loads.r builder.before builder.now builder.kept) r.2 loads.builds in (
+      loads.r,
+      (
+        r.0,
+        r.1,
+        (
+          sym (same_config r.0 loads.r) ∙ ap (λ t. config_of t loads.r) (sym r.2) ∙ loads.configures,
+          same_builds r.0 loads.r builder.before builder.now builder.kept builds,
+        ),
+      ),
+    )
 
 -- where no build was refused, a configuration is that of all patterns built
 accepts : (read : Placed Config) (cfg : Config) (kept : Kept) (q : Option (ℕ × Pattern)) → refused_at read q ≡ Ok cfg → IsSomeAnd q (λ (line, p). kept ≡ Some (p.text, p.icase)) → read.gives ≡ Ok cfg

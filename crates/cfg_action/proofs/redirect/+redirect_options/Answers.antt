@@ -13,7 +13,7 @@ returns-in_ok-options-in-Some-redirect_word-clause-reads g t c =
     let next : RedirectOptions × Words → RuleReading (RedirectOptions × Words) = λ found. redirect_options c.args.side (c.args.most - 1) found.0 found.1 in
     let count : c.args.most ≡ suc (c.args.most - 1) = omega arith in
     let all = redirects_on c.args.side c.args.most (c.args.most - 1) c.args.options c.args.words c.in-Some.word.now c.next.new.self c.in-Some-redirect_word.which
-        count (sym c.again-others.ensures ∙ c.in-Some.ensures) (sym c.in-Some-redirect_word.ensures) in
+    count (sym c.again-others.ensures ∙ c.in-Some.ensures) (sym c.in-Some-redirect_word.ensures) in
     reads_behind (λ found. (found.0, found.1)) (redirect_options c.args.side c.args.most c.args.options c.args.words)
     (redirect_option c.args.side c.args.options c.in-Some-redirect_word.which c.next.new.self) next
     (c.in_ok-options-in-Some-redirect_word.options, c.in_ok-options-in-Some-redirect_word.left)

@@ -14,7 +14,7 @@ returns-in_ok-options-in-Some-return_word-clause-reads g t c =
     let next : ReturnOptions × Words → RuleReading (ReturnOptions × Words) = λ found. return_options c.args.side (c.args.most - 1) found.0 found.1 in
     let count : c.args.most ≡ suc (c.args.most - 1) = omega arith in
     let all = returns_on c.args.side c.args.most (c.args.most - 1) c.args.options c.args.words c.in-Some.word.now c.next.new.self c.in-Some-return_word.which
-        count (sym c.again-others.ensures ∙ c.in-Some.ensures) (sym c.in-Some-return_word.ensures) in
+    count (sym c.again-others.ensures ∙ c.in-Some.ensures) (sym c.in-Some-return_word.ensures) in
     reads_behind (λ found. (found.0, found.1)) (return_options c.args.side c.args.most c.args.options c.args.words)
     (return_option c.args.side c.args.options c.in-Some-return_word.which c.next.new.self) next
     (c.in_ok-options-in-Some-return_word.options, c.in_ok-options-in-Some-return_word.left)
@@ -26,7 +26,7 @@ returns-in_err-options-in-Some-return_word-clause-reads g t c =
     let next : ReturnOptions × Words → RuleReading (ReturnOptions × Words) = λ found. return_options c.args.side (c.args.most - 1) found.0 found.1 in
     let count : c.args.most ≡ suc (c.args.most - 1) = omega arith in
     let all = returns_on c.args.side c.args.most (c.args.most - 1) c.args.options c.args.words c.in-Some.word.now c.next.new.self c.in-Some-return_word.which
-        count (sym c.again-others.ensures ∙ c.in-Some.ensures) (sym c.in-Some-return_word.ensures) in
+    count (sym c.again-others.ensures ∙ c.in-Some.ensures) (sym c.in-Some-return_word.ensures) in
     let failed = err_from_is_err_and c.from_residual.result c.from_residual.ensures.1 in
     rw (failed.1, failed.2)
     (fails_whole (return_options c.args.side c.args.most c.args.options c.args.words)

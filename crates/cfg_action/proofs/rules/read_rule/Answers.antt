@@ -20,7 +20,7 @@ pub returns-in_err-cond-clause-reads : goal.returns-in_err-cond-clause-reads
 unfolding rule_of
 returns-in_err-cond-clause-reads g c =
     let last : ActionParts × Words → Option Cond → RuleReading Rule = λ parts cond.
-        plain (made_of parts.0) >>= λ action. plain (Ok (record { action = action; cond = cond })) in
+    plain (made_of parts.0) >>= λ action. plain (Ok (record { action = action; cond = cond })) in
     let behind_parts : ActionParts × Words → RuleReading Rule = λ parts. of_text (rule_end (side_of c.args.direction) c.args.lines.now parts.1) >>= last parts in
     let behind_name : List ℕ × Words → ActionName → RuleReading Rule = λ word name. action_parts c.args.direction name word.0 word.1 >>= behind_parts in
     let behind_word : List ℕ × Words → RuleReading Rule = λ word. plain (placed c.args.direction (action_named word.0)) >>= behind_name word in
