@@ -42,7 +42,7 @@ fn belongs(places: Places, section: Section) -> bool
 }
 
 /// The line of a setting that the section knows.
-#[tactic(auto, using(crate::proofs::SoundLemmas::lefts), unfolding(crate::specs::Lines::setting_line))]
+#[tactic(auto, using(crate::proofs::LineReadings::parts), unfolding(crate::specs::Lines::setting_line))]
 fn read_setting<P: Patterns>(
     alloc: Global,
     draft: &mut Draft,
@@ -93,7 +93,7 @@ fn read_known<P: Patterns>(
 }
 
 /// A line with these words.
-#[tactic(auto, using(crate::proofs::SoundLemmas::lefts), unfolding(crate::specs::Lines::words_line))]
+#[tactic(auto, using(crate::proofs::LineReadings::parts), unfolding(crate::specs::Lines::words_line))]
 fn read_words<P: Patterns>(
     alloc: Global,
     draft: &mut Draft,

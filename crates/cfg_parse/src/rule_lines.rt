@@ -1,9 +1,11 @@
 //! The lines of `acl`, `http-request`, `http-response` and `http-after-response`.
 
-ghost use Rattle.std.specs.Prelude.{◌≡◌, ◌-◌, ◌^◌, min, length, OnOk};
+ghost use Rattle.std.specs.Prelude.{◌≡◌, ◌-◌, ◌^◌, min, length, IfOk, OnOk};
 ghost use Rattle.rule_actions.specs.Acts.{is_built};
 ghost use Rattle.cfg_parse.specs.Reading.{Leaves};
-ghost use Rattle.cfg_parse.specs.Asking.{ReadsLine};
+ghost use Rattle.rule_model.specs.Valid.{IsGoodRule};
+ghost use Rattle.cfg_action.specs.Rules.{rule_of};
+ghost use Rattle.cfg_parse.specs.Asking.{ReadsLine, of_rule};
 ghost use Rattle.cfg_parse.specs.Sound.{IsSound};
 ghost use Rattle.cfg_parse.specs.Rules.{tests_of, rules_in, has_room, rule_added, rule_line, acl_setting};
 
@@ -11,7 +13,7 @@ use crate::arguments::Arguments;
 use crate::draft::Draft;
 use crate::fault::{CfgKind, LineRefusal};
 use crate::limits::{MAX_RULES, MAX_TESTS};
-use cfg_acl::{count_tests, read_acl};
+use cfg_acl::{AclList, count_tests, read_acl};
 use cfg_action::read_rule;
 use http_rules::{Action, Cond, DelBy, Direction, Rule};
 use px_pattern::Patterns;
@@ -83,7 +85,25 @@ fn add_rule(draft: &mut Draft, direction: Direction, rule: Rule) -> Result<(), L
 }
 
 /// The rule that the words behind `http-request` and its like say.
-#[tactic(auto, using(crate::proofs::SoundLemmas::lefts), unfolding(crate::specs::Rules::rule_line))]
+#[tactic(auto, using(crate::proofs::LineReadings::parts))]
+fn rule_of_words<P: Patterns>(
+    alloc: Global,
+    direction: Direction,
+    acls: &AclList,
+    arguments: Arguments<'_>,
+    pats: &mut P,
+) -> Result<Rule, LineRefusal>
+    ensures reads { ReadsLine (λ rule. rule) (of_rule (rule_of direction acls.now arguments.entry)) (P.refusals pats.old) (P.refusals pats.new) (P.last_refused pats.new) result }
+    ensures good { IfOk result (IsGoodRule direction) }
+{
+    match read_rule(alloc, direction, acls, arguments.left(), pats) {
+        Ok(rule) => Ok(rule),
+        Err(fault) => Err(LineRefusal::from(fault)),
+    }
+}
+
+/// The words behind `http-request` and its like: one more rule.
+#[tactic(auto, using(crate::proofs::LineReadings::parts))]
 pub fn read_rule_line<P: Patterns>(
     alloc: Global,
     draft: &mut Draft,
@@ -94,12 +114,15 @@ pub fn read_rule_line<P: Patterns>(
     ensures reads { ReadsLine (λ nothing. draft.new) (rule_line draft.old direction arguments.entry) (P.refusals pats.old) (P.refusals pats.new) (P.last_refused pats.new) result }
     ensures sound { IsSound draft.old → OnOk result (IsSound draft.new) }
 {
-    let rule = read_rule(alloc, direction, &draft.acls, arguments.left(), pats)?;
+    let rule = match rule_of_words(alloc, direction, &draft.acls, arguments, pats) {
+        Ok(rule) => rule,
+        Err(refusal) => return Err(refusal),
+    };
     add_rule(draft, direction, rule)
 }
 
-/// The words behind `acl`.
-#[tactic(auto, using(crate::proofs::SoundLemmas::lefts), unfolding(crate::specs::Rules::acl_setting))]
+/// The words behind `acl`: one more line.
+#[tactic(auto, using(crate::proofs::LineReadings::parts))]
 pub fn read_acl_line<P: Patterns>(
     alloc: Global,
     draft: &mut Draft,
@@ -109,6 +132,8 @@ pub fn read_acl_line<P: Patterns>(
     ensures reads { ReadsLine (λ nothing. draft.new) (acl_setting draft.old arguments.entry) (P.refusals pats.old) (P.refusals pats.new) (P.last_refused pats.new) result }
     ensures sound { IsSound draft.old → OnOk result (IsSound draft.new) }
 {
-    read_acl(alloc, arguments.left(), &mut draft.acls, pats)?;
-    Ok(())
+    match read_acl(alloc, arguments.left(), &mut draft.acls, pats) {
+        Ok(()) => Ok(()),
+        Err(fault) => Err(LineRefusal::from(fault)),
+    }
 }
