@@ -9,16 +9,19 @@ use Rattle.px_pattern.specs.Pattern.{Pattern}
 use Rattle.px_pattern.specs.Refusals.{Kept, Rose}
 use Rattle.cfg_expr.specs.Reading.{Fails}
 use Rattle.cfg_expr.proofs.Readings.{found_behind, found_before}
+use Rattle.cfg_parse.specs.declared.fault.CfgKind.{CfgKind}
 use Rattle.cfg_parse.specs.declared.fault.CfgKind.TheVariants.{Limit}
 use Rattle.cfg_parse.specs.declared.fault.CfgFault.{CfgFault}
 use Rattle.cfg_parse.specs.declared.fault.LineRefusal.{LineRefusal}
 use Rattle.cfg_parse.specs.declared.fault.LineRefusal.TheVariants as refusals
 use Rattle.cfg_parse.specs.declared.draft.Draft.{Draft}
+use Rattle.cfg_parse.specs.Reading as parts
 use Rattle.cfg_parse.specs.Asking.{cause_of}
 use Rattle.cfg_parse.specs.Limits.{most_text}
 use Rattle.cfg_parse.specs.Draft.{start}
 use Rattle.cfg_parse.specs.Lines.{line_of}
 use Rattle.cfg_parse.specs.Whole.{Placed, Refusal, later_asks, placed_gives, lines_from, of_text, after_lines, of_lines, whole, read_whole, refused_at, config_of, pattern_at, fault_at, Configures, Loads}
+use Rattle.cfg_parse.proofs.SoundLemmas.{whole-valid}
 
 -- what is left gives what all gives, and asks for nothing that all does not ask for
 pub record Leads (all left : Placed Draft) : Type 0 where
@@ -109,3 +112,13 @@ refused_whole text count kept long =
       configures = ap (λ b. (cond b too_long (of_lines (lines_from 1 start (lines text)))).gives) (lt-ltb most_text (length text) long);
       builds = refl;
     }
+
+-- ---- after all lines
+
+-- what all lines come to is refused as line 0
+pub refused_after : (meaning : Result Config CfgKind) (refusal : LineRefusal) → parts.Fails refusal meaning → Configures (Err (fault_at 0 refusal)) (of_text meaning)
+refused_after meaning (refusals.Refused kind) fails = ap of_text fails
+refused_after meaning refusals.Pattern fails = absurd fails
+refused_after meaning refusals.OutOfMemory fails = tt
+
+pub ruleset endings = (refused_after, whole-valid, refused_whole)

@@ -1,5 +1,5 @@
-//! A configuration from its text (Configuration Manual, sections 2 to 4): sections, sizes, addresses and the
-//! `http-request` rules that are read today. Nothing here runs a rule.
+//! A configuration from its text (Configuration Manual, sections 2 to 4): sections, settings, `acl` lines, rules and
+//! filters. Nothing here runs a rule.
 #![tactic(auto)]
 
 mod address;

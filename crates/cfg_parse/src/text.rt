@@ -65,6 +65,7 @@ fn first_line(text: &[u8]) -> (&[u8], &[u8])
 }
 
 /// What all lines come to.
+#[tactic(auto, using(crate::proofs::TextLemmas::endings))]
 fn whole_at_end(draft: Draft) -> Result<Config, CfgFault>
     ensures configures { Configures result (of_text (whole draft)) }
     ensures valid { IsSound draft → IfOk result IsValid }
@@ -98,6 +99,7 @@ fn read_lines<P: Patterns>(alloc: Global, text: &[u8], pats: &mut P) -> Result<C
 /// The configuration of a text. The first refused line decides, and in it the first refused word; a text of more
 /// than 1048576 bytes is refused before any line is looked at. The kind `Pattern` comes only where `pats` refused a pattern
 /// of that line in this call, and keeps it.
+#[tactic(auto, using(crate::proofs::TextLemmas::endings))]
 pub fn load<P: Patterns>(alloc: Global, text: &[u8], pats: &mut P) -> Result<Config, CfgFault>
     ensures loads { Loads text.now (P.refusals pats.old) (P.refusals pats.new) (P.last_refused pats.new) result }
     ensures valid { IfOk result IsValid }

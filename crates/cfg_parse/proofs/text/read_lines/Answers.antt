@@ -28,3 +28,7 @@ loop-rest-preserved g c = record {
   same = c.in_default.ensures.reads.1 ∙ c.loop-rest.invariant.same;
   sound = c.in_default.ensures.sound c.loop-rest.invariant.sound;
 }
+
+pub returns-clause-loads : goal.returns-clause-loads
+returns-clause-loads g c =
+    leads_end c.args.text.now c.loop-rest.rest.now c.loop-rest.number c.loop-rest.draft _ _ _ c.whole_at_end.result c.requires (search rules) c.loop-rest.invariant.leads c.loop-rest.invariant.same c.whole_at_end.ensures.configures
