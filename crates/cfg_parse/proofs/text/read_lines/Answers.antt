@@ -15,8 +15,8 @@ loop-rest-init g c = rw c.start-draft.ensures (record {
   sound = start-sound;
 })
 
-pub returns-in-Err : goal.returns-in-Err
-returns-in-Err g c =
+pub returns-in-Err-clause-loads : goal.returns-in-Err-clause-loads
+returns-in-Err-clause-loads g c =
     rw c.at_line.ensures (leads_out c.args.text.now c.loop-rest.number c.loop-rest.draft (lines c.loop-rest.rest.now) (lines c.first_line.result.1.now) c.first_line.result.0.now
     _ _ _ _ c.in-Err.refusal c.requires c.first_line.ensures.lines c.loop-rest.invariant.leads c.loop-rest.invariant.same c.in-Err.ensures.reads)
 
