@@ -3,6 +3,7 @@ use case_rows::{Answers, Fault, Row, decoded};
 use cfg_lex::{LineFault, Words, words_of_line};
 use cfg_parse::{CfgFault, load};
 use http_rules::Config;
+use px_pattern::RealPatterns;
 use std::alloc::Global;
 
 /// Says each word of a line, in brackets.
@@ -25,8 +26,19 @@ pub fn words_in(alloc: Global, row: Row<'_>) -> Result<Vec<u8>, Fault> {
     answers.into_text()
 }
 
-/// Says what an accepted configuration has: `ok`, its two sizes and how many rules; and where there are filters, how
-/// many of each direction.
+/// Says how many there are of two sorts, where there are any.
+fn say_counts(name: &[u8], first: u64, second: u64, answers: &mut Answers) {
+    if first == 0 && second == 0 {
+        return;
+    }
+    answers.say(name);
+    answers.more_count(first);
+    answers.more(b" ");
+    answers.more_count(second);
+}
+
+/// Says what an accepted configuration has: `ok`, its two sizes and how many request rules; where there are any, how many
+/// rules of responses and behind them; and where there are filters, how many of each direction.
 fn say_config(config: &Config, answers: &mut Answers) {
     answers.say(b"ok ");
     answers.more_count(u64::from(config.limits.bufsize));
@@ -34,20 +46,25 @@ fn say_config(config: &Config, answers: &mut Answers) {
     answers.more_count(u64::from(config.limits.maxrewrite));
     answers.more(b" ");
     answers.more_count(u64::from(config.request.len()));
-    if config.filter_count() == 0 {
-        return;
-    }
-    answers.say(b"filters ");
-    answers.more_count(config.req_filters.len() as u64);
-    answers.more(b" ");
-    answers.more_count(config.res_filters.len() as u64);
+    say_counts(
+        b"answers ",
+        u64::from(config.response.len()),
+        u64::from(config.after.len()),
+        answers,
+    );
+    say_counts(
+        b"filters ",
+        config.req_filters.len() as u64,
+        config.res_filters.len() as u64,
+        answers,
+    );
 }
 
 /// NAME, the text of a configuration, and what it comes to: what the configuration has, or the refused line and its kind.
 pub fn configured(alloc: Global, row: Row<'_>) -> Result<Vec<u8>, Fault> {
     let text = decoded(alloc, row.field(1).as_bytes())?;
     let mut answers = Answers::new(alloc);
-    match load(alloc, &text) {
+    match load(alloc, &text, &mut RealPatterns::new()) {
         Ok(config) => say_config(&config, &mut answers),
         Err(CfgFault::Refused { line, kind }) => {
             answers.count(u64::from(line));

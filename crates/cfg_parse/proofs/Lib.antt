@@ -3,5 +3,6 @@ pub mod SizeLemmas
 pub mod LineLemmas
 pub mod TextLemmas
 pub mod SoundLemmas
+pub mod LineReadings
 mod StepLemmas
 mod FilterLemmas

@@ -3,19 +3,23 @@ use Rattle.std.specs.Prelude.{[], Bool, true, false, None}
 use Rattle.cfg_parse.specs.declared.draft.Draft.{Draft}
 use Rattle.cfg_parse.specs.declared.draft.Section.{Section}
 use Rattle.cfg_parse.specs.declared.draft.Section.TheVariants as sections
-use Rattle.cfg_parse.specs.declared.keywords.Setting.{Setting}
-use Rattle.cfg_parse.specs.declared.keywords.Setting.TheVariants.{Bufsize, Maxrewrite, Mode, Timeout, Bind, Server, HttpRequest, Filter}
+use Rattle.cfg_parse.specs.declared.draft.Listen.{Listen}
+use Rattle.cfg_parse.specs.declared.draft.Listen.TheVariants as listens
+use Rattle.cfg_parse.specs.declared.keywords.Places.{Places}
+use Rattle.cfg_parse.specs.declared.keywords.Places.TheVariants.{InGlobal, InBoth, InListen}
 
 -- before the first line
 abbrev pub start : Draft
 start =
     record {
       section = sections.Before;
-      has_listen = false;
+      listen = listens.Missing;
       bufsize = None;
       maxrewrite = None;
       bind = None;
       server = None;
+      acls = [];
+      tests = 0;
       request = [];
       response = [];
       after = [];
@@ -30,16 +34,15 @@ is_before sections.Global = false
 is_before sections.Defaults = false
 is_before sections.Listen = false
 
--- the settings that a section knows
-abbrev pub belongs : Setting → Section → Bool
-belongs Bufsize sections.Global = true
-belongs Maxrewrite sections.Global = true
-belongs Mode sections.Defaults = true
-belongs Mode sections.Listen = true
-belongs Timeout sections.Defaults = true
-belongs Timeout sections.Listen = true
-belongs Bind sections.Listen = true
-belongs Server sections.Listen = true
-belongs HttpRequest sections.Listen = true
-belongs Filter sections.Listen = true
+-- the sections in which a setting may stand
+abbrev pub belongs : Places → Section → Bool
+belongs InGlobal sections.Global = true
+belongs InBoth sections.Defaults = true
+belongs InBoth sections.Listen = true
+belongs InListen sections.Listen = true
 belongs _ _ = false
+
+-- a `listen` section has begun
+abbrev pub has_listen : Listen → Bool
+has_listen listens.Missing = false
+has_listen listens.Begun = true

@@ -1,9 +1,12 @@
 pub mod Reading
+pub mod Asking
 pub mod Keywords
 pub mod Numbers
 pub mod Draft
 pub mod Filters
 pub mod Limits
+pub mod Settings
 pub mod Rules
 pub mod Lines
+pub mod Sound
 pub mod Whole

@@ -9,6 +9,10 @@ most_text = 1048576
 abbrev pub most_rules : ℕ
 most_rules = 1024
 
+-- the most tests of all conditions together
+abbrev pub most_tests : ℕ
+most_tests = 65536
+
 -- the most filters of one direction
 abbrev pub most_filters : ℕ
 most_filters = 8

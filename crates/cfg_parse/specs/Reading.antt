@@ -27,6 +27,7 @@ no_more (word ∷ others) = Err Argument
 
 -- a refusal is the one that the definition gives; want of memory is free
 abbrev pub Fails : {Y : Type 0} → LineRefusal → Result Y CfgKind → Type 0
+Fails refusals.Pattern meaning = ⊥
 Fails refusals.OutOfMemory meaning = Unit {0}
 Fails (refusals.Refused kind) meaning = meaning ≡ Err kind
 

@@ -1,18 +1,22 @@
 -- The configuration of a text.
-use Rattle.std.specs.Prelude.{◌≡◌, ℕ, ◌+◌, ◌-◌, ◌/◌, min, List, [], ◌∷◌, length, nat_lt, if◌then◌else◌, Option, Some, None, unwrap_or, Result, Ok, Err}
+use Rattle.std.specs.Prelude.{◌≡◌, ℕ, ◌+◌, ◌-◌, ◌/◌, min, List, [], ◌∷◌, ◌++◌, map, length, nat_lt, if◌then◌else◌, Option, Some, None, unwrap_or, IsSomeAnd, slice_get, Result, Ok, Err}
 use Rattle.std.specs.Str.Lines.{lines}
 use Rattle.http_model.specs.Sizes.{least_head}
 use Rattle.http_model.specs.declared.Limits.{Limits}
 use Rattle.px_link.specs.declared.address.Address.{Address}
+use Rattle.px_pattern.specs.Pattern.{Pattern}
+use Rattle.px_pattern.specs.Refusals.{Kept, Rose}
 use Rattle.http_rules.specs.declared.config.Config.{Config}
 use Rattle.cfg_parse.specs.declared.fault.CfgKind.{CfgKind}
 use Rattle.cfg_parse.specs.declared.fault.CfgKind.TheVariants.{Limit, Missing}
+use Rattle.cfg_parse.specs.declared.fault.CfgKind.TheVariants as kinds
 use Rattle.cfg_parse.specs.declared.fault.CfgFault.{CfgFault}
 use Rattle.cfg_parse.specs.declared.fault.CfgFault.TheVariants as faults
 use Rattle.cfg_parse.specs.declared.fault.LineRefusal.{LineRefusal}
 use Rattle.cfg_parse.specs.declared.fault.LineRefusal.TheVariants as refusals
 use Rattle.cfg_parse.specs.declared.draft.Draft.{Draft}
-use Rattle.cfg_parse.specs.Draft.{start}
+use Rattle.cfg_parse.specs.Draft.{start, has_listen}
+use Rattle.cfg_parse.specs.Asking.{LineReading}
 use Rattle.cfg_parse.specs.Limits.{default_bufsize, default_maxrewrite, most_text}
 use Rattle.cfg_parse.specs.Lines.{line_of}
 
@@ -50,7 +54,7 @@ made_config draft bind server =
 -- a configuration with these addresses, where all that it needs is there
 abbrev pub with_addresses : Draft → Option Address → Option Address → Result Config CfgKind
 with_addresses draft (Some bind) (Some server) =
-    if draft.has_listen then Ok (made_config draft bind server) else Err Missing
+    if has_listen draft.listen then Ok (made_config draft bind server) else Err Missing
 with_addresses draft (Some bind) None = Err Missing
 with_addresses draft None server = Err Missing
 
@@ -62,14 +66,30 @@ whole draft =
 
 -- ---- lines in turn
 
+-- what lines come to, with the number of the line beside each pattern that they ask for
+pub record Placed (A : Type 0) : Type 0 where
+  pub asks : List (ℕ × Pattern)
+  pub gives : Result A Refusal
+
+-- what the lines behind a line ask for
+abbrev pub later_asks : Result Draft CfgKind → (Draft → Placed Draft) → List (ℕ × Pattern)
+later_asks (Ok draft) others = (others draft).asks
+later_asks (Err kind) others = []
+
+abbrev pub placed_asks : ℕ → LineReading Draft → (Draft → Placed Draft) → List (ℕ × Pattern)
+placed_asks number line others = map (λ p. (number, p)) line.asks ++ later_asks line.gives others
+
 -- what follows a line of this number; a refused line decides
-abbrev pub behind : ℕ → Result Draft CfgKind → (Draft → Result Draft Refusal) → Result Draft Refusal
-behind number (Ok draft) others = others draft
-behind number (Err kind) others = Err (number, kind)
+abbrev pub placed_gives : ℕ → Result Draft CfgKind → (Draft → Placed Draft) → Result Draft Refusal
+placed_gives number (Ok draft) others = (others draft).gives
+placed_gives number (Err kind) others = Err (number, kind)
+
+abbrev pub behind : ℕ → LineReading Draft → (Draft → Placed Draft) → Placed Draft
+behind number line others = record { asks = placed_asks number line others; gives = placed_gives number line.gives others }
 
 -- lines from left to right, the first with this number
-unfoldable pub lines_from : ℕ → Draft → List (List ℕ) → Result Draft Refusal
-lines_from number draft [] = Ok draft
+unfoldable pub lines_from : ℕ → Draft → List (List ℕ) → Placed Draft
+lines_from number draft [] = record { asks = []; gives = Ok draft }
 lines_from number draft (line ∷ others) = behind number (line_of draft line) (λ next. lines_from (number + 1) next others)
 
 -- a refusal of the text as a whole
@@ -82,10 +102,33 @@ abbrev pub after_lines : Result Draft Refusal → Result Config Refusal
 after_lines (Ok draft) = of_text (whole draft)
 after_lines (Err refusal) = Err refusal
 
--- The configuration of a text, or its first refused line with what is wrong there. A line ends with a line feed, and one
--- carriage return in front of that is dropped; a last line needs no line feed.
-unfoldable pub config_of : List ℕ → Result Config Refusal
-config_of text = if nat_lt most_text (length text) then Err (0, Limit) else after_lines (lines_from 1 start (lines text))
+abbrev pub of_lines : Placed Draft → Placed Config
+of_lines lines = record { asks = lines.asks; gives = after_lines lines.gives }
+
+-- What a text comes to where each of its patterns is built. A line ends with a line feed, and one carriage return in front of
+-- that is dropped; a last line needs no line feed.
+unfoldable pub read_whole : List ℕ → Placed Config
+read_whole text =
+    if nat_lt most_text (length text) then record { asks = []; gives = Err (0, Limit) }
+    else of_lines (lines_from 1 start (lines text))
+
+abbrev pub refused_at : Placed Config → Option (ℕ × Pattern) → Result Config Refusal
+refused_at read None = read.gives
+refused_at read (Some (number, p)) = Err (number, kinds.Pattern)
+
+-- where the builder refuses the pattern of this number, counted from 0 in the order of the text, its line is refused
+abbrev pub decided : Placed Config → Option ℕ → Result Config Refusal
+decided read None = read.gives
+decided read (Some number) = refused_at read (slice_get read.asks number)
+
+-- The configuration of a text, or its first refused line with what is wrong there; r is none, or the number of the first
+-- pattern, in the order of the text, that the builder refused.
+unfoldable pub config_of : List ℕ → (r : Option ℕ) → Result Config Refusal
+config_of text r = decided (read_whole text) r
+
+-- the pattern of this number, and the line that it stands in
+unfoldable pub pattern_at : List ℕ → ℕ → Option (ℕ × Pattern)
+pattern_at text number = slice_get (read_whole text).asks number
 
 -- ---- what code gives
 
@@ -95,13 +138,20 @@ Configures (Ok config) meaning = meaning ≡ Ok config
 Configures (Err (faults.Refused line kind)) meaning = meaning ≡ Err (line, kind)
 Configures (Err faults.OutOfMemory) meaning = Unit {0}
 
--- the same of a draft
-abbrev pub Drafts : Result (Unit {0}) CfgFault → Draft → Result Draft Refusal → Type 0
-Drafts (Ok done) draft meaning = meaning ≡ Ok draft
-Drafts (Err (faults.Refused line kind)) draft meaning = meaning ≡ Err (line, kind)
-Drafts (Err faults.OutOfMemory) draft meaning = Unit {0}
+-- No build was refused in this call; or one was, and the last refused build is that pattern's.
+abbrev pub Builds : List ℕ → Option ℕ → (before after : ℕ) → Kept → Type 0
+Builds text None before after kept = after ≡ before
+Builds text (Some number) before after kept =
+    Rose before after × IsSomeAnd (pattern_at text number) (λ (line, p). kept ≡ Some (p.text, p.icase))
+
+-- what a load answers, for one r
+pub record Loads (text : List ℕ) (before after : ℕ) (kept : Kept) (result : Result Config CfgFault) : Type 0 where
+  pub r : Option ℕ
+  pub configures : Configures result (config_of text r)
+  pub builds : Builds text r before after kept
 
 -- what is told of a line's refusal
 abbrev pub fault_at : ℕ → LineRefusal → CfgFault
 fault_at line (refusals.Refused kind) = faults.Refused line kind
+fault_at line refusals.Pattern = faults.Refused line kinds.Pattern
 fault_at line refusals.OutOfMemory = faults.OutOfMemory

@@ -2,6 +2,7 @@ ghost use Rattle.std.specs.Prelude.{◌≡◌, ◌∷◌, [], MatchOption};
 ghost use Rattle.cfg_parse.specs.Reading.{Gives, argument, no_more};
 
 use crate::fault::{CfgKind, LineRefusal};
+use cfg_acl::WordsLeft;
 use cfg_lex::Words;
 use std::marker::Model;
 
@@ -30,14 +31,11 @@ impl<'a> Arguments<'a> {
         Arguments { words, at: 0 }
     }
 
-    /// The same words once more.
-    pub fn again(&self) -> Arguments<'a>
-        ensures { result ≡ self.now }
+    /// The same words for the readers of rules.
+    pub fn left(self) -> WordsLeft<'a>
+        ensures { result ≡ self.entry }
     {
-        Arguments {
-            words: self.words,
-            at: self.at,
-        }
+        WordsLeft::from(self.words, self.at)
     }
 
     /// The next word, if there is one.

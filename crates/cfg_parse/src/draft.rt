@@ -1,5 +1,6 @@
 //! The configuration so far, while lines are read.
 
+use cfg_acl::AclList;
 use http_rules::{Filters, Rules};
 use px_link::Address;
 
@@ -13,15 +14,25 @@ pub enum Section {
     Listen,
 }
 
+/// Whether a `listen` section has begun, of which there is one.
+#[derive(Clone, Copy, Debug, PartialEq, Eq)]
+pub enum Listen {
+    Missing,
+    Begun,
+}
+
 #[derive(Drop)]
 pub struct Draft {
     pub section: Section,
-    /// A `listen` section has begun.
-    pub has_listen: bool,
+    pub listen: Listen,
     pub bufsize: Option<u32>,
     pub maxrewrite: Option<u32>,
     pub bind: Option<Address>,
     pub server: Option<Address>,
+    /// The `acl` lines so far.
+    pub acls: AclList,
+    /// How many tests the conditions so far have.
+    pub tests: u64,
     pub request: Rules,
     pub response: Rules,
     pub after: Rules,

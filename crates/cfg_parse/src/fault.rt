@@ -1,8 +1,13 @@
+ghost use Rattle.std.specs.Prelude.{◌≡◌};
+ghost use Rattle.cfg_parse.specs.Asking.{kind_of_text, kind_of_rule};
+
+use cfg_acl::{TextFault, TextKind};
+use cfg_action::{RuleFault, RuleKind};
 use cfg_lex::LineFault;
 use px_link::OutOfMemory;
 use std::alloc::{AllocError, AllocFailed};
 
-/// What is wrong in a configuration. The numbers are those of the product; 11 goes once all is built.
+/// What is wrong in a configuration. The numbers are those of the product.
 #[derive(Clone, Copy, Debug, PartialEq, Eq)]
 pub enum CfgKind {
     /// A malformed word: a quote without end, `\x` without two hexadecimal digits, a backslash at the end of the
@@ -26,7 +31,7 @@ pub enum CfgKind {
     Limit = 9,
     /// No `listen`, `bind` or `server`.
     Missing = 10,
-    /// A line of the product that is not built yet.
+    /// A rule whose action is not run yet, where nothing else is wrong with its line.
     Unbuilt = 11,
 }
 
@@ -42,8 +47,67 @@ pub enum CfgFault {
 /// Why a line is refused, or could not be read.
 #[derive(Clone, Copy, Debug, PartialEq, Eq)]
 pub enum LineRefusal {
+    /// By its words.
     Refused(CfgKind),
+    /// By the builder of patterns, which keeps the pattern.
+    Pattern,
     OutOfMemory,
+}
+
+/// The kind of a test's or a condition's fault in a line.
+fn kind_of_text(kind: TextKind) -> CfgKind
+    ensures { result ≡ kind_of_text kind }
+{
+    match kind {
+        TextKind::Argument => CfgKind::Argument,
+        TextKind::Expr => CfgKind::Expr,
+        TextKind::Acl => CfgKind::Acl,
+        TextKind::Limit => CfgKind::Limit,
+    }
+}
+
+/// The kind of a rule's fault in a line.
+fn kind_of_rule(kind: RuleKind) -> CfgKind
+    ensures { result ≡ kind_of_rule kind }
+{
+    match kind {
+        RuleKind::Keyword => CfgKind::Keyword,
+        RuleKind::Argument => CfgKind::Argument,
+        RuleKind::Expr => CfgKind::Expr,
+        RuleKind::Acl => CfgKind::Acl,
+        RuleKind::FramingName => CfgKind::FramingName,
+        RuleKind::Limit => CfgKind::Limit,
+    }
+}
+
+impl From<TextFault> for LineRefusal {
+    ghost use Rattle.std.specs.Prelude.{◌≡◌};
+    ghost use Rattle.cfg_parse.specs.Asking.{refusal_of_text};
+
+    ghost from_gives = { λ fault refusal. refusal ≡ refusal_of_text fault };
+
+    fn from(fault: TextFault) -> Self {
+        match fault {
+            TextFault::Refused(kind) => LineRefusal::Refused(kind_of_text(kind)),
+            TextFault::Pattern => LineRefusal::Pattern,
+            TextFault::OutOfMemory => LineRefusal::OutOfMemory,
+        }
+    }
+}
+
+impl From<RuleFault> for LineRefusal {
+    ghost use Rattle.std.specs.Prelude.{◌≡◌};
+    ghost use Rattle.cfg_parse.specs.Asking.{refusal_of_rule};
+
+    ghost from_gives = { λ fault refusal. refusal ≡ refusal_of_rule fault };
+
+    fn from(fault: RuleFault) -> Self {
+        match fault {
+            RuleFault::Refused(kind) => LineRefusal::Refused(kind_of_rule(kind)),
+            RuleFault::Pattern => LineRefusal::Pattern,
+            RuleFault::OutOfMemory => LineRefusal::OutOfMemory,
+        }
+    }
 }
 
 impl From<OutOfMemory> for LineRefusal {

@@ -5,9 +5,10 @@ ghost use Rattle.cfg_parse.specs.Reading.{Gives};
 ghost use Rattle.cfg_parse.specs.Draft.{start};
 ghost use Rattle.cfg_parse.specs.Whole.{limits_of, whole};
 
-use crate::draft::{Draft, Section};
+use crate::draft::{Draft, Listen, Section};
 use crate::fault::{CfgKind, LineRefusal};
 use crate::limits::{DEFAULT_BUFSIZE, DEFAULT_MAXREWRITE, MIN_HEAD};
+use cfg_acl::AclList;
 use http_rules::{Config, Filters, Limits, Rules};
 use std::alloc::Global;
 
@@ -17,11 +18,13 @@ pub fn start(alloc: Global) -> Draft
 {
     Draft {
         section: Section::Before,
-        has_listen: false,
+        listen: Listen::Missing,
         bufsize: None,
         maxrewrite: None,
         bind: None,
         server: None,
+        acls: AclList::new(alloc),
+        tests: 0,
         request: Rules::new(alloc),
         response: Rules::new(alloc),
         after: Rules::new(alloc),
@@ -54,7 +57,7 @@ pub fn whole(draft: Draft) -> Result<Config, LineRefusal>
         return Err(LineRefusal::Refused(CfgKind::Limit));
     }
     let Draft {
-        has_listen,
+        listen,
         bind,
         server,
         request,
@@ -65,7 +68,7 @@ pub fn whole(draft: Draft) -> Result<Config, LineRefusal>
         ..
     } = draft;
     match (bind, server) {
-        (Some(bind), Some(server)) if has_listen => Ok(Config {
+        (Some(bind), Some(server)) if listen == Listen::Begun => Ok(Config {
             limits,
             bind,
             server,

@@ -3,19 +3,15 @@
 ghost use Rattle.std.specs.Prelude.{◌≡◌};
 ghost use Rattle.std.specs.List.{list_any};
 ghost use Rattle.std.specs.Str.{bytes_eq};
-ghost use Rattle.cfg_parse.specs.Keywords.{first_word_of, action_name_of, is_framing_name, is_timeout_name, is_later_action, holds_percent, asks_for_more};
-
-use http_model::FRAMING_NAMES;
+ghost use Rattle.cfg_parse.specs.Keywords.{section_word, general_setting, listen_setting, first_word_of, is_timeout_name};
 
 /// What a first word says of its line.
 #[derive(Clone, Copy, Debug, PartialEq, Eq)]
 pub enum FirstWord {
     /// A section begins.
     Begins(SectionWord),
-    /// A setting of the section.
-    Sets(Setting),
-    /// `acl`, `http-response`: not built yet.
-    Later,
+    /// A setting, and where it may stand.
+    Sets(Setting, Places),
     Unknown,
 }
 
@@ -36,39 +32,21 @@ pub enum Setting {
     Timeout,
     Bind,
     Server,
+    Acl,
     HttpRequest,
+    HttpResponse,
+    HttpAfterResponse,
     Filter,
 }
 
-/// The actions of `http-request`.
+/// The sections in which a setting may stand.
 #[derive(Clone, Copy, Debug, PartialEq, Eq)]
-pub enum ActionName {
-    Allow,
-    AddHeader,
-    SetHeader,
-    /// Not built yet.
-    Later,
-    Unknown,
+pub enum Places {
+    InGlobal,
+    /// `defaults` and `listen`.
+    InBoth,
+    InListen,
 }
-
-const LATER_ACTIONS: [&[u8]; 16] = [
-    b"deny",
-    b"del-header",
-    b"replace-header",
-    b"replace-value",
-    b"set-method",
-    b"set-path",
-    b"set-pathq",
-    b"set-uri",
-    b"set-query",
-    b"replace-path",
-    b"replace-pathq",
-    b"replace-uri",
-    b"redirect",
-    b"return",
-    b"set-var",
-    b"unset-var",
-];
 
 const TIMEOUT_NAMES: [&[u8]; 8] = [
     b"client",
@@ -88,74 +66,80 @@ fn is_among(word: &[u8], table: &[&'static [u8]]) -> bool
     table.iter().any(|entry| *entry == word)
 }
 
-#[tactic(auto, unfolding(crate::specs::Keywords::first_word_of))]
+/// The words that begin a section.
+#[tactic(auto, unfolding(crate::specs::Keywords::section_word))]
+fn section_word(word: &[u8]) -> Option<SectionWord>
+    ensures { result ≡ section_word word.now }
+{
+    if word == b"global".as_slice() {
+        Some(SectionWord::Global)
+    } else if word == b"defaults".as_slice() {
+        Some(SectionWord::Defaults)
+    } else if word == b"listen".as_slice() {
+        Some(SectionWord::Listen)
+    } else if word == b"frontend".as_slice() || word == b"backend".as_slice() {
+        Some(SectionWord::Other)
+    } else {
+        None
+    }
+}
+
+/// The settings that stand outside of `listen` too, and where.
+#[tactic(auto, unfolding(crate::specs::Keywords::general_setting))]
+fn general_setting(word: &[u8]) -> Option<(Setting, Places)>
+    ensures { result ≡ general_setting word.now }
+{
+    if word == b"tune.bufsize".as_slice() {
+        Some((Setting::Bufsize, Places::InGlobal))
+    } else if word == b"tune.maxrewrite".as_slice() {
+        Some((Setting::Maxrewrite, Places::InGlobal))
+    } else if word == b"mode".as_slice() {
+        Some((Setting::Mode, Places::InBoth))
+    } else if word == b"timeout".as_slice() {
+        Some((Setting::Timeout, Places::InBoth))
+    } else {
+        None
+    }
+}
+
+/// The settings of `listen` alone.
+#[tactic(auto, unfolding(crate::specs::Keywords::listen_setting))]
+fn listen_setting(word: &[u8]) -> Option<Setting>
+    ensures { result ≡ listen_setting word.now }
+{
+    if word == b"bind".as_slice() {
+        Some(Setting::Bind)
+    } else if word == b"server".as_slice() {
+        Some(Setting::Server)
+    } else if word == b"acl".as_slice() {
+        Some(Setting::Acl)
+    } else if word == b"http-request".as_slice() {
+        Some(Setting::HttpRequest)
+    } else if word == b"http-response".as_slice() {
+        Some(Setting::HttpResponse)
+    } else if word == b"http-after-response".as_slice() {
+        Some(Setting::HttpAfterResponse)
+    } else if word == b"filter".as_slice() {
+        Some(Setting::Filter)
+    } else {
+        None
+    }
+}
+
+/// What a first word says of its line: the table of all settings with their sections.
 pub fn first_word_of(word: &[u8]) -> FirstWord
     ensures { result ≡ first_word_of word.now }
 {
-    if word == b"global".as_slice() {
-        FirstWord::Begins(SectionWord::Global)
-    } else if word == b"defaults".as_slice() {
-        FirstWord::Begins(SectionWord::Defaults)
-    } else if word == b"listen".as_slice() {
-        FirstWord::Begins(SectionWord::Listen)
-    } else if word == b"frontend".as_slice() || word == b"backend".as_slice() {
-        FirstWord::Begins(SectionWord::Other)
-    } else if word == b"tune.bufsize".as_slice() {
-        FirstWord::Sets(Setting::Bufsize)
-    } else if word == b"tune.maxrewrite".as_slice() {
-        FirstWord::Sets(Setting::Maxrewrite)
-    } else if word == b"mode".as_slice() {
-        FirstWord::Sets(Setting::Mode)
-    } else if word == b"timeout".as_slice() {
-        FirstWord::Sets(Setting::Timeout)
-    } else if word == b"bind".as_slice() {
-        FirstWord::Sets(Setting::Bind)
-    } else if word == b"server".as_slice() {
-        FirstWord::Sets(Setting::Server)
-    } else if word == b"http-request".as_slice() {
-        FirstWord::Sets(Setting::HttpRequest)
-    } else if word == b"filter".as_slice() {
-        FirstWord::Sets(Setting::Filter)
-    } else if word == b"acl".as_slice() || word == b"http-response".as_slice() {
-        FirstWord::Later
-    } else {
-        FirstWord::Unknown
+    if let Some(section) = section_word(word) {
+        return FirstWord::Begins(section);
     }
-}
-
-/// The action is one of the product's that is not built yet. A variable's name stands in the action's word.
-#[tactic(auto, unfolding(crate::specs::Keywords::is_later_action))]
-fn is_later_action(word: &[u8]) -> bool
-    ensures { result ≡ is_later_action word.now }
-{
-    is_among(word, &LATER_ACTIONS)
-        || word.starts_with(b"set-var(")
-        || word.starts_with(b"unset-var(")
-}
-
-#[tactic(auto, unfolding(crate::specs::Keywords::action_name_of))]
-pub fn action_name_of(word: &[u8]) -> ActionName
-    ensures { result ≡ action_name_of word.now }
-{
-    if word == b"allow".as_slice() {
-        ActionName::Allow
-    } else if word == b"add-header".as_slice() {
-        ActionName::AddHeader
-    } else if word == b"set-header".as_slice() {
-        ActionName::SetHeader
-    } else if is_later_action(word) {
-        ActionName::Later
-    } else {
-        ActionName::Unknown
+    if let Some((setting, places)) = general_setting(word) {
+        return FirstWord::Sets(setting, places);
     }
-}
-
-/// The name, which is in lower case, frames a message or speaks of its connection.
-#[tactic(auto, unfolding(crate::specs::Keywords::is_framing_name))]
-pub fn is_framing_name(name: &[u8]) -> bool
-    ensures { result ≡ is_framing_name name.now }
-{
-    is_among(name, &FRAMING_NAMES)
+    match listen_setting(word) {
+        Some(setting) => FirstWord::Sets(setting, Places::InListen),
+        None => FirstWord::Unknown,
+    }
 }
 
 #[tactic(auto, unfolding(crate::specs::Keywords::is_timeout_name))]
@@ -163,22 +147,4 @@ pub fn is_timeout_name(name: &[u8]) -> bool
     ensures { result ≡ is_timeout_name name.now }
 {
     is_among(name, &TIMEOUT_NAMES)
-}
-
-/// The word holds what a format would replace.
-fn holds_percent(word: &[u8]) -> bool
-    ensures { result ≡ holds_percent word.now }
-{
-    word.iter().any(|byte| *byte == b'%')
-}
-
-/// The word begins a condition, or holds what a format would replace: neither is built yet.
-#[tactic(auto, unfolding(crate::specs::Keywords::asks_for_more))]
-pub fn asks_for_more(word: &[u8]) -> bool
-    ensures { result ≡ asks_for_more word.now }
-{
-    if word == b"if".as_slice() || word == b"unless".as_slice() {
-        return true;
-    }
-    holds_percent(word)
 }

@@ -1,8 +1,7 @@
-//! A configuration from its text (Configuration Manual, sections 2 to 4): sections, sizes, addresses and the
-//! `http-request` rules that are read today. Nothing here runs a rule.
+//! A configuration from its text (Configuration Manual, sections 2 to 4): sections, settings, `acl` lines, rules and
+//! filters. Nothing here runs a rule.
 #![tactic(auto)]
 
-mod actions;
 mod address;
 mod arguments;
 mod draft;
@@ -12,6 +11,7 @@ mod finish;
 mod keywords;
 mod limits;
 mod lines;
+mod rule_lines;
 mod sections;
 mod settings;
 mod sizes;

@@ -6,6 +6,9 @@ pub const MAX_TEXT: usize = 1048576;
 /// The most rules of one direction.
 pub const MAX_RULES: u32 = 1024;
 
+/// The most tests of all conditions together.
+pub const MAX_TESTS: u64 = 65536;
+
 /// The most filters of one direction.
 pub const MAX_FILTERS: u32 = 8;
 

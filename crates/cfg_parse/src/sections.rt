@@ -1,13 +1,13 @@
 ghost use Rattle.cfg_parse.specs.Reading.{Leaves};
-ghost use Rattle.cfg_parse.specs.Lines.{section_line};
+ghost use Rattle.cfg_parse.specs.Settings.{section_line};
 
 use crate::arguments::Arguments;
-use crate::draft::{Draft, Section};
+use crate::draft::{Draft, Listen, Section};
 use crate::fault::{CfgKind, LineRefusal};
 use crate::keywords::SectionWord;
 
 /// A line that begins a section.
-#[tactic(auto, unfolding(crate::specs::Lines::section_line))]
+#[tactic(auto, unfolding(crate::specs::Settings::section_line))]
 pub fn begin_section(
     draft: &mut Draft,
     word: SectionWord,
@@ -25,13 +25,13 @@ pub fn begin_section(
             draft.section = Section::Defaults;
         }
         SectionWord::Listen => {
-            if draft.has_listen {
+            if draft.listen == Listen::Begun {
                 return Err(LineRefusal::Refused(CfgKind::Section));
             }
             let (_name, arguments) = arguments.argument()?;
             arguments.no_more()?;
             draft.section = Section::Listen;
-            draft.has_listen = true;
+            draft.listen = Listen::Begun;
         }
         SectionWord::Other => return Err(LineRefusal::Refused(CfgKind::Section)),
     }

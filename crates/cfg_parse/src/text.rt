@@ -2,7 +2,9 @@ ghost use Rattle.std.specs.Prelude.{◌≡◌, ◌∷◌, ◌==◌, ◌<◌, ◌
 ghost use Rattle.std.specs.List.{position_or_len};
 ghost use Rattle.std.specs.Str.Lines.{lines, strip_carriage_return};
 ghost use Rattle.http_rules.specs.Valid.{IsValid};
-ghost use Rattle.cfg_parse.specs.Whole.{lines_from, config_of, fault_at, Drafts, Configures};
+ghost use Rattle.cfg_parse.specs.Limits.{most_text};
+ghost use Rattle.cfg_parse.specs.Sound.{IsSound};
+ghost use Rattle.cfg_parse.specs.Whole.{whole, of_text, fault_at, Configures, Loads};
 
 use crate::draft::Draft;
 use crate::fault::{CfgFault, CfgKind, LineRefusal};
@@ -10,6 +12,7 @@ use crate::finish::{start, whole};
 use crate::limits::MAX_TEXT;
 use crate::lines::read_line;
 use http_rules::Config;
+use px_pattern::Patterns;
 use std::alloc::Global;
 
 /// The refusal of a line, or of the text as line 0.
@@ -18,6 +21,10 @@ fn at_line(line: u32, refusal: LineRefusal) -> CfgFault
 {
     match refusal {
         LineRefusal::Refused(kind) => CfgFault::Refused { line, kind },
+        LineRefusal::Pattern => CfgFault::Refused {
+            line,
+            kind: CfgKind::Pattern,
+        },
         LineRefusal::OutOfMemory => CfgFault::OutOfMemory,
     }
 }
@@ -57,28 +64,45 @@ fn first_line(text: &[u8]) -> (&[u8], &[u8])
     (without_carriage_return(&text[..len]), &text[len + 1..])
 }
 
-/// All lines in turn.
-fn read_lines(alloc: Global, draft: &mut Draft, text: &[u8]) -> Result<(), CfgFault>
-    requires { length text.now ≤ 1048576 }
-    ensures { Drafts result draft.new (lines_from 1 draft.old (lines text.now)) }
+/// What all lines come to.
+#[tactic(auto, using(crate::proofs::TextLemmas::endings))]
+fn whole_at_end(draft: Draft) -> Result<Config, CfgFault>
+    ensures configures { Configures result (of_text (whole draft)) }
+    ensures valid { IsSound draft → IfOk result IsValid }
 {
+    match whole(draft) {
+        Ok(config) => Ok(config),
+        Err(refusal) => Err(at_line(0, refusal)),
+    }
+}
+
+/// All lines in turn, and what they come to.
+fn read_lines<P: Patterns>(alloc: Global, text: &[u8], pats: &mut P) -> Result<Config, CfgFault>
+    requires { length text.now ≤ most_text }
+    ensures loads { Loads text.now (P.refusals pats.old) (P.refusals pats.new) (P.last_refused pats.new) result }
+    ensures valid { IfOk result IsValid }
+{
+    let mut draft = start(alloc);
     let mut rest = text;
     let mut number = 1;
     while !rest.is_empty() {
         let (line, others) = first_line(rest);
-        if let Err(refusal) = read_line(alloc, draft, line) {
+        if let Err(refusal) = read_line(alloc, &mut draft, line, pats) {
             return Err(at_line(number, refusal));
         }
         number += 1;
         rest = others;
     }
-    Ok(())
+    whole_at_end(draft)
 }
 
-/// The configuration of a text, valid or not.
-#[tactic(auto, unfolding(crate::specs::Whole::config_of))]
-fn configured(alloc: Global, text: &[u8]) -> Result<Config, CfgFault>
-    ensures { Configures result (config_of text.now) }
+/// The configuration of a text. The first refused line decides, and in it the first refused word; a text of more
+/// than 1048576 bytes is refused before any line is looked at. The kind `Pattern` comes only where `pats` refused a pattern
+/// of that line in this call, and keeps it.
+#[tactic(auto, using(crate::proofs::TextLemmas::endings))]
+pub fn load<P: Patterns>(alloc: Global, text: &[u8], pats: &mut P) -> Result<Config, CfgFault>
+    ensures loads { Loads text.now (P.refusals pats.old) (P.refusals pats.new) (P.last_refused pats.new) result }
+    ensures valid { IfOk result IsValid }
 {
     if text.len() > MAX_TEXT {
         return Err(CfgFault::Refused {
@@ -86,19 +110,5 @@ fn configured(alloc: Global, text: &[u8]) -> Result<Config, CfgFault>
             kind: CfgKind::Limit,
         });
     }
-    let mut draft = start(alloc);
-    read_lines(alloc, &mut draft, text)?;
-    match whole(draft) {
-        Ok(config) => Ok(config),
-        Err(refusal) => Err(at_line(0, refusal)),
-    }
-}
-
-/// The configuration of a text. The first refused line decides, and in it the first refused word; a text of more
-/// than 1048576 bytes is refused before any line is looked at.
-pub fn load(alloc: Global, text: &[u8]) -> Result<Config, CfgFault>
-    ensures configures { Configures result (config_of text.now) }
-    ensures valid { IfOk result IsValid }
-{
-    configured(alloc, text)
+    read_lines(alloc, text, pats)
 }

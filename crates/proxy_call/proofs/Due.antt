@@ -1,12 +1,12 @@
 -- What words and files call for is not unbuilt: nothing but a fault or memory is in the way.
 use Rattle.std.proofs.Common.{◌≡◌, ℕ, List, [], ◌∷◌, ◌⊎◌, inl, inr, refl, sym, ◌∙◌, ap, subst, codes}
-use Rattle.std.specs.Prelude.{Option, Some, Result, Ok, Err}
+use Rattle.std.specs.Prelude.{Option, Some, None, Result, Ok, Err}
 use Rattle.px_link.specs.Told.{NamedBytes, Rose, content_of}
 use Rattle.http_rules.specs.declared.config.Config.{Config}
 use Rattle.cfg_parse.specs.Whole.{config_of, Refusal}
 use Rattle.px_command.specs.Command.{IsCheck, IsReplay, IsLater, NamesConfig}
 use Rattle.proxy_call.specs.Answers.{IsDue, UnbuiltBy}
-use Rattle.proxy_call.specs.Replay.{Configured, Holds, Say, NoRecord, NoService}
+use Rattle.proxy_call.specs.Replay.{Builder, Configured, Holds, Say, NoRecord, NoService}
 use Rattle.proxy_call.specs.Stops.{Breaks, status_of}
 use Rattle.proxy_call.specs.declared.status.Status.{Status}
 use Rattle.proxy_call.specs.declared.status.Status.TheVariants.{Good, Usage, FileFault, OutFault, OutOfMemory, Unbuilt}
@@ -60,8 +60,8 @@ ok_or_err r cfg refusal p q = cc
 
 accepted_or_refused : (files : List NamedBytes) (name : List ℕ) (cfg : Config) (refusal : Refusal) → Configured files name (Ok cfg) → Configured files name (Err refusal) → ⊥
 accepted_or_refused files name cfg refusal ok err =
-    let both = both_hold files name (λ t. config_of t ≡ Ok cfg) (λ t. config_of t ≡ Err refusal) ok err in
-    ok_or_err (config_of both.0) cfg refusal both.1 both.2
+    let both = both_hold files name (λ t. config_of t None ≡ Ok cfg) (λ t. config_of t None ≡ Err refusal) ok err in
+    ok_or_err (config_of both.0 None) cfg refusal both.1 both.2
 
 -- ---- what is due is not unbuilt
 
@@ -99,11 +99,11 @@ unbuilt_not_due words files OutOfMemory due unbuilt = due
 unbuilt_not_due words files Unbuilt due unbuilt = due
 
 -- where the program stops without an answer, and no write failed, memory ran out
-pub breaks_due : (words : List (List ℕ)) (files : Option (List NamedBytes)) (told : List NamedBytes) (last : List ℕ) (before now : ℕ) (old new : Option (List ℕ)) (s : Stop) (status : Status)
-    → files ≡ Some told → IsDue words told status → (Rose before now → ⊥) → Breaks words files last before now old new s → (status_of s ≡ status) ⊎ (status_of s ≡ OutOfMemory)
-breaks_due words files told last before now old new (stops.Usage text) status is due never broke = absurd broke
-breaks_due words files told last before now old new (stops.Refused line kind) status is due never broke = absurd broke
-breaks_due words files told last before now old new (stops.File name) status is due never broke = absurd broke
-breaks_due words files told last before now old new stops.Output status is due never broke = absurd (never broke.0)
-breaks_due words files told last before now old new stops.Unbuilt status is due never broke = absurd (unbuilt_not_due words told status due (subst (UnbuiltBy words) is broke.0))
-breaks_due words files told last before now old new stops.OutOfMemory status is due never broke = inr refl
+pub breaks_due : (words : List (List ℕ)) (files : Option (List NamedBytes)) (told : List NamedBytes) (builder : Builder) (last : List ℕ) (before now : ℕ) (old new : Option (List ℕ)) (s : Stop) (status : Status)
+    → files ≡ Some told → IsDue words told status → (Rose before now → ⊥) → Breaks words files builder last before now old new s → (status_of s ≡ status) ⊎ (status_of s ≡ OutOfMemory)
+breaks_due words files told builder last before now old new (stops.Usage text) status is due never broke = absurd broke
+breaks_due words files told builder last before now old new (stops.Refused line kind) status is due never broke = absurd broke
+breaks_due words files told builder last before now old new (stops.File name) status is due never broke = absurd broke
+breaks_due words files told builder last before now old new stops.Output status is due never broke = absurd (never broke.0)
+breaks_due words files told builder last before now old new stops.Unbuilt status is due never broke = absurd (unbuilt_not_due words told status due (subst (UnbuiltBy words) is broke.0))
+breaks_due words files told builder last before now old new stops.OutOfMemory status is due never broke = inr refl

@@ -1,15 +1,20 @@
 -- What is read of files that are told.
 use Rattle.std.proofs.Common.{◌≡◌, ℕ, ◌<◌, ◌≤◌, List, ◌⊎◌, inl, inr, refl, sym, ap, ◌∙◌, subst, length, take, arith}
-use Rattle.std.specs.Prelude.{Option, Some, None, Result, Ok, Err}
+use Rattle.std.specs.Prelude.{[], Option, Some, None, IsSomeAnd, slice_get, Result, Ok, Err}
 use Rattle.std.proofs.lemmas.List.{take_all, length-take-le}
 use Rattle.std.proofs.lemmas.Bool.{cases_lt, lt-ltb}
 use Rattle.px_link.specs.Told.{NamedBytes, Reads}
 use Rattle.http_rules.specs.declared.config.Config.{Config}
-use Rattle.cfg_parse.specs.Whole.{config_of, Refusal}
+use Rattle.px_pattern.specs.Pattern.{Pattern}
+use Rattle.px_pattern.specs.Refusals.{Kept}
+use Rattle.cfg_parse.specs.Whole.{Placed, Refusal, read_whole, refused_at, decided, config_of, pattern_at, Builds, Loads}
+use Rattle.cfg_parse.specs.declared.fault.CfgKind.{CfgKind}
+use Rattle.cfg_parse.specs.declared.fault.CfgFault.TheVariants as faults
 use Rattle.cfg_parse.specs.declared.fault.CfgKind.TheVariants.{Limit}
 use Rattle.rec_format.specs.Record.{IsFirstRecord}
 use Rattle.forward_core.specs.Unbuilt.{IsUnbuilt}
-use Rattle.proxy_call.specs.Replay.{IfTold, Holds, Configured, Say, NoRecord, NoService, FilesUnbuilt, IsReportOf, Reports}
+use Rattle.proxy_call.specs.Answers.{IsRefused}
+use Rattle.proxy_call.specs.Replay.{IfTold, Holds, Builder, Configured, Refuses, Say, NoRecord, NoService, FilesUnbuilt, IsReportOf, Reports}
 
 -- what is shorter than the limit is all that there is
 whole : (limit : ℕ) (all : List ℕ) → length (take limit all) < limit → take limit all ≡ all
@@ -33,9 +38,13 @@ told_not P limit short None name bytes r never = tt
 told_not P limit short (Some fs) name bytes r never =
     (r.0, r.1, λ p. let few : length r.0 < limit = short r.0 p in never (subst P (sym (r.2 ∙ take_all limit r.0 (omega arith))) p))
 
-long_config : (t : List ℕ) → 1048576 < length t → config_of t ≡ Err (0, Limit)
-unfolding config_of
-long_config t many = rw (lt-ltb 1048576 (length t) many) refl
+-- a text that is too long, and what of it decides
+too_long : Placed Config
+too_long = record { asks = []; gives = Err (0, Limit) }
+
+long_read : (t : List ℕ) → 1048576 < length t → read_whole t ≡ too_long
+unfolding read_whole too_long
+long_read t many = rw (lt-ltb 1048576 (length t) many) refl
 
 pub short_record : (client body t : List ℕ) → IsFirstRecord t client body → length t < 67108865
 short_record client body t r = omega (arith, r.whole)
@@ -52,20 +61,65 @@ weaker (Some fs) P Q f p = f fs p
 -- ---- the configuration
 
 -- a text that is longer than the most is refused as such, as is what was read of it
-same_config : (t : List ℕ) → config_of (take 1048577 t) ≡ config_of t
-same_config t = by_size (cases_lt 1048576 (length t))
+same_read : (t : List ℕ) → read_whole (take 1048577 t) ≡ read_whole t
+same_read t = by_size (cases_lt 1048576 (length t))
   where
-    by_size : (1048576 < length t) ⊎ (length t ≤ 1048576) → config_of (take 1048577 t) ≡ config_of t
-    by_size (inr few) = ap config_of (take_all 1048577 t (omega arith))
+    by_size : (1048576 < length t) ⊎ (length t ≤ 1048576) → read_whole (take 1048577 t) ≡ read_whole t
+    by_size (inr few) = ap read_whole (take_all 1048577 t (omega arith))
     by_size (inl many) =
         let full : length (take 1048577 t) ≡ 1048577 = length-take-le 1048577 t (omega arith) in
-        long_config (take 1048577 t) (omega arith) ∙ sym (long_config t many)
+        long_read (take 1048577 t) (omega arith) ∙ sym (long_read t many)
+
+same_config : (t : List ℕ) (r : Option ℕ) → config_of (take 1048577 t) r ≡ config_of t r
+unfolding config_of
+same_config t r = ap (λ (read : Placed Config). decided read r) (same_read t)
+
+same_pattern : (t : List ℕ) (number : ℕ) → pattern_at (take 1048577 t) number ≡ pattern_at t number
+unfolding pattern_at
+same_pattern t number = ap (λ (read : Placed Config). slice_get read.asks number) (same_read t)
+
+same_builds : (t : List ℕ) (r : Option ℕ) (before now : ℕ) (kept : Kept) → Builds (take 1048577 t) r before now kept → Builds t r before now kept
+same_builds t None before now kept builds = builds
+same_builds t (Some number) before now kept builds =
+    let Told : Option (ℕ × Pattern) → Type 0 = λ o. IsSomeAnd o (λ (line, p). kept ≡ Some (p.text, p.icase)) in
+    (builds.0, subst Told (same_pattern t number) builds.1)
 
 -- what the bytes that were read come to, the file does
-pub configured : (files : Option (List NamedBytes)) (name bytes : List ℕ) (result : Result Config Refusal) → Reads files name 1048577 bytes → config_of bytes ≡ result
+pub configured : (files : Option (List NamedBytes)) (name bytes : List ℕ) (result : Result Config Refusal) → Reads files name 1048577 bytes → config_of bytes None ≡ result
     → IfTold files (λ fs. Configured fs name result)
 configured None name bytes result r is = tt
-configured (Some fs) name bytes result r is = (r.0, r.1, sym (same_config r.0) ∙ ap config_of (sym r.2) ∙ is)
+configured (Some fs) name bytes result r is = (r.0, r.1, sym (same_config r.0 None) ∙ ap (λ t. config_of t None) (sym r.2) ∙ is)
+
+-- where they are refused, the file is
+pub refused : (files : Option (List NamedBytes)) (builder : Builder) (name bytes : List ℕ) (line : ℕ) (kind : CfgKind) → Reads files name 1048577 bytes
+    → Loads bytes builder.before builder.now builder.kept (Err (faults.Refused line kind)) → IsRefused files builder name line kind
+refused None builder name bytes line kind r loads = tt
+refused (Some fs) builder name bytes line kind r loads =
+    let builds : Builds (take 1048577 r.0) loads.r builder.before builder.now builder.kept =
+    subst (λ t. Builds t loads.r builder.before builder.now builder.kept) r.2 loads.builds in (
+      loads.r,
+      (
+        r.0,
+        r.1,
+        (
+          sym (same_config r.0 loads.r) ∙ ap (λ t. config_of t loads.r) (sym r.2) ∙ loads.configures,
+          same_builds r.0 loads.r builder.before builder.now builder.kept builds,
+        ),
+      ),
+    )
+
+-- where no build was refused, a configuration is that of all patterns built
+accepts : (read : Placed Config) (cfg : Config) (kept : Kept) (q : Option (ℕ × Pattern)) → refused_at read q ≡ Ok cfg → IsSomeAnd q (λ (line, p). kept ≡ Some (p.text, p.icase)) → read.gives ≡ Ok cfg
+accepts read cfg kept None is told = absurd told
+accepts read cfg kept (Some (number, p)) is told = absurd cc
+
+accepts_by : (text : List ℕ) (before now : ℕ) (kept : Kept) (cfg : Config) (r : Option ℕ) → config_of text r ≡ Ok cfg → Builds text r before now kept → config_of text None ≡ Ok cfg
+unfolding config_of pattern_at
+accepts_by text before now kept cfg None is builds = is
+accepts_by text before now kept cfg (Some number) is builds = accepts (read_whole text) cfg kept (slice_get (read_whole text).asks number) is builds.1
+
+pub accepted_text : (text : List ℕ) (before now : ℕ) (kept : Kept) (cfg : Config) → Loads text before now kept (Ok cfg) → config_of text None ≡ Ok cfg
+accepted_text text before now kept cfg loads = accepts_by text before now kept cfg loads.r loads.configures loads.builds
 
 -- ---- the answer
 

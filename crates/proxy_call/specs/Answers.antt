@@ -5,7 +5,7 @@ use Rattle.http_rules.specs.declared.config.Config.{Config}
 use Rattle.cfg_parse.specs.declared.fault.CfgKind.{CfgKind}
 use Rattle.px_command.specs.Command.{IsCheck, IsReplay, IsLater, IsHelp, IsVersion, IsUsage, NamesConfig}
 use Rattle.proxy_call.specs.Lines.{accepted_line, refused_line, file_line}
-use Rattle.proxy_call.specs.Replay.{IfTold, Configured, Say, IsReportOf, NoService, FilesUnbuilt}
+use Rattle.proxy_call.specs.Replay.{IfTold, Builder, Configured, Refuses, Say, IsReportOf, NoService, FilesUnbuilt}
 use Rattle.proxy_call.specs.declared.status.Status.{Status}
 use Rattle.proxy_call.specs.declared.status.Status.TheVariants.{Good, Usage, FileFault, OutFault, OutOfMemory, Unbuilt}
 use Rattle.proxy_call.specs.declared.status.Status.TheVariants as ended
@@ -17,16 +17,16 @@ IsAccepted files cfg_name = IfTold files (λ fs. (cfg : Config) × Configured fs
 -- the text is the line of an accepted configuration
 abbrev pub IsCheckOf : Option (List NamedBytes) → (cfg_name text : List ℕ) → Type 0
 IsCheckOf files cfg_name text =
-    (cfg : Config) × IfTold files (λ fs. Configured fs cfg_name (Ok cfg)) × (text ≡ accepted_line (length cfg.request) (length cfg.req_filters + length cfg.res_filters))
+    (cfg : Config) × IfTold files (λ fs. Configured fs cfg_name (Ok cfg)) × (text ≡ accepted_line (length cfg.request) (length cfg.response + length cfg.after) (length cfg.req_filters + length cfg.res_filters))
 
--- the file's text is refused as a configuration, at this line
-abbrev pub IsRefused : Option (List NamedBytes) → (cfg_name : List ℕ) → (line : ℕ) → CfgKind → Type 0
-IsRefused files cfg_name line kind = IfTold files (λ fs. Configured fs cfg_name (Err (line, kind)))
+-- the file's text is refused as a configuration, at this line and with this pattern that the builder refused, if it did
+abbrev pub IsRefused : Option (List NamedBytes) → Builder → (cfg_name : List ℕ) → (line : ℕ) → CfgKind → Type 0
+IsRefused files builder cfg_name line kind = IfTold files (λ fs. (r : Option ℕ) × Refuses fs builder cfg_name r (line, kind))
 
 -- the text is the line of a refused configuration
-abbrev pub IsRefusedOf : Option (List NamedBytes) → (cfg_name text : List ℕ) → Type 0
-IsRefusedOf files cfg_name text =
-    (line : ℕ) × (kind : CfgKind) × IsRefused files cfg_name line kind × (text ≡ refused_line line kind)
+abbrev pub IsRefusedOf : Option (List NamedBytes) → Builder → (cfg_name text : List ℕ) → Type 0
+IsRefusedOf files builder cfg_name text =
+    (line : ℕ) × (kind : CfgKind) × IsRefused files builder cfg_name line kind × (text ≡ refused_line line kind)
 
 -- The name is that of a file whose read decides: the configuration's, which is read first, or the record's, which is read
 -- only where the configuration is accepted.
@@ -42,19 +42,19 @@ IsGood words files text =
     ⊎ (IsHelp words ⊎ IsVersion words))
 
 -- The text is what is written with this status, where the last failed read was of this name. A usage text is shown by tests.
-abbrev pub IsAnswer : List (List ℕ) → Option (List NamedBytes) → (last : List ℕ) → Status → (text : List ℕ) → Type 0
-IsAnswer words files last Good text = IsGood words files text
-IsAnswer words files last Usage text = IsUsage words
-IsAnswer words files last ended.Config text = (cfg_name : List ℕ) × NamesConfig words cfg_name × IsRefusedOf files cfg_name text
-IsAnswer words files last FileFault text = DecidesBy words files last × (text ≡ file_line last)
-IsAnswer words files last OutFault text = ⊥
-IsAnswer words files last OutOfMemory text = ⊥
-IsAnswer words files last Unbuilt text = ⊥
+abbrev pub IsAnswer : List (List ℕ) → Option (List NamedBytes) → Builder → (last : List ℕ) → Status → (text : List ℕ) → Type 0
+IsAnswer words files builder last Good text = IsGood words files text
+IsAnswer words files builder last Usage text = IsUsage words
+IsAnswer words files builder last ended.Config text = (cfg_name : List ℕ) × NamesConfig words cfg_name × IsRefusedOf files builder cfg_name text
+IsAnswer words files builder last FileFault text = DecidesBy words files last × (text ≡ file_line last)
+IsAnswer words files builder last OutFault text = ⊥
+IsAnswer words files builder last OutOfMemory text = ⊥
+IsAnswer words files builder last Unbuilt text = ⊥
 
 -- a front of what some status writes was written
-abbrev pub WritesFront : List (List ℕ) → Option (List NamedBytes) → (last : List ℕ) → (old new : Option (List ℕ)) → Type 0
-WritesFront words files last old new =
-    (status : Status) × (text : List ℕ) × IsAnswer words files last status text × GainsFront old new text
+abbrev pub WritesFront : List (List ℕ) → Option (List NamedBytes) → Builder → (last : List ℕ) → (old new : Option (List ℕ)) → Type 0
+WritesFront words files builder last old new =
+    (status : Status) × (text : List ℕ) × IsAnswer words files builder last status text × GainsFront old new text
 
 -- what isn't built yet: `serve` and `drill`, or what the files of `replay` say
 abbrev pub UnbuiltBy : List (List ℕ) → Option (List NamedBytes) → Type 0

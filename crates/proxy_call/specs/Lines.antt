@@ -16,10 +16,10 @@ kind_name Limit = codes "Limit"
 kind_name Missing = codes "Missing"
 kind_name Unbuilt = codes "Unbuilt"
 
--- a configuration with so many request rules and filters of both directions is accepted
-unfoldable pub accepted_line : (rules filters : ℕ) → List ℕ
-accepted_line rules filters =
-    codes "config ok: request rules " ++ decimal rules ++ codes ", response rules 0, filters " ++ decimal filters ++ codes "\n"
+-- a configuration with so many request rules, rules on what the client is sent, and filters of both directions is accepted
+unfoldable pub accepted_line : (rules answers filters : ℕ) → List ℕ
+accepted_line rules answers filters =
+    codes "config ok: request rules " ++ decimal rules ++ codes ", response rules " ++ decimal answers ++ codes ", filters " ++ decimal filters ++ codes "\n"
 
 -- a configuration is refused at this line
 unfoldable pub refused_line : ℕ → CfgKind → List ℕ

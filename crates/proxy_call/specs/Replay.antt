@@ -1,8 +1,9 @@
 -- What `replay` makes of its two files: a report, or what isn't built yet.
-use Rattle.std.specs.Prelude.{◌≡◌, ℕ, ◌-◌, List, [], ◌∷◌, ◌++◌, ◌⊎◌, ⊤, false, length, take, replicate, Option, Some, None, Result, Ok}
+use Rattle.std.specs.Prelude.{◌≡◌, ℕ, ◌-◌, List, [], ◌∷◌, ◌++◌, ◌⊎◌, ⊤, false, length, take, replicate, Option, Some, None, Result, Ok, Err}
 use Rattle.px_link.specs.Told.{NamedBytes, content_of}
 use Rattle.http_rules.specs.declared.config.Config.{Config}
-use Rattle.cfg_parse.specs.Whole.{config_of, Refusal}
+use Rattle.px_pattern.specs.Refusals.{Kept}
+use Rattle.cfg_parse.specs.Whole.{config_of, Refusal, Builds}
 use Rattle.rec_format.specs.Record.{IsFirstRecord, server_text}
 use Rattle.rec_format.specs.Report.{report_of}
 use Rattle.session_model.specs.Stream.{Server, NotThere, Open}
@@ -19,9 +20,23 @@ IfTold (Some files) P = P files
 abbrev pub Holds : List NamedBytes → (name : List ℕ) → (List ℕ → Type 0) → Type 0
 Holds files name P = (text : List ℕ) × (content_of files name ≡ Some text) × P text
 
--- the text of this file comes to this as a configuration
+-- what the builder of patterns tells: how many builds it refused before and now, and the last refused one
+pub record Builder : Type 0 where
+  pub before : ℕ
+  pub now : ℕ
+  pub kept : Kept
+
+abbrev pub told_by : (before now : ℕ) → Kept → Builder
+told_by before now kept = record { before = before; now = now; kept = kept }
+
+-- the text of this file comes to this as a configuration where each of its patterns is built
 abbrev pub Configured : List NamedBytes → (cfg_name : List ℕ) → Result Config Refusal → Type 0
-Configured files cfg_name result = Holds files cfg_name (λ text. config_of text ≡ result)
+Configured files cfg_name result = Holds files cfg_name (λ text. config_of text None ≡ result)
+
+-- it is refused so; r is none, or the number of the pattern that the builder refused, and then refused last
+abbrev pub Refuses : List NamedBytes → Builder → (cfg_name : List ℕ) → (r : Option ℕ) → Refusal → Type 0
+Refuses files builder cfg_name r refusal =
+    Holds files cfg_name (λ text. (config_of text r ≡ Err refusal) × Builds text r builder.before builder.now builder.kept)
 
 -- the two files say this
 pub record Say (files : List NamedBytes) (cfg_name rec_name : List ℕ) (cfg : Config) (client body : List ℕ) : Type 0 where

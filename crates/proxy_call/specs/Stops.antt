@@ -9,6 +9,7 @@ use Rattle.forward_core.specs.declared.exchange.ExchangeFault.{ExchangeFault}
 use Rattle.forward_core.specs.declared.exchange.ExchangeFault.TheVariants as exchanges
 use Rattle.px_command.specs.Command.{IsUsage, NamesConfig}
 use Rattle.proxy_call.specs.Answers.{DecidesBy, IsAnswer, IsGood, IsRefused, UnbuiltBy, WritesFront}
+use Rattle.proxy_call.specs.Replay.{Builder}
 use Rattle.proxy_call.specs.declared.status.Status.{Status}
 use Rattle.proxy_call.specs.declared.status.Status.TheVariants as ended
 use Rattle.proxy_call.specs.declared.reply.Reply.{Reply}
@@ -42,13 +43,13 @@ status_of stops.OutOfMemory = ended.OutOfMemory
 
 -- The words and the files make a command stop so, where the last failed read was of this name, and the count of failed reads
 -- went from one number to the other.
-abbrev pub StopsBy : List (List ℕ) → Option (List NamedBytes) → (last : List ℕ) → (before now : ℕ) → Stop → Type 0
-StopsBy words files last before now (stops.Usage text) = IsUsage words
-StopsBy words files last before now (stops.Refused line kind) = (cfg_name : List ℕ) × NamesConfig words cfg_name × IsRefused files cfg_name line kind
-StopsBy words files last before now (stops.File name) = Rose before now × (last ≡ name.now) × DecidesBy words files name.now
-StopsBy words files last before now stops.Output = ⊥
-StopsBy words files last before now stops.Unbuilt = UnbuiltBy words files
-StopsBy words files last before now stops.OutOfMemory = Unit {0}
+abbrev pub StopsBy : List (List ℕ) → Option (List NamedBytes) → Builder → (last : List ℕ) → (before now : ℕ) → Stop → Type 0
+StopsBy words files builder last before now (stops.Usage text) = IsUsage words
+StopsBy words files builder last before now (stops.Refused line kind) = (cfg_name : List ℕ) × NamesConfig words cfg_name × IsRefused files builder cfg_name line kind
+StopsBy words files builder last before now (stops.File name) = Rose before now × (last ≡ name.now) × DecidesBy words files name.now
+StopsBy words files builder last before now stops.Output = ⊥
+StopsBy words files builder last before now stops.Unbuilt = UnbuiltBy words files
+StopsBy words files builder last before now stops.OutOfMemory = Unit {0}
 
 -- a read of this name stops so
 abbrev pub ReadStops : (name last : List ℕ) → (before now : ℕ) → Stop → Type 0
@@ -60,9 +61,9 @@ ReadStops name last before now stops.Unbuilt = ⊥
 ReadStops name last before now stops.OutOfMemory = Unit {0}
 
 -- a command gives what its words and files ask for
-abbrev pub Answers : List (List ℕ) → Option (List NamedBytes) → (last : List ℕ) → (before now : ℕ) → Result (List ℕ) Stop → Type 0
-Answers words files last before now (Ok text) = IsGood words files text
-Answers words files last before now (Err stop) = StopsBy words files last before now stop
+abbrev pub Answers : List (List ℕ) → Option (List NamedBytes) → Builder → (last : List ℕ) → (before now : ℕ) → Result (List ℕ) Stop → Type 0
+Answers words files builder last before now (Ok text) = IsGood words files text
+Answers words files builder last before now (Err stop) = StopsBy words files builder last before now stop
 
 -- nothing is to be written for a stop
 abbrev pub IsSilent : List (List ℕ) → Option (List NamedBytes) → Stop → Type 0
@@ -74,21 +75,21 @@ IsSilent words files stops.Unbuilt = UnbuiltBy words files
 IsSilent words files stops.OutOfMemory = Unit {0}
 
 -- a reply is written as an answer, with its cause in the count where it tells a fault, or nothing is to be written
-abbrev pub Replies : List (List ℕ) → Option (List NamedBytes) → (last : List ℕ) → (before now : ℕ) → Result Reply Stop → Type 0
-Replies words files last before now (Ok reply) = IsAnswer words files last reply.status reply.text × (reply.status ≡ ended.FileFault → Rose before now)
-Replies words files last before now (Err stop) = IsSilent words files stop
+abbrev pub Replies : List (List ℕ) → Option (List NamedBytes) → Builder → (last : List ℕ) → (before now : ℕ) → Result Reply Stop → Type 0
+Replies words files builder last before now (Ok reply) = IsAnswer words files builder last reply.status reply.text × (reply.status ≡ ended.FileFault → Rose before now)
+Replies words files builder last before now (Err stop) = IsSilent words files stop
 
 -- what was written when the program stops without an answer, where the count of failed writes went from one number to the other
-abbrev pub Breaks : List (List ℕ) → Option (List NamedBytes) → (last : List ℕ) → (before now : ℕ) → (old new : Option (List ℕ)) → Stop → Type 0
-Breaks words files last before now old new (stops.Usage text) = ⊥
-Breaks words files last before now old new (stops.Refused line kind) = ⊥
-Breaks words files last before now old new (stops.File name) = ⊥
-Breaks words files last before now old new stops.Output = Rose before now × WritesFront words files last old new
-Breaks words files last before now old new stops.Unbuilt = UnbuiltBy words files × (new ≡ old)
-Breaks words files last before now old new stops.OutOfMemory = (new ≡ old) ⊎ WritesFront words files last old new
+abbrev pub Breaks : List (List ℕ) → Option (List NamedBytes) → Builder → (last : List ℕ) → (before now : ℕ) → (old new : Option (List ℕ)) → Stop → Type 0
+Breaks words files builder last before now old new (stops.Usage text) = ⊥
+Breaks words files builder last before now old new (stops.Refused line kind) = ⊥
+Breaks words files builder last before now old new (stops.File name) = ⊥
+Breaks words files builder last before now old new stops.Output = Rose before now × WritesFront words files builder last old new
+Breaks words files builder last before now old new stops.Unbuilt = UnbuiltBy words files × (new ≡ old)
+Breaks words files builder last before now old new stops.OutOfMemory = (new ≡ old) ⊎ WritesFront words files builder last old new
 
 -- the program has written an answer, or stops without one
-abbrev pub Ends : List (List ℕ) → Option (List NamedBytes) → (last : List ℕ) → (reads reads_now writes writes_now : ℕ) → (old new : Option (List ℕ)) → Result Status Stop → Type 0
-Ends words files last reads reads_now writes writes_now old new (Ok status) =
-    ((text : List ℕ) × IsAnswer words files last status text × Gains old new text) × (status ≡ ended.FileFault → Rose reads reads_now)
-Ends words files last reads reads_now writes writes_now old new (Err stop) = Breaks words files last writes writes_now old new stop
+abbrev pub Ends : List (List ℕ) → Option (List NamedBytes) → Builder → (last : List ℕ) → (reads reads_now writes writes_now : ℕ) → (old new : Option (List ℕ)) → Result Status Stop → Type 0
+Ends words files builder last reads reads_now writes writes_now old new (Ok status) =
+    ((text : List ℕ) × IsAnswer words files builder last status text × Gains old new text) × (status ≡ ended.FileFault → Rose reads reads_now)
+Ends words files builder last reads reads_now writes writes_now old new (Err stop) = Breaks words files builder last writes writes_now old new stop

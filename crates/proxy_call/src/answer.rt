@@ -4,7 +4,7 @@ ghost use Rattle.std.specs.Prelude.{◌≡◌, ◌≤◌, ℕ, List, map, string
 ghost use Rattle.px_link.specs.Told.{Reads};
 ghost use Rattle.http_rules.specs.Valid.{IsValid};
 ghost use Rattle.px_command.specs.Command.{IsCheck, IsReplay, NamesConfig};
-ghost use Rattle.proxy_call.specs.Replay.{IfTold, Configured};
+ghost use Rattle.proxy_call.specs.Replay.{IfTold, Configured, told_by};
 ghost use Rattle.proxy_call.specs.Stops.{Answers, ReadStops, StopsBy};
 
 use crate::lines::accepted_line;
@@ -43,17 +43,17 @@ fn configuration<'a, F: Files, P: Patterns>(
     alloc: Global,
     files: &mut F,
     name: &'a str,
-    _pats: &mut P,
+    pats: &mut P,
 ) -> Result<Config, Stop<'a>>
     ensures accepted { IfOk result (λ cfg. IfTold (F.files files.old) (λ fs. Configured fs name.now (Ok cfg))) }
     ensures valid { IfOk result IsValid }
     ensures stop { (words : List (List ℕ)) → NamesConfig words name.now
-        → IfErr result (StopsBy words (F.files files.old) (F.last_failed files.new) (F.faults files.old) (F.faults files.new)) }
+        → IfErr result (StopsBy words (F.files files.old) (told_by (P.refusals pats.old) (P.refusals pats.new) (P.last_refused pats.new)) (F.last_failed files.new) (F.faults files.old) (F.faults files.new)) }
     ensures grows { F.faults files.old ≤ F.faults files.new }
     ensures files { F.files files.new ≡ F.files files.old }
 {
     let text = read(alloc, files, name, MAX_TEXT + 1)?;
-    let cfg = load(alloc, text.as_slice())?;
+    let cfg = load(alloc, text.as_slice(), pats)?;
     Ok(cfg)
 }
 
@@ -65,10 +65,11 @@ fn check<'a, F: Files, P: Patterns>(
     pats: &mut P,
 ) -> Result<Bytes, Stop<'a>>
     ensures { (words : List (List ℕ)) → IsCheck words name.now
-        → Answers words (F.files files.old) (F.last_failed files.new) (F.faults files.old) (F.faults files.new) result }
+        → Answers words (F.files files.old) (told_by (P.refusals pats.old) (P.refusals pats.new) (P.last_refused pats.new)) (F.last_failed files.new) (F.faults files.old) (F.faults files.new) result }
 {
     let cfg = configuration(alloc, files, name, pats)?;
-    Ok(accepted_line(alloc, cfg.request.len(), cfg.filter_count())?)
+    let answers = cfg.answer_rule_count();
+    Ok(accepted_line(alloc, cfg.request.len(), answers, cfg.filter_count())?)
 }
 
 /// The report of `replay CFG REC`.
@@ -80,7 +81,7 @@ fn replay<'a, F: Files, P: Patterns>(
     pats: &mut P,
 ) -> Result<Bytes, Stop<'a>>
     ensures { (words : List (List ℕ)) → IsReplay words cfg_name.now rec_name.now
-        → Answers words (F.files files.old) (F.last_failed files.new) (F.faults files.old) (F.faults files.new) result }
+        → Answers words (F.files files.old) (told_by (P.refusals pats.old) (P.refusals pats.new) (P.last_refused pats.new)) (F.last_failed files.new) (F.faults files.old) (F.faults files.new) result }
 {
     let cfg = configuration(alloc, files, cfg_name, pats)?;
     let text = read(alloc, files, rec_name, MAX_RECORD + 1)?;
@@ -94,7 +95,7 @@ pub fn answer<'a, F: Files, P: Patterns>(
     files: &mut F,
     pats: &mut P,
 ) -> Result<Bytes, Stop<'a>>
-    ensures { Answers (map string_bytes words.now) (F.files files.old) (F.last_failed files.new) (F.faults files.old) (F.faults files.new) result }
+    ensures { Answers (map string_bytes words.now) (F.files files.old) (told_by (P.refusals pats.old) (P.refusals pats.new) (P.last_refused pats.new)) (F.last_failed files.new) (F.faults files.old) (F.faults files.new) result }
 {
     match asked_by(alloc, words)? {
         Asked::Check { cfg } => check(alloc, files, cfg, pats),

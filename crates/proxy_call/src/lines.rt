@@ -25,14 +25,21 @@ fn kind_name(kind: CfgKind) -> &'static str
     }
 }
 
-/// A configuration with so many request rules and filters of both directions is accepted.
+/// A configuration with so many request rules, rules on what the client is sent, and filters of both directions is accepted.
 #[tactic(auto, unfolding(crate::specs::Lines::accepted_line))]
-pub fn accepted_line(alloc: Global, rules: u32, filters: u64) -> Result<Bytes, OutOfMemory>
-    ensures { IfOk result (λ line. line ≡ accepted_line rules filters) }
+pub fn accepted_line(
+    alloc: Global,
+    rules: u32,
+    answers: u64,
+    filters: u64,
+) -> Result<Bytes, OutOfMemory>
+    ensures { IfOk result (λ line. line ≡ accepted_line rules answers filters) }
 {
     let mut line = Bytes::copy(alloc, b"config ok: request rules ")?;
     line.push(rules.to_string(alloc)?.as_bytes())?;
-    line.push(b", response rules 0, filters ")?;
+    line.push(b", response rules ")?;
+    line.push(answers.to_string(alloc)?.as_bytes())?;
+    line.push(b", filters ")?;
     line.push(filters.to_string(alloc)?.as_bytes())?;
     line.push(b"\n")?;
     Ok(line)

@@ -1,6 +1,7 @@
 //! What is written, and the status with it.
 ghost use Rattle.std.specs.Prelude.{◌≡◌, ℕ, List, Option, map, string_bytes};
 ghost use Rattle.px_link.specs.Told.{NamedBytes};
+ghost use Rattle.proxy_call.specs.Replay.{Builder, told_by};
 ghost use Rattle.proxy_call.specs.Stops.{Replies, StopsBy};
 
 use crate::answer::answer;
@@ -20,8 +21,8 @@ pub struct Reply {
 
 /// What is written for a stop, or the stop itself where nothing is.
 fn told<'a>(alloc: Global, stop: Stop<'a>) -> Result<Reply, Stop<'a>>
-    ensures { (words : List (List ℕ)) (files : Option (List NamedBytes)) (last : List ℕ) (before now : ℕ)
-        → StopsBy words files last before now stop.entry → Replies words files last before now result }
+    ensures { (words : List (List ℕ)) (files : Option (List NamedBytes)) (builder : Builder) (last : List ℕ) (before now : ℕ)
+        → StopsBy words files builder last before now stop.entry → Replies words files builder last before now result }
 {
     match stop {
         Stop::Usage { text } => Ok(Reply {
@@ -49,7 +50,7 @@ pub fn reply_to<'a, F: Files, P: Patterns>(
     files: &mut F,
     pats: &mut P,
 ) -> Result<Reply, Stop<'a>>
-    ensures { Replies (map string_bytes words.now) (F.files files.old) (F.last_failed files.new) (F.faults files.old) (F.faults files.new) result }
+    ensures { Replies (map string_bytes words.now) (F.files files.old) (told_by (P.refusals pats.old) (P.refusals pats.new) (P.last_refused pats.new)) (F.last_failed files.new) (F.faults files.old) (F.faults files.new) result }
 {
     match answer(alloc, words, files, pats) {
         Ok(text) => Ok(Reply {

@@ -1,0 +1,5 @@
+pub mod FaultLemmas
+pub mod NameLemmas
+pub mod GoodLemmas
+pub mod OptionLemmas
+pub mod ReadingLemmas

@@ -1,0 +1,12 @@
+pub mod Faults
+pub mod Names
+pub mod Arguments
+pub mod Asked
+pub mod Redirects
+pub mod RedirectOptions
+pub mod Returns
+pub mod ReturnOptions
+pub mod Plain
+pub mod Actions
+pub mod Rules
+pub mod Good

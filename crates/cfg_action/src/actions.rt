@@ -1,0 +1,131 @@
+//! One action and its arguments.
+ghost use Rattle.std.specs.Prelude.{◌≡◌, IfOk};
+ghost use Rattle.rule_model.specs.declared.names.ActionName.TheVariants as names;
+ghost use Rattle.cfg_action.specs.declared.parts.ActionParts.TheVariants as parts;
+ghost use Rattle.cfg_action.specs.Faults.{ReadsRule};
+ghost use Rattle.cfg_action.specs.Good.{IsNamed, AreGoodParts};
+ghost use Rattle.cfg_action.specs.Actions.{variable_set, redirect_parts, return_parts, action_parts};
+
+use crate::arguments::{argument, variable_behind};
+use crate::fault::RuleFault;
+use crate::fields::field_at;
+use crate::names::side_of;
+use crate::parts::ActionParts;
+use crate::plain::{denied, mode_set, status_set, variable_unset};
+use crate::redirect::{RedirectOptions, redirect_options};
+use crate::request_line::line_at;
+use crate::returns::{ReturnOptions, return_options};
+use crate::texts::expression;
+use cfg_acl::WordsLeft;
+use cfg_expr::Side;
+use px_pattern::Patterns;
+use rule_model::{Action, ActionName, Direction, HdrList};
+use std::alloc::Global;
+
+/// `set-var(SCOPE.NAME)` and its expression.
+#[tactic(auto, unfolding(crate::specs::Actions::variable_set))]
+fn variable_set<'w, P: Patterns>(
+    alloc: Global,
+    side: Side,
+    word: &[u8],
+    words: WordsLeft<'w>,
+    pats: &mut P,
+) -> Result<(Action, WordsLeft<'w>), RuleFault>
+    ensures reads { ReadsRule (λ found. (found.0, found.1)) (variable_set side word.now words.entry) (P.refusals pats.old) (P.refusals pats.new) (P.last_refused pats.new) result }
+    ensures good { IfOk result (λ found. IsNamed names.SetVar found.0) }
+{
+    let (scope, name) = variable_behind(alloc, b"set-var(", word)?;
+    let (text, others) = argument(words)?;
+    let expr = expression(alloc, side, text, pats)?;
+    Ok((Action::SetVar(scope, name, expr), others))
+}
+
+/// The options of `redirect`.
+#[tactic(auto, unfolding(crate::specs::Actions::redirect_parts))]
+fn redirect_parts<'w, P: Patterns>(
+    alloc: Global,
+    side: Side,
+    words: WordsLeft<'w>,
+    pats: &mut P,
+) -> Result<(ActionParts, WordsLeft<'w>), RuleFault>
+    ensures reads { ReadsRule (λ found. (found.0, found.1)) (redirect_parts side words.entry) (P.refusals pats.old) (P.refusals pats.new) (P.last_refused pats.new) result }
+    ensures good { IfOk result (λ found. AreGoodParts names.Redirect found.0) }
+{
+    let none = RedirectOptions {
+        to: None,
+        code: None,
+        drop_query: false,
+        append_slash: false,
+    };
+    let (options, others) = redirect_options(alloc, side, words.len(), none, words, pats)?;
+    Ok((ActionParts::Redirect(options), others))
+}
+
+/// The options of `return`.
+#[tactic(auto, unfolding(crate::specs::Actions::return_parts))]
+fn return_parts<'w, P: Patterns>(
+    alloc: Global,
+    side: Side,
+    words: WordsLeft<'w>,
+    pats: &mut P,
+) -> Result<(ActionParts, WordsLeft<'w>), RuleFault>
+    ensures reads { ReadsRule (λ found. (found.0, found.1)) (return_parts side words.entry) (P.refusals pats.old) (P.refusals pats.new) (P.last_refused pats.new) result }
+    ensures good { IfOk result (λ found. AreGoodParts names.Return found.0) }
+{
+    let none = ReturnOptions {
+        status: None,
+        content_type: None,
+        payload: None,
+        hdrs: HdrList::new(alloc),
+    };
+    let (options, others) = return_options(alloc, side, words.len(), none, words, pats)?;
+    Ok((ActionParts::Return(options), others))
+}
+
+/// A whole action, and the words behind it.
+fn whole<'w>(found: (Action, WordsLeft<'w>)) -> (ActionParts, WordsLeft<'w>)
+    ensures action { result.0 ≡ parts.Whole found.entry.0 }
+    ensures words { result.1 ≡ found.entry.1 }
+{
+    let (action, others) = found;
+    (ActionParts::Whole(action), others)
+}
+
+/// The action of a name and its own word, and what stands behind it.
+#[tactic(auto, unfolding(crate::specs::Actions::action_parts))]
+pub fn action_parts<'w, P: Patterns>(
+    alloc: Global,
+    direction: Direction,
+    name: ActionName,
+    word: &[u8],
+    words: WordsLeft<'w>,
+    pats: &mut P,
+) -> Result<(ActionParts, WordsLeft<'w>), RuleFault>
+    ensures reads { ReadsRule (λ found. (found.0, found.1)) (action_parts direction name word.now words.entry) (P.refusals pats.old) (P.refusals pats.new) (P.last_refused pats.new) result }
+    ensures good { IfOk result (λ found. AreGoodParts name found.0) }
+{
+    let side = side_of(direction);
+    match name {
+        ActionName::Redirect => redirect_parts(alloc, side, words, pats),
+        ActionName::Return => return_parts(alloc, side, words, pats),
+        ActionName::Allow => Ok((ActionParts::Whole(Action::Allow), words)),
+        ActionName::Deny => Ok(whole(denied(direction, words)?)),
+        ActionName::SetStatus => Ok(whole(status_set(alloc, words)?)),
+        ActionName::SetVar => Ok(whole(variable_set(alloc, side, word, words, pats)?)),
+        ActionName::UnsetVar => Ok(whole(variable_unset(alloc, word, words)?)),
+        ActionName::StrictMode => Ok(whole(mode_set(words)?)),
+        ActionName::AddHeader
+        | ActionName::SetHeader
+        | ActionName::DelHeader
+        | ActionName::ReplaceHeader
+        | ActionName::ReplaceValue => Ok(whole(field_at(alloc, side, name, words, pats)?)),
+        ActionName::SetMethod
+        | ActionName::SetPath
+        | ActionName::SetPathq
+        | ActionName::SetUri
+        | ActionName::SetQuery
+        | ActionName::ReplacePath
+        | ActionName::ReplacePathq
+        | ActionName::ReplaceUri => Ok(whole(line_at(alloc, side, name, words, pats)?)),
+    }
+}

@@ -1,0 +1,173 @@
+//! Actions on fields.
+ghost use Rattle.std.specs.Prelude.{◌≡◌, IfOk};
+ghost use Rattle.rule_model.specs.declared.names.ActionName.TheVariants as names;
+ghost use Rattle.rule_model.specs.Valid.{IsMadeName, IsGoodDel};
+ghost use Rattle.cfg_action.specs.Faults.{ReadsRule};
+ghost use Rattle.cfg_action.specs.Good.{IsNamed};
+ghost use Rattle.cfg_action.specs.Actions.{named_by, told_by, matched_by, is_match_flag, deleted_matching, deleted_behind, field_deleted, name_and_format, pattern_and_format, made_by, replaced_by, field_at};
+
+use crate::arguments::{argument, format_at, made_name_at, name_of, pattern_at};
+use crate::fault::{RuleFault, RuleKind};
+use crate::texts::pattern;
+use cfg_acl::WordsLeft;
+use cfg_expr::Side;
+use px_pattern::Patterns;
+use rule_model::{Action, ActionName, DelBy, Fmt, Pat, Text};
+use std::alloc::Global;
+
+/// `NAME FMT`, and the words behind them.
+#[tactic(auto, unfolding(crate::specs::Actions::name_and_format))]
+fn name_and_format<'w, P: Patterns>(
+    alloc: Global,
+    side: Side,
+    words: WordsLeft<'w>,
+    pats: &mut P,
+) -> Result<(Text, Fmt, WordsLeft<'w>), RuleFault>
+    ensures reads { ReadsRule (λ found. (found.0, found.1, found.2)) (name_and_format side words.entry) (P.refusals pats.old) (P.refusals pats.new) (P.last_refused pats.new) result }
+    ensures good { IfOk result (λ found. IsMadeName found.0) }
+{
+    let (name, others) = made_name_at(alloc, words)?;
+    let (fmt, others) = format_at(alloc, side, others, pats)?;
+    Ok((name, fmt, others))
+}
+
+/// `RE FMT`, and the words behind them.
+#[tactic(auto, unfolding(crate::specs::Actions::pattern_and_format))]
+pub fn pattern_and_format<'w, P: Patterns>(
+    alloc: Global,
+    side: Side,
+    words: WordsLeft<'w>,
+    pats: &mut P,
+) -> Result<(Pat, Fmt, WordsLeft<'w>), RuleFault>
+    ensures { ReadsRule (λ found. (found.0, found.1, found.2)) (pattern_and_format side words.entry) (P.refusals pats.old) (P.refusals pats.new) (P.last_refused pats.new) result }
+{
+    let (pat, others) = pattern_at(alloc, words, pats)?;
+    let (fmt, others) = format_at(alloc, side, others, pats)?;
+    Ok((pat, fmt, others))
+}
+
+/// The names that `-m` and a word mean.
+#[tactic(auto, unfolding(crate::specs::Actions::matched_by))]
+fn matched_by<P: Patterns>(
+    alloc: Global,
+    word: &[u8],
+    how: &[u8],
+    pats: &mut P,
+) -> Result<DelBy, RuleFault>
+    ensures reads { ReadsRule (λ by. by) (matched_by word.now how.now) (P.refusals pats.old) (P.refusals pats.new) (P.last_refused pats.new) result }
+    ensures good { IfOk result IsGoodDel }
+{
+    if how == b"str".as_slice() {
+        Ok(DelBy::Str(name_of(alloc, word)?))
+    } else if how == b"beg".as_slice() {
+        Ok(DelBy::Beg(name_of(alloc, word)?))
+    } else if how == b"end".as_slice() {
+        Ok(DelBy::End(name_of(alloc, word)?))
+    } else if how == b"sub".as_slice() {
+        Ok(DelBy::Sub(name_of(alloc, word)?))
+    } else if how == b"reg".as_slice() {
+        Ok(DelBy::Reg(pattern(alloc, word, pats)?))
+    } else {
+        Err(RuleFault::Refused(RuleKind::Argument))
+    }
+}
+
+#[tactic(auto, unfolding(crate::specs::Actions::is_match_flag))]
+fn is_match_flag(word: &[u8]) -> bool
+    ensures { result ≡ is_match_flag word.now }
+{
+    word == b"-m".as_slice()
+}
+
+/// Behind `-m`.
+#[tactic(auto, unfolding(crate::specs::Actions::deleted_matching))]
+fn deleted_matching<'w, P: Patterns>(
+    alloc: Global,
+    word: &[u8],
+    others: WordsLeft<'w>,
+    pats: &mut P,
+) -> Result<(Action, WordsLeft<'w>), RuleFault>
+    ensures reads { ReadsRule (λ found. (found.0, found.1)) (deleted_matching word.now others.entry) (P.refusals pats.old) (P.refusals pats.new) (P.last_refused pats.new) result }
+    ensures good { IfOk result (λ found. IsNamed names.DelHeader found.0) }
+{
+    let (how, others) = argument(others)?;
+    let by = matched_by(alloc, word, how, pats)?;
+    Ok((Action::DelHeader(by), others))
+}
+
+/// What stands behind the name of `del-header`.
+fn deleted_behind<'w, P: Patterns>(
+    alloc: Global,
+    word: &[u8],
+    words: WordsLeft<'w>,
+    pats: &mut P,
+) -> Result<(Action, WordsLeft<'w>), RuleFault>
+    ensures reads { ReadsRule (λ found. (found.0, found.1)) (deleted_behind word.now words.entry) (P.refusals pats.old) (P.refusals pats.new) (P.last_refused pats.new) result }
+    ensures good { IfOk result (λ found. IsNamed names.DelHeader found.0) }
+{
+    let mut others = words.again();
+    match others.next() {
+        Some(flag) => {
+            if is_match_flag(flag) {
+                deleted_matching(alloc, word, others, pats)
+            } else {
+                let name = name_of(alloc, word)?;
+                Ok((Action::DelHeader(DelBy::Str(name)), words))
+            }
+        }
+        None => {
+            let name = name_of(alloc, word)?;
+            Ok((Action::DelHeader(DelBy::Str(name)), words))
+        }
+    }
+}
+
+/// `del-header`, of the words behind it.
+#[tactic(auto, unfolding(crate::specs::Actions::field_deleted))]
+fn field_deleted<'w, P: Patterns>(
+    alloc: Global,
+    words: WordsLeft<'w>,
+    pats: &mut P,
+) -> Result<(Action, WordsLeft<'w>), RuleFault>
+    ensures reads { ReadsRule (λ found. (found.0, found.1)) (field_deleted words.entry) (P.refusals pats.old) (P.refusals pats.new) (P.last_refused pats.new) result }
+    ensures good { IfOk result (λ found. IsNamed names.DelHeader found.0) }
+{
+    let (word, others) = argument(words)?;
+    deleted_behind(alloc, word, others, pats)
+}
+
+/// An action on fields, of the words behind it.
+#[tactic(auto, unfolding(crate::specs::Actions::field_at))]
+pub fn field_at<'w, P: Patterns>(
+    alloc: Global,
+    side: Side,
+    name: ActionName,
+    words: WordsLeft<'w>,
+    pats: &mut P,
+) -> Result<(Action, WordsLeft<'w>), RuleFault>
+    ensures reads { ReadsRule (λ found. (found.0, found.1)) (field_at side name words.entry) (P.refusals pats.old) (P.refusals pats.new) (P.last_refused pats.new) result }
+    ensures good { IfOk result (λ found. IsNamed name found.0) }
+{
+    match name {
+        ActionName::AddHeader => {
+            let (name, fmt, others) = name_and_format(alloc, side, words, pats)?;
+            Ok((Action::AddHeader(name, fmt), others))
+        }
+        ActionName::SetHeader => {
+            let (name, fmt, others) = name_and_format(alloc, side, words, pats)?;
+            Ok((Action::SetHeader(name, fmt), others))
+        }
+        ActionName::DelHeader => field_deleted(alloc, words, pats),
+        ActionName::ReplaceHeader => {
+            let (name, others) = made_name_at(alloc, words)?;
+            let (pat, fmt, others) = pattern_and_format(alloc, side, others, pats)?;
+            Ok((Action::ReplaceHeader(name, pat, fmt), others))
+        }
+        ActionName::ReplaceValue => {
+            let (name, others) = made_name_at(alloc, words)?;
+            let (pat, fmt, others) = pattern_and_format(alloc, side, others, pats)?;
+            Ok((Action::ReplaceValue(name, pat, fmt), others))
+        }
+        _ => Err(RuleFault::Refused(RuleKind::Keyword)),
+    }
+}

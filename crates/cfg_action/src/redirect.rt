@@ -1,0 +1,292 @@
+//! The options of `redirect`, in any order.
+ghost use Rattle.std.specs.Prelude.{◌≡◌, ◌||◌, true, false, IfOk};
+ghost use Rattle.rule_model.specs.declared.names.ActionName.TheVariants as names;
+ghost use Rattle.px_bytes.specs.Numbers.{decimal_of};
+ghost use Rattle.rule_model.specs.Valid.{is_redirect_code, may_drop_query, may_append_slash};
+ghost use Rattle.rule_model.specs.declared.reply.RedirectTo.TheVariants.{Location, Prefix, Scheme};
+ghost use Rattle.cfg_action.specs.Faults.{Gives, ReadsRule};
+ghost use Rattle.cfg_action.specs.Arguments.{most_digits};
+ghost use Rattle.cfg_action.specs.Good.{IsNamed, AreRedirectOptions};
+ghost use Rattle.cfg_action.specs.Redirects.{redirect_word, may_come, may_stand, goes_with, as_redirect_code, code_at, with_drop_query, with_append_slash, redirect_of};
+ghost use Rattle.cfg_action.specs.RedirectOptions.{with_location, redirect_option, redirect_options};
+
+use crate::arguments::{MAX_DIGITS, argument, format_at};
+use crate::fault::{RuleFault, RuleKind};
+use cfg_acl::WordsLeft;
+use cfg_expr::Side;
+use px_bytes::read_decimal;
+use px_pattern::Patterns;
+use rule_model::{Action, RedirectTo};
+use std::alloc::Global;
+
+/// The code of a redirect where none is written.
+const FOUND: u16 = 302;
+
+/// The options so far, each at most once.
+#[derive(Drop)]
+pub struct RedirectOptions {
+    pub to: Option<RedirectTo>,
+    pub code: Option<u16>,
+    pub drop_query: bool,
+    pub append_slash: bool,
+}
+
+/// The options by name.
+#[derive(Clone, Copy, Debug)]
+enum RedirectWord {
+    Location,
+    Prefix,
+    Scheme,
+    Code,
+    DropQuery,
+    AppendSlash,
+}
+
+#[tactic(auto, unfolding(crate::specs::Redirects::redirect_word))]
+fn redirect_word(word: &[u8]) -> Option<RedirectWord>
+    ensures { result ≡ redirect_word word.now }
+{
+    if word == b"location".as_slice() {
+        Some(RedirectWord::Location)
+    } else if word == b"prefix".as_slice() {
+        Some(RedirectWord::Prefix)
+    } else if word == b"scheme".as_slice() {
+        Some(RedirectWord::Scheme)
+    } else if word == b"code".as_slice() {
+        Some(RedirectWord::Code)
+    } else if word == b"drop-query".as_slice() {
+        Some(RedirectWord::DropQuery)
+    } else if word == b"append-slash".as_slice() {
+        Some(RedirectWord::AppendSlash)
+    } else {
+        None
+    }
+}
+
+/// An option may stand where it doesn't yet, and goes with the location.
+fn may_stand(stands: bool, goes: bool) -> Result<(), RuleFault>
+    ensures gives { Gives (λ nothing. nothing) result (may_stand stands goes) }
+    ensures good { IfOk result (λ nothing. goes ≡ true) }
+{
+    if stands {
+        return Err(RuleFault::Refused(RuleKind::Argument));
+    }
+    if !goes {
+        return Err(RuleFault::Refused(RuleKind::Argument));
+    }
+    Ok(())
+}
+
+/// A location may still come, unless what stands there clashes with it.
+fn may_come(clashes: bool, options: &RedirectOptions) -> Result<(), RuleFault>
+    ensures gives { Gives (λ nothing. nothing) result (may_come clashes options.now) }
+    ensures good { IfOk result (λ nothing. clashes ≡ false) }
+{
+    if options.to.is_some() || clashes {
+        return Err(RuleFault::Refused(RuleKind::Argument));
+    }
+    Ok(())
+}
+
+fn may_drop_query(to: &Option<RedirectTo>) -> bool
+    ensures { result ≡ goes_with may_drop_query to.now }
+{
+    match to {
+        Some(RedirectTo::Location(_)) => false,
+        Some(RedirectTo::Prefix(_)) => true,
+        Some(RedirectTo::Scheme(_)) => true,
+        None => true,
+    }
+}
+
+fn may_append_slash(to: &Option<RedirectTo>) -> bool
+    ensures { result ≡ goes_with may_append_slash to.now }
+{
+    match to {
+        Some(RedirectTo::Location(_)) => false,
+        Some(RedirectTo::Prefix(_)) => true,
+        Some(RedirectTo::Scheme(_)) => false,
+        None => true,
+    }
+}
+
+/// One of the codes of redirects.
+fn redirect_code(word: &[u8]) -> Result<u16, RuleFault>
+    ensures gives { Gives (λ code. code) result (as_redirect_code (decimal_of most_digits word.now)) }
+    ensures good { IfOk result (λ code. is_redirect_code code ≡ true) }
+{
+    match read_decimal(word, MAX_DIGITS) {
+        Some(code) => {
+            if code == 301 || code == 302 || code == 303 || code == 307 || code == 308 {
+                Ok(code as u16)
+            } else {
+                Err(RuleFault::Refused(RuleKind::Argument))
+            }
+        }
+        None => Err(RuleFault::Refused(RuleKind::Argument)),
+    }
+}
+
+/// `code` and its number.
+#[tactic(auto, unfolding(crate::specs::Redirects::code_at))]
+fn code_at(
+    mut options: RedirectOptions,
+    others: WordsLeft<'_>,
+) -> Result<(RedirectOptions, WordsLeft<'_>), RuleFault>
+    ensures gives { Gives (λ next. (next.0, next.1)) result (code_at options others.entry) }
+    ensures good { AreRedirectOptions options → IfOk result (λ next. AreRedirectOptions next.0) }
+{
+    may_stand(options.code.is_some(), true)?;
+    let (word, others) = argument(others)?;
+    options.code = Some(redirect_code(word)?);
+    Ok((options, others))
+}
+
+/// `drop-query`.
+fn with_drop_query(mut options: RedirectOptions) -> Result<RedirectOptions, RuleFault>
+    ensures gives { Gives (λ next. next) result (with_drop_query options) }
+    ensures good { AreRedirectOptions options → IfOk result AreRedirectOptions }
+{
+    may_stand(options.drop_query, may_drop_query(&options.to))?;
+    options.drop_query = true;
+    Ok(options)
+}
+
+/// `append-slash`.
+fn with_append_slash(mut options: RedirectOptions) -> Result<RedirectOptions, RuleFault>
+    ensures gives { Gives (λ next. next) result (with_append_slash options) }
+    ensures good { AreRedirectOptions options → IfOk result AreRedirectOptions }
+{
+    may_stand(options.append_slash, may_append_slash(&options.to))?;
+    options.append_slash = true;
+    Ok(options)
+}
+
+/// `location` and its format.
+#[tactic(auto, using(crate::proofs::GoodLemmas::redirects))]
+fn with_location<'w, P: Patterns>(
+    alloc: Global,
+    side: Side,
+    mut options: RedirectOptions,
+    others: WordsLeft<'w>,
+    pats: &mut P,
+) -> Result<(RedirectOptions, WordsLeft<'w>), RuleFault>
+    ensures reads { ReadsRule (λ next. (next.0, next.1)) (with_location side Location (options.drop_query || options.append_slash) options others.entry) (P.refusals pats.old) (P.refusals pats.new) (P.last_refused pats.new) result }
+    ensures good { AreRedirectOptions options → IfOk result (λ next. AreRedirectOptions next.0) }
+{
+    may_come(options.drop_query || options.append_slash, &options)?;
+    let (fmt, others) = format_at(alloc, side, others, pats)?;
+    options.to = Some(RedirectTo::Location(fmt));
+    Ok((options, others))
+}
+
+/// `prefix` and its format.
+#[tactic(auto, using(crate::proofs::GoodLemmas::redirects))]
+fn with_prefix<'w, P: Patterns>(
+    alloc: Global,
+    side: Side,
+    mut options: RedirectOptions,
+    others: WordsLeft<'w>,
+    pats: &mut P,
+) -> Result<(RedirectOptions, WordsLeft<'w>), RuleFault>
+    ensures reads { ReadsRule (λ next. (next.0, next.1)) (with_location side Prefix false options others.entry) (P.refusals pats.old) (P.refusals pats.new) (P.last_refused pats.new) result }
+    ensures good { AreRedirectOptions options → IfOk result (λ next. AreRedirectOptions next.0) }
+{
+    may_come(false, &options)?;
+    let (fmt, others) = format_at(alloc, side, others, pats)?;
+    options.to = Some(RedirectTo::Prefix(fmt));
+    Ok((options, others))
+}
+
+/// `scheme` and its format.
+#[tactic(auto, using(crate::proofs::GoodLemmas::redirects))]
+fn with_scheme<'w, P: Patterns>(
+    alloc: Global,
+    side: Side,
+    mut options: RedirectOptions,
+    others: WordsLeft<'w>,
+    pats: &mut P,
+) -> Result<(RedirectOptions, WordsLeft<'w>), RuleFault>
+    ensures reads { ReadsRule (λ next. (next.0, next.1)) (with_location side Scheme options.append_slash options others.entry) (P.refusals pats.old) (P.refusals pats.new) (P.last_refused pats.new) result }
+    ensures good { AreRedirectOptions options → IfOk result (λ next. AreRedirectOptions next.0) }
+{
+    may_come(options.append_slash, &options)?;
+    let (fmt, others) = format_at(alloc, side, others, pats)?;
+    options.to = Some(RedirectTo::Scheme(fmt));
+    Ok((options, others))
+}
+
+/// An option and the words behind it.
+#[tactic(auto, unfolding(crate::specs::RedirectOptions::redirect_option))]
+fn redirect_option<'w, P: Patterns>(
+    alloc: Global,
+    side: Side,
+    options: RedirectOptions,
+    which: RedirectWord,
+    others: WordsLeft<'w>,
+    pats: &mut P,
+) -> Result<(RedirectOptions, WordsLeft<'w>), RuleFault>
+    ensures reads { ReadsRule (λ next. (next.0, next.1)) (redirect_option side options which others.entry) (P.refusals pats.old) (P.refusals pats.new) (P.last_refused pats.new) result }
+    ensures good { AreRedirectOptions options → IfOk result (λ next. AreRedirectOptions next.0) }
+{
+    match which {
+        RedirectWord::Location => with_location(alloc, side, options, others, pats),
+        RedirectWord::Prefix => with_prefix(alloc, side, options, others, pats),
+        RedirectWord::Scheme => with_scheme(alloc, side, options, others, pats),
+        RedirectWord::Code => code_at(options, others),
+        RedirectWord::DropQuery => Ok((with_drop_query(options)?, others)),
+        RedirectWord::AppendSlash => Ok((with_append_slash(options)?, others)),
+    }
+}
+
+/// Options up to a word that is none, of which so many more may come.
+#[tactic(auto, unfolding(crate::specs::RedirectOptions::redirect_options))]
+pub fn redirect_options<'w, P: Patterns>(
+    alloc: Global,
+    side: Side,
+    most: u32,
+    options: RedirectOptions,
+    words: WordsLeft<'w>,
+    pats: &mut P,
+) -> Result<(RedirectOptions, WordsLeft<'w>), RuleFault>
+    ensures reads { ReadsRule (λ next. (next.0, next.1)) (redirect_options side most options words.entry) (P.refusals pats.old) (P.refusals pats.new) (P.last_refused pats.new) result }
+    ensures good { AreRedirectOptions options → IfOk result (λ next. AreRedirectOptions next.0) }
+{
+    let mut others = words.again();
+    let Some(word) = others.next() else {
+        return Ok((options, words));
+    };
+    if most == 0 {
+        return Ok((options, words));
+    }
+    match redirect_word(word) {
+        None => Ok((options, words)),
+        Some(which) => {
+            let (options, left) = redirect_option(alloc, side, options, which, others, pats)?;
+            redirect_options(alloc, side, most - 1, options, left, pats)
+        }
+    }
+}
+
+/// The redirect of its options.
+#[tactic(auto, using(crate::proofs::GoodLemmas::redirects))]
+pub fn redirect_of(options: RedirectOptions) -> Result<Action, RuleFault>
+    ensures gives { Gives (λ action. action) result (redirect_of options) }
+    ensures good { AreRedirectOptions options → IfOk result (IsNamed names.Redirect) }
+{
+    let RedirectOptions {
+        to,
+        code,
+        drop_query,
+        append_slash,
+    } = options;
+    match to {
+        Some(to) => Ok(Action::Redirect {
+            to,
+            code: code.unwrap_or(FOUND),
+            drop_query,
+            append_slash,
+        }),
+        None => Err(RuleFault::Refused(RuleKind::Argument)),
+    }
+}

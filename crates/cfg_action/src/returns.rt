@@ -1,0 +1,270 @@
+//! The options of `return`, in any order.
+ghost use Rattle.std.specs.Prelude.{◌≡◌, ◌+◌, ◌<◌, ◌≤◌, ◌&&◌, false, length, IfOk};
+ghost use Rattle.rule_model.specs.declared.names.ActionName.TheVariants as names;
+ghost use Rattle.cfg_action.specs.Faults.{Gives, ReadsRule};
+ghost use Rattle.cfg_action.specs.Good.{IsNamed, AreReturnOptions};
+ghost use Rattle.cfg_action.specs.Returns.{return_word, once, has_no_body, may_have_payload, going_with, status_at, content_type_at, literal_at, return_of};
+ghost use Rattle.cfg_action.specs.ReturnOptions.{payload_format_at, hdr_at, return_option, return_options};
+ghost use Rattle.rule_model.specs.Valid.{is_bodiless};
+
+use crate::arguments::{argument, code_of, format_at, made_name_at};
+use crate::fault::{RuleFault, RuleKind};
+use cfg_acl::WordsLeft;
+use cfg_expr::Side;
+use px_pattern::Patterns;
+use rule_model::{Action, Hdr, HdrList, Payload, Text};
+use std::alloc::Global;
+
+/// The status of a reply where none is written.
+const OK: u16 = 200;
+
+/// The options so far, each at most once but for the fields.
+#[derive(Drop)]
+pub struct ReturnOptions {
+    pub status: Option<u16>,
+    pub content_type: Option<Text>,
+    pub payload: Option<Payload>,
+    pub hdrs: HdrList,
+}
+
+/// The options by name.
+#[derive(Clone, Copy, Debug)]
+enum ReturnWord {
+    Status,
+    ContentType,
+    Literal,
+    Format,
+    Hdr,
+}
+
+#[tactic(auto, unfolding(crate::specs::Returns::return_word))]
+fn return_word(word: &[u8]) -> Option<ReturnWord>
+    ensures { result ≡ return_word word.now }
+{
+    if word == b"status".as_slice() {
+        Some(ReturnWord::Status)
+    } else if word == b"content-type".as_slice() {
+        Some(ReturnWord::ContentType)
+    } else if word == b"string".as_slice() {
+        Some(ReturnWord::Literal)
+    } else if word == b"lf-string".as_slice() {
+        Some(ReturnWord::Format)
+    } else if word == b"hdr".as_slice() {
+        Some(ReturnWord::Hdr)
+    } else {
+        None
+    }
+}
+
+/// An option may stand where it doesn't yet.
+fn once(stands: bool) -> Result<(), RuleFault>
+    ensures gives { Gives (λ nothing. nothing) result (once stands) }
+    ensures good { IfOk result (λ nothing. stands ≡ false) }
+{
+    if stands {
+        return Err(RuleFault::Refused(RuleKind::Argument));
+    }
+    Ok(())
+}
+
+/// No body is sent with the status.
+fn is_bodiless(status: u16) -> bool
+    ensures { result ≡ is_bodiless status }
+{
+    status == 204 || status == 304
+}
+
+fn has_no_body(status: Option<u16>) -> bool
+    ensures { result ≡ has_no_body status }
+{
+    match status {
+        Some(status) => is_bodiless(status),
+        None => false,
+    }
+}
+
+/// A payload may come where there is none, and where the status has a body.
+fn may_have_payload(options: &ReturnOptions) -> Result<(), RuleFault>
+    ensures gives { Gives (λ nothing. nothing) result (may_have_payload options.now) }
+    ensures good { IfOk result (λ nothing. has_no_body options.now.status ≡ false) }
+{
+    once(options.payload.is_some() || has_no_body(options.status))
+}
+
+/// The status goes with the payload, where that stands there.
+fn going_with(has_payload: bool, status: u16) -> Result<u16, RuleFault>
+    ensures gives { Gives (λ status. status) result (going_with has_payload status) }
+    ensures good { IfOk result (λ kept. (kept ≡ status) × ((has_payload && is_bodiless kept) ≡ false)) }
+{
+    if has_payload && is_bodiless(status) {
+        return Err(RuleFault::Refused(RuleKind::Argument));
+    }
+    Ok(status)
+}
+
+/// `status` and its code.
+#[tactic(auto, unfolding(crate::specs::Returns::status_at))]
+fn status_at(
+    mut options: ReturnOptions,
+    others: WordsLeft<'_>,
+) -> Result<(ReturnOptions, WordsLeft<'_>), RuleFault>
+    ensures gives { Gives (λ next. (next.0, next.1)) result (status_at options others.entry) }
+    ensures good { AreReturnOptions options → IfOk result (λ next. AreReturnOptions next.0) }
+    ensures few { IfOk result (λ next. length next.0.hdrs ≤ length options.hdrs + 1) }
+{
+    once(options.status.is_some())?;
+    let (word, others) = argument(others)?;
+    let code = code_of(200, 599, word)?;
+    options.status = Some(going_with(options.payload.is_some(), code)?);
+    Ok((options, others))
+}
+
+/// `content-type` and the type.
+#[tactic(auto, unfolding(crate::specs::Returns::content_type_at))]
+fn content_type_at(
+    alloc: Global,
+    mut options: ReturnOptions,
+    others: WordsLeft<'_>,
+) -> Result<(ReturnOptions, WordsLeft<'_>), RuleFault>
+    ensures gives { Gives (λ next. (next.0, next.1)) result (content_type_at options others.entry) }
+    ensures good { AreReturnOptions options → IfOk result (λ next. AreReturnOptions next.0) }
+    ensures few { IfOk result (λ next. length next.0.hdrs ≤ length options.hdrs + 1) }
+{
+    once(options.content_type.is_some())?;
+    let (word, others) = argument(others)?;
+    options.content_type = Some(Text::copy(alloc, word)?);
+    Ok((options, others))
+}
+
+/// `string` and the payload.
+#[tactic(auto, unfolding(crate::specs::Returns::literal_at))]
+fn literal_at(
+    alloc: Global,
+    mut options: ReturnOptions,
+    others: WordsLeft<'_>,
+) -> Result<(ReturnOptions, WordsLeft<'_>), RuleFault>
+    ensures gives { Gives (λ next. (next.0, next.1)) result (literal_at options others.entry) }
+    ensures good { AreReturnOptions options → IfOk result (λ next. AreReturnOptions next.0) }
+    ensures few { IfOk result (λ next. length next.0.hdrs ≤ length options.hdrs + 1) }
+{
+    may_have_payload(&options)?;
+    let (word, others) = argument(others)?;
+    options.payload = Some(Payload::Literal(Text::copy(alloc, word)?));
+    Ok((options, others))
+}
+
+/// `lf-string` and the payload's format.
+#[tactic(auto, unfolding(crate::specs::ReturnOptions::payload_format_at))]
+fn payload_format_at<'w, P: Patterns>(
+    alloc: Global,
+    side: Side,
+    mut options: ReturnOptions,
+    others: WordsLeft<'w>,
+    pats: &mut P,
+) -> Result<(ReturnOptions, WordsLeft<'w>), RuleFault>
+    ensures reads { ReadsRule (λ next. (next.0, next.1)) (payload_format_at side options others.entry) (P.refusals pats.old) (P.refusals pats.new) (P.last_refused pats.new) result }
+    ensures good { AreReturnOptions options → IfOk result (λ next. AreReturnOptions next.0) }
+    ensures few { IfOk result (λ next. length next.0.hdrs ≤ length options.hdrs + 1) }
+{
+    may_have_payload(&options)?;
+    let (fmt, others) = format_at(alloc, side, others, pats)?;
+    options.payload = Some(Payload::Format(fmt));
+    Ok((options, others))
+}
+
+/// `hdr`: one more field.
+#[tactic(auto, using(crate::proofs::GoodLemmas::replies), unfolding(crate::specs::ReturnOptions::hdr_at))]
+fn hdr_at<'w, P: Patterns>(
+    alloc: Global,
+    side: Side,
+    mut options: ReturnOptions,
+    others: WordsLeft<'w>,
+    pats: &mut P,
+) -> Result<(ReturnOptions, WordsLeft<'w>), RuleFault>
+    requires { length options.hdrs < 64 }
+    ensures reads { ReadsRule (λ next. (next.0, next.1)) (hdr_at side options others.entry) (P.refusals pats.old) (P.refusals pats.new) (P.last_refused pats.new) result }
+    ensures good { AreReturnOptions options → IfOk result (λ next. AreReturnOptions next.0) }
+    ensures few { IfOk result (λ next. length next.0.hdrs ≤ length options.hdrs + 1) }
+{
+    let (name, others) = made_name_at(alloc, others)?;
+    let (value, others) = format_at(alloc, side, others, pats)?;
+    options.hdrs.push(Hdr { name, value })?;
+    Ok((options, others))
+}
+
+/// An option and the words behind it.
+#[tactic(auto, unfolding(crate::specs::ReturnOptions::return_option))]
+fn return_option<'w, P: Patterns>(
+    alloc: Global,
+    side: Side,
+    options: ReturnOptions,
+    which: ReturnWord,
+    others: WordsLeft<'w>,
+    pats: &mut P,
+) -> Result<(ReturnOptions, WordsLeft<'w>), RuleFault>
+    requires { length options.hdrs < 64 }
+    ensures reads { ReadsRule (λ next. (next.0, next.1)) (return_option side options which others.entry) (P.refusals pats.old) (P.refusals pats.new) (P.last_refused pats.new) result }
+    ensures good { AreReturnOptions options → IfOk result (λ next. AreReturnOptions next.0) }
+    ensures few { IfOk result (λ next. length next.0.hdrs ≤ length options.hdrs + 1) }
+{
+    match which {
+        ReturnWord::Status => status_at(options, others),
+        ReturnWord::ContentType => content_type_at(alloc, options, others),
+        ReturnWord::Literal => literal_at(alloc, options, others),
+        ReturnWord::Format => payload_format_at(alloc, side, options, others, pats),
+        ReturnWord::Hdr => hdr_at(alloc, side, options, others, pats),
+    }
+}
+
+/// Options up to a word that is none, of which so many more may come.
+#[tactic(auto, unfolding(crate::specs::ReturnOptions::return_options))]
+pub fn return_options<'w, P: Patterns>(
+    alloc: Global,
+    side: Side,
+    most: u32,
+    options: ReturnOptions,
+    words: WordsLeft<'w>,
+    pats: &mut P,
+) -> Result<(ReturnOptions, WordsLeft<'w>), RuleFault>
+    requires { length options.hdrs + most ≤ 64 }
+    ensures reads { ReadsRule (λ next. (next.0, next.1)) (return_options side most options words.entry) (P.refusals pats.old) (P.refusals pats.new) (P.last_refused pats.new) result }
+    ensures good { AreReturnOptions options → IfOk result (λ next. AreReturnOptions next.0) }
+{
+    let mut others = words.again();
+    let Some(word) = others.next() else {
+        return Ok((options, words));
+    };
+    if most == 0 {
+        return Ok((options, words));
+    }
+    match return_word(word) {
+        None => Ok((options, words)),
+        Some(which) => {
+            let (options, left) = return_option(alloc, side, options, which, others, pats)?;
+            return_options(alloc, side, most - 1, options, left, pats)
+        }
+    }
+}
+
+/// The reply of its options. A payload needs a type.
+#[tactic(auto, using(crate::proofs::GoodLemmas::replies))]
+pub fn return_of(options: ReturnOptions) -> Result<Action, RuleFault>
+    ensures gives { Gives (λ action. action) result (return_of options) }
+    ensures good { AreReturnOptions options → IfOk result (IsNamed names.Return) }
+{
+    if options.payload.is_some() && options.content_type.is_none() {
+        return Err(RuleFault::Refused(RuleKind::Argument));
+    }
+    let ReturnOptions {
+        status,
+        content_type,
+        payload,
+        hdrs,
+    } = options;
+    Ok(Action::Return {
+        status: status.unwrap_or(OK),
+        content_type,
+        payload,
+        hdrs,
+    })
+}

@@ -1,0 +1,39 @@
+//! A rule: an action, and a condition or none.
+ghost use Rattle.std.specs.Prelude.{IfOk};
+ghost use Rattle.rule_model.specs.Valid.{IsGoodRule};
+ghost use Rattle.cfg_action.specs.Faults.{ReadsRule};
+ghost use Rattle.cfg_action.specs.Rules.{rule_of};
+
+use crate::actions::action_parts;
+use crate::arguments::argument;
+use crate::fault::RuleFault;
+use crate::names::{placed_action, side_of};
+use crate::parts::made_of;
+use crate::texts::condition;
+use cfg_acl::{AclList, WordsLeft};
+use px_pattern::Patterns;
+use rule_model::{Direction, Rule};
+use std::alloc::Global;
+
+/// The rule that the words behind `http-request`, `http-response` or `http-after-response` say, below these `acl` lines.
+/// Refused with Keyword where the action is unknown or rules of the direction don't have it; with FramingName where it makes
+/// a field that frames a message; with Argument, Expr, Acl or Limit as its words are. The first refused word decides; what
+/// lacks counts as behind the last.
+#[tactic(auto, unfolding(crate::specs::Rules::rule_of))]
+pub fn read_rule<P: Patterns>(
+    alloc: Global,
+    direction: Direction,
+    lines: &AclList,
+    words: WordsLeft<'_>,
+    pats: &mut P,
+) -> Result<Rule, RuleFault>
+    ensures reads { ReadsRule (λ rule. rule) (rule_of direction lines.now words.entry) (P.refusals pats.old) (P.refusals pats.new) (P.last_refused pats.new) result }
+    ensures good { IfOk result (IsGoodRule direction) }
+{
+    let (word, others) = argument(words)?;
+    let name = placed_action(direction, word)?;
+    let (parts, others) = action_parts(alloc, direction, name, word, others, pats)?;
+    let cond = condition(alloc, side_of(direction), lines, others, pats)?;
+    let action = made_of(parts)?;
+    Ok(Rule { action, cond })
+}

@@ -1,0 +1,70 @@
+-- Lines that begin a section, and settings without rules (Configuration Manual, sections 2 to 4).
+use Rattle.std.specs.Prelude.{ℕ, List, if◌then◌else◌, Some, is_some, Result, Ok, Err, codes}
+use Rattle.std.specs.Str.{bytes_eq}
+use Rattle.http_model.specs.Sizes.{least_size, most_size}
+use Rattle.cfg_parse.specs.declared.fault.CfgKind.{CfgKind}
+use Rattle.cfg_parse.specs.declared.fault.CfgKind.TheVariants.{Section, Argument}
+use Rattle.cfg_parse.specs.declared.keywords.SectionWord.{SectionWord}
+use Rattle.cfg_parse.specs.declared.keywords.SectionWord.TheVariants.{Global, Defaults, Listen, Other}
+use Rattle.cfg_parse.specs.declared.draft.Draft.{Draft}
+use Rattle.cfg_parse.specs.declared.draft.Section.TheVariants as sections
+use Rattle.cfg_parse.specs.declared.draft.Listen.TheVariants as listens
+use Rattle.cfg_parse.specs.Reading.{◌>>=◌, argument, no_more}
+use Rattle.cfg_parse.specs.Keywords.{is_timeout_name}
+use Rattle.cfg_parse.specs.Numbers.{number_up_to, size_of, is_time, address_of, server_address_of}
+use Rattle.cfg_parse.specs.Draft.{has_listen}
+
+-- ---- lines that begin a section
+
+-- a section begins; `listen` has a name, and comes once
+unfoldable pub section_line : Draft → SectionWord → List (List ℕ) → Result Draft CfgKind
+section_line draft Global arguments = no_more arguments >>= λ ended. Ok (record draft { section = sections.Global })
+section_line draft Defaults arguments = no_more arguments >>= λ ended. Ok (record draft { section = sections.Defaults })
+section_line draft Listen arguments =
+    if has_listen draft.listen then Err Section
+    else (argument arguments >>= λ name. no_more name.1 >>= λ ended. Ok (record draft { section = sections.Listen; listen = listens.Begun }))
+section_line draft Other arguments = Err Section
+
+-- ---- lines of a section
+
+-- `tune.bufsize`: a later line replaces the earlier one
+unfoldable pub bufsize_line : Draft → List (List ℕ) → Result Draft CfgKind
+bufsize_line draft arguments = do
+  word ← argument arguments
+  size ← size_of least_size most_size word.0
+  ended ← no_more word.1
+  Ok (record draft { bufsize = Some size })
+
+-- `tune.maxrewrite`, any number: a later line replaces the earlier one. Whether it suits the buffer is seen after all lines; what
+-- is above the largest buffer suits none, and counts as that.
+unfoldable pub maxrewrite_line : Draft → List (List ℕ) → Result Draft CfgKind
+maxrewrite_line draft arguments = do
+  word ← argument arguments
+  size ← number_up_to most_size word.0
+  ended ← no_more word.1
+  Ok (record draft { maxrewrite = Some size })
+
+-- `mode http`, which changes nothing
+unfoldable pub mode_line : Draft → List (List ℕ) → Result Draft CfgKind
+mode_line draft arguments = do
+  word ← argument arguments
+  if bytes_eq word.0 (codes "http") then (no_more word.1 >>= λ ended. Ok draft) else Err Argument
+
+-- `timeout NAME TIME`, which changes nothing
+unfoldable pub timeout_line : Draft → List (List ℕ) → Result Draft CfgKind
+timeout_line draft arguments = do
+  name ← argument arguments
+  time ← if is_timeout_name name.0 then argument name.1 else Err Argument
+  if is_time time.0 then (no_more time.1 >>= λ ended. Ok draft) else Err Argument
+
+-- `bind HOST:PORT`, once
+unfoldable pub bind_line : Draft → List (List ℕ) → Result Draft CfgKind
+bind_line draft arguments =
+    if is_some draft.bind then Err Argument
+    else (argument arguments >>= λ word. address_of word.0 >>= λ address. no_more word.1 >>= λ ended. Ok (record draft { bind = Some address }))
+
+-- `server NAME HOST:PORT`, once
+unfoldable pub server_line : Draft → List (List ℕ) → Result Draft CfgKind
+server_line draft arguments =
+    if is_some draft.server then Err Argument
+    else (argument arguments >>= λ name. argument name.1 >>= λ word. server_address_of word.0 >>= λ address. no_more word.1 >>= λ ended. Ok (record draft { server = Some address }))

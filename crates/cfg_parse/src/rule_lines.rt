@@ -1,0 +1,139 @@
+//! The lines of `acl`, `http-request`, `http-response` and `http-after-response`.
+
+ghost use Rattle.std.specs.Prelude.{◌≡◌, ◌-◌, ◌^◌, min, length, IfOk, OnOk};
+ghost use Rattle.rule_actions.specs.Acts.{is_built};
+ghost use Rattle.cfg_parse.specs.Reading.{Leaves};
+ghost use Rattle.rule_model.specs.Valid.{IsGoodRule};
+ghost use Rattle.cfg_action.specs.Rules.{rule_of};
+ghost use Rattle.cfg_parse.specs.Asking.{ReadsLine, of_rule};
+ghost use Rattle.cfg_parse.specs.Sound.{IsSound};
+ghost use Rattle.cfg_parse.specs.Rules.{tests_of, rules_in, has_room, rule_added, rule_line, acl_setting};
+
+use crate::arguments::Arguments;
+use crate::draft::Draft;
+use crate::fault::{CfgKind, LineRefusal};
+use crate::limits::{MAX_RULES, MAX_TESTS};
+use cfg_acl::{AclList, count_tests, read_acl};
+use cfg_action::read_rule;
+use http_rules::{Action, Cond, DelBy, Direction, Rule};
+use px_pattern::Patterns;
+use std::alloc::Global;
+
+/// How many tests a rule's condition has; the greatest number where there are more.
+fn tests_of(cond: &Option<Cond>) -> u64
+    ensures { result ≡ min (tests_of cond.now) (2 ^ 64 - 1) }
+{
+    match cond {
+        Some(cond) => count_tests(cond),
+        None => 0,
+    }
+}
+
+/// How many rules of a direction there are so far.
+fn rule_count(draft: &Draft, direction: Direction) -> u32
+    ensures { result ≡ length (rules_in draft.now direction) }
+{
+    match direction {
+        Direction::Request => draft.request.len(),
+        Direction::Response => draft.response.len(),
+        Direction::After => draft.after.len(),
+    }
+}
+
+/// One more rule with this condition fits behind those of a direction.
+#[tactic(auto, unfolding(crate::specs::Rules::has_room))]
+fn has_room(draft: &Draft, direction: Direction, cond: &Option<Cond>) -> bool
+    ensures { result ≡ has_room draft.now direction (tests_of cond.now) }
+{
+    let tests = tests_of(cond);
+    rule_count(draft, direction) < MAX_RULES
+        && tests <= MAX_TESTS
+        && draft.tests <= MAX_TESTS - tests
+}
+
+/// The action is one that is run today.
+fn is_built(action: &Action) -> bool
+    ensures { result ≡ is_built action.now }
+{
+    match action {
+        Action::DelHeader(DelBy::Reg(_)) => false,
+        Action::ReplaceHeader(_, _, _) | Action::ReplaceValue(_, _, _) => false,
+        Action::ReplacePath(_, _) | Action::ReplacePathq(_, _) | Action::ReplaceUri(_, _) => false,
+        Action::Redirect { .. } | Action::Return { .. } => false,
+        _ => true,
+    }
+}
+
+/// One more rule of a direction.
+#[tactic(auto, unfolding(crate::specs::Rules::rule_added, crate::specs::Rules::has_room))]
+fn add_rule(draft: &mut Draft, direction: Direction, rule: Rule) -> Result<(), LineRefusal>
+    ensures { Leaves result draft.new (rule_added draft.old direction rule) }
+{
+    if !has_room(draft, direction, &rule.cond) {
+        return Err(LineRefusal::Refused(CfgKind::Limit));
+    }
+    if !is_built(&rule.action) {
+        return Err(LineRefusal::Refused(CfgKind::Unbuilt));
+    }
+    draft.tests += tests_of(&rule.cond);
+    match direction {
+        Direction::Request => draft.request.push(rule)?,
+        Direction::Response => draft.response.push(rule)?,
+        Direction::After => draft.after.push(rule)?,
+    }
+    Ok(())
+}
+
+/// The rule that the words behind `http-request` and its like say.
+#[tactic(auto, using(crate::proofs::LineReadings::parts))]
+fn rule_of_words<P: Patterns>(
+    alloc: Global,
+    direction: Direction,
+    acls: &AclList,
+    arguments: Arguments<'_>,
+    pats: &mut P,
+) -> Result<Rule, LineRefusal>
+    ensures reads { ReadsLine (λ rule. rule) (of_rule (rule_of direction acls.now arguments.entry)) (P.refusals pats.old) (P.refusals pats.new) (P.last_refused pats.new) result }
+    ensures good { IfOk result (IsGoodRule direction) }
+{
+    match read_rule(alloc, direction, acls, arguments.left(), pats) {
+        Ok(rule) => Ok(rule),
+        Err(fault) => Err(LineRefusal::from(fault)),
+    }
+}
+
+/// The words behind `http-request` and its like: one more rule.
+#[tactic(auto, using(crate::proofs::LineReadings::parts))]
+pub fn read_rule_line<P: Patterns>(
+    alloc: Global,
+    draft: &mut Draft,
+    direction: Direction,
+    arguments: Arguments<'_>,
+    pats: &mut P,
+) -> Result<(), LineRefusal>
+    ensures reads { ReadsLine (λ nothing. draft.new) (rule_line draft.old direction arguments.entry) (P.refusals pats.old) (P.refusals pats.new) (P.last_refused pats.new) result }
+    ensures sound { IsSound draft.old → OnOk result (IsSound draft.new) }
+{
+    let rule = match rule_of_words(alloc, direction, &draft.acls, arguments, pats) {
+        Ok(rule) => rule,
+        Err(refusal) => return Err(refusal),
+    };
+    add_rule(draft, direction, rule)
+}
+
+/// The words behind `acl`: one more line.
+#[tactic(auto, using(crate::proofs::LineReadings::parts))]
+pub fn read_acl_line<P: Patterns>(
+    alloc: Global,
+    draft: &mut Draft,
+    arguments: Arguments<'_>,
+    pats: &mut P,
+) -> Result<(), LineRefusal>
+    ensures reads { ReadsLine (λ nothing. draft.new) (acl_setting draft.old arguments.entry) (P.refusals pats.old) (P.refusals pats.new) (P.last_refused pats.new) result }
+    ensures sound { IsSound draft.old → OnOk result (IsSound draft.new) }
+{
+    match read_acl(alloc, arguments.left(), &mut draft.acls, pats) {
+        Ok(()) => Ok(()),
+        Err(fault) => Err(LineRefusal::from(fault)),
+    }
+}
