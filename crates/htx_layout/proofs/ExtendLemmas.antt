@@ -110,32 +110,23 @@ relisted raw new n i l laid is opens within addr_fits info_fits now =
 pub laid_zero : (raw : List ℕ) (n front : ℕ) → IsLaid raw n front → IsLaid raw n 0
 laid_zero raw n front laid = record { sound = laid.sound; told = laid.told; filled = laid.filled; parted = record { parted = λ j within. inr (omega arith) }; small = omega arith; most = laid.most }
 
--- the bytes of its own stand there in another array too
-pub longer_same : (raw new : List ℕ) (l : Longer) → kept_bytes new l ≡ kept_bytes raw l → length new ≡ length raw → IsLonger raw l → IsLonger new l
-longer_same raw new l same size is =
-    let source = is.source in
-    record {
-      source = omega arith;
-      some = is.some;
-      kept_tells = subst (Tells l.kept.0) (sym same) is.kept_tells;
-      len = is.len;
-      tells = subst (λ (p : List ℕ). Tells l.info.0 (p ++ l.more.now)) (sym same) is.tells;
-    }
-
 -- ---- a block that was taken out
 
-pub record IsGone (raw new : List ℕ) (n i front keep : ℕ) : Type 0 where
+pub record IsGone (raw new : List ℕ) (n i front : ℕ) (l : Longer) : Type 0 where
   pub laid : IsLaid new (n - 1) front
-  pub opens : IsOpen new (n - 1) (addr_in raw i) keep
-  pub own : window new (addr_in raw i) keep ≡ window raw (addr_in raw i) keep
+  pub opens : IsOpen new (n - 1) l.from (info_len l.kept.0)
+  pub longer : IsLonger new l
+  pub own : kept_bytes new l ≡ kept_bytes raw l
   pub size : length new ≡ length raw
 
-gone_is : (raw : List ℕ) (n i front keep : ℕ) → IsLaid raw n front → i < n → keep ≤ len_in raw i → IsGone raw (unlisted raw n i 1) n i front keep
-gone_is raw n i front keep laid small part =
+gone_is : (raw : List ℕ) (n i front : ℕ) (l : Longer) → IsLaid raw n front → i < n → IsLonger raw l → l.from ≡ addr_in raw i → info_len l.kept.0 ≤ len_in raw i → IsGone raw (unlisted raw n i 1) n i front l
+gone_is raw n i front l laid small is here part =
     let room = laid.sound.room in
     let long = length-unlisted raw n i 1 room (omega arith) in
     let ends = laid.sound.within i small in
     let piece = window raw (length raw - 8 * n) (8 * (n - i - 1)) in
+    let own : kept_bytes (unlisted raw n i 1) l ≡ kept_bytes raw l = window-overwritten_below raw (length raw - 8 * n + 8 * 1) piece l.from (info_len l.kept.0) (omega arith) (omega arith) in
+    let source = is.source in
     record {
       laid = IsLaid-unlisted raw n i 1 front laid (omega arith);
       opens = record {
@@ -150,13 +141,20 @@ gone_is raw n i front keep laid small part =
             let e = ap end_of old.same in
             let a = ap (λ (d : Desc). d.addr) old.same in
             elim (cases_lt j i) [
-              | inl lt ↦ let is = old.below lt in elim (laid.sound.apart old.number i (omega arith) small) [ inl h ↦ inr (omega arith) | inr h ↦ inl (omega arith) ]
-              | inr ge ↦ let is = old.above ge in elim (laid.sound.apart i old.number (omega arith) old.small) [ inl h ↦ inl (omega arith) | inr h ↦ inr (omega arith) ]
+              | inl lt ↦ let less = old.below lt in elim (laid.sound.apart old.number i (omega arith) small) [ inl h ↦ inr (omega arith) | inr h ↦ inl (omega arith) ]
+              | inr ge ↦ let less = old.above ge in elim (laid.sound.apart i old.number (omega arith) old.small) [ inl h ↦ inl (omega arith) | inr h ↦ inr (omega arith) ]
             ];
       };
-      own = window-overwritten_below raw (length raw - 8 * n + 8 * 1) piece (addr_in raw i) keep (omega arith) (omega arith);
+      longer = record {
+        source = omega arith;
+        some = is.some;
+        kept_tells = subst (Tells l.kept.0) (sym own) is.kept_tells;
+        len = is.len;
+        tells = subst (λ (p : List ℕ). Tells l.info.0 (p ++ l.more.now)) (sym own) is.tells;
+      };
+      own = own;
       size = long;
     }
 
-pub gone : (raw new : List ℕ) (n i front keep : ℕ) → IsLaid raw n front → i < n → keep ≤ len_in raw i → new ≡ unlisted raw n i 1 → IsGone raw new n i front keep
-gone raw new n i front keep laid small part now = subst (λ (x : List ℕ). IsGone raw x n i front keep) (sym now) (gone_is raw n i front keep laid small part)
+pub gone : (raw new : List ℕ) (n i front : ℕ) (l : Longer) → IsLaid raw n front → i < n → IsLonger raw l → l.from ≡ addr_in raw i → info_len l.kept.0 ≤ len_in raw i → new ≡ unlisted raw n i 1 → IsGone raw new n i front l
+gone raw new n i front l laid small is here part now = subst (λ (x : List ℕ). IsGone raw x n i front l) (sym now) (gone_is raw n i front l laid small is here part)

@@ -13,19 +13,16 @@ list-requires c = can_relist c.args.space.now c.args.count c.args.at c.args.new 
 
 pub renew-requires : goal.renew-requires
 renew-requires c =
-    let raw = c.args.space.now in
-    let n = c.args.count in
-    let i = c.args.at in
     let l = c.args.new in
-    let r = relisted raw c.list.new.space n i l c.requires.laid c.requires.longer c.requires.opens c.requires.within (omega arith) (omega arith) c.list.ensures in
+    let r = relisted c.args.space.now c.list.new.space c.args.count c.args.at l c.requires.laid c.requires.longer c.requires.opens c.requires.within (omega arith) (omega arith) c.list.ensures in
     let within = c.requires.within in
     let size = r.size in
     let len = r.len in
     let told = c.requires.longer.len in
     let fits = c.requires.fits in
     let tells = c.requires.longer.kept_tells.len in
-    let bs = length-listed (block_in raw) n in
-    let sum = ap (sum_by payload_len) r.blocks ∙ sum-insert (blocks_of raw n) i (block_of l.kept.0 (kept_bytes raw l)) (omega arith) in
+    let bs = length-listed (block_in c.args.space.now) c.args.count in
+    let sum = ap (sum_by payload_len) r.blocks ∙ sum-insert (blocks_of c.args.space.now c.args.count) c.args.at (block_of l.kept.0 (kept_bytes c.args.space.now l)) (omega arith) in
     record {
       laid = r.laid;
       within = omega arith;
@@ -39,8 +36,8 @@ returns c =
     let raw = c.args.space.now in
     let n = c.args.count in
     let i = c.args.at in
-    let new = c.list.new.space in
     let l = c.args.new in
+    let new = c.list.new.space in
     let r = relisted raw new n i l c.requires.laid c.requires.longer c.requires.opens c.requires.within (omega arith) (omega arith) c.list.ensures in
     let within = c.requires.within in
     let b0 = block_of l.kept.0 (kept_bytes raw l) in

@@ -1,9 +1,10 @@
-use Rattle.std.proofs.Common.{◌≡◌, ◌+◌, ◌∙◌, subst, sym, ap, ℕ, length, arith, Some, None, max, rules}
+use Rattle.std.proofs.Common.{◌≡◌, ◌+◌, ◌∙◌, subst, sym, ap, ℕ, List, length, Option, Some, None, max, rules}
 use Rattle.std.specs.Prelude.{insert}
 use Rattle.htx_layout.specs.Raw.{info_len, block_of, blocks_of, addrs_of}
-use Rattle.htx_layout.specs.Place.{Layout, layout, layout_by}
+use Rattle.htx_layout.specs.Place.{Layout, layout, layout_by, spot}
 use Rattle.htx_layout.specs.Moves.{IsSite}
 use Rattle.htx_layout.specs.Sound.{IsTop}
+use Rattle.htx_layout.specs.declared.scan.Spot.{Spot}
 use Rattle.htx_layout.specs.Longer.{longer_bytes}
 use Rattle.htx_layout.proofs.TopLemmas.{top_placed}
 use Rattle.htx_layout.proofs.SpotLemmas.{IsSpotFor, spot_is, layout_is}
@@ -31,45 +32,37 @@ extend_packed-requires c = record {
   fits = c.requires.fits;
 }
 
+-- the layout by a spot for as many bytes
+laid_by : (raw : List ℕ) (n front len m : ℕ) (o : Option Spot) → len ≡ m → o ≡ spot (length raw) (blocks_of raw n) (addrs_of raw n) front len (n + 1) → layout (length raw) (blocks_of raw n) (addrs_of raw n) front m ≡ layout_by o (blocks_of raw n) (addrs_of raw n)
+laid_by raw n front len m o e is = ap (layout (length raw) (blocks_of raw n) (addrs_of raw n) front) (sym e) ∙ layout_is raw n front len o is
+
 pub returns-in-Some : goal.returns-in-Some
 returns-in-Some c =
-    let raw = c.args.space.now in
-    let n = c.args.count in
-    let i = c.args.at in
-    let bs = blocks_of raw n in
-    let xs = addrs_of raw n in
     let l = c.args.new in
     let len = c.payload_len-len.ensures in
-    let spot = c.in-Some.spot in
-    let is : layout (length raw) bs xs c.args.ends.front (info_len l.info.0) ≡ layout_by (Some spot) bs xs =
-    ap (layout (length raw) bs xs c.args.ends.front) (sym len) ∙ layout_is raw n c.args.ends.front c.payload_len-len.result (Some spot) c.in-Some.ensures in
+    let place = c.in-Some.spot in
+    let is = laid_by c.args.space.now c.args.count c.args.ends.front c.payload_len-len.result (info_len l.info.0) (Some place) len c.in-Some.ensures in
     let e = c.extend_free.ensures in
-    let topped = top_placed raw c.extend_free.new.space n i c.args.ends.top spot.front spot.addr (block_of l.info.0 (longer_bytes raw l)) c.requires.topped c.requires.within e.blocks e.addrs e.laid in
-    let greater : c.max.result ≡ max c.args.ends.top (spot.addr + c.payload_len-len.result) = search rules in
-    let most = greater ∙ ap (λ (k : ℕ). max c.args.ends.top (spot.addr + k)) (len ∙ sym c.requires.longer.tells.len) in
+    let topped = top_placed c.args.space.now c.extend_free.new.space c.args.count c.args.at c.args.ends.top place.front place.addr (block_of l.info.0 (longer_bytes c.args.space.now l)) c.requires.topped c.requires.within e.blocks e.addrs e.laid in
+    let greater : c.max.result ≡ max c.args.ends.top (place.addr + c.payload_len-len.result) = search rules in
+    let most = greater ∙ ap (λ (k : ℕ). max c.args.ends.top (place.addr + k)) (len ∙ sym c.requires.longer.tells.len) in
     record {
       blocks = e.blocks;
-      addrs = e.addrs ∙ sym (ap (λ (l : Layout). insert l.addrs i l.addr) is);
-      front = sym (ap (λ (l : Layout). l.front) is);
+      addrs = e.addrs ∙ sym (ap (λ (x : Layout). insert x.addrs c.args.at x.addr) is);
+      front = sym (ap (λ (x : Layout). x.front) is);
       laid = e.laid;
-      topped = subst (IsTop c.extend_free.new.space (n + 1)) (sym most) topped;
+      topped = subst (IsTop c.extend_free.new.space (c.args.count + 1)) (sym most) topped;
       size = e.size;
     }
 
 pub returns-in-None : goal.returns-in-None
 returns-in-None c =
-    let raw = c.args.space.now in
-    let n = c.args.count in
-    let i = c.args.at in
-    let bs = blocks_of raw n in
-    let xs = addrs_of raw n in
-    let is : layout (length raw) bs xs c.args.ends.front (info_len c.args.new.info.0) ≡ layout_by None bs xs =
-    ap (layout (length raw) bs xs c.args.ends.front) (sym c.payload_len-len.ensures) ∙ layout_is raw n c.args.ends.front c.payload_len-len.result None c.in-None.ensures in
+    let is = laid_by c.args.space.now c.args.count c.args.ends.front c.payload_len-len.result (info_len c.args.new.info.0) None c.payload_len-len.ensures c.in-None.ensures in
     let e = c.extend_packed.ensures in
     record {
       blocks = e.blocks;
-      addrs = e.addrs ∙ sym (ap (λ (l : Layout). insert l.addrs i l.addr) is);
-      front = sym (ap (λ (l : Layout). l.front) is);
+      addrs = e.addrs ∙ sym (ap (λ (x : Layout). insert x.addrs c.args.at x.addr) is);
+      front = sym (ap (λ (x : Layout). x.front) is);
       laid = e.laid;
       topped = e.topped;
       size = e.size;
