@@ -8,8 +8,8 @@ ghost use Rattle.htx_layout.specs.Place.{stays};
 ghost use Rattle.htx_layout.specs.Addresses.{replaced, placed_anew, extended};
 
 use crate::array::Array;
-use crate::new_block::NewBlock;
 use crate::longer::{self, Longer};
+use crate::new_block::NewBlock;
 use crate::payload::Payload;
 use crate::words::Info;
 use crate::{change, scan};
@@ -134,7 +134,12 @@ impl Array {
     {
         let added = info.payload_len() - self.payload_len(at);
         let from = self.space.descriptor(at).addr;
-        let new = Longer { from, kept, info, more };
+        let new = Longer {
+            from,
+            kept,
+            info,
+            more,
+        };
         self.ends = longer::extend(&mut self.space, self.count, self.ends, at, new);
         self.load += added;
     }

@@ -33,11 +33,11 @@ renew-requires c =
 
 pub returns : goal.returns
 returns c =
+    let new = c.list.new.space in
+    let l = c.args.new in
     let raw = c.args.space.now in
     let n = c.args.count in
     let i = c.args.at in
-    let l = c.args.new in
-    let new = c.list.new.space in
     let r = relisted raw new n i l c.requires.laid c.requires.longer c.requires.opens c.requires.within (omega arith) (omega arith) c.list.ensures in
     let within = c.requires.within in
     let b0 = block_of l.kept.0 (kept_bytes raw l) in
