@@ -120,7 +120,7 @@ pub fn extend(space: &mut Space, count: u32, ends: Ends, at: u32, new: Longer<'_
 {
     let end = scan::end_at(space, count, at);
     edits::unlist(space, count, at);
-    let top = scan::top_behind(space, count - 1, ends.top, end);
+    let top = scan::top_behind(space, count - 1, ends, end);
     let front = ends.front;
     refit(space, count - 1, Ends { front, top }, at, new)
 }

@@ -1,7 +1,7 @@
 ghost use Rattle.std.specs.Prelude.{◌≡◌, ◌+◌, ◌-◌, ◌*◌, ◌^◌, ◌<◌, ◌≤◌, length, drop, min};
 ghost use Rattle.std.specs.Option.{option_map_or};
 ghost use Rattle.htx_layout.specs.Raw.{blocks_of, addrs_of, addr_in, len_in, block_in};
-ghost use Rattle.htx_layout.specs.Sound.{IsSound, IsTold, IsTop};
+ghost use Rattle.htx_layout.specs.Sound.{IsSound, IsTold, IsLaid, IsTop};
 ghost use Rattle.htx_layout.specs.Place.{top, low, spot, stays, grown_at_top as top_growth, grown_at_front as front_growth, before as before_spot};
 ghost use Rattle.htx_model.specs.Block.{payload_len};
 ghost use Rattle.htx_model.specs.Blocks.{load};
@@ -52,15 +52,13 @@ pub fn top_of(space: &Space, count: u32) -> u32
 
 /// The greatest end of a payload, once a payload that ended at `end` is shorter or gone: it has stayed where another
 /// payload ended behind that one, and else all are looked at.
-pub fn top_behind(space: &Space, count: u32, top: u32, end: u32) -> u32
-    requires sound { IsSound space.now count }
-    requires told { IsTold space.now count }
-    requires small { length space.now ≤ 262144 }
-    requires stayed { end < top → IsTop space.now count top }
+pub fn top_behind(space: &Space, count: u32, ends: Ends, end: u32) -> u32
+    requires laid { IsLaid space.now count ends.front }
+    requires stayed { end < ends.top → IsTop space.now count ends.top }
     ensures { IsTop space.now count result }
 {
-    if end < top {
-        return top;
+    if end < ends.top {
+        return ends.top;
     }
     top_of(space, count)
 }
@@ -110,11 +108,9 @@ fn before(low: Option<u32>, front: u32, len: u32, room: bool) -> Option<Spot>
 
 /// Where a payload goes, if the array isn't defragmented before.
 pub fn spot_of(space: &Space, count: u32, ends: Ends, len: u32) -> Option<Spot>
-    requires sound { IsSound space.now count }
+    requires laid { IsLaid space.now count ends.front }
     requires topped { IsTop space.now count ends.top }
     requires len { len ≤ 262144 }
-    requires small { length space.now ≤ 262144 }
-    requires front { ends.front ≤ 262144 }
     ensures { result ≡ spot (length space.now) (blocks_of space.now count) (addrs_of space.now count) ends.front len (count + 1) }
 {
     let Ends { front, top } = ends;
@@ -184,13 +180,10 @@ fn grown_at_front(low: Option<u32>, front: u32, end: u32, len: u32, room: bool) 
 /// `front` once a payload has `len` more bytes where it stands, if it may have them.
 #[tactic(auto, using(crate::proofs::RawLemmas::raws))]
 pub fn room_behind(space: &Space, count: u32, ends: Ends, index: u32, len: u32) -> Option<u32>
-    requires sound { IsSound space.now count }
-    requires told { IsTold space.now count }
+    requires laid { IsLaid space.now count ends.front }
     requires topped { IsTop space.now count ends.top }
     requires within { index < count }
     requires len { len ≤ 262144 }
-    requires small { length space.now ≤ 262144 }
-    requires front { ends.front ≤ 262144 }
     ensures { result ≡ stays (length space.now) (blocks_of space.now count) (addrs_of space.now count) ends.front (addr_in space.now index + payload_len (block_in space.now index)) len }
 {
     let Ends { front, top } = ends;

@@ -50,7 +50,7 @@ impl Array {
         edits::unlist(&mut self.space, self.count, at);
         self.count -= 1;
         self.load -= 8 + len;
-        self.ends.top = scan::top_behind(&self.space, self.count, self.ends.top, end);
+        self.ends.top = scan::top_behind(&self.space, self.count, self.ends, end);
     }
 
     /// Brings `front` to 0 where no payload stands at or above it.

@@ -113,7 +113,7 @@ impl Array {
         let end = scan::end_at(&self.space, self.count, at);
         let gone = len - keep - more.len();
         change::rewrite(&mut self.space, self.count, at, keep, info, more);
-        self.ends.top = scan::top_behind(&self.space, self.count, self.ends.top, end);
+        self.ends.top = scan::top_behind(&self.space, self.count, self.ends, end);
         self.load -= gone;
     }
 

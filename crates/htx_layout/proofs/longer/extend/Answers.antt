@@ -18,9 +18,7 @@ top_behind-top-requires c =
     let end = c.end_at-end.ensures.value in
     let told = (c.requires.laid.told.told c.args.at c.requires.within).len in
     record {
-      sound = laid.sound;
-      told = laid.told;
-      small = laid.most;
+      laid = laid;
       stayed = λ below. top_gone raw c.unlist.new.space c.args.count c.args.at c.args.ends.top c.args.ends.front c.requires.laid.told c.requires.topped c.requires.within c.unlist.ensures.blocks c.unlist.ensures.addrs laid (omega arith);
     }
 

@@ -39,8 +39,6 @@ top_behind-self-inside-requires c =
     let end = c.end_at-end.ensures.value in
     let told = (c.self.invariant.laid.told.told c.args.at t.small).len in
     record {
-      sound = laid.sound;
-      told = laid.told;
-      small = laid.most;
+      laid = laid;
       stayed = λ below. top_gone a.space c.unlist.new.space a.count c.args.at a.ends.top a.ends.front c.self.invariant.laid.told c.self.invariant.topped t.small c.unlist.ensures.blocks c.unlist.ensures.addrs laid (omega arith);
     }
