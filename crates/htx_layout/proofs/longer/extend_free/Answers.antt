@@ -1,13 +1,11 @@
 use Rattle.std.proofs.Common.{◌≡◌, ◌+◌, ◌∙◌, subst, sym, ap, List, ℕ, length, arith, refl}
 use Rattle.std.specs.Prelude.{insert}
-use Rattle.htx_model.specs.Block.{Block}
 use Rattle.htx_space.specs.declared.space.Desc.{Desc}
 use Rattle.htx_space.specs.Windows.{window}
 use Rattle.htx_space.proofs.WindowLemmas.{length-window}
 use Rattle.htx_layout.specs.Raw.{Tells, info_len, block_of, blocks_of, addrs_of}
 use Rattle.htx_layout.specs.Moves.{CanPlace}
 use Rattle.htx_layout.specs.Sound.{IsLaid}
-use Rattle.htx_layout.specs.Longer.{longer_bytes}
 use Rattle.htx_layout.proofs.RawLemmas.{blocks_of-placed, addrs_of-placed, length-placed}
 use Rattle.htx_layout.proofs.EachLemmas.{IsLaid-placed}
 use Rattle.htx_layout.proofs.ExtendLemmas.{kept_blocks, kept_addrs, kept_told, kept_filled, kept_site, free_can}

@@ -1,7 +1,7 @@
 use Rattle.std.proofs.Common.{◌≡◌, ◌+◌, ◌++◌, ◌∙◌, subst, sym, ap, List, ℕ, arith, set, sum_by}
 use Rattle.std.specs.Prelude.{insert, remove}
 use Rattle.htx_model.specs.Block.{Block, payload_len}
-use Rattle.htx_layout.specs.Raw.{Tells, info_len, block_in, addr_in, block_of, blocks_of, addrs_of, payload_in}
+use Rattle.htx_layout.specs.Raw.{Tells, block_in, addr_in, block_of, blocks_of, addrs_of, payload_in}
 use Rattle.htx_layout.specs.Place.{packed}
 use Rattle.htx_layout.specs.Longer.{kept_bytes}
 use Rattle.htx_layout.proofs.RawLemmas.{length-listed}

@@ -1,4 +1,4 @@
-use Rattle.std.proofs.Common.{◌≡◌, ◌+◌, ◌++◌, ◌∙◌, subst, sym, ap, List, ℕ, length, arith}
+use Rattle.std.proofs.Common.{◌≡◌, ◌+◌, ◌∙◌, subst, sym, ap, List, ℕ, length}
 use Rattle.htx_space.specs.Windows.{window, overwritten}
 use Rattle.htx_layout.specs.Raw.{info_len}
 use Rattle.htx_layout.specs.Moves.{IsKept, IsOpen}

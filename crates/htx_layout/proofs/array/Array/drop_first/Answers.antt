@@ -1,4 +1,4 @@
-use Rattle.std.proofs.Common.{◌-◌, ap, arith}
+use Rattle.std.proofs.Common.{ap, arith}
 use Rattle.htx_model.specs.Blocks.{load}
 use Rattle.htx_layout.proofs.WholeLemmas.{first}
 use Rattle.htx_layout.proofs.array.Array.drop_first.Goals as goal

@@ -1,6 +1,6 @@
-use Rattle.std.proofs.Common.{◌++◌, ◌∙◌, ap, sym, subst, arith, List, ℕ, set}
+use Rattle.std.proofs.Common.{◌++◌, ◌∙◌, ap, sym, arith, set}
 use Rattle.htx_space.specs.declared.space.Desc.{Desc}
-use Rattle.htx_layout.specs.Raw.{Tells, block_of, info_len}
+use Rattle.htx_layout.specs.Raw.{block_of, info_len}
 use Rattle.htx_layout.specs.Longer.{longer_bytes}
 use Rattle.htx_layout.specs.declared.longer.Longer.{Longer}
 use Rattle.htx_layout.specs.Contents.{Contents}
