@@ -15,7 +15,7 @@ use crate::fault::{CfgKind, LineRefusal};
 use crate::limits::{MAX_RULES, MAX_TESTS};
 use cfg_acl::{AclList, count_tests, read_acl};
 use cfg_action::read_rule;
-use http_rules::{Action, Cond, DelBy, Direction, Rule};
+use http_rules::{Action, Cond, Direction, Rule};
 use px_pattern::Patterns;
 use std::alloc::Global;
 
@@ -56,9 +56,6 @@ fn is_built(action: &Action) -> bool
     ensures { result ≡ is_built action.now }
 {
     match action {
-        Action::DelHeader(DelBy::Reg(_)) => false,
-        Action::ReplaceHeader(_, _, _) | Action::ReplaceValue(_, _, _) => false,
-        Action::ReplacePath(_, _) | Action::ReplacePathq(_, _) | Action::ReplaceUri(_, _) => false,
         Action::Redirect { .. } | Action::Return { .. } => false,
         _ => true,
     }

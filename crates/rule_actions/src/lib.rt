@@ -3,11 +3,17 @@
 #![tactic(auto)]
 
 mod act;
+mod extent;
 mod fields;
+mod filled;
 mod line;
+mod listed;
 mod making;
 mod part;
 mod removal;
+mod removal_by;
+mod replacing;
+mod retarget;
 mod scratch;
 mod side;
 mod status;
