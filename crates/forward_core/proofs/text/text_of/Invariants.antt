@@ -1,6 +1,6 @@
 use Rattle.std.proofs.Common.{◌≡◌, ◌++◌, drop}
 use Rattle.forward_core.specs.Texts.{blocks_text}
-use Rattle.forward_core.proofs.text.head_text.Given as goal
+use Rattle.forward_core.proofs.text.text_of.Given as goal
 
 -- the text so far and that of the blocks that are left are the whole
 abbrev pub invariant-loop-at : goal.invariant-loop-at
