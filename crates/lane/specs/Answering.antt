@@ -155,7 +155,7 @@ IsLast (Serves filters head framed no_body) lane p q =
     × (q.reads ≡ got.framing) × (q.sent ≡ record { head = head; given = []; framing = framed; no_body = no_body; before = q.sent.before }) × (q.filters ≡ filters)
 IsLast (Replies head body no_body) lane p q =
     ((left : List ℕ) × HeadsCame p.asked lane.limits lane.ended p.read p.bytes left)
-    × (q.sent ≡ record { head = head; given = body; framing = framing.ToClose; no_body = no_body; before = q.sent.before })
+    × (q.sent ≡ record { head = head; given = body; framing = framing.ToClose; no_body = no_body; before = q.sent.before }) × (q.reads ≡ framing.Absent)
 
 -- some text of it was put out exactly where it has begun
 abbrev pub HasBegun : Bool → List ℕ → Type 0
@@ -306,3 +306,17 @@ pub record AnswerPromise (lane : ResponseLane) (p : Exchange) : Type 0 where
   pub interim : lane.begun ≡ false → (rest : List ℕ) × (p.put ++ rest ≡ interim_text p.passed)
   pub last : lane.phase ≡ phase.Answering → (past : Past) × (text : List ℕ) × Promise lane.lane past × IsLast p.last lane.lane p past
       × (put_out lane.lane past ≡ past.sent.before ++ text) × (p.put ≡ interim_text p.passed ++ text) × HasBegun lane.begun text
+
+-- ---- a reply
+
+-- The text of a reply or a refusal: its head, and behind it the bytes of its body as they are. Nothing frames them but the
+-- fields of the head.
+abbrev pub reply_text : Head → List ℕ → (no_body : Bool) → List ℕ
+reply_text head body true = head_text head
+reply_text head body false = head_text head ++ body
+
+-- What was put out where it answers: a front of the interim heads and of its text, and all of them once it is done.
+pub record ReplyPromise (lane : ResponseLane) (p : Exchange) (head : Head) (body : List ℕ) (no_body : Bool) : Type 0 where
+  pub rest : List ℕ
+  pub front : p.put ++ rest ≡ interim_text p.passed ++ reply_text head body no_body
+  pub whole : stage_of lane ≡ stage.Done → has_begun lane ≡ true → rest ≡ []
