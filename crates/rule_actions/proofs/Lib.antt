@@ -12,3 +12,6 @@ pub mod Placed
 pub mod Turns
 pub mod Spread
 pub mod Going
+pub mod Answering
+pub mod Sending
+pub mod Replied

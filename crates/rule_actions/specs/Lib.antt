@@ -16,3 +16,5 @@ pub mod Filling
 pub mod Turns
 pub mod Going
 pub mod Does
+pub mod Answering
+pub mod Written

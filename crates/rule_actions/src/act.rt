@@ -3,7 +3,8 @@ ghost use Rattle.std.specs.Prelude.{◌≡◌, [], false, true, IsOk, IfOk};
 ghost use Rattle.rule_model.specs.Valid.{IsGoodAction};
 ghost use Rattle.rule_model.specs.Patterns.{action_holds_pattern};
 ghost use Rattle.rule_actions.specs.Given.{Env};
-ghost use Rattle.rule_actions.specs.Acts.{act, is_built};
+ghost use Rattle.rule_actions.specs.Acts.{act};
+ghost use Rattle.rule_actions.specs.Answering.{answers};
 ghost use Rattle.rule_actions.specs.Outcome.{IsScratch, IsAt, IsFront};
 
 use crate::extent::Extent;
@@ -50,7 +51,7 @@ fn done_by(step: Stepped) -> Acted
     }
 }
 
-/// Runs an action on a message.
+/// Runs an action on a message, but for one that answers by itself: `run_reply` has these.
 #[tactic(auto, using(crate::proofs::Doing::one), unfolding(crate::specs::Acts::act, crate::specs::Steps::steps_of))]
 pub fn run_action<'c>(
     alloc: Global,
@@ -64,7 +65,7 @@ pub fn run_action<'c>(
     requires scratch { IsScratch msg.old.size scratch.old }
     requires front { IsFront msg.old.blocks }
     requires valid { IsGoodAction action.now }
-    requires built { is_built action.now ≡ true }
+    requires edits { answers action.now ≡ false }
     ensures came { IfOk result (λ done. (env : Env) → IsAt side.entry env msg.old.blocks vars.old
         → Does side.entry env (act msg.old.size action.now env) done msg.new.blocks vars.new []) }
     ensures succeeds { action_holds_pattern action.now ≡ false → IsOk result }
