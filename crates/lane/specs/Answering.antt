@@ -4,6 +4,7 @@ use Rattle.std.specs.List.{flat_map}
 use Rattle.std.specs.Str.{bytes_eq}
 use Rattle.http_model.specs.declared.Ending.{Ending}
 use Rattle.wire_buf.specs.Buffer.{Buffer}
+use Rattle.htx_arena.specs.Contents.{Contents}
 use Rattle.htx_model.specs.Block.{Block}
 use Rattle.htx_model.specs.Blocks.{flow}
 use Rattle.http_model.specs.declared.Framing.{Framing}
@@ -220,7 +221,10 @@ window_of lane = lane.lane.output
 abbrev pub limits_of : ResponseLane → Limits
 limits_of lane = lane.lane.limits
 
--- the blocks on which rules run, and where each lies in its array
+-- the array on which rules run, its blocks, and where each lies in it
+abbrev pub array_of : ResponseLane → Contents
+array_of lane = lane.lane.msg
+
 abbrev pub blocks_of : ResponseLane → List Block
 blocks_of lane = lane.lane.msg.blocks
 
