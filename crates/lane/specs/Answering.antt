@@ -155,7 +155,7 @@ IsLast (Serves filters head framed no_body) lane p q =
     × (q.reads ≡ got.framing) × (q.sent ≡ record { head = head; given = []; framing = framed; no_body = no_body; before = q.sent.before }) × (q.filters ≡ filters)
 IsLast (Replies head body no_body) lane p q =
     ((left : List ℕ) × HeadsCame p.asked lane.limits lane.ended p.read p.bytes left)
-    × (q.sent ≡ record { head = head; given = body; framing = framing.ToClose; no_body = no_body; before = q.sent.before })
+    × (q.sent ≡ record { head = head; given = body; framing = framing.ToClose; no_body = no_body; before = q.sent.before }) × (q.reads ≡ framing.Absent)
 
 -- some text of it was put out exactly where it has begun
 abbrev pub HasBegun : Bool → List ℕ → Type 0
@@ -296,6 +296,13 @@ shows_head phase.Heads = false
 shows_head phase.Passing = true
 shows_head (phase.Turning no_body) = true
 shows_head phase.Answering = false
+
+-- the last that answers is put out, or waits behind an interim head
+abbrev pub shows_last : Phase → Bool
+shows_last phase.Heads = false
+shows_last phase.Passing = false
+shows_last (phase.Turning no_body) = true
+shows_last phase.Answering = true
 
 -- ---- the contract
 
