@@ -190,6 +190,7 @@ impl Lane {
         ensures filters { (filters : List FilterSpec) → AreThese self.old.sieve filters → AreThese self.new.sieve filters }
         ensures sound { IsSound self.new }
         ensures stage { self.new.stage ≡ stage.Sending }
+        ensures source { self.new.source ≡ source.Going }
         ensures same { (self.new.input ≡ self.old.input) × (self.new.ended ≡ self.old.ended) × (self.new.msg ≡ self.old.msg) × (self.new.output ≡ self.old.output) × (self.new.dropped ≡ false) }
         ensures limits { self.new.limits ≡ self.old.limits }
     {
