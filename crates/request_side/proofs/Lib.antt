@@ -8,3 +8,4 @@ pub mod Stepping
 pub mod Wholes
 pub mod Reading
 pub mod Sending
+pub mod Keeping

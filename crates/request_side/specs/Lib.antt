@@ -5,3 +5,4 @@ pub mod Seen
 pub mod Stands
 pub mod Steps
 pub mod Reads
+pub mod Kept

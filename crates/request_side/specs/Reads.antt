@@ -4,6 +4,7 @@ use Rattle.http_model.specs.declared.Framing.{Framing}
 use Rattle.http_model.specs.Finish.{finish_request, request_framing}
 use Rattle.http_model.specs.Head.{Message, head_blocks}
 use Rattle.http_model.specs.Reading.{Received}
+use Rattle.h1_head.specs.Lines.{IsRequestLine}
 use Rattle.session_model.specs.Stream.{Stream}
 use Rattle.session_model.specs.Env.{Env, Pass, request_env, method_in}
 use Rattle.session_model.specs.Env as verdict
@@ -53,6 +54,7 @@ pub record HeadComes (old new : RequestSide) : Type 0 where
   pub received : Received
   pub has : HasHead new
   pub holds : Holds new received
+  pub is_request : IsRequestLine received.head.line
   pub came : (cfg : Config) (vars : Variables) (came : Coming) (asking : Asking Variables) (to_server : List ℕ) (reply : Reply Variables)
       → RequestStands cfg old vars came asking to_server reply → HeadRead cfg new came received
 

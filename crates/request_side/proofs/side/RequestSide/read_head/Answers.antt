@@ -58,6 +58,7 @@ returns-in-Head-clause-tells c =
         received = record { head = e.tells.head; framing = new.lane.framing; declared = new.lane.declared; close = new.lane.close };
         has = record { ready = e.tells.ready; stage = e.tells.stage };
         holds = record { blocks = e.tells.blocks; framing = refl; declared = refl; close = refl };
+        is_request = e.tells.received.line;
         came = λ cfg vars came asking to_server reply h.
             head_read cfg old (record { lane = new; place = place.Idle; awaits = c.args.self.now.awaits; at_rest = false }) came h.is_for
             (for_same cfg old new (record { limits = e.same.1; filters = λ cfg has. e.filters cfg.req_filters has }) h.is_for) e.same.0 (at_reading c.args.self.now.place cfg old vars came asking to_server reply c.requires.place h.at) e.tells;
