@@ -6,3 +6,4 @@ pub mod Dialling
 pub mod Handing
 pub mod Last
 pub mod Writing
+pub mod Requests
