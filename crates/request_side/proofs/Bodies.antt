@@ -1,5 +1,5 @@
 -- The bodies that a stream comes to, behind what a lane has taken.
-use Rattle.std.proofs.Common.{◌≡◌, ◌≢◌, ℕ, ◌⊎◌, inl, inr, List, [], ◌∷◌, ◌++◌, Bool, true, false, refl, ap, sym, ◌∙◌, subst, append_assoc}
+use Rattle.std.proofs.Common.{◌≡◌, ℕ, List, [], ◌++◌, refl, ap, sym, ◌∙◌, subst, append_assoc}
 use Rattle.std.specs.Prelude.{Option, Some, None}
 use Rattle.std.proofs.lemmas.List.{append-nil}
 use Rattle.http_model.specs.declared.Ending.{Ending}
@@ -8,13 +8,13 @@ use Rattle.http_model.specs.declared.Limits.{Limits}
 use Rattle.http_model.specs.declared.Framing.{Framing}
 use Rattle.http_model.specs.Reading.{BodyReading, Broke}
 use Rattle.session_model.specs.Stream.{Stream}
-use Rattle.session_core.specs.History.{Coming, Continues, ContinuesBy}
+use Rattle.session_core.specs.History.{ContinuesBy}
 use Rattle.session_core.specs.Sided.{Perhaps}
 use Rattle.h1_body.specs.Body.{BodyAt, Left, UntilClose, InLine, InData, AtReturn, AtFeed, InSection, Over, Hopeless}
-use Rattle.h1_body.specs.BodyOf.{BodyRead, Reads, More, IsBodyOf, BodyOf, Tells, unfinished, closes}
+use Rattle.h1_body.specs.BodyOf.{BodyRead, Reads, More, IsBodyOf, BodyOf, Tells}
 use Rattle.h1_body.specs.Section.{section_limit}
 use Rattle.lane_core.specs.Sends.{Past}
-use Rattle.lane_core.specs.Promise.{BodyTaken, OnEachBody, GoesOnWith}
+use Rattle.lane_core.specs.Promise.{OnEachBody, GoesOnWith}
 use Rattle.lane_core.specs.declared.lane.Lane.{Lane}
 use Rattle.request_side.proofs.Messages.{reading_in}
 

@@ -1,6 +1,6 @@
 -- What events make of the request direction.
-use Rattle.std.proofs.Common.{◌≡◌, ◌≢◌, ℕ, ◌⊎◌, inl, inr, List, [], ◌∷◌, ◌++◌, Bool, true, false, refl, ap, sym, ◌∙◌, subst, append_assoc, take, drop, rules}
-use Rattle.std.specs.Prelude.{Option, Some, None, is_none}
+use Rattle.std.proofs.Common.{◌≡◌, ◌≢◌, ℕ, List, [], ◌∷◌, ◌++◌, Bool, true, false, refl, ap, sym, ◌∙◌, subst, append_assoc, take, drop, rules}
+use Rattle.std.specs.Prelude.{Option, Some, None}
 use Rattle.std.proofs.lemmas.List.{append-nil, append_cancel_right, take-append-drop}
 use Rattle.http_model.specs.declared.Ending.{Ending}
 use Rattle.http_model.specs.Reading.{Received}
@@ -18,11 +18,11 @@ use Rattle.h1_body.specs.BodyOf.{BodyRead}
 use Rattle.lane_core.specs.Sent.{IsFrontOf}
 use Rattle.lane_core.specs.Sends.{Past, put_out}
 use Rattle.lane_core.specs.Promise.{Promise, OnEachBody, body_sent, finish_of}
-use Rattle.lane.specs.Asking.{stage_of, input_of, ended_of, output_of, is_dropping, limits_of, HasFilters, IsWell, MayRead, Sends}
+use Rattle.lane.specs.Asking.{input_of, ended_of, output_of, is_dropping, limits_of, HasFilters, Sends}
 use Rattle.lane.specs.declared.request_lane.RequestLane.{RequestLane}
 use Rattle.request_side.specs.declared.place.Place.{Place}
 use Rattle.request_side.specs.declared.place.Place.TheVariants as place
-use Rattle.request_side.specs.Stands.{SoundAt, GoesSoundly, IsFor, coming, ReadsOn, Lacks, HasPut, GoesOut, IsReplied, StandsAt}
+use Rattle.request_side.specs.Stands.{SoundAt, IsFor, coming, ReadsOn, Lacks, HasPut, GoesOut, IsReplied, StandsAt}
 use Rattle.request_side.proofs.Bodies.{each_more, each_ended, each_same}
 
 -- ---- streams

@@ -1,11 +1,11 @@
 -- A body that is whole is accepted or refused: no chain of filters goes on behind it.
-use Rattle.std.proofs.Common.{◌≡◌, ℕ, zero, suc, List, [], ◌∷◌, ◌++◌, Bool, true, false, refl, sym, subst, length}
+use Rattle.std.proofs.Common.{◌≡◌, ℕ, zero, suc, List, [], ◌∷◌, Bool, true, false, refl, sym, subst, length}
 use Rattle.std.specs.Prelude.{Option, Some, None, ◌&&◌, not, ◌-◌, nat_le, if◌then◌else◌}
 use Rattle.body_filter.specs.declared.filter_spec.FedState.{FedState}
 use Rattle.body_filter.specs.declared.filter_spec.FedState.TheVariants.{Going, Over, Refused}
 use Rattle.body_filter.specs.declared.filter_spec.FilterSpec.{FilterSpec}
 use Rattle.body_filter.specs.declared.filter_spec.FilterSpec.TheVariants.{Limit, Deny, Replace}
-use Rattle.body_filter.specs.Filter.{Filtered, filtered, filtered_by, searched, limited, matched, behind, begins, ended, end_of, through, joined, is_over, passed}
+use Rattle.body_filter.specs.Filter.{Filtered, filtered, filtered_by, searched, matched, behind, begins, ended, joined, is_over}
 
 -- the state is an end
 abbrev pub IsEnd : FedState → Type 0

@@ -1,6 +1,6 @@
 -- What was put out to the server, against the request that the client's stream brings.
 use Rattle.std.proofs.Common.{◌≡◌, ◌≢◌, ℕ, ◌+◌, List, [], ◌∷◌, ◌++◌, Bool, true, false, refl, ap, sym, ◌∙◌, subst, append_assoc, length, arith}
-use Rattle.std.specs.Prelude.{Option, Some, None, is_none, not, ◌&&◌}
+use Rattle.std.specs.Prelude.{Option, Some, not, ◌&&◌}
 use Rattle.std.proofs.lemmas.List.{append-nil, length-append}
 use Rattle.http_model.specs.declared.Ending.{Ending}
 use Rattle.http_model.specs.declared.Framing.{Framing}
@@ -10,11 +10,9 @@ use Rattle.session_model.specs.Stream.{Stream}
 use Rattle.session_model.specs.Meaning.{Meaning}
 use Rattle.session_model.specs.Asking.{Asks, Sends, asked_by}
 use Rattle.session_model.specs.Env.{request_env}
-use Rattle.session_core.specs.History.{Coming, Continues, IsPrefix, prepend, prepended}
+use Rattle.session_core.specs.History.{Coming, Continues, IsPrefix}
 use Rattle.session_core.specs.Sided.{Asking, Reply, Perhaps, BodyGoes, RequestGoes, SourceIs, forwarded_to, request_to}
-use Rattle.session_core.specs.declared.Source.{Source}
 use Rattle.session_core.specs.declared.Source.TheVariants as source
-use Rattle.session_core.proofs.Streams.{continues_prepend}
 use Rattle.session_core.proofs.Heads.{HeadAsks, head_asks, sends_head}
 use Rattle.px_sample.specs.Variables.{Variables}
 use Rattle.http_rules.specs.declared.config.Config.{Config}
@@ -23,7 +21,7 @@ use Rattle.body_filter.specs.declared.filter_spec.FilterSpec.{FilterSpec}
 use Rattle.h1_body.specs.BodyOf.{BodyRead, Reads, IsBodyOf, BodyOf}
 use Rattle.lane_core.specs.Sent.{Sent, IsFrontOf, SpellsAs}
 use Rattle.lane_core.specs.Sends.{Past, put_out}
-use Rattle.lane_core.specs.Promise.{Promise, HasBody, BodyTaken, GoesOnWith, body_sent, finish_of, filter_of, IsCutWith, IsWholeWith}
+use Rattle.lane_core.specs.Promise.{Promise, HasBody, BodyTaken, body_sent, finish_of, filter_of, IsCutWith, IsWholeWith}
 use Rattle.lane_core.specs.declared.stage.Stage.{Stage}
 use Rattle.lane_core.specs.declared.stage.Stage.TheVariants as stage
 use Rattle.lane_core.specs.declared.stage.Source.{Source as LaneSource}
@@ -32,12 +30,12 @@ use Rattle.lane.specs.Asking.{stage_of, source_of, input_of, ended_of, output_of
 use Rattle.lane.specs.Asking as asking
 use Rattle.lane.specs.declared.request_lane.RequestLane.{RequestLane}
 use Rattle.request_side.specs.Seen.{source_by, source_at, is_done, sent_at}
-use Rattle.request_side.specs.Stands.{IsFor, coming, Lacks, HasPut, GoesOut, StandsAt, message_to}
+use Rattle.request_side.specs.Stands.{IsFor, coming, HasPut, GoesOut, StandsAt, message_to}
 use Rattle.request_side.specs.declared.place.Place.{Place}
 use Rattle.request_side.specs.declared.place.Place.TheVariants as place
 use Rattle.request_side.specs.Steps.{BreaksAlike, IfWhole}
 use Rattle.request_side.proofs.Bodies.{Follows, follows, is_read, perhaps_read}
-use Rattle.request_side.proofs.Messages.{LaneSpells, SessionSpells, spelled, cut_code, uncut, IsUncutWith, reading_in}
+use Rattle.request_side.proofs.Messages.{LaneSpells, SessionSpells, spelled, cut_code, uncut, reading_in}
 
 -- ---- text
 

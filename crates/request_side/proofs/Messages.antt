@@ -3,10 +3,10 @@ use Rattle.std.proofs.Common.{◌≡◌, ℕ, ◌⊎◌, inl, inr, List, [], Boo
 use Rattle.std.specs.Prelude.{Option, Some, None, is_none}
 use Rattle.http_model.specs.declared.Framing.{Framing}
 use Rattle.http_model.specs.declared.Framing.TheVariants.{Absent, Length, Chunked, ToClose}
-use Rattle.http_model.specs.Head.{Field, Head, Message}
+use Rattle.http_model.specs.Head.{Field, Head}
 use Rattle.http_model.specs.Finish.{finish_request, request_framing}
 use Rattle.http_model.specs.Reading.{BodyReading, Whole, Broke, Bad}
-use Rattle.http_model.specs.Spelling.{Spells, SpellsBody, SpellsBodyUnless}
+use Rattle.http_model.specs.Spelling.{Spells, SpellsBody}
 use Rattle.session_model.specs.Stream.{Stream}
 use Rattle.session_model.specs.Meaning.{Filters, sent_body}
 use Rattle.session_core.specs.Sided.{Asking, request_to}
@@ -18,7 +18,7 @@ use Rattle.body_filter.specs.declared.filter_spec.FilterSpec.{FilterSpec}
 use Rattle.body_filter.specs.declared.filter_spec.FedState.{FedState}
 use Rattle.body_filter.specs.declared.filter_spec.FedState.TheVariants as state
 use Rattle.body_filter.specs.Filter.{filtered}
-use Rattle.lane_core.specs.Sent.{Sent, message_of, is_whole, trailers_in}
+use Rattle.lane_core.specs.Sent.{message_of, is_whole, trailers_in}
 use Rattle.lane_core.specs.Promise.{filter_of, finish_of, ends_as, IsCutWith, IsWholeWith}
 use Rattle.request_side.specs.Stands.{message_to}
 use Rattle.request_side.specs.Steps.{BreaksAlike}

@@ -1,6 +1,6 @@
 -- From what a lane tells of a head to what the client's stream asks for.
 use Rattle.std.proofs.Common.{◌≡◌, ℕ, ◌<◌, inl, inr, List, [], ◌∷◌, ◌++◌, ◌&&◌, ◌==◌, Bool, true, false, refl, ap, sym, ◌∙◌, subst, append_assoc, if◌then◌else◌, length, ◌-◌, arith}
-use Rattle.std.specs.Prelude.{Option, Some, None, is_some, is_none}
+use Rattle.std.specs.Prelude.{Option, Some, None, is_some}
 use Rattle.std.proofs.lemmas.List.{append-nil}
 use Rattle.http_model.specs.declared.Ending.{Ending}
 use Rattle.http_model.specs.declared.Limits.{Limits}
@@ -25,7 +25,7 @@ use Rattle.lane.specs.declared.request_lane.RequestLane.{RequestLane}
 use Rattle.request_side.specs.declared.place.Place.{Place}
 use Rattle.request_side.specs.declared.place.Place.TheVariants as place
 use Rattle.request_side.specs.declared.side.RequestSide.{RequestSide}
-use Rattle.request_side.specs.Stands.{IsFor, coming, ReadsOn, SoundAt, StandsAt}
+use Rattle.request_side.specs.Stands.{IsFor, ReadsOn, SoundAt, StandsAt}
 use Rattle.request_side.specs.Reads.{HeadRead}
 use Rattle.request_side.proofs.Bodies.{Follows, follows}
 

@@ -1,5 +1,5 @@
 -- From a head that was read to a request that goes out, or to a reply of the rules.
-use Rattle.std.proofs.Common.{◌≡◌, ℕ, ◌⊎◌, inl, List, [], ◌++◌, ◌&&◌, Bool, true, false, refl, ap, sym, ◌∙◌, subst}
+use Rattle.std.proofs.Common.{◌≡◌, ℕ, inl, List, [], ◌++◌, Bool, true, false, refl, ap, sym, ◌∙◌, subst}
 use Rattle.std.specs.Prelude.{Option}
 use Rattle.http_model.specs.declared.Ending.{Ending}
 use Rattle.http_model.specs.declared.Framing.{Framing}
@@ -20,9 +20,9 @@ use Rattle.body_filter.specs.declared.filter_spec.FilterSpec.{FilterSpec}
 use Rattle.lane_core.specs.Sent.{Sent}
 use Rattle.lane_core.specs.Sends.{Past}
 use Rattle.lane_core.specs.declared.stage.Stage.TheVariants as stage
-use Rattle.lane.specs.Asking.{stage_of, input_of, ended_of, output_of, is_dropping, limits_of, blocks_of, framing_of, HasFilters, IsWell, Sends, begins}
+use Rattle.lane.specs.Asking.{stage_of, input_of, output_of, is_dropping, blocks_of, framing_of, HasFilters, IsWell, Sends, begins}
 use Rattle.lane.specs.declared.request_lane.RequestLane.{RequestLane}
-use Rattle.request_side.specs.Stands.{IsFor, GoesSoundly, GoesOut, HasPut, IsReplied, coming, message_to}
+use Rattle.request_side.specs.Stands.{IsFor, GoesSoundly, GoesOut, HasPut, IsReplied, coming}
 use Rattle.request_side.specs.Reads.{reply_to}
 use Rattle.request_side.proofs.Events.{Keeps}
 

@@ -1,19 +1,16 @@
 -- What calls keep of where the lane stands, and what is seen of it.
-use Rattle.std.proofs.Common.{◌≡◌, ◌≢◌, ℕ, ◌⊎◌, inl, inr, List, [], Bool, true, false, refl, ap, sym, ◌∙◌, subst, length, ◌-◌}
+use Rattle.std.proofs.Common.{◌≡◌, ◌≢◌, ℕ, ◌⊎◌, List, [], Bool, true, refl, ap, sym, ◌∙◌, subst, length, ◌-◌}
 use Rattle.std.specs.Prelude.{Option, Some, None, is_none}
 use Rattle.http_model.specs.declared.Ending.{Ending}
-use Rattle.session_core.specs.Sided.{RequestSeen}
 use Rattle.lane_core.specs.Sends.{Past}
 use Rattle.lane_core.specs.declared.stage.Stage.{Stage}
 use Rattle.lane_core.specs.declared.stage.Stage.TheVariants as stage
-use Rattle.lane_core.specs.declared.stage.Source.{Source as LaneSource}
 use Rattle.lane.specs.Asking.{stage_of, source_of, input_of, most_of, ended_of, output_of, is_dropping, limits_of, IsWell, MayRead, Sends}
 use Rattle.lane.specs.declared.request_lane.RequestLane.{RequestLane}
 use Rattle.request_side.specs.declared.place.Place.{Place}
 use Rattle.request_side.specs.declared.place.Place.TheVariants as place
-use Rattle.request_side.specs.declared.side.RequestSide.{RequestSide}
 use Rattle.request_side.specs.Seen.{seen, unread_at, source_at, sent_at}
-use Rattle.request_side.specs.Stands.{SoundAt, GoesSoundly}
+use Rattle.request_side.specs.Stands.{SoundAt}
 
 pub none_is : (o : Option Ending) → is_none o ≡ true → o ≡ None
 none_is None e = refl

@@ -1,8 +1,6 @@
 -- What a step of the request direction keeps.
-use Rattle.std.proofs.Common.{◌≡◌, ◌≢◌, ℕ, ◌<◌, ◌≤◌, ◌⊎◌, inl, inr, List, [], ◌∷◌, ◌++◌, Bool, true, false, refl, ap, sym, ◌∙◌, subst, length, ◌-◌, arith}
-use Rattle.std.specs.Prelude.{Option, Some, None, is_none}
-use Rattle.std.proofs.lemmas.List.{append-nil}
-use Rattle.http_model.specs.declared.Ending.{Ending}
+use Rattle.std.proofs.Common.{◌≡◌, ◌≢◌, ℕ, ◌<◌, ◌≤◌, ◌⊎◌, inl, inr, List, [], ◌∷◌, ◌++◌, Bool, true, false, refl, ap, sym, ◌∙◌, length, ◌-◌, arith}
+use Rattle.std.specs.Prelude.{is_none}
 use Rattle.session_core.specs.History.{Coming}
 use Rattle.session_core.specs.Leads.{KeepsRequest, StaysSettled}
 use Rattle.session_core.specs.Sided.{Asking, Reply, IsSettled}
@@ -10,7 +8,7 @@ use Rattle.session_core.specs.declared.Source.{Source}
 use Rattle.session_core.specs.declared.Source.TheVariants as source
 use Rattle.px_sample.specs.Variables.{Variables}
 use Rattle.http_rules.specs.declared.config.Config.{Config}
-use Rattle.lane_core.specs.Sends.{Past, GoesOn}
+use Rattle.lane_core.specs.Sends.{Past}
 use Rattle.lane_core.specs.declared.stage.Stage.{Stage}
 use Rattle.lane_core.specs.declared.stage.Stage.TheVariants as stage
 use Rattle.lane_core.specs.declared.stage.Source.{Source as LaneSource}
@@ -20,7 +18,7 @@ use Rattle.lane.specs.declared.request_lane.RequestLane.{RequestLane}
 use Rattle.request_side.specs.declared.place.Place.{Place}
 use Rattle.request_side.specs.declared.place.Place.TheVariants as place
 use Rattle.request_side.specs.Seen.{seen, unread_at, source_by, source_at, sent_at, is_done}
-use Rattle.request_side.specs.Stands.{SoundAt, GoesSoundly, StandsAt}
+use Rattle.request_side.specs.Stands.{SoundAt, StandsAt}
 use Rattle.request_side.proofs.Events.{Keeps, steps}
 
 -- what the lane says of a step

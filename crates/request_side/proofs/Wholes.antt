@@ -1,6 +1,6 @@
 -- A request that has come whole, and what is left behind it.
 use Rattle.std.proofs.Common.{◌≡◌, ℕ, List, ◌++◌, refl, ap, sym, ◌∙◌, subst, append_assoc}
-use Rattle.std.specs.Prelude.{Bool, Option, Some, None, not, ◌&&◌}
+use Rattle.std.specs.Prelude.{Bool, Some, None, not, ◌&&◌}
 use Rattle.http_model.specs.Reading.{BodyReading, Begins}
 use Rattle.session_model.specs.Stream.{Stream}
 use Rattle.session_model.specs.Meaning.{Meaning}
@@ -19,17 +19,15 @@ use Rattle.body_filter.specs.declared.filter_spec.FilterSpec.{FilterSpec}
 use Rattle.h1_body.specs.BodyOf.{BodyRead, Reads, IsBodyOf}
 use Rattle.lane_core.specs.Sends.{Past}
 use Rattle.lane_core.specs.Promise.{Promise, HasBody, IsWholeWith}
-use Rattle.lane_core.specs.declared.stage.Source.{Source as LaneSource}
 use Rattle.lane_core.specs.declared.stage.Source.TheVariants as came
 use Rattle.lane.specs.Asking.{stage_of, source_of, input_of, ended_of, is_dropping}
 use Rattle.lane.specs.Asking as asking
 use Rattle.lane.specs.declared.request_lane.RequestLane.{RequestLane}
 use Rattle.request_side.specs.declared.place.Place.{Place}
 use Rattle.request_side.specs.declared.place.Place.TheVariants as place
-use Rattle.request_side.specs.Seen.{source_by, source_at, is_done, sent_at}
+use Rattle.request_side.specs.Seen.{source_by, source_at, is_done}
 use Rattle.request_side.specs.Stands.{IsFor, coming, GoesOut, IsReplied, StandsAt}
 use Rattle.request_side.specs.Steps.{BreaksAlike, WholeCame}
-use Rattle.request_side.specs.declared.side.RequestSide.{RequestSide}
 use Rattle.request_side.proofs.Bodies.{Follows, follows, is_read}
 use Rattle.request_side.proofs.Messages.{uncut, reading_in}
 use Rattle.request_side.proofs.Goes.{reads_of, body_goes, body_is, asks_for, whole_source}

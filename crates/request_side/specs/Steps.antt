@@ -1,5 +1,5 @@
 -- What the calls of the request direction come to.
-use Rattle.std.specs.Prelude.{◌≡◌, ◌≢◌, ℕ, List, ◌++◌, Bool, true, false, not, ◌&&◌, Option, None}
+use Rattle.std.specs.Prelude.{◌≡◌, ◌≢◌, ℕ, List, ◌++◌, true, false, not, ◌&&◌, None}
 use Rattle.session_model.specs.Stream.{Stream}
 use Rattle.session_core.specs.History.{Coming, Continues, prepend, prepended}
 use Rattle.session_core.specs.Sided.{Asking, Reply, Perhaps, RequestGoes, request_to}
