@@ -36,7 +36,7 @@ use Rattle.lane.specs.Answering.{Exchange, BeginsWithInterim, Last, Answers, Ans
 use Rattle.lane.specs.declared.phase.Phase.{Phase}
 use Rattle.lane.specs.declared.phase.Phase.TheVariants as phase
 use Rattle.lane.specs.declared.response_lane.ResponseLane.{ResponseLane}
-use Rattle.answer_side.specs.Seen.{told_by, is_done, told_at, answered_at}
+use Rattle.answer_side.specs.Seen.{told_by, is_done, told_at, answered_at, is_last}
 use Rattle.answer_side.specs.Stands.{IsInHand, IsResponse, IsInstead, IsFor, Decides, StandsAt, AnswerStands, HasBodies, GivesAll, list_text, is_serving}
 use Rattle.answer_side.specs.declared.place.Place.{Place}
 use Rattle.answer_side.specs.declared.place.Place.TheVariants as place
@@ -311,3 +311,12 @@ begins_with cfg asker lane server put e for h promise =
     let m = more_of server.ending server.bytes stream c in
     as_session cfg asker e.read stream.bytes (λ b. b ≡ left.0 ++ m.more) (λ b. Unit {0}) (λ b is. tt)
     (subst (λ (xs : List ℕ). BeginsWithInterim asker.head_asked cfg.limits e.read xs (λ b. b ≡ left.0 ++ m.more)) (sym m.bytes) (left.1 m.more m.over))
+
+-- a server answers where the last goes out
+pub last_serves : (at : Place) → is_last at ≡ true → is_serving at ≡ true
+last_serves place.Idle e = absurd (let both : false ≡ true = e in cc both)
+last_serves place.Heads e = refl
+last_serves place.Response e = refl
+last_serves place.Closing e = refl
+last_serves place.Keeping e = refl
+last_serves place.Saying e = absurd (let both : false ≡ true = e in cc both)

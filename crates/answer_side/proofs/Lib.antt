@@ -6,3 +6,5 @@ pub mod Answering
 pub mod Events
 pub mod Views
 pub mod Saying
+pub mod Listed
+pub mod Putting

@@ -6,3 +6,4 @@ pub use Rattle.lane.specs.Answering
 pub mod Seen
 pub mod Stands
 pub mod Said
+pub mod Listed

@@ -7,6 +7,7 @@ use Rattle.proxy_meaning.specs.Product.{meaning_of}
 use Rattle.session_model.specs.Answering.{sent_interim}
 use Rattle.session_model.specs.Session.{interim_text}
 use Rattle.session_core.specs.History.{Coming}
+use Rattle.session_core.specs.Leads.{AnswerWaits}
 use Rattle.session_core.specs.Sided.{Asking, asker_in, BeginsAlways}
 use Rattle.answer_side.specs.Seen.{seen}
 use Rattle.answer_side.specs.Stands.{AnswerStands, list_text}
@@ -30,3 +31,10 @@ pub record TurnsTo (cfg : Config) (new : AnswerSide) (asking : Asking Variables)
   pub begins : BeginsAlways (meaning_of cfg) (asker_in asking) server heads
   pub said : to_client ++ saying ≡ interim_text (sent_interim (asker_in asking) heads) ++ list_text (asker_in asking).head_asked head body
   pub starts : (seen new).answered ≡ false
+
+-- more of the last that answers was put out; where that isn't all, it waits for the client or for the server
+pub record PutsMore (cfg : Config) (old new : AnswerSide) (asking : Asking Variables) (server : Coming) (to_client : List ℕ) (now : Variables) (saying : List ℕ) : Type 0 where
+  pub put : List ℕ
+  pub stands : AnswerStands cfg new asking server (to_client ++ put) now saying
+  pub window : (seen new).window ≡ (seen old).window ++ put
+  pub waits : AnswerWaits (seen new)

@@ -43,6 +43,15 @@ answered_at place.Closing at = is_done at
 answered_at place.Keeping at = is_done at
 answered_at place.Saying at = is_done at
 
+-- the last that answers goes out
+abbrev pub is_last : Place → Bool
+is_last place.Idle = false
+is_last place.Heads = false
+is_last place.Response = true
+is_last place.Closing = true
+is_last place.Keeping = true
+is_last place.Saying = false
+
 abbrev pub place_of : AnswerSide → Place
 place_of side = side.place
 

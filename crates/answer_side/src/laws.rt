@@ -1,5 +1,11 @@
 //! What the definitions say together.
-ghost use Rattle.std.specs.Prelude.{◌≡◌, true, false};
+ghost use Rattle.std.specs.Prelude.{◌≡◌, ℕ, List, Bool, true, false};
+ghost use Rattle.http_model.specs.Head.{Message, front_blocks, message_blocks};
+ghost use Rattle.http_model.specs.Refusal.{refusal, closing};
+ghost use Rattle.http_model.specs.Spelling.{Spells};
+ghost use Rattle.session_model.specs.Amending.{reply_sent};
+ghost use Rattle.px_sample.specs.Variables.{Variables};
+ghost use Rattle.answer_side.specs.Listed.{IsListed};
 ghost use Rattle.http_rules.specs.declared.config.Config.{Config};
 ghost use Rattle.proxy_meaning.specs.Product.{meaning_of};
 ghost use Rattle.session_core.specs.Lanes.{IsTotalAnswers};
@@ -7,7 +13,7 @@ ghost use Rattle.session_core.specs.Sided.{Sided, AnswersSo, IsBefore};
 ghost use Rattle.session_core.specs.declared.Told.TheVariants as told;
 ghost use Rattle.lane.specs.Answering.{has_begun};
 ghost use Rattle.answer_side.specs.Seen.{seen, place_of};
-ghost use Rattle.answer_side.specs.Stands.{AnswerStands, HasBodies, GivesAll, is_serving};
+ghost use Rattle.answer_side.specs.Stands.{AnswerStands, HasBodies, GivesAll, is_serving, list_text};
 ghost use Rattle.answer_side.specs.declared.side.AnswerSide.{AnswerSide};
 
 /// No stream of a server is without a reading, and a head is at least one byte.
@@ -37,3 +43,11 @@ pub fn comes_before()
 {
     lane::laws::answer_promise();
 }
+
+/// Refusals and replies stand as a head with its body behind it, and their text is that of both.
+pub fn lists()
+    ensures blocks { (m : Message) → IsListed m → message_blocks m ≡ front_blocks m.head m.body }
+    ensures spelled { (m : Message) (no_body : Bool) → IsListed m → Spells true no_body m (list_text no_body m.head m.body) }
+    ensures refusal { (code : ℕ) → IsListed (refusal code) × IsListed (closing (refusal code)) }
+    ensures sent { (cfg : Config) (m : Message) (method : List ℕ) (vars : Variables) (keep : Bool) → IsListed m → IsListed (reply_sent (meaning_of cfg) m method vars keep) }
+{}

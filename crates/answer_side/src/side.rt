@@ -10,6 +10,7 @@ ghost use Rattle.answer_side.specs.Seen.{seen, place_of, asker_of};
 ghost use Rattle.answer_side.specs.Stands.{AnswerStands, IsSoundSide, IsAsker};
 ghost use Rattle.answer_side.specs.declared.place.Place.TheVariants as place;
 
+mod putting;
 mod saying;
 mod views;
 
