@@ -2,8 +2,8 @@
 //! A row that names several must come to the same for each.
 ghost use Rattle.std.specs.Prelude.{◌≤◌, IfOk};
 
-use case_rows::{Answers, Fault, Step};
 use case_bodies::LIMITS;
+use case_rows::{Answers, Fault, Step};
 use http_model::Ending;
 use lane::{LaneHead, Source, Stage};
 use std::alloc::Global;

@@ -3,11 +3,13 @@
 //! that were put out, how that ended, and behind a whole one what is left of the stream. Buffers have 1024 bytes.
 ghost use Rattle.std.specs.Prelude.{◌≡◌, ◌≤◌, length, None, OnOk};
 ghost use Rattle.body_filter.specs.Valid.{AreFilters};
-ghost use Rattle.lane.specs.Asking.{stage_of, ended_of, MayRead};
+ghost use Rattle.lane.specs.Asking.{stage_of, ended_of, IsWell, MayRead};
 ghost use Rattle.lane_core.specs.declared.stage.Stage.TheVariants as stages;
 ghost use Rattle.case_lanes.specs.Drives.{IsBetween};
 
-use crate::paces::{MOST_CALLS, Pace, Seen, at_other_pace, ending_of, say_end, say_left, split_first};
+use crate::paces::{
+    MOST_CALLS, Pace, Seen, at_other_pace, ending_of, say_end, say_left, split_first,
+};
 use crate::texts::say_message;
 use body_filter::FilterSpec;
 use case_bodies::{LIMITS, filters_of, framing_of};
@@ -41,10 +43,11 @@ fn read_on(lane: &mut RequestLane, framing: Framing, no_body: bool) -> LaneHead
 }
 
 /// Takes the text that stands in the window.
+#[tactic(auto, using(crate::proofs::Lent::lent))]
 fn empty(lane: &mut RequestLane, text: &mut Vec<u8>) -> Result<(), Fault>
-    requires { IsBetween lane.old }
-    ensures between { OnOk result (IsBetween lane.new) }
-    ensures same { OnOk result (ended_of lane.new ≡ ended_of lane.old) }
+    requires { IsWell lane.old }
+    ensures well { OnOk result (IsWell lane.new) }
+    ensures same { OnOk result ((stage_of lane.new ≡ stage_of lane.old) × (ended_of lane.new ≡ ended_of lane.old)) }
 {
     let output = lane.output();
     let count = output.len();
@@ -134,7 +137,11 @@ fn at_pace(message: &Message<'_>, filters: &[FilterSpec], pace: Pace) -> Result<
     let behind = feed(&mut lane, message, pace.piece, &mut seen)?;
     end(&mut lane, message, &mut seen)?;
     let mut answers = Answers::new(message.alloc);
-    say_message(&seen.text, message.framing == Framing::Chunked, &mut answers);
+    say_message(
+        &seen.text,
+        message.framing == Framing::Chunked,
+        &mut answers,
+    );
     say_end(seen.told, lane.stage(), lane.source(), &mut answers);
     if seen.is_whole(lane.source()) {
         say_left(message.stream, behind, lane.room(), &mut answers);

@@ -26,7 +26,10 @@ fn size_of(line: &[u8]) -> Option<usize> {
     let [digits @ .., b'\r'] = line else {
         return None;
     };
-    if digits.len() > 6 || digits.first() == Some(&b'0') || !digits.iter().all(|byte| is_digit(*byte)) {
+    if digits.len() > 6
+        || digits.first() == Some(&b'0')
+        || !digits.iter().all(|byte| is_digit(*byte))
+    {
         return None;
     }
     let text = std::str::from_utf8(digits).ok()?;

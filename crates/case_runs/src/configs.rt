@@ -10,7 +10,9 @@ use std::alloc::Global;
 
 /// What stands around the lines.
 const FRONT: &[u8] = b"global\ntune.bufsize ";
-const BEHIND: &[u8] = b"\ntune.maxrewrite 256\nlisten p\nbind 127.0.0.1:8080\nserver s 127.0.0.1:8081\n";
+
+const BEHIND: &[u8] =
+    b"\ntune.maxrewrite 256\nlisten p\nbind 127.0.0.1:8080\nserver s 127.0.0.1:8081\n";
 
 /// The configuration of a text.
 fn loaded(alloc: Global, text: &[u8]) -> Result<Config, Fault>

@@ -87,7 +87,15 @@ fn run_rules(
     let searchers = &mut searchers;
     let scratch = &mut scratch;
     match run {
-        Run::Request => run_request(alloc, searchers, &cfg.request, msg, &mut vars, scratch, reply),
+        Run::Request => run_request(
+            alloc,
+            searchers,
+            &cfg.request,
+            msg,
+            &mut vars,
+            scratch,
+            reply,
+        ),
         Run::Response(method) => run_response(
             alloc,
             searchers,
@@ -99,7 +107,9 @@ fn run_rules(
             reply,
         ),
         Run::After(method) => {
-            run_after(alloc, searchers, &cfg.after, method, msg, &mut vars, scratch)
+            run_after(
+                alloc, searchers, &cfg.after, method, msg, &mut vars, scratch,
+            )
         }
     }
 }
