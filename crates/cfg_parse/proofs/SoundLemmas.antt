@@ -12,9 +12,9 @@ use Rattle.http_model.specs.Sizes.{most_size}
 use Rattle.px_bytes.specs.Numbers.{decimal_of}
 use Rattle.px_link.specs.declared.address.Address.{Address}
 use Rattle.http_rules.specs.declared.config.Config.{Config}
-use Rattle.http_rules.specs.Valid.{AreLimits, HasPort, HasHost, IsChain, IsBuilt, AreRun, IsValid}
+use Rattle.http_rules.specs.Valid.{AreLimits, HasPort, HasHost, IsChain, IsValid}
 use Rattle.cfg_parse.specs.declared.fault.CfgKind.{CfgKind}
-use Rattle.cfg_parse.specs.declared.fault.CfgKind.TheVariants.{Argument, Section, Limit, Missing, Unbuilt}
+use Rattle.cfg_parse.specs.declared.fault.CfgKind.TheVariants.{Argument, Section, Limit, Missing}
 use Rattle.cfg_parse.specs.declared.fault.CfgFault.{CfgFault}
 use Rattle.cfg_parse.specs.declared.draft.Draft.{Draft}
 use Rattle.cfg_parse.specs.declared.fault.LineRefusal.{LineRefusal}
@@ -23,7 +23,6 @@ use Rattle.rule_model.specs.declared.names.Direction.{Direction as Rules}
 use Rattle.rule_model.specs.declared.names.Direction.TheVariants as lists
 use Rattle.rule_model.specs.declared.action.Action.{Action}
 use Rattle.rule_model.specs.Valid.{IsGoodRule}
-use Rattle.rule_actions.specs.Acts.{is_built}
 use Rattle.cfg_acl.specs.declared.written.AclLine.{AclLine}
 use Rattle.cfg_parse.specs.Reading.{◌>>=◌, argument, no_more, Leaves}
 use Rattle.cfg_parse.specs.Keywords.{is_timeout_name}
@@ -162,31 +161,27 @@ room_is draft direction tests room =
     let both = and_true (ltb (length (rules_in draft direction)) 1024) (leb (draft.tests + tests) 65536) room in
     grind (arith, nat_tests)
 
-one_more : (direction : Rules) (rules : List Rule) (rule : Rule) → AreRun direction rules → IsGoodRule direction rule → length rules + 1 ≤ 1024 → is_built rule.action ≡ true
-    → AreRun direction (rules ++ rule ∷ [])
-one_more direction rules rule all good room runs =
+one_more : (direction : Rules) (rules : List Rule) (rule : Rule) → AreRules direction rules → IsGoodRule direction rule → length rules + 1 ≤ 1024
+    → AreRules direction (rules ++ rule ∷ [])
+one_more direction rules rule all good room =
     let len : length (rules ++ rule ∷ []) ≡ length rules + 1 = length-append rules (rule ∷ []) in
     let few : length (rules ++ rule ∷ []) ≤ 1024 = omega (arith, len, room) in
-    record {
-      valid = record { each = rules_push (IsGoodRule direction) rules rule all.valid.each good; few = few };
-      built = rules_push IsBuilt rules rule all.built runs;
-    }
+    record { each = rules_push (IsGoodRule direction) rules rule all.each good; few = few }
 
-with_rule-sound : (draft : Draft) (direction : Rules) (rule : Rule) → IsSound draft → IsGoodRule direction rule → length (rules_in draft direction) + 1 ≤ 1024 → is_built rule.action ≡ true
+with_rule-sound : (draft : Draft) (direction : Rules) (rule : Rule) → IsSound draft → IsGoodRule direction rule → length (rules_in draft direction) + 1 ≤ 1024
     → IsSound (with_rule draft direction rule)
-with_rule-sound draft lists.Request rule s good room runs =
-    record { bufsize = s.bufsize; bind = s.bind; server = s.server; request = one_more lists.Request draft.request rule s.request good room runs; response = s.response; after = s.after; req_filters = s.req_filters; res_filters = s.res_filters }
-with_rule-sound draft lists.Response rule s good room runs =
-    record { bufsize = s.bufsize; bind = s.bind; server = s.server; request = s.request; response = one_more lists.Response draft.response rule s.response good room runs; after = s.after; req_filters = s.req_filters; res_filters = s.res_filters }
-with_rule-sound draft lists.After rule s good room runs =
-    record { bufsize = s.bufsize; bind = s.bind; server = s.server; request = s.request; response = s.response; after = one_more lists.After draft.after rule s.after good room runs; req_filters = s.req_filters; res_filters = s.res_filters }
+with_rule-sound draft lists.Request rule s good room =
+    record { bufsize = s.bufsize; bind = s.bind; server = s.server; request = one_more lists.Request draft.request rule s.request good room; response = s.response; after = s.after; req_filters = s.req_filters; res_filters = s.res_filters }
+with_rule-sound draft lists.Response rule s good room =
+    record { bufsize = s.bufsize; bind = s.bind; server = s.server; request = s.request; response = one_more lists.Response draft.response rule s.response good room; after = s.after; req_filters = s.req_filters; res_filters = s.res_filters }
+with_rule-sound draft lists.After rule s good room =
+    record { bufsize = s.bufsize; bind = s.bind; server = s.server; request = s.request; response = s.response; after = one_more lists.After draft.after rule s.after good room; req_filters = s.req_filters; res_filters = s.res_filters }
 
 rule_added-sound : (draft : Draft) (direction : Rules) (rule : Rule) → IsSound draft → IsGoodRule direction rule → Keeps (rule_added draft direction rule)
 unfolding rule_added
 rule_added-sound draft direction rule s good =
     keeps_if (has_room draft direction (tests_of rule.cond)) Limit _ (λ room.
-    keeps_if (is_built rule.action) Unbuilt _ (λ runs.
-    with_rule-sound draft direction rule s good (room_is draft direction (tests_of rule.cond) room) runs))
+    with_rule-sound draft direction rule s good (room_is draft direction (tests_of rule.cond) room))
 
 filter_added-sound : (draft : Draft) (direction : Direction) (filter : FilterSpec) → IsSound draft → IsFilter filter → Keeps (filter_added draft direction filter)
 filter_added-sound draft Request filter s good =
@@ -243,8 +238,8 @@ pub ruleset lefts = (section_left, bufsize_left, maxrewrite_left, mode_left, tim
 
 -- ---- all lines
 
-no_rules : (direction : Rules) → AreRun direction []
-no_rules direction = record { valid = record { each = tt; few = omega arith }; built = tt }
+no_rules : (direction : Rules) → AreRules direction []
+no_rules direction = record { each = tt; few = omega arith }
 
 pub start-sound : IsSound start
 start-sound = record { bufsize = tt; bind = tt; server = tt; request = no_rules lists.Request; response = no_rules lists.Response; after = no_rules lists.After; req_filters = none_chain; res_filters = none_chain }

@@ -4,12 +4,11 @@ use Rattle.acl_eval.specs.declared.condition.Cond.{Cond}
 use Rattle.rule_model.specs.declared.names.Direction.{Direction}
 use Rattle.rule_model.specs.declared.names.Direction.TheVariants.{Request, Response, After}
 use Rattle.rule_model.specs.declared.rule.Rule.{Rule}
-use Rattle.rule_actions.specs.Acts.{is_built}
 use Rattle.cfg_acl.specs.Conditions.{acl_line, test_count}
 use Rattle.cfg_action.specs.Rules.{rule_of}
 use Rattle.cfg_expr.specs.Reading.{Reading, plain, ◌>>=◌}
 use Rattle.cfg_parse.specs.declared.fault.CfgKind.{CfgKind}
-use Rattle.cfg_parse.specs.declared.fault.CfgKind.TheVariants.{Limit, Unbuilt}
+use Rattle.cfg_parse.specs.declared.fault.CfgKind.TheVariants.{Limit}
 use Rattle.cfg_parse.specs.declared.draft.Draft.{Draft}
 use Rattle.cfg_parse.specs.Limits.{most_rules, most_tests}
 use Rattle.cfg_parse.specs.Asking.{LineReading, of_text, of_rule}
@@ -35,14 +34,12 @@ with_rule draft After rule = record draft { tests = draft.tests + tests_of rule.
 unfoldable pub has_room : Draft → Direction → (tests : ℕ) → Bool
 has_room draft direction tests = nat_lt (length (rules_in draft direction)) most_rules && nat_le (draft.tests + tests) most_tests
 
--- one more rule of a direction; an action that is not run yet is refused last
+-- one more rule of a direction
 unfoldable pub rule_added : Draft → Direction → Rule → Result Draft CfgKind
 rule_added draft direction rule =
-    if has_room draft direction (tests_of rule.cond)
-    then (if is_built rule.action then Ok (with_rule draft direction rule) else Err Unbuilt)
-    else Err Limit
+    if has_room draft direction (tests_of rule.cond) then Ok (with_rule draft direction rule) else Err Limit
 
--- the words behind `http-request` and its like; what there is no room for, or is not run yet, is refused last
+-- the words behind `http-request` and its like; what there is no room for is refused last
 unfoldable pub rule_line : Draft → Direction → List (List ℕ) → LineReading Draft
 rule_line draft direction arguments =
     of_rule (rule_of direction draft.acls arguments) >>= λ rule. plain (rule_added draft direction rule)

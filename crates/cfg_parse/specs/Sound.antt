@@ -2,15 +2,16 @@
 use Rattle.std.specs.Prelude.{ℕ, ◌≤◌, IfSome}
 use Rattle.http_model.specs.Sizes.{least_size, most_size}
 use Rattle.rule_model.specs.declared.names.Direction.TheVariants.{Request, Response, After}
-use Rattle.http_rules.specs.Valid.{HasPort, HasHost, IsChain, AreRun}
+use Rattle.http_rules.specs.Valid.{HasPort, HasHost, IsChain}
+use Rattle.rule_model.specs.Valid.{AreRules}
 use Rattle.cfg_parse.specs.declared.draft.Draft.{Draft}
 
 pub record IsSound (draft : Draft) : Type 0 where
   pub bufsize : IfSome draft.bufsize (λ n. (least_size ≤ n) × (n ≤ most_size))
   pub bind : IfSome draft.bind HasPort
   pub server : IfSome draft.server (λ a. HasPort a × HasHost a)
-  pub request : AreRun Request draft.request
-  pub response : AreRun Response draft.response
-  pub after : AreRun After draft.after
+  pub request : AreRules Request draft.request
+  pub response : AreRules Response draft.response
+  pub after : AreRules After draft.after
   pub req_filters : IsChain draft.req_filters
   pub res_filters : IsChain draft.res_filters

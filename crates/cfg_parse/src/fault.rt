@@ -31,8 +31,6 @@ pub enum CfgKind {
     Limit = 9,
     /// No `listen`, `bind` or `server`.
     Missing = 10,
-    /// A rule whose action is not run yet, where nothing else is wrong with its line.
-    Unbuilt = 11,
 }
 
 /// Why a text is no configuration.

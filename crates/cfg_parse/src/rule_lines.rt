@@ -1,7 +1,6 @@
 //! The lines of `acl`, `http-request`, `http-response` and `http-after-response`.
 
 ghost use Rattle.std.specs.Prelude.{◌≡◌, ◌-◌, ◌^◌, min, length, IfOk, OnOk};
-ghost use Rattle.rule_actions.specs.Acts.{is_built};
 ghost use Rattle.cfg_parse.specs.Reading.{Leaves};
 ghost use Rattle.rule_model.specs.Valid.{IsGoodRule};
 ghost use Rattle.cfg_action.specs.Rules.{rule_of};
@@ -15,7 +14,7 @@ use crate::fault::{CfgKind, LineRefusal};
 use crate::limits::{MAX_RULES, MAX_TESTS};
 use cfg_acl::{AclList, count_tests, read_acl};
 use cfg_action::read_rule;
-use http_rules::{Action, Cond, DelBy, Direction, Rule};
+use http_rules::{Cond, Direction, Rule};
 use px_pattern::Patterns;
 use std::alloc::Global;
 
@@ -51,19 +50,6 @@ fn has_room(draft: &Draft, direction: Direction, cond: &Option<Cond>) -> bool
         && draft.tests <= MAX_TESTS - tests
 }
 
-/// The action is one that is run today.
-fn is_built(action: &Action) -> bool
-    ensures { result ≡ is_built action.now }
-{
-    match action {
-        Action::DelHeader(DelBy::Reg(_)) => false,
-        Action::ReplaceHeader(_, _, _) | Action::ReplaceValue(_, _, _) => false,
-        Action::ReplacePath(_, _) | Action::ReplacePathq(_, _) | Action::ReplaceUri(_, _) => false,
-        Action::Redirect { .. } | Action::Return { .. } => false,
-        _ => true,
-    }
-}
-
 /// One more rule of a direction.
 #[tactic(auto, unfolding(crate::specs::Rules::rule_added, crate::specs::Rules::has_room))]
 fn add_rule(draft: &mut Draft, direction: Direction, rule: Rule) -> Result<(), LineRefusal>
@@ -71,9 +57,6 @@ fn add_rule(draft: &mut Draft, direction: Direction, rule: Rule) -> Result<(), L
 {
     if !has_room(draft, direction, &rule.cond) {
         return Err(LineRefusal::Refused(CfgKind::Limit));
-    }
-    if !is_built(&rule.action) {
-        return Err(LineRefusal::Refused(CfgKind::Unbuilt));
     }
     draft.tests += tests_of(&rule.cond);
     match direction {

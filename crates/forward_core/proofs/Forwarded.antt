@@ -1,4 +1,4 @@
--- A session of one exchange: a request that is sent, or a refusal.
+-- A session of one exchange: a request that is sent.
 use Rattle.std.proofs.Common.{◌≡◌, ℕ, ◌≤◌, List, [], ◌∷◌, ◌++◌, inl, Bool, true, false, refl, sym, ap, ◌∙◌, subst, append_assoc, arith, lit<, length}
 use Rattle.std.specs.Prelude.{codes, decimal, Some, None, nat_le}
 use Rattle.std.proofs.lemmas.List.{append-nil}
@@ -10,7 +10,6 @@ use Rattle.http_model.specs.declared.Framing.TheVariants.{Absent, Length}
 use Rattle.http_model.specs.Blocks.{load}
 use Rattle.http_model.specs.Head.{Head, Message, head_blocks}
 use Rattle.http_model.specs.Finish.{length_field}
-use Rattle.http_model.specs.Refusal.{refusal, closing}
 use Rattle.http_model.specs.Spelling.{Spells, head_text}
 use Rattle.http_model.specs.Reading as reading
 use Rattle.h1_head.specs.Request.{RequestOf}
@@ -18,31 +17,15 @@ use Rattle.http_rules.specs.declared.config.Config.{Config}
 use Rattle.session_model.specs.Stream.{Open}
 use Rattle.session_model.specs.Env.{Env, Edited, method_of}
 use Rattle.session_model.specs.Meaning.{keeps, is_http_11}
-use Rattle.session_model.specs.Asking.{Asker, Forwarded, Request, Refused, Sends, Asks, asker_of}
-use Rattle.session_model.specs.Amending.{refusal_sent}
+use Rattle.session_model.specs.Asking.{Asker, Forwarded, Request, Sends, Asks, asker_of}
 use Rattle.session_model.specs.Answering.{Answers, AnswersAmended}
-use Rattle.session_model.specs.Session.{Session, Exchange, Over, Next, ClientGets, Serves, ServesOpen}
+use Rattle.session_model.specs.Session.{Session, Exchange, Next, ClientGets, Serves, ServesOpen}
 use Rattle.forward_core.specs.Texts.{answer_text}
 use Rattle.forward_core.specs.Client.{plain_received, IsPlainHead}
 use Rattle.forward_core.specs.Ruled.{IsSent, sent_head}
-use Rattle.forward_core.proofs.Small.{IsSmall, sent_as_is}
 use Rattle.px_sample.specs.Variables.{Variables, no_variables}
 use Rattle.http_rules.specs.Lives.{renewed, answering}
 use Rattle.forward_core.specs.First.{meaning_of, first_response, first_received, closed}
-
--- ---- a refusal
-
--- a client whose request is refused, with no server
-pub refused : (cfg : Config) (client : List ℕ) (code : ℕ) (method : List ℕ) (vars : Variables) (text : List ℕ) → 1024 ≤ cfg.limits.bufsize → IsSmall code
-    → Asks (meaning_of cfg) no_variables (closed client) (Refused code false method vars) → Spells true false (closing (refusal code)) text
-    → Session (meaning_of cfg) (closed client) [] (record { exchanges = 1; how = end.Closed; cut = None; client = record { bytes = text; close = Clean }; servers = [] })
-refused cfg client code method vars text size small asks spelled =
-    let sent : Spells true false (refusal_sent (meaning_of cfg) code method (answering vars)) text = subst (λ (m : Message). Spells true false m text) (sym (sent_as_is cfg code method (answering vars) size small)) spelled in
-    record {
-      exchanges = record { connects = []; client = text; bit = None; after = Over end.Closed } ∷ [];
-      follow = (Refused code false method vars, [], asks, (refl, record { said = text; spelled = sent; exchange = refl }), (refl, refl, refl));
-      comes_to = ap (λ (t : List ℕ). record { exchanges = 1; how = end.Closed; cut = None; client = record { bytes = t; close = Clean }; servers = [] }) (sym (append-nil text));
-    }
 
 -- ---- a request that is sent
 

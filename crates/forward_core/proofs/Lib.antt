@@ -1,5 +1,7 @@
 pub mod Ruling
-pub mod Refusals
+pub mod Replies
+pub mod Texts
+pub mod Said
 pub mod Forwarded
 pub mod Plains
 pub mod Asks

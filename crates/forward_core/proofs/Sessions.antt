@@ -1,44 +1,34 @@
 -- What one exchange puts out, as a session.
-use Rattle.std.proofs.Common.{◌≡◌, ℕ, ◌≤◌, List, [], ◌∷◌, ◌++◌, inl, inr, Bool, false, refl, sym, ap, ◌∙◌, subst, append_assoc}
-use Rattle.std.specs.Prelude.{codes, map, Option, Some, None}
-use Rattle.std.proofs.lemmas.List.{append-nil}
+use Rattle.std.proofs.Common.{◌≡◌, ℕ, ◌≤◌, ◌<◌, List, [], inl, inr, Bool, true, false, refl, sym, ap, ◌∙◌, subst, arith}
+use Rattle.std.specs.Prelude.{◌&&◌, Option, Some, None, ◌⊎◌}
 use Rattle.http_model.specs.declared.Close.TheVariants.{Clean}
 use Rattle.http_model.specs.declared.End.{End}
 use Rattle.http_model.specs.declared.End.TheVariants as end
 use Rattle.http_model.specs.Block.{Block}
-use Rattle.http_model.specs.Block as block
-use Rattle.http_model.specs.Head.{Head, Field, StartLine, line_block, header_block, head_blocks}
-use Rattle.http_model.specs.Head as head
-use Rattle.http_model.specs.Spelling.{head_text, line_text, field_text, fields_text}
+use Rattle.http_model.specs.Head.{Head, Message, head_blocks, message_blocks}
 use Rattle.http_model.specs.Reading.{Begins}
 use Rattle.http_model.specs.Reading as reading
+use Rattle.http_model.specs.Spelling.{Spells}
 use Rattle.h1_head.specs.Request.{RequestOf}
 use Rattle.http_rules.specs.declared.config.Config.{Config}
-use Rattle.session_model.specs.Env.{Env, method_of, method_in}
-use Rattle.session_model.specs.Asking.{Asks, Refused}
+use Rattle.http_rules.specs.Valid.{IsValid}
+use Rattle.rule_model.specs.declared.names.Direction.TheVariants as directions
+use Rattle.session_model.specs.Env.{Env, request_env, method_of, method_in}
+use Rattle.session_model.specs.Asking.{Asks, Refused, Replied}
+use Rattle.session_model.specs.Meaning.{is_head_request}
 use Rattle.session_model.specs.Session.{Session, Out}
 use Rattle.forward_core.specs.First.{meaning_of, IsFirstServer, closed}
-use Rattle.forward_core.specs.Ruled.{IsSent, IsUnsent, sent_head}
+use Rattle.forward_core.specs.Ruled.{IsSent, IsUnsent, IsDenied, IsReplied, sent_head}
 use Rattle.forward_core.specs.Client.{plain_received, IsPlainHead, ReadsPlain}
 use Rattle.forward_core.specs.Texts.{blocks_text}
-use Rattle.forward_core.specs.Out.{servers_by, sent_by, out_of_one, IsRefused, IsForwarded}
+use Rattle.forward_core.specs.Out.{servers_by, sent_by, out_of_one, IsRefused, IsAnswered, IsForwarded}
 use Rattle.forward_core.specs.declared.exchange.One.{One}
 use Rattle.px_sample.specs.Variables.{Variables, no_variables}
-use Rattle.forward_core.proofs.Forwarded.{refused, forwarded}
-use Rattle.forward_core.proofs.Small.{IsSmall, small_500, small_head}
-
--- ---- the text of a head's blocks
-
-fields_of_blocks : (fs : List Field) → blocks_text (map header_block fs ++ block.EndHeaders ∷ []) ≡ fields_text fs ++ codes "\r\n"
-fields_of_blocks [] = append-nil (codes "\r\n")
-fields_of_blocks (f ∷ fs) = ap (λ (t : List ℕ). field_text f ++ t) (fields_of_blocks fs) ∙ sym (append_assoc (field_text f) (fields_text fs) (codes "\r\n"))
-
-pub text_of_blocks : (h : Head) → blocks_text (head_blocks h) ≡ head_text h
-text_of_blocks h = by_line h.line
-  where
-    by_line : (line : StartLine) → blocks_text (line_block line ∷ (map header_block h.fields ++ block.EndHeaders ∷ [])) ≡ (line_text line ++ fields_text h.fields) ++ codes "\r\n"
-    by_line (head.RequestLine a b c) = ap (λ (t : List ℕ). line_text (head.RequestLine a b c) ++ t) (fields_of_blocks h.fields) ∙ sym (append_assoc (line_text (head.RequestLine a b c)) (fields_text h.fields) (codes "\r\n"))
-    by_line (head.StatusLine a b c) = ap (λ (t : List ℕ). line_text (head.StatusLine a b c) ++ t) (fields_of_blocks h.fields) ∙ sym (append_assoc (line_text (head.StatusLine a b c)) (fields_text h.fields) (codes "\r\n"))
+use Rattle.forward_core.proofs.Forwarded.{forwarded}
+use Rattle.forward_core.proofs.Replies as replies
+use Rattle.forward_core.proofs.Said.{refused, replied}
+use Rattle.forward_core.proofs.Small.{small}
+use Rattle.forward_core.proofs.Texts.{text_of_head, spelled}
 
 -- ---- what is asked
 
@@ -64,6 +54,31 @@ asks_fails cfg client head reads plain (inr x) = (
   },
 )
 
+-- a rule that denies a request is the refusal with its code
+asks_denied : (cfg : Config) (client : List ℕ) (head : Head) (code : ℕ) → RequestOf cfg.limits client (Begins (plain_received head) []) → IsPlainHead head → IsDenied cfg head code
+    → (method : List ℕ) × (vars : Variables) × Asks (meaning_of cfg) no_variables (closed client) (Refused code false method vars)
+asks_denied cfg client head code reads plain x = (
+  method_in x.0,
+  x.0.vars,
+  record { head = Begins (plain_received head) []; reads = reads; asks = rw x.1 (ap (λ (b : Bool). Refused code b (method_in x.0) x.0.vars) (sym plain.not_head)) },
+)
+
+-- a rule that answers a request is its reply, behind which the connection is kept
+asks_reply : (cfg : Config) (client : List ℕ) (head : Head) (m : Message) → RequestOf cfg.limits client (Begins (plain_received head) []) → IsPlainHead head → IsReplied cfg head m
+    → (method : List ℕ) × (vars : Variables) × Asks (meaning_of cfg) no_variables (closed client) (Replied m false true (closed []) method vars)
+asks_reply cfg client head m reads plain x = (
+  method_in x.0,
+  x.0.vars,
+  record {
+    head = Begins (plain_received head) [];
+    reads = reads;
+    asks = rw x.1 (
+        ap (λ (b : Bool). Replied m b true (closed []) (method_in x.0) x.0.vars) (sym plain.not_head)
+        ∙ ap (λ (k : Bool). Replied m (is_head_request head) (k && true) (closed []) (method_in x.0) x.0.vars) (sym plain.keep)
+        );
+  },
+)
+
 -- ---- sessions
 
 -- what one exchange came to, part by part
@@ -81,25 +96,39 @@ session_by cfg client server one text how is ends s =
     (subst (λ (o : Out). Session (meaning_of cfg) (closed client) (servers_by text server) o) (out_is one text how is ends) s)
 
 -- a refusal is a session with no server
-refused_session : (cfg : Config) (client server : List ℕ) (code : ℕ) (method : List ℕ) (vars : Variables) (one : One) → 1024 ≤ cfg.limits.bufsize → IsSmall code
+refused_session : (cfg : Config) (client server : List ℕ) (code : ℕ) (method : List ℕ) (vars : Variables) (one : One) → 1024 ≤ cfg.limits.bufsize → code < 65536
     → Asks (meaning_of cfg) no_variables (closed client) (Refused code false method vars) → IsRefused code one
     → Session (meaning_of cfg) (closed client) (servers_by one.to_server server) (out_of_one one)
-refused_session cfg client server code method vars one size small asks r =
-    session_by cfg client server one None end.Closed r.server r.how (refused cfg client code method vars one.to_client size small asks r.client)
+refused_session cfg client server code method vars one size low asks r =
+    session_by cfg client server one None end.Closed r.server r.how (refused cfg client code method vars one.to_client size (small code (omega arith)) asks r.client)
 
 -- that of a head
-pub head_refused : (cfg : Config) (client server : List ℕ) (code : ℕ) (one : One) → 1024 ≤ cfg.limits.bufsize → RequestOf cfg.limits client (reading.Refused code) → IsRefused code one
+pub head_refused : (cfg : Config) (client server : List ℕ) (code : ℕ) (one : One) → 1024 ≤ cfg.limits.bufsize → code < 65536 → RequestOf cfg.limits client (reading.Refused code) → IsRefused code one
     → Session (meaning_of cfg) (closed client) (servers_by one.to_server server) (out_of_one one)
-head_refused cfg client server code one size reads r =
-    refused_session cfg client server code [] no_variables one size (small_head cfg.limits client code reads) (asks_refused cfg client code reads) r
+head_refused cfg client server code one size low reads r =
+    refused_session cfg client server code [] no_variables one size low (asks_refused cfg client code reads) r
 
--- that of a rule that fails, or of a finished head that doesn't fit
-pub rules_refused : (cfg : Config) (client server : List ℕ) (blocks : List Block) (one : One) → 1024 ≤ cfg.limits.bufsize
-    → (x : ReadsPlain cfg.limits client blocks) → IsUnsent cfg x.head → IsRefused 500 one
+-- that of a rule that fails or denies, or of a finished head that doesn't fit
+pub rules_refused : (cfg : Config) (client server : List ℕ) (blocks : List Block) (code : ℕ) (one : One) → 1024 ≤ cfg.limits.bufsize → code < 65536
+    → (x : ReadsPlain cfg.limits client blocks) → ((code ≡ 500) × IsUnsent cfg x.head) ⊎ IsDenied cfg x.head code → IsRefused code one
     → Session (meaning_of cfg) (closed client) (servers_by one.to_server server) (out_of_one one)
-rules_refused cfg client server blocks one size x unsent r =
-    let asks = asks_fails cfg client x.head x.reads x.plain unsent in
-    refused_session cfg client server 500 asks.0 asks.1 one size small_500 asks.2 r
+rules_refused cfg client server blocks code one size low x (inl unsent) r =
+    let asks = asks_fails cfg client x.head x.reads x.plain unsent.1 in
+    refused_session cfg client server code asks.0 asks.1 one size low
+    (subst (λ (n : ℕ). Asks (meaning_of cfg) no_variables (closed client) (Refused n false asks.0 asks.1)) (sym unsent.0) asks.2) r
+rules_refused cfg client server blocks code one size low x (inr denied) r =
+    let asks = asks_denied cfg client x.head code x.reads x.plain denied in
+    refused_session cfg client server code asks.0 asks.1 one size low asks.2 r
+
+-- a reply of the rules is a session with no server
+pub replied_session : (cfg : Config) (client server : List ℕ) (blocks reply : List Block) (m : Message) (one : One) → IsValid cfg
+    → (x : ReadsPlain cfg.limits client blocks) → IsReplied cfg x.head m → reply ≡ message_blocks m → IsAnswered reply one
+    → Session (meaning_of cfg) (closed client) (servers_by one.to_server server) (out_of_one one)
+replied_session cfg client server blocks reply m one valid x answers is a =
+    let good = replies.replied cfg.limits.bufsize directions.Request cfg.request (request_env no_variables x.head) m answers.0 valid.request.valid.each answers.1 in
+    let asks = asks_reply cfg client x.head m x.reads x.plain answers in
+    let text : Spells true false m one.to_client = subst (λ (t : List ℕ). Spells true false m t) (sym (a.client ∙ ap blocks_text is)) (spelled m good.trailers good.body) in
+    session_by cfg client server one None end.Done a.server a.how (replied cfg client m asks.0 asks.1 one.to_client good.fits asks.2 text)
 
 -- a request that was sent and answered is a session with one server
 pub forwarded_session : (cfg : Config) (client server : List ℕ) (blocks sent : List Block) (one : One) → 1024 ≤ cfg.limits.bufsize → IsFirstServer server
@@ -109,4 +138,4 @@ pub forwarded_session : (cfg : Config) (client server : List ℕ) (blocks sent :
 forwarded_session cfg client server blocks sent one size first x left goes is f =
     session_by cfg client server one (Some (blocks_text sent)) end.Done f.server f.how
     (forwarded cfg client server (blocks_text sent) one.to_client first.0 x.head left x.reads x.plain goes size
-    (ap blocks_text is ∙ text_of_blocks (sent_head left.head)) first.1 first.2 (f.client first.0 first.2))
+    (ap blocks_text is ∙ text_of_head (sent_head left.head)) first.1 first.2 (f.client first.0 first.2))

@@ -37,6 +37,12 @@ pub record IsRefused (code : ℕ) (one : One) : Type 0 where
   pub client : Spells true false (closing (refusal code)) one.to_client
   pub how : one.end ≡ end.Closed
 
+-- the client got the text of these blocks as a reply, and there was no server
+pub record IsAnswered (blocks : List Block) (one : One) : Type 0 where
+  pub server : one.to_server ≡ None
+  pub client : one.to_client ≡ blocks_text blocks
+  pub how : one.end ≡ end.Done
+
 -- the server got these blocks, and the client its answer
 pub record IsForwarded (blocks : List Block) (answer : List ℕ) (one : One) : Type 0 where
   pub server : one.to_server ≡ Some (blocks_text blocks)

@@ -1,24 +1,25 @@
 //! One exchange of the first form.
-ghost use Rattle.std.specs.Prelude.{◌≡◌, IfOk, OnOk, IsErrOf, Some, None};
-ghost use Rattle.std.specs.Prelude.{false};
+ghost use Rattle.std.specs.Prelude.{◌≡◌, ◌≤◌, ℕ, List, [], IfOk, OnOk, IsErrOf};
 ghost use Rattle.http_model.specs.Head.{Head, head_blocks};
+ghost use Rattle.http_model.specs.Sizes.{least_size};
 ghost use Rattle.http_rules.specs.Valid.{IsValid};
 ghost use Rattle.http_rules.specs.Run.{IsHead};
-ghost use Rattle.forward_core.specs.Ruled.{IsRuled};
+ghost use Rattle.forward_core.specs.Ruled.{ComesTo};
+ghost use Rattle.forward_core.specs.Client.{ReadsPlain};
 ghost use Rattle.session_model.specs.Session.{Session};
 ghost use Rattle.forward_core.specs.First.{meaning_of, IsFirstServer, closed};
-ghost use Rattle.std.specs.List.{list_any};
-ghost use Rattle.forward_core.specs.Unbuilt.{has_filters, has_later_rules, decides, IsUnbuilt};
+ghost use Rattle.forward_core.specs.Unbuilt.{has_filters, has_answer_rules, IsUnbuilt};
 
 use crate::answer::answer_text;
-use crate::ask::ask;
+use crate::ask::{Asked, ask};
 use crate::client::{ClientAsks, read_client};
-use crate::refusal::refusal_text;
-use crate::text::head_text;
+use crate::text::text_of;
 use http_model::{End, OutOfMemory};
-use http_rules::{Action, Config, Rule, Rules, Scratch, Searchers, Vars};
-use htx_arena::{Arena, Full};
+use http_rules::{Config, Scratch, Searchers, Vars};
+use htx_arena::Arena;
 use px_link::Bytes;
+use px_reply::laws::replies_of_messages;
+use px_reply::{add_close, refusal};
 use std::alloc::Global;
 
 /// What one exchange puts out: the text of the server, where one was opened, the client's text, and how the session
@@ -49,7 +50,7 @@ impl From<OutOfMemory> for ExchangeFault {
     }
 }
 
-ghost use Rattle.forward_core.specs.Out.{servers_by, out_of_one, IsRefused, IsForwarded};
+ghost use Rattle.forward_core.specs.Out.{servers_by, out_of_one, IsRefused, IsAnswered, IsForwarded};
 
 /// Whether bodies pass through a filter.
 fn has_filters(cfg: &Config) -> bool
@@ -58,60 +59,37 @@ fn has_filters(cfg: &Config) -> bool
     cfg.filter_count() != 0
 }
 
-/// Whether a rule decides by itself what the client is sent.
-fn rule_decides(rule: &Rule) -> bool
-    ensures { result ≡ decides rule.now }
+/// Whether rules run on what the client is sent.
+fn has_answer_rules(cfg: &Config) -> bool
+    ensures { result ≡ has_answer_rules cfg.now }
 {
-    match &rule.action {
-        Action::Deny(_) | Action::Redirect { .. } | Action::Return { .. } => true,
-        Action::Allow
-        | Action::AddHeader(_, _)
-        | Action::SetHeader(_, _)
-        | Action::DelHeader(_)
-        | Action::ReplaceHeader(_, _, _)
-        | Action::ReplaceValue(_, _, _)
-        | Action::SetMethod(_)
-        | Action::SetPath(_)
-        | Action::SetPathq(_)
-        | Action::SetUri(_)
-        | Action::SetQuery(_)
-        | Action::ReplacePath(_, _)
-        | Action::ReplacePathq(_, _)
-        | Action::ReplaceUri(_, _)
-        | Action::SetStatus(_, _)
-        | Action::SetVar(_, _, _)
-        | Action::UnsetVar(_, _)
-        | Action::StrictMode(_) => false,
-    }
+    cfg.answer_rule_count() != 0
 }
 
-/// Whether some rule does.
-fn any_decides(rules: &Rules) -> bool
-    ensures { result ≡ list_any decides rules.now }
-{
-    for at in 0..rules.len() {
-        if rule_decides(rules.get(at)) {
-            return true;
-        }
-    }
-    false
-}
-
-/// Whether rules run on what the client is sent, or a rule of requests decides that.
-fn has_later_rules(cfg: &Config) -> bool
-    ensures { result ≡ has_later_rules cfg.now }
-{
-    cfg.answer_rule_count() != 0 || any_decides(&cfg.request)
-}
-
-/// A refusal, with no server.
-fn refuse(alloc: Global, code: u16) -> Result<One, OutOfMemory>
+/// A refusal, with no server. It is made in the array, which is empty.
+fn refuse(alloc: Global, code: u16, reply: &mut Arena) -> Result<One, OutOfMemory>
+    requires least { least_size ≤ reply.old.size }
+    requires empty { reply.old.blocks ≡ [] }
     ensures { IfOk result (IsRefused code) }
+{
+    replies_of_messages();
+    refusal(code, reply);
+    add_close(reply).unwrap();
+    Ok(One {
+        to_server: None,
+        to_client: text_of(alloc, reply)?,
+        end: End::Closed,
+    })
+}
+
+/// The reply in the array, with no server. The connection is kept behind it.
+fn answer(alloc: Global, reply: &Arena) -> Result<One, OutOfMemory>
+    ensures { IfOk result (IsAnswered reply.now.blocks) }
 {
     Ok(One {
         to_server: None,
-        to_client: refusal_text(alloc, code)?,
-        end: End::Closed,
+        to_client: text_of(alloc, reply)?,
+        end: End::Done,
     })
 }
 
@@ -121,24 +99,30 @@ fn forward(alloc: Global, msg: &Arena, server: &[u8]) -> Result<One, OutOfMemory
     ensures { IfOk result (IsForwarded msg.now.blocks server.now) }
 {
     Ok(One {
-        to_server: Some(head_text(alloc, msg)?),
+        to_server: Some(text_of(alloc, msg)?),
         to_client: answer_text(alloc, server)?,
         end: End::Done,
     })
 }
 
 /// What the rules and the finish make of a head, with no variable set before.
-fn ask_fresh(alloc: Global, cfg: &Config, msg: &mut Arena) -> Result<Result<(), Full>, OutOfMemory>
+fn ask_fresh(
+    alloc: Global,
+    cfg: &Config,
+    msg: &mut Arena,
+    reply: &mut Arena,
+) -> Result<Asked, OutOfMemory>
     requires size { msg.old.size ≡ cfg.now.limits.bufsize }
     requires valid { IsValid cfg.now }
-    requires plain { list_any decides cfg.now.request ≡ false }
     requires head { IsHead msg.old.blocks }
-    ensures { IfOk result (λ asked. (head : Head) → msg.old.blocks ≡ head_blocks head → IsRuled cfg.now head msg.new.blocks asked) }
+    requires reply_size { reply.old.size ≡ msg.old.size }
+    requires no_reply { reply.old.blocks ≡ [] }
+    ensures asked { IfOk result (λ asked. (head : Head) → msg.old.blocks ≡ head_blocks head → ComesTo cfg.now head asked msg.new.blocks reply.new.blocks) }
+    ensures reply_size { reply.new.size ≡ reply.old.size }
 {
     let mut searchers = Searchers::new(alloc);
     let mut vars = Vars::new(alloc)?;
     let mut scratch = Scratch::new(alloc, cfg.limits.bufsize)?;
-    let mut reply = Arena::new(alloc, cfg.limits.bufsize)?;
     ask(
         alloc,
         &mut searchers,
@@ -146,8 +130,33 @@ fn ask_fresh(alloc: Global, cfg: &Config, msg: &mut Arena) -> Result<Result<(), 
         msg,
         &mut vars,
         &mut scratch,
-        &mut reply,
+        reply,
     )
+}
+
+/// What becomes of a plain request whose blocks are in the first array; the second is empty.
+fn serve(
+    alloc: Global,
+    cfg: &Config,
+    msg: &mut Arena,
+    reply: &mut Arena,
+    server: &[u8],
+) -> Result<One, OutOfMemory>
+    requires size { msg.old.size ≡ cfg.now.limits.bufsize }
+    requires valid { IsValid cfg.now }
+    requires head { IsHead msg.old.blocks }
+    requires reply_size { reply.old.size ≡ msg.old.size }
+    requires no_reply { reply.old.blocks ≡ [] }
+    requires server { IsFirstServer server.now }
+    ensures { IfOk result (λ one. (client : List ℕ) → ReadsPlain cfg.now.limits client msg.old.blocks
+        → Session (meaning_of cfg.now) (closed client) (servers_by one.to_server server.now) (out_of_one one)) }
+{
+    let asked = ask_fresh(alloc, cfg, msg, reply)?;
+    match asked {
+        Asked::Sends => forward(alloc, msg, server),
+        Asked::Refuses(code) => refuse(alloc, code, reply),
+        Asked::Replies => answer(alloc, reply),
+    }
 }
 
 /// One exchange, which is the whole session: the client's bytes are one request, and the server's are one answer.
@@ -170,19 +179,14 @@ pub fn one_exchange(
     if has_filters(cfg) {
         return Err(ExchangeFault::Unbuilt);
     }
-    if has_later_rules(cfg) {
+    if has_answer_rules(cfg) {
         return Err(ExchangeFault::Unbuilt);
     }
     let mut msg = Arena::new(alloc, cfg.limits.bufsize)?;
+    let mut reply = Arena::new(alloc, cfg.limits.bufsize)?;
     match read_client(client, cfg.limits, &mut msg) {
         ClientAsks::Unserved => Err(ExchangeFault::Unbuilt),
-        ClientAsks::Refused(code) => Ok(refuse(alloc, code)?),
-        ClientAsks::Plain => {
-            let asked = ask_fresh(alloc, cfg, &mut msg)?;
-            match asked {
-                Ok(()) => Ok(forward(alloc, &msg, server)?),
-                Err(_) => Ok(refuse(alloc, 500)?),
-            }
-        }
+        ClientAsks::Refused(code) => Ok(refuse(alloc, code, &mut reply)?),
+        ClientAsks::Plain => Ok(serve(alloc, cfg, &mut msg, &mut reply, server)?),
     }
 }

@@ -5,7 +5,6 @@ mod answer;
 mod ask;
 mod client;
 mod exchange;
-mod refusal;
 mod text;
 
 pub use exchange::{ExchangeFault, One, one_exchange};

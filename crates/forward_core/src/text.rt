@@ -1,4 +1,4 @@
-//! The text of a head, and of its parts (RFC 9112 sections 3 to 5).
+//! The text of a message, and of its parts (RFC 9112 sections 3 to 6).
 ghost use Rattle.std.specs.Prelude.{◌≡◌, ◌<◌, ◌++◌, length, codes, IfOk, OnOk, []};
 ghost use Rattle.http_model.specs.Spelling.{line_text, field_text};
 ghost use Rattle.http_model.specs.Head.{StatusLine, RequestLine};
@@ -22,7 +22,7 @@ fn push_request_line(text: &mut Vec<u8>, method: &[u8], target: &[u8]) -> Result
 }
 
 /// Puts a status line behind the text.
-pub fn push_status_line(text: &mut Vec<u8>, status: &[u8], reason: &[u8]) -> Result<(), OutOfMemory>
+fn push_status_line(text: &mut Vec<u8>, status: &[u8], reason: &[u8]) -> Result<(), OutOfMemory>
     ensures { OnOk result (text.new.items ≡ text.old.items ++ line_text (StatusLine [] status.now reason.now)) }
 {
     text.extend_from_slice(b"HTTP/1.1 ")?;
@@ -34,7 +34,7 @@ pub fn push_status_line(text: &mut Vec<u8>, status: &[u8], reason: &[u8]) -> Res
 }
 
 /// Puts a field line behind the text.
-pub fn push_field(text: &mut Vec<u8>, name: &[u8], value: &[u8]) -> Result<(), OutOfMemory>
+fn push_field(text: &mut Vec<u8>, name: &[u8], value: &[u8]) -> Result<(), OutOfMemory>
     ensures { OnOk result (text.new.items ≡ text.old.items ++ field_text (name.now, value.now)) }
 {
     text.extend_from_slice(name)?;
@@ -63,12 +63,16 @@ fn push_block(text: &mut Vec<u8>, msg: &Arena, at: u32) -> Result<(), OutOfMemor
             text.extend_from_slice(b"\r\n")?;
             Ok(())
         }
-        Kind::Data | Kind::Trailer | Kind::EndTrailers => Ok(()),
+        Kind::Data => {
+            text.extend_from_slice(msg.value(at))?;
+            Ok(())
+        }
+        Kind::Trailer | Kind::EndTrailers => Ok(()),
     }
 }
 
-/// The text of a head in an array. A block's text is no longer than what the block weighs.
-pub fn head_text(alloc: Global, msg: &Arena) -> Result<Bytes, OutOfMemory>
+/// The text of a message in an array that has no chunks. A block's text is no longer than what the block weighs.
+pub fn text_of(alloc: Global, msg: &Arena) -> Result<Bytes, OutOfMemory>
     ensures { IfOk result (λ text. text ≡ blocks_text msg.now.blocks) }
 {
     let mut text = Vec::with_capacity(alloc, msg.load() as usize)?;

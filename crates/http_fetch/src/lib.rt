@@ -10,3 +10,4 @@ mod param;
 mod place;
 
 pub use env::{ReqEnv, ResEnv};
+pub use line::host_in;

@@ -57,8 +57,8 @@ fn pathq_of(target: &[u8]) -> Found<'_>
     }
 }
 
-/// The first Host value.
-fn host_in(msg: &Arena) -> &[u8]
+/// The first Host value of a message; nothing where there is none (RFC 9110 section 7.2).
+pub fn host_in(msg: &Arena) -> &[u8]
     ensures { result.now ≡ spec.host_in msg.now.blocks }
 {
     match nth_value(msg, b"host", 0) {

@@ -105,7 +105,7 @@ pub record Reached (side : Side) (size : ℕ) (rules : List Rule) (env : Env) (a
 pub begins : (side : Side) (size : ℕ) (rules : List Rule) (env : Env) (blocks : List Block) (vars : Variables) → IsAt side env blocks vars → Reached side size rules env 0 true blocks vars
 begins side size rules env blocks vars at = record { now = env; at_now = at; left = refl }
 
-first_rule : (size : ℕ) (rules : List Rule) (at : ℕ) (rule : Rule) (strict : Bool) (now : Env) → slice_get rules at ≡ Some rule
+pub first_rule : (size : ℕ) (rules : List Rule) (at : ℕ) (rule : Rule) (strict : Bool) (now : Env) → slice_get rules at ≡ Some rule
     → walk size (drop at rules) strict now ≡ by_rule size rule strict now (walk size (drop (suc at) rules))
 first_rule size rules at rule strict now is = ap (λ (rs : List Rule). walk size rs strict now) (drop_get rules at rule is)
 
@@ -170,7 +170,3 @@ head_front blocks h = (h.0, [], h.1 ∙ sym (append-nil (head_blocks h.0)))
 pub good_actions : (direction : Direction) (rules : List Rule) → AllByRecursion (IsGoodRule direction) rules → AllByRecursion (λ (rule : Rule). IsGoodAction rule.action) rules
 good_actions direction [] all = tt
 good_actions direction (rule ∷ rules) all = (all.0.good, good_actions direction rules all.1)
-
--- no reply was written
-pub no_reply : (side : Side) (comes : Comes) (verdict : Answered) (blocks : List Block) (vars : Variables) (reply : List Block) → reply ≡ [] → Leaves side comes verdict blocks vars [] → Leaves side comes verdict blocks vars reply
-no_reply side comes verdict blocks vars reply none h = subst (λ (bs : List Block). Leaves side comes verdict blocks vars bs) (sym none) h

@@ -8,30 +8,7 @@ use Rattle.rule_model.specs.declared.action.Action.TheVariants as actions
 use Rattle.rule_model.specs.declared.rule.Rule.{Rule}
 use Rattle.rule_actions.specs.Given.{Env, holds_on}
 use Rattle.rule_actions.specs.Acts.{Act, Next, Stop, Replies, Denies, Fails, act}
-
--- the action answers by itself, so that a failure of its is never passed over
-abbrev pub answers : Action → Bool
-answers actions.Allow = false
-answers (actions.Deny code) = false
-answers (actions.AddHeader name fmt) = false
-answers (actions.SetHeader name fmt) = false
-answers (actions.DelHeader by) = false
-answers (actions.ReplaceHeader name pat fmt) = false
-answers (actions.ReplaceValue name pat fmt) = false
-answers (actions.SetMethod fmt) = false
-answers (actions.SetPath fmt) = false
-answers (actions.SetPathq fmt) = false
-answers (actions.SetUri fmt) = false
-answers (actions.SetQuery fmt) = false
-answers (actions.ReplacePath pat fmt) = false
-answers (actions.ReplacePathq pat fmt) = false
-answers (actions.ReplaceUri pat fmt) = false
-answers (actions.SetStatus code reason) = false
-answers (actions.Redirect to code drop_query append_slash) = true
-answers (actions.Return status content_type payload hdrs) = true
-answers (actions.SetVar scope name expr) = false
-answers (actions.UnsetVar scope name) = false
-answers (actions.StrictMode on) = false
+pub use Rattle.rule_actions.specs.Answering.{answers}
 
 -- the mode behind an action
 abbrev pub mode_after : (strict : Bool) → Action → Bool

@@ -1,21 +1,27 @@
 -- What a run of rules leaves in arrays and variables.
-use Rattle.std.specs.Prelude.{◌≡◌, ℕ, List, [], Bool, not, ◌&&◌, if◌then◌else◌}
+use Rattle.std.specs.Prelude.{◌≡◌, ℕ, List, [], Bool, true, not, ◌&&◌, slice_get, Some, if◌then◌else◌}
 use Rattle.http_model.specs.Block.{Block}
-use Rattle.http_model.specs.Head.{Head, head_blocks, message_blocks}
+use Rattle.http_model.specs.Head.{message_blocks}
 use Rattle.session_model.specs.Env.{Verdict, Pass, Reply, Deny, Fail}
 use Rattle.px_sample.specs.Variables.{Variables}
 use Rattle.rule_model.specs.declared.action.Action.{Action}
 use Rattle.rule_model.specs.declared.rule.Rule.{Rule}
 use Rattle.rule_actions.specs.declared.act.Acted.{Acted}
 use Rattle.rule_actions.specs.declared.act.Acted.TheVariants as acted
+use Rattle.rule_actions.specs.declared.stepped.Stepped.{Stepped}
+use Rattle.rule_actions.specs.declared.stepped.Stepped.TheVariants.{Done, Failed}
+use Rattle.rule_actions.specs.Acts.{act}
 use Rattle.rule_actions.specs.Given.{Env}
 use Rattle.rule_actions.specs.Outcome.{IsAt}
 use Rattle.rule_actions.specs.declared.side.Side.{Side}
+pub use Rattle.rule_actions.specs.Written.{IsHead}
 use Rattle.http_rules.specs.declared.verdict.Verdict.{Verdict as Answer}
 use Rattle.http_rules.specs.declared.verdict.Verdict.TheVariants as verdicts
 use Rattle.http_rules.specs.declared.verdict.Ruled.{Ruled}
-use Rattle.http_rules.specs.declared.verdict.Ruled.TheVariants.{Goes, Ends}
-use Rattle.http_rules.specs.Rules.{Comes, by_rule, answers, mode_after}
+use Rattle.http_rules.specs.declared.verdict.Ruled.TheVariants.{Goes, Ends, Answers}
+use Rattle.http_rules.specs.declared.verdict.Ended.{Ended}
+use Rattle.http_rules.specs.declared.verdict.Ended.TheVariants.{With, Answering}
+use Rattle.http_rules.specs.Rules.{Comes, by_rule, answers, mode_after, runs, behind, rules_of}
 
 -- The verdict is this one. What stands in the array and in the variables is the environment of that moment, after a failure the
 -- one in front of the failing step; a reply stands in its own array, which is empty otherwise.
@@ -45,10 +51,6 @@ ruled_by strict action acted.Reply = Ends verdicts.Reply
 ruled_by strict action (acted.Deny code) = Ends (verdicts.Deny code)
 ruled_by strict action (acted.Failed why) = if not strict && not (answers action) then Goes strict else Ends (verdicts.Fail why)
 
--- the blocks are those of a head
-abbrev pub IsHead : List Block → Type 0
-IsHead blocks = (head : Head) × (blocks ≡ head_blocks head)
-
 -- one rule goes on, so the others decide on the environment that it leaves
 pub record GoesOn (side : Side) (size : ℕ) (rule : Rule) (strict : Bool) (env : Env) (mode : Bool) (blocks : List Block) (vars : Variables) (reply : List Block) : Type 0 where
   pub next : Env
@@ -62,7 +64,43 @@ pub record EndsRules (side : Side) (size : ℕ) (rule : Rule) (strict : Bool) (e
   pub leaves : Leaves side comes verdict blocks vars reply
   pub whatever : (rest : Bool → Env → Comes) → by_rule size rule strict env rest ≡ comes
 
+-- one rule runs on this environment and answers by itself
+pub record IsAsked (side : Side) (size : ℕ) (rule : Rule) (env : Env) (blocks : List Block) (vars : Variables) : Type 0 where
+  pub answers_is : answers rule.action ≡ true
+  pub at : IsAt side env blocks vars
+  pub runs_is : runs size rule.cond env ≡ true
+
 -- what one rule came to
 abbrev pub RuleLeaves : Side → (size : ℕ) → Rule → (strict : Bool) → Env → Ruled → List Block → Variables → List Block → Type 0
 RuleLeaves side size rule strict env (Goes mode) blocks vars reply = GoesOn side size rule strict env mode blocks vars reply
 RuleLeaves side size rule strict env (Ends verdict) blocks vars reply = EndsRules side size rule strict env verdict blocks vars reply
+RuleLeaves side size rule strict env Answers blocks vars reply = IsAsked side size rule env blocks vars
+
+-- Rules came to one that answers by itself, on the environment that they left: the verdict is what it makes of that. Such an action
+-- never goes on, so what stands behind it does not matter.
+pub record Awaits (side : Side) (size : ℕ) (rules : List Rule) (env : Env) (action : Action) (blocks : List Block) (vars : Variables) : Type 0 where
+  pub left : Env
+  pub at_left : IsAt side left blocks vars
+  pub comes : rules_of size rules env ≡ behind true action left (act size action left) (λ mode next. Pass next)
+
+-- what a list of rules came to, before a reply is made
+abbrev pub EndsAt : Side → (size : ℕ) → List Rule → Env → Ended → List Block → Variables → Type 0
+EndsAt side size rules env (With verdict) blocks vars = Leaves side (rules_of size rules env) verdict blocks vars []
+EndsAt side size rules env (Answering action) blocks vars = Awaits side size rules env action.now blocks vars
+
+-- the action is that of one of the rules, and answers by itself
+pub record IsAnswer (rules : List Rule) (action : Action) : Type 0 where
+  pub at : ℕ
+  pub rule : Rule
+  pub there : slice_get rules at ≡ Some rule
+  pub is : action ≡ rule.action
+  pub answers_is : answers action ≡ true
+
+abbrev pub AnswersAt : List Rule → Ended → Type 0
+AnswersAt rules (With verdict) = Unit {0}
+AnswersAt rules (Answering action) = IsAnswer rules action.now
+
+-- what the step of an action that answers means for the rules
+abbrev pub verdict_by : Stepped → Answer
+verdict_by Done = verdicts.Reply
+verdict_by (Failed why) = verdicts.Fail why

@@ -12,7 +12,6 @@ use Rattle.rule_model.specs.declared.names.Direction.TheVariants as directions
 use Rattle.rule_model.specs.declared.names.Direction.{Direction}
 use Rattle.rule_model.specs.declared.rule.Rule.{Rule}
 use Rattle.rule_model.specs.Valid.{AreRules}
-use Rattle.rule_actions.specs.Acts.{is_built}
 use Rattle.http_rules.specs.declared.config.Config.{Config}
 
 -- sizes within their limits, of which a received head leaves at least 512 bytes
@@ -43,22 +42,13 @@ pub record IsChain (chain : List FilterSpec) : Type 0 where
   pub few : length chain ≤ 8
   pub one : count_by is_replace chain ≤ 1
 
--- the action is one that is run today
-abbrev pub IsBuilt : Rule → Type 0
-IsBuilt rule = is_built rule.action ≡ true
-
--- rules of a direction that a configuration may have
-pub record AreRun (direction : Direction) (rules : List Rule) : Type 0 where
-  pub valid : AreRules direction rules
-  pub built : AllByRecursion IsBuilt rules
-
 pub record IsValid (config : Config) : Type 0 where
   pub limits : AreLimits config.limits
   pub bind_port : HasPort config.bind
   pub server_port : HasPort config.server
   pub server_host : HasHost config.server
-  pub request : AreRun directions.Request config.request
-  pub response : AreRun directions.Response config.response
-  pub after : AreRun directions.After config.after
+  pub request : AreRules directions.Request config.request
+  pub response : AreRules directions.Response config.response
+  pub after : AreRules directions.After config.after
   pub req_filters : IsChain config.req_filters
   pub res_filters : IsChain config.res_filters

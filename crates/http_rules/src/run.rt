@@ -4,51 +4,22 @@ ghost use Rattle.std.specs.List.{AllByRecursion};
 ghost use Rattle.http_model.specs.Head.{Head, head_blocks, front_blocks};
 ghost use Rattle.session_model.specs.Env.{request_env, response_env};
 ghost use Rattle.std.specs.Prelude.{List, ℕ};
-ghost use Rattle.rule_model.specs.Valid.{IsGoodAction};
+ghost use Rattle.rule_model.specs.Valid.{IsGoodAction, AreRules};
 ghost use Rattle.rule_model.specs.Patterns.{rules_hold_pattern, rule_holds_pattern, cond_holds_pattern};
 ghost use Rattle.rule_model.specs.declared.names.Direction.TheVariants as directions;
 ghost use Rattle.rule_actions.specs.Given.{Env};
 ghost use Rattle.rule_actions.specs.Outcome.{IsScratch, IsAt, IsFront};
 ghost use Rattle.http_rules.specs.Rules as spec;
-ghost use Rattle.http_rules.specs.Run.{Leaves, RuleLeaves, ruled_by, IsHead};
-ghost use Rattle.http_rules.specs.Valid.{AreRun, IsBuilt};
+ghost use Rattle.http_rules.specs.Run.{Leaves, RuleLeaves, EndsAt, AnswersAt, ruled_by, verdict_by, IsHead};
 ghost use Rattle.rule_actions.specs.declared.side.Side.TheVariants as sides;
 
-use crate::verdict::{Ruled, Verdict};
+use crate::verdict::{Ended, Ruled, Verdict};
 use htx_arena::Arena;
 use px_expr::Searchers;
 use px_sample::{OutOfMemory, Vars};
-use rule_actions::{Acted, Scratch, Side, is_met, run_action};
+use rule_actions::{Acted, Scratch, Side, Stepped, answers, is_met, run_action, run_reply};
 use rule_model::{Action, Rule, Rules};
 use std::alloc::Global;
-
-/// Whether the action answers by itself, so that a failure of its is never passed over.
-fn answers(action: &Action) -> bool
-    ensures { result ≡ spec.answers action.now }
-{
-    match action {
-        Action::Redirect { .. } | Action::Return { .. } => true,
-        Action::Allow
-        | Action::Deny(_)
-        | Action::AddHeader(_, _)
-        | Action::SetHeader(_, _)
-        | Action::DelHeader(_)
-        | Action::ReplaceHeader(_, _, _)
-        | Action::ReplaceValue(_, _, _)
-        | Action::SetMethod(_)
-        | Action::SetPath(_)
-        | Action::SetPathq(_)
-        | Action::SetUri(_)
-        | Action::SetQuery(_)
-        | Action::ReplacePath(_, _)
-        | Action::ReplacePathq(_, _)
-        | Action::ReplaceUri(_, _)
-        | Action::SetStatus(_, _)
-        | Action::SetVar(_, _, _)
-        | Action::UnsetVar(_, _)
-        | Action::StrictMode(_) => false,
-    }
-}
 
 /// The mode behind an action.
 fn mode_after(strict: bool, action: &Action) -> bool
@@ -133,7 +104,6 @@ fn run_rule<'c>(
     requires scratch { IsScratch msg.old.size scratch.old }
     requires front { IsFront msg.old.blocks }
     requires valid { IsGoodAction rule.now.action }
-    requires built { IsBuilt rule.now }
     ensures ruled { IfOk result (λ ruled. (env : Env) → IsAt side.entry env msg.old.blocks vars.old → RuleLeaves side.entry msg.old.size rule.now strict env ruled msg.new.blocks vars.new []) }
     ensures succeeds { rule_holds_pattern rule.now ≡ false → IsOk result }
     ensures size { msg.new.size ≡ msg.old.size }
@@ -142,11 +112,14 @@ fn run_rule<'c>(
     if !runs(alloc, searchers, rule, side, msg, vars, scratch)? {
         return Ok(Ruled::Goes(strict));
     }
+    if answers(&rule.action) {
+        return Ok(Ruled::Answers);
+    }
     let acted = run_action(alloc, searchers, &rule.action, side, msg, vars, scratch)?;
     Ok(outcome_of(strict, &rule.action, acted))
 }
 
-/// Runs rules in their order. The first one that does not go on decides.
+/// Runs rules in their order. The first one that does not go on decides, or is to be answered by.
 fn run_rules<'c>(
     alloc: Global,
     searchers: &mut Searchers<'c>,
@@ -155,12 +128,12 @@ fn run_rules<'c>(
     msg: &mut Arena,
     vars: &mut Vars,
     scratch: &mut Scratch,
-) -> Result<Verdict, OutOfMemory>
+) -> Result<Ended<'c>, OutOfMemory>
     requires scratch { IsScratch msg.old.size scratch.old }
     requires front { IsFront msg.old.blocks }
     requires good { AllByRecursion (λ rule. IsGoodAction rule.action) rules.now }
-    requires built { AllByRecursion IsBuilt rules.now }
-    ensures leaves { IfOk result (λ verdict. (env : Env) → IsAt side.entry env msg.old.blocks vars.old → Leaves side.entry (spec.rules_of msg.old.size rules.now env) verdict msg.new.blocks vars.new []) }
+    ensures leaves { IfOk result (λ ended. (env : Env) → IsAt side.entry env msg.old.blocks vars.old → EndsAt side.entry msg.old.size rules.now env ended msg.new.blocks vars.new) }
+    ensures answers { IfOk result (AnswersAt rules.now) }
     ensures succeeds { rules_hold_pattern rules.now ≡ false → IsOk result }
     ensures size { msg.new.size ≡ msg.old.size }
     ensures scratch { IsScratch msg.old.size scratch.new }
@@ -171,13 +144,55 @@ fn run_rules<'c>(
         let outcome = run_rule(alloc, searchers, rule, strict, side, msg, vars, scratch)?;
         match outcome {
             Ruled::Goes(mode) => strict = mode,
-            Ruled::Ends(verdict) => return Ok(verdict),
+            Ruled::Ends(verdict) => return Ok(Ended::With(verdict)),
+            Ruled::Answers => return Ok(Ended::Answering(&rule.action)),
         }
     }
-    Ok(Verdict::Pass)
+    Ok(Ended::With(Verdict::Pass))
 }
 
-/// Runs the rules of requests on a head. Pass leaves the edited head; Reply would leave a reply in its own array, without a field that
+/// What the step of an action that answers means for the rules.
+fn verdict_by(step: Stepped) -> Verdict
+    ensures { result ≡ verdict_by step }
+{
+    match step {
+        Stepped::Done => Verdict::Reply,
+        Stepped::Failed(why) => Verdict::Fail(why),
+    }
+}
+
+/// Runs rules that may answer by themselves; a reply comes into its own array.
+fn run_all<'c>(
+    alloc: Global,
+    searchers: &mut Searchers<'c>,
+    rules: &'c Rules,
+    side: Side<'_>,
+    msg: &mut Arena,
+    vars: &mut Vars,
+    scratch: &mut Scratch,
+    reply: &mut Arena,
+) -> Result<Verdict, OutOfMemory>
+    requires scratch { IsScratch msg.old.size scratch.old }
+    requires front { IsFront msg.old.blocks }
+    requires reply_size { reply.old.size ≡ msg.old.size }
+    requires no_reply { reply.old.blocks ≡ [] }
+    requires good { AllByRecursion (λ rule. IsGoodAction rule.action) rules.now }
+    ensures leaves { IfOk result (λ verdict. (env : Env) → IsAt side.entry env msg.old.blocks vars.old → Leaves side.entry (spec.rules_of msg.old.size rules.now env) verdict msg.new.blocks vars.new reply.new.blocks) }
+    ensures succeeds { rules_hold_pattern rules.now ≡ false → IsOk result }
+    ensures size { msg.new.size ≡ msg.old.size }
+    ensures scratch { IsScratch msg.old.size scratch.new }
+    ensures reply_size { reply.new.size ≡ reply.old.size }
+{
+    match run_rules(alloc, searchers, rules, side, msg, vars, scratch)? {
+        Ended::With(verdict) => Ok(verdict),
+        Ended::Answering(action) => {
+            let step = run_reply(alloc, searchers, action, side, msg, vars, scratch, reply)?;
+            Ok(verdict_by(step))
+        }
+    }
+}
+
+/// Runs the rules of requests on a head. Pass leaves the edited head; Reply leaves a reply in its own array, without a field that
 /// speaks of the connection; Fail leaves the head in front of the step that failed.
 pub fn run_request<'c>(
     alloc: Global,
@@ -192,14 +207,23 @@ pub fn run_request<'c>(
     requires head { IsHead msg.old.blocks }
     requires reply_size { reply.old.size ≡ msg.old.size }
     requires no_reply { reply.old.blocks ≡ [] }
-    requires valid { AreRun directions.Request rules.now }
+    requires valid { AreRules directions.Request rules.now }
     ensures runs { IfOk result (λ verdict. (head : Head) → msg.old.blocks ≡ head_blocks head → Leaves sides.Request (spec.rules_of msg.old.size rules.now (request_env vars.old head)) verdict msg.new.blocks vars.new reply.new.blocks) }
     ensures succeeds { rules_hold_pattern rules.now ≡ false → IsOk result }
     ensures size { msg.new.size ≡ msg.old.size }
     ensures scratch { IsScratch msg.old.size scratch.new }
     ensures reply_size { reply.new.size ≡ reply.old.size }
 {
-    run_rules(alloc, searchers, rules, Side::Request, msg, vars, scratch)
+    run_all(
+        alloc,
+        searchers,
+        rules,
+        Side::Request,
+        msg,
+        vars,
+        scratch,
+        reply,
+    )
 }
 
 /// Runs the rules of responses on a head, which answers a request of this method. As `run_request`.
@@ -217,14 +241,14 @@ pub fn run_response<'c>(
     requires head { IsHead msg.old.blocks }
     requires reply_size { reply.old.size ≡ msg.old.size }
     requires no_reply { reply.old.blocks ≡ [] }
-    requires valid { AreRun directions.Response rules.now }
+    requires valid { AreRules directions.Response rules.now }
     ensures runs { IfOk result (λ verdict. (head : Head) → msg.old.blocks ≡ head_blocks head → Leaves (sides.Answer method.entry) (spec.rules_of msg.old.size rules.now (response_env vars.old method.now head)) verdict msg.new.blocks vars.new reply.new.blocks) }
     ensures succeeds { rules_hold_pattern rules.now ≡ false → IsOk result }
     ensures size { msg.new.size ≡ msg.old.size }
     ensures scratch { IsScratch msg.old.size scratch.new }
     ensures reply_size { reply.new.size ≡ reply.old.size }
 {
-    run_rules(
+    run_all(
         alloc,
         searchers,
         rules,
@@ -232,6 +256,7 @@ pub fn run_response<'c>(
         msg,
         vars,
         scratch,
+        reply,
     )
 }
 
@@ -248,19 +273,15 @@ pub fn run_after<'c>(
 ) -> Result<Verdict, OutOfMemory>
     requires scratch { IsScratch msg.old.size scratch.old }
     requires front { IsFront msg.old.blocks }
-    requires valid { AreRun directions.After rules.now }
+    requires valid { AreRules directions.After rules.now }
     ensures runs { IfOk result (λ verdict. (head : Head) (body : List ℕ) → msg.old.blocks ≡ front_blocks head body → Leaves (sides.Answer method.entry) (spec.rules_of msg.old.size rules.now (record { is_request = false; head = head; body = body; method = method.now; vars = vars.old })) verdict msg.new.blocks vars.new []) }
     ensures succeeds { rules_hold_pattern rules.now ≡ false → IsOk result }
     ensures size { msg.new.size ≡ msg.old.size }
     ensures scratch { IsScratch msg.old.size scratch.new }
 {
-    run_rules(
-        alloc,
-        searchers,
-        rules,
-        Side::Answer(method),
-        msg,
-        vars,
-        scratch,
-    )
+    let side = Side::Answer(method);
+    match run_rules(alloc, searchers, rules, side, msg, vars, scratch)? {
+        Ended::With(verdict) => Ok(verdict),
+        Ended::Answering(_) => unreachable!(),
+    }
 }

@@ -1,5 +1,6 @@
 //! What rules come to.
 use http_model::Why;
+use rule_model::Action;
 
 /// What rules make of a message.
 #[derive(Clone, Copy, Debug, PartialEq, Eq)]
@@ -21,4 +22,15 @@ pub(crate) enum Ruled {
     Goes(bool),
     /// No other one does.
     Ends(Verdict),
+    /// Nor here: it answers by itself, and its reply is to be made.
+    Answers,
+}
+
+/// What a list of rules came to, before a reply is made.
+#[derive(Clone, Copy)]
+pub(crate) enum Ended<'c> {
+    /// It needs no reply.
+    With(Verdict),
+    /// This action answers by itself.
+    Answering(&'c Action),
 }

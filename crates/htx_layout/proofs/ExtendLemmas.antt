@@ -1,5 +1,5 @@
 -- A block is put back with more bytes behind its first.
-use Rattle.std.proofs.Common.{refl, ◌≡◌, ℕ, zero, suc, ◌+◌, ◌*◌, ◌-◌, ◌^◌, ◌<◌, ◌≤◌, inl, inr, List, [], ◌∷◌, length, ap, sym, ◌∙◌, arith, set, sum_by}
+use Rattle.std.proofs.Common.{refl, ◌≡◌, ℕ, zero, suc, ◌+◌, ◌*◌, ◌-◌, ◌^◌, ◌<◌, ◌≤◌, inl, inr, List, [], ◌∷◌, ◌++◌, length, ap, sym, ◌∙◌, arith, set, subst, sum_by}
 use Rattle.std.specs.Prelude.{insert, remove}
 use Rattle.std.proofs.lemmas.Bool.{cases_lt}
 use Rattle.std.proofs.lemmas.List.Sums.{sum_by-cons}
@@ -11,6 +11,8 @@ use Rattle.htx_layout.specs.Raw.{Tells, addr_in, len_in, block_in, block_of, inf
 use Rattle.htx_layout.specs.Steps.{unlisted, placed}
 use Rattle.htx_layout.specs.Sound.{IsSound, end_of, IsTold, IsFilled, IsLaid}
 use Rattle.htx_layout.specs.Moves.{CanPlace, IsKept, IsOpen, IsSite}
+use Rattle.htx_layout.specs.Longer.{IsLonger, kept_bytes}
+use Rattle.htx_layout.specs.declared.longer.Longer.{Longer}
 use Rattle.htx_layout.specs.declared.scan.Spot.{Spot}
 use Rattle.htx_layout.proofs.RawLemmas.{had, length-unlisted, desc_at-placed_here, blocks_of-placed, addrs_of-placed, length-placed}
 use Rattle.htx_layout.proofs.EachLemmas.{payload_in-placed_here, can_place, IsLaid-placed, IsLaid-unlisted}
@@ -76,48 +78,55 @@ pub kept_self : (raw : List ℕ) (n : ℕ) → IsKept raw raw n
 kept_self raw n = record { size = refl; desc = λ j small. refl; payload = λ j small. refl }
 
 -- what holds once a block is put back whose bytes stand there
-pub record IsRelisted (raw new : List ℕ) (n i from kept : ℕ) : Type 0 where
+pub record IsRelisted (raw new : List ℕ) (n i : ℕ) (l : Longer) : Type 0 where
   pub laid : IsLaid new (n + 1) 0
-  pub blocks : blocks_of new (n + 1) ≡ insert (blocks_of raw n) i (block_of kept (window raw from (info_len kept)))
-  pub addrs : addrs_of new (n + 1) ≡ insert (addrs_of raw n) i from
-  pub len : len_in new i ≡ info_len kept
-  pub payload : payload_in new i ≡ window raw from (info_len kept)
+  pub blocks : blocks_of new (n + 1) ≡ insert (blocks_of raw n) i (block_of l.kept.0 (kept_bytes raw l))
+  pub addrs : addrs_of new (n + 1) ≡ insert (addrs_of raw n) i l.from
+  pub len : len_in new i ≡ info_len l.kept.0
+  pub payload : payload_in new i ≡ kept_bytes raw l
   pub size : length new ≡ length raw
 
-pub relisted : (raw : List ℕ) (n i from kept : ℕ) → IsSound raw n → IsTold raw n → IsFilled raw n → length raw ≤ 262144 → IsOpen raw n from (info_len kept) → i ≤ n → 0 < info_len kept → Tells kept (window raw from (info_len kept)) → kept < 2 ^ 32 →
-    IsRelisted raw (placed raw n i (record { addr = from; info = kept }) (window raw from (info_len kept))) n i from kept
-relisted raw n i from kept sound told filled most opens within some tells fits =
-    let d : Desc = record { addr = from; info = kept } in
-    let s : Spot = record { addr = from; front = 0 } in
-    let piece = window raw from (info_len kept) in
-    let room = opens.room in
-    let site = own_site raw n from (info_len kept) opens in
-    let long : length piece ≡ info_len kept = length-window raw from (info_len kept) (omega arith) in
-    let can = free_can raw raw n i (info_len kept) kept s sound (kept_self raw n) site within refl (omega arith) fits in
-    record {
-      laid = IsLaid-placed raw n i (info_len kept) kept 0 piece s site can told filled most (sym long) (omega arith) tells;
+pub can_relist : (raw : List ℕ) (n i : ℕ) (l : Longer) → IsLaid raw n 0 → IsOpen raw n l.from (info_len l.kept.0) → i ≤ n → l.from < 2 ^ 32 → l.kept.0 < 2 ^ 32 → CanPlace raw n i (record { addr = l.from; info = l.kept.0 }) (kept_bytes raw l)
+can_relist raw n i l laid opens within addr_fits info_fits = free_can raw raw n i (info_len l.kept.0) l.kept.0 (record { addr = l.from; front = 0 }) laid.sound (kept_self raw n) (own_site raw n l.from (info_len l.kept.0) opens) within refl addr_fits info_fits
+
+pub relisted : (raw new : List ℕ) (n i : ℕ) (l : Longer) → IsLaid raw n 0 → IsLonger raw l → IsOpen raw n l.from (info_len l.kept.0) → i ≤ n → l.from < 2 ^ 32 → l.kept.0 < 2 ^ 32 → new ≡ placed raw n i (record { addr = l.from; info = l.kept.0 }) (kept_bytes raw l) → IsRelisted raw new n i l
+relisted raw new n i l laid is opens within addr_fits info_fits now =
+    let d : Desc = record { addr = l.from; info = l.kept.0 } in
+    let s : Spot = record { addr = l.from; front = 0 } in
+    let piece = kept_bytes raw l in
+    let some = is.some in
+    let long : length piece ≡ info_len l.kept.0 = length-window raw l.from (info_len l.kept.0) is.source in
+    let can = can_relist raw n i l laid opens within addr_fits info_fits in
+    subst (λ (x : List ℕ). IsRelisted raw x n i l) (sym now) (record {
+      laid = IsLaid-placed raw n i (info_len l.kept.0) l.kept.0 0 piece s (own_site raw n l.from (info_len l.kept.0) opens) can laid.told laid.filled laid.most (sym long) (omega arith) is.kept_tells;
       blocks = blocks_of-placed raw n i d piece can;
       addrs = addrs_of-placed raw n i d piece can;
       len = ap (λ (e : Desc). info_len e.info) (desc_at-placed_here raw n i d piece can);
       payload = payload_in-placed_here raw n i i d piece can (desc_at-placed_here raw n i d piece can);
       size = length-placed raw n i d piece can;
-    }
+    })
+
+-- no payload lies across the beginning
+pub laid_zero : (raw : List ℕ) (n front : ℕ) → IsLaid raw n front → IsLaid raw n 0
+laid_zero raw n front laid = record { sound = laid.sound; told = laid.told; filled = laid.filled; parted = record { parted = λ j within. inr (omega arith) }; small = omega arith; most = laid.most }
 
 -- ---- a block that was taken out
 
-pub record IsGone (raw new : List ℕ) (n i front keep : ℕ) : Type 0 where
+pub record IsGone (raw new : List ℕ) (n i front : ℕ) (l : Longer) : Type 0 where
   pub laid : IsLaid new (n - 1) front
-  pub opens : IsOpen new (n - 1) (addr_in raw i) keep
-  pub own : window new (addr_in raw i) keep ≡ window raw (addr_in raw i) keep
+  pub opens : IsOpen new (n - 1) l.from (info_len l.kept.0)
+  pub longer : IsLonger new l
+  pub own : kept_bytes new l ≡ kept_bytes raw l
   pub size : length new ≡ length raw
 
-pub gone : (raw : List ℕ) (n i front keep : ℕ) → IsLaid raw n front → i < n → keep ≤ len_in raw i → IsGone raw (unlisted raw n i 1) n i front keep
-gone raw n i front keep laid small part =
-    let new = unlisted raw n i 1 in
+gone_is : (raw : List ℕ) (n i front : ℕ) (l : Longer) → IsLaid raw n front → i < n → IsLonger raw l → l.from ≡ addr_in raw i → info_len l.kept.0 ≤ len_in raw i → IsGone raw (unlisted raw n i 1) n i front l
+gone_is raw n i front l laid small is here part =
     let room = laid.sound.room in
     let long = length-unlisted raw n i 1 room (omega arith) in
     let ends = laid.sound.within i small in
     let piece = window raw (length raw - 8 * n) (8 * (n - i - 1)) in
+    let own : kept_bytes (unlisted raw n i 1) l ≡ kept_bytes raw l = window-overwritten_below raw (length raw - 8 * n + 8 * 1) piece l.from (info_len l.kept.0) (omega arith) (omega arith) in
+    let source = is.source in
     record {
       laid = IsLaid-unlisted raw n i 1 front laid (omega arith);
       opens = record {
@@ -132,10 +141,20 @@ gone raw n i front keep laid small part =
             let e = ap end_of old.same in
             let a = ap (λ (d : Desc). d.addr) old.same in
             elim (cases_lt j i) [
-              | inl lt ↦ let is = old.below lt in elim (laid.sound.apart old.number i (omega arith) small) [ inl h ↦ inr (omega arith) | inr h ↦ inl (omega arith) ]
-              | inr ge ↦ let is = old.above ge in elim (laid.sound.apart i old.number (omega arith) old.small) [ inl h ↦ inl (omega arith) | inr h ↦ inr (omega arith) ]
+              | inl lt ↦ let less = old.below lt in elim (laid.sound.apart old.number i (omega arith) small) [ inl h ↦ inr (omega arith) | inr h ↦ inl (omega arith) ]
+              | inr ge ↦ let less = old.above ge in elim (laid.sound.apart i old.number (omega arith) old.small) [ inl h ↦ inl (omega arith) | inr h ↦ inr (omega arith) ]
             ];
       };
-      own = window-overwritten_below raw (length raw - 8 * n + 8 * 1) piece (addr_in raw i) keep (omega arith) (omega arith);
+      longer = record {
+        source = omega arith;
+        some = is.some;
+        kept_tells = subst (Tells l.kept.0) (sym own) is.kept_tells;
+        len = is.len;
+        tells = subst (λ (p : List ℕ). Tells l.info.0 (p ++ l.more.now)) (sym own) is.tells;
+      };
+      own = own;
       size = long;
     }
+
+pub gone : (raw new : List ℕ) (n i front : ℕ) (l : Longer) → IsLaid raw n front → i < n → IsLonger raw l → l.from ≡ addr_in raw i → info_len l.kept.0 ≤ len_in raw i → new ≡ unlisted raw n i 1 → IsGone raw new n i front l
+gone raw new n i front l laid small is here part now = subst (λ (x : List ℕ). IsGone raw x n i front l) (sym now) (gone_is raw n i front l laid small is here part)

@@ -13,6 +13,8 @@ use Rattle.htx_layout.specs.Raw.{Tells, Describes, info_len, addr_in, len_in, bl
 use Rattle.htx_layout.specs.Sound.{IsLaid, IsTop, end_of}
 use Rattle.htx_layout.specs.Place.{stays}
 use Rattle.htx_layout.specs.Moves.{IsRenewed}
+use Rattle.htx_layout.specs.Longer.{IsLonger, kept_bytes}
+use Rattle.htx_layout.specs.declared.longer.Longer.{Longer}
 use Rattle.htx_layout.proofs.RawLemmas.{length-listed}
 use Rattle.htx_layout.proofs.TellLemmas.{length-payload_in, len_told}
 use Rattle.htx_layout.proofs.CodeLemmas.{IsMade}
@@ -39,7 +41,7 @@ more_small a s i k whole view h fits =
 
 -- where they may stay is asked of the array's bytes
 pub stays_seen : (a : Inside) (s : Contents) (i k : ℕ) → IsWhole a → seen_of a ≡ s → i < length s.blocks →
-    stays (length a.space) (blocks_of a.space a.count) (addrs_of a.space a.count) a.front (addr_in a.space i + payload_len (block_in a.space i)) k ≡ stays s.size s.blocks s.addrs s.front (get_or s.addrs i 0 + payload_len (block_at s.blocks i)) k
+    stays (length a.space) (blocks_of a.space a.count) (addrs_of a.space a.count) a.ends.front (addr_in a.space i + payload_len (block_in a.space i)) k ≡ stays s.size s.blocks s.addrs s.front (get_or s.addrs i 0 + payload_len (block_at s.blocks i)) k
 stays_seen a s i k whole view h =
     let t = at a s i whole view h in
     ap (λ (x : Contents). stays x.size x.blocks x.addrs x.front (addr_in a.space i + payload_len (block_in a.space i)) k) view ∙ (λ j. stays s.size s.blocks s.addrs s.front (sym t.addr j + payload_len (sym t.block j)) k)
@@ -52,9 +54,9 @@ may_extend a s i info k f whole view h sum stay =
     let n = a.count in
     let len = t.len in
     let end_is : get_or s.addrs i 0 + payload_len (block_at s.blocks i) ≡ end_of (desc_at raw i) = λ j. t.addr j + t.len j in
-    let seen : stays (length raw) (blocks_of raw n) (addrs_of raw n) a.front (end_of (desc_at raw i)) k ≡ Some f =
+    let seen : stays (length raw) (blocks_of raw n) (addrs_of raw n) a.ends.front (end_of (desc_at raw i)) k ≡ Some f =
     ap (λ (x : Contents). stays x.size x.blocks x.addrs x.front (end_of (desc_at raw i)) k) view ∙ ap (λ (e : ℕ). stays s.size s.blocks s.addrs s.front e k) (sym end_is) ∙ stay in
-    stays_grows raw n a.front i info k f whole.laid t.small (omega arith) seen
+    stays_grows raw n a.ends.front i info k f whole.laid t.small (omega arith) seen
 
 -- all bytes of a payload were kept
 kept_all : (a : Inside) (s : Contents) (i keep : ℕ) (more piece : List ℕ) → IsWhole a → seen_of a ≡ s → i < length s.blocks → keep ≡ len_in a.space i → more ≡ piece → take keep (payload_in a.space i) ++ more ≡ payload_in a.space i ++ piece
@@ -64,7 +66,7 @@ kept_all a s i keep more piece whole view h e f =
     (λ j. take (e j) (payload_in a.space i) ++ f j) ∙ ap (λ (p : List ℕ). p ++ piece) (take_all (len_in a.space i) (payload_in a.space i) (omega arith))
 
 pub record IsExtended (a : Inside) (s : Contents) (i info f : ℕ) (piece new : List ℕ) : Type 0 where
-  pub whole : (l t : ℕ) → l ≡ a.load + length piece → t ≡ max a.top (addr_in a.space i + info_len info) → IsWhole (record { space = new; count = a.count; load = l; front = f; top = t })
+  pub whole : (l t : ℕ) → l ≡ a.load + length piece → t ≡ max a.ends.top (addr_in a.space i + info_len info) → IsWhole (record { space = new; count = a.count; load = l; ends = record { front = f; top = t } })
   pub blocks : blocks_of new a.count ≡ set s.blocks i (block_of info (payload_of (block_at s.blocks i) ++ piece))
   pub size : length new ≡ s.size
   pub addrs : addrs_of new a.count ≡ s.addrs
@@ -85,11 +87,11 @@ extended a s i info f keep more piece new whole view h sum stay told fits keeps 
     let tells : Tells info payload = subst (λ (p : List ℕ). Tells info (p ++ piece)) t.bytes told in
     let len = t.len in
     let some = laid.filled.filled i t.small in
-    let laid1 = renewed_laid raw new n i f a.front d payload g.can is tells (omega arith) laid g.others g.own g.small in
+    let laid1 = renewed_laid raw new n i f a.ends.front d payload g.can is tells (omega arith) laid g.others g.own g.small in
     let blocks = renewed_blocks raw new n i d payload t.small is in
     let addrs = stayed_addrs raw new n i info payload is in
     let made = tells.len in
-    let topped : IsTop new n (max a.top (addr_in raw i + info_len info)) = subst (λ (k : ℕ). IsTop new n (max a.top (addr_in raw i + k))) made (top_longer raw new n i a.top f (block_of info payload) laid.told whole.topped t.small blocks addrs (omega arith) laid1) in
+    let topped : IsTop new n (max a.ends.top (addr_in raw i + info_len info)) = subst (λ (k : ℕ). IsTop new n (max a.ends.top (addr_in raw i + k))) made (top_longer raw new n i a.ends.top f (block_of info payload) laid.told whole.topped t.small blocks addrs (omega arith) laid1) in
     let size = is.size in
     let loaded = num.loaded in
     let whole_size = num.size in
@@ -103,9 +105,9 @@ extended a s i info f keep more piece new whole view h sum stay told fits keeps 
 -- ---- no more bytes
 
 pub record IsRewritten (a : Inside) (s : Contents) (i keep info : ℕ) (more new : List ℕ) : Type 0 where
-  pub laid : IsLaid new a.count a.front
-  pub stayed : end_of (desc_at a.space i) < a.top → IsTop new a.count a.top
-  pub whole : (l t : ℕ) → l + len_in a.space i ≡ a.load + info_len info → IsTop new a.count t → IsWhole (record { space = new; count = a.count; load = l; front = a.front; top = t })
+  pub laid : IsLaid new a.count a.ends.front
+  pub stayed : end_of (desc_at a.space i) < a.ends.top → IsTop new a.count a.ends.top
+  pub whole : (l t : ℕ) → l + len_in a.space i ≡ a.load + info_len info → IsTop new a.count t → IsWhole (record { space = new; count = a.count; load = l; ends = record { front = a.ends.front; top = t } })
   pub blocks : blocks_of new a.count ≡ set s.blocks i (block_of info (take keep (payload_of (block_at s.blocks i)) ++ more))
   pub size : length new ≡ s.size
   pub addrs : addrs_of new a.count ≡ s.addrs
@@ -122,8 +124,8 @@ rewritten a s i keep info more new whole view h shorter some told is =
     let payload = take keep (payload_in raw i) ++ more in
     let tells : Tells info payload = subst (λ (p : List ℕ). Tells info (take keep p ++ more)) t.bytes told in
     let can = within_own raw n i d laid.sound laid.most t.small (omega arith) (omega arith) in
-    let own : (end_of d ≤ a.front) ⊎ (a.front ≤ d.addr) = elim (laid.parted.parted i t.small) [ inl h ↦ inl (omega arith) | inr h ↦ inr (omega arith) ] in
-    let laid1 = renewed_laid raw new n i a.front a.front d payload can is tells some laid (λ j small ne. laid.parted.parted j small) own laid.small in
+    let own : (end_of d ≤ a.ends.front) ⊎ (a.ends.front ≤ d.addr) = elim (laid.parted.parted i t.small) [ inl h ↦ inl (omega arith) | inr h ↦ inr (omega arith) ] in
+    let laid1 = renewed_laid raw new n i a.ends.front a.ends.front d payload can is tells some laid (λ j small ne. laid.parted.parted j small) own laid.small in
     let blocks = renewed_blocks raw new n i d payload t.small is in
     let addrs = stayed_addrs raw new n i info payload is in
     let made = tells.len in
@@ -132,8 +134,8 @@ rewritten a s i keep info more new whole view h shorter some told is =
     let weighs = t.weighs in
     record {
       laid = laid1;
-      stayed = λ below. top_shorter raw new n i a.top a.front (block_of info payload) laid.told whole.topped t.small blocks addrs (omega arith) laid1 below;
-      whole = λ l top e topped. whole_set raw new n i a.load l a.front top (info_len info) (block_of info payload) laid.told whole.loaded t.small blocks made laid1 e topped (omega arith);
+      stayed = λ below. top_shorter raw new n i a.ends.top a.ends.front (block_of info payload) laid.told whole.topped t.small blocks addrs (omega arith) laid1 below;
+      whole = λ l top e topped. whole_set raw new n i a.load l a.ends.front top (info_len info) (block_of info payload) laid.told whole.loaded t.small blocks made laid1 e topped (omega arith);
       blocks = blocks ∙ (λ j. set ((ap (λ (x : Contents). x.blocks) view) j) i (block_of info (take keep (sym t.bytes j) ++ more)));
       size = size ∙ ap (λ (x : Contents). x.size) view;
       addrs = addrs ∙ ap (λ (x : Contents). x.addrs) view;
@@ -142,7 +144,7 @@ rewritten a s i keep info more new whole view h shorter some told is =
 -- ---- without the first bytes
 
 pub record IsTrimmed (a : Inside) (s : Contents) (i k info : ℕ) (new : List ℕ) : Type 0 where
-  pub whole : (l : ℕ) → l + k ≡ a.load → IsWhole (record { space = new; count = a.count; load = l; front = a.front; top = a.top })
+  pub whole : (l : ℕ) → l + k ≡ a.load → IsWhole (record { space = new; count = a.count; load = l; ends = record { front = a.ends.front; top = a.ends.top } })
   pub blocks : blocks_of new a.count ≡ set s.blocks i (block_of info (drop k (payload_of (block_at s.blocks i))))
   pub size : length new ≡ s.size
   pub addrs : addrs_of new a.count ≡ set s.addrs i (get_or s.addrs i 0 + k)
@@ -159,17 +161,17 @@ trimmed a s i k info new whole view h some sum told is =
     let payload = drop k (payload_in raw i) in
     let tells : Tells info payload = subst (λ (p : List ℕ). Tells info (drop k p)) t.bytes told in
     let can = within_own raw n i d laid.sound laid.most t.small (omega arith) (omega arith) in
-    let own : (end_of d ≤ a.front) ⊎ (a.front ≤ d.addr) = elim (laid.parted.parted i t.small) [ inl h ↦ inl (omega arith) | inr h ↦ inr (omega arith) ] in
-    let laid1 = renewed_laid raw new n i a.front a.front d payload can is tells some laid (λ j small ne. laid.parted.parted j small) own laid.small in
+    let own : (end_of d ≤ a.ends.front) ⊎ (a.ends.front ≤ d.addr) = elim (laid.parted.parted i t.small) [ inl h ↦ inl (omega arith) | inr h ↦ inr (omega arith) ] in
+    let laid1 = renewed_laid raw new n i a.ends.front a.ends.front d payload can is tells some laid (λ j small ne. laid.parted.parted j small) own laid.small in
     let blocks = renewed_blocks raw new n i d payload t.small is in
     let addrs = renewed_addrs raw new n i d payload t.small is in
     let made = tells.len in
     let size = is.size in
     let fits = whole.fits in
     let weighs = t.weighs in
-    let topped = top_cut raw new n i (addr_in raw i + k) a.top a.front (block_of info payload) laid.told whole.topped t.small blocks addrs (omega arith) laid1 in
+    let topped = top_cut raw new n i (addr_in raw i + k) a.ends.top a.ends.front (block_of info payload) laid.told whole.topped t.small blocks addrs (omega arith) laid1 in
     record {
-      whole = λ l e. whole_set raw new n i a.load l a.front a.top (info_len info) (block_of info payload) laid.told whole.loaded t.small blocks made laid1 (omega arith) topped (omega arith);
+      whole = λ l e. whole_set raw new n i a.load l a.ends.front a.ends.top (info_len info) (block_of info payload) laid.told whole.loaded t.small blocks made laid1 (omega arith) topped (omega arith);
       blocks = blocks ∙ (λ j. set ((ap (λ (x : Contents). x.blocks) view) j) i (block_of info (drop k (sym t.bytes j))));
       size = size ∙ ap (λ (x : Contents). x.size) view;
       addrs = addrs ∙ (λ j. set ((ap (λ (x : Contents). x.addrs) view) j) i (sym t.addr j + k));
@@ -195,22 +197,32 @@ cut_of a s i k info whole view h d kind part =
 
 -- ---- a longer payload, placed anew
 
-pub record IsAnew (a : Inside) (s : Contents) (i kept info : ℕ) : Type 0 where
-  pub part : info_len kept ≤ len_in a.space i
-  pub bytes : take (info_len kept) (payload_of (block_at s.blocks i)) ≡ window a.space (addr_in a.space i) (info_len kept)
-  pub fits : sum_by payload_len (remove (blocks_of a.space a.count) i) + info_len info + 8 * a.count ≤ length a.space
+pub record IsAnew (a : Inside) (s : Contents) (i : ℕ) (l : Longer) : Type 0 where
+  pub part : info_len l.kept.0 ≤ len_in a.space i
+  pub bytes : take (info_len l.kept.0) (payload_of (block_at s.blocks i)) ≡ kept_bytes a.space l
+  pub longer : IsLonger a.space l
+  pub fits : sum_by payload_len (remove (blocks_of a.space a.count) i) + info_len l.info.0 + 8 * a.count ≤ length a.space
 
-pub anew : (a : Inside) (s : Contents) (i kept info : ℕ) → IsWhole a → seen_of a ≡ s → i < length s.blocks → info_len kept ≤ payload_len (block_at s.blocks i) → load s.blocks + info_len info ≤ s.size + payload_len (block_at s.blocks i) → IsAnew a s i kept info
-anew a s i kept info whole view h less fits =
+pub anew : (a : Inside) (s : Contents) (i : ℕ) (l : Longer) → IsWhole a → seen_of a ≡ s → i < length s.blocks → l.from ≡ addr_in a.space i → 0 < info_len l.kept.0 → info_len l.kept.0 ≤ payload_len (block_at s.blocks i) → Tells l.kept.0 (take (info_len l.kept.0) (payload_of (block_at s.blocks i))) →
+    info_len l.info.0 ≡ info_len l.kept.0 + length l.more.now → Tells l.info.0 (take (info_len l.kept.0) (payload_of (block_at s.blocks i)) ++ l.more.now) → load s.blocks + info_len l.info.0 ≤ s.size + payload_len (block_at s.blocks i) → IsAnew a s i l
+anew a s i l whole view h own some less kept_tells sum tells fits =
     let t = at a s i whole view h in
     let num = numbers a s whole view in
     let raw = a.space in
     let len = t.len in
     let small = t.small in
-    let part : info_len kept ≤ len_in raw i = omega arith in
+    let keep = info_len l.kept.0 in
+    let part : keep ≤ len_in raw i = omega arith in
+    let within = whole.laid.sound.within i small in
     let count = length-listed (block_in raw) a.count in
     let without = sum_by-remove payload_len (blocks_of raw a.count) i EndHeaders (omega arith) in
     let old = len_told raw a.count i whole.laid.told small in
     let payloads = num.payloads in
     let size = num.size in
-    record { part = part; bytes = ap (take (info_len kept)) t.bytes ∙ take-take (info_len kept) (len_in raw i) (drop (addr_in raw i) raw) part; fits = omega arith }
+    let bytes = ap (take keep) t.bytes ∙ take-take keep (len_in raw i) (drop (addr_in raw i) raw) part ∙ ap (λ (x : ℕ). window raw x keep) (sym own) in
+    record {
+      part = part;
+      bytes = bytes;
+      longer = record { source = omega arith; some = some; kept_tells = subst (Tells l.kept.0) bytes kept_tells; len = sum; tells = subst (λ (p : List ℕ). Tells l.info.0 (p ++ l.more.now)) bytes tells };
+      fits = omega arith;
+    }

@@ -62,7 +62,7 @@ at_top raw n front i info extra f laid small len h =
       small = omega arith;
     }
 
-at_front_by : (raw : List ℕ) (n front i info extra f : ℕ) (o : Option ℕ) → IsLow raw front 0 n o → IsLaid raw n front → i < n → info_len info ≡ len_in raw i + extra → grown_at_front (length raw) front (end_of (desc_at raw i)) extra (top (blocks_of raw n) (addrs_of raw n)) (length (blocks_of raw n)) o ≡ Some f → MayGrow raw n i info f
+at_front_by : (raw : List ℕ) (n front i info extra f : ℕ) (o : Option ℕ) → IsLow raw front 0 n o → IsLaid raw n front → i < n → info_len info ≡ len_in raw i + extra → grown_at_front o front (end_of (desc_at raw i)) extra (nat_le (top (blocks_of raw n) (addrs_of raw n) + 8 * length (blocks_of raw n)) (length raw)) ≡ Some f → MayGrow raw n i info f
 at_front_by raw n front i info extra f None at laid small len h = absurd (none-some f h)
 at_front_by raw n front i info extra f (Some l) at laid small len h =
     let end = end_of (desc_at raw i) in
@@ -87,7 +87,7 @@ at_front_by raw n front i info extra f (Some l) at laid small len h =
 
 stays_by : (raw : List ℕ) (n front i info extra f : ℕ) (z : Bool) → IsLaid raw n front → i < n → info_len info ≡ len_in raw i + extra →
     (if z then grown_at_top (length raw) (end_of (desc_at raw i)) extra (top (blocks_of raw n) (addrs_of raw n)) (length (blocks_of raw n))
-    else grown_at_front (length raw) front (end_of (desc_at raw i)) extra (top (blocks_of raw n) (addrs_of raw n)) (length (blocks_of raw n)) (low front (addrs_of raw n))) ≡ Some f → MayGrow raw n i info f
+    else grown_at_front (low front (addrs_of raw n)) front (end_of (desc_at raw i)) extra (nat_le (top (blocks_of raw n) (addrs_of raw n) + 8 * length (blocks_of raw n)) (length raw))) ≡ Some f → MayGrow raw n i info f
 stays_by raw n front i info extra f true laid small len h = at_top raw n front i info extra f laid small len h
 stays_by raw n front i info extra f false laid small len h = at_front_by raw n front i info extra f (low front (addrs_of raw n)) (low_is raw front 0 n) laid small len h
 

@@ -16,7 +16,7 @@ use Rattle.htx_layout.specs.declared.array.Array.TheInside.{Inside}
 
 -- what callers see of the fields
 abbrev pub seen_of : Inside → Contents
-seen_of a = record { size = length a.space; blocks = blocks_of a.space a.count; addrs = addrs_of a.space a.count; front = a.front }
+seen_of a = record { size = length a.space; blocks = blocks_of a.space a.count; addrs = addrs_of a.space a.count; front = a.ends.front }
 
 -- numbers of an arena and of what callers see of it
 pub record Numbers (a : Inside) (s : Contents) : Type 0 where
@@ -87,7 +87,7 @@ described_at a s i d whole view h e =
 
 -- the first blocks
 pub record IsFirst (a : Inside) (s : Contents) (m : ℕ) : Type 0 where
-  pub laid : IsLaid a.space m a.front
+  pub laid : IsLaid a.space m a.ends.front
   pub blocks : blocks_of a.space m ≡ take m s.blocks
   pub addrs : addrs_of a.space m ≡ take m s.addrs
   pub loads : load (blocks_of a.space m) + load (drop m (blocks_of a.space a.count)) ≡ a.load
@@ -101,7 +101,7 @@ first a s m whole view h =
     let now = ap load taken in
     let loaded = whole.loaded in
     record {
-      laid = laid_first a.space a.count m a.front whole.laid small;
+      laid = laid_first a.space a.count m a.ends.front whole.laid small;
       blocks = taken ∙ ap (λ (x : Contents). take m x.blocks) view;
       addrs = listed-take (addr_in a.space) a.count m small ∙ ap (λ (x : Contents). take m x.addrs) view;
       loads = omega arith;
@@ -109,7 +109,7 @@ first a s m whole view h =
 
 -- one block is another: the load follows
 pub whole_set : (raw new : List ℕ) (n i was loaded front t m : ℕ) (b : Block) → IsTold raw n → was ≡ load (blocks_of raw n) → i < n → blocks_of new n ≡ set (blocks_of raw n) i b → payload_len b ≡ m → IsLaid new n front → loaded + len_in raw i ≡ was + m → IsTop new n t → loaded ≤ length new →
-    IsWhole (record { space = new; count = n; load = loaded; front = front; top = t })
+    IsWhole (record { space = new; count = n; load = loaded; ends = record { front = front; top = t } })
 whole_set raw new n i was loaded front t m b told is small blocks len laid sum topped fits =
     let count = length-listed (block_in raw) n in
     let old = len_told raw n i told small in

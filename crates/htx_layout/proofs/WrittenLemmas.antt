@@ -41,7 +41,7 @@ whole_lent a i start len w whole small valued s l =
     let loaded = whole.loaded in
     let fits = whole.fits in
     let size = (addrs_lent raw n i start len w whole.laid.sound small valued s l).1 in
-    let laid = laid_lent raw n a.front i start len w whole.laid small valued s l in
+    let laid = laid_lent raw n a.ends.front i start len w whole.laid small valued s l in
     let old = len_told raw n i whole.laid.told small in
-    let topped = top_same raw (overwritten raw start (refill len (window raw start len) w)) n i a.top a.front (with_value (block_at bs i) (refill (length v) v w)) whole.laid.told whole.topped small blocks (addrs_lent raw n i start len w whole.laid.sound small valued s l).0 (omega arith) laid in
+    let topped = top_same raw (overwritten raw start (refill len (window raw start len) w)) n i a.ends.top a.ends.front (with_value (block_at bs i) (refill (length v) v w)) whole.laid.told whole.topped small blocks (addrs_lent raw n i start len w whole.laid.sound small valued s l).0 (omega arith) laid in
     record { laid = laid; loaded = omega arith; topped = topped; fits = omega arith }

@@ -4,6 +4,7 @@ pub mod Steps
 pub mod Sound
 pub mod Place
 pub mod Moves
+pub mod Longer
 pub mod Values
 pub mod Contents
 pub mod Addresses

@@ -73,13 +73,13 @@ grown_at_top size end len top count =
     if nat_eq end top then (if nat_le (end + len + 8 * count) size then Some 0 else None) else None
 
 -- one that ends at `front` may have them in front of the least address there
-abbrev pub grown_at_front : ℕ → ℕ → ℕ → ℕ → ℕ → ℕ → Option ℕ → Option ℕ
-grown_at_front size front end len top count None = None
-grown_at_front size front end len top count (Some low) =
-    if nat_eq end front then (if nat_le (end + len) low then (if nat_le (top + 8 * count) size then Some (front + len) else None) else None) else None
+abbrev pub grown_at_front : Option ℕ → ℕ → ℕ → ℕ → Bool → Option ℕ
+grown_at_front None front end len room = None
+grown_at_front (Some low) front end len room =
+    if nat_eq end front then (if nat_le (end + len) low then (if room then Some (front + len) else None) else None) else None
 
 -- `front` once a payload that ends here has `len` more bytes where it stands, if it may have them
 abbrev pub stays : ℕ → List Block → List ℕ → ℕ → ℕ → ℕ → Option ℕ
 stays size blocks addrs front end len =
     if nat_eq front 0 then grown_at_top size end len (top blocks addrs) (length blocks)
-    else grown_at_front size front end len (top blocks addrs) (length blocks) (low front addrs)
+    else grown_at_front (low front addrs) front end len (nat_le (top blocks addrs + 8 * length blocks) size)

@@ -6,7 +6,7 @@ use Rattle.htx_layout.specs.declared.array.Array.TheInside.{Inside}
 
 -- the array is laid out as its descriptors tell, and the load, which is within the size, and the top are known
 pub record IsWhole (a : Inside) : Type 0 where
-  pub laid : IsLaid a.space a.count a.front
+  pub laid : IsLaid a.space a.count a.ends.front
   pub loaded : a.load ≡ load (blocks_of a.space a.count)
-  pub topped : IsTop a.space a.count a.top
+  pub topped : IsTop a.space a.count a.ends.top
   pub fits : a.load ≤ length a.space

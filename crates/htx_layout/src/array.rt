@@ -10,6 +10,7 @@ mod cut;
 mod lend;
 mod replace;
 
+use crate::scan::Ends;
 use crate::words::Info;
 use htx_model::{Kind, OutOfMemory};
 use htx_space::Space;
@@ -23,8 +24,7 @@ pub struct Array {
     space: Space,
     count: u32,
     load: u32,
-    front: u32,
-    top: u32,
+    ends: Ends,
 }
 
 impl Model for Array {
@@ -35,7 +35,7 @@ impl Model for Array {
 
     ghost Value = { Contents };
 
-    ghost view = { λ a. record { size = length a.space; blocks = listed_blocks a.space a.count; addrs = addrs_of a.space a.count; front = a.front } };
+    ghost view = { λ a. record { size = length a.space; blocks = listed_blocks a.space a.count; addrs = addrs_of a.space a.count; front = a.ends.front } };
 
     ghost invariant = { IsWhole };
 }
@@ -55,8 +55,7 @@ impl Array {
             space: Space::new(alloc, size)?,
             count: 0,
             load: 0,
-            front: 0,
-            top: 0,
+            ends: Ends { front: 0, top: 0 },
         })
     }
 

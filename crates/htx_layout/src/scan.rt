@@ -1,13 +1,20 @@
 ghost use Rattle.std.specs.Prelude.{◌≡◌, ◌+◌, ◌-◌, ◌*◌, ◌^◌, ◌<◌, ◌≤◌, length, drop, min};
 ghost use Rattle.std.specs.Option.{option_map_or};
 ghost use Rattle.htx_layout.specs.Raw.{blocks_of, addrs_of, addr_in, len_in, block_in};
-ghost use Rattle.htx_layout.specs.Sound.{IsSound, IsTold, IsTop};
+ghost use Rattle.htx_layout.specs.Sound.{IsSound, IsTold, IsLaid, IsTop};
 ghost use Rattle.htx_layout.specs.Place.{top, low, spot, stays, grown_at_top as top_growth, grown_at_front as front_growth, before as before_spot};
 ghost use Rattle.htx_model.specs.Block.{payload_len};
 ghost use Rattle.htx_model.specs.Blocks.{load};
 
 use crate::words::Info;
 use htx_space::Space;
+
+/// Where the bytes in use end: at the beginning since wrapping, or 0, and at the top.
+#[derive(Clone, Copy)]
+pub struct Ends {
+    pub front: u32,
+    pub top: u32,
+}
 
 /// Where a payload goes, and the front then.
 #[derive(Clone, Copy)]
@@ -45,15 +52,13 @@ pub fn top_of(space: &Space, count: u32) -> u32
 
 /// The greatest end of a payload, once a payload that ended at `end` is shorter or gone: it has stayed where another
 /// payload ended behind that one, and else all are looked at.
-pub fn top_behind(space: &Space, count: u32, top: u32, end: u32) -> u32
-    requires sound { IsSound space.now count }
-    requires told { IsTold space.now count }
-    requires small { length space.now ≤ 262144 }
-    requires stayed { end < top → IsTop space.now count top }
+pub fn top_behind(space: &Space, count: u32, ends: Ends, end: u32) -> u32
+    requires laid { IsLaid space.now count ends.front }
+    requires stayed { end < ends.top → IsTop space.now count ends.top }
     ensures { IsTop space.now count result }
 {
-    if end < top {
-        return top;
+    if end < ends.top {
+        return ends.top;
     }
     top_of(space, count)
 }
@@ -102,14 +107,13 @@ fn before(low: Option<u32>, front: u32, len: u32, room: bool) -> Option<Spot>
 }
 
 /// Where a payload goes, if the array isn't defragmented before.
-pub fn spot_of(space: &Space, count: u32, front: u32, top: u32, len: u32) -> Option<Spot>
-    requires sound { IsSound space.now count }
-    requires topped { IsTop space.now count top }
+pub fn spot_of(space: &Space, count: u32, ends: Ends, len: u32) -> Option<Spot>
+    requires laid { IsLaid space.now count ends.front }
+    requires topped { IsTop space.now count ends.top }
     requires len { len ≤ 262144 }
-    requires small { length space.now ≤ 262144 }
-    requires front { front ≤ 262144 }
-    ensures { result ≡ spot (length space.now) (blocks_of space.now count) (addrs_of space.now count) front len (count + 1) }
+    ensures { result ≡ spot (length space.now) (blocks_of space.now count) (addrs_of space.now count) ends.front len (count + 1) }
 {
+    let Ends { front, top } = ends;
     let size = space.size();
     if front == 0 {
         if top + len + 8 * (count + 1) <= size {
@@ -157,20 +161,11 @@ fn grown_at_top(size: u32, end: u32, len: u32, top: u32, count: u32) -> Option<u
     }
 }
 
-/// Whether a payload that ends here may have `len` more bytes behind `front`.
-fn grown_at_front(
-    size: u32,
-    front: u32,
-    end: u32,
-    len: u32,
-    top: u32,
-    count: u32,
-    low: Option<u32>,
-) -> Option<u32>
+/// `front` once a payload that ends here has `len` more bytes in front of the least address behind `front`, if it may.
+fn grown_at_front(low: Option<u32>, front: u32, end: u32, len: u32, room: bool) -> Option<u32>
     requires len { end + len < 2 ^ 32 }
     requires front { front + len < 2 ^ 32 }
-    requires top { top + 8 * count < 2 ^ 32 }
-    ensures { result ≡ front_growth size front end len top count low }
+    ensures { result ≡ front_growth low front end len room }
 {
     let low = low?;
     if end != front {
@@ -179,45 +174,29 @@ fn grown_at_front(
     if end + len > low {
         return None;
     }
-    if top + 8 * count <= size {
-        Some(front + len)
-    } else {
-        None
-    }
+    if room { Some(front + len) } else { None }
 }
 
 /// `front` once a payload has `len` more bytes where it stands, if it may have them.
 #[tactic(auto, using(crate::proofs::RawLemmas::raws))]
-pub fn room_behind(
-    space: &Space,
-    count: u32,
-    front: u32,
-    top: u32,
-    index: u32,
-    len: u32,
-) -> Option<u32>
-    requires sound { IsSound space.now count }
-    requires told { IsTold space.now count }
-    requires topped { IsTop space.now count top }
+pub fn room_behind(space: &Space, count: u32, ends: Ends, index: u32, len: u32) -> Option<u32>
+    requires laid { IsLaid space.now count ends.front }
+    requires topped { IsTop space.now count ends.top }
     requires within { index < count }
     requires len { len ≤ 262144 }
-    requires small { length space.now ≤ 262144 }
-    requires front { front ≤ 262144 }
-    ensures { result ≡ stays (length space.now) (blocks_of space.now count) (addrs_of space.now count) front (addr_in space.now index + payload_len (block_in space.now index)) len }
+    ensures { result ≡ stays (length space.now) (blocks_of space.now count) (addrs_of space.now count) ends.front (addr_in space.now index + payload_len (block_in space.now index)) len }
 {
+    let Ends { front, top } = ends;
     let size = space.size();
     let end = end_at(space, count, index);
     if front == 0 {
-        grown_at_top(size, end, len, top, count)
-    } else {
-        grown_at_front(
-            size,
-            front,
-            end,
-            len,
-            top,
-            count,
-            low_of(space, count, front),
-        )
+        return grown_at_top(size, end, len, top, count);
     }
+    grown_at_front(
+        low_of(space, count, front),
+        front,
+        end,
+        len,
+        top + 8 * count <= size,
+    )
 }

@@ -6,15 +6,9 @@ ghost use Rattle.htx_layout.specs.Place.{layout};
 ghost use Rattle.htx_layout.specs.Moves.{IsSite};
 
 use crate::new_block::NewBlock;
-use crate::{edits, pack, scan};
+use crate::scan::{self, Ends};
+use crate::{edits, pack};
 use htx_space::{Desc, Space};
-
-/// Where the bytes in use end: at the beginning since wrapping, or 0, and at the top.
-#[derive(Clone, Copy)]
-pub struct Ends {
-    pub front: u32,
-    pub top: u32,
-}
 
 /// Where a payload goes, and the ends of the bytes in use among the others then.
 #[derive(Clone, Copy)]
@@ -40,7 +34,7 @@ fn site(space: &mut Space, count: u32, ends: Ends, len: u32) -> Found
     ensures topped { IsTop space.new count result.top }
     ensures size { length space.new ≡ length space.old }
 {
-    match scan::spot_of(space, count, ends.front, ends.top, len) {
+    match scan::spot_of(space, count, ends, len) {
         Some(spot) => Found {
             addr: spot.addr,
             front: spot.front,
@@ -58,10 +52,10 @@ fn site(space: &mut Space, count: u32, ends: Ends, len: u32) -> Found
 }
 
 /// The front, or 0 where no payload stands at or above it: none ends behind it then.
-pub fn settle(front: u32, top: u32) -> u32
-    ensures { result ≡ if nat_lt front top then front else 0 }
+pub fn settle(ends: Ends) -> u32
+    ensures { result ≡ if nat_lt ends.front ends.top then ends.front else 0 }
 {
-    if front < top { front } else { 0 }
+    if ends.front < ends.top { ends.front } else { 0 }
 }
 
 /// Puts in a block, and answers the ends of the bytes in use.

@@ -214,7 +214,7 @@ last_same (Serves filters head framed no_body) old new s p q h = (
   h.6,
   h.7,
 )
-last_same (Replies head body no_body) old new s p q h = ((h.0.0, came_same old new s p.asked p.read p.bytes h.0.0 h.0.1), h.1)
+last_same (Replies head body no_body) old new s p q h = ((h.0.0, came_same old new s p.asked p.read p.bytes h.0.0 h.0.1), h.1, h.2)
 
 pub at_last : (lane : ResponseLane) (p : Exchange) → lane.phase ≡ phase.Answering → Answers lane p → AnswersLast lane p
 at_last lane p e a = subst (λ (ph : Phase). AnswersAt ph lane p) e a
@@ -267,7 +267,7 @@ pub turned : (lane said_ : Lane) (p : Exchange) (filters : List FilterSpec) (hea
     → said_.output ≡ lane.output → (left : List ℕ) → HeadsCame p.asked said_.limits said_.ended p.read p.bytes left → p.put ≡ interim_text p.passed → Answers (made said_ phase.Answering false) p
 turned lane said_ p filters head body no_body e stands sound kept at out left came put =
     begins_last said_ p (said lane filters head body no_body) stands sound kept at
-    (subst (λ (last : Last). IsLast last said_ p (said lane filters head body no_body)) (sym e) ((left, came), refl))
+    (subst (λ (last : Last). IsLast last said_ p (said lane filters head body no_body)) (sym e) ((left, came), refl, refl))
     (ap (λ (b : Buffer ℕ). b.items) out) put
 
 -- ---- the contract
@@ -286,7 +286,7 @@ showing lane p s =
           ∙ sym (interim_one s.before s.head) ∙ ap interim_text (sym s.passed),
     )
 
-interim_any : (ph : Phase) (lane : ResponseLane) (p : Exchange) → lane.begun ≡ false → AnswersAt ph lane p → (rest : List ℕ) × (p.put ++ rest ≡ interim_text p.passed)
+pub interim_any : (ph : Phase) (lane : ResponseLane) (p : Exchange) → lane.begun ≡ false → AnswersAt ph lane p → (rest : List ℕ) × (p.put ++ rest ≡ interim_text p.passed)
 interim_any phase.Heads lane p none a = ([], append-nil p.put ∙ a.0)
 interim_any phase.Passing lane p none a = showing lane.lane p a.0
 interim_any (phase.Turning no_body) lane p none a = showing lane.lane p a.0

@@ -4,6 +4,7 @@ use Rattle.std.specs.List.{flat_map}
 use Rattle.std.specs.Str.{bytes_eq}
 use Rattle.http_model.specs.declared.Ending.{Ending}
 use Rattle.wire_buf.specs.Buffer.{Buffer}
+use Rattle.htx_arena.specs.Contents.{Contents}
 use Rattle.htx_model.specs.Block.{Block}
 use Rattle.htx_model.specs.Blocks.{flow}
 use Rattle.http_model.specs.declared.Framing.{Framing}
@@ -154,7 +155,7 @@ IsLast (Serves filters head framed no_body) lane p q =
     × (q.reads ≡ got.framing) × (q.sent ≡ record { head = head; given = []; framing = framed; no_body = no_body; before = q.sent.before }) × (q.filters ≡ filters)
 IsLast (Replies head body no_body) lane p q =
     ((left : List ℕ) × HeadsCame p.asked lane.limits lane.ended p.read p.bytes left)
-    × (q.sent ≡ record { head = head; given = body; framing = framing.ToClose; no_body = no_body; before = q.sent.before })
+    × (q.sent ≡ record { head = head; given = body; framing = framing.ToClose; no_body = no_body; before = q.sent.before }) × (q.reads ≡ framing.Absent)
 
 -- some text of it was put out exactly where it has begun
 abbrev pub HasBegun : Bool → List ℕ → Type 0
@@ -220,7 +221,10 @@ window_of lane = lane.lane.output
 abbrev pub limits_of : ResponseLane → Limits
 limits_of lane = lane.lane.limits
 
--- the blocks on which rules run, and where each lies in its array
+-- the array on which rules run, its blocks, and where each lies in it
+abbrev pub array_of : ResponseLane → Contents
+array_of lane = lane.lane.msg
+
 abbrev pub blocks_of : ResponseLane → List Block
 blocks_of lane = lane.lane.msg.blocks
 
@@ -302,3 +306,17 @@ pub record AnswerPromise (lane : ResponseLane) (p : Exchange) : Type 0 where
   pub interim : lane.begun ≡ false → (rest : List ℕ) × (p.put ++ rest ≡ interim_text p.passed)
   pub last : lane.phase ≡ phase.Answering → (past : Past) × (text : List ℕ) × Promise lane.lane past × IsLast p.last lane.lane p past
       × (put_out lane.lane past ≡ past.sent.before ++ text) × (p.put ≡ interim_text p.passed ++ text) × HasBegun lane.begun text
+
+-- ---- a reply
+
+-- The text of a reply or a refusal: its head, and behind it the bytes of its body as they are. Nothing frames them but the
+-- fields of the head.
+abbrev pub reply_text : Head → List ℕ → (no_body : Bool) → List ℕ
+reply_text head body true = head_text head
+reply_text head body false = head_text head ++ body
+
+-- What was put out where it answers: a front of the interim heads and of its text, and all of them once it is done.
+pub record ReplyPromise (lane : ResponseLane) (p : Exchange) (head : Head) (body : List ℕ) (no_body : Bool) : Type 0 where
+  pub rest : List ℕ
+  pub front : p.put ++ rest ≡ interim_text p.passed ++ reply_text head body no_body
+  pub whole : stage_of lane ≡ stage.Done → has_begun lane ≡ true → rest ≡ []

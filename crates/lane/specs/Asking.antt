@@ -4,6 +4,7 @@ use Rattle.http_model.specs.declared.Ending.{Ending}
 use Rattle.http_model.specs.declared.Framing.{Framing}
 use Rattle.http_model.specs.declared.Limits.{Limits}
 use Rattle.http_model.specs.Head.{Head}
+use Rattle.htx_arena.specs.Contents.{Contents}
 use Rattle.htx_model.specs.Block.{Block}
 use Rattle.h1_head.specs.declared.answer.Side.TheVariants as side
 use Rattle.body_filter.specs.declared.filter_spec.FilterSpec.{FilterSpec}
@@ -46,6 +47,10 @@ is_dropping lane = lane.lane.dropped
 
 abbrev pub limits_of : RequestLane → Limits
 limits_of lane = lane.lane.limits
+
+-- the array on which rules run
+abbrev pub array_of : RequestLane → Contents
+array_of lane = lane.lane.msg
 
 -- the blocks on which rules run
 abbrev pub blocks_of : RequestLane → List Block

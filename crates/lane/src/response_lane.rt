@@ -9,7 +9,7 @@ ghost use Rattle.http_model.specs.Sizes.{least_size, most_size, least_head};
 ghost use Rattle.body_filter.specs.Valid.{AreFilters};
 ghost use Rattle.body_filter.specs.declared.filter_spec.FilterSpec.{FilterSpec};
 ghost use Rattle.http_model.specs.Head.{front_blocks};
-ghost use Rattle.lane.specs.Answering.{Exchange, Answers, HeadComes, PutsOut, is_interim, IsOpen, with_bytes, with_put, passes, drops, serves, replies, fresh, IsSoundAnswer, MayGoOn, HasFilters, shows_head, stage_of, source_of, input_of, came_in, most_of, ended_of, output_of, window_of, limits_of, blocks_of, addrs_of, framing_of, declared_of, close_of, has_begun, phase_of};
+ghost use Rattle.lane.specs.Answering.{Exchange, Answers, HeadComes, PutsOut, is_interim, IsOpen, with_bytes, with_put, passes, drops, serves, replies, fresh, IsSoundAnswer, MayGoOn, HasFilters, shows_head, stage_of, source_of, input_of, came_in, most_of, ended_of, output_of, window_of, limits_of, array_of, blocks_of, addrs_of, framing_of, declared_of, close_of, has_begun, phase_of};
 ghost use Rattle.lane.specs.declared.phase.Phase.TheVariants as phase;
 ghost use Rattle.lane_core.specs.declared.stage.Stage.TheVariants as stage;
 ghost use Rattle.lane_core.specs.declared.stage.Source.TheVariants as source;
@@ -36,6 +36,9 @@ pub struct ResponseLane {
 }
 
 impl ResponseLane {
+    ghost use Rattle.std.specs.Borrow.{sem};
+    ghost use Rattle.lane.specs.Lending.{LendsAnswerHead, LendsAnswerText};
+
     /// A lane whose output window has `window` bytes and whose input window has `bufsize`, and whose bodies go through these
     /// filters. This call alone takes memory.
     pub fn new(
@@ -106,7 +109,10 @@ impl ResponseLane {
     }
 
     /// The array on which rules run.
-    pub fn head(&mut self) -> &mut Arena {
+    pub fn head(&mut self) -> &mut Arena
+        ensures* back { sem 𝓛 (LendsAnswerHead self.entry result) }
+        ensures value { result.now ≡ array_of self.old }
+    {
         self.lane.head()
     }
 
@@ -259,7 +265,10 @@ impl ResponseLane {
     }
 
     /// The text that was not taken yet.
-    pub fn output(&mut self) -> &mut [u8] {
+    pub fn output(&mut self) -> &mut [u8]
+        ensures* back { sem 𝓛 (LendsAnswerText self.entry result) }
+        ensures value { result.now ≡ output_of self.old }
+    {
         self.lane.output()
     }
 

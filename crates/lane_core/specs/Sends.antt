@@ -13,8 +13,7 @@ use Rattle.body_sieve.specs.declared.sieve.Sieve.{Sieve}
 use Rattle.lane_core.specs.Filtering.{HasPassed, AreThese, SieveFits, SieveRests, IsWholeAt, GoesOnBy, CutBy, held_left}
 use Rattle.h1_head.specs.declared.answer.Side.{Side}
 use Rattle.h1_head.specs.Sides.{kind_of}
-use Rattle.h1_head.specs.Stream.{behind}
-use Rattle.h1_head.specs.Decides.{MayWait}
+use Rattle.h1_head.specs.Scanned.{IsScanned}
 use Rattle.h1_body.specs.declared.reader.BodyReader.{BodyReader}
 use Rattle.h1_body.specs.declared.reader.BodyState.TheVariants as state
 use Rattle.h1_body.specs.Stands.{HasRead, state_of}
@@ -159,15 +158,9 @@ pub record IsReady (lane : Lane) : Type 0 where
   pub out : lane.out.blocks ≡ []
   pub kept : lane.dropped ≡ false
 
--- no head stands in the bytes that were looked at, where those are two or more; no empty line stands in front of them
-pub record IsScanned (side : Side) (lane : Lane) : Type 0 where
-  pub within : lane.scanned ≤ length lane.input.items
-  pub waits : 2 ≤ lane.scanned → MayWait (kind_of side) lane.limits false (take lane.scanned lane.input.items)
-  pub alone : 2 ≤ lane.scanned → behind (take lane.scanned lane.input.items) ≡ take lane.scanned lane.input.items
-
 -- a head is to be read
 pub record IsReading (side : Side) (lane : Lane) : Type 0 where
-  pub scanned : IsScanned side lane
+  pub scanned : IsScanned (kind_of side) lane.limits lane.input.items lane.scanned
   pub ready : IsReady lane
   pub stage : lane.stage ≡ stage.Reading
   pub empty : lane.msg.blocks ≡ []

@@ -3,15 +3,16 @@ ghost use Rattle.std.specs.Prelude.{◌≡◌, ◌≤◌, ◌<◌, ◌+◌, ◌+
 ghost use Rattle.body_filter.specs.declared.filter_spec.FilterSpec.{FilterSpec};
 ghost use Rattle.body_sieve.specs.Sieved.{IsSieve, IsIdle, IsStill, HasSieved, end_of, held_in, section_in};
 ghost use Rattle.body_sieve.specs.declared.sieve.BodyEnd.TheVariants as body_end;
+ghost use Rattle.h1_body.specs.Scan.{IsScanned};
 ghost use Rattle.h1_body.specs.Stands.{ends_of, bytes_of};
 ghost use Rattle.lane_core.specs.Filtering.{SieveFits, SieveRests};
 ghost use Rattle.lane_core.specs.Holding.{Holds, HoldsNext, HoldsBy, MeetsEnd};
 
+use crate::input::Input;
 use crate::pull::Pulled;
 use body_sieve::Sieve;
-use h1_body::{BodyReader, BodyState, Span};
+use h1_body::{BodyReader, BodyState, SectionScan, Span};
 use http_model::Ending;
-use wire_buf::Window;
 
 /// The bytes that a span of a text covers.
 fn covered<'a>(text: &'a [u8], span: Option<Span>) -> &'a [u8]
@@ -25,19 +26,27 @@ fn covered<'a>(text: &'a [u8], span: Option<Span>) -> &'a [u8]
 }
 
 /// Reads the next part of the body at the front of a text, and the filters hold it.
-fn hold_part(reader: &mut BodyReader, text: &[u8], room: u32, sieve: &mut Sieve) -> Pulled
+pub(crate) fn hold_part(
+    reader: &mut BodyReader,
+    text: &[u8],
+    seen: &mut SectionScan,
+    room: u32,
+    sieve: &mut Sieve,
+) -> Pulled
     requires idle { IsIdle sieve.old }
     requires sieve { IsSieve room sieve.old }
     requires text { length text.now ≤ room }
     requires room { 0 < room }
+    requires seen { IsScanned text.now seen.old }
     ensures used { result.used ≤ length text.now }
     ensures holds { Holds reader.old reader.new text.now (drop result.used text.now) (held_in sieve.new) (section_in sieve.new) result.used result.state }
     ensures end { end_of sieve.new ≡ body_end.Open }
     ensures still { IsStill sieve.old → IsStill sieve.new }
     ensures sieved { (filters : List FilterSpec) (found passed : List ℕ) → HasSieved filters found passed sieve.old → HasSieved filters (found ++ held_in sieve.new) passed sieve.new }
     ensures sieve { IsSieve room sieve.new }
+    ensures seen { IsScanned (drop result.used text.now) seen.new }
 {
-    let step = reader.feed(text, room);
+    let step = reader.feed_grown(text, room, seen);
     let piece = covered(text, Some(step.piece));
     let section = covered(text, step.trailers);
     sieve.hold(piece, section);
@@ -81,28 +90,9 @@ fn meet_end(ended: Option<Ending>, reader: &BodyReader, sieve: &mut Sieve) -> bo
     }
 }
 
-/// Reads the next part of the body at the front of the window, and the filters hold it.
-fn hold_bytes(input: &mut Window, reader: &mut BodyReader, room: u32, sieve: &mut Sieve) -> Pulled
-    requires idle { IsIdle sieve.old }
-    requires sieve { IsSieve room sieve.old }
-    requires input { length input.old.items ≤ room }
-    requires room { 0 < room }
-    ensures holds { Holds reader.old reader.new input.old.items input.new.items (held_in sieve.new) (section_in sieve.new) result.used result.state }
-    ensures capacity { input.new.capacity ≡ input.old.capacity }
-    ensures shrinks { length input.new.items ≤ length input.old.items }
-    ensures end { end_of sieve.new ≡ body_end.Open }
-    ensures still { IsStill sieve.old → IsStill sieve.new }
-    ensures sieved { (filters : List FilterSpec) (found passed : List ℕ) → HasSieved filters found passed sieve.old → HasSieved filters (found ++ held_in sieve.new) passed sieve.new }
-    ensures sieve { IsSieve room sieve.new }
-{
-    let pulled = hold_part(reader, input.bytes(), room, sieve);
-    input.drop_front(pulled.used);
-    pulled
-}
-
 /// Reads the next part of the body, and what ends it. False where the reader waits for the stream.
 fn hold_next(
-    input: &mut Window,
+    input: &mut Input,
     reader: &mut BodyReader,
     ended: Option<Ending>,
     room: u32,
@@ -117,7 +107,7 @@ fn hold_next(
     ensures shrinks { length input.new.items ≤ length input.old.items }
     ensures sieve { IsSieve room sieve.new }
 {
-    let pulled = hold_bytes(input, reader, room, sieve);
+    let pulled = input.hold(reader, room, sieve);
     match pulled.state {
         BodyState::Whole => {
             sieve.set_whole();
@@ -138,7 +128,7 @@ fn hold_next(
 
 /// The same where there may be no filters, which hold nothing.
 pub(crate) fn hold(
-    input: &mut Window,
+    input: &mut Input,
     reader: &mut BodyReader,
     ended: Option<Ending>,
     room: u32,

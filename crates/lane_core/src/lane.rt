@@ -7,6 +7,7 @@ mod heads;
 mod read;
 mod telling;
 
+use crate::input::Input;
 use crate::stage::{Source, Stage};
 use body_sieve::Sieve;
 use h1_body::BodyReader;
@@ -20,7 +21,7 @@ use wire_buf::Window;
 pub struct Lane {
     limits: Limits,
     /// What came and was not used yet.
-    input: Window,
+    input: Input,
     /// How the stream ended, where it has.
     ended: Option<Ending>,
     /// So many bytes of the window were looked at, and hold no head.

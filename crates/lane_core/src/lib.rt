@@ -2,6 +2,7 @@
 #![tactic(auto)]
 
 mod hold;
+mod input;
 mod lane;
 pub mod laws;
 mod pull;

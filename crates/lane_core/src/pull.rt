@@ -1,10 +1,10 @@
-//! The next part of a body, from the window into the array.
+//! The next part of a body, from a text into the array.
 ghost use Rattle.std.specs.Prelude.{◌≡◌, ◌≤◌, [], length, take, drop};
+ghost use Rattle.h1_body.specs.Scan.{IsScanned};
 ghost use Rattle.lane_core.specs.Pulled.{Pulls};
 
-use h1_body::{BodyReader, BodyState, add_trailers};
+use h1_body::{BodyReader, BodyState, SectionScan, add_trailers};
 use htx_arena::Arena;
-use wire_buf::Window;
 
 /// How many bytes were used, and what the reader says.
 #[derive(Clone, Copy, Debug)]
@@ -14,13 +14,20 @@ pub(crate) struct Pulled {
 }
 
 /// Reads the next part of the body at the front of a text into an empty array.
-fn read_part(reader: &mut BodyReader, text: &[u8], to: &mut Arena) -> Pulled
-    requires { to.old.blocks ≡ [] }
+pub(crate) fn read_part(
+    reader: &mut BodyReader,
+    text: &[u8],
+    seen: &mut SectionScan,
+    to: &mut Arena,
+) -> Pulled
+    requires empty { to.old.blocks ≡ [] }
+    requires seen { IsScanned text.now seen.old }
     ensures used { result.used ≤ length text.now }
     ensures pulls { Pulls reader.old reader.new text.now (drop result.used text.now) to.old.size to.new.blocks result.used result.state }
     ensures size { to.new.size ≡ to.old.size }
+    ensures seen { IsScanned (drop result.used text.now) seen.new }
 {
-    let step = reader.feed(text, to.room().saturating_sub(8));
+    let step = reader.feed_grown(text, to.room().saturating_sub(8), seen);
     let (from, end) = (step.piece.from, step.piece.from + step.piece.len);
     to.add_data(&text[from..end]);
     if let Some(span) = step.trailers {
@@ -30,16 +37,4 @@ fn read_part(reader: &mut BodyReader, text: &[u8], to: &mut Arena) -> Pulled
         used: step.used,
         state: step.state,
     }
-}
-
-/// Reads the next part of the body at the front of the window into an empty array, and what was used goes.
-pub(crate) fn pull(input: &mut Window, reader: &mut BodyReader, to: &mut Arena) -> Pulled
-    requires { to.old.blocks ≡ [] }
-    ensures pulls { Pulls reader.old reader.new input.old.items input.new.items to.old.size to.new.blocks result.used result.state }
-    ensures capacity { input.new.capacity ≡ input.old.capacity }
-    ensures size { to.new.size ≡ to.old.size }
-{
-    let pulled = read_part(reader, input.bytes(), to);
-    input.drop_front(pulled.used);
-    pulled
 }

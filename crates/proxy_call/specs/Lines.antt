@@ -1,7 +1,7 @@
 -- The lines that the program writes itself.
 use Rattle.std.specs.Prelude.{ℕ, List, ◌++◌, codes, decimal}
 use Rattle.cfg_parse.specs.declared.fault.CfgKind.{CfgKind}
-use Rattle.cfg_parse.specs.declared.fault.CfgKind.TheVariants.{Word, Section, Keyword, Argument, Expr, Acl, Pattern, FramingName, Limit, Missing, Unbuilt}
+use Rattle.cfg_parse.specs.declared.fault.CfgKind.TheVariants.{Word, Section, Keyword, Argument, Expr, Acl, Pattern, FramingName, Limit, Missing}
 
 abbrev pub kind_name : CfgKind → List ℕ
 kind_name Word = codes "Word"
@@ -14,7 +14,6 @@ kind_name Pattern = codes "Pattern"
 kind_name FramingName = codes "FramingName"
 kind_name Limit = codes "Limit"
 kind_name Missing = codes "Missing"
-kind_name Unbuilt = codes "Unbuilt"
 
 -- a configuration with so many request rules, rules on what the client is sent, and filters of both directions is accepted
 unfoldable pub accepted_line : (rules answers filters : ℕ) → List ℕ

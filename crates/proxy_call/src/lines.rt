@@ -21,7 +21,6 @@ fn kind_name(kind: CfgKind) -> &'static str
         CfgKind::FramingName => "FramingName",
         CfgKind::Limit => "Limit",
         CfgKind::Missing => "Missing",
-        CfgKind::Unbuilt => "Unbuilt",
     }
 }
 

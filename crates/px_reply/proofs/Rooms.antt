@@ -1,12 +1,12 @@
 -- The room that a refusal takes, and its parts joined.
 use Rattle.std.proofs.Common.{◌≡◌, ℕ, ◌+◌, ◌≤◌, ◌<◌, ◌^◌, List, [], ◌∷◌, ◌++◌, length, ap, sym, ◌∙◌, arith, append_assoc}
 use Rattle.std.specs.Prelude.{codes, decimal}
-use Rattle.std.proofs.lemmas.List.{append-nil}
+use Rattle.std.proofs.lemmas.List.{append-nil, length-append}
 use Rattle.std.proofs.lemmas.Fmt.{length-decimal-le}
 use Rattle.http_model.specs.Block.{Block, RequestLine, ResponseLine, Header, EndHeaders, Data, Trailer, EndTrailers}
 use Rattle.http_model.specs.Blocks.{load, Fits, append_data, data_overhead}
 use Rattle.http_model.specs.Head.{Head, head_blocks, front_blocks, message_blocks}
-use Rattle.http_model.specs.Refusal.{reason_of, refusal, refusal_body}
+use Rattle.http_model.specs.Refusal.{reason_of, refusal, refusal_body, closing}
 use Rattle.htx_model.proofs.Loads.{load-append_data}
 use Rattle.px_reply.specs.Refused.{refusal_head}
 use Rattle.px_reply.proofs.Bodies.{payload-head_blocks, payload-front_blocks}
@@ -71,3 +71,16 @@ page code digits reason d r =
 -- a head and a body without trailers are the message
 pub refusal_whole : (code : ℕ) → front_blocks (refusal_head code (length (refusal_body code))) (refusal_body code) ≡ message_blocks (refusal code)
 refusal_whole code = sym (append-nil (front_blocks (refusal_head code (length (refusal_body code))) (refusal_body code)))
+
+-- with the field that closes the connection it weighs no more than the least buffer has
+page_short : (code : ℕ) → length (decimal code) ≤ 20 → length (reason_of code) ≤ 21 → length (refusal_body code) ≤ 78
+unfolding refusal_body
+page_short code digits reason =
+    let parts : length (refusal_body code) ≡ 37 + (length (decimal code) + length (reason_of code)) = simp length-append (omega arith) in
+    omega (arith, reason, digits, parts)
+
+pub refusal_closes : (code : ℕ) → length (decimal code) ≤ 20 → length (reason_of code) ≤ 21 → load (message_blocks (closing (refusal code))) ≤ 1024
+unfolding refusal_body
+refusal_closes code digits reason =
+    let body : length (refusal_body code) ≤ 78 = page_short code digits reason in
+    omega (arith, reason, body, digits, digits_few (length (refusal_body code)) (omega arith))

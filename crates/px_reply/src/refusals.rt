@@ -1,7 +1,7 @@
 //! The refusal of a code.
 ghost use Rattle.std.specs.Prelude.{◌≡◌, ◌≤◌, ◌↔◌, [], length, decimal, OnOk, IsOk};
 ghost use Rattle.http_model.specs.Head.{Head, head_blocks, front_blocks, message_blocks};
-ghost use Rattle.http_model.specs.Refusal.{reason_of, refusal, refusal_body};
+ghost use Rattle.http_model.specs.Refusal.{reason_of, refusal, refusal_body, closing};
 ghost use Rattle.http_model.specs.Sizes.{least_size};
 ghost use Rattle.htx_arena.specs.Blocks.{load, Fits};
 ghost use Rattle.px_reply.specs.Refused.{refusal_head, most_refusal_head};
@@ -57,11 +57,12 @@ fn body_len(code: u16, digits: &[u8], reason: &[u8]) -> u64
 }
 
 /// Writes the refusal of a code, without `connection: close`, into an empty array: a short page that tells the code and its
-/// reason to a person. It always fits.
+/// reason to a person. It always fits, with that field too.
 pub fn refusal(code: u16, to: &mut Arena)
     requires empty { to.old.blocks ≡ [] }
     requires least { least_size ≤ to.old.size }
     ensures blocks { to.new.blocks ≡ message_blocks (refusal code) }
+    ensures closes { Fits (message_blocks (closing (refusal code))) to.new.size }
     ensures size { to.new.size ≡ to.old.size }
 {
     let reason = reason_of(code);

@@ -2,12 +2,12 @@
 use Rattle.std.proofs.Common.{◌≡◌, ℕ, List, [], ◌∷◌, ◌++◌, Bool, true, false, cond, not, map, filter, refl, sym, ap, ◌∙◌, subst, append_assoc}
 use Rattle.http_model.specs.Block.{Block, Header, EndHeaders, Data}
 use Rattle.http_model.specs.Blocks.{append_data}
-use Rattle.http_model.specs.Head.{Field, StartLine, RequestLine, StatusLine, Head, line_block, header_block, head_blocks, front_blocks}
+use Rattle.http_model.specs.Head.{Field, StartLine, RequestLine, StatusLine, Head, line_block, header_block, front_blocks}
 use Rattle.http_model.specs.Fields.{is_named, without, set_field, add_field}
-use Rattle.header_ops.specs.Headers.{is_header_named, without_headers, with_header, set_header, HasEnd}
+use Rattle.header_ops.specs.Headers.{is_header_named, with_header, set_header, HasEnd}
 
 -- what stands behind the line
-abbrev behind_line : List Field → List ℕ → List Block
+abbrev pub behind_line : List Field → List ℕ → List Block
 behind_line fields body = map header_block fields ++ EndHeaders ∷ append_data [] body
 
 pub front_is : (line : StartLine) (fields : List Field) (body : List ℕ)

@@ -4,3 +4,14 @@ pub mod Places
 pub mod Lines
 pub mod Targets
 pub mod Doing
+pub mod Replaced
+pub mod Groups
+pub mod Filling
+pub mod Retargeting
+pub mod Placed
+pub mod Turns
+pub mod Spread
+pub mod Going
+pub mod Answering
+pub mod Sending
+pub mod Replied

@@ -1,10 +1,9 @@
 -- What one rule makes of an environment.
-use Rattle.std.specs.Prelude.{ℕ, List, [], ◌∷◌, Bool, true, false, not, Result, Ok, Err}
+use Rattle.std.specs.Prelude.{ℕ, List, [], ◌∷◌, Result, Ok, Err}
 use Rattle.http_model.specs.declared.Why.{Why}
 use Rattle.http_model.specs.Head.{Message}
 use Rattle.rule_model.specs.declared.action.Action.{Action}
 use Rattle.rule_model.specs.declared.action.Action.TheVariants as actions
-use Rattle.rule_model.specs.Patterns.{del_holds_pattern}
 use Rattle.rule_actions.specs.Given.{Env}
 use Rattle.rule_actions.specs.Edits.{Step}
 use Rattle.rule_actions.specs.Steps.{steps_of}
@@ -40,27 +39,3 @@ act size (actions.Deny code) env = Denies code
 act size (actions.Redirect to code drop_query append_slash) env = replying env (redirected size to code drop_query append_slash env)
 act size (actions.Return status content_type payload hdrs) env = replying env (returned size status content_type payload hdrs env)
 act size action env = run_steps (steps_of size action env) env
-
--- the action is run today; one that isn't is in no valid configuration
-abbrev pub is_built : Action → Bool
-is_built actions.Allow = true
-is_built (actions.Deny code) = true
-is_built (actions.AddHeader name fmt) = true
-is_built (actions.SetHeader name fmt) = true
-is_built (actions.DelHeader by) = not (del_holds_pattern by)
-is_built (actions.ReplaceHeader name pat fmt) = false
-is_built (actions.ReplaceValue name pat fmt) = false
-is_built (actions.SetMethod fmt) = true
-is_built (actions.SetPath fmt) = true
-is_built (actions.SetPathq fmt) = true
-is_built (actions.SetUri fmt) = true
-is_built (actions.SetQuery fmt) = true
-is_built (actions.ReplacePath pat fmt) = false
-is_built (actions.ReplacePathq pat fmt) = false
-is_built (actions.ReplaceUri pat fmt) = false
-is_built (actions.SetStatus code reason) = true
-is_built (actions.Redirect to code drop_query append_slash) = false
-is_built (actions.Return status content_type payload hdrs) = false
-is_built (actions.SetVar scope name expr) = true
-is_built (actions.UnsetVar scope name) = true
-is_built (actions.StrictMode on) = true

@@ -12,4 +12,9 @@ pub mod Replies
 pub mod Steps
 pub mod Acts
 pub mod Outcome
+pub mod Filling
+pub mod Turns
+pub mod Going
 pub mod Does
+pub mod Answering
+pub mod Written

@@ -1,5 +1,5 @@
 -- Values in which a pattern matches, with a template in their place (Configuration Manual, section 4.2, "replace-header").
-use Rattle.std.specs.Prelude.{ℕ, zero, suc, ◌+◌, List, [], ◌∷◌, ◌++◌, length, drop, slice_get, slice_set, slice_range, Bool, is_some, Option, Some, None, if◌then◌else◌, Result, Ok, Err}
+use Rattle.std.specs.Prelude.{ℕ, suc, ◌+◌, List, [], ◌∷◌, ◌++◌, length, drop, slice_get, slice_set, slice_range, Bool, is_some, Option, Some, None, if◌then◌else◌, Result, Ok}
 use Rattle.std.specs.List.{list_any}
 use Rattle.http_model.specs.declared.Why.{Why}
 use Rattle.http_model.specs.Head.{Head, Field}
@@ -11,6 +11,8 @@ use Rattle.px_pattern.specs.Meaning.{pattern_of}
 use Rattle.px_conv.specs.Regsub.{groups_of}
 use Rattle.px_conv.specs.Template.{expanded}
 use Rattle.log_format.specs.declared.fmt.Fmt.{Fmt}
+use Rattle.rule_actions.specs.declared.extent.Extent.{Extent}
+use Rattle.rule_actions.specs.declared.extent.Extent.TheVariants.{Whole, Values}
 use Rattle.rule_actions.specs.Given.{Env, text_on}
 use Rattle.rule_actions.specs.Edits.{Step, by_text, by_value}
 
@@ -75,12 +77,26 @@ rebuilt make field from (placed ∷ others) =
 abbrev pub replaced_values : Pattern → (template field : List ℕ) → List ℕ
 replaced_values pat template field = rebuilt (replaced pat template) field 0 (placed_values field)
 
--- The values of one field, all of which are read before the field is edited. What is made is the whole field value, which is
--- within the buffer before it is trimmed.
+-- What is made of a field in a value of which the pattern matches, by the format's text: the whole field value, which is within
+-- the buffer too.
+abbrev pub by_matches : (size : ℕ) → Env → Pattern → Fmt → (field : List ℕ) → (List ℕ → Result Env Why) → Result Env Why
+by_matches size env pat fmt field make =
+    if list_any (matches pat) (values_of field)
+    then by_text size (text_on size env fmt) (λ template. by_text size (replaced_values pat template field) make) else Ok env
+
+-- the values of one field, all of which are read before the field is edited
 abbrev pub replace_values : (size : ℕ) → Pattern → Fmt → ℕ → Step
 replace_values size pat fmt at env =
-    on_field env at (λ field.
-    if list_any (matches pat) (values_of field.1)
-    then by_text size (text_on size env fmt) (λ template.
-    by_text size (replaced_values pat template field.1) (λ text. by_value size env text (with_value env.head at field)))
-    else Ok env)
+    on_field env at (λ field. by_matches size env pat fmt field.1 (λ text. by_value size env text (with_value env.head at field)))
+
+-- ---- both
+
+-- what is made of the whole of a field, or of its values
+abbrev pub by_extent : Extent → (size : ℕ) → Env → Pattern → Fmt → (field : List ℕ) → (List ℕ → Result Env Why) → Result Env Why
+by_extent Whole size env pat fmt field make = by_match size env pat fmt field make
+by_extent Values size env pat fmt field make = by_matches size env pat fmt field make
+
+-- one field
+abbrev pub replace_in : Extent → (size : ℕ) → Pattern → Fmt → ℕ → Step
+replace_in extent size pat fmt at env =
+    on_field env at (λ field. by_extent extent size env pat fmt field.1 (λ text. by_value size env text (with_value env.head at field)))

@@ -1,5 +1,5 @@
 -- What `redirect` and `return` send, without the field that speaks of the connection.
-use Rattle.std.specs.Prelude.{ℕ, List, [], ◌∷◌, ◌++◌, map, Bool, true, false, not, ◌&&◌, ◌||◌, ◌==◌, length, nat_le, nat_eq, codes, Option, Some, None, option_map, if◌then◌else◌, Result, Ok, Err}
+use Rattle.std.specs.Prelude.{ℕ, List, [], ◌++◌, map, Bool, true, not, ◌&&◌, ◌||◌, ◌==◌, length, nat_le, nat_eq, codes, Option, Some, None, option_map, if◌then◌else◌, Result, Ok, Err}
 use Rattle.std.specs.List.{list_all, ends_with}
 use Rattle.std.specs.Str.{bytes_eq}
 use Rattle.http_model.specs.declared.Why.{Why}
@@ -55,13 +55,26 @@ led_prefix text = if bytes_eq text (codes "/") then [] else text
 abbrev pub slash_behind : Bool → (path : List ℕ) → List ℕ
 slash_behind asked path = if asked && not (ends_with nat_eq path (codes "/")) then codes "/" else []
 
+-- what stands behind the path of a location: the query, or in its place a `/` where it is asked for
+abbrev pub behind_prefixed : (drop_query append_slash : Bool) → TargetParts → List ℕ
+behind_prefixed drop_query append_slash parts = if drop_query then slash_behind append_slash (led_path parts) else led_query parts
+
+abbrev pub behind_schemed : (drop_query : Bool) → TargetParts → List ℕ
+behind_schemed drop_query parts = if drop_query then [] else led_query parts
+
+-- the location behind a prefix
+abbrev pub prefixed : (drop_query append_slash : Bool) → (text : List ℕ) → TargetParts → List ℕ
+prefixed drop_query append_slash text parts = led_prefix text ++ (led_path parts ++ behind_prefixed drop_query append_slash parts)
+
+-- the location of the same host under a scheme
+abbrev pub schemed : (drop_query : Bool) → (text host : List ℕ) → TargetParts → List ℕ
+schemed drop_query text host parts = text ++ (codes "://" ++ (host ++ (led_path parts ++ behind_schemed drop_query parts)))
+
 -- the location, by the text of the format, the first Host value and the parts of the target
 abbrev pub location_by : RedirectTo → (drop_query append_slash : Bool) → (text host : List ℕ) → TargetParts → List ℕ
 location_by (Location fmt) drop_query append_slash text host parts = text
-location_by (Prefix fmt) drop_query append_slash text host parts =
-    led_prefix text ++ (led_path parts ++ (if drop_query then slash_behind append_slash (led_path parts) else led_query parts))
-location_by (Scheme fmt) drop_query append_slash text host parts =
-    text ++ (codes "://" ++ (host ++ (led_path parts ++ (if drop_query then [] else led_query parts))))
+location_by (Prefix fmt) drop_query append_slash text host parts = prefixed drop_query append_slash text parts
+location_by (Scheme fmt) drop_query append_slash text host parts = schemed drop_query text host parts
 
 -- the same on an environment
 abbrev pub location_on : RedirectTo → (drop_query append_slash : Bool) → (text : List ℕ) → Env → List ℕ

@@ -3,12 +3,16 @@ ghost use Rattle.std.specs.Prelude.{◌≡◌, [], false, true, IsOk, IfOk};
 ghost use Rattle.rule_model.specs.Valid.{IsGoodAction};
 ghost use Rattle.rule_model.specs.Patterns.{action_holds_pattern};
 ghost use Rattle.rule_actions.specs.Given.{Env};
-ghost use Rattle.rule_actions.specs.Acts.{act, is_built};
+ghost use Rattle.rule_actions.specs.Acts.{act};
+ghost use Rattle.rule_actions.specs.Answering.{answers};
 ghost use Rattle.rule_actions.specs.Outcome.{IsScratch, IsAt, IsFront};
 
+use crate::extent::Extent;
 use crate::making::{add_header, set_header, set_method, set_part, set_query, set_status};
 use crate::part::TargetPart;
 use crate::removal::del_header;
+use crate::replacing::replace_fields;
+use crate::retarget::replace_part;
 use crate::scratch::Scratch;
 use crate::side::Side;
 use crate::stepped::Stepped;
@@ -47,7 +51,7 @@ fn done_by(step: Stepped) -> Acted
     }
 }
 
-/// Runs an action on a message.
+/// Runs an action on a message, but for one that answers by itself: `run_reply` has these.
 #[tactic(auto, using(crate::proofs::Doing::one), unfolding(crate::specs::Acts::act, crate::specs::Steps::steps_of))]
 pub fn run_action<'c>(
     alloc: Global,
@@ -61,7 +65,7 @@ pub fn run_action<'c>(
     requires scratch { IsScratch msg.old.size scratch.old }
     requires front { IsFront msg.old.blocks }
     requires valid { IsGoodAction action.now }
-    requires built { is_built action.now ≡ true }
+    requires edits { answers action.now ≡ false }
     ensures came { IfOk result (λ done. (env : Env) → IsAt side.entry env msg.old.blocks vars.old
         → Does side.entry env (act msg.old.size action.now env) done msg.new.blocks vars.new []) }
     ensures succeeds { action_holds_pattern action.now ≡ false → IsOk result }
@@ -97,7 +101,10 @@ pub fn run_action<'c>(
             )?;
             Ok(done_by(step))
         }
-        Action::DelHeader(by) => Ok(done_by(del_header(by, msg))),
+        Action::DelHeader(by) => {
+            let step = del_header(alloc, searchers, by, msg, scratch)?;
+            Ok(done_by(step))
+        }
         Action::SetMethod(fmt) => {
             let step = set_method(alloc, searchers, fmt, side, msg, vars, scratch)?;
             Ok(done_by(step))
@@ -162,12 +169,78 @@ pub fn run_action<'c>(
         }
         Action::UnsetVar(scope, name) => Ok(done_by(unset_var(*scope, name.as_slice(), vars))),
         Action::StrictMode(_) => Ok(Acted::Next),
-        Action::ReplaceHeader(_, _, _)
-        | Action::ReplaceValue(_, _, _)
-        | Action::ReplacePath(_, _)
-        | Action::ReplacePathq(_, _)
-        | Action::ReplaceUri(_, _)
-        | Action::Redirect { .. }
-        | Action::Return { .. } => unreachable!(),
+        Action::ReplaceHeader(name, pat, fmt) => {
+            let step = replace_fields(
+                alloc,
+                searchers,
+                Extent::Whole,
+                name.as_slice(),
+                pat,
+                fmt,
+                side,
+                msg,
+                vars,
+                scratch,
+            )?;
+            Ok(done_by(step))
+        }
+        Action::ReplaceValue(name, pat, fmt) => {
+            let step = replace_fields(
+                alloc,
+                searchers,
+                Extent::Values,
+                name.as_slice(),
+                pat,
+                fmt,
+                side,
+                msg,
+                vars,
+                scratch,
+            )?;
+            Ok(done_by(step))
+        }
+        Action::ReplacePath(pat, fmt) => {
+            let step = replace_part(
+                alloc,
+                searchers,
+                TargetPart::Path,
+                pat,
+                fmt,
+                side,
+                msg,
+                vars,
+                scratch,
+            )?;
+            Ok(done_by(step))
+        }
+        Action::ReplacePathq(pat, fmt) => {
+            let step = replace_part(
+                alloc,
+                searchers,
+                TargetPart::Pathq,
+                pat,
+                fmt,
+                side,
+                msg,
+                vars,
+                scratch,
+            )?;
+            Ok(done_by(step))
+        }
+        Action::ReplaceUri(pat, fmt) => {
+            let step = replace_part(
+                alloc,
+                searchers,
+                TargetPart::Uri,
+                pat,
+                fmt,
+                side,
+                msg,
+                vars,
+                scratch,
+            )?;
+            Ok(done_by(step))
+        }
+        Action::Redirect { .. } | Action::Return { .. } => unreachable!(),
     }
 }

@@ -3,11 +3,23 @@
 #![tactic(auto)]
 
 mod act;
+mod extent;
 mod fields;
+mod filled;
 mod line;
+mod listed;
+mod location;
 mod making;
 mod part;
+mod payload;
+mod redirect;
 mod removal;
+mod removal_by;
+mod replacing;
+mod reply_fields;
+mod replying;
+mod retarget;
+mod returning;
 mod scratch;
 mod side;
 mod status;
@@ -18,6 +30,7 @@ mod variables;
 
 pub use act::{Acted, run_action};
 pub use part::TargetPart;
+pub use replying::{answers, run_reply};
 pub use scratch::Scratch;
 pub use side::Side;
 pub use stepped::Stepped;

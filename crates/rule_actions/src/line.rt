@@ -44,7 +44,7 @@ fn are_all_target_bytes(front: &[u8], text: &[u8], back: &[u8]) -> bool
 }
 
 /// Joins three pieces over what a buffer holds; false where they do not fit.
-fn join(front: &[u8], text: &[u8], back: &[u8], into: &mut Buf) -> bool
+pub(crate) fn join(front: &[u8], text: &[u8], back: &[u8], into: &mut Buf) -> bool
     ensures fits { IsTrue result ↔ (length (front.now ++ (text.now ++ back.now)) ≤ into.old.cap) }
     ensures joined { OnTrue result (into.new.bytes ≡ front.now ++ (text.now ++ back.now)) }
     ensures cap { into.new.cap ≡ into.old.cap }

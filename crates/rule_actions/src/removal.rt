@@ -1,5 +1,5 @@
 //! `del-header` by a name or a part of one.
-ghost use Rattle.std.specs.Prelude.{◌≡◌, false, not, filter};
+ghost use Rattle.std.specs.Prelude.{◌≡◌, false, not, filter, IfOk, IsOk};
 ghost use Rattle.header_ops.specs.Matching.{is_field_matching};
 ghost use Rattle.px_sample.specs.Variables.{Variables};
 ghost use Rattle.rule_model.specs.Patterns.{del_holds_pattern};
@@ -7,12 +7,17 @@ ghost use Rattle.rule_actions.specs.declared.side.Side.{Side as On};
 ghost use Rattle.rule_actions.specs.Given.{Env};
 ghost use Rattle.rule_actions.specs.Edits.{edited};
 ghost use Rattle.rule_actions.specs.Steps.{del_step};
-ghost use Rattle.rule_actions.specs.Outcome.{IsAt, Came};
+ghost use Rattle.rule_actions.specs.Outcome.{IsScratch, IsAt, Came, IsFront};
 
+use crate::removal_by::remove_matching;
+use crate::scratch::Scratch;
 use crate::stepped::Stepped;
 use header_ops::{NameMatch, remove_where};
 use htx_arena::Arena;
+use px_expr::Searchers;
+use px_sample::OutOfMemory;
 use rule_model::DelBy;
+use std::alloc::Global;
 
 /// Removes the fields whose names are meant. Those that frame the message or speak of its connection stay.
 fn remove_meant(msg: &mut Arena, which: &NameMatch<'_>) -> Stepped
@@ -26,17 +31,26 @@ fn remove_meant(msg: &mut Arena, which: &NameMatch<'_>) -> Stepped
 }
 
 /// `del-header`.
-pub(crate) fn del_header(by: &DelBy, msg: &mut Arena) -> Stepped
-    requires { del_holds_pattern by.now ≡ false }
-    ensures came { (side : On) (env : Env) (vars : Variables) → IsAt side env msg.old.blocks vars
-        → Came side env (del_step msg.old.size by.now env) result msg.new.blocks vars }
+pub(crate) fn del_header<'c>(
+    alloc: Global,
+    searchers: &mut Searchers<'c>,
+    by: &'c DelBy,
+    msg: &mut Arena,
+    scratch: &mut Scratch,
+) -> Result<Stepped, OutOfMemory>
+    requires scratch { IsScratch msg.old.size scratch.old }
+    requires front { IsFront msg.old.blocks }
+    ensures came { IfOk result (λ step. (side : On) (env : Env) (vars : Variables) → IsAt side env msg.old.blocks vars
+        → Came side env (del_step msg.old.size by.now env) step msg.new.blocks vars) }
+    ensures succeeds { del_holds_pattern by.now ≡ false → IsOk result }
     ensures size { msg.new.size ≡ msg.old.size }
+    ensures scratch { IsScratch msg.old.size scratch.new }
 {
     match by {
-        DelBy::Str(text) => remove_meant(msg, &NameMatch::Str(text.as_slice())),
-        DelBy::Beg(text) => remove_meant(msg, &NameMatch::Beg(text.as_slice())),
-        DelBy::End(text) => remove_meant(msg, &NameMatch::End(text.as_slice())),
-        DelBy::Sub(text) => remove_meant(msg, &NameMatch::Sub(text.as_slice())),
-        DelBy::Reg(_) => unreachable!(),
+        DelBy::Str(text) => Ok(remove_meant(msg, &NameMatch::Str(text.as_slice()))),
+        DelBy::Beg(text) => Ok(remove_meant(msg, &NameMatch::Beg(text.as_slice()))),
+        DelBy::End(text) => Ok(remove_meant(msg, &NameMatch::End(text.as_slice()))),
+        DelBy::Sub(text) => Ok(remove_meant(msg, &NameMatch::Sub(text.as_slice()))),
+        DelBy::Reg(pat) => remove_matching(alloc, searchers, pat, msg, &mut scratch.text),
     }
 }

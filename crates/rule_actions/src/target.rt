@@ -18,7 +18,7 @@ fn query_len(query: Option<&[u8]>) -> usize
 }
 
 /// What stands in front of a query, and the query with its `?`.
-fn cut_query(target: &[u8]) -> (&[u8], &[u8])
+pub(crate) fn cut_query(target: &[u8]) -> (&[u8], &[u8])
     ensures front { result.0.now ≡ spec.origin_of target.now ++ spec.path_of target.now }
     ensures query { result.1.now ≡ spec.query_of target.now }
 {

@@ -14,8 +14,41 @@ use http_fetch::{ReqEnv, ResEnv};
 use htx_arena::Arena;
 use log_format::{Fmt, format};
 use px_expr::{Expr, Searchers, eval};
-use px_sample::{OutOfMemory, Sample, Vars};
+use px_sample::{Buf, OutOfMemory, Sample, Vars};
 use std::alloc::Global;
+
+/// Writes the text of a format into a buffer of the array's size; false where it is longer.
+pub(crate) fn write_into<'c>(
+    alloc: Global,
+    searchers: &mut Searchers<'c>,
+    fmt: &'c Fmt,
+    side: Side<'_>,
+    msg: &Arena,
+    vars: &Vars,
+    into: &mut Buf,
+    buf: &mut Buf,
+    spare: &mut Buf,
+) -> Result<bool, OutOfMemory>
+    requires into { into.old.cap ≡ msg.now.size }
+    requires buf { buf.old.cap ≡ msg.now.size }
+    requires spare { spare.old.cap ≡ msg.now.size }
+    ensures made { IfOk result (λ fits. (env : Env) → IsAt side.entry env msg.now.blocks vars.now → IsMade msg.now.size (text_on msg.now.size env fmt.now) fits into.new.bytes) }
+    ensures succeeds { formats.holds_pattern fmt.now ≡ false → IsOk result }
+    ensures into { into.new.cap ≡ msg.now.size }
+    ensures buf { buf.new.cap ≡ msg.now.size }
+    ensures spare { spare.new.cap ≡ msg.now.size }
+{
+    match side {
+        Side::Request => {
+            let env = ReqEnv::new(msg, vars);
+            format(alloc, searchers, fmt, &env, into, buf, spare)
+        }
+        Side::Answer(method) => {
+            let env = ResEnv::new(msg, method, vars);
+            format(alloc, searchers, fmt, &env, into, buf, spare)
+        }
+    }
+}
 
 /// Writes the text of a format into `scratch.text`; false where it is longer than the array.
 pub(crate) fn write_text<'c>(
@@ -38,21 +71,7 @@ pub(crate) fn write_text<'c>(
         spare,
         ..
     } = scratch;
-    match side {
-        Side::Request => format(
-            alloc,
-            searchers,
-            fmt,
-            &ReqEnv::new(msg, vars),
-            text,
-            buf,
-            spare,
-        ),
-        Side::Answer(method) => {
-            let env = ResEnv::new(msg, method, vars);
-            format(alloc, searchers, fmt, &env, text, buf, spare)
-        }
-    }
+    write_into(alloc, searchers, fmt, side, msg, vars, text, buf, spare)
 }
 
 /// The sample of an expression; its bytes stand in `scratch.buf`.

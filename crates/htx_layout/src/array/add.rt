@@ -5,7 +5,7 @@ ghost use Rattle.htx_layout.specs.Addresses.{inserted};
 
 use crate::array::Array;
 use crate::new_block::NewBlock;
-use crate::sites::{self, Ends};
+use crate::sites;
 
 #[tactic(auto, using(crate::proofs::WholeLemmas::wholes))]
 impl Array {
@@ -18,13 +18,7 @@ impl Array {
         ensures addrs { self.new.addrs ≡ (inserted self.old at (payload_len new.now)).addrs }
         ensures front { self.new.front ≡ (inserted self.old at (payload_len new.now)).front }
     {
-        let ends = Ends {
-            front: self.front,
-            top: self.top,
-        };
-        let ends = sites::add(&mut self.space, self.count, ends, at, new);
-        self.front = ends.front;
-        self.top = ends.top;
+        self.ends = sites::add(&mut self.space, self.count, self.ends, at, new);
         self.count += 1;
         self.load += 8 + new.len();
     }

@@ -7,8 +7,9 @@ ghost use Rattle.htx_layout.specs.Place.{settled};
 ghost use Rattle.htx_layout.specs.Addresses.{removed, truncated, dropped, defragmented};
 
 use crate::array::Array;
+use crate::scan::{self, Ends};
 use crate::words::Info;
-use crate::{change, edits, pack, scan, sites};
+use crate::{change, edits, pack, sites};
 
 #[tactic(auto, using(crate::proofs::WholeLemmas::wholes))]
 impl Array {
@@ -21,8 +22,7 @@ impl Array {
     {
         self.count = 0;
         self.load = 0;
-        self.front = 0;
-        self.top = 0;
+        self.ends = Ends { front: 0, top: 0 };
     }
 
     /// Takes out a block.
@@ -50,7 +50,7 @@ impl Array {
         edits::unlist(&mut self.space, self.count, at);
         self.count -= 1;
         self.load -= 8 + len;
-        self.top = scan::top_behind(&self.space, self.count, self.top, end);
+        self.ends.top = scan::top_behind(&self.space, self.count, self.ends, end);
     }
 
     /// Brings `front` to 0 where no payload stands at or above it.
@@ -60,7 +60,7 @@ impl Array {
         ensures addrs { self.new.addrs ≡ self.old.addrs }
         ensures front { self.new.front ≡ settled self.old.front self.old.addrs }
     {
-        self.front = sites::settle(self.front, self.top);
+        self.ends.front = sites::settle(self.ends);
     }
 
     /// Drops the blocks from an index on.
@@ -73,7 +73,7 @@ impl Array {
     {
         self.load -= scan::weight_from(&self.space, self.count, at);
         self.count = at;
-        self.top = scan::top_of(&self.space, self.count);
+        self.ends.top = scan::top_of(&self.space, self.count);
         self.settle();
     }
 
@@ -88,7 +88,7 @@ impl Array {
         self.load -= scan::weight_from(&self.space, n, 0);
         edits::drop_first(&mut self.space, self.count, n);
         self.count -= n;
-        self.top = scan::top_of(&self.space, self.count);
+        self.ends.top = scan::top_of(&self.space, self.count);
         self.settle();
     }
 
@@ -114,7 +114,7 @@ impl Array {
         ensures addrs { self.new.addrs ≡ (defragmented self.old).addrs }
         ensures front { self.new.front ≡ 0 }
     {
-        self.top = pack::defrag(&mut self.space, self.count);
-        self.front = 0;
+        let top = pack::defrag(&mut self.space, self.count);
+        self.ends = Ends { front: 0, top };
     }
 }

@@ -8,11 +8,11 @@ ghost use Rattle.htx_layout.specs.Place.{stays};
 ghost use Rattle.htx_layout.specs.Addresses.{replaced, placed_anew, extended};
 
 use crate::array::Array;
+use crate::longer::{self, Longer};
 use crate::new_block::NewBlock;
 use crate::payload::Payload;
-use crate::sites::Ends;
 use crate::words::Info;
-use crate::{change, longer, scan};
+use crate::{change, scan};
 
 #[tactic(auto, using(crate::proofs::WholeLemmas::wholes))]
 impl Array {
@@ -70,7 +70,7 @@ impl Array {
         let old = self.info(at);
         let len = piece.len() as u32;
         let info = Info(old.0 + len);
-        match scan::room_behind(&self.space, self.count, self.front, self.top, at, len) {
+        match scan::room_behind(&self.space, self.count, self.ends, at, len) {
             Some(front) => self.extend_here(at, front, info, piece),
             None => self.extend_anew(at, old, info, piece),
         }
@@ -92,9 +92,9 @@ impl Array {
         let keep = self.payload_len(at);
         let more = Payload::one(piece);
         change::rewrite(&mut self.space, self.count, at, keep, info, &more);
-        self.top = self.top.max(own.addr + info.payload_len());
+        self.ends.top = self.ends.top.max(own.addr + info.payload_len());
         self.load += piece.len() as u32;
-        self.front = front;
+        self.ends.front = front;
     }
 
     /// Writes bytes behind the first ones of a payload, which becomes no longer.
@@ -113,7 +113,7 @@ impl Array {
         let end = scan::end_at(&self.space, self.count, at);
         let gone = len - keep - more.len();
         change::rewrite(&mut self.space, self.count, at, keep, info, more);
-        self.top = scan::top_behind(&self.space, self.count, self.top, end);
+        self.ends.top = scan::top_behind(&self.space, self.count, self.ends, end);
         self.load -= gone;
     }
 
@@ -133,13 +133,14 @@ impl Array {
         ensures front { self.new.front ≡ (placed_anew self.old at (info_len info.0)).front }
     {
         let added = info.payload_len() - self.payload_len(at);
-        let ends = Ends {
-            front: self.front,
-            top: self.top,
+        let from = self.space.descriptor(at).addr;
+        let new = Longer {
+            from,
+            kept,
+            info,
+            more,
         };
-        let ends = longer::extend(&mut self.space, self.count, ends, at, kept, info, more);
-        self.front = ends.front;
-        self.top = ends.top;
+        self.ends = longer::extend(&mut self.space, self.count, self.ends, at, new);
         self.load += added;
     }
 }

@@ -13,11 +13,13 @@ ghost use Rattle.h1_head.specs.declared.answer.Side.{Side};
 ghost use Rattle.lane_core.specs.Sends.{Past, Stands, GoesOn, IsAtRest, IsAllOut, IsSound, IsReady, IsReading, RestsFor, begun};
 ghost use Rattle.lane_core.specs.declared.stage.Stage.TheVariants as stage;
 
+use crate::input::Input;
 use crate::lane::Lane;
 use crate::stage::{Source, Stage};
 use body_filter::FilterSpec;
 use body_sieve::Sieve;
 use h1_body::BodyReader;
+use h1_head::laws::stays_scanned;
 use h1_write::Writer;
 use header_ops::remove_framing;
 use http_model::{Ending, Framing, Limits};
@@ -39,15 +41,6 @@ fn sieve_of(alloc: Global, filters: &[FilterSpec], size: u32) -> Result<Option<S
     }
     let sieve = Sieve::open(alloc, filters, size)?;
     Ok(Some(sieve))
-}
-
-/// Puts bytes that fit behind those in a window.
-fn push_all(input: &mut Window, bytes: &[u8])
-    requires { length input.old.items + length bytes.now ≤ input.old.capacity }
-    ensures items { input.new.items ≡ input.old.items ++ bytes.now }
-    ensures capacity { input.new.capacity ≡ input.old.capacity }
-{
-    input.push(bytes);
 }
 
 /// Begins a new body, where there are filters.
@@ -84,9 +77,10 @@ impl Lane {
         ensures input { IfOk result (λ lane. (lane.input.items ≡ []) × (lane.ended ≡ None)) }
         ensures limits { IfOk result (λ lane. lane.limits ≡ limits) }
     {
+        stays_scanned();
         Ok(Lane {
             limits,
-            input: Window::new(alloc, limits.bufsize)?,
+            input: Input::new(alloc, limits.bufsize)?,
             ended: None,
             scanned: 0,
             msg: Arena::new(alloc, limits.bufsize)?,
@@ -156,7 +150,8 @@ impl Lane {
         ensures reading { (side : Side) → IsReading side self.old → IsReading side self.new }
         ensures stands { (p : Past) → Stands self.old p → Stands self.new (record p { bytes = p.bytes ++ bytes.now }) }
     {
-        push_all(&mut self.input, bytes);
+        stays_scanned();
+        self.input.push(bytes);
     }
 
     /// The stream ends.
@@ -269,6 +264,7 @@ impl Lane {
         ensures same { (self.new.input ≡ self.old.input) × (self.new.ended ≡ self.old.ended) × (self.new.limits ≡ self.old.limits) × (self.new.output ≡ self.old.output) }
         ensures sieve { self.new.sieve ≡ self.old.sieve }
     {
+        stays_scanned();
         self.msg.clear();
         self.out.clear();
         self.source = Source::Going;

@@ -9,7 +9,6 @@ ghost use Rattle.lane_core.specs.declared.stage.Source.TheVariants as source;
 
 use crate::hold::hold;
 use crate::lane::Lane;
-use crate::pull::pull;
 use crate::stage::Source;
 use h1_body::{BodyReader, BodyState};
 use http_model::Ending;
@@ -62,7 +61,7 @@ impl Lane {
         ensures sized { IsSized self.old → IsSized self.new }
         ensures empty { (p : Past) → Sends self.old p → self.old.source ≡ source.Going → result ≡ false → self.new.msg.blocks ≡ [] }
     {
-        let pulled = pull(&mut self.input, &mut self.reader, &mut self.msg);
+        let pulled = self.input.pull(&mut self.reader, &mut self.msg);
         match pulled.state {
             BodyState::Whole => {
                 self.source = Source::Whole;

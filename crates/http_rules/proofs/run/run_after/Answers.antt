@@ -1,26 +1,22 @@
-use Rattle.std.specs.Prelude.{◌≡◌, ℕ, List, [], false}
-use Rattle.http_model.specs.Head.{Head, head_blocks, front_blocks}
-use Rattle.rule_actions.specs.Given.{Env}
-use Rattle.rule_actions.specs.Outcome.{IsAt}
-use Rattle.http_rules.specs.declared.verdict.Verdict.{Verdict}
-use Rattle.http_rules.specs.Run.{Leaves}
-use Rattle.std.proofs.lemmas.Result.{IfOk-weaker}
-use Rattle.session_model.specs.Env.{request_env, response_env}
+use Rattle.std.proofs.Common.{false, subst}
 use Rattle.rule_model.specs.declared.names.Direction.TheVariants as directions
 use Rattle.rule_actions.specs.declared.side.Side.TheVariants as sides
-use Rattle.http_rules.specs.Rules.{rules_of}
-use Rattle.http_rules.proofs.Runs.{on_request, on_answer, on_sent, head_front, good_actions, no_reply}
+use Rattle.http_rules.specs.declared.verdict.Ended.{Ended}
+use Rattle.http_rules.specs.Run.{EndsAt, AnswersAt}
+use Rattle.http_rules.proofs.Asked.{no_answer}
+use Rattle.http_rules.proofs.Runs.{on_sent, good_actions}
 use Rattle.http_rules.proofs.run.run_after.Goals as goal
 
-pub run_rules-requires-clause-front : goal.run_rules-requires-clause-front
-run_rules-requires-clause-front c = c.requires.front
-
 pub run_rules-requires-clause-good : goal.run_rules-requires-clause-good
-run_rules-requires-clause-good c = good_actions directions.After c.args.rules.now c.requires.valid.valid.each
+run_rules-requires-clause-good c = good_actions directions.After c.args.rules.now c.requires.valid.each
 
 pub returns-clause-runs : goal.returns-clause-runs
 returns-clause-runs c =
-    IfOk-weaker c.run_rules.result
-    (λ (verdict : Verdict). (env : Env) → IsAt (sides.Answer c.args.method) env c.args.msg.now.blocks c.args.vars.now → Leaves (sides.Answer c.args.method) (rules_of c.args.msg.now.size c.args.rules.now env) verdict c.run_rules.new.msg.blocks c.run_rules.new.vars [])
-    (λ (verdict : Verdict). (head : Head) (body : List ℕ) → c.args.msg.now.blocks ≡ front_blocks head body → Leaves (sides.Answer c.args.method) (rules_of c.args.msg.now.size c.args.rules.now (record { is_request = false; head = head; body = body; method = c.args.method.now; vars = c.args.vars.now })) verdict c.run_rules.new.msg.blocks c.run_rules.new.vars [])
-    (λ verdict h. λ head body is. h (record { is_request = false; head = head; body = body; method = c.args.method.now; vars = c.args.vars.now }) (on_sent c.args.method head body c.args.msg.now.blocks c.args.vars.now is)) c.run_rules.ensures.leaves
+    λ head body is.
+    let env = record { is_request = false; head = head; body = body; method = c.args.method.now; vars = c.args.vars.now } in
+    subst (λ (o : Ended). EndsAt (sides.Answer c.args.method) c.args.msg.now.size c.args.rules.now env o c.run_rules.new.msg.blocks c.run_rules.new.vars) c.in-With.is
+    (c.in_ok-verdict.ensures.leaves env (on_sent c.args.method head body c.args.msg.now.blocks c.args.vars.now is))
+
+pub unreachable-requires : goal.unreachable-requires
+unreachable-requires c =
+    no_answer c.args.rules.now c.in-Answering.field-0.now c.requires.valid.each (subst (λ (o : Ended). AnswersAt c.args.rules.now o) c.in-Answering.is c.in_ok-verdict.ensures.answers)

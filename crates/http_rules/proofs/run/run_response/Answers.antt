@@ -1,26 +1,26 @@
-use Rattle.std.specs.Prelude.{◌≡◌, ℕ, List, [], false}
-use Rattle.http_model.specs.Head.{Head, head_blocks, front_blocks}
+use Rattle.std.specs.Prelude.{◌≡◌}
+use Rattle.http_model.specs.Head.{Head, head_blocks}
 use Rattle.rule_actions.specs.Given.{Env}
 use Rattle.rule_actions.specs.Outcome.{IsAt}
 use Rattle.http_rules.specs.declared.verdict.Verdict.{Verdict}
 use Rattle.http_rules.specs.Run.{Leaves}
 use Rattle.std.proofs.lemmas.Result.{IfOk-weaker}
-use Rattle.session_model.specs.Env.{request_env, response_env}
+use Rattle.session_model.specs.Env.{response_env}
 use Rattle.rule_model.specs.declared.names.Direction.TheVariants as directions
 use Rattle.rule_actions.specs.declared.side.Side.TheVariants as sides
 use Rattle.http_rules.specs.Rules.{rules_of}
-use Rattle.http_rules.proofs.Runs.{on_request, on_answer, on_sent, head_front, good_actions, no_reply}
+use Rattle.http_rules.proofs.Runs.{on_answer, head_front, good_actions}
 use Rattle.http_rules.proofs.run.run_response.Goals as goal
 
-pub run_rules-requires-clause-front : goal.run_rules-requires-clause-front
-run_rules-requires-clause-front c = head_front c.args.msg.now.blocks c.requires.head
+pub run_all-requires-clause-front : goal.run_all-requires-clause-front
+run_all-requires-clause-front c = head_front c.args.msg.now.blocks c.requires.head
 
-pub run_rules-requires-clause-good : goal.run_rules-requires-clause-good
-run_rules-requires-clause-good c = good_actions directions.Response c.args.rules.now c.requires.valid.valid.each
+pub run_all-requires-clause-good : goal.run_all-requires-clause-good
+run_all-requires-clause-good c = good_actions directions.Response c.args.rules.now c.requires.valid.each
 
 pub returns-clause-runs : goal.returns-clause-runs
 returns-clause-runs c =
-    IfOk-weaker c.run_rules.result
-    (λ (verdict : Verdict). (env : Env) → IsAt (sides.Answer c.args.method) env c.args.msg.now.blocks c.args.vars.now → Leaves (sides.Answer c.args.method) (rules_of c.args.msg.now.size c.args.rules.now env) verdict c.run_rules.new.msg.blocks c.run_rules.new.vars [])
-    (λ (verdict : Verdict). (head : Head) → c.args.msg.now.blocks ≡ head_blocks head → Leaves (sides.Answer c.args.method) (rules_of c.args.msg.now.size c.args.rules.now (response_env c.args.vars.now c.args.method.now head)) verdict c.run_rules.new.msg.blocks c.run_rules.new.vars c.args.reply.now.blocks)
-    (λ verdict h. λ head is. no_reply (sides.Answer c.args.method) (rules_of c.args.msg.now.size c.args.rules.now (response_env c.args.vars.now c.args.method.now head)) verdict c.run_rules.new.msg.blocks c.run_rules.new.vars c.args.reply.now.blocks c.requires.no_reply (h (response_env c.args.vars.now c.args.method.now head) (on_answer c.args.method head c.args.msg.now.blocks c.args.vars.now is))) c.run_rules.ensures.leaves
+    IfOk-weaker c.run_all.result
+    (λ (verdict : Verdict). (env : Env) → IsAt (sides.Answer c.args.method) env c.args.msg.now.blocks c.args.vars.now → Leaves (sides.Answer c.args.method) (rules_of c.args.msg.now.size c.args.rules.now env) verdict c.run_all.new.msg.blocks c.run_all.new.vars c.run_all.new.reply.blocks)
+    (λ (verdict : Verdict). (head : Head) → c.args.msg.now.blocks ≡ head_blocks head → Leaves (sides.Answer c.args.method) (rules_of c.args.msg.now.size c.args.rules.now (response_env c.args.vars.now c.args.method.now head)) verdict c.run_all.new.msg.blocks c.run_all.new.vars c.run_all.new.reply.blocks)
+    (λ verdict h. λ head is. h (response_env c.args.vars.now c.args.method.now head) (on_answer c.args.method head c.args.msg.now.blocks c.args.vars.now is)) c.run_all.ensures.leaves

@@ -9,15 +9,12 @@ use Rattle.acl_eval.proofs.Trying.{not_this_one}
 use Rattle.rule_model.specs.Patterns.{rule_holds_pattern}
 use Rattle.http_rules.specs.declared.verdict.Ruled.{Ruled}
 use Rattle.http_rules.specs.Run.{RuleLeaves}
-use Rattle.http_rules.specs.Valid.{IsBuilt}
+use Rattle.http_rules.proofs.Asked.{awaits}
 use Rattle.http_rules.proofs.Runs.{Reached, at_place, begins, goes_on, ends, over, held, front_of}
 use Rattle.http_rules.proofs.run.run_rules.Goals as goal
 
 pub run_rule-requires-clause-valid : goal.run_rule-requires-clause-valid
 run_rule-requires-clause-valid c = at_place (λ rule. IsGoodAction rule.action) c.args.rules.now c.loop-at.at c.get-rule.result.now c.get-rule.ensures c.requires.good
-
-pub run_rule-requires-clause-built : goal.run_rule-requires-clause-built
-run_rule-requires-clause-built c = at_place IsBuilt c.args.rules.now c.loop-at.at c.get-rule.result.now c.get-rule.ensures c.requires.built
 
 pub loop-at-init : goal.loop-at-init
 loop-at-init c =
@@ -36,6 +33,22 @@ returns-in-Ends-clause-leaves c =
     ends c.args.side c.args.msg.now.size c.args.rules.now env c.loop-at.at c.get-rule.result.now c.loop-at.strict c.in-Ends.verdict c.loop-at.msg.blocks c.run_rule.new.msg.blocks c.loop-at.vars c.run_rule.new.vars []
     c.get-rule.ensures r
     (subst (λ (o : Ruled). RuleLeaves c.args.side c.args.msg.now.size c.get-rule.result.now c.loop-at.strict r.now o c.run_rule.new.msg.blocks c.run_rule.new.vars []) c.in-Ends.is ruled)
+
+pub returns-in-Answers-clause-leaves : goal.returns-in-Answers-clause-leaves
+returns-in-Answers-clause-leaves c =
+    λ env at.
+    let r = c.loop-at.invariant.reached env at in
+    let ruled = subst (λ (n : ℕ). RuleLeaves c.args.side n c.get-rule.result.now c.loop-at.strict r.now c.in_ok-outcome.outcome c.run_rule.new.msg.blocks c.run_rule.new.vars []) c.loop-at.invariant.size (c.in_ok-outcome.ensures.ruled r.now r.at_now) in
+    awaits c.args.side c.args.msg.now.size c.args.rules.now env c.loop-at.at c.get-rule.result.now c.loop-at.strict c.loop-at.msg.blocks c.run_rule.new.msg.blocks c.loop-at.vars c.run_rule.new.vars
+    c.get-rule.ensures r
+    (subst (λ (o : Ruled). RuleLeaves c.args.side c.args.msg.now.size c.get-rule.result.now c.loop-at.strict r.now o c.run_rule.new.msg.blocks c.run_rule.new.vars []) c.in-Answers.is ruled)
+
+pub returns-in-Answers-clause-answers : goal.returns-in-Answers-clause-answers
+returns-in-Answers-clause-answers c =
+    let start = held c.args.side c.args.msg.now.blocks c.args.vars.now c.requires.front in
+    let r = c.loop-at.invariant.reached start.0 start.1 in
+    let asked = subst (λ (o : Ruled). RuleLeaves c.args.side c.loop-at.msg.size c.get-rule.result.now c.loop-at.strict r.now o c.run_rule.new.msg.blocks c.run_rule.new.vars []) c.in-Answers.is (c.in_ok-outcome.ensures.ruled r.now r.at_now) in
+    record { at = c.loop-at.at; rule = c.get-rule.result.now; there = c.get-rule.ensures; is = refl; answers_is = asked.answers_is }
 
 pub loop-at-preserved : goal.loop-at-preserved
 loop-at-preserved c =

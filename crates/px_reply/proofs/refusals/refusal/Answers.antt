@@ -5,7 +5,7 @@ use Rattle.http_model.specs.Blocks.{load}
 use Rattle.http_model.specs.Head.{head_blocks}
 use Rattle.http_model.specs.Refusal.{reason_of, refusal_body}
 use Rattle.px_reply.specs.Refused.{refusal_head}
-use Rattle.px_reply.proofs.Rooms.{digits_few, refusal_weighs, refusal_fits, refusal_whole}
+use Rattle.px_reply.proofs.Rooms.{digits_few, refusal_weighs, refusal_fits, refusal_whole, refusal_closes}
 use Rattle.px_reply.proofs.refusals.refusal.Goals as goal
 
 pub put_body-requires-clause-light : goal.put_body-requires-clause-light
@@ -27,3 +27,9 @@ returns-clause-blocks c =
     let written : c.put_head.new.to.blocks ≡ head_blocks head =
     c.in-Ok.ensures.ok ∙ ap (λ (n : ℕ). head_blocks (refusal_head c.args.code n)) c.body_len.ensures in
     c.put_body.ensures.body head written ∙ refusal_whole c.args.code
+
+pub returns-clause-closes : goal.returns-clause-closes
+returns-clause-closes c =
+    let status : length (decimal c.args.code) ≤ 20 = digits_few c.args.code (omega arith) in
+    let reason : length (reason_of c.args.code) ≤ 21 = omega (arith, ap length c.reason_of-reason.ensures.reason, c.reason_of-reason.ensures.short) in
+    omega (arith, refusal_closes c.args.code status reason, c.requires.least)

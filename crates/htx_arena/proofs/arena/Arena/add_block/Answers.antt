@@ -8,11 +8,9 @@ use Rattle.htx_arena.proofs.arena.Arena.add_block.Goals as goal
 
 pub data-requires : goal.data-requires
 data-requires c =
-    let now = c.args.self.now in
-    let bytes = c.args.bytes.now in
     let less = c.saturating_sub.ensures in
     let k_is = c.min-len.ensures in
-    let q = takes now bytes 8 c.free.result c.min-len.result c.requires c.free.ensures.room (omega arith) in
+    let q = takes c.args.self.now c.args.bytes.now 8 c.free.result c.min-len.result c.requires c.free.ensures.room (omega arith) in
     let long = q.long in
     let not_none = c.if-len-eq0.false in
     let fits = q.fits (omega arith) in
@@ -21,25 +19,21 @@ data-requires c =
 
 pub put-requires : goal.put-requires
 put-requires c =
-    let now = c.args.self.now in
-    let bytes = c.args.bytes.now in
     let less = c.saturating_sub.ensures in
     let k_is = c.min-len.ensures in
-    let q = takes now bytes 8 c.free.result c.min-len.result c.requires c.free.ensures.room (omega arith) in
+    let q = takes c.args.self.now c.args.bytes.now 8 c.free.result c.min-len.result c.requires c.free.ensures.room (omega arith) in
+    let is = ap payload_len c.«data».ensures in
+    let last = c.len.ensures in
     let long = q.long in
     let not_none = c.if-len-eq0.false in
     let fits = q.fits (omega arith) in
-    let is = ap payload_len c.«data».ensures in
-    let last = c.len.ensures in
     record { within = omega arith; fits = omega arith }
 
 pub returns-then-len-eq0 : goal.returns-then-len-eq0
 returns-then-len-eq0 c =
-    let now = c.args.self.now in
-    let bytes = c.args.bytes.now in
     let less = c.saturating_sub.ensures in
     let k_is = c.min-len.ensures in
-    let q = takes now bytes 8 c.free.result c.min-len.result c.requires c.free.ensures.room (omega arith) in
+    let q = takes c.args.self.now c.args.bytes.now 8 c.free.result c.min-len.result c.requires c.free.ensures.room (omega arith) in
     let none = c.if-len-eq0.true in
     let all = q.is in
     record { taken = omega arith; blocks = refl; size = refl; addrs = refl; front = refl }
@@ -47,10 +41,9 @@ returns-then-len-eq0 c =
 pub returns : goal.returns
 returns c =
     let now = c.args.self.now in
-    let bytes = c.args.bytes.now in
     let less = c.saturating_sub.ensures in
     let k_is = c.min-len.ensures in
-    let q = takes now bytes 8 c.free.result c.min-len.result c.requires c.free.ensures.room (omega arith) in
+    let q = takes c.args.self.now c.args.bytes.now 8 c.free.result c.min-len.result c.requires c.free.ensures.room (omega arith) in
     let not_none = c.if-len-eq0.false in
     let k = c.min-len.result in
     let is = c.«data».ensures in
@@ -58,7 +51,7 @@ returns c =
     let r = c.put.ensures in
     record {
       taken = q.is;
-      blocks = r.blocks ∙ (λ j. insert now.blocks (c.len.ensures j) (is j)) ∙ sym (append-insert now.blocks (take k bytes) c.requires (let long = q.long in omega arith));
+      blocks = r.blocks ∙ (λ j. insert now.blocks (c.len.ensures j) (is j)) ∙ sym (append-insert now.blocks (take k c.args.bytes.now) c.requires (let long = q.long in omega arith));
       size = r.size;
       addrs = r.addrs ∙ ap (λ (p : Places). p.addrs) places;
       front = r.front ∙ ap (λ (p : Places). p.front) places;

@@ -2,8 +2,8 @@ use Rattle.std.proofs.Common.{arith}
 use Rattle.htx_layout.proofs.WholeLemmas.{numbers}
 use Rattle.htx_layout.proofs.array.Array.add.Goals as goal
 
-pub add-ends-requires-clause-fits : goal.add-ends-requires-clause-fits
-add-ends-requires-clause-fits c =
+pub add-self-inside-requires-clause-fits : goal.add-self-inside-requires-clause-fits
+add-self-inside-requires-clause-fits c =
     let n = numbers c.self.inside c.args.self.now c.self.invariant c.self.view_is in
     let load = n.loaded in
     let payloads = n.payloads in

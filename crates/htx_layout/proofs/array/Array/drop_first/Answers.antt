@@ -1,4 +1,4 @@
-use Rattle.std.proofs.Common.{◌-◌, ap, arith}
+use Rattle.std.proofs.Common.{ap, arith}
 use Rattle.htx_model.specs.Blocks.{load}
 use Rattle.htx_layout.proofs.WholeLemmas.{first}
 use Rattle.htx_layout.proofs.array.Array.drop_first.Goals as goal
@@ -19,7 +19,7 @@ overflow_sub-self c =
 
 pub invariant_of-self : goal.invariant_of-self
 invariant_of-self c =
-    let laid = c.drop_first.ensures.laid c.self.inside.front c.self.invariant.laid in
+    let laid = c.drop_first.ensures.laid c.self.inside.ends.front c.self.invariant.laid in
     let loads = (first c.self.inside c.args.self.now c.args.n c.self.invariant c.self.view_is c.requires).loads in
     let now = ap load c.drop_first.ensures.blocks in
     let gone = c.weight_from.ensures in
@@ -29,5 +29,5 @@ invariant_of-self c =
 
 pub top_of-self-inside-requires : goal.top_of-self-inside-requires
 top_of-self-inside-requires c =
-    let laid = c.drop_first.ensures.laid c.self.inside.front c.self.invariant.laid in
+    let laid = c.drop_first.ensures.laid c.self.inside.ends.front c.self.invariant.laid in
     record { sound = laid.sound; told = laid.told; small = laid.most }

@@ -25,7 +25,7 @@ overflow_add-own c =
 pub invariant_of-self : goal.invariant_of-self
 invariant_of-self c =
     let addr = ap (λ (d : Desc). d.addr) c.descriptor-own.ensures in
-    let most : c.max-self-inside.result ≡ max c.self.inside.top (c.descriptor-own.result.addr + c.payload_len.result) = search rules in
+    let most : c.max-self-inside.result ≡ max c.self.inside.ends.top (c.descriptor-own.result.addr + c.payload_len.result) = search rules in
     let told = c.payload_len.ensures in
     (extended c.self.inside c.args.self.now c.args.at c.args.info.0 c.args.front c.payload_len-keep.result c.one-more.result c.args.piece.now c.rewrite.new.space c.self.invariant c.self.view_is c.requires.within c.requires.len c.requires.stays c.requires.tells c.requires.fits c.payload_len-keep.ensures.len c.one-more.ensures c.rewrite.ensures).whole _ _ refl (omega arith)
 

@@ -8,12 +8,12 @@ use Rattle.htx_layout.proofs.array.Array.pack.Goals as goal
 pub invariant_of-self : goal.invariant_of-self
 invariant_of-self c =
     let a = c.self.inside in
-    let is = c.defrag-self-inside.ensures.shifted in
+    let is = c.defrag-top.ensures.shifted in
     let size = is.size in
-    let now = ap load (shifted_blocks a.space c.defrag-self-inside.new.space a.count is) in
+    let now = ap load (shifted_blocks a.space c.defrag-top.new.space a.count is) in
     let loaded = c.self.invariant.loaded in
     let fits = c.self.invariant.fits in
-    record { laid = laid_shifted a.space c.defrag-self-inside.new.space a.count a.front c.self.invariant.laid is c.defrag-self-inside.ensures.sound; loaded = omega arith; topped = c.defrag-self-inside.ensures.topped; fits = omega arith }
+    record { laid = laid_shifted a.space c.defrag-top.new.space a.count a.ends.front c.self.invariant.laid is c.defrag-top.ensures.sound; loaded = omega arith; topped = c.defrag-top.ensures.topped; fits = omega arith }
 
 pub returns-clause-blocks : goal.returns-clause-blocks
-returns-clause-blocks c = shifted_blocks c.self.inside.space c.defrag-self-inside.new.space c.self.inside.count c.defrag-self-inside.ensures.shifted ∙ ap (λ (s : Contents). s.blocks) c.self.view_is
+returns-clause-blocks c = shifted_blocks c.self.inside.space c.defrag-top.new.space c.self.inside.count c.defrag-top.ensures.shifted ∙ ap (λ (s : Contents). s.blocks) c.self.view_is

@@ -10,10 +10,10 @@ pub returns-clause-held : goal.returns-clause-held
 returns-clause-held c =
     let a = c.self.inside in
     subst (λ (s : Contents). held c.bytes.result.now s.blocks s.addrs) c.self.view_is
-    (subst (λ (raw : List ℕ). held raw (blocks_of a.space a.count) (addrs_of a.space a.count)) (sym c.bytes.ensures) (laid_held a.space a.count a.front c.self.invariant.laid))
+    (subst (λ (raw : List ℕ). held raw (blocks_of a.space a.count) (addrs_of a.space a.count)) (sym c.bytes.ensures) (laid_held a.space a.count a.ends.front c.self.invariant.laid))
 
 pub returns-clause-gives_back : goal.returns-clause-gives_back
 returns-clause-gives_back c =
     let a = c.self.inside in
     let n = numbers a c.args.self.now c.self.invariant c.self.view_is in
-    (λ j. told_blocks (c.bytes.ensures j) (n.count j)) ∙ laid_told a.space a.count a.front c.self.invariant.laid ∙ ap (λ (s : Contents). s.blocks) c.self.view_is
+    (λ j. told_blocks (c.bytes.ensures j) (n.count j)) ∙ laid_told a.space a.count a.ends.front c.self.invariant.laid ∙ ap (λ (s : Contents). s.blocks) c.self.view_is

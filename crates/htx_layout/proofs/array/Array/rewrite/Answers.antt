@@ -34,7 +34,7 @@ top_behind-self-inside-requires c =
     let r = rewritten c.self.inside c.args.self.now c.args.at c.args.keep c.args.info.0 c.args.more.now c.rewrite.new.space c.self.invariant c.self.view_is c.requires.within (omega arith) (omega arith) c.requires.tells c.rewrite.ensures in
     let end = c.end_at-end.ensures.value in
     let told = (c.self.invariant.laid.told.told c.args.at (at c.self.inside c.args.self.now c.args.at c.self.invariant c.self.view_is c.requires.within).small).len in
-    record { sound = r.laid.sound; told = r.laid.told; small = r.laid.most; stayed = λ below. r.stayed (omega arith) }
+    record { laid = r.laid; stayed = λ below. r.stayed (omega arith) }
 
 pub invariant_of-self : goal.invariant_of-self
 invariant_of-self c =

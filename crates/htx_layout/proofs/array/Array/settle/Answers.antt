@@ -8,9 +8,9 @@ pub invariant_of-self : goal.invariant_of-self
 invariant_of-self c =
     let a = c.self.inside in
     let was = c.self.invariant in
-    record { laid = laid_settled a.space a.count a.front c.settle-self-inside.result was.laid (c.settle-self-inside.ensures ∙ settled_top a.space a.count a.front a.top was.laid was.topped); loaded = was.loaded; topped = was.topped; fits = was.fits }
+    record { laid = laid_settled a.space a.count a.ends.front c.settle-self-inside.result was.laid (c.settle-self-inside.ensures ∙ settled_top a.space a.count a.ends.front a.ends.top was.laid was.topped); loaded = was.loaded; topped = was.topped; fits = was.fits }
 
 pub returns-clause-front : goal.returns-clause-front
 returns-clause-front c =
     let a = c.self.inside in
-    c.settle-self-inside.ensures ∙ settled_top a.space a.count a.front a.top c.self.invariant.laid c.self.invariant.topped ∙ ap (λ (s : Contents). settled s.front s.addrs) c.self.view_is
+    c.settle-self-inside.ensures ∙ settled_top a.space a.count a.ends.front a.ends.top c.self.invariant.laid c.self.invariant.topped ∙ ap (λ (s : Contents). settled s.front s.addrs) c.self.view_is

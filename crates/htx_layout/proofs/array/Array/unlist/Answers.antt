@@ -1,4 +1,4 @@
-use Rattle.std.proofs.Common.{◌-◌, ap, arith}
+use Rattle.std.proofs.Common.{ap, arith}
 use Rattle.htx_model.specs.Blocks.{load}
 use Rattle.htx_model.proofs.Loads.{load-remove}
 use Rattle.htx_layout.specs.Raw.{block_in, blocks_of}
@@ -29,18 +29,16 @@ invariant_of-self c =
     let now = ap load c.unlist.ensures.blocks in
     let size = c.unlist.ensures.size in
     let fits = c.self.invariant.fits in
-    record { laid = c.unlist.ensures.laid a.front c.self.invariant.laid; loaded = omega arith; topped = c.top_behind-self-inside.ensures; fits = omega arith }
+    record { laid = c.unlist.ensures.laid a.ends.front c.self.invariant.laid; loaded = omega arith; topped = c.top_behind-self-inside.ensures; fits = omega arith }
 
 pub top_behind-self-inside-requires : goal.top_behind-self-inside-requires
 top_behind-self-inside-requires c =
     let a = c.self.inside in
     let t = at c.self.inside c.args.self.now c.args.at c.self.invariant c.self.view_is c.requires in
-    let laid = c.unlist.ensures.laid a.front c.self.invariant.laid in
+    let laid = c.unlist.ensures.laid a.ends.front c.self.invariant.laid in
     let end = c.end_at-end.ensures.value in
     let told = (c.self.invariant.laid.told.told c.args.at t.small).len in
     record {
-      sound = laid.sound;
-      told = laid.told;
-      small = laid.most;
-      stayed = λ below. top_gone a.space c.unlist.new.space a.count c.args.at a.top a.front c.self.invariant.laid.told c.self.invariant.topped t.small c.unlist.ensures.blocks c.unlist.ensures.addrs laid (omega arith);
+      laid = laid;
+      stayed = λ below. top_gone a.space c.unlist.new.space a.count c.args.at a.ends.top a.ends.front c.self.invariant.laid.told c.self.invariant.topped t.small c.unlist.ensures.blocks c.unlist.ensures.addrs laid (omega arith);
     }

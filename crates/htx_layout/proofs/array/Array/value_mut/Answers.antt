@@ -45,7 +45,7 @@ returns c =
         λ w.
             let rest = addrs_lent a.space a.count i start len w sound small valued s l in
             let new = blocks_lent a.space a.count i start len w sound small valued s l in
-            rw (← view) (λ j. record { size = rest.1 j; blocks = new j; addrs = rest.0 j; front = a.front }),
+            rw (← view) (λ j. record { size = rest.1 j; blocks = new j; addrs = rest.0 j; front = a.ends.front }),
       ),
       record {
         written = tt;

@@ -12,41 +12,41 @@ use Rattle.lane_core.proofs.lane.Lane.read_plain.Goals as goal
 
 pub returns-in-Whole-clause-leads : goal.returns-in-Whole-clause-leads
 returns-in-Whole-clause-leads c = λ p s is.
-    let r : Reads c.args.self.now c.pull-pulled.new.input c.pull-pulled.new.reader c.pull-pulled.new.to c.pull-pulled.result.used c.pull-pulled.result.state =
+    let r : Reads c.args.self.now c.pull-pulled.new.self c.pull-pulled.new.reader c.pull-pulled.new.to c.pull-pulled.result.used c.pull-pulled.result.state =
     record { pulls = c.pull-pulled.ensures.pulls; capacity = c.pull-pulled.ensures.capacity; size = c.pull-pulled.ensures.size; empty = c.requires.empty; going = is; none = c.requires.plain } in
-    sends_whole c.args.self.now p c.pull-pulled.new.input c.pull-pulled.new.reader c.pull-pulled.new.to c.pull-pulled.result.used c.pull-pulled.result.state r c.in-Whole.is s
+    sends_whole c.args.self.now p c.pull-pulled.new.self c.pull-pulled.new.reader c.pull-pulled.new.to c.pull-pulled.result.used c.pull-pulled.result.state r c.in-Whole.is s
 
 pub returns-in-Bad-clause-leads : goal.returns-in-Bad-clause-leads
 returns-in-Bad-clause-leads c = λ p s is.
-    let r : Reads c.args.self.now c.pull-pulled.new.input c.pull-pulled.new.reader c.pull-pulled.new.to c.pull-pulled.result.used c.pull-pulled.result.state =
+    let r : Reads c.args.self.now c.pull-pulled.new.self c.pull-pulled.new.reader c.pull-pulled.new.to c.pull-pulled.result.used c.pull-pulled.result.state =
     record { pulls = c.pull-pulled.ensures.pulls; capacity = c.pull-pulled.ensures.capacity; size = c.pull-pulled.ensures.size; empty = c.requires.empty; going = is; none = c.requires.plain } in
-    sends_bad c.args.self.now p c.pull-pulled.new.input c.pull-pulled.new.reader c.pull-pulled.new.to c.pull-pulled.result.used c.pull-pulled.result.state r c.in-Bad.is s
+    sends_bad c.args.self.now p c.pull-pulled.new.self c.pull-pulled.new.reader c.pull-pulled.new.to c.pull-pulled.result.used c.pull-pulled.result.state r c.in-Bad.is s
 
 pub returns-then-pulled-gt0-clause-leads : goal.returns-then-pulled-gt0-clause-leads
 returns-then-pulled-gt0-clause-leads c = λ p s is.
-    let r : Reads c.args.self.now c.pull-pulled.new.input c.pull-pulled.new.reader c.pull-pulled.new.to c.pull-pulled.result.used c.pull-pulled.result.state =
+    let r : Reads c.args.self.now c.pull-pulled.new.self c.pull-pulled.new.reader c.pull-pulled.new.to c.pull-pulled.result.used c.pull-pulled.result.state =
     record { pulls = c.pull-pulled.ensures.pulls; capacity = c.pull-pulled.ensures.capacity; size = c.pull-pulled.ensures.size; empty = c.requires.empty; going = is; none = c.requires.plain } in
-    sends_more c.args.self.now p c.pull-pulled.new.input c.pull-pulled.new.reader c.pull-pulled.new.to c.pull-pulled.result.used c.pull-pulled.result.state r c.in-More.is s
+    sends_more c.args.self.now p c.pull-pulled.new.self c.pull-pulled.new.reader c.pull-pulled.new.to c.pull-pulled.result.used c.pull-pulled.result.state r c.in-More.is s
 
 pub returns-else-pulled-gt0-clause-leads : goal.returns-else-pulled-gt0-clause-leads
 returns-else-pulled-gt0-clause-leads c = λ p s is.
-    let r : Reads c.args.self.now c.pull-pulled.new.input c.pull-pulled.new.reader c.pull-pulled.new.to c.pull-pulled.result.used c.pull-pulled.result.state =
+    let r : Reads c.args.self.now c.pull-pulled.new.self c.pull-pulled.new.reader c.pull-pulled.new.to c.pull-pulled.result.used c.pull-pulled.result.state =
     record { pulls = c.pull-pulled.ensures.pulls; capacity = c.pull-pulled.ensures.capacity; size = c.pull-pulled.ensures.size; empty = c.requires.empty; going = is; none = c.requires.plain } in
     c.meet_end.ensures.leads p
-    (sends_more c.args.self.now p c.pull-pulled.new.input c.pull-pulled.new.reader c.pull-pulled.new.to c.pull-pulled.result.used c.pull-pulled.result.state r c.in-More.is s)
+    (sends_more c.args.self.now p c.pull-pulled.new.self c.pull-pulled.new.reader c.pull-pulled.new.to c.pull-pulled.result.used c.pull-pulled.result.state r c.in-More.is s)
     is
     c.requires.plain
-    (read_waits c.args.self.now p c.pull-pulled.new.input c.pull-pulled.new.reader c.pull-pulled.new.to c.pull-pulled.result.used c.pull-pulled.result.state r (omega arith) s)
+    (read_waits c.args.self.now p c.pull-pulled.new.self c.pull-pulled.new.reader c.pull-pulled.new.to c.pull-pulled.result.used c.pull-pulled.result.state r (omega arith) s)
     (sym c.pull-pulled.ensures.pulls.told ∙ c.in-More.is)
 
 pub returns-else-pulled-gt0-clause-waits : goal.returns-else-pulled-gt0-clause-waits
 returns-else-pulled-gt0-clause-waits c = λ p s is no_more.
-    let r : Reads c.args.self.now c.pull-pulled.new.input c.pull-pulled.new.reader c.pull-pulled.new.to c.pull-pulled.result.used c.pull-pulled.result.state =
+    let r : Reads c.args.self.now c.pull-pulled.new.self c.pull-pulled.new.reader c.pull-pulled.new.to c.pull-pulled.result.used c.pull-pulled.result.state =
     record { pulls = c.pull-pulled.ensures.pulls; capacity = c.pull-pulled.ensures.capacity; size = c.pull-pulled.ensures.size; empty = c.requires.empty; going = is; none = c.requires.plain } in
     let stays = c.meet_end.ensures.source no_more in
     let same = c.meet_end.ensures.same in
-    let waits : IsWaiting c.pull-pulled.new.reader c.pull-pulled.new.input.items =
-    read_waits c.args.self.now p c.pull-pulled.new.input c.pull-pulled.new.reader c.pull-pulled.new.to c.pull-pulled.result.used c.pull-pulled.result.state r (omega arith) s in (
+    let waits : IsWaiting c.pull-pulled.new.reader c.pull-pulled.new.self.items =
+    read_waits c.args.self.now p c.pull-pulled.new.self c.pull-pulled.new.reader c.pull-pulled.new.to c.pull-pulled.result.used c.pull-pulled.result.state r (omega arith) s in (
       stays.0,
       c.meet_end.ensures.keeps.ended ∙ stays.1,
       subst (λ (x : BodyReader). IsWaiting x c.meet_end.new.self.input.items) (sym same.4) (subst (λ (b : Buffer ℕ). IsWaiting c.pull-pulled.new.reader b.items) (sym same.1) waits),
@@ -58,6 +58,6 @@ returns-else-pulled-gt0-clause-empty c = λ p s is no_more. ap (λ (m : Contents
 
 pub returns-then-pulled-gt0-clause-nearer : goal.returns-then-pulled-gt0-clause-nearer
 returns-then-pulled-gt0-clause-nearer c = λ is _.
-    let step = read_nearer c.args.self.now.reader c.pull-pulled.new.reader c.args.self.now.input.items c.pull-pulled.new.input.items c.args.self.now.msg.size c.pull-pulled.result.used c.pull-pulled.new.to.blocks c.pull-pulled.result.state c.pull-pulled.ensures.pulls in
+    let step = read_nearer c.args.self.now.reader c.pull-pulled.new.reader c.args.self.now.input.items c.pull-pulled.new.self.items c.args.self.now.msg.size c.pull-pulled.result.used c.pull-pulled.new.to.blocks c.pull-pulled.result.state c.pull-pulled.ensures.pulls in
     let one : end_left c.args.self.now.source c.args.self.now.sieve ≡ 1 = ap (λ (x : Source). end_left x c.args.self.now.sieve) is ∙ ap (end_left source.Going) c.requires.plain in
     omega arith

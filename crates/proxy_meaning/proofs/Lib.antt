@@ -1,0 +1,2 @@
+mod Holds
+mod Lists

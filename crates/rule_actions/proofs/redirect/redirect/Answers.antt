@@ -1,0 +1,28 @@
+use Rattle.std.proofs.Common.{ap, subst}
+use Rattle.uri_parts.specs.Target.{target_parts}
+use Rattle.http_fetch.specs.Fetches.{host_in}
+use Rattle.rule_actions.specs.Edits.{by_text}
+use Rattle.rule_actions.specs.Given.{text_on}
+use Rattle.rule_actions.specs.Outcome.{Answers}
+use Rattle.rule_actions.specs.Replies.{location_by, led_to}
+use Rattle.rule_actions.specs.Written.{led_target}
+use Rattle.rule_actions.proofs.Answering.{unled, led}
+use Rattle.rule_actions.proofs.redirect.redirect.Goals as goal
+
+pub returns-then-not-branch-clause-came : goal.returns-then-not-branch-clause-came
+returns-then-not-branch-clause-came c =
+    λ env at.
+    let size = c.args.msg.now.size in
+    unled size c.args.code c.args.to.now c.args.drop_query c.args.append_slash env c.in_ok-write_text.field-0 (text_on size env c.format_of.result.now) c.write_text.new.scratch.text.bytes c.args.reply.now.blocks
+    (ap (text_on size env) c.format_of.ensures) (c.in_ok-write_text.ensures.made env at) c.if-not-branch.true c.requires.empty
+
+pub returns-clause-came : goal.returns-clause-came
+returns-clause-came c =
+    λ env at.
+    let size = c.args.msg.now.size in
+    let to = c.args.to.now in
+    let old = c.args.msg.now.blocks in
+    led c.args.side size c.args.code to c.args.drop_query c.args.append_slash env c.in_ok-write_text.field-0 (text_on size env c.format_of.result.now) c.write_text.new.scratch.text.bytes c.bytes.result.now old c.args.vars.now
+    c.lead-step.result c.lead-step.new.reply.blocks at (ap (text_on size env) c.format_of.ensures) (c.in_ok-write_text.ensures.made env at) c.if-not-branch.false c.bytes.ensures.bytes
+    (subst (λ n. Answers (by_text n (location_by to c.args.drop_query c.args.append_slash c.bytes.result.now (host_in old) (target_parts (led_target old))) (led_to n c.args.code)) c.lead-step.result c.lead-step.new.reply.blocks)
+    c.requires.sizes c.lead-step.ensures.came)

@@ -1,0 +1,76 @@
+//! What comes of a text that is searched for a pattern: the text of a format with the groups put in.
+ghost use Rattle.std.specs.Prelude.{◌≡◌, List, ℕ, Result, IfOk, length};
+ghost use Rattle.http_model.specs.declared.Why.{Why as Reason};
+ghost use Rattle.px_pattern.specs.Groups.{LieIn};
+ghost use Rattle.px_conv.specs.Template.{expanded};
+ghost use Rattle.rule_actions.specs.Given.{Env};
+ghost use Rattle.rule_actions.specs.Replacing.{by_match};
+ghost use Rattle.rule_actions.specs.Outcome.{IsScratch, IsAt};
+
+use crate::scratch::Scratch;
+use crate::side::Side;
+use crate::texts::write_text;
+use htx_arena::Arena;
+use log_format::Fmt;
+use px_conv::{Groups, Pat, expand};
+use px_expr::Searchers;
+use px_sample::{Buf, OutOfMemory, Vars};
+use std::alloc::Global;
+
+/// What came of a text.
+#[derive(Clone, Copy, Debug, PartialEq, Eq)]
+pub(crate) enum Filled {
+    /// The pattern does not match, and nothing is made.
+    Unmatched,
+    /// A buffer holds what is made.
+    Made,
+    /// What is made is longer than a buffer.
+    TooLong,
+}
+
+ghost use Rattle.rule_actions.specs.Filling.{edited_by, IsHeld};
+
+/// Puts the groups into a template, over what a buffer holds.
+fn put_groups(template: &[u8], groups: &Groups, text: &[u8], into: &mut Buf) -> Filled
+    requires { LieIn (length text.now) groups.now }
+    ensures held { IsHeld into.old.cap (expanded groups.now text.now template.now) result into.new.bytes }
+    ensures cap { into.new.cap ≡ into.old.cap }
+{
+    into.clear();
+    if expand(template, groups, text, into) {
+        Filled::Made
+    } else {
+        Filled::TooLong
+    }
+}
+
+/// Makes of a text in which the pattern matches the text of the format with the groups put in, in `scratch.made`.
+pub(crate) fn fill<'c>(
+    alloc: Global,
+    searchers: &mut Searchers<'c>,
+    pat: &'c Pat,
+    fmt: &'c Fmt,
+    text: &[u8],
+    side: Side<'_>,
+    msg: &Arena,
+    vars: &Vars,
+    scratch: &mut Scratch,
+) -> Result<Filled, OutOfMemory>
+    requires { IsScratch msg.now.size scratch.old }
+    ensures filled { IfOk result (λ filled. (env : Env) (make : List ℕ → Result Env Reason) → IsAt side.entry env msg.now.blocks vars.now
+        → by_match msg.now.size env pat.now fmt.now text.now make ≡ edited_by filled scratch.new.made.bytes env make) }
+    ensures scratch { IsScratch msg.now.size scratch.new }
+{
+    let Some(groups) = searchers.find_groups(alloc, pat, text)? else {
+        return Ok(Filled::Unmatched);
+    };
+    if !write_text(alloc, searchers, fmt, side, msg, vars, scratch)? {
+        return Ok(Filled::TooLong);
+    }
+    let Scratch {
+        text: template,
+        made,
+        ..
+    } = scratch;
+    Ok(put_groups(template.bytes(), &groups, text, made))
+}

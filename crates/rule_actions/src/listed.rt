@@ -1,0 +1,131 @@
+//! What comes of the values of a field that holds a list (RFC 9110 section 5.6.1), each searched for a pattern.
+ghost use Rattle.std.specs.Prelude.{◌≡◌, ◌++◌, List, ℕ, Result, IfOk};
+ghost use Rattle.std.specs.List.{list_any};
+ghost use Rattle.http_model.specs.declared.Why.{Why as Reason};
+ghost use Rattle.px_bytes.specs.Values.{values_of};
+ghost use Rattle.rule_actions.specs.Given.{Env};
+ghost use Rattle.rule_actions.specs.Replacing.{matches, replaced, replaced_values, by_matches};
+ghost use Rattle.rule_actions.specs.Filling.{edited_by, IsHeld, IsPut, IsAll};
+ghost use Rattle.rule_actions.specs.Outcome.{IsScratch, IsAt};
+
+use crate::filled::Filled;
+use crate::scratch::Scratch;
+use crate::side::Side;
+use crate::texts::write_text;
+use htx_arena::Arena;
+use log_format::Fmt;
+use px_bytes::{value_indices, values};
+use px_conv::{Pat, expand};
+use px_expr::Searchers;
+use px_sample::{Buf, OutOfMemory, Vars};
+use std::alloc::Global;
+
+/// Whether the pattern matches in one of the values.
+fn matches_one<'c>(
+    alloc: Global,
+    searchers: &mut Searchers<'c>,
+    pat: &'c Pat,
+    field: &[u8],
+) -> Result<bool, OutOfMemory>
+    ensures { IfOk result (λ one. one ≡ list_any (matches pat.now) (values_of field.now)) }
+{
+    for value in values(field) {
+        if searchers.is_match(alloc, pat, value)? {
+            return Ok(true);
+        }
+    }
+    Ok(false)
+}
+
+/// Puts what stands in front of a value, and the value, behind what the buffer holds, where the pattern matches the template
+/// with the groups in the value's place; false where it does not fit.
+fn put_value<'c>(
+    alloc: Global,
+    searchers: &mut Searchers<'c>,
+    pat: &'c Pat,
+    template: &[u8],
+    front: &[u8],
+    value: &[u8],
+    into: &mut Buf,
+) -> Result<bool, OutOfMemory>
+    ensures put { IfOk result (λ fits. IsPut into.old (front.now ++ replaced pat.now template.now value.now) fits into.new) }
+    ensures cap { into.new.cap ≡ into.old.cap }
+{
+    if !into.push(front) {
+        return Ok(false);
+    }
+    match searchers.find_groups(alloc, pat, value)? {
+        Some(groups) => Ok(expand(template, &groups, value, into)),
+        None => Ok(into.push(value)),
+    }
+}
+
+/// Puts the field, with each value in which the pattern matches replaced, over what a buffer holds.
+fn put_values<'c>(
+    alloc: Global,
+    searchers: &mut Searchers<'c>,
+    pat: &'c Pat,
+    template: &[u8],
+    field: &[u8],
+    into: &mut Buf,
+) -> Result<bool, OutOfMemory>
+    ensures put { IfOk result (λ fits. IsAll into.old.cap (replaced_values pat.now template.now field.now) fits into.new) }
+    ensures cap { into.new.cap ≡ into.old.cap }
+{
+    into.clear();
+    let mut from = 0;
+    for (at, value) in value_indices(field) {
+        let front = &field[from..at];
+        if !put_value(alloc, searchers, pat, template, front, value, into)? {
+            return Ok(false);
+        }
+        from = at + value.len();
+    }
+    Ok(into.push(&field[from..]))
+}
+
+/// The same for the step.
+fn fill_listed<'c>(
+    alloc: Global,
+    searchers: &mut Searchers<'c>,
+    pat: &'c Pat,
+    template: &[u8],
+    field: &[u8],
+    into: &mut Buf,
+) -> Result<Filled, OutOfMemory>
+    ensures held { IfOk result (λ filled. IsHeld into.old.cap (replaced_values pat.now template.now field.now) filled into.new.bytes) }
+    ensures cap { into.new.cap ≡ into.old.cap }
+{
+    if put_values(alloc, searchers, pat, template, field, into)? {
+        Ok(Filled::Made)
+    } else {
+        Ok(Filled::TooLong)
+    }
+}
+
+/// Makes of a field in a value of which the pattern matches the field with each such value replaced, in `scratch.made`.
+pub(crate) fn fill_values<'c>(
+    alloc: Global,
+    searchers: &mut Searchers<'c>,
+    pat: &'c Pat,
+    fmt: &'c Fmt,
+    field: &[u8],
+    side: Side<'_>,
+    msg: &Arena,
+    vars: &Vars,
+    scratch: &mut Scratch,
+) -> Result<Filled, OutOfMemory>
+    requires { IsScratch msg.now.size scratch.old }
+    ensures filled { IfOk result (λ filled. (env : Env) (make : List ℕ → Result Env Reason) → IsAt side.entry env msg.now.blocks vars.now
+        → by_matches msg.now.size env pat.now fmt.now field.now make ≡ edited_by filled scratch.new.made.bytes env make) }
+    ensures scratch { IsScratch msg.now.size scratch.new }
+{
+    if !matches_one(alloc, searchers, pat, field)? {
+        return Ok(Filled::Unmatched);
+    }
+    if !write_text(alloc, searchers, fmt, side, msg, vars, scratch)? {
+        return Ok(Filled::TooLong);
+    }
+    let Scratch { text, made, .. } = scratch;
+    fill_listed(alloc, searchers, pat, text.bytes(), field, made)
+}

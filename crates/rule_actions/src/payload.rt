@@ -1,0 +1,105 @@
+//! The payload of a `return`, its type and its length (RFC 9110 section 8).
+ghost use Rattle.std.specs.Prelude.{◌≡◌, false, IsOk, IfOk, option_copied, option_map};
+ghost use Rattle.px_bytes.specs.Blanks.{trimmed};
+ghost use Rattle.rule_model.specs.Patterns.{payload_holds_pattern};
+ghost use Rattle.rule_actions.specs.Given.{Env};
+ghost use Rattle.rule_actions.specs.Replies as spec;
+ghost use Rattle.rule_actions.specs.Outcome.{IsAt};
+ghost use Rattle.rule_actions.specs.Written.{body_by, IsBody};
+
+use crate::fields::are_value_bytes;
+use crate::side::Side;
+use crate::texts::write_into;
+use htx_arena::Arena;
+use px_bytes::trim;
+use px_expr::{Searchers, Text};
+use px_sample::{Buf, OutOfMemory, Vars};
+use rule_model::Payload;
+use std::alloc::Global;
+
+/// The type that is written: none without a payload.
+pub(crate) fn type_by<'a>(
+    payload: &Option<Payload>,
+    content_type: &'a Option<Text>,
+) -> Option<&'a [u8]>
+    ensures { option_copied result ≡ spec.type_by payload.now content_type.now }
+{
+    match payload {
+        None => None,
+        Some(_) => match content_type {
+            None => None,
+            Some(text) => Some(text.as_slice()),
+        },
+    }
+}
+
+/// Whether a type may stand in a field value.
+pub(crate) fn is_good_type(content_type: Option<&[u8]>) -> bool
+    ensures { result ≡ spec.is_good_type (option_copied content_type.entry) }
+{
+    match content_type {
+        None => true,
+        Some(text) => are_value_bytes(text),
+    }
+}
+
+/// A type without the blanks at both ends.
+pub(crate) fn trimmed_type(content_type: Option<&[u8]>) -> Option<&[u8]>
+    ensures { option_copied result ≡ option_map trimmed (option_copied content_type.entry) }
+{
+    match content_type {
+        None => None,
+        Some(text) => Some(trim(text)),
+    }
+}
+
+/// The length that is told: that of the payload, but for a status with which no body is sent.
+pub(crate) fn length_by(status: u16, len: usize) -> Option<u64>
+    ensures { result ≡ spec.length_by status len }
+{
+    if status == 204 || status == 304 {
+        None
+    } else {
+        Some(len as u64)
+    }
+}
+
+/// Makes the text of a payload's format in `text`; false where it is longer than the array.
+pub(crate) fn make_payload<'c>(
+    alloc: Global,
+    searchers: &mut Searchers<'c>,
+    payload: &'c Option<Payload>,
+    side: Side<'_>,
+    msg: &Arena,
+    vars: &Vars,
+    text: &mut Buf,
+    buf: &mut Buf,
+    spare: &mut Buf,
+) -> Result<bool, OutOfMemory>
+    requires text { text.old.cap ≡ msg.now.size }
+    requires buf { buf.old.cap ≡ msg.now.size }
+    requires spare { spare.old.cap ≡ msg.now.size }
+    ensures made { IfOk result (λ good. (env : Env) → IsAt side.entry env msg.now.blocks vars.now → IsBody msg.now.size env payload.now good text.new.bytes) }
+    ensures succeeds { payload_holds_pattern payload.now ≡ false → IsOk result }
+    ensures text { text.new.cap ≡ msg.now.size }
+    ensures buf { buf.new.cap ≡ msg.now.size }
+    ensures spare { spare.new.cap ≡ msg.now.size }
+{
+    match payload {
+        None | Some(Payload::Literal(_)) => Ok(true),
+        Some(Payload::Format(fmt)) => {
+            write_into(alloc, searchers, fmt, side, msg, vars, text, buf, spare)
+        }
+    }
+}
+
+/// The bytes of a payload. Those of a format are held in `text`.
+pub(crate) fn body_by<'a>(payload: &'a Option<Payload>, text: &'a [u8]) -> &'a [u8]
+    ensures { result.now ≡ body_by payload.now text.now }
+{
+    match payload {
+        None => &[],
+        Some(Payload::Literal(literal)) => literal.as_slice(),
+        Some(Payload::Format(_)) => text,
+    }
+}

@@ -1,0 +1,130 @@
+//! `redirect` (RFC 9110 section 15.4).
+ghost use Rattle.std.specs.Prelude.{◌≡◌, ◌≤◌, ℕ, List, [], false, length, IsOk, IfOk};
+ghost use Rattle.uri_parts.specs.Target.{target_parts};
+ghost use Rattle.http_fetch.specs.Fetches.{host_in};
+ghost use Rattle.rule_model.specs.Patterns.{location_holds_pattern};
+ghost use Rattle.rule_actions.specs.Given.{Env};
+ghost use Rattle.rule_actions.specs.Edits.{by_text};
+ghost use Rattle.rule_actions.specs.Replies as spec;
+ghost use Rattle.rule_actions.specs.Outcome.{IsScratch, IsAt, IsMade, Answers};
+ghost use Rattle.rule_actions.specs.Written.{led_target};
+
+use crate::fields::{are_value_bytes, step_of};
+use crate::location::{join_prefixed, join_schemed, led_target};
+use crate::scratch::Scratch;
+use crate::side::Side;
+use crate::stepped::Stepped;
+use crate::texts::write_text;
+use http_fetch::host_in;
+use http_model::Why;
+use htx_arena::Arena;
+use log_format::Fmt;
+use px_bytes::trim;
+use px_expr::Searchers;
+use px_sample::{Buf, OutOfMemory, Vars};
+use rule_model::RedirectTo;
+use std::alloc::Global;
+
+/// The format of a location.
+fn format_of(to: &RedirectTo) -> &Fmt
+    ensures { result.now ≡ spec.format_of to.now }
+{
+    match to {
+        RedirectTo::Location(fmt) | RedirectTo::Prefix(fmt) | RedirectTo::Scheme(fmt) => fmt,
+    }
+}
+
+/// Writes the redirect to a location that is within the array's size.
+fn lead_to(code: u16, location: &[u8], reply: &mut Arena) -> Stepped
+    requires { reply.old.blocks ≡ [] }
+    ensures came { Answers (spec.led_to reply.old.size code location.now) result reply.new.blocks }
+    ensures size { reply.new.size ≡ reply.old.size }
+{
+    if !are_value_bytes(location) {
+        return Stepped::Failed(Why::Bytes);
+    }
+    step_of(px_reply::redirect(code, trim(location), reply))
+}
+
+/// Writes the redirect to a location, if that was held.
+fn lead_if(held: bool, code: u16, location: &[u8], reply: &mut Arena) -> Stepped
+    requires { reply.old.blocks ≡ [] }
+    ensures came { (wanted : List ℕ) → IsMade reply.old.size wanted held location.now → Answers (by_text reply.old.size wanted (spec.led_to reply.old.size code)) result reply.new.blocks }
+    ensures size { reply.new.size ≡ reply.old.size }
+{
+    if !held {
+        return Stepped::Failed(Why::Bytes);
+    }
+    lead_to(code, location, reply)
+}
+
+/// Writes the redirect by the text of its format. `made` takes the location.
+fn lead(
+    to: &RedirectTo,
+    code: u16,
+    drop_query: bool,
+    append_slash: bool,
+    msg: &Arena,
+    text: &[u8],
+    made: &mut Buf,
+    reply: &mut Arena,
+) -> Stepped
+    requires empty { reply.old.blocks ≡ [] }
+    requires made { made.old.cap ≡ reply.old.size }
+    requires within { length text.now ≤ reply.old.size }
+    ensures came { Answers (by_text reply.old.size (spec.location_by to.now drop_query append_slash text.now (host_in msg.now.blocks) (target_parts (led_target msg.now.blocks))) (spec.led_to reply.old.size code)) result reply.new.blocks }
+    ensures size { reply.new.size ≡ reply.old.size }
+    ensures made { made.new.cap ≡ made.old.cap }
+{
+    match to {
+        RedirectTo::Location(_) => lead_if(true, code, text, reply),
+        RedirectTo::Prefix(_) => {
+            let held = join_prefixed(drop_query, append_slash, text, led_target(msg), made);
+            lead_if(held, code, made.bytes(), reply)
+        }
+        RedirectTo::Scheme(_) => {
+            let held = join_schemed(drop_query, text, host_in(msg), led_target(msg), made);
+            lead_if(held, code, made.bytes(), reply)
+        }
+    }
+}
+
+/// `redirect`. The reply is without a field that speaks of the connection, and one with `connection: close` would fit.
+pub(crate) fn redirect<'c>(
+    alloc: Global,
+    searchers: &mut Searchers<'c>,
+    to: &'c RedirectTo,
+    code: u16,
+    drop_query: bool,
+    append_slash: bool,
+    side: Side<'_>,
+    msg: &Arena,
+    vars: &Vars,
+    scratch: &mut Scratch,
+    reply: &mut Arena,
+) -> Result<Stepped, OutOfMemory>
+    requires scratch { IsScratch msg.now.size scratch.old }
+    requires sizes { reply.old.size ≡ msg.now.size }
+    requires empty { reply.old.blocks ≡ [] }
+    ensures came { IfOk result (λ step. (env : Env) → IsAt side.entry env msg.now.blocks vars.now
+        → Answers (spec.redirected msg.now.size to.now code drop_query append_slash env) step reply.new.blocks) }
+    ensures succeeds { location_holds_pattern to.now ≡ false → IsOk result }
+    ensures size { reply.new.size ≡ reply.old.size }
+    ensures scratch { IsScratch msg.now.size scratch.new }
+{
+    if !write_text(alloc, searchers, format_of(to), side, msg, vars, scratch)? {
+        return Ok(Stepped::Failed(Why::Bytes));
+    }
+    let Scratch { text, made, .. } = scratch;
+    let step = lead(
+        to,
+        code,
+        drop_query,
+        append_slash,
+        msg,
+        text.bytes(),
+        made,
+        reply,
+    );
+    Ok(step)
+}

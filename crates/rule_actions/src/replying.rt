@@ -1,0 +1,130 @@
+//! The actions that answer by themselves.
+ghost use Rattle.std.specs.Prelude.{◌≡◌, [], true, false, IsOk, IfOk};
+ghost use Rattle.rule_model.specs.Patterns.{action_holds_pattern};
+ghost use Rattle.rule_model.specs.Valid.{IsGoodAction};
+ghost use Rattle.rule_actions.specs.Given.{Env};
+ghost use Rattle.rule_actions.specs.Acts.{act};
+ghost use Rattle.rule_actions.specs.Answering.{answers, replied_by};
+ghost use Rattle.rule_actions.specs.Does.{Does};
+ghost use Rattle.rule_actions.specs.Outcome.{IsScratch, IsAt};
+
+use crate::redirect::redirect;
+use crate::returning::return_reply;
+use crate::scratch::Scratch;
+use crate::side::Side;
+use crate::stepped::Stepped;
+use htx_arena::Arena;
+use px_expr::Searchers;
+use px_sample::{OutOfMemory, Vars};
+use rule_model::Action;
+use std::alloc::Global;
+
+/// Whether an action answers by itself: `redirect` and `return` do.
+pub fn answers(action: &Action) -> bool
+    ensures { result ≡ answers action.now }
+{
+    match action {
+        Action::Redirect { .. } | Action::Return { .. } => true,
+        Action::Allow
+        | Action::Deny(_)
+        | Action::AddHeader(_, _)
+        | Action::SetHeader(_, _)
+        | Action::DelHeader(_)
+        | Action::ReplaceHeader(_, _, _)
+        | Action::ReplaceValue(_, _, _)
+        | Action::SetMethod(_)
+        | Action::SetPath(_)
+        | Action::SetPathq(_)
+        | Action::SetUri(_)
+        | Action::SetQuery(_)
+        | Action::ReplacePath(_, _)
+        | Action::ReplacePathq(_, _)
+        | Action::ReplaceUri(_, _)
+        | Action::SetStatus(_, _)
+        | Action::SetVar(_, _, _)
+        | Action::UnsetVar(_, _)
+        | Action::StrictMode(_) => false,
+    }
+}
+
+/// Runs an action that answers: its reply stands in an array of its own, which was empty, without a field that speaks of the
+/// connection. After a failure that array is empty again. The message stays.
+pub fn run_reply<'c>(
+    alloc: Global,
+    searchers: &mut Searchers<'c>,
+    action: &'c Action,
+    side: Side<'_>,
+    msg: &Arena,
+    vars: &Vars,
+    scratch: &mut Scratch,
+    reply: &mut Arena,
+) -> Result<Stepped, OutOfMemory>
+    requires scratch { IsScratch msg.now.size scratch.old }
+    requires valid { IsGoodAction action.now }
+    requires answers { answers action.now ≡ true }
+    requires reply_size { reply.old.size ≡ msg.now.size }
+    requires no_reply { reply.old.blocks ≡ [] }
+    ensures came { IfOk result (λ step. (env : Env) → IsAt side.entry env msg.now.blocks vars.now
+        → Does side.entry env (act msg.now.size action.now env) (replied_by step) msg.now.blocks vars.now reply.new.blocks) }
+    ensures succeeds { action_holds_pattern action.now ≡ false → IsOk result }
+    ensures reply_size { reply.new.size ≡ reply.old.size }
+    ensures scratch { IsScratch msg.now.size scratch.new }
+{
+    match action {
+        Action::Redirect {
+            to,
+            code,
+            drop_query,
+            append_slash,
+        } => redirect(
+            alloc,
+            searchers,
+            to,
+            *code,
+            *drop_query,
+            *append_slash,
+            side,
+            msg,
+            vars,
+            scratch,
+            reply,
+        ),
+        Action::Return {
+            status,
+            content_type,
+            payload,
+            hdrs,
+        } => return_reply(
+            alloc,
+            searchers,
+            *status,
+            content_type,
+            payload,
+            hdrs,
+            side,
+            msg,
+            vars,
+            scratch,
+            reply,
+        ),
+        Action::Allow
+        | Action::Deny(_)
+        | Action::AddHeader(_, _)
+        | Action::SetHeader(_, _)
+        | Action::DelHeader(_)
+        | Action::ReplaceHeader(_, _, _)
+        | Action::ReplaceValue(_, _, _)
+        | Action::SetMethod(_)
+        | Action::SetPath(_)
+        | Action::SetPathq(_)
+        | Action::SetUri(_)
+        | Action::SetQuery(_)
+        | Action::ReplacePath(_, _)
+        | Action::ReplacePathq(_, _)
+        | Action::ReplaceUri(_, _)
+        | Action::SetStatus(_, _)
+        | Action::SetVar(_, _, _)
+        | Action::UnsetVar(_, _)
+        | Action::StrictMode(_) => unreachable!(),
+    }
+}

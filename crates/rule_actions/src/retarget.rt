@@ -1,0 +1,71 @@
+//! `replace-path`, `replace-pathq` and `replace-uri`.
+ghost use Rattle.std.specs.Prelude.{◌≡◌, IfOk};
+ghost use Rattle.px_sample.specs.Variables.{Variables};
+ghost use Rattle.rule_actions.specs.declared.side.Side.{Side as On};
+ghost use Rattle.rule_actions.specs.Given.{Env};
+ghost use Rattle.rule_actions.specs.Lines.{retargeted, with_part};
+ghost use Rattle.rule_actions.specs.Steps.{replace_part};
+ghost use Rattle.rule_actions.specs.Outcome.{IsScratch, IsAt, Came, IsFront};
+
+use crate::filled::{Filled, fill};
+use crate::line::put_part;
+use crate::part::TargetPart;
+use crate::scratch::Scratch;
+use crate::side::Side;
+use crate::stepped::Stepped;
+use crate::target::part_of;
+use http_model::Why;
+use htx_arena::Arena;
+use htx_view::request_parts;
+use log_format::Fmt;
+use px_expr::{Pat, Searchers};
+use px_sample::{OutOfMemory, Vars};
+use std::alloc::Global;
+
+/// A part of the target becomes what `scratch.made` holds.
+fn put_made(part: TargetPart, msg: &mut Arena, scratch: &mut Scratch) -> Stepped
+    requires scratch { IsScratch msg.old.size scratch.old }
+    requires front { IsFront msg.old.blocks }
+    ensures came { (side : On) (env : Env) (vars : Variables) → IsAt side env msg.old.blocks vars
+        → Came side env (retargeted msg.old.size env (λ target. with_part part target scratch.old.made.bytes)) result msg.new.blocks vars }
+    ensures size { msg.new.size ≡ msg.old.size }
+    ensures scratch { IsScratch msg.old.size scratch.new }
+{
+    let Scratch {
+        text,
+        made,
+        buf,
+        spare,
+    } = scratch;
+    put_part(msg, part, made.bytes(), text, buf, spare)
+}
+
+/// A part of the target in which the pattern matches becomes the text, with the groups put in.
+pub(crate) fn replace_part<'c>(
+    alloc: Global,
+    searchers: &mut Searchers<'c>,
+    part: TargetPart,
+    pat: &'c Pat,
+    fmt: &'c Fmt,
+    side: Side<'_>,
+    msg: &mut Arena,
+    vars: &Vars,
+    scratch: &mut Scratch,
+) -> Result<Stepped, OutOfMemory>
+    requires scratch { IsScratch msg.old.size scratch.old }
+    requires front { IsFront msg.old.blocks }
+    ensures came { IfOk result (λ step. (env : Env) → IsAt side.entry env msg.old.blocks vars.now
+        → Came side.entry env (replace_part msg.old.size part pat.now fmt.now env) step msg.new.blocks vars.now) }
+    ensures size { msg.new.size ≡ msg.old.size }
+    ensures scratch { IsScratch msg.old.size scratch.new }
+{
+    let Some(line) = request_parts(msg) else {
+        return Ok(Stepped::Done);
+    };
+    let text = part_of(part, line.b);
+    match fill(alloc, searchers, pat, fmt, text, side, msg, vars, scratch)? {
+        Filled::Unmatched => Ok(Stepped::Done),
+        Filled::TooLong => Ok(Stepped::Failed(Why::Bytes)),
+        Filled::Made => Ok(put_made(part, msg, scratch)),
+    }
+}

@@ -1,0 +1,211 @@
+//! `return`: a reply with a type, a payload and fields of its own.
+ghost use Rattle.std.specs.Prelude.{◌≡◌, [], false, ◌||◌, length, List, ℕ, Option, option_map, option_copied, IsOk, IfOk, Result};
+ghost use Rattle.std.specs.Bool.{OnTrue};
+ghost use Rattle.std.specs.List.{AllByRecursion, list_any};
+ghost use Rattle.http_model.specs.declared.Why.{Why as Reason};
+ghost use Rattle.http_model.specs.Head.{Head, Message, head_blocks};
+ghost use Rattle.http_model.specs.Reply.{reply_head};
+ghost use Rattle.px_bytes.specs.Blanks.{trimmed};
+ghost use Rattle.rule_model.specs.Patterns.{payload_holds_pattern, hdr_holds_pattern};
+ghost use Rattle.rule_model.specs.Valid.{IsMadeName};
+ghost use Rattle.rule_actions.specs.Given.{Env};
+ghost use Rattle.rule_actions.specs.Replies.{returned, length_by};
+ghost use Rattle.rule_actions.specs.Outcome.{IsScratch, IsAt, Answers};
+ghost use Rattle.rule_actions.specs.Written.{IsHead, IsPut, IsEnded, IsReply, IsWritten, body_by};
+
+use crate::payload::{body_by, is_good_type, length_by, make_payload, trimmed_type, type_by};
+use crate::reply_fields::put_fields;
+use crate::scratch::Scratch;
+use crate::side::Side;
+use crate::stepped::Stepped;
+use http_model::Why;
+use htx_arena::Arena;
+use px_expr::{Searchers, Text};
+use px_reply::{add_payload, begin_reply, has_room_to_close};
+use px_sample::{Buf, OutOfMemory, Vars};
+use rule_model::{HdrList, Payload};
+use std::alloc::Global;
+
+/// Begins a reply in an empty array; false where its head does not fit.
+fn begin(status: u16, content_type: Option<&[u8]>, length: Option<u64>, reply: &mut Arena) -> bool
+    requires { reply.old.blocks ≡ [] }
+    ensures put { IsPut reply.old.size (reply_head status (option_map trimmed (option_copied content_type.entry)) length) [] result reply.new.blocks }
+    ensures head { OnTrue result (IsHead reply.new.blocks) }
+    ensures size { reply.new.size ≡ reply.old.size }
+{
+    match begin_reply(status, trimmed_type(content_type), length, reply) {
+        Ok(()) => true,
+        Err(_) => false,
+    }
+}
+
+/// Puts the body behind the head of a reply, where `connection: close` fits too.
+fn end(body: &[u8], reply: &mut Arena) -> Stepped
+    requires { IsHead reply.old.blocks }
+    ensures ended { (head : Head) → reply.old.blocks ≡ head_blocks head → IsEnded reply.old.size head body.now result reply.new.blocks }
+    ensures size { reply.new.size ≡ reply.old.size }
+{
+    match add_payload(reply, body) {
+        Ok(()) => {
+            if has_room_to_close(reply) {
+                Stepped::Done
+            } else {
+                Stepped::Failed(Why::Room)
+            }
+        }
+        Err(_) => Stepped::Failed(Why::Room),
+    }
+}
+
+/// The reply of a payload whose text is held, or some of its blocks where it fails. The text of each field is made, and tested before the room is.
+fn write_parts<'c>(
+    alloc: Global,
+    searchers: &mut Searchers<'c>,
+    status: u16,
+    content_type: Option<&[u8]>,
+    payload: &Option<Payload>,
+    text: &Buf,
+    hdrs: &'c HdrList,
+    side: Side<'_>,
+    msg: &Arena,
+    vars: &Vars,
+    made: &mut Buf,
+    buf: &mut Buf,
+    spare: &mut Buf,
+    reply: &mut Arena,
+) -> Result<Stepped, OutOfMemory>
+    requires made { made.old.cap ≡ msg.now.size }
+    requires buf { buf.old.cap ≡ msg.now.size }
+    requires spare { spare.old.cap ≡ msg.now.size }
+    requires empty { reply.old.blocks ≡ [] }
+    requires names { AllByRecursion (λ hdr. IsMadeName hdr.name) hdrs.now }
+    ensures put { IfOk result (λ step. (env : Env) → IsAt side.entry env msg.now.blocks vars.now
+        → IsReply msg.now.size reply.old.size env (reply_head status (option_map trimmed (option_copied content_type.entry)) (length_by status (length (body_by payload.now text.now.bytes)))) hdrs.now (body_by payload.now text.now.bytes) step reply.new.blocks) }
+    ensures succeeds { list_any hdr_holds_pattern hdrs.now ≡ false → IsOk result }
+    ensures made { made.new.cap ≡ msg.now.size }
+    ensures buf { buf.new.cap ≡ msg.now.size }
+    ensures spare { spare.new.cap ≡ msg.now.size }
+    ensures size { reply.new.size ≡ reply.old.size }
+{
+    let body = body_by(payload, text.bytes());
+    let begun = begin(status, content_type, length_by(status, body.len()), reply);
+    let step = put_fields(
+        alloc, searchers, hdrs, side, msg, vars, begun, made, buf, spare, reply,
+    )?;
+    match step {
+        Stepped::Done => Ok(end(body, reply)),
+        Stepped::Failed(why) => Ok(Stepped::Failed(why)),
+    }
+}
+
+/// The reply, or some of its blocks where it fails. Each text is made once, and tested before the room is.
+fn write_reply<'c>(
+    alloc: Global,
+    searchers: &mut Searchers<'c>,
+    status: u16,
+    content_type: &Option<Text>,
+    payload: &'c Option<Payload>,
+    hdrs: &'c HdrList,
+    side: Side<'_>,
+    msg: &Arena,
+    vars: &Vars,
+    scratch: &mut Scratch,
+    reply: &mut Arena,
+) -> Result<Stepped, OutOfMemory>
+    requires scratch { IsScratch msg.now.size scratch.old }
+    requires sizes { reply.old.size ≡ msg.now.size }
+    requires empty { reply.old.blocks ≡ [] }
+    requires names { AllByRecursion (λ hdr. IsMadeName hdr.name) hdrs.now }
+    ensures written { IfOk result (λ step. (env : Env) → IsAt side.entry env msg.now.blocks vars.now
+        → IsWritten (returned msg.now.size status content_type.now payload.now hdrs.now env) step reply.new.blocks) }
+    ensures succeeds { payload_holds_pattern payload.now || list_any hdr_holds_pattern hdrs.now ≡ false → IsOk result }
+    ensures size { reply.new.size ≡ reply.old.size }
+    ensures scratch { IsScratch msg.now.size scratch.new }
+{
+    let content_type = type_by(payload, content_type);
+    if !is_good_type(content_type) {
+        return Ok(Stepped::Failed(Why::Bytes));
+    }
+    let Scratch {
+        text,
+        made,
+        buf,
+        spare,
+    } = scratch;
+    if !make_payload(alloc, searchers, payload, side, msg, vars, text, buf, spare)? {
+        return Ok(Stepped::Failed(Why::Bytes));
+    }
+    write_parts(
+        alloc,
+        searchers,
+        status,
+        content_type,
+        payload,
+        text,
+        hdrs,
+        side,
+        msg,
+        vars,
+        made,
+        buf,
+        spare,
+        reply,
+    )
+}
+
+/// Leaves nothing of a reply that failed.
+fn whole(step: Stepped, reply: &mut Arena) -> Stepped
+    ensures whole { (r : Result Message Reason) → IsWritten r step reply.old.blocks → Answers r result reply.new.blocks }
+    ensures size { reply.new.size ≡ reply.old.size }
+{
+    match step {
+        Stepped::Done => {
+            let _room = reply.room();
+            Stepped::Done
+        }
+        Stepped::Failed(why) => {
+            reply.clear();
+            Stepped::Failed(why)
+        }
+    }
+}
+
+/// `return`. The reply is without a field that speaks of the connection, and one with `connection: close` would fit.
+pub(crate) fn return_reply<'c>(
+    alloc: Global,
+    searchers: &mut Searchers<'c>,
+    status: u16,
+    content_type: &Option<Text>,
+    payload: &'c Option<Payload>,
+    hdrs: &'c HdrList,
+    side: Side<'_>,
+    msg: &Arena,
+    vars: &Vars,
+    scratch: &mut Scratch,
+    reply: &mut Arena,
+) -> Result<Stepped, OutOfMemory>
+    requires scratch { IsScratch msg.now.size scratch.old }
+    requires sizes { reply.old.size ≡ msg.now.size }
+    requires empty { reply.old.blocks ≡ [] }
+    requires names { AllByRecursion (λ hdr. IsMadeName hdr.name) hdrs.now }
+    ensures came { IfOk result (λ step. (env : Env) → IsAt side.entry env msg.now.blocks vars.now
+        → Answers (returned msg.now.size status content_type.now payload.now hdrs.now env) step reply.new.blocks) }
+    ensures succeeds { payload_holds_pattern payload.now || list_any hdr_holds_pattern hdrs.now ≡ false → IsOk result }
+    ensures size { reply.new.size ≡ reply.old.size }
+    ensures scratch { IsScratch msg.now.size scratch.new }
+{
+    let step = write_reply(
+        alloc,
+        searchers,
+        status,
+        content_type,
+        payload,
+        hdrs,
+        side,
+        msg,
+        vars,
+        scratch,
+        reply,
+    )?;
+    Ok(whole(step, reply))
+}
