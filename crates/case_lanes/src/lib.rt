@@ -5,6 +5,7 @@ mod kinds;
 mod paces;
 mod requests;
 mod responses;
+mod seen;
 mod texts;
 
 pub use kinds::made;

@@ -2,10 +2,8 @@
 //! A row that names several must come to the same for each.
 ghost use Rattle.std.specs.Prelude.{◌≤◌, IfOk};
 
-use case_bodies::LIMITS;
 use case_rows::{Answers, Fault, Step};
 use http_model::Ending;
-use lane::{LaneHead, Source, Stage};
 use std::alloc::Global;
 
 /// The size of a window and of a piece in bytes.
@@ -32,59 +30,63 @@ impl Pace {
     }
 }
 
-/// The most calls of a row.
-pub const MOST_CALLS: u32 = 100000;
-
-/// What a lane was seen to do: how many heads it read, what it said of the last, and the text that it put out.
+/// What a row came to at its paces so far: all the same, or the first that differs.
 #[derive(Drop)]
-pub struct Seen {
-    pub heads: usize,
-    pub told: LaneHead,
-    pub text: Vec<u8>,
+pub struct Agreed {
+    alloc: Global,
+    facts: Option<Vec<u8>>,
+    differs: bool,
 }
 
-impl Seen {
-    /// Nothing.
-    pub fn new(alloc: Global) -> Seen {
-        Seen {
-            heads: 0,
-            told: LaneHead::More,
-            text: Vec::new(alloc),
+impl Agreed {
+    /// At none.
+    pub fn new(alloc: Global) -> Agreed {
+        Agreed {
+            alloc,
+            facts: None,
+            differs: false,
         }
     }
 
-    /// Whether the body behind the last head was whole.
-    pub fn is_whole(&self, source: Source) -> bool {
-        self.told == LaneHead::Head && source == Source::Whole
+    /// Whether a row came to the same before, or to nothing.
+    fn is_same(&self, made: &[u8]) -> bool {
+        match &self.facts {
+            Some(facts) => facts.as_slice() == made,
+            None => true,
+        }
+    }
+
+    /// Notes what a row comes to at a pace.
+    pub fn note(&mut self, pace: &str, made: Vec<u8>) -> Result<(), Fault> {
+        if self.differs {
+            return Ok(());
+        }
+        if self.is_same(&made) {
+            self.facts = Some(made);
+            return Ok(());
+        }
+        self.differs = true;
+        self.facts = Some(at_other_pace(self.alloc, pace, &made)?);
+        Ok(())
+    }
+
+    /// What the row came to.
+    pub fn into_text(self) -> Result<Vec<u8>, Fault> {
+        match self.facts {
+            Some(facts) => Ok(facts),
+            None => Err(Fault::Malformed),
+        }
     }
 }
 
-/// Says where the body of a message stands.
-fn say_body(stage: Stage, source: Source, answers: &mut Answers) {
-    match source {
-        Source::Going => answers.say(b"going"),
-        Source::Whole => answers.say(b"whole"),
-        Source::Cut(code) => {
-            answers.say(b"cut ");
-            answers.more_count(u64::from(code));
-        }
-    }
-    if stage == Stage::Sending && source != Source::Going {
-        answers.more(b" but not put out");
-    }
-}
-
-/// Says what a lane said of the last head, or where the body behind it stands.
-pub fn say_end(told: LaneHead, stage: Stage, source: Source, answers: &mut Answers) {
-    match told {
-        LaneHead::More => answers.say(b"more"),
-        LaneHead::Nothing => answers.say(b"nothing"),
-        LaneHead::Head => say_body(stage, source, answers),
-        LaneHead::Refuse(code) => {
-            answers.say(b"refused ");
-            answers.more_count(u64::from(code));
-        }
-    }
+/// What a row comes to at a pace that differs from those before.
+fn at_other_pace(alloc: Global, pace: &str, other: &[u8]) -> Result<Vec<u8>, Fault> {
+    let mut answers = Answers::new(alloc);
+    answers.say(b"at ");
+    answers.more(pace.as_bytes());
+    answers.more(b": ");
+    answers.more(other);
+    answers.into_text()
 }
 
 /// How a row says that its stream ends, if it does.
@@ -95,30 +97,4 @@ pub fn ending_of(text: &str) -> Result<Option<Ending>, Fault> {
         "broke" => Ok(Some(Ending::Broke)),
         _ => Err(Fault::Malformed),
     }
-}
-
-/// What a row comes to at a pace that differs from its first.
-pub fn at_other_pace(alloc: Global, pace: &str, other: &[u8]) -> Result<Vec<u8>, Fault> {
-    let mut answers = Answers::new(alloc);
-    answers.say(b"at ");
-    answers.more(pace.as_bytes());
-    answers.more(b": ");
-    answers.more(other);
-    answers.into_text()
-}
-
-/// Says what is left of a stream: its last bytes, of which some never came and others stand in the input window, which has
-/// this room.
-pub fn say_left(stream: &[u8], behind: usize, room: usize, answers: &mut Answers) {
-    let unused = (LIMITS.bufsize as usize).saturating_sub(room);
-    let count = behind.saturating_add(unused);
-    let (_, left) = stream.split_at(stream.len().saturating_sub(count));
-    answers.say(b"left \"");
-    answers.more(left);
-    answers.more(b"\"");
-}
-
-/// The first pace of a row, and the others.
-pub fn split_first(paces: &str) -> (&str, &str) {
-    paces.split_once(';').unwrap_or((paces, ""))
 }

@@ -7,13 +7,11 @@ ghost use Rattle.lane.specs.Asking.{stage_of, ended_of, IsWell, MayRead};
 ghost use Rattle.lane_core.specs.declared.stage.Stage.TheVariants as stages;
 ghost use Rattle.case_lanes.specs.Drives.{IsBetween};
 
-use crate::paces::{
-    MOST_CALLS, Pace, Seen, at_other_pace, ending_of, say_end, say_left, split_first,
-};
-use crate::texts::say_message;
+use crate::paces::{Agreed, Pace, ending_of};
+use crate::seen::{MOST_CALLS, Seen, Stand};
 use body_filter::FilterSpec;
 use case_bodies::{LIMITS, filters_of, framing_of};
-use case_rows::{Answers, Fault, Row, decoded};
+use case_rows::{Fault, Row, decoded};
 use http_model::{Ending, Framing};
 use lane::{LaneHead, RequestLane, Stage};
 use std::alloc::Global;
@@ -136,17 +134,18 @@ fn at_pace(message: &Message<'_>, filters: &[FilterSpec], pace: Pace) -> Result<
     let mut seen = Seen::new(message.alloc);
     let behind = feed(&mut lane, message, pace.piece, &mut seen)?;
     end(&mut lane, message, &mut seen)?;
-    let mut answers = Answers::new(message.alloc);
-    say_message(
-        &seen.text,
+    let at = Stand {
+        stage: lane.stage(),
+        source: lane.source(),
+        behind,
+        room: lane.room(),
+    };
+    seen.say(
+        message.alloc,
+        message.stream,
         message.framing == Framing::Chunked,
-        &mut answers,
-    );
-    say_end(seen.told, lane.stage(), lane.source(), &mut answers);
-    if seen.is_whole(lane.source()) {
-        say_left(message.stream, behind, lane.room(), &mut answers);
-    }
-    answers.into_text()
+        at,
+    )
 }
 
 /// The message of a row, with the bytes of its stream.
@@ -164,18 +163,15 @@ fn message_of<'a>(alloc: Global, row: Row<'_>, stream: &'a [u8]) -> Result<Messa
     })
 }
 
-/// What a row comes to at its first pace; another at which it comes to something else is named.
+/// What a row comes to at each of its paces.
 pub fn sent(alloc: Global, row: Row<'_>) -> Result<Vec<u8>, Fault> {
     let filters = filters_of(alloc, row.field(2))?;
     let stream = decoded(alloc, row.field(4).as_bytes())?;
     let message = message_of(alloc, row, &stream)?;
-    let (first, others) = split_first(row.field(1));
-    let facts = at_pace(&message, &filters, Pace::read(alloc, first)?)?;
-    for pace in others.split_terminator(';') {
-        let other = at_pace(&message, &filters, Pace::read(alloc, pace)?)?;
-        if other != facts {
-            return at_other_pace(alloc, pace, &other);
-        }
+    let mut agreed = Agreed::new(alloc);
+    for pace in row.field(1).split(';') {
+        let made = at_pace(&message, &filters, Pace::read(alloc, pace)?)?;
+        agreed.note(pace, made)?;
     }
-    Ok(facts)
+    agreed.into_text()
 }

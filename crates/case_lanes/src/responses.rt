@@ -7,15 +7,13 @@ ghost use Rattle.body_filter.specs.Valid.{AreFilters};
 ghost use Rattle.lane.specs.Answering.{stage_of, ended_of, output_of, IsOpen, IsSoundAnswer};
 ghost use Rattle.lane_core.specs.declared.stage.Stage.TheVariants as stages;
 
-use crate::paces::{
-    MOST_CALLS, Pace, Seen, at_other_pace, ending_of, say_end, say_left, split_first,
-};
-use crate::texts::say_message;
+use crate::paces::{Agreed, Pace, ending_of};
+use crate::seen::{MOST_CALLS, Seen, Stand};
 use body_filter::FilterSpec;
 use case_bodies::{LIMITS, filters_of, framing_of};
-use case_rows::{Answers, Fault, Row, decoded};
+use case_rows::{Fault, Row, decoded};
 use http_model::{Ending, Framing};
-use lane::{LaneHead, ResponseLane, Source, Stage};
+use lane::{LaneHead, ResponseLane, Stage};
 use std::alloc::Global;
 
 /// The messages of a row.
@@ -159,17 +157,18 @@ fn at_pace(messages: &Messages<'_>, filters: &[FilterSpec], pace: Pace) -> Resul
     let mut seen = Seen::new(messages.alloc);
     let behind = feed(&mut lane, messages, pace.piece, &mut seen)?;
     end(&mut lane, messages, &mut seen)?;
-    let mut answers = Answers::new(messages.alloc);
-    say_message(
-        &seen.text,
+    let at = Stand {
+        stage: lane.stage(),
+        source: lane.source(),
+        behind,
+        room: lane.room(),
+    };
+    seen.say(
+        messages.alloc,
+        messages.stream,
         messages.framing == Framing::Chunked,
-        &mut answers,
-    );
-    say_end(seen.told, lane.stage(), lane.source(), &mut answers);
-    if seen.is_whole(lane.source()) {
-        say_left(messages.stream, behind, lane.room(), &mut answers);
-    }
-    answers.into_text()
+        at,
+    )
 }
 
 /// The messages of a row, with the bytes of its stream.
@@ -184,18 +183,15 @@ fn messages_of<'a>(alloc: Global, row: Row<'a>, stream: &'a [u8]) -> Result<Mess
     })
 }
 
-/// What a row comes to at its first pace; another at which it comes to something else is named.
+/// What a row comes to at each of its paces.
 pub fn answered(alloc: Global, row: Row<'_>) -> Result<Vec<u8>, Fault> {
     let filters = filters_of(alloc, row.field(2))?;
     let stream = decoded(alloc, row.field(6).as_bytes())?;
     let messages = messages_of(alloc, row, &stream)?;
-    let (first, others) = split_first(row.field(1));
-    let facts = at_pace(&messages, &filters, Pace::read(alloc, first)?)?;
-    for pace in others.split_terminator(';') {
-        let other = at_pace(&messages, &filters, Pace::read(alloc, pace)?)?;
-        if other != facts {
-            return at_other_pace(alloc, pace, &other);
-        }
+    let mut agreed = Agreed::new(alloc);
+    for pace in row.field(1).split(';') {
+        let made = at_pace(&messages, &filters, Pace::read(alloc, pace)?)?;
+        agreed.note(pace, made)?;
     }
-    Ok(facts)
+    agreed.into_text()
 }

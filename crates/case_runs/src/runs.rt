@@ -1,6 +1,6 @@
 //! Rules on a head: NAME, the size of buffers, of responses and of all that the client is sent the method of the request, the lines
 //! of `acl` and of rules, the head, and the verdict with the list that it leaves.
-ghost use Rattle.std.specs.Prelude.{◌≡◌, ◌≤◌, length, OnOk, IfOk, []};
+ghost use Rattle.std.specs.Prelude.{◌≡◌, ◌≤◌, ◌+◌, length, IfOk, []};
 ghost use Rattle.http_model.specs.Sizes.{least_size, most_size, least_head};
 ghost use Rattle.http_rules.specs.Run.{IsHead};
 ghost use Rattle.http_rules.specs.Valid.{IsValid};
@@ -8,13 +8,16 @@ ghost use Rattle.http_rules.specs.Valid.{IsValid};
 use crate::configs::config_of;
 use crate::verdicts::say_verdict;
 use case_rows::{Answers, Fault, Row, decoded};
-use h1_head::{HeadRead, read_request, read_response};
+use h1_head::{HeadRead, Side, read_head};
 use http_model::Limits;
 use http_rules::{
     Config, OutOfMemory, Scratch, Searchers, Vars, Verdict, run_after, run_request, run_response,
 };
 use htx_arena::Arena;
 use std::alloc::Global;
+
+/// A head that is read as an answer to another method than HEAD.
+const ANSWER: Side = Side::Response { head_asked: false };
 
 /// The bytes of a head, at most so many.
 fn head_of(alloc: Global, text: &str, most: u32) -> Result<Vec<u8>, Fault>
@@ -27,8 +30,9 @@ fn head_of(alloc: Global, text: &str, most: u32) -> Result<Vec<u8>, Fault>
     Ok(head)
 }
 
-/// The head of a request in an array.
-fn request_in(alloc: Global, text: &str, limits: Limits) -> Result<Arena, Fault>
+/// The head of a request or of an answer in an array.
+#[tactic(auto, using(crate::proofs::Heads::heads))]
+fn head_in(alloc: Global, text: &str, side: Side, limits: Limits) -> Result<Arena, Fault>
     requires least { least_size ≤ limits.bufsize }
     requires most { limits.bufsize ≤ most_size }
     requires reserve { limits.maxrewrite + least_head ≤ limits.bufsize }
@@ -37,23 +41,7 @@ fn request_in(alloc: Global, text: &str, limits: Limits) -> Result<Arena, Fault>
 {
     let head = head_of(alloc, text, limits.bufsize)?;
     let mut msg = Arena::new(alloc, limits.bufsize)?;
-    match read_request(&head, true, limits, &mut msg) {
-        HeadRead::Head { .. } => Ok(msg),
-        HeadRead::More { .. } | HeadRead::Refuse { .. } => Err(Fault::Malformed),
-    }
-}
-
-/// The head of a response in an array.
-fn response_in(alloc: Global, text: &str, limits: Limits) -> Result<Arena, Fault>
-    requires least { least_size ≤ limits.bufsize }
-    requires most { limits.bufsize ≤ most_size }
-    requires reserve { limits.maxrewrite + least_head ≤ limits.bufsize }
-    ensures head { IfOk result (λ msg. IsHead msg.blocks) }
-    ensures size { IfOk result (λ msg. msg.size ≡ limits.bufsize) }
-{
-    let head = head_of(alloc, text, limits.bufsize)?;
-    let mut msg = Arena::new(alloc, limits.bufsize)?;
-    match read_response(&head, true, false, limits, &mut msg) {
+    match read_head(&head, true, side, limits, &mut msg) {
         HeadRead::Head { .. } => Ok(msg),
         HeadRead::More { .. } | HeadRead::Refuse { .. } => Err(Fault::Malformed),
     }
@@ -68,6 +56,7 @@ enum Run<'a> {
 }
 
 /// Runs the rules of a configuration on a head.
+#[tactic(auto, using(crate::proofs::Heads::heads))]
 fn run_rules(
     alloc: Global,
     cfg: &Config,
@@ -131,20 +120,20 @@ fn came_to(alloc: Global, cfg: &Config, run: Run<'_>, head: Arena) -> Result<Vec
 /// What a row of rules of requests comes to.
 pub fn of_request(alloc: Global, row: Row<'_>) -> Result<Vec<u8>, Fault> {
     let cfg = config_of(alloc, row.field(1), row.field(2))?;
-    let head = request_in(alloc, row.field(3), cfg.limits)?;
+    let head = head_in(alloc, row.field(3), Side::Request, cfg.limits)?;
     came_to(alloc, &cfg, Run::Request, head)
 }
 
 /// What a row of rules of responses comes to.
 pub fn of_response(alloc: Global, row: Row<'_>) -> Result<Vec<u8>, Fault> {
     let cfg = config_of(alloc, row.field(1), row.field(3))?;
-    let head = response_in(alloc, row.field(4), cfg.limits)?;
+    let head = head_in(alloc, row.field(4), ANSWER, cfg.limits)?;
     came_to(alloc, &cfg, Run::Response(row.field(2).as_bytes()), head)
 }
 
 /// What a row of rules on all that the client is sent comes to.
 pub fn of_after(alloc: Global, row: Row<'_>) -> Result<Vec<u8>, Fault> {
     let cfg = config_of(alloc, row.field(1), row.field(3))?;
-    let head = response_in(alloc, row.field(4), cfg.limits)?;
+    let head = head_in(alloc, row.field(4), ANSWER, cfg.limits)?;
     came_to(alloc, &cfg, Run::After(row.field(2).as_bytes()), head)
 }
