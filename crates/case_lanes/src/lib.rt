@@ -4,7 +4,6 @@
 mod kinds;
 mod paces;
 mod requests;
-mod responses;
 mod seen;
 mod texts;
 

@@ -8,10 +8,9 @@ use std::alloc::Global;
 /// The most calls of a row.
 pub const MOST_CALLS: u32 = 100000;
 
-/// How many heads a lane read, what it said of the last, and the text that it put out.
+/// What a lane said of the last head, and the text that it put out.
 #[derive(Drop)]
 pub struct Seen {
-    pub heads: usize,
     pub told: LaneHead,
     pub text: Vec<u8>,
 }
@@ -37,7 +36,6 @@ impl Seen {
     /// Nothing.
     pub fn new(alloc: Global) -> Seen {
         Seen {
-            heads: 0,
             told: LaneHead::More,
             text: Vec::new(alloc),
         }

@@ -56,7 +56,6 @@ impl ResponseLane {
         ensures filters { IfOk result (λ lane. HasFilters lane filters.now) }
         ensures fresh { IfOk result (λ lane. (asked : Bool) → Answers lane (fresh asked)) }
         ensures reading { IfOk result (λ lane. stage_of lane ≡ stage.Reading) }
-        ensures open { IfOk result IsOpen }
         ensures sound { IfOk result IsSoundAnswer }
     {
         Ok(ResponseLane {
@@ -72,7 +71,6 @@ impl ResponseLane {
         requires room { length (input_of self.old) + length bytes.now ≤ most_of self.old }
         ensures answers { (p : Exchange) → Answers self.old p → Answers self.new (with_bytes p bytes.now) }
         ensures same { (stage_of self.new ≡ stage_of self.old) × (window_of self.new ≡ window_of self.old) × (has_begun self.new ≡ has_begun self.old) }
-        ensures open { IsOpen self.new }
         ensures sound { IsSoundAnswer self.old → IsSoundAnswer self.new }
         ensures filters { (filters : List FilterSpec) → HasFilters self.old filters → HasFilters self.new filters }
     {
@@ -203,7 +201,6 @@ impl ResponseLane {
         ensures answers { PutsOut self.old self.new }
         ensures no_stall { (p : Exchange) → Answers self.old p → stage_of self.new ≡ stage.Sending → MayGoOn self.new }
         ensures begun { has_begun self.old ≡ true → has_begun self.new ≡ true }
-        ensures ended { ended_of self.new ≡ ended_of self.old }
         ensures sound { IsSoundAnswer self.new }
         ensures filters { (filters : List FilterSpec) → HasFilters self.old filters → HasFilters self.new filters }
     {
@@ -222,7 +219,6 @@ impl ResponseLane {
         ensures answers { PutsOut self.old self.new }
         ensures no_stall { (p : Exchange) → Answers self.old p → stage_of self.new ≡ stage.Sending → MayGoOn self.new }
         ensures begun { has_begun self.old ≡ true → has_begun self.new ≡ true }
-        ensures ended { ended_of self.new ≡ ended_of self.old }
         ensures sound { IsSoundAnswer self.new }
         ensures filters { (filters : List FilterSpec) → HasFilters self.old filters → HasFilters self.new filters }
     {
@@ -239,7 +235,6 @@ impl ResponseLane {
         ensures answers { PutsOut self.old self.new }
         ensures no_stall { (p : Exchange) → Answers self.old p → stage_of self.new ≡ stage.Sending → MayGoOn self.new }
         ensures begun { has_begun self.old ≡ true → has_begun self.new ≡ true }
-        ensures ended { ended_of self.new ≡ ended_of self.old }
         ensures sound { IsSoundAnswer self.new }
         ensures filters { (filters : List FilterSpec) → HasFilters self.old filters → HasFilters self.new filters }
     {
@@ -259,7 +254,6 @@ impl ResponseLane {
         ensures answers { PutsOut self.old self.new }
         ensures no_stall { (p : Exchange) → Answers self.old p → stage_of self.new ≡ stage.Sending → MayGoOn self.new }
         ensures begun { has_begun self.old ≡ true → has_begun self.new ≡ true }
-        ensures ended { ended_of self.new ≡ ended_of self.old }
         ensures sound { IsSoundAnswer self.new }
         ensures filters { (filters : List FilterSpec) → HasFilters self.old filters → HasFilters self.new filters }
     {

@@ -66,10 +66,3 @@ returns-else-show_on-clause-answers c =
             (h.3.0, h.3.1, h.3.2, ap (λ (l : Lane). flow l.msg.blocks) same ∙ h.3.3),
           );
     }
-
-pub returns-then-show_on-clause-ended : goal.returns-then-show_on-clause-ended
-returns-then-show_on-clause-ended c =
-    c.answer_on.ensures.ended ∙ c.say_msg.ensures.same.1 ∙ ap (λ (l : Lane). l.ended) c.hide.ensures.same ∙ ap (λ (l : Lane). l.ended) c.show_on.ensures.same
-
-pub returns-else-show_on-clause-ended : goal.returns-else-show_on-clause-ended
-returns-else-show_on-clause-ended c = ap (λ (l : Lane). l.ended) c.show_on.ensures.same
