@@ -1,5 +1,5 @@
 //! Which interpreter a kind of rows has.
-use crate::requests;
+use crate::{requests, responses};
 use case_rows::{Fault, Row};
 use std::alloc::Global;
 
@@ -7,6 +7,7 @@ use std::alloc::Global;
 pub fn made(alloc: Global, kind: &str, row: Row<'_>) -> Option<Result<Vec<u8>, Fault>> {
     match kind {
         "request_messages" => Some(requests::sent(alloc, row)),
+        "response_messages" => Some(responses::answered(alloc, row)),
         _ => None,
     }
 }

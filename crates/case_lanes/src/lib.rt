@@ -4,6 +4,7 @@
 mod kinds;
 mod paces;
 mod requests;
+mod responses;
 mod seen;
 mod texts;
 

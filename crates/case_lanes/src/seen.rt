@@ -8,9 +8,10 @@ use std::alloc::Global;
 /// The most calls of a row.
 pub const MOST_CALLS: u32 = 100000;
 
-/// What a lane said of the last head, and the text that it put out.
+/// How many heads a lane read, what it said of the last, and the text that it put out.
 #[derive(Drop)]
 pub struct Seen {
+    pub heads: usize,
     pub told: LaneHead,
     pub text: Vec<u8>,
 }
@@ -36,6 +37,7 @@ impl Seen {
     /// Nothing.
     pub fn new(alloc: Global) -> Seen {
         Seen {
+            heads: 0,
             told: LaneHead::More,
             text: Vec::new(alloc),
         }

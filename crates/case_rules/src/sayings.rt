@@ -2,6 +2,7 @@
 use acl_eval::TestValue;
 use case_rows::Answers;
 use cfg_expr::Source;
+use px_conv::Matches;
 use px_expr::{Conv, ConvList, Expr, Fetch, Pat, Text};
 
 /// Says bytes in double quotes.
@@ -88,12 +89,12 @@ fn say_counted(name: &[u8], number: i64, more: Option<i64>, answers: &mut Answer
     say_some_number(more, answers);
 }
 
-/// Says a pattern, a template, and that each match is replaced.
-fn say_regsub(pat: &Pat, template: &Text, all: bool, answers: &mut Answers) {
+/// Says a pattern, a template, and where each match is replaced.
+fn say_regsub(pat: &Pat, template: &Text, which: Matches, answers: &mut Answers) {
     answers.more(b"Regsub");
     say_pattern(pat, answers);
     say_text(template, answers);
-    if all {
+    if which == Matches::All {
         answers.more(b" all");
     }
 }
@@ -112,7 +113,7 @@ fn say_conv(conv: &Conv, answers: &mut Answers) {
         Conv::Mul(number) => say_counted(b"Mul", *number, None, answers),
         Conv::Div(number) => say_counted(b"Div", *number, None, answers),
         Conv::Mod(number) => say_counted(b"Mod", *number, None, answers),
-        Conv::Regsub(pat, template, all) => say_regsub(pat, template, *all, answers),
+        Conv::Regsub(pat, template, which) => say_regsub(pat, template, *which, answers),
         _ => answers.more_name(conv),
     }
 }

@@ -1,5 +1,6 @@
 //! Converters and fetches as rows write them.
 use case_rows::{Call, Fault};
+use px_conv::Matches;
 use px_expr::{Conv, Fetch, Pat, Text};
 use px_pattern::{PatFault, Patterns, RealPatterns};
 use std::alloc::Global;
@@ -51,8 +52,11 @@ fn number_conv(name: &str, number: i64) -> Option<Conv> {
 fn regsub_of(alloc: Global, call: &Call<'_>) -> Result<Conv, Fault> {
     let pat = pattern_of(alloc, &call.text(alloc, 0)?)?;
     let template = text_of(alloc, call, 1)?;
-    let all = call.text(alloc, 2)?.as_slice() == b"g".as_slice();
-    Ok(Conv::Regsub(pat, template, all))
+    let which = match call.text(alloc, 2)?.as_slice() {
+        b"g" => Matches::All,
+        _ => Matches::First,
+    };
+    Ok(Conv::Regsub(pat, template, which))
 }
 
 /// The converters with several arguments.

@@ -54,8 +54,8 @@ fn copy_conv(alloc: Global, conv: &Conv) -> Result<Conv, OutOfMemory>
         Conv::Base64 => Ok(Conv::Base64),
         Conv::Hex => Ok(Conv::Hex),
         Conv::UrlDec => Ok(Conv::UrlDec),
-        Conv::Regsub(pat, template, all) => {
-            Ok(Conv::Regsub(pat.share()?, copy_text(alloc, template)?, *all))
+        Conv::Regsub(pat, template, which) => {
+            Ok(Conv::Regsub(pat.share()?, copy_text(alloc, template)?, *which))
         }
     }
 }

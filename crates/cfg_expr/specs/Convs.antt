@@ -5,6 +5,8 @@ use Rattle.std.specs.Str.{bytes_eq}
 use Rattle.px_pattern.specs.Pattern.{Pattern}
 use Rattle.px_conv.specs.declared.conv.Conv.{Conv}
 use Rattle.px_conv.specs.declared.conv.Conv.TheVariants as convs
+use Rattle.px_conv.specs.declared.conv.Matches.{Matches}
+use Rattle.px_conv.specs.declared.conv.Matches.TheVariants.{First, All}
 use Rattle.cfg_expr.specs.declared.fault.TextKind.TheVariants.{Expr}
 use Rattle.cfg_expr.specs.Steps.{◌>>=◌}
 use Rattle.cfg_expr.specs.Faults.{Told}
@@ -61,10 +63,10 @@ plain_conv name (first ∷ second ∷ third ∷ fourth ∷ others) = Err Expr
 
 -- ---- regsub
 
--- whether case is ignored, and whether each match is replaced
+-- whether case is ignored, and which matches are replaced
 pub record Flags : Type 0 where
   pub icase : Bool
-  pub all : Bool
+  pub which : Matches
 
 abbrev pub is_flag : ℕ → Bool
 is_flag b = b == 103 || b == 105
@@ -72,19 +74,19 @@ is_flag b = b == 103 || b == 105
 -- the letters `g` and `i`
 abbrev pub flags_of : List ℕ → Told Flags
 flags_of text =
-    if list_all is_flag text then Ok (record { icase = list_any (λ b. b == 105) text; all = list_any (λ b. b == 103) text }) else Err Expr
+    if list_all is_flag text then Ok (record { icase = list_any (λ b. b == 105) text; which = if list_any (λ b. b == 103) text then All else First }) else Err Expr
 
 abbrev pub no_flags : Flags
-no_flags = record { icase = false; all = false }
+no_flags = record { icase = false; which = First }
 
 -- the pattern, the template and the flags
 pub record Replacing : Type 0 where
   pub pattern : Pattern
   pub template : List ℕ
-  pub all : Bool
+  pub which : Matches
 
 abbrev pub replacing : (text template : List ℕ) → Flags → Replacing
-replacing text template flags = record { pattern = record { text = text; icase = flags.icase }; template = template; all = flags.all }
+replacing text template flags = record { pattern = record { text = text; icase = flags.icase }; template = template; which = flags.which }
 
 -- the arguments of `regsub`: how many there are, then the flags
 unfoldable pub replacing_of : List (List ℕ) → Told Replacing

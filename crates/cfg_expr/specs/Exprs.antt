@@ -17,7 +17,7 @@ use Rattle.cfg_expr.specs.Convs.{Replacing, replacing_of, plain_conv}
 
 -- the pattern is built last
 abbrev pub replaced : Replacing → TextReading Conv
-replaced parts = built parts.pattern >>= λ pat. plain (Ok (Regsub pat parts.template parts.all))
+replaced parts = built parts.pattern >>= λ pat. plain (Ok (Regsub pat parts.template parts.which))
 
 -- the converter of a name and its arguments
 unfoldable pub conv_of : List ℕ → List (List ℕ) → TextReading Conv

@@ -9,6 +9,7 @@ ghost use Rattle.cfg_expr.specs.Exprs.{replaced, conv_of, conv_at, convs_at, goe
 use crate::numbers::{count, number};
 use crate::patterns::build;
 use crate::{Args, TextFault, TextKind, call_in};
+use px_conv::Matches;
 use px_expr::{Conv, ConvList, Text};
 use px_pattern::Patterns;
 use std::alloc::Global;
@@ -21,8 +22,8 @@ const MAX_CONVS: u32 = 16;
 struct Flags {
     /// `i`: case is ignored.
     icase: bool,
-    /// `g`: each match is replaced.
-    all: bool,
+    /// With `g` each match is replaced.
+    which: Matches,
 }
 
 #[tactic(auto, unfolding(crate::specs::Convs::bare_conv))]
@@ -151,14 +152,18 @@ fn has(text: &[u8], byte: u8) -> bool
 
 /// The letters `g` and `i`.
 fn flags_of(text: &[u8]) -> Result<Flags, TextFault>
-    ensures { Gives (λ flags. record { icase = flags.icase; all = flags.all }) result (flags_of text.now) }
+    ensures { Gives (λ flags. record { icase = flags.icase; which = flags.which }) result (flags_of text.now) }
 {
     if !are_flags(text) {
         return Err(TextFault::Refused(TextKind::Expr));
     }
     Ok(Flags {
         icase: has(text, b'i'),
-        all: has(text, b'g'),
+        which: if has(text, b'g') {
+            Matches::All
+        } else {
+            Matches::First
+        },
     })
 }
 
@@ -172,13 +177,13 @@ struct Replacing<'t> {
 
 #[tactic(auto, unfolding(crate::specs::Convs::replacing_of))]
 fn replacing_of(args: Args<'_>) -> Result<Replacing<'_>, TextFault>
-    ensures { Gives (λ parts. replacing parts.text.now parts.template.now (record { icase = parts.flags.icase; all = parts.flags.all })) result (replacing_of (args_of args.entry)) }
+    ensures { Gives (λ parts. replacing parts.text.now parts.template.now (record { icase = parts.flags.icase; which = parts.flags.which })) result (replacing_of (args_of args.entry)) }
 {
     match args {
         Args::Two(text, template) => {
             let flags = Flags {
                 icase: false,
-                all: false,
+                which: Matches::First,
             };
             Ok(Replacing {
                 text,
@@ -204,11 +209,11 @@ fn replaced<P: Patterns>(
     parts: &Replacing<'_>,
     pats: &mut P,
 ) -> Result<Conv, TextFault>
-    ensures { ReadsText (λ conv. conv) (replaced (replacing parts.now.text.now parts.now.template.now (record { icase = parts.now.flags.icase; all = parts.now.flags.all }))) (P.refusals pats.old) (P.refusals pats.new) (P.last_refused pats.new) result }
+    ensures { ReadsText (λ conv. conv) (replaced (replacing parts.now.text.now parts.now.template.now (record { icase = parts.now.flags.icase; which = parts.now.flags.which }))) (P.refusals pats.old) (P.refusals pats.new) (P.last_refused pats.new) result }
 {
     let template = Text::copy(alloc, parts.template)?;
     let pat = build(alloc, parts.text, parts.flags.icase, pats)?;
-    Ok(Conv::Regsub(pat, template, parts.flags.all))
+    Ok(Conv::Regsub(pat, template, parts.flags.which))
 }
 
 /// The converter of a name and its arguments.

@@ -1,5 +1,6 @@
 -- What stands at each place of a line (Configuration Manual, section 2.2, "Quoting and escaping").
 use Rattle.std.specs.Prelude.{ℕ, ◌+◌, ◌-◌, ◌*◌, List, [], ◌∷◌, length, Bool, true, false, ◌||◌, ◌&&◌, ◌==◌, nat_le, if◌then◌else◌, Option, Some, None}
+use Rattle.std.specs.Char.{digit_value, is_ascii_hexdigit}
 use Rattle.cfg_lex.specs.declared.item.Quotes.{Quotes}
 use Rattle.cfg_lex.specs.declared.item.Quotes.TheVariants.{Outside, Single, Double}
 use Rattle.cfg_lex.specs.declared.item.Part.{Part}
@@ -74,11 +75,7 @@ escape_of quotes letter =
 
 -- the value of a hexadecimal digit
 abbrev pub hex_of : ℕ → Option ℕ
-hex_of digit =
-    if nat_le 48 digit && nat_le digit 57 then Some (digit - 48)
-    else (if nat_le 97 digit && nat_le digit 102 then Some (digit - 97 + 10)
-    else (if nat_le 65 digit && nat_le digit 70 then Some (digit - 65 + 10)
-    else None))
+hex_of digit = if is_ascii_hexdigit digit then Some (digit_value digit) else None
 
 -- the byte of two hexadecimal digits, or a fault
 abbrev pub by_digits : Quotes → Option ℕ → Option ℕ → Item

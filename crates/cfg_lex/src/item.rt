@@ -1,7 +1,9 @@
 //! What stands at the front of the rest of a line: one byte, an escape, a quote, a blank or a comment.
 
-ghost use Rattle.std.specs.Prelude.{◌≡◌, ◌+◌, ◌<◌, ◌≤◌, length, IfSome};
-ghost use Rattle.cfg_lex.specs.Items.{escape_of, hex_of, hex_escape, behind_backslash, plain, item_at};
+ghost use Rattle.std.specs.Prelude.{◌≡◌, ◌+◌, ◌<◌, ◌≤◌, length};
+ghost use Rattle.cfg_lex.specs.Items.{escape_of, hex_escape, behind_backslash, plain, item_at};
+
+use px_bytes::hex_value;
 
 /// Between which quotes a place of the line lies.
 #[derive(Clone, Copy, Debug, PartialEq, Eq)]
@@ -48,19 +50,6 @@ fn escape_of(quotes: Quotes, letter: u8) -> Option<u8>
     }
 }
 
-/// The value of a hexadecimal digit.
-fn hex_of(digit: u8) -> Option<u8>
-    ensures value { result ≡ hex_of digit }
-    ensures small { IfSome result (λ value. value < 16) }
-{
-    match digit {
-        b'0'..=b'9' => Some(digit - b'0'),
-        b'a'..=b'f' => Some(digit - b'a' + 10),
-        b'A'..=b'F' => Some(digit - b'A' + 10),
-        _ => None,
-    }
-}
-
 /// An escape by two digits, of which `rest` are the bytes behind `\x`.
 #[tactic(auto, unfolding(crate::specs::Items::hex_escape))]
 fn hex_escape(quotes: Quotes, rest: &[u8]) -> Item
@@ -69,8 +58,8 @@ fn hex_escape(quotes: Quotes, rest: &[u8]) -> Item
     ensures within { result.used ≤ length rest.now + 2 }
 {
     if let [high, low, ..] = rest {
-        if let (Some(high), Some(low)) = (hex_of(*high), hex_of(*low)) {
-            let part = Part::Byte(16 * high + low);
+        if let (Some(high), Some(low)) = (hex_value(*high), hex_value(*low)) {
+            let part = Part::Byte((16 * high + low) as u8);
             return Item {
                 part,
                 used: 4,

@@ -1,6 +1,5 @@
 -- Which configurations are valid: those that loading gives, and that the layers above take.
-use Rattle.std.specs.Prelude.{◌≡◌, ℕ, ◌+◌, ◌≤◌, List, length, count_by, Bool, true, false, codes}
-use Rattle.std.specs.List.{AllByRecursion}
+use Rattle.std.specs.Prelude.{◌≡◌, ◌+◌, ◌≤◌, List, length, count_by, Bool, true, false, codes}
 use Rattle.std.specs.Str.{bytes_eq}
 use Rattle.http_model.specs.declared.Limits.{Limits}
 use Rattle.http_model.specs.Sizes.{least_size, most_size, least_head}
@@ -9,8 +8,6 @@ use Rattle.body_filter.specs.declared.filter_spec.FilterSpec.{FilterSpec}
 use Rattle.body_filter.specs.declared.filter_spec.FilterSpec.TheVariants.{Limit, Deny, Replace}
 use Rattle.body_filter.specs.Valid.{AreFilters}
 use Rattle.rule_model.specs.declared.names.Direction.TheVariants as directions
-use Rattle.rule_model.specs.declared.names.Direction.{Direction}
-use Rattle.rule_model.specs.declared.rule.Rule.{Rule}
 use Rattle.rule_model.specs.Valid.{AreRules}
 use Rattle.http_rules.specs.declared.config.Config.{Config}
 

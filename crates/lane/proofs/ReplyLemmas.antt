@@ -7,20 +7,19 @@ use Rattle.http_model.specs.declared.Framing.{Framing}
 use Rattle.http_model.specs.declared.Framing.TheVariants as framing
 use Rattle.http_model.specs.declared.Ending.{Ending}
 use Rattle.http_model.specs.declared.Limits.{Limits}
-use Rattle.http_model.specs.Head.{Head, Field, Message}
+use Rattle.http_model.specs.Head.{Head, Field}
 use Rattle.http_model.specs.Reading.{Whole}
 use Rattle.http_model.specs.Spelling.{head_text, Spells}
 use Rattle.body_filter.specs.Filter.{Filtered}
-use Rattle.h1_body.specs.Body.{BodyAt, Over, step, data_in}
+use Rattle.h1_body.specs.Body.{Over, step, data_in}
 use Rattle.h1_body.specs.BodyOf.{BodyRead, Reads, IsBodyOf}
-use Rattle.lane_core.specs.Promise.{Promise, BodyTaken, GoesOnWith, body_sent, finish_of, ends_as}
-use Rattle.lane_core.specs.Sends.{Past, put_out}
-use Rattle.lane_core.specs.Sent.{Sent, Finish, Ends, SpellsAs, IsFrontOf, message_of, is_whole, trailers_in}
+use Rattle.lane_core.specs.Promise.{BodyTaken, GoesOnWith, body_sent, finish_of}
+use Rattle.lane_core.specs.Sends.{Past}
+use Rattle.lane_core.specs.Sent.{Sent, Finish, message_of, is_whole, trailers_in}
 use Rattle.lane_core.specs.declared.stage.Stage.TheVariants as stage
-use Rattle.lane_core.specs.declared.lane.Lane.{Lane}
 use Rattle.lane_core.proofs.PromiseLemmas.{promise}
 use Rattle.lane_core.proofs.StepLemmas.{nothing_over}
-use Rattle.lane.specs.Answering.{Exchange, Last, Replies, Answers, AnswersAt, AnswersLast, IsLast, ReplyPromise, reply_text, interim_text, stage_of, has_begun}
+use Rattle.lane.specs.Answering.{Exchange, Last, Replies, Answers, AnswersAt, AnswersLast, IsLast, ReplyPromise, reply_text, interim_text, stage_of}
 use Rattle.lane.specs.declared.phase.Phase.{Phase}
 use Rattle.lane.specs.declared.phase.Phase.TheVariants as phase
 use Rattle.lane.specs.declared.response_lane.ResponseLane.{ResponseLane}

@@ -297,6 +297,13 @@ shows_head phase.Passing = true
 shows_head (phase.Turning no_body) = true
 shows_head phase.Answering = false
 
+-- the last that answers is put out, or waits behind an interim head
+abbrev pub shows_last : Phase → Bool
+shows_last phase.Heads = false
+shows_last phase.Passing = false
+shows_last (phase.Turning no_body) = true
+shows_last phase.Answering = true
+
 -- ---- the contract
 
 -- What was put out to the client in this exchange: while nothing of the last that answers was, interim heads, each whole or

@@ -9,7 +9,7 @@ ghost use Rattle.http_model.specs.Sizes.{least_size, most_size, least_head};
 ghost use Rattle.body_filter.specs.Valid.{AreFilters};
 ghost use Rattle.body_filter.specs.declared.filter_spec.FilterSpec.{FilterSpec};
 ghost use Rattle.http_model.specs.Head.{front_blocks};
-ghost use Rattle.lane.specs.Answering.{Exchange, Answers, HeadComes, PutsOut, is_interim, IsOpen, with_bytes, with_put, passes, drops, serves, replies, fresh, IsSoundAnswer, MayGoOn, HasFilters, shows_head, stage_of, source_of, input_of, came_in, most_of, ended_of, output_of, window_of, limits_of, array_of, blocks_of, addrs_of, framing_of, declared_of, close_of, has_begun, phase_of};
+ghost use Rattle.lane.specs.Answering.{Exchange, Answers, HeadComes, PutsOut, is_interim, IsOpen, with_bytes, with_put, passes, drops, serves, replies, fresh, IsSoundAnswer, MayGoOn, HasFilters, shows_head, shows_last, stage_of, source_of, input_of, came_in, most_of, ended_of, output_of, window_of, limits_of, array_of, blocks_of, addrs_of, framing_of, declared_of, close_of, has_begun, phase_of};
 ghost use Rattle.lane.specs.declared.phase.Phase.TheVariants as phase;
 ghost use Rattle.lane_core.specs.declared.stage.Stage.TheVariants as stage;
 ghost use Rattle.lane_core.specs.declared.stage.Source.TheVariants as source;
@@ -54,8 +54,11 @@ impl ResponseLane {
         requires few { length filters.now ≤ 8 }
         requires valid { AreFilters filters.now }
         ensures filters { IfOk result (λ lane. HasFilters lane filters.now) }
+        ensures limits { IfOk result (λ lane. limits_of lane ≡ limits) }
         ensures fresh { IfOk result (λ lane. (asked : Bool) → Answers lane (fresh asked)) }
         ensures reading { IfOk result (λ lane. stage_of lane ≡ stage.Reading) }
+        ensures open { IfOk result IsOpen }
+        ensures begun { IfOk result (λ lane. has_begun lane ≡ false) }
         ensures sound { IfOk result IsSoundAnswer }
     {
         Ok(ResponseLane {
@@ -71,6 +74,8 @@ impl ResponseLane {
         requires room { length (input_of self.old) + length bytes.now ≤ most_of self.old }
         ensures answers { (p : Exchange) → Answers self.old p → Answers self.new (with_bytes p bytes.now) }
         ensures same { (stage_of self.new ≡ stage_of self.old) × (window_of self.new ≡ window_of self.old) × (has_begun self.new ≡ has_begun self.old) }
+        ensures keeps { (ended_of self.new ≡ ended_of self.old) × (phase_of self.new ≡ phase_of self.old) × (source_of self.new ≡ source_of self.old) }
+        ensures limits { limits_of self.new ≡ limits_of self.old }
         ensures sound { IsSoundAnswer self.old → IsSoundAnswer self.new }
         ensures filters { (filters : List FilterSpec) → HasFilters self.old filters → HasFilters self.new filters }
     {
@@ -82,6 +87,9 @@ impl ResponseLane {
         requires { IsOpen self.old }
         ensures answers { (p : Exchange) → Answers self.old p → Answers self.new p }
         ensures same { (stage_of self.new ≡ stage_of self.old) × (window_of self.new ≡ window_of self.old) × (has_begun self.new ≡ has_begun self.old) }
+        ensures keeps { (came_in self.new ≡ came_in self.old) × (phase_of self.new ≡ phase_of self.old) × (source_of self.new ≡ source_of self.old) }
+        ensures ended { ended_of self.new ≡ Some how }
+        ensures limits { limits_of self.new ≡ limits_of self.old }
         ensures sound { IsSoundAnswer self.old → IsSoundAnswer self.new }
         ensures filters { (filters : List FilterSpec) → HasFilters self.old filters → HasFilters self.new filters }
     {
@@ -94,6 +102,8 @@ impl ResponseLane {
         requires reading { stage_of self.old ≡ stage.Reading }
         ensures comes { (p : Exchange) → Answers self.old p → p.asked ≡ head_asked → HeadComes p self.new result }
         ensures same { (window_of self.new ≡ window_of self.old) × (ended_of self.new ≡ ended_of self.old) × (has_begun self.new ≡ has_begun self.old) }
+        ensures phase { phase_of self.new ≡ phase_of self.old }
+        ensures limits { limits_of self.new ≡ limits_of self.old }
         ensures sound { IsSoundAnswer self.new }
         ensures filters { (filters : List FilterSpec) → HasFilters self.old filters → HasFilters self.new filters }
     {
@@ -124,6 +134,7 @@ impl ResponseLane {
         ensures answers { (p : Exchange) (got : Received) → Answers self.old p → p.pending ≡ Some got → is_interim got.head ≡ true → blocks_of self.old ≡ head_blocks got.head
             → Answers self.new (passes p got) }
         ensures stage { stage_of self.new ≡ stage.Sending }
+        ensures limits { limits_of self.new ≡ limits_of self.old }
         ensures same { (window_of self.new ≡ window_of self.old) × (ended_of self.new ≡ ended_of self.old) × (has_begun self.new ≡ has_begun self.old) }
         ensures sound { IsSoundAnswer self.new }
         ensures filters { (filters : List FilterSpec) → HasFilters self.old filters → HasFilters self.new filters }
@@ -140,6 +151,7 @@ impl ResponseLane {
         requires head { stage_of self.old ≡ stage.Head }
         ensures answers { (p : Exchange) (got : Received) → Answers self.old p → p.pending ≡ Some got → is_interim got.head ≡ true → Answers self.new (drops p got) }
         ensures stage { stage_of self.new ≡ stage.Reading }
+        ensures limits { limits_of self.new ≡ limits_of self.old }
         ensures same { (window_of self.new ≡ window_of self.old) × (ended_of self.new ≡ ended_of self.old) × (has_begun self.new ≡ has_begun self.old) }
         ensures sound { IsSoundAnswer self.new }
         ensures filters { (filters : List FilterSpec) → HasFilters self.old filters → HasFilters self.new filters }
@@ -154,6 +166,8 @@ impl ResponseLane {
         requires head { stage_of self.old ≡ stage.Head }
         ensures answers { (p : Exchange) (filters : List FilterSpec) (head : Head) → Answers self.old p → HasFilters self.old filters → blocks_of self.old ≡ head_blocks head → Answers self.new (serves p filters head framing no_body) }
         ensures stage { stage_of self.new ≡ stage.Sending }
+        ensures last { shows_last (phase_of self.new) ≡ true }
+        ensures limits { limits_of self.new ≡ limits_of self.old }
         ensures same { (window_of self.new ≡ window_of self.old) × (ended_of self.new ≡ ended_of self.old) × (has_begun self.new ≡ has_begun self.old) }
         ensures sound { IsSoundAnswer self.new }
         ensures filters { (filters : List FilterSpec) → HasFilters self.old filters → HasFilters self.new filters }
@@ -171,6 +185,8 @@ impl ResponseLane {
         ensures answers { (p : Exchange) (head : Head) (body : List ℕ) → Answers self.old p → list.old.blocks ≡ front_blocks head body → Answers self.new (replies p head body no_body) }
         ensures list { list.new.blocks ≡ [] }
         ensures stage { (stage_of self.new ≡ stage.Sending) × (source_of self.new ≡ source.Whole) }
+        ensures last { shows_last (phase_of self.new) ≡ true }
+        ensures limits { limits_of self.new ≡ limits_of self.old }
         ensures same { (window_of self.new ≡ window_of self.old) × (ended_of self.new ≡ ended_of self.old) × (has_begun self.new ≡ has_begun self.old) }
         ensures sound { IsSoundAnswer self.new }
         ensures filters { (filters : List FilterSpec) → HasFilters self.old filters → HasFilters self.new filters }
@@ -201,6 +217,10 @@ impl ResponseLane {
         ensures answers { PutsOut self.old self.new }
         ensures no_stall { (p : Exchange) → Answers self.old p → stage_of self.new ≡ stage.Sending → MayGoOn self.new }
         ensures begun { has_begun self.old ≡ true → has_begun self.new ≡ true }
+        ensures last { shows_last (phase_of self.old) ≡ true → shows_last (phase_of self.new) ≡ true }
+        ensures whole { shows_last (phase_of self.old) ≡ true → source_of self.old ≡ source.Whole → source_of self.new ≡ source.Whole }
+        ensures keeps { ended_of self.new ≡ ended_of self.old }
+        ensures limits { limits_of self.new ≡ limits_of self.old }
         ensures sound { IsSoundAnswer self.new }
         ensures filters { (filters : List FilterSpec) → HasFilters self.old filters → HasFilters self.new filters }
     {
@@ -219,6 +239,10 @@ impl ResponseLane {
         ensures answers { PutsOut self.old self.new }
         ensures no_stall { (p : Exchange) → Answers self.old p → stage_of self.new ≡ stage.Sending → MayGoOn self.new }
         ensures begun { has_begun self.old ≡ true → has_begun self.new ≡ true }
+        ensures last { shows_last (phase_of self.old) ≡ true → shows_last (phase_of self.new) ≡ true }
+        ensures whole { shows_last (phase_of self.old) ≡ true → source_of self.old ≡ source.Whole → source_of self.new ≡ source.Whole }
+        ensures keeps { ended_of self.new ≡ ended_of self.old }
+        ensures limits { limits_of self.new ≡ limits_of self.old }
         ensures sound { IsSoundAnswer self.new }
         ensures filters { (filters : List FilterSpec) → HasFilters self.old filters → HasFilters self.new filters }
     {
@@ -235,6 +259,10 @@ impl ResponseLane {
         ensures answers { PutsOut self.old self.new }
         ensures no_stall { (p : Exchange) → Answers self.old p → stage_of self.new ≡ stage.Sending → MayGoOn self.new }
         ensures begun { has_begun self.old ≡ true → has_begun self.new ≡ true }
+        ensures last { shows_last (phase_of self.old) ≡ true → shows_last (phase_of self.new) ≡ true }
+        ensures whole { shows_last (phase_of self.old) ≡ true → source_of self.old ≡ source.Whole → source_of self.new ≡ source.Whole }
+        ensures keeps { ended_of self.new ≡ ended_of self.old }
+        ensures limits { limits_of self.new ≡ limits_of self.old }
         ensures sound { IsSoundAnswer self.new }
         ensures filters { (filters : List FilterSpec) → HasFilters self.old filters → HasFilters self.new filters }
     {
@@ -254,6 +282,10 @@ impl ResponseLane {
         ensures answers { PutsOut self.old self.new }
         ensures no_stall { (p : Exchange) → Answers self.old p → stage_of self.new ≡ stage.Sending → MayGoOn self.new }
         ensures begun { has_begun self.old ≡ true → has_begun self.new ≡ true }
+        ensures last { shows_last (phase_of self.old) ≡ true → shows_last (phase_of self.new) ≡ true }
+        ensures whole { shows_last (phase_of self.old) ≡ true → source_of self.old ≡ source.Whole → source_of self.new ≡ source.Whole }
+        ensures keeps { ended_of self.new ≡ ended_of self.old }
+        ensures limits { limits_of self.new ≡ limits_of self.old }
         ensures sound { IsSoundAnswer self.new }
         ensures filters { (filters : List FilterSpec) → HasFilters self.old filters → HasFilters self.new filters }
     {
@@ -278,6 +310,8 @@ impl ResponseLane {
         ensures output { output_of self.new ≡ drop n (output_of self.old) }
         ensures answers { (p : Exchange) → Answers self.old p → Answers self.new p }
         ensures same { (stage_of self.new ≡ stage_of self.old) × (ended_of self.new ≡ ended_of self.old) × (has_begun self.new ≡ has_begun self.old) }
+        ensures keeps { (came_in self.new ≡ came_in self.old) × (phase_of self.new ≡ phase_of self.old) × (source_of self.new ≡ source_of self.old) }
+        ensures limits { limits_of self.new ≡ limits_of self.old }
         ensures sound { IsSoundAnswer self.old → IsSoundAnswer self.new }
         ensures filters { (filters : List FilterSpec) → HasFilters self.old filters → HasFilters self.new filters }
     {
@@ -290,7 +324,9 @@ impl ResponseLane {
         requires done { stage_of self.old ≡ stage.Done }
         ensures answers { (asked : Bool) → Answers self.new (with_bytes (fresh asked) (input_of self.old)) }
         ensures stage { stage_of self.new ≡ stage.Reading }
+        ensures limits { limits_of self.new ≡ limits_of self.old }
         ensures same { (window_of self.new ≡ window_of self.old) × (ended_of self.new ≡ ended_of self.old) × (came_in self.new ≡ came_in self.old) }
+        ensures begun { has_begun self.new ≡ false }
         ensures sound { IsSoundAnswer self.new }
         ensures filters { (filters : List FilterSpec) → HasFilters self.old filters → HasFilters self.new filters }
     {
@@ -305,9 +341,11 @@ impl ResponseLane {
         requires rests { (stage_of self.old ≡ stage.Done) ⊎ (stage_of self.old ≡ stage.Reading) }
         ensures answers { (asked : Bool) → Answers self.new (fresh asked) }
         ensures stage { stage_of self.new ≡ stage.Reading }
+        ensures limits { limits_of self.new ≡ limits_of self.old }
         ensures open { IsOpen self.new }
         ensures same { window_of self.new ≡ window_of self.old }
         ensures begun { has_begun self.new ≡ false }
+        ensures phase { shows_last (phase_of self.new) ≡ false }
         ensures sound { IsSoundAnswer self.new }
         ensures filters { (filters : List FilterSpec) → HasFilters self.old filters → HasFilters self.new filters }
     {

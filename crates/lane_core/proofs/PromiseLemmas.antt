@@ -32,7 +32,7 @@ use Rattle.lane_core.specs.Carried.{Carried, CarriesFront, Carries, EndIsOut}
 use Rattle.lane_core.specs.Pulled.{IsWaiting}
 use Rattle.lane_core.specs.Sends.{Past, Sends, Stands, SourceIs, IsAllOut, IsAtRest, RestsFor, IsOver, Waits, put_out}
 use Rattle.lane_core.specs.Filtering.{HasPassed, SieveRests, IsWholeAt, IsCutAt, CutBy, Broken, RefusedNow, RefusedWhole}
-use Rattle.lane_core.specs.Promise.{Promise, BodyTaken, OnEachBody, GoesOnWith, body_in, body_sent, filter_of, finish_of, ends_as, IsCut, IsCutWith, ShowsNoCut, InSection}
+use Rattle.lane_core.specs.Promise.{Promise, BodyTaken, HasBody, OnEachBody, GoesOnWith, body_in, body_sent, filter_of, finish_of, ends_as, IsCut, IsCutWith, ShowsNoCut, InSection}
 use Rattle.lane_core.specs.declared.stage.Source.{Source}
 use Rattle.lane_core.specs.declared.stage.Source.TheVariants as source
 use Rattle.lane_core.specs.declared.lane.Lane.{Lane}
@@ -116,6 +116,27 @@ whole_is l p s trailers (inr (ended, ends, empty, none)) has more last g read x 
     (subst (λ (e : Option Ending). IsBodyOf l.limits p.reads (s.used ++ (l.input.items ++ more)) e read) end.1 (reading l p s more last read x)) in
     one_reading l.limits p.reads s.used (Some ending.Closed) read (Reads (Whole s.found closed.0 [])) here closed.2
     ∙ ap (λ (ts : List Field). Reads (Whole s.found ts [])) same ∙ ap (λ (b : List ℕ). Reads (Whole s.found trailers b)) (sym nothing)
+
+-- a reading of the bytes behind the head
+taken : (l : Lane) (p : Past) (s : Sends l p) (more : List ℕ) (ending : Option Ending) (read : BodyRead) → IsBodyOf l.limits p.reads (s.used ++ (l.input.items ++ more)) ending read → BodyTaken l p more ending read
+taken l p s more ending read x =
+    subst (λ (bytes : List ℕ). IsBodyOf l.limits p.reads bytes ending read) (sym (ap (λ (b : List ℕ). b ++ more) s.bytes ∙ append_assoc s.used l.input.items more)) x
+
+-- a body that is whole has a reading, whatever follows it
+whole_read : (l : Lane) (p : Past) (s : Sends l p) (trailers : List Field) → IsWholeAt l.reader l.ended l.input.items s.section → HasTrailers s.section trailers → HasBody l p
+whole_read l p s trailers (inl whole) has more last g = (
+  Reads (Whole s.found trailers (l.input.items ++ more)),
+  taken l p s more last (Reads (Whole s.found trailers (l.input.items ++ more)))
+      (whole_stays l.limits p.reads s.used s.found s.section (l.input.items ++ more) l.reader last trailers s.has_read whole has),
+)
+whole_read l p s trailers (inr (ended, ends, empty, none)) has more last g =
+    let end = ended_more l.ended more last ending.Closed ended g in
+    let closed = closed_whole l.reader ends l.limits p.reads s.used s.found s.section s.has_read in
+    let nothing : l.input.items ++ more ≡ [] = ap (λ (b : List ℕ). b ++ more) empty ∙ end.0 in
+    let read : BodyRead = Reads (Whole s.found closed.0 []) in
+    let here : IsBodyOf l.limits p.reads (s.used ++ (l.input.items ++ more)) (Some ending.Closed) read =
+    subst (λ (bytes : List ℕ). IsBodyOf l.limits p.reads bytes (Some ending.Closed) read) (sym (ap (λ (b : List ℕ). s.used ++ b) nothing ∙ append-nil s.used)) closed.2 in
+    (read, taken l p s more last read (subst (λ (e : Option Ending). IsBodyOf l.limits p.reads (s.used ++ (l.input.items ++ more)) e read) (sym end.1) here))
 
 -- it is cut where the bytes were read to
 record IsCutHere (found : List ℕ) (read : BodyRead) : Type 0 where
@@ -294,6 +315,13 @@ promise l p st = record {
       (s.found, some.0, whole_is l p s some.0 is.0 some.1 more ending g read x, ap (λ (f : Filtered). f.state) is.1));
   cut = λ code e more ending g read x. (let s = st.sends in (cut_source l p s code (source_is l p s (source.Cut code) e) more ending g read x).why);
 }
+
+pub has_body : (l : Lane) (p : Past) → Stands l p → l.source ≡ source.Whole → HasBody l p
+has_body l p st e =
+    let s = st.sends in
+    let is = source_is l p s source.Whole e in
+    let some = some_trailers l.limits p.reads s.used s.found s.section l.input.items l.reader l.ended s.has_read is.0 in
+    whole_read l p s some.0 is.0 some.1
 
 -- ---- at rest
 

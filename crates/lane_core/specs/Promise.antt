@@ -52,6 +52,10 @@ GoesOnWith (Some how) more ending = (more ≡ []) × (ending ≡ Some how)
 abbrev pub BodyTaken : Lane → Past → (more : List ℕ) → Option Ending → BodyRead → Type 0
 BodyTaken lane p more ending read = IsBodyOf lane.limits p.reads (p.bytes ++ more) ending read
 
+-- however the stream goes on, what was taken comes to some body
+abbrev pub HasBody : Lane → Past → Type 0
+HasBody lane p = (more : List ℕ) (ending : Option Ending) → GoesOnWith lane.ended more ending → (read : BodyRead) × BodyTaken lane p more ending read
+
 -- P of each body that the stream may come to, however it goes on
 abbrev pub OnEachBody : Lane → Past → (BodyRead → Type 0) → Type 0
 OnEachBody lane p P = (more : List ℕ) (ending : Option Ending) → GoesOnWith lane.ended more ending → (read : BodyRead) → BodyTaken lane p more ending read → P read

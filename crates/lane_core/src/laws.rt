@@ -1,7 +1,7 @@
 //! What the definitions say together.
 ghost use Rattle.std.specs.Prelude.{◌≡◌, [], false};
 ghost use Rattle.h1_body.specs.BodyOf.{BodyRead};
-ghost use Rattle.lane_core.specs.Promise.{Promise, BodyTaken, ShowsNoCut, body_sent};
+ghost use Rattle.lane_core.specs.Promise.{Promise, HasBody, BodyTaken, ShowsNoCut, body_sent};
 ghost use Rattle.lane_core.specs.Sent.{Cut, SpellsAs};
 ghost use Rattle.lane_core.specs.Sends.{Past, Stands, IsAtRest, RestsFor, put_out};
 ghost use Rattle.lane_core.specs.declared.lane.Lane.{Lane};
@@ -10,6 +10,11 @@ ghost use Rattle.lane_core.specs.declared.stage.Source.TheVariants as source;
 /// What a lane that sends a message has put out, and what its source says, is the meaning of what it took.
 pub fn promise()
     ensures { (lane : Lane) (p : Past) → Stands lane p → Promise lane p }
+{}
+
+/// Where the source is whole, the bytes taken and those that follow come to some body.
+pub fn has_body()
+    ensures { (lane : Lane) (p : Past) → Stands lane p → lane.source ≡ source.Whole → HasBody lane p }
 {}
 
 /// A lane that goes on and is at rest has put out all of the head and every body byte that came, but what filters keep back.

@@ -9,6 +9,8 @@ use Rattle.regex.proofs.SearchLemmas.{leftmost_within}
 use Rattle.px_pattern.specs.Groups.{span_between, group_of_match, group_at, AreGroupsOf}
 use Rattle.px_pattern.specs.declared.span.Span.{Span}
 use Rattle.px_conv.specs.Template.{bytes_of, expanded}
+use Rattle.px_conv.specs.declared.conv.Matches.{Matches}
+use Rattle.px_conv.specs.declared.conv.Matches.TheVariants.{First, All}
 use Rattle.px_conv.specs.Regsub.{groups_of, behind, replaced, one_step, steps, regsub}
 
 named : (m : Match) (n : ℕ) → n < 10 → group_at (groups_of m) n ≡ option_map span_between (group_of_match m n)
@@ -56,14 +58,14 @@ pub fewer_behind : (m : Match) (text : List ℕ) → m.start ≤ m.trace.end →
 fewer_behind m text ordered within =
     fewer (eqb m.trace.end m.start) m.start m.trace.end (length text) (length (drop m.trace.end text)) refl ordered within (length-drop m.trace.end text)
 
-behind_same : (on on2 : List ℕ → List ℕ) (g was_empty : Bool) (rest : List ℕ) →
+behind_same : (on on2 : List ℕ → List ℕ) (g : Matches) (was_empty : Bool) (rest : List ℕ) →
     ((r : List ℕ) → length r < length rest + (if was_empty then 0 else 1) → on r ≡ on2 r) → behind on g was_empty rest ≡ behind on2 g was_empty rest
-behind_same on on2 false was_empty rest h = refl
-behind_same on on2 true false rest h = h rest (omega arith)
-behind_same on on2 true true [] h = refl
-behind_same on on2 true true (b ∷ rest) h = ap (λ xs. b ∷ xs) (h rest (omega arith))
+behind_same on on2 First was_empty rest h = refl
+behind_same on on2 All false rest h = h rest (omega arith)
+behind_same on on2 All true [] h = refl
+behind_same on on2 All true (b ∷ rest) h = ap (λ xs. b ∷ xs) (h rest (omega arith))
 
-replaced_same : (on on2 : List ℕ → List ℕ) (re : Re) (template : List ℕ) (g : Bool) (text : List ℕ) (o : Option Match) → find re text 0 ≡ o →
+replaced_same : (on on2 : List ℕ → List ℕ) (re : Re) (template : List ℕ) (g : Matches) (text : List ℕ) (o : Option Match) → find re text 0 ≡ o →
     ((r : List ℕ) → length r < length text → on r ≡ on2 r) → replaced on template g text o ≡ replaced on2 template g text o
 replaced_same on on2 re template g text None found h = refl
 replaced_same on on2 re template g text (Some m) found h =
@@ -73,7 +75,7 @@ replaced_same on on2 re template g text (Some m) found h =
     (behind_same on on2 g (eqb m.trace.end m.start) (drop m.trace.end text) (λ r lt. h r (omega arith)))
 
 -- more steps than there are bytes are as good as any other such number
-steps_same : (n k : ℕ) (re : Re) (template : List ℕ) (g : Bool) (text : List ℕ) → length text < n → length text < k →
+steps_same : (n k : ℕ) (re : Re) (template : List ℕ) (g : Matches) (text : List ℕ) → length text < n → length text < k →
     steps n re template g text ≡ steps k re template g text
 unfolding steps
 steps_same zero k re template g text h1 h2 = absurd (omega arith)
@@ -83,7 +85,7 @@ steps_same (suc n) (suc k) re template g text h1 h2 =
     (λ r lt. steps_same n k re template g r (omega arith) (omega arith))
 
 -- there are never as many steps as are allowed: the word is one step, with itself for the text that is searched next
-pub regsub_law : (re : Re) (template : List ℕ) (g : Bool) (text : List ℕ) →
+pub regsub_law : (re : Re) (template : List ℕ) (g : Matches) (text : List ℕ) →
     regsub re template g text ≡ one_step (regsub re template g) re template g text
 unfolding regsub steps
 regsub_law re template g text =
@@ -92,12 +94,12 @@ regsub_law re template g text =
     (λ r lt. steps_same (length text) (length r + 1) re template g r lt (omega arith))
 
 -- without `g` nothing behind the match is searched
-pub behind_first : (on : List ℕ → List ℕ) (g was_empty : Bool) (rest : List ℕ) → g ≡ false → behind on g was_empty rest ≡ rest
+pub behind_first : (on : List ℕ → List ℕ) (g : Matches) (was_empty : Bool) (rest : List ℕ) → g ≡ First → behind on g was_empty rest ≡ rest
 behind_first on g was_empty rest first = rw first refl
 
 -- nor is anything behind an empty match at the end
-pub behind_end : (on : List ℕ → List ℕ) (g was_empty : Bool) (rest : List ℕ) → was_empty ≡ true → length rest ≡ 0 → behind on g was_empty rest ≡ rest
-behind_end on false was_empty rest none end = refl
-behind_end on true true [] none end = refl
-behind_end on true true (b ∷ rest) none end = absurd (omega arith)
-behind_end on true false rest none end = absurd (false≢true none)
+pub behind_end : (on : List ℕ → List ℕ) (g : Matches) (was_empty : Bool) (rest : List ℕ) → was_empty ≡ true → length rest ≡ 0 → behind on g was_empty rest ≡ rest
+behind_end on First was_empty rest none end = refl
+behind_end on All true [] none end = refl
+behind_end on All true (b ∷ rest) none end = absurd (omega arith)
+behind_end on All false rest none end = absurd (false≢true none)

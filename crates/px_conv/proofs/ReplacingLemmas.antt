@@ -1,5 +1,5 @@
 -- What one step leaves, put together from its parts.
-use Rattle.std.proofs.Common.{inl, inr, ◌≡◌, ℕ, ◌+◌, ◌-◌, ◌<◌, ◌≤◌, Bool, eqb, leb, List, ◌++◌, length, take, drop, Option, Some, None, ap, ap₂, sym, subst, ◌∙◌, arith, append_assoc, length-append, length-drop}
+use Rattle.std.proofs.Common.{inl, inr, ◌≡◌, ℕ, ◌+◌, ◌-◌, ◌<◌, ◌≤◌, eqb, leb, List, ◌++◌, length, take, drop, Option, Some, None, ap, ap₂, sym, subst, ◌∙◌, arith, append_assoc, length-append, length-drop}
 use Rattle.std.proofs.lemmas.Bool.{cases_eq, eq-eqb, ne_eqb, le-leb, lt-leb, cond-true, cond-false}
 use Rattle.std.proofs.lemmas.List.{take_all}
 use Rattle.std.proofs.lemmas.Option.{same_Some}
@@ -8,6 +8,7 @@ use Rattle.px_pattern.specs.Groups.{span_between, group_at, AreGroupsOf}
 use Rattle.px_pattern.specs.declared.span.Span.{Span}
 use Rattle.px_sample.specs.Buffer.{Buffer}
 use Rattle.px_sample.specs.Sample.{Value, Bytes, within}
+use Rattle.px_conv.specs.declared.conv.Matches.{Matches}
 use Rattle.px_conv.specs.Template.{expanded}
 use Rattle.px_conv.specs.Regsub.{groups_of, behind, replaced, one_step, regsub}
 use Rattle.px_conv.specs.Replacing.{Came}
@@ -51,7 +52,7 @@ rest_of_slice : (n : ℕ) (text : List ℕ) → take (length text - n) (drop n t
 rest_of_slice n text = take_all (length text - n) (drop n text) (omega (arith, length-drop n text))
 
 -- What is put in for the match, and what is left behind it, are the step's.
-pub match_came : (on : List ℕ → List ℕ) (re : Re) (template : List ℕ) (g : Bool) (text : List ℕ) (m : Match) (groups : List (Option Span)) (place : Span)
+pub match_came : (on : List ℕ → List ℕ) (re : Re) (template : List ℕ) (g : Matches) (text : List ℕ) (m : Match) (groups : List (Option Span)) (place : Span)
     (rest : List ℕ) (old mid new : Buffer) (left : Left) → find re text 0 ≡ Some m → AreGroupsOf m groups → group_at groups 0 ≡ Some place →
     mid.bytes ≡ old.bytes ++ (take place.from text ++ expanded groups text template) → mid.cap ≡ old.cap →
     rest ≡ take (length text - (place.from + place.len)) (drop (place.from + place.len) text) →
@@ -69,7 +70,7 @@ match_came on re template g text m groups place rest old mid new left found are 
     (came_after on old mid new _ _ left put_front cap came_behind)
 
 -- where the front of the whole does not fit, the whole does not
-pub front_too_long : (on : List ℕ → List ℕ) (re : Re) (template : List ℕ) (g : Bool) (text : List ℕ) (m : Match) (groups : List (Option Span)) (place : Span)
+pub front_too_long : (on : List ℕ → List ℕ) (re : Re) (template : List ℕ) (g : Matches) (text : List ℕ) (m : Match) (groups : List (Option Span)) (place : Span)
     (held cap : ℕ) → find re text 0 ≡ Some m → AreGroupsOf m groups → group_at groups 0 ≡ Some place →
     (held + length (take place.from text ++ expanded groups text template) ≤ cap → ⊥) →
     cap < held + length (one_step on re template g text)
@@ -84,7 +85,7 @@ front_too_long on re template g text m groups place held cap found are at over =
     omega (arith, over, ap length same, ap length whole, length-append front back)
 
 -- one step is the whole, with the whole for what is searched next
-pub came_whole : (re re2 : Re) (template : List ℕ) (g : Bool) (rest : List ℕ) (mid new : Buffer) (left : Left) → re2 ≡ re →
+pub came_whole : (re re2 : Re) (template : List ℕ) (g : Matches) (rest : List ℕ) (mid new : Buffer) (left : Left) → re2 ≡ re →
     ((on : List ℕ → List ℕ) → Came on mid new (one_step on re2 template g rest) left) →
     Came (regsub re template g) mid new (regsub re template g rest) left
 came_whole re re2 template g rest mid new left same came =

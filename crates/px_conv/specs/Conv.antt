@@ -73,8 +73,8 @@ converted_value cap (convs.Mod n) v = of_number (λ x. remainder x n) (number_of
 converted_value cap convs.Neg v = of_number (λ x. saturated (neg_ℤ x)) (number_of v)
 converted_value cap convs.Not v = of_truth (λ b. Some (Truth (not b))) (truth_of v)
 converted_value cap convs.Bool v = of_truth (λ b. Some (Truth b)) (truth_of v)
-converted_value cap (convs.Regsub pat template g) v =
-    within cap (of_bytes cap (λ bytes. Bytes (regsub (pattern_of pat) template g bytes)) v)
+converted_value cap (convs.Regsub pat template which) v =
+    within cap (of_bytes cap (λ bytes. Bytes (regsub (pattern_of pat) template which bytes)) v)
 converted_value cap convs.Base64 v = of_bytes_anew cap base64_text v
 converted_value cap convs.Hex v = of_bytes_anew cap hex_text v
 converted_value cap convs.UrlDec v = of_bytes_anew cap url_decoded v
@@ -86,5 +86,5 @@ converted cap conv (Some v) = converted_value cap conv v
 
 -- the converter searches for a pattern, which takes memory
 abbrev pub has_pattern : Conv → Bool
-has_pattern (convs.Regsub pat template g) = true
+has_pattern (convs.Regsub pat template which) = true
 has_pattern _ = false

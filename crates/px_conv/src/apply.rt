@@ -52,13 +52,13 @@ pub fn convert<'c>(
         Conv::Base64 => encode::base64(sample, buf, spare),
         Conv::Hex => encode::hex(sample, buf, spare),
         Conv::UrlDec => encode::url_dec(sample, buf, spare),
-        Conv::Regsub(pat, template, all) => {
+        Conv::Regsub(pat, template, which) => {
             regsub::substitute(
                 alloc,
                 searchers,
                 pat,
                 template.as_slice(),
-                *all,
+                *which,
                 sample,
                 buf,
                 spare,

@@ -44,5 +44,12 @@ pub enum Conv {
     /// `url_dec`: escapes of `%` and two digits decoded; anything else stays.
     UrlDec,
     /// `regsub(pattern,template[,flags])`: the first match replaced by the template, with the flag `g` each match.
-    Regsub(Pat, Text, bool),
+    Regsub(Pat, Text, Matches),
+}
+
+/// Which matches of a pattern are replaced.
+#[derive(Clone, Copy, Debug, PartialEq, Eq)]
+pub enum Matches {
+    First,
+    All,
 }

@@ -12,7 +12,7 @@ mod template;
 mod truth;
 
 pub use apply::convert;
-pub use conv::Conv;
+pub use conv::{Conv, Matches};
 pub use px_pattern::{Groups, Pat, Searchers};
 pub use px_sample::{Buf, OutOfMemory, Sample, Text};
 pub use template::expand;

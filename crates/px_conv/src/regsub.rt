@@ -10,6 +10,7 @@ ghost use Rattle.px_conv.specs.Regsub.{behind, one_step, regsub};
 ghost use Rattle.px_conv.specs.Replacing.{Came, IsBelow};
 
 use crate::bytes::hold;
+use crate::conv::Matches;
 use crate::template::expand;
 use px_pattern::{Groups, Pat, Searchers};
 use px_sample::{Buf, OutOfMemory, Sample};
@@ -54,13 +55,14 @@ fn put_last<'a>(rest: &[u8], into: &mut Buf) -> Left<'a>
 }
 
 /// Goes on behind a match, which was empty or not.
-fn go_on<'a>(all: bool, was_empty: bool, rest: &'a [u8], into: &mut Buf) -> Left<'a>
-    ensures came { (on : List ℕ → List ℕ) → Came on into.old into.new (behind on all was_empty rest.now) result }
+fn go_on<'a>(which: Matches, was_empty: bool, rest: &'a [u8], into: &mut Buf) -> Left<'a>
+    ensures came { (on : List ℕ → List ℕ) → Came on into.old into.new (behind on which was_empty rest.now) result }
     ensures below { IsBelow (length rest.now + (if was_empty then 0 else 1)) result }
     ensures cap { into.new.cap ≡ into.old.cap }
 {
-    if !all {
-        return put_last(rest, into);
+    match which {
+        Matches::First => return put_last(rest, into),
+        Matches::All => {}
     }
     if !was_empty {
         return Left::Text(rest);
@@ -81,11 +83,11 @@ fn replace_one<'a, 'c>(
     searchers: &mut Searchers<'c>,
     pat: &'c Pat,
     template: &[u8],
-    all: bool,
+    which: Matches,
     text: &'a [u8],
     into: &mut Buf,
 ) -> Result<Left<'a>, OutOfMemory>
-    ensures came { IfOk result (λ left. (on : List ℕ → List ℕ) → Came on into.old into.new (one_step on (pattern_of pat.now) template.now all text.now) left) }
+    ensures came { IfOk result (λ left. (on : List ℕ → List ℕ) → Came on into.old into.new (one_step on (pattern_of pat.now) template.now which text.now) left) }
     ensures below { IfOk result (IsBelow (length text.now)) }
     ensures cap { into.new.cap ≡ into.old.cap }
 {
@@ -97,7 +99,7 @@ fn replace_one<'a, 'c>(
         return Ok(Left::TooLong);
     }
     let rest = &text[place.from + place.len..];
-    Ok(go_on(all, place.len == 0, rest, into))
+    Ok(go_on(which, place.len == 0, rest, into))
 }
 
 /// Replaces the first match in the text, or all, behind what the buffer holds; false where the whole does not fit.
@@ -106,17 +108,17 @@ fn replace<'c>(
     searchers: &mut Searchers<'c>,
     pat: &'c Pat,
     template: &[u8],
-    all: bool,
+    which: Matches,
     text: &[u8],
     into: &mut Buf,
 ) -> Result<bool, OutOfMemory>
-    ensures fits { IfOk result (λ fits. IsTrue fits ↔ (length into.old.bytes + length (regsub (pattern_of pat.now) template.now all text.now) ≤ into.old.cap)) }
-    ensures replaced { IfOk result (λ fits. OnTrue fits (into.new.bytes ≡ into.old.bytes ++ regsub (pattern_of pat.now) template.now all text.now)) }
+    ensures fits { IfOk result (λ fits. IsTrue fits ↔ (length into.old.bytes + length (regsub (pattern_of pat.now) template.now which text.now) ≤ into.old.cap)) }
+    ensures replaced { IfOk result (λ fits. OnTrue fits (into.new.bytes ≡ into.old.bytes ++ regsub (pattern_of pat.now) template.now which text.now)) }
     ensures cap { into.new.cap ≡ into.old.cap }
 {
     let mut rest = text;
     'matches: loop {
-        match replace_one(alloc, searchers, pat, template, all, rest, into)? {
+        match replace_one(alloc, searchers, pat, template, which, rest, into)? {
             Left::Text(after) => rest = after,
             Left::Nothing => return Ok(true),
             Left::TooLong => return Ok(false),
@@ -130,13 +132,13 @@ pub fn substitute<'c>(
     searchers: &mut Searchers<'c>,
     pat: &'c Pat,
     template: &[u8],
-    all: bool,
+    which: Matches,
     sample: Sample,
     buf: &mut Buf,
     spare: &mut Buf,
 ) -> Result<Sample, OutOfMemory>
     requires { spare.old.cap ≡ buf.old.cap }
-    ensures value { IfOk result (λ made. value_in made buf.new.bytes ≡ within buf.old.cap (option_and_then (of_bytes buf.old.cap (λ bytes. Bytes (regsub (pattern_of pat.now) template.now all bytes))) (value_in sample buf.old.bytes))) }
+    ensures value { IfOk result (λ made. value_in made buf.new.bytes ≡ within buf.old.cap (option_and_then (of_bytes buf.old.cap (λ bytes. Bytes (regsub (pattern_of pat.now) template.now which bytes))) (value_in sample buf.old.bytes))) }
     ensures cap { buf.new.cap ≡ buf.old.cap }
     ensures spare_cap { spare.new.cap ≡ buf.old.cap }
 {
@@ -144,7 +146,7 @@ pub fn substitute<'c>(
         return Ok(Sample::Absent);
     }
     spare.clear();
-    if !replace(alloc, searchers, pat, template, all, buf.bytes(), spare)? {
+    if !replace(alloc, searchers, pat, template, which, buf.bytes(), spare)? {
         return Ok(Sample::Absent);
     }
     mem::swap(buf, spare);

@@ -1,5 +1,5 @@
 //! The calls of a lane beside reading a head.
-ghost use Rattle.std.specs.Prelude.{◌≡◌, ◌≤◌, ◌<◌, ◌+◌, ◌++◌, ◌⊎◌, [], length, take, drop, true, false, List, ℕ, Some, None, Option, IfOk};
+ghost use Rattle.std.specs.Prelude.{◌≡◌, ◌≢◌, ◌≤◌, ◌<◌, ◌+◌, ◌++◌, ◌⊎◌, [], length, take, drop, true, false, List, ℕ, Some, None, Option, IfOk};
 ghost use Rattle.http_model.specs.Head.{Head, head_blocks};
 ghost use Rattle.http_model.specs.Sizes.{least_size, most_size, least_head};
 ghost use Rattle.http_model.specs.declared.Ending.{Ending};
@@ -11,6 +11,7 @@ ghost use Rattle.htx_layout.specs.Held.{held};
 ghost use Rattle.header_ops.specs.Headers.{without_framing};
 ghost use Rattle.h1_head.specs.declared.answer.Side.{Side};
 ghost use Rattle.lane_core.specs.Sends.{Past, Stands, GoesOn, IsAtRest, IsAllOut, IsSound, IsReady, IsReading, RestsFor, begun};
+ghost use Rattle.lane_core.specs.declared.stage.Source.TheVariants as source;
 ghost use Rattle.lane_core.specs.declared.stage.Stage.TheVariants as stage;
 
 use crate::input::Input;
@@ -189,6 +190,7 @@ impl Lane {
         ensures filters { (filters : List FilterSpec) → AreThese self.old.sieve filters → AreThese self.new.sieve filters }
         ensures sound { IsSound self.new }
         ensures stage { self.new.stage ≡ stage.Sending }
+        ensures source { self.new.source ≡ source.Going }
         ensures same { (self.new.input ≡ self.old.input) × (self.new.ended ≡ self.old.ended) × (self.new.msg ≡ self.old.msg) × (self.new.output ≡ self.old.output) × (self.new.dropped ≡ false) }
         ensures limits { self.new.limits ≡ self.old.limits }
     {
@@ -214,7 +216,9 @@ impl Lane {
         ensures no_cut { (p : Past) → Stands self.old p → (self.new.output.items ≡ []) ⊎ (self.new.dropped ≡ true) → RestsFor self.new }
         ensures grows { (put : List ℕ) × (self.new.output.items ≡ self.old.output.items ++ put) }
         ensures kept { self.new.dropped ≡ self.old.dropped }
+        ensures drops { self.old.dropped ≡ true → self.new.output ≡ self.old.output }
         ensures stage { (self.new.stage ≡ stage.Sending) ⊎ (self.new.stage ≡ stage.Done) }
+        ensures settled { self.old.source ≢ source.Going → self.new.source ≡ self.old.source }
     {
         if self.dropped {
             self.read_out();
@@ -248,6 +252,7 @@ impl Lane {
         ensures dropped { (self.new.dropped ≡ true) × (self.new.output.items ≡ []) }
         ensures sieve { self.new.sieve ≡ self.old.sieve }
         ensures same { (self.new.stage ≡ self.old.stage) × (self.new.source ≡ self.old.source) × (self.new.input ≡ self.old.input) × (self.new.ended ≡ self.old.ended) }
+        ensures limits { self.new.limits ≡ self.old.limits }
         ensures sound { IsSound self.old → IsSound self.new }
         ensures stands { (p : Past) → Stands self.old p → Stands self.new p }
     {

@@ -88,6 +88,7 @@ impl Lane {
         ensures nearer { result ≡ true → 2 * (held_left self.new.sieve + is_going self.new.source) < brings_left self.old }
         ensures reads { reads_left self.new ≤ reads_left self.old }
         ensures rests { result ≡ false → (self.old.msg.blocks ≡ []) × (self.new.msg.blocks ≡ []) × (self.new.source ≡ self.old.source) × (self.new.source ≡ source.Going → SieveRests self.new.sieve) }
+        ensures settled { self.old.source ≢ source.Going → self.new.source ≡ self.old.source }
     {
         if self.msg.len() > 0 {
             return true;
@@ -109,6 +110,7 @@ impl Lane {
         ensures nearer { result ≡ true → brings_left self.new < brings_left self.old }
         ensures reads { reads_left self.new ≤ reads_left self.old }
         ensures rests { result ≡ false → (self.new.out ≡ self.old.out) × (self.old.msg.blocks ≡ []) × (self.new.msg.blocks ≡ []) × (self.new.source ≡ self.old.source) × (self.new.source ≡ source.Going → SieveRests self.new.sieve) }
+        ensures settled { self.old.source ≢ source.Going → self.new.source ≡ self.old.source }
     {
         if !self.fill() {
             return false;
@@ -128,6 +130,7 @@ impl Lane {
         ensures nearer { result ≡ true → brings_left self.new < brings_left self.old }
         ensures reads { reads_left self.new ≤ reads_left self.old }
         ensures rests { result ≡ false → (self.new.output.capacity ≤ length self.new.output.items) ⊎ IsDrained self.new }
+        ensures settled { self.old.source ≢ source.Going → self.new.source ≡ self.old.source }
     {
         self.write();
         if self.output.room() == 0 {
@@ -146,6 +149,7 @@ impl Lane {
         ensures leads { Leads self.old self.new }
         ensures reads { reads_left self.new ≤ reads_left self.old }
         ensures rests { (self.new.output.capacity ≤ length self.new.output.items) ⊎ IsDrained self.new }
+        ensures settled { self.old.source ≢ source.Going → self.new.source ≡ self.old.source }
     {
         'parts: loop {
             if !self.pass_on() {
@@ -164,6 +168,7 @@ impl Lane {
         ensures leads { Leads self.old self.new }
         ensures nearer { result ≡ true → reads_left self.new < reads_left self.old }
         ensures rests { (p : Past) → Sends self.old p → result ≡ false → (self.new.output.capacity ≤ length self.new.output.items) ⊎ IsAtRest self.new }
+        ensures settled { self.old.source ≢ source.Going → self.new.source ≡ self.old.source }
     {
         self.drain();
         if self.output.room() == 0 {
@@ -184,6 +189,7 @@ impl Lane {
         ensures grows { (put : List ℕ) × (self.new.output.items ≡ self.old.output.items ++ put) }
         ensures leads { Leads self.old self.new }
         ensures rests { (p : Past) → Sends self.old p → (self.new.output.capacity ≤ length self.new.output.items) ⊎ IsAtRest self.new }
+        ensures settled { self.old.source ≢ source.Going → self.new.source ≡ self.old.source }
     {
         'turns: loop {
             if !self.turn() {
@@ -238,6 +244,7 @@ impl Lane {
         ensures all { (p : Past) → Sends self.old p → self.new.output.items ≡ [] → IsAtRest self.new }
         ensures kept { self.new.dropped ≡ false }
         ensures stage { (self.new.stage ≡ stage.Sending) ⊎ (self.new.stage ≡ stage.Done) }
+        ensures settled { self.old.source ≢ source.Going → self.new.source ≡ self.old.source }
     {
         self.carry();
         self.settle();

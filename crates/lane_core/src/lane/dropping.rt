@@ -1,5 +1,5 @@
 //! A body whose text is dropped.
-ghost use Rattle.std.specs.Prelude.{◌≡◌, ◌≤◌, ◌<◌, ◌+◌, ◌⊎◌, [], length, true, false, List};
+ghost use Rattle.std.specs.Prelude.{◌≡◌, ◌≢◌, ◌≤◌, ◌<◌, ◌+◌, ◌⊎◌, [], length, true, false, List};
 ghost use Rattle.body_filter.specs.declared.filter_spec.FilterSpec.{FilterSpec};
 ghost use Rattle.lane_core.specs.Filtering.{AreThese, SieveRests, held_left};
 ghost use Rattle.lane_core.specs.Sends.{Stands, GoesOn, IsAllOut, IsSound, Past, Sends, Leads, Keeps, RestsFor, reads_left, is_going, IsSized};
@@ -22,6 +22,7 @@ impl Lane {
         ensures nearer { result ≡ true → held_left self.new.sieve + is_going self.new.source < held_left self.old.sieve + is_going self.old.source }
         ensures reads { reads_left self.new ≤ reads_left self.old }
         ensures rests { result ≡ false → self.new.source ≡ source.Going → SieveRests self.new.sieve }
+        ensures settled { self.old.source ≢ source.Going → self.new.source ≡ self.old.source }
     {
         if !self.is_going() {
             return false;
@@ -44,6 +45,7 @@ impl Lane {
         ensures empty { self.new.msg.blocks ≡ [] }
         ensures reads { reads_left self.new ≤ reads_left self.old }
         ensures rests { self.new.source ≡ source.Going → SieveRests self.new.sieve }
+        ensures settled { self.old.source ≢ source.Going → self.new.source ≡ self.old.source }
     {
         'parts: loop {
             if !self.drop_sifted() {
@@ -64,6 +66,7 @@ impl Lane {
         ensures empty { result ≡ true → self.new.msg.blocks ≡ [] }
         ensures nearer { result ≡ true → reads_left self.new < reads_left self.old }
         ensures rests { (p : Past) → self.old.dropped ≡ true → Sends self.old p → result ≡ false → RestsFor self.new }
+        ensures settled { self.old.source ≢ source.Going → self.new.source ≡ self.old.source }
     {
         self.drop_held();
         if !self.is_going() {
@@ -85,6 +88,7 @@ impl Lane {
         ensures same { (self.new.output ≡ self.old.output) × (self.new.out ≡ self.old.out) × (self.new.writer ≡ self.old.writer) }
         ensures leads { self.old.dropped ≡ true → Leads self.old self.new }
         ensures rests { (p : Past) → self.old.dropped ≡ true → Sends self.old p → RestsFor self.new }
+        ensures settled { self.old.source ≢ source.Going → self.new.source ≡ self.old.source }
     {
         self.msg.clear();
         'parts: loop {
@@ -109,6 +113,7 @@ impl Lane {
         ensures done { IsAllOut self.new → self.new.stage ≡ stage.Done }
         ensures goes_on { (p : Past) → Sends self.old p → self.new.stage ≡ stage.Sending → GoesOn self.new }
         ensures stage { (self.new.stage ≡ stage.Sending) ⊎ (self.new.stage ≡ stage.Done) }
+        ensures settled { self.old.source ≢ source.Going → self.new.source ≡ self.old.source }
     {
         self.drop_body();
         if self.is_going() {

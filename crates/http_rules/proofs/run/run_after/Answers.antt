@@ -1,6 +1,7 @@
 use Rattle.std.proofs.Common.{false, subst}
 use Rattle.rule_model.specs.declared.names.Direction.TheVariants as directions
 use Rattle.rule_actions.specs.declared.side.Side.TheVariants as sides
+use Rattle.rule_actions.specs.Given.{Env}
 use Rattle.http_rules.specs.declared.verdict.Ended.{Ended}
 use Rattle.http_rules.specs.Run.{EndsAt, AnswersAt}
 use Rattle.http_rules.proofs.Asked.{no_answer}
@@ -13,7 +14,7 @@ run_rules-requires-clause-good c = good_actions directions.After c.args.rules.no
 pub returns-clause-runs : goal.returns-clause-runs
 returns-clause-runs c =
     λ head body is.
-    let env = record { is_request = false; head = head; body = body; method = c.args.method.now; vars = c.args.vars.now } in
+    let env : Env = record { is_request = false; head = head; body = body; method = c.args.method.now; vars = c.args.vars.now } in
     subst (λ (o : Ended). EndsAt (sides.Answer c.args.method) c.args.msg.now.size c.args.rules.now env o c.run_rules.new.msg.blocks c.run_rules.new.vars) c.in-With.is
     (c.in_ok-verdict.ensures.leaves env (on_sent c.args.method head body c.args.msg.now.blocks c.args.vars.now is))
 

@@ -1,4 +1,5 @@
-use Rattle.std.proofs.Common.{◌≡◌, ◌≤◌, ℕ, List, ◌++◌, length}
+use Rattle.std.proofs.Common.{◌≡◌, ◌≢◌, ◌≤◌, ℕ, List, ◌++◌, length}
+use Rattle.lane_core.specs.declared.stage.Source.TheVariants as source
 use Rattle.lane_core.specs.Sends.{Keeps, Leads, IsSized, reads_left}
 use Rattle.lane_core.proofs.lane.Lane.carry.Given as goal
 
@@ -9,6 +10,7 @@ invariant-turns l = record {
   sized : IsSized l.self;
   leads : Leads l.fn.self l.self;
   held : length l.self.input.items ≤ l.self.input.capacity;
+  settled : l.fn.self.source ≢ source.Going → l.self.source ≡ l.fn.self.source;
 }
 
 abbrev pub decreases-turns : goal.decreases-turns

@@ -1,4 +1,5 @@
-use Rattle.std.proofs.Common.{◌≡◌, ◌≤◌, ℕ, List, ◌++◌}
+use Rattle.std.proofs.Common.{◌≡◌, ◌≢◌, ◌≤◌, ℕ, List, ◌++◌}
+use Rattle.lane_core.specs.declared.stage.Source.TheVariants as source
 use Rattle.lane_core.specs.Sends.{Keeps, Leads, IsSized, reads_left, brings_left}
 use Rattle.lane_core.proofs.lane.Lane.drain.Given as goal
 
@@ -10,6 +11,7 @@ invariant-parts l = record {
   sized : IsSized l.self;
   leads : Leads l.fn.self l.self;
   reads : reads_left l.self ≤ reads_left l.fn.self;
+  settled : l.fn.self.source ≢ source.Going → l.self.source ≡ l.fn.self.source;
 }
 
 abbrev pub decreases-parts : goal.decreases-parts

@@ -1,4 +1,5 @@
-use Rattle.std.proofs.Common.{◌≡◌, ◌≤◌, [], true, length}
+use Rattle.std.proofs.Common.{◌≡◌, ◌≢◌, ◌≤◌, [], true, length}
+use Rattle.lane_core.specs.declared.stage.Source.TheVariants as source
 use Rattle.lane_core.specs.Sends.{IsSized, Keeps, Leads, reads_left}
 use Rattle.lane_core.proofs.lane.Lane.drop_body.Given as goal
 
@@ -12,6 +13,7 @@ invariant-parts l = record {
   empty : l.self.msg.blocks ≡ [];
   leads : l.fn.self.dropped ≡ true → Leads l.fn.self l.self;
   held : length l.self.input.items ≤ l.self.input.capacity;
+  settled : l.fn.self.source ≢ source.Going → l.self.source ≡ l.fn.self.source;
 }
 
 abbrev pub decreases-parts : goal.decreases-parts

@@ -1,5 +1,6 @@
-use Rattle.std.proofs.Common.{◌≡◌, ◌≤◌, ◌+◌, [], true}
+use Rattle.std.proofs.Common.{◌≡◌, ◌≢◌, ◌≤◌, ◌+◌, [], true}
 use Rattle.lane_core.specs.Filtering.{held_left}
+use Rattle.lane_core.specs.declared.stage.Source.TheVariants as source
 use Rattle.lane_core.specs.Sends.{IsSized, Keeps, Leads, reads_left, is_going}
 use Rattle.lane_core.proofs.lane.Lane.drop_held.Given as goal
 
@@ -14,6 +15,7 @@ invariant-parts l = record {
   empty : l.self.msg.blocks ≡ [];
   leads : l.fn.self.dropped ≡ true → Leads l.fn.self l.self;
   reads : reads_left l.self ≤ reads_left l.fn.self;
+  settled : l.fn.self.source ≢ source.Going → l.self.source ≡ l.fn.self.source;
 }
 
 abbrev pub decreases-parts : goal.decreases-parts

@@ -1,0 +1,23 @@
+use Rattle.std.proofs.Common.{refl, sym, subst}
+use Rattle.http_rules.specs.Lives.{answering}
+use Rattle.session_core.specs.Sided.{asker_in}
+use Rattle.answer_side.specs.Stands.{StandsAt}
+use Rattle.answer_side.specs.declared.place.Place.{Place}
+use Rattle.answer_side.specs.declared.place.Place.TheVariants as place
+use Rattle.answer_side.proofs.Views.{fits_same}
+use Rattle.answer_side.proofs.side.AnswerSide.begin.Goals as goal
+
+pub returns-clause-leads : goal.returns-clause-leads
+returns-clause-leads c = λ cfg was asking server put now saying s idle is.
+    let old = c.args.self.now in
+    let at : StandsAt place.Idle cfg (asker_in was) (answering was.vars) old.lane server put now saying = subst (λ (p : Place). StandsAt p cfg (asker_in was) (answering was.vars) old.lane server put now saying) idle s.at in
+    record {
+      asks = is;
+      for_it = s.for_it;
+      at = subst (λ (p : Place). StandsAt p cfg (asker_in asking) (answering asking.vars) old.lane server put now saying) (sym idle) (at.0, at.1, at.2, at.3);
+    }
+
+pub returns-clause-sound : goal.returns-clause-sound
+returns-clause-sound c =
+    let old = c.args.self.now in
+    record { lane = c.requires.sound.lane; open_is = c.requires.sound.open_is; at = fits_same old.place old _ refl refl refl refl refl c.requires.sound.at }

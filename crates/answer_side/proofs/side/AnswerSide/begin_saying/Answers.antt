@@ -1,0 +1,24 @@
+use Rattle.std.proofs.Common.{subst}
+use Rattle.http_rules.specs.Lives.{answering}
+use Rattle.session_core.specs.Sided.{asker_in}
+use Rattle.lane.specs.Answering.{replies}
+use Rattle.answer_side.specs.Stands.{StandsAt}
+use Rattle.answer_side.specs.declared.place.Place.{Place}
+use Rattle.answer_side.specs.declared.place.Place.TheVariants as place
+use Rattle.answer_side.proofs.Events.{for_new}
+use Rattle.answer_side.proofs.Saying.{said_at}
+use Rattle.answer_side.proofs.Views.{at_place}
+use Rattle.answer_side.proofs.side.AnswerSide.begin_saying.Goals as goal
+
+pub answer-requires-clause-unbegun : goal.answer-requires-clause-unbegun
+answer-requires-clause-unbegun c = (at_place place.Idle c.args.self.now c.in-Idle.is c.requires.sound.at).1
+
+pub returns-in-Idle-clause-leads : goal.returns-in-Idle-clause-leads
+returns-in-Idle-clause-leads c = λ cfg asking server put now saying head body s idle is.
+    let old = c.args.self.now in
+    let at : StandsAt place.Idle cfg (asker_in asking) (answering asking.vars) old.lane server put now saying = subst (λ (p : Place). StandsAt p cfg (asker_in asking) (answering asking.vars) old.lane server put now saying) idle s.at in
+    record {
+      asks = s.asks;
+      for_it = for_new cfg old.lane c.answer.new.self c.answer.ensures.limits c.answer.ensures.filters s.for_it;
+      at = (replies at.0 head body c.args.no_body, c.answer.ensures.answers at.0 head body at.1 is, c.answer.ensures.last, said_at at.0 head body c.args.no_body at.2);
+    }

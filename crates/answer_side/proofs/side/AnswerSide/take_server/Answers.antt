@@ -1,0 +1,40 @@
+use Rattle.std.proofs.Common.{refl, sym, ap, ◌∙◌, ℕ, length}
+use Rattle.std.specs.Prelude.{is_none, ◌-◌}
+use Rattle.wire_buf.specs.Buffer.{Buffer}
+use Rattle.http_rules.specs.Lives.{answering}
+use Rattle.session_core.specs.Sided.{asker_in}
+use Rattle.lane.specs.Answering.{ended_of, most_of, input_of}
+use Rattle.answer_side.specs.Seen.{told_at, answered_at}
+use Rattle.answer_side.proofs.Events.{takes_at, for_new, none_of}
+use Rattle.answer_side.proofs.Views.{seen_same, fits_same}
+use Rattle.answer_side.proofs.side.AnswerSide.take_server.Goals as goal
+
+pub take-requires-clause-open : goal.take-requires-clause-open
+take-requires-clause-open c = none_of (ended_of c.args.self.now.lane) c.requires.open
+
+pub returns-clause-leads : goal.returns-clause-leads
+returns-clause-leads c = λ cfg asking server put now saying s.
+    let old = c.args.self.now in
+    record {
+      asks = s.asks;
+      for_it = for_new cfg old.lane c.take.new.self c.take.ensures.limits c.take.ensures.filters s.for_it;
+      at = takes_at old.place cfg (asker_in asking) (answering asking.vars) old.lane c.take.new.self server put now saying c.args.bytes.now
+          (record { answers = c.take.ensures.answers; is_open = none_of (ended_of old.lane) c.requires.open; ended = c.take.ensures.keeps.0; phase = c.take.ensures.keeps.1 }) s.at;
+    }
+
+pub returns-clause-seen : goal.returns-clause-seen
+returns-clause-seen c =
+    let old = c.args.self.now in (
+      most_of c.take.new.self - length (input_of c.take.new.self),
+      seen_same _ _ (ap is_none c.take.ensures.keeps.0) refl (ap (λ (b : Buffer ℕ). b.items) c.take.ensures.same.1) (ap (told_at old.place) c.take.ensures.keeps.2)
+          (ap (answered_at old.place) c.take.ensures.same.0) c.take.ensures.same.2 refl refl,
+    )
+
+pub returns-clause-sound : goal.returns-clause-sound
+returns-clause-sound c =
+    let old = c.args.self.now in
+    record {
+      lane = c.take.ensures.sound c.requires.sound.lane;
+      open_is = c.requires.sound.open_is ∙ ap is_none (sym c.take.ensures.keeps.0);
+      at = fits_same old.place old _ refl c.take.ensures.same.0 c.take.ensures.same.2 c.take.ensures.keeps.1 c.take.ensures.keeps.2 c.requires.sound.at;
+    }

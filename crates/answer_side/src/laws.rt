@@ -1,0 +1,39 @@
+//! What the definitions say together.
+ghost use Rattle.std.specs.Prelude.{◌≡◌, true, false};
+ghost use Rattle.http_rules.specs.declared.config.Config.{Config};
+ghost use Rattle.proxy_meaning.specs.Product.{meaning_of};
+ghost use Rattle.session_core.specs.Lanes.{IsTotalAnswers};
+ghost use Rattle.session_core.specs.Sided.{Sided, AnswersSo, IsBefore};
+ghost use Rattle.session_core.specs.declared.Told.TheVariants as told;
+ghost use Rattle.lane.specs.Answering.{has_begun};
+ghost use Rattle.answer_side.specs.Seen.{seen, place_of};
+ghost use Rattle.answer_side.specs.Stands.{AnswerStands, HasBodies, GivesAll, is_serving};
+ghost use Rattle.answer_side.specs.declared.side.AnswerSide.{AnswerSide};
+
+/// No stream of a server is without a reading, and a head is at least one byte.
+pub fn total()
+    ensures { (cfg : Config) → IsTotalAnswers (meaning_of cfg) }
+{
+    h1_head::laws::some_reading();
+    h1_head::laws::has_bytes();
+    h1_body::laws::some_reading();
+}
+
+/// While a server answers, what was put out to the client is a front of its answer, however its stream goes on.
+pub fn answers()
+    ensures { (cfg : Config) (side : AnswerSide) (p : Sided (meaning_of cfg)) → ((seen side).told ≡ told.Cut → HasBodies cfg) → GivesAll cfg.res_filters
+        → AnswerStands cfg side p.asking p.server p.to_client p.now p.saying → is_serving (place_of side) ≡ true → AnswersSo (meaning_of cfg) (seen side) p }
+{
+    total();
+    lane::laws::answer_promise();
+    lane_core::laws::promise();
+    lane_core::laws::has_body();
+}
+
+/// While the last that answers hasn't begun, the client got interim heads alone.
+pub fn comes_before()
+    ensures { (cfg : Config) (side : AnswerSide) (p : Sided (meaning_of cfg)) → AnswerStands cfg side p.asking p.server p.to_client p.now p.saying
+        → is_serving (place_of side) ≡ true → (seen side).begun ≡ false → IsBefore (meaning_of cfg) p }
+{
+    lane::laws::answer_promise();
+}

@@ -1,0 +1,94 @@
+//! Texts that no server answers.
+ghost use Rattle.std.specs.Prelude.{◌≡◌, ◌≢◌, ◌++◌, ℕ, List, [], true, false};
+ghost use Rattle.htx_model.specs.Blocks.{Fits};
+ghost use Rattle.http_model.specs.Head.{Head, front_blocks};
+ghost use Rattle.px_sample.specs.Variables.{Variables};
+ghost use Rattle.http_rules.specs.declared.config.Config.{Config};
+ghost use Rattle.session_core.specs.History.{Coming};
+ghost use Rattle.session_core.specs.Sided.{Asking};
+ghost use Rattle.answer_side.specs.Seen.{seen, place_of, size_of};
+ghost use Rattle.answer_side.specs.Stands.{AnswerStands, IsSoundSide, is_serving, list_text};
+ghost use Rattle.answer_side.specs.Said.{SaysMore, TurnsTo};
+ghost use Rattle.answer_side.specs.declared.place.Place.TheVariants as place;
+
+use crate::place::Place;
+use crate::side::AnswerSide;
+use crate::side::views::is_done;
+use htx_arena::Arena;
+use lane::laws::answer_promise;
+
+impl AnswerSide {
+    /// While no answer is in hand, the message of this list is to be said: the refusal or the reply of a request.
+    pub fn begin_saying(&mut self, list: &mut Arena, no_body: bool)
+        requires sound { IsSoundSide self.old }
+        requires fits { Fits list.old.blocks (size_of self.old) }
+        ensures leads { (cfg : Config) (asking : Asking Variables) (server : Coming) (put : List ℕ) (now : Variables) (saying : List ℕ) (head : Head) (body : List ℕ) → AnswerStands cfg self.old asking server put now saying
+            → place_of self.old ≡ place.Idle → list.old.blocks ≡ front_blocks head body → AnswerStands cfg self.new asking server put now (list_text no_body head body) }
+        ensures place { place_of self.old ≡ place.Idle → place_of self.new ≡ place.Saying }
+        ensures starts { place_of self.old ≡ place.Idle → (seen self.new).answered ≡ false }
+        ensures heard { place_of self.old ≡ place.Idle → (seen self.new).heard ≡ false }
+        ensures window { (seen self.new).window ≡ (seen self.old).window }
+        ensures sound { IsSoundSide self.new }
+    {
+        match self.place {
+            Place::Idle => {
+                self.lane.answer(list, no_body);
+                self.place = Place::Saying;
+                self.at_rest = false;
+            }
+            Place::Heads | Place::Response | Place::Closing | Place::Keeping | Place::Saying => {}
+        }
+    }
+
+    /// While the last that answers hasn't begun, the message of this list is to be said in place of the server's answer,
+    /// behind the interim heads, each whole.
+    pub fn turn_to(&mut self, list: &mut Arena)
+        requires sound { IsSoundSide self.old }
+        requires fits { Fits list.old.blocks (size_of self.old) }
+        ensures leads { (cfg : Config) (asking : Asking Variables) (server : Coming) (put : List ℕ) (now : Variables) (saying : List ℕ) (head : Head) (body : List ℕ) → AnswerStands cfg self.old asking server put now saying
+            → is_serving (place_of self.old) ≡ true → (seen self.old).begun ≡ false → list.old.blocks ≡ front_blocks head body → TurnsTo cfg self.new asking server put now head body }
+        ensures window { (seen self.new).window ≡ (seen self.old).window }
+        ensures open { (seen self.new).is_open ≡ (seen self.old).is_open }
+        ensures sound { IsSoundSide self.new }
+    {
+        answer_promise();
+        if self.lane.begun() {
+            return;
+        }
+        self.lane.answer(list, self.asker.head_asked);
+        self.place = Place::Saying;
+        self.at_rest = false;
+    }
+
+    /// Puts out as much of what is said as there is room for.
+    pub fn say(&mut self)
+        requires sound { IsSoundSide self.old }
+        ensures leads { (cfg : Config) (asking : Asking Variables) (server : Coming) (put : List ℕ) (now : Variables) (saying : List ℕ) → AnswerStands cfg self.old asking server put now saying
+            → place_of self.old ≡ place.Saying → SaysMore cfg self.old self.new asking server put now saying }
+        ensures place { place_of self.new ≡ place_of self.old }
+        ensures open { (seen self.new).is_open ≡ (seen self.old).is_open }
+        ensures sound { IsSoundSide self.new }
+    {
+        match self.place {
+            Place::Saying => self.say_on(),
+            Place::Idle | Place::Heads | Place::Response | Place::Closing | Place::Keeping => {}
+        }
+    }
+
+    /// Puts out more.
+    fn say_on(&mut self)
+        requires sound { IsSoundSide self.old }
+        requires says { place_of self.old ≡ place.Saying }
+        ensures leads { (cfg : Config) (asking : Asking Variables) (server : Coming) (put : List ℕ) (now : Variables) (saying : List ℕ) → AnswerStands cfg self.old asking server put now saying
+            → SaysMore cfg self.old self.new asking server put now saying }
+        ensures place { place_of self.new ≡ place_of self.old }
+        ensures open { (seen self.new).is_open ≡ (seen self.old).is_open }
+        ensures sound { IsSoundSide self.new }
+    {
+        answer_promise();
+        if is_done(self.lane.stage()) {
+            return;
+        }
+        self.lane.step();
+    }
+}

@@ -1,0 +1,66 @@
+-- What the laws of a session's core say to a driver.
+use Rattle.std.proofs.Common.{◌≡◌, ◌≢◌, ℕ, ◌<◌, List, [], ◌∷◌, Bool, true, false, length, Some, sym, ap, subst, refl, arith}
+use Rattle.http_model.specs.declared.End.{End}
+use Rattle.session_model.specs.Meaning.{Meaning}
+use Rattle.session_core.specs.History.{Past}
+use Rattle.session_core.specs.Sided.{Sided, RequestSeen, AnswerSeen, Perhaps}
+use Rattle.session_core.specs.Waits.{wants_of, is_serving}
+use Rattle.session_core.specs.Consequences.{IsTotal, IsFinal, IsFront, out_of_past}
+use Rattle.session_core.specs.Drives.{WantsSay}
+use Rattle.session_core.specs.Leads.{Stands}
+use Rattle.session_core.specs.declared.machine.At.{At}
+use Rattle.session_core.proofs.Consequences.{front}
+use Rattle.session_core.proofs.Driving.{mean, says, final_taken, front_taken}
+use Rattle.session_core.proofs.Exists.{over_perhaps}
+use Rattle.htx_drive.specs.Machine.{CoreSeen, WantsMean}
+
+-- a window with bytes is one that isn't empty
+some_wait : (window : List ℕ) → window ≢ [] → 0 < length window
+some_wait [] h = absurd (h refl)
+some_wait (byte ∷ window) h = omega arith
+
+-- what a driver sees of a core
+abbrev pub core_seen : RequestSeen → AnswerSeen → At → (lost : Bool) → CoreSeen
+core_seen q a at lost =
+    record {
+      wants = wants_of q a at;
+      serving = is_serving at.phase;
+      to_client = a.window;
+      to_server = q.window;
+      client_room = q.room;
+      server_room = a.room;
+      cut = at.cut;
+      begun = a.begun;
+      exchanges = at.exchanges;
+      lost = lost;
+    }
+
+pub core_means : (q : RequestSeen) (a : AnswerSeen) (at : At) (lost : Bool) → WantsMean (core_seen q a at lost)
+core_means q a at lost =
+    let m = mean q a at in
+    record {
+      client_read = λ e. (m.client_read e).1;
+      client_write = λ e. some_wait a.window (m.client_write e);
+      server_read = λ e. (m.server_read e).1;
+      server_write = λ e. some_wait q.window (m.server_write e);
+      idle = m.idle;
+      serving = m.serving;
+    }
+
+pub core_says : (M : Meaning) {D : Type 0} (request : D → RequestSeen) (answer : D → AnswerSeen) (stands : D → Sided M → Type 0) (sides : D) (at : At) (past : Past)
+    → Stands M request answer stands sides at past → WantsSay (wants_of (request sides) (answer sides) at) past
+core_says M request answer stands sides at past s = says M at (request sides) (answer sides) s.sided past s.holds
+
+pub core_noted : (M : Meaning) {D : Type 0} (request : D → RequestSeen) (answer : D → AnswerSeen) (stands : D → Sided M → Type 0) (sides : D) (at : At) (past : Past)
+    → Stands M request answer stands sides at past → at.cut ≡ past.note
+core_noted M request answer stands sides at past s = sym s.holds.note
+
+pub core_over : (M : Meaning) {D : Type 0} (request : D → RequestSeen) (answer : D → AnswerSeen) (stands : D → Sided M → Type 0) (sides : D) (at : At) (past : Past) (how : End)
+    → Stands M request answer stands sides at past → (wants_of (request sides) (answer sides) at).over ≡ Some how → IsFinal M past (out_of_past past past.taken at.exchanges how)
+core_over M request answer stands sides at past how s over = final_taken M at (request sides) (answer sides) s.sided past how s.holds over
+
+pub core_front : (M : Meaning) → IsTotal M → {D : Type 0} (request : D → RequestSeen) (answer : D → AnswerSeen) (stands : D → Sided M → Type 0) (sides : D) (at : At) (past : Past)
+    → Stands M request answer stands sides at past → Perhaps (IsFront M past [] [] (answer sides).begun)
+core_front M total request answer stands sides at past s =
+    over_perhaps (front M total at (request sides) (answer sides) s.sided past s.holds)
+    (front_taken M past (answer sides).window (request sides).window (answer sides).begun)

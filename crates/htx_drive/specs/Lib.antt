@@ -1,0 +1,9 @@
+pub mod Machine
+pub mod Came
+pub mod Driven
+pub mod Dialled
+pub mod Ran
+pub mod Budget
+pub mod Headline
+pub mod Acts
+pub mod Cores

@@ -1,0 +1,56 @@
+//! Reads from the client and writes to it.
+ghost use Rattle.std.specs.Prelude.{◌≡◌, ◌<◌, true, false, IsErrOf};
+ghost use Rattle.session_core.specs.History.{Past};
+ghost use Rattle.htx_drive.specs.Driven.{Idle, ClientMoves, Ends};
+
+use crate::{Machine, SessionFault};
+use px_link::{Ending, Failed, Fault, Link};
+
+/// The most that one read asks for.
+pub(crate) const MOST: usize = 4096;
+
+/// One read of the client's link, whose end and whose failure are endings.
+pub(crate) fn read_client<C: Machine, L: Link>(core: &mut C, client: &mut L, most: u32)
+    requires wanted { (C.seen core.old).wants.client_read ≡ true }
+    requires most { 0 < most }
+    ensures moves { (cfg : C.Settings) (first : L) (past : Past) → Idle (C.stands cfg core.old) L.seen L.wrote first client.old false past → ClientMoves (C.stands cfg core.new) L.seen L.wrote first client.new past }
+    ensures serving { (C.seen core.new).serving ≡ (C.seen core.old).serving }
+{
+    let mut into = [0; MOST];
+    let n = MOST.min(core.client_room()).min(most as usize);
+    match client.read(&mut into[..n]) {
+        Ok(given) => {
+            if given == 0 {
+                core.client_ended(Ending::Closed);
+            } else {
+                core.from_client(&into[..given]);
+            }
+        }
+        Err(Failed) => core.client_ended(Ending::Broke),
+    }
+}
+
+/// One write of the client's link.
+pub(crate) fn write_client<C: Machine, L: Link>(
+    core: &mut C,
+    client: &mut L,
+    most: u32,
+) -> Result<(), SessionFault>
+    requires wanted { (C.seen core.old).wants.client_write ≡ true }
+    requires most { 0 < most }
+    ensures moves { (cfg : C.Settings) (first : L) (past : Past) → Idle (C.stands cfg core.old) L.seen L.wrote first client.old false past
+        → Ends result (λ _. ClientMoves (C.stands cfg core.new) L.seen L.wrote first client.new past) (λ failed. Idle (C.stands cfg core.new) L.seen L.wrote first client.new failed past) }
+    ensures unspent { IsErrOf result SessionFault.Spent → ⊥ }
+    ensures serving { (C.seen core.new).serving ≡ (C.seen core.old).serving }
+{
+    let window = core.to_client();
+    let n = window.len().min(most as usize);
+    match client.write(&window[..n]) {
+        Ok(taken) => {
+            core.client_took(taken);
+            Ok(())
+        }
+        Err(Fault::Failed) => Err(SessionFault::ClientWrite),
+        Err(Fault::OutOfMemory) => Err(SessionFault::OutOfMemory),
+    }
+}

@@ -1,0 +1,97 @@
+//! The core of a session, whatever its two directions, as a driver's machine.
+ghost use Rattle.std.specs.Prelude.{◌≡◌, ◌≤◌, ◌<◌, length, true};
+
+use crate::Machine;
+use px_link::{Ending, OutOfMemory};
+use session_core::{Core, Sides, Wants};
+
+impl<S: Sides> Machine for Core<S> {
+    type Settings = S::Settings;
+
+    ghost use Rattle.session_core.specs.Leads.{Stands};
+    ghost use Rattle.htx_drive.specs.Cores.{core_seen, core_means, core_says, core_noted, core_over, core_front};
+
+    ghost meaning = { S.meaning };
+
+    ghost stands = { λ cfg core past. Stands (S.meaning cfg) S.request S.answer (S.stands cfg) core.sides core.at past };
+
+    ghost seen = { λ core. core_seen (S.request core.sides) (S.answer core.sides) core.at core.lost };
+
+    fn wants(&self) -> Wants {
+        self.wants()
+    }
+
+    fn client_room(&self) -> usize {
+        self.client_room()
+    }
+
+    fn server_room(&self) -> usize {
+        self.server_room()
+    }
+
+    fn to_client(&self) -> &[u8] {
+        self.to_client()
+    }
+
+    fn to_server(&self) -> &[u8] {
+        self.to_server()
+    }
+
+    fn cut(&self) -> Option<bool> {
+        self.cut()
+    }
+
+    fn exchanges(&self) -> u32 {
+        self.exchanges()
+    }
+
+    fn from_client(&mut self, bytes: &[u8]) {
+        self.from_client(bytes);
+    }
+
+    fn client_ended(&mut self, how: Ending) {
+        self.client_ended(how);
+    }
+
+    fn client_took(&mut self, n: usize) {
+        self.client_took(n);
+    }
+
+    fn server_opened(&mut self, yes: bool) {
+        self.server_opened(yes);
+    }
+
+    fn from_server(&mut self, bytes: &[u8]) {
+        self.from_server(bytes);
+    }
+
+    fn server_ended(&mut self, how: Ending) {
+        self.server_ended(how);
+    }
+
+    fn server_took(&mut self, n: usize) {
+        self.server_took(n);
+    }
+
+    fn server_stopped(&mut self) {
+        self.server_stopped();
+    }
+
+    fn server_closed(&mut self) {
+        self.server_closed();
+    }
+
+    fn work(&mut self) -> Result<(), OutOfMemory> {
+        self.work()
+    }
+
+    ghost wants_mean = { λ core. core_means (S.request core.sides) (S.answer core.sides) core.at core.lost };
+
+    ghost wants_say = { λ cfg core past s. core_says (S.meaning cfg) S.request S.answer (S.stands cfg) core.sides core.at past s };
+
+    ghost cut_is_noted = { λ cfg core past s. core_noted (S.meaning cfg) S.request S.answer (S.stands cfg) core.sides core.at past s };
+
+    ghost over_is_the_session = { λ cfg core past how s over. core_over (S.meaning cfg) S.request S.answer (S.stands cfg) core.sides core.at past how s over };
+
+    ghost taken_is_a_front = { λ cfg core past s. core_front (S.meaning cfg) (S.total cfg) S.request S.answer (S.stands cfg) core.sides core.at past s };
+}

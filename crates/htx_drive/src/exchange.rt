@@ -1,0 +1,77 @@
+//! An exchange with a server, from its connect to its close.
+ghost use Rattle.std.specs.Prelude.{◌≡◌, ◌<◌, ◌≤◌, ◌+◌, ◌∷◌, [], List, Some, true, false, length, OnOk, IsErrOf};
+ghost use Rattle.session_core.specs.History.{Past};
+ghost use Rattle.px_link.specs.Net.{address_of};
+ghost use Rattle.htx_drive.specs.Driven.{Idle, Left, Ends};
+ghost use Rattle.htx_drive.specs.Dialled.{Served, Goes, Dials};
+
+use crate::serve::serve;
+use crate::{Machine, SessionFault};
+use px_link::{Address, Close, Fault, Link, Net, Turns};
+
+/// Serves over a link that was lent, closes it and gives it back.
+fn with_link<C: Machine, L: Link, N: Net<Link = L>, T: Turns>(
+    core: &mut C,
+    client: &mut L,
+    lent: L,
+    net: &mut N,
+    turns: &mut T,
+    left: &mut u64,
+) -> Result<(), SessionFault>
+    requires wanted { (C.seen core.old).wants.server_open ≡ true }
+    requires some { 0 < left.old }
+    requires lent { 0 < (N.seen net.old).lent }
+    ensures goes { (cfg : C.Settings) (first : L) (past : Past) → Idle (C.stands cfg core.old) L.seen L.wrote first client.old false past
+        → Ends result (λ _. Served (C.stands cfg core.new) L.seen L.wrote first client.new false lent (N.seen net.old) (N.seen net.new) past left.old left.new) (λ failed. Served (Left (C.meaning cfg) (C.stands cfg) core.new (C.seen core.new).lost) L.seen L.wrote first client.new failed lent (N.seen net.old) (N.seen net.new) past left.old left.new) }
+    ensures serving { OnOk result ((C.seen core.new).serving ≡ false) }
+    ensures fewer { length (T.left turns.new) ≤ length (T.left turns.old) }
+    ensures spends { left.new < left.old }
+    ensures spent { IsErrOf result SessionFault.Spent → left.new ≡ 0 }
+{
+    let mut link = lent;
+    core.server_opened(true);
+    *left -= 1;
+    match serve(core, client, &mut link, turns, left) {
+        Ok(how) => {
+            link.close(how);
+            core.server_closed();
+            net.keep(link);
+            Ok(())
+        }
+        Err(fault) => {
+            link.close(Close::Failed);
+            net.keep(link);
+            Err(fault)
+        }
+    }
+}
+
+/// The one connect of an exchange, and what follows it.
+pub(crate) fn exchange<C: Machine, L: Link, N: Net<Link = L>, T: Turns>(
+    core: &mut C,
+    to: &Address,
+    client: &mut L,
+    net: &mut N,
+    turns: &mut T,
+    left: &mut u64,
+) -> Result<(), SessionFault>
+    requires wanted { (C.seen core.old).wants.server_open ≡ true }
+    requires some { 0 < left.old }
+    ensures goes { (cfg : C.Settings) (first : L) (first_net : N) (past : Past) → Idle (C.stands cfg core.old) L.seen L.wrote first client.old false past → Dials (address_of to.now) (N.seen first_net) (N.seen net.old) past.connects
+        → Ends result (λ _. Goes (C.stands cfg core.new) L.seen L.wrote first client.new false (address_of to.now) (N.seen first_net) (N.seen net.new) past left.old left.new) (λ failed. Goes (Left (C.meaning cfg) (C.stands cfg) core.new (C.seen core.new).lost) L.seen L.wrote first client.new failed (address_of to.now) (N.seen first_net) (N.seen net.new) past left.old left.new) }
+    ensures serving { OnOk result ((C.seen core.new).serving ≡ false) }
+    ensures fewer { length (T.left turns.new) ≤ length (T.left turns.old) }
+    ensures spends { left.new ≤ left.old }
+    ensures less { OnOk result (left.new < left.old) }
+    ensures spent { IsErrOf result SessionFault.Spent → left.new ≡ 0 }
+{
+    match net.connect(to) {
+        Ok(link) => with_link(core, client, link, net, turns, left),
+        Err(Fault::Failed) => {
+            core.server_opened(false);
+            *left -= 1;
+            Ok(())
+        }
+        Err(Fault::OutOfMemory) => Err(SessionFault::OutOfMemory),
+    }
+}

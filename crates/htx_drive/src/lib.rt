@@ -1,0 +1,38 @@
+//! The driver: it runs the session of a core over a client's link, a net and a list of turns. It knows no message and no rule.
+#![tactic(auto)]
+
+mod act;
+mod client_side;
+mod core_machine;
+mod exchange;
+pub mod laws;
+mod machine;
+mod serve;
+mod server_side;
+mod session;
+
+pub use machine::Machine;
+pub use px_link::{Address, Close, End, Ending, Fault, Link, Net, OutOfMemory, Turn, Turns};
+pub use session::run_session;
+pub use session_core::Wants;
+
+/// What a session that ended came to.
+#[derive(Clone, Copy, Debug, PartialEq, Eq)]
+pub struct Ran {
+    pub end: End,
+    /// The request heads that were read or refused. The count stays at its type's last value.
+    pub exchanges: u32,
+    /// Where a request was cut, whether its answer had begun.
+    pub begun_cut: Option<bool>,
+}
+
+/// Why a session was given up.
+#[derive(Clone, Copy, Debug, PartialEq, Eq)]
+pub enum SessionFault {
+    /// A write to the client failed, and its link has counted that.
+    ClientWrite,
+    /// As many turns as the budget has each moved something, and the session isn't over.
+    Spent,
+    /// The machine has no memory left.
+    OutOfMemory,
+}

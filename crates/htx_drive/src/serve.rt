@@ -1,0 +1,90 @@
+//! An open server, until its link is to be closed.
+ghost use Rattle.std.specs.Prelude.{◌≡◌, ◌<◌, ◌≤◌, ◌+◌, ◌++◌, ◌∷◌, [], List, Some, true, false, length, IfOk, IsErrOf};
+ghost use Rattle.session_core.specs.History.{Past, Connect};
+ghost use Rattle.htx_drive.specs.Driven.{Hand, HandGoes, Left, Ends, paid_by};
+ghost use Rattle.htx_drive.specs.Acts.{moves_bytes};
+
+use crate::act::{Act, next_act};
+use crate::client_side::{read_client, write_client};
+use crate::server_side::{read_server, write_server};
+use crate::{Machine, SessionFault, Wants};
+use px_link::{Close, Link, OutOfMemory, Turns};
+
+/// The next turn, and whether it moved something.
+fn serve_turn<C: Machine, L: Link, T: Turns>(
+    core: &mut C,
+    client: &mut L,
+    link: &mut L,
+    turns: &mut T,
+    wants: &Wants,
+) -> Result<bool, SessionFault>
+    requires wants { wants.now ≡ (C.seen core.old).wants }
+    requires some { moves_bytes wants.now ≡ true }
+    ensures goes { (cfg : C.Settings) (first first_link : L) (before : List Connect) (past : Past) (c : Connect) → Hand (C.stands cfg core.old) L.seen L.wrote first client.old first_link link.old false before past c
+        → Ends result (λ moved. HandGoes (C.stands cfg core.new) L.seen L.wrote first client.new first_link link.new false before past (paid_by moved) 0) (λ failed. HandGoes (C.stands cfg core.new) L.seen L.wrote first client.new first_link link.new failed before past 0 0) }
+    ensures serving { (C.seen core.new).serving ≡ (C.seen core.old).serving }
+    ensures fewer { length (T.left turns.new) ≤ length (T.left turns.old) }
+    ensures less { IfOk result (λ moved. moved ≡ false → length (T.left turns.new) < length (T.left turns.old)) }
+    ensures unspent { IsErrOf result SessionFault.Spent → ⊥ }
+{
+    let turn = turns.next();
+    match next_act(turn, wants) {
+        Act::Nothing => Ok(false),
+        Act::ClientRead(most) => {
+            read_client(core, client, most);
+            Ok(true)
+        }
+        Act::ClientWrite(most) => {
+            match write_client(core, client, most) {
+                Ok(()) => Ok(true),
+                Err(fault) => Err(fault),
+            }
+        }
+        Act::ServerRead(most) => {
+            read_server(core, link, most);
+            Ok(true)
+        }
+        Act::ServerWrite(most) => {
+            match write_server(core, link, most) {
+                Ok(()) => Ok(true),
+                Err(fault) => Err(fault),
+            }
+        }
+    }
+}
+
+/// Turns, until the server's link is to be closed, and how.
+pub(crate) fn serve<C: Machine, L: Link, T: Turns>(
+    core: &mut C,
+    client: &mut L,
+    link: &mut L,
+    turns: &mut T,
+    left: &mut u64,
+) -> Result<Close, SessionFault>
+    requires { (C.seen core.old).serving ≡ true }
+    ensures goes { (cfg : C.Settings) (first first_link : L) (before : List Connect) (past : Past) (c : Connect) → Hand (C.stands cfg core.old) L.seen L.wrote first client.old first_link link.old false before past c
+        → Ends result (λ _. HandGoes (C.stands cfg core.new) L.seen L.wrote first client.new first_link link.new false before past left.old left.new) (λ failed. HandGoes (Left (C.meaning cfg) (C.stands cfg) core.new (C.seen core.new).lost) L.seen L.wrote first client.new first_link link.new failed before past left.old left.new) }
+    ensures how { IfOk result (λ how. (C.seen core.new).wants.server_close ≡ Some how) }
+    ensures fewer { length (T.left turns.new) ≤ length (T.left turns.old) }
+    ensures spends { left.new ≤ left.old }
+    ensures spent { IsErrOf result SessionFault.Spent → left.new ≡ 0 }
+{
+    'turns: loop {
+        match core.work() {
+            Ok(()) => {}
+            Err(OutOfMemory) => return Err(SessionFault::OutOfMemory),
+        }
+        let wants = core.wants();
+        if let Some(how) = wants.server_close {
+            return Ok(how);
+        }
+        if *left == 0 {
+            return Err(SessionFault::Spent);
+        }
+        match serve_turn(core, client, link, turns, &wants) {
+            Ok(true) => *left -= 1,
+            Ok(false) => {}
+            Err(fault) => return Err(fault),
+        }
+    }
+}

@@ -1,0 +1,186 @@
+//! A whole session.
+ghost use Rattle.std.specs.Prelude.{◌≡◌, ◌<◌, ◌≤◌, ◌+◌, Some, true, false, length, OnOk, IfOk, IfErr, IsErrOf};
+ghost use Rattle.http_model.specs.declared.End.{End};
+ghost use Rattle.session_model.specs.Session.{close_of};
+ghost use Rattle.session_core.specs.History.{Past, nothing_yet};
+ghost use Rattle.px_link.specs.Net.{address_of};
+ghost use Rattle.htx_drive.specs.Acts.{moves_bytes};
+ghost use Rattle.htx_drive.specs.Driven.{Idle, IdleGoes, Left, Ends, paid_by};
+ghost use Rattle.htx_drive.specs.Dialled.{Goes, Dials};
+ghost use Rattle.htx_drive.specs.Ran.{RanSo, GaveUp};
+
+use crate::act::{Act, next_act};
+use crate::client_side::{read_client, write_client};
+use crate::exchange::exchange;
+use crate::{Machine, Ran, SessionFault, Wants};
+use px_link::{Address, Close, End, Link, Net, OutOfMemory, Turns};
+
+/// The next turn while no server is open, and whether it moved something.
+fn client_turn<C: Machine, L: Link, T: Turns>(
+    core: &mut C,
+    client: &mut L,
+    turns: &mut T,
+    wants: &Wants,
+) -> Result<bool, SessionFault>
+    requires wants { wants.now ≡ (C.seen core.old).wants }
+    requires some { moves_bytes wants.now ≡ true }
+    requires no_read { wants.now.server_read ≡ false }
+    requires no_write { wants.now.server_write ≡ false }
+    ensures goes { (cfg : C.Settings) (first : L) (past : Past) → Idle (C.stands cfg core.old) L.seen L.wrote first client.old false past
+        → Ends result (λ moved. IdleGoes (C.stands cfg core.new) L.seen L.wrote first client.new false past (paid_by moved) 0) (λ failed. IdleGoes (C.stands cfg core.new) L.seen L.wrote first client.new failed past 0 0) }
+    ensures serving { (C.seen core.new).serving ≡ (C.seen core.old).serving }
+    ensures fewer { length (T.left turns.new) ≤ length (T.left turns.old) }
+    ensures less { IfOk result (λ moved. moved ≡ false → length (T.left turns.new) < length (T.left turns.old)) }
+    ensures unspent { IsErrOf result SessionFault.Spent → ⊥ }
+{
+    let turn = turns.next();
+    match next_act(turn, wants) {
+        Act::Nothing => Ok(false),
+        Act::ClientRead(most) => {
+            read_client(core, client, most);
+            Ok(true)
+        }
+        Act::ClientWrite(most) => match write_client(core, client, most) {
+            Ok(()) => Ok(true),
+            Err(fault) => Err(fault),
+        },
+        Act::ServerRead(_) => Ok(false),
+        Act::ServerWrite(_) => Ok(false),
+    }
+}
+
+/// A turn of the client, paid for.
+fn idle_turn<C: Machine, L: Link, T: Turns>(
+    core: &mut C,
+    client: &mut L,
+    turns: &mut T,
+    left: &mut u64,
+    wants: &Wants,
+) -> Result<(), SessionFault>
+    requires wants { wants.now ≡ (C.seen core.old).wants }
+    requires some { moves_bytes wants.now ≡ true }
+    requires no_read { wants.now.server_read ≡ false }
+    requires no_write { wants.now.server_write ≡ false }
+    requires left { 0 < left.old }
+    ensures goes { (cfg : C.Settings) (first : L) (past : Past) → Idle (C.stands cfg core.old) L.seen L.wrote first client.old false past
+        → Ends result (λ _. IdleGoes (C.stands cfg core.new) L.seen L.wrote first client.new false past left.old left.new) (λ failed. IdleGoes (C.stands cfg core.new) L.seen L.wrote first client.new failed past left.old left.new) }
+    ensures serving { (C.seen core.new).serving ≡ (C.seen core.old).serving }
+    ensures less { OnOk result (left.new + length (T.left turns.new) < left.old + length (T.left turns.old)) }
+    ensures unspent { IsErrOf result SessionFault.Spent → ⊥ }
+{
+    match client_turn(core, client, turns, wants) {
+        Ok(true) => {
+            *left -= 1;
+            Ok(())
+        }
+        Ok(false) => Ok(()),
+        Err(fault) => Err(fault),
+    }
+}
+
+/// An exchange with a server, or a turn of the client.
+fn step<C: Machine, L: Link, N: Net<Link = L>, T: Turns>(
+    core: &mut C,
+    to: &Address,
+    client: &mut L,
+    net: &mut N,
+    turns: &mut T,
+    left: &mut u64,
+    wants: &Wants,
+) -> Result<(), SessionFault>
+    requires wants { wants.now ≡ (C.seen core.old).wants }
+    requires idle { (C.seen core.old).serving ≡ false }
+    requires some { wants.now.server_open ≡ false → moves_bytes wants.now ≡ true }
+    requires left { 0 < left.old }
+    ensures goes { (cfg : C.Settings) (first : L) (first_net : N) (past : Past) → Idle (C.stands cfg core.old) L.seen L.wrote first client.old false past → Dials (address_of to.now) (N.seen first_net) (N.seen net.old) past.connects
+        → Ends result (λ _. Goes (C.stands cfg core.new) L.seen L.wrote first client.new false (address_of to.now) (N.seen first_net) (N.seen net.new) past left.old left.new) (λ failed. Goes (Left (C.meaning cfg) (C.stands cfg) core.new (C.seen core.new).lost) L.seen L.wrote first client.new failed (address_of to.now) (N.seen first_net) (N.seen net.new) past left.old left.new) }
+    ensures serving { OnOk result ((C.seen core.new).serving ≡ false) }
+    ensures less { OnOk result (left.new + length (T.left turns.new) < left.old + length (T.left turns.old)) }
+    ensures spent { IsErrOf result SessionFault.Spent → left.new ≡ 0 }
+{
+    if wants.server_open {
+        exchange(core, to, client, net, turns, left)
+    } else {
+        idle_turn(core, client, turns, left, wants)
+    }
+}
+
+/// Exchanges, until the session is over, and how.
+fn exchanges<C: Machine, L: Link, N: Net<Link = L>, T: Turns>(
+    core: &mut C,
+    to: &Address,
+    client: &mut L,
+    net: &mut N,
+    turns: &mut T,
+    left: &mut u64,
+) -> Result<End, SessionFault>
+    requires { (C.seen core.old).serving ≡ false }
+    ensures goes { (cfg : C.Settings) (first : L) (first_net : N) (past : Past) → Idle (C.stands cfg core.old) L.seen L.wrote first client.old false past → Dials (address_of to.now) (N.seen first_net) (N.seen net.old) past.connects
+        → Ends result (λ _. Goes (C.stands cfg core.new) L.seen L.wrote first client.new false (address_of to.now) (N.seen first_net) (N.seen net.new) past left.old left.new) (λ failed. Goes (Left (C.meaning cfg) (C.stands cfg) core.new (C.seen core.new).lost) L.seen L.wrote first client.new failed (address_of to.now) (N.seen first_net) (N.seen net.new) past left.old left.new) }
+    ensures over { IfOk result (λ how. (C.seen core.new).wants.over ≡ Some how) }
+    ensures spent { IsErrOf result SessionFault.Spent → left.new ≡ 0 }
+{
+    'steps: loop {
+        match core.work() {
+            Ok(()) => {}
+            Err(OutOfMemory) => return Err(SessionFault::OutOfMemory),
+        }
+        let wants = core.wants();
+        if let Some(how) = wants.over {
+            return Ok(how);
+        }
+        if *left == 0 {
+            return Err(SessionFault::Spent);
+        }
+        match step(core, to, client, net, turns, left, &wants) {
+            Ok(()) => {}
+            Err(fault) => return Err(fault),
+        }
+    }
+}
+
+fn close_of(end: End) -> Close
+    ensures { result ≡ close_of end }
+{
+    match end {
+        End::Done => Close::Clean,
+        End::Closed => Close::Clean,
+        End::Cut => Close::Failed,
+    }
+}
+
+/// Runs the session of a core to which nothing has happened over the client's link and the servers that the net connects to
+/// this one address. Each turn that moves something takes one of the budget, and so does an opening.
+///
+/// It works, then opens and closes servers at once; else it takes the next turn of the list, one read or one write of at most
+/// so many bytes, and behind the list the first want that stands: server write, client write, client read, server read. A read
+/// takes at most 4096 bytes. A read that fails is a broken end of the stream; a server's write that fails stops that server; a
+/// connect that fails is a refused server. The client's link is closed at the end, and each server's link is closed and kept.
+pub fn run_session<C: Machine, L: Link, N: Net<Link = L>, T: Turns>(
+    core: &mut C,
+    to: &Address,
+    client: &mut L,
+    net: &mut N,
+    turns: &mut T,
+    budget: u64,
+) -> Result<Ran, SessionFault>
+    requires { (C.seen core.old).serving ≡ false }
+    ensures ran { (cfg : C.Settings) → C.stands cfg core.old nothing_yet → IfOk result (λ ran. RanSo (C.meaning cfg) (C.stands cfg core.new) L.seen L.wrote client.old client.new (address_of to.now) (N.seen net.old) (N.seen net.new) ran) }
+    ensures gave_up { (cfg : C.Settings) → C.stands cfg core.old nothing_yet → IfErr result (λ fault. GaveUp (C.meaning cfg) (C.stands cfg) core.new (C.seen core.new).lost L.seen L.wrote client.old client.new (address_of to.now) (N.seen net.old) (N.seen net.new) budget fault) }
+{
+    let mut left = budget;
+    match exchanges(core, to, client, net, turns, &mut left) {
+        Ok(end) => {
+            client.close(close_of(end));
+            Ok(Ran {
+                end,
+                exchanges: core.exchanges(),
+                begun_cut: core.cut(),
+            })
+        }
+        Err(fault) => {
+            client.close(Close::Failed);
+            Err(fault)
+        }
+    }
+}

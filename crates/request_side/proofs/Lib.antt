@@ -1,0 +1,11 @@
+pub mod Filters
+pub mod Messages
+pub mod Bodies
+pub mod Events
+pub mod Goes
+pub mod Sounds
+pub mod Stepping
+pub mod Wholes
+pub mod Reading
+pub mod Sending
+pub mod Keeping

@@ -1,0 +1,61 @@
+-- What calls keep of where the lane stands, and what is seen of it.
+use Rattle.std.proofs.Common.{◌≡◌, ◌≢◌, ℕ, ◌⊎◌, List, [], Bool, true, refl, ap, sym, ◌∙◌, subst, length, ◌-◌}
+use Rattle.std.specs.Prelude.{Option, Some, None, is_none}
+use Rattle.http_model.specs.declared.Ending.{Ending}
+use Rattle.lane_core.specs.Sends.{Past}
+use Rattle.lane_core.specs.declared.stage.Stage.{Stage}
+use Rattle.lane_core.specs.declared.stage.Stage.TheVariants as stage
+use Rattle.lane.specs.Asking.{stage_of, source_of, input_of, most_of, ended_of, output_of, is_dropping, limits_of, IsWell, MayRead, Sends}
+use Rattle.lane.specs.declared.request_lane.RequestLane.{RequestLane}
+use Rattle.request_side.specs.declared.place.Place.{Place}
+use Rattle.request_side.specs.declared.place.Place.TheVariants as place
+use Rattle.request_side.specs.Seen.{seen, unread_at, source_at, sent_at}
+use Rattle.request_side.specs.Stands.{SoundAt}
+
+pub none_is : (o : Option Ending) → is_none o ≡ true → o ≡ None
+none_is None e = refl
+none_is (Some how) e = absurd (cc)
+
+-- ---- where the lane stands
+
+pub sound_keeps : (at : Place) (old new : RequestLane) → (MayRead old → MayRead new) → (output_of old ≡ [] → output_of new ≡ []) → stage_of new ≡ stage_of old → is_dropping new ≡ is_dropping old
+    → ((p : Past) → Sends old p → (q : Past) × Sends new q) → SoundAt at old → SoundAt at new
+sound_keeps place.Reading old new reads empties stays dropped sends s = (reads s.0, empties s.1)
+sound_keeps place.Sending old new reads empties stays dropped sends s =
+    let q = sends s.past s.sends in
+    record { past = q.0; sends = q.1; stage = subst (λ (st : Stage). (st ≡ stage.Sending) ⊎ (st ≡ stage.Done)) (sym stays) s.stage; drops = λ d. empties (s.drops (sym dropped ∙ d)) }
+sound_keeps place.Idle old new reads empties stays dropped sends s = empties s
+sound_keeps place.Replied old new reads empties stays dropped sends s = empties s
+
+pub sound_drops : (at : Place) (old new : RequestLane) → output_of old ≢ [] → output_of new ≡ [] → stage_of new ≡ stage_of old → ((p : Past) → Sends old p → Sends new p) → SoundAt at old → SoundAt at new
+sound_drops place.Reading old new some empty stays sends s = absurd (some s.1)
+sound_drops place.Sending old new some empty stays sends s =
+    record { past = s.past; sends = sends s.past s.sends; stage = subst (λ (st : Stage). (st ≡ stage.Sending) ⊎ (st ≡ stage.Done)) (sym stays) s.stage; drops = λ d. empty }
+sound_drops place.Idle old new some empty stays sends s = empty
+sound_drops place.Replied old new some empty stays sends s = empty
+
+-- ---- what is seen
+
+pub room_same : (old new : RequestLane) → IsWell old → IsWell new → limits_of new ≡ limits_of old → input_of new ≡ input_of old → most_of new - length (input_of new) ≡ most_of old - length (input_of old)
+room_same old new was now limits input =
+    let most : most_of new ≡ most_of old = now.sized.input ∙ ap (λ l. l.bufsize) limits ∙ sym was.sized.input in
+    λ i. most i - length (input i)
+
+pub seen_as : (raw : List ℕ) (old new : RequestLane) (at : Place) (awaits was now open_ dropped : Bool) (room unread : ℕ) (window : List ℕ)
+    → is_none (ended_of new) ≡ open_ → most_of new - length (input_of new) ≡ room → unread_at at (input_of new) ≡ unread → output_of new ≡ window
+    → source_of new ≡ source_of old → stage_of new ≡ stage_of old → is_dropping new ≡ dropped
+    → seen raw (record { lane = new; place = at; awaits = awaits; at_rest = now })
+    ≡ record (seen raw (record { lane = old; place = at; awaits = awaits; at_rest = was })) { is_open = open_; room = room; unread = unread; window = window; dropped = dropped; at_rest = now }
+seen_as raw old new at awaits was now open_ dropped room unread window is_open is_room is_unread is_window source stays is_dropped =
+    λ i. record {
+      is_open = is_open i;
+      room = is_room i;
+      unread = is_unread i;
+      window = is_window i;
+      source = source_at at (source i);
+      sent = sent_at at (stays i);
+      dropped = is_dropped i;
+      awaits = awaits;
+      at_rest = now;
+      raw = raw;
+    }

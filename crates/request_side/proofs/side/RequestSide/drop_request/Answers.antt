@@ -1,0 +1,21 @@
+use Rattle.request_side.proofs.Events.{Keeps, drops, for_same}
+use Rattle.request_side.proofs.Sounds.{sound_drops}
+use Rattle.request_side.proofs.side.RequestSide.drop_request.Goals as goal
+
+pub returns-clause-sound : goal.returns-clause-sound
+returns-clause-sound c =
+    let e = c.discard.ensures in
+    record {
+      well = e.well c.requires.sound.well;
+      at = sound_drops c.args.self.now.place c.args.self.now.lane c.discard.new.self c.requires.some e.dropping.1 e.same.0 e.sends c.requires.sound.at;
+    }
+
+pub returns-clause-leads : goal.returns-clause-leads
+returns-clause-leads c = λ cfg vars came asking to_server put reply h is.
+    let e = c.discard.ensures in
+    let k : Keeps c.args.self.now.lane c.discard.new.self = record { same = record { limits = e.same.4; filters = λ cfg has. e.filters cfg.req_filters has }; ended = e.same.3 } in
+    record {
+      is_for = for_same cfg c.args.self.now.lane c.discard.new.self k.same h.is_for;
+      at = drops c.args.self.now.place cfg c.args.self.now.lane c.discard.new.self vars came asking to_server put reply k c.requires.sound.at e.same.2 c.requires.some e.dropping.0 e.sends
+          (λ p s. c.promise.ensures c.args.self.now.lane p s) is h.at;
+    }

@@ -1,0 +1,84 @@
+use Rattle.std.proofs.Common.{false, ap, ◌∙◌, refl}
+use Rattle.std.specs.Prelude.{is_none}
+use Rattle.http_model.specs.Reading.{Nothing, Refused}
+use Rattle.lane.specs.Asking.{input_of, most_of}
+use Rattle.request_side.specs.declared.place.Place.TheVariants as place
+use Rattle.request_side.proofs.Events.{for_same}
+use Rattle.request_side.proofs.Reading.{at_reading, on_reading, still_reading, nothing_out, each_nothing, asks_reading, head_read, reads_on, some_room}
+use Rattle.request_side.proofs.side.RequestSide.read_head.Goals as goal
+
+pub returns-in-More-clause-sound : goal.returns-in-More-clause-sound
+returns-in-More-clause-sound c =
+    let w = c.in-More.ensures.tells in
+    record { well = w.reading.ready.sound; at = still_reading c.args.self.now.place c.args.self.now.lane c.read_head.new.self c.requires.place c.requires.sound.at w.reading c.in-More.ensures.same.2 }
+
+pub returns-in-More-clause-tells : goal.returns-in-More-clause-tells
+returns-in-More-clause-tells c =
+    let e = c.in-More.ensures in
+    let old = c.args.self.now.lane in
+    let new = c.read_head.new.self in (
+      c.requires.place,
+      ap is_none (e.same.0 ∙ e.tells.ended),
+      some_room (most_of new) (input_of new) e.tells.room,
+      λ cfg vars came asking to_server reply h. record {
+        is_for = for_same cfg old new (record { limits = e.same.1; filters = λ cfg has. e.filters cfg.req_filters has }) h.is_for;
+        at = on_reading c.args.self.now.place cfg new vars came asking to_server reply c.requires.place (reads_on old new came e.same.0 e.tells (at_reading c.args.self.now.place cfg old vars came asking to_server reply c.requires.place h.at));
+      },
+    )
+
+pub returns-in-Nothing-clause-sound : goal.returns-in-Nothing-clause-sound
+returns-in-Nothing-clause-sound c =
+    record { well = c.in-Nothing.ensures.tells.reading.ready.sound; at = c.in-Nothing.ensures.same.2 ∙ nothing_out c.args.self.now.place c.args.self.now.lane c.requires.place c.requires.sound.at }
+
+pub returns-in-Nothing-clause-tells : goal.returns-in-Nothing-clause-tells
+returns-in-Nothing-clause-tells c =
+    let e = c.in-Nothing.ensures in
+    let old = c.args.self.now.lane in
+    let new = c.read_head.new.self in (
+      refl,
+      λ cfg vars came asking to_server reply h. record {
+        is_for = for_same cfg old new (record { limits = e.same.1; filters = λ cfg has. e.filters cfg.req_filters has }) h.is_for;
+        at = tt;
+      },
+      λ cfg vars came asking to_server reply h stream on.
+          asks_reading cfg old vars came Nothing h.is_for (at_reading c.args.self.now.place cfg old vars came asking to_server reply c.requires.place h.at) (each_nothing old new e.tells) stream on,
+    )
+
+pub returns-in-Head-clause-sound : goal.returns-in-Head-clause-sound
+returns-in-Head-clause-sound c =
+    record { well = c.in-Head.ensures.tells.ready.sound; at = c.in-Head.ensures.same.2 ∙ nothing_out c.args.self.now.place c.args.self.now.lane c.requires.place c.requires.sound.at }
+
+pub returns-in-Head-clause-tells : goal.returns-in-Head-clause-tells
+returns-in-Head-clause-tells c =
+    let e = c.in-Head.ensures in
+    let old = c.args.self.now.lane in
+    let new = c.read_head.new.self in (
+      refl,
+      record {
+        received = record { head = e.tells.head; framing = new.lane.framing; declared = new.lane.declared; close = new.lane.close };
+        has = record { ready = e.tells.ready; stage = e.tells.stage };
+        holds = record { blocks = e.tells.blocks; framing = refl; declared = refl; close = refl };
+        is_request = e.tells.received.line;
+        came = λ cfg vars came asking to_server reply h.
+            head_read cfg old (record { lane = new; place = place.Idle; awaits = c.args.self.now.awaits; at_rest = false }) came h.is_for
+            (for_same cfg old new (record { limits = e.same.1; filters = λ cfg has. e.filters cfg.req_filters has }) h.is_for) e.same.0 (at_reading c.args.self.now.place cfg old vars came asking to_server reply c.requires.place h.at) e.tells;
+      },
+    )
+
+pub returns-in-Refuse-clause-sound : goal.returns-in-Refuse-clause-sound
+returns-in-Refuse-clause-sound c =
+    record { well = c.in-Refuse.ensures.tells.sound; at = c.in-Refuse.ensures.same.2 ∙ nothing_out c.args.self.now.place c.args.self.now.lane c.requires.place c.requires.sound.at }
+
+pub returns-in-Refuse-clause-tells : goal.returns-in-Refuse-clause-tells
+returns-in-Refuse-clause-tells c =
+    let e = c.in-Refuse.ensures in
+    let old = c.args.self.now.lane in
+    let new = c.read_head.new.self in (
+      refl,
+      λ cfg vars came asking to_server reply h. record {
+        is_for = for_same cfg old new (record { limits = e.same.1; filters = λ cfg has. e.filters cfg.req_filters has }) h.is_for;
+        at = tt;
+      },
+      λ cfg vars came asking to_server reply h stream on.
+          asks_reading cfg old vars came (Refused c.in-Refuse.code) h.is_for (at_reading c.args.self.now.place cfg old vars came asking to_server reply c.requires.place h.at) e.tells.refused stream on,
+    )

@@ -1,0 +1,40 @@
+use Rattle.std.proofs.Common.{◌++◌, ◌-◌, false, refl, ap, sym, ◌∙◌, length}
+use Rattle.std.specs.Prelude.{is_none}
+use Rattle.lane.specs.Asking.{ended_of, input_of, most_of, output_of, is_dropping}
+use Rattle.request_side.specs.Seen.{unread_at}
+use Rattle.request_side.proofs.Events.{Takes, takes, for_same}
+use Rattle.request_side.proofs.Sounds.{none_is, sound_keeps, seen_as}
+use Rattle.request_side.proofs.side.RequestSide.take_client.Goals as goal
+
+pub returns-clause-sound : goal.returns-clause-sound
+returns-clause-sound c =
+    let e = c.take.ensures in
+    record {
+      well = e.well c.requires.sound.well;
+      at = sound_keeps c.args.self.now.place c.args.self.now.lane c.take.new.self e.reading (λ none. e.same.4 ∙ none) e.same.0 e.same.2 (λ p s. (record p { bytes = p.bytes ++ c.args.bytes.now }, e.sends p s)) c.requires.sound.at;
+    }
+
+pub returns-clause-leads : goal.returns-clause-leads
+returns-clause-leads c = λ cfg vars came asking to_server reply h.
+    let e = c.take.ensures in
+    let t : Takes c.args.self.now.lane c.take.new.self c.args.bytes.now = record {
+      same = record { limits = e.same.5; filters = λ cfg has. e.filters cfg.req_filters has };
+      open_ = none_is (ended_of c.args.self.now.lane) c.requires.open;
+      still = e.same.3;
+      input = e.input;
+      output = e.same.4;
+      dropped = e.same.2;
+      sends = e.sends;
+    } in
+    record { is_for = for_same cfg c.args.self.now.lane c.take.new.self t.same h.is_for; at = takes c.args.self.now.place cfg c.args.self.now.lane c.take.new.self c.args.bytes.now vars came asking to_server reply t h.at }
+
+pub returns-clause-seen : goal.returns-clause-seen
+returns-clause-seen c = λ raw.
+    let e = c.take.ensures in
+    let old = c.args.self.now.lane in
+    let new = c.take.new.self in (
+      most_of new - length (input_of new),
+      unread_at c.args.self.now.place (input_of new),
+      seen_as raw old new c.args.self.now.place c.args.self.now.awaits c.args.self.now.at_rest false (is_none (ended_of old)) (is_dropping old)
+          (most_of new - length (input_of new)) (unread_at c.args.self.now.place (input_of new)) (output_of old) (ap is_none (e.same.3 ∙ sym (none_is (ended_of old) c.requires.open))) refl refl e.same.4 e.same.1 e.same.0 e.same.2,
+    )

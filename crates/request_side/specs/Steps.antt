@@ -1,0 +1,58 @@
+-- What the calls of the request direction come to.
+use Rattle.std.specs.Prelude.{◌≡◌, ◌≢◌, ℕ, List, ◌++◌, true, false, not, ◌&&◌, None}
+use Rattle.session_model.specs.Stream.{Stream}
+use Rattle.session_core.specs.History.{Coming, Continues, prepend, prepended}
+use Rattle.session_core.specs.Sided.{Asking, Reply, Perhaps, RequestGoes, request_to}
+use Rattle.session_core.specs.declared.Source.{Source}
+use Rattle.session_core.specs.declared.Source.TheVariants as source
+use Rattle.px_sample.specs.Variables.{Variables}
+use Rattle.http_rules.specs.declared.config.Config.{Config}
+use Rattle.body_filter.specs.declared.filter_spec.FilterSpec.{FilterSpec}
+use Rattle.body_filter.specs.Filter.{filtered}
+use Rattle.proxy_meaning.specs.Product.{meaning_of, refused_in}
+use Rattle.lane.specs.Asking.{stage_of, is_dropping}
+use Rattle.request_side.specs.Seen.{place_of, source_of, sent_at, window_of}
+use Rattle.request_side.specs.Stands.{RequestStands, left_of}
+use Rattle.request_side.specs.declared.place.Place.TheVariants as place
+use Rattle.request_side.specs.declared.side.RequestSide.{RequestSide}
+
+-- Of a body that breaks off the filters make what they make of its bytes so far: they keep nothing back. So do no filters and limits.
+pub record BreaksAlike (filters : List FilterSpec) : Type 0 where
+  pub output : (bytes : List ℕ) → (filtered filters false bytes).output ≡ (filtered filters true bytes).output
+  pub refused : (bytes : List ℕ) → refused_in (filtered filters false bytes).state ≡ refused_in (filtered filters true bytes).state
+
+-- So of a body that is whole, and not impossible of another: of a body that goes on, or that is cut by a filter, it is not known
+-- what its bytes come to.
+abbrev pub IfWhole : Source → Type 0 → Type 0
+IfWhole source.Going A = Perhaps A
+IfWhole source.Whole A = A
+IfWhole (source.Cut code) A = Perhaps A
+
+-- however the client's stream goes on, what was put out to the server is a front of the request that it brings, or all of it
+abbrev pub RequestsSo : Config → RequestSide → (vars : Variables) → (came : Coming) → Asking Variables → (to_server : List ℕ) → Type 0
+RequestsSo cfg side vars came asking to_server =
+    (stream : Stream) → Continues came stream
+    → IfWhole (source_of side)
+    (RequestGoes (meaning_of cfg) (source_of side) (sent_at side.place (stage_of side.lane) && not (is_dropping side.lane)) (is_dropping side.lane) vars asking to_server stream)
+
+-- The request has come whole: the exchange used these bytes, and this is left.
+pub record WholeCame (cfg : Config) (side : RequestSide) (vars : Variables) (came : Coming) (asking : Asking Variables) (to_server : List ℕ) (left : Coming) : Type 0 where
+  pub used : List ℕ
+  pub came_is : came ≡ prepended used left
+  pub goes : (rest : Stream) → Continues left rest
+      → (g : RequestGoes (meaning_of cfg) (source_of side) (sent_at side.place (stage_of side.lane) && not (is_dropping side.lane)) (is_dropping side.lane) vars asking to_server (prepend used rest))
+      × ((request_to (meaning_of cfg) asking g.rest g.goes.body).cut ≡ None) × ((request_to (meaning_of cfg) asking g.rest g.goes.body).rest ≡ rest)
+
+-- a step puts text out to the server
+pub record Puts (old new : RequestSide) : Type 0 where
+  pub put : List ℕ
+  pub window : window_of new ≡ window_of old ++ put
+  pub stands : (cfg : Config) (vars : Variables) (came : Coming) (asking : Asking Variables) (to_server : List ℕ) (reply : Reply Variables)
+      → RequestStands cfg old vars came asking to_server reply → RequestStands cfg new vars came asking (to_server ++ put) reply
+
+-- where a request goes out or was replied to, the next exchange is read from what is left
+abbrev pub ReadsNext : RequestSide → RequestSide → Type 0
+ReadsNext old new =
+    place_of old ≢ place.Idle →
+    (cfg : Config) (vars next : Variables) (came : Coming) (asking now : Asking Variables) (to_server text : List ℕ) (reply other : Reply Variables)
+    → RequestStands cfg old vars came asking to_server reply → RequestStands cfg new next (left_of old) now text other

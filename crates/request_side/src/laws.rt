@@ -1,0 +1,59 @@
+//! What the definitions say together.
+ghost use Rattle.std.specs.Prelude.{◌≡◌, ℕ, List};
+ghost use Rattle.session_core.specs.Consequences.{IsTotal};
+ghost use Rattle.session_model.specs.Stream.{Stream};
+ghost use Rattle.session_core.specs.History.{Coming, Continues};
+ghost use Rattle.session_core.specs.Sided.{Asking, Reply, RequestAsks};
+ghost use Rattle.session_core.specs.declared.Source.TheVariants as source;
+ghost use Rattle.px_sample.specs.Variables.{Variables};
+ghost use Rattle.http_rules.specs.declared.config.Config.{Config};
+ghost use Rattle.proxy_meaning.specs.Product.{meaning_of};
+ghost use Rattle.request_side.specs.Seen.{place_of, source_of};
+ghost use Rattle.request_side.specs.Stands.{RequestStands, IsReplied, left_of};
+ghost use Rattle.request_side.specs.Steps.{BreaksAlike, RequestsSo, WholeCame};
+ghost use Rattle.request_side.specs.declared.place.Place.TheVariants as place;
+ghost use Rattle.request_side.specs.declared.side.RequestSide.{RequestSide};
+
+use h1_body::laws as bodies;
+use h1_head::laws as heads;
+use lane::laws as lanes;
+
+/// No stream of a client is without a reading, and a head is at least one byte.
+pub fn total()
+    ensures { (cfg : Config) → IsTotal (meaning_of cfg) }
+{
+    heads::some_reading();
+    heads::has_bytes();
+}
+
+/// What was put out to the server is a front of the request that the client's stream brings, however it goes on, or all of it; and
+/// the source is as that request is.
+pub fn requests()
+    ensures { (cfg : Config) (side : RequestSide) (vars : Variables) (came : Coming) (asking : Asking Variables) (to_server : List ℕ) (reply : Reply Variables)
+        → place_of side ≡ place.Sending → BreaksAlike cfg.req_filters → RequestStands cfg side vars came asking to_server reply → RequestsSo cfg side vars came asking to_server }
+{
+    lanes::promise();
+    lanes::has_body();
+    bodies::some_reading();
+}
+
+/// The request in hand asks for a server, however the client's stream goes on.
+pub fn asks_for_a_server()
+    ensures { (cfg : Config) (side : RequestSide) (vars : Variables) (came : Coming) (asking : Asking Variables) (to_server : List ℕ) (reply : Reply Variables)
+        → place_of side ≡ place.Sending → RequestStands cfg side vars came asking to_server reply → (stream : Stream) → Continues came stream → RequestAsks (meaning_of cfg) vars asking stream }
+{}
+
+/// Where the source is whole the request has come whole, and what stands in the input window follows it.
+pub fn came_whole()
+    ensures { (cfg : Config) (side : RequestSide) (vars : Variables) (came : Coming) (asking : Asking Variables) (to_server : List ℕ) (reply : Reply Variables)
+        → source_of side ≡ source.Whole → BreaksAlike cfg.req_filters → RequestStands cfg side vars came asking to_server reply → WholeCame cfg side vars came asking to_server (left_of side) }
+{
+    lanes::promise();
+    lanes::has_body();
+}
+
+/// What was replied to stands in front of what is left, where the rules reply.
+pub fn came_replied()
+    ensures { (cfg : Config) (side : RequestSide) (vars : Variables) (came : Coming) (asking : Asking Variables) (to_server : List ℕ) (reply : Reply Variables)
+        → place_of side ≡ place.Replied → RequestStands cfg side vars came asking to_server reply → IsReplied cfg vars came reply (left_of side) }
+{}

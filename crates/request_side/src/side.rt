@@ -1,0 +1,302 @@
+//! The request direction of a session, and its events and work.
+ghost use Rattle.std.specs.Prelude.{◌≡◌, ◌≢◌, ◌≤◌, ◌+◌, ℕ, List, [], ◌++◌, true, false, drop, length, IfOk};
+ghost use Rattle.http_model.specs.Head.{Head, head_blocks};
+ghost use Rattle.http_model.specs.Sizes.{least_size, most_size, least_head};
+ghost use Rattle.htx_layout.specs.Held.{held};
+ghost use Rattle.body_filter.specs.Valid.{AreFilters};
+ghost use Rattle.px_sample.specs.Variables.{Variables};
+ghost use Rattle.http_rules.specs.declared.config.Config.{Config};
+ghost use Rattle.session_core.specs.History.{Coming, no_stream, gains, ends};
+ghost use Rattle.session_core.specs.Sided.{Asking, Reply};
+ghost use Rattle.session_core.specs.Leads.{KeepsRequest};
+ghost use Rattle.session_core.specs.declared.Source.TheVariants as source;
+ghost use Rattle.lane.specs.Asking.{stage_of, blocks_of, addrs_of};
+ghost use Rattle.lane_core.specs.declared.stage.Stage.TheVariants as stage;
+
+use crate::place::Place;
+use body_filter::FilterSpec;
+use http_model::{Ending, Framing, Limits, OutOfMemory};
+use lane::laws::promise;
+use lane::{LaneHead, RequestLane, Source as LaneSource, Stage};
+use session_core::Source;
+use std::alloc::Global;
+
+/// The request direction of a session.
+#[derive(Drop)]
+pub struct RequestSide {
+    lane: RequestLane,
+    place: Place,
+    /// The client waits for a response head before it sends the body (RFC 9110 section 10.1.1).
+    awaits: bool,
+    /// The last step left nothing undone that could be done with what has come.
+    at_rest: bool,
+}
+
+ghost use Rattle.request_side.specs.Seen.{seen, place_of, is_open, room_of, window_of, source_by};
+ghost use Rattle.request_side.specs.Stands.{IsSound, RequestStands, Leads};
+ghost use Rattle.request_side.specs.Steps.{Puts, ReadsNext};
+ghost use Rattle.request_side.specs.Reads.{HeadTells, HasHead, SendsOn, RepliesTo};
+ghost use Rattle.request_side.specs.declared.place.Place.TheVariants as place;
+
+/// How a body stands, in the words of a core.
+fn source_by(source: LaneSource) -> Source
+    ensures { result ≡ source_by source }
+{
+    match source {
+        LaneSource::Going => Source::Going,
+        LaneSource::Whole => Source::Whole,
+        LaneSource::Cut(code) => Source::Cut(code),
+    }
+}
+
+impl RequestSide {
+    /// A direction to which nothing has happened. Its input window and its arrays have `limits.bufsize` bytes, its output
+    /// window `window`; bodies go through these filters. Beside rules with patterns, this call alone takes memory.
+    pub fn new(
+        alloc: Global,
+        limits: Limits,
+        window: u32,
+        filters: &[FilterSpec],
+    ) -> Result<RequestSide, OutOfMemory>
+        requires least { least_size ≤ limits.bufsize }
+        requires most { limits.bufsize ≤ most_size }
+        requires reserve { limits.maxrewrite + least_head ≤ limits.bufsize }
+        requires window { 64 ≤ window }
+        requires few { length filters.now ≤ 8 }
+        requires valid { AreFilters filters.now }
+        ensures sound { IfOk result IsSound }
+        ensures stands { IfOk result (λ side. (cfg : Config) (vars : Variables) (asking : Asking Variables) (to_server : List ℕ) (reply : Reply Variables)
+            → cfg.limits ≡ limits → cfg.req_filters ≡ filters.now → RequestStands cfg side vars no_stream asking to_server reply) }
+        ensures fresh { IfOk result (λ side. (place_of side ≡ place.Reading) × (is_open side ≡ true) × (window_of side ≡ [])) }
+    {
+        let mut lane = RequestLane::new(alloc, limits, window, filters)?;
+        lane.next();
+        Ok(RequestSide {
+            lane,
+            place: Place::Reading,
+            awaits: false,
+            at_rest: false,
+        })
+    }
+
+    /// What is made of the client's next request.
+    pub fn place(&self) -> Place
+        ensures { result ≡ place_of self.now }
+    {
+        self.place
+    }
+
+    /// How the body of the request stands that goes to a server.
+    pub fn source(&self) -> Source
+        ensures { (raw : List ℕ) → result ≡ (seen raw self.now).source }
+    {
+        match self.place {
+            Place::Sending => source_by(self.lane.source()),
+            Place::Reading => Source::Cut(400),
+            Place::Idle => Source::Cut(400),
+            Place::Replied => Source::Cut(400),
+        }
+    }
+
+    /// All of the request's text was put out, or is dropped.
+    pub fn is_sent(&self) -> bool
+        ensures { (raw : List ℕ) → result ≡ (seen raw self.now).sent }
+    {
+        match self.place {
+            Place::Sending => match self.lane.stage() {
+                Stage::Done => true,
+                Stage::Reading => false,
+                Stage::Head => false,
+                Stage::Sending => false,
+            },
+            Place::Reading => true,
+            Place::Idle => true,
+            Place::Replied => true,
+        }
+    }
+
+    /// The client waits for a response head before it sends the body of the request in hand.
+    pub fn awaits_continue(&self) -> bool
+        ensures { (raw : List ℕ) → result ≡ (seen raw self.now).awaits }
+    {
+        self.awaits
+    }
+
+    /// How many bytes of the client's stream can be taken.
+    pub fn client_room(&self) -> usize
+        ensures { result ≡ room_of self.now }
+    {
+        self.lane.room()
+    }
+
+    /// The bytes of the array on which rules run (HTX API).
+    pub fn request_raw(&self) -> &[u8]
+        ensures { held result.now (blocks_of self.now.lane) (addrs_of self.now.lane) }
+    {
+        self.lane.raw()
+    }
+
+    /// Bytes of the client's stream come.
+    pub fn take_client(&mut self, bytes: &[u8])
+        requires sound { IsSound self.old }
+        requires open { is_open self.old ≡ true }
+        requires room { length bytes.now ≤ room_of self.old }
+        ensures sound { IsSound self.new }
+        ensures leads { Leads self.old self.new (λ came. gains came bytes.now) (λ put. put) }
+        ensures seen { (raw : List ℕ) → (room : ℕ) × (unread : ℕ) × (seen raw self.new ≡ record (seen raw self.old) { room = room; unread = unread; at_rest = false }) }
+        ensures place { place_of self.new ≡ place_of self.old }
+    {
+        self.lane.take(bytes);
+        self.at_rest = false;
+    }
+
+    /// The client's stream ends.
+    pub fn end_client(&mut self, how: Ending)
+        requires sound { IsSound self.old }
+        requires open { is_open self.old ≡ true }
+        ensures sound { IsSound self.new }
+        ensures leads { Leads self.old self.new (λ came. ends came how) (λ put. put) }
+        ensures seen { (raw : List ℕ) → seen raw self.new ≡ record (seen raw self.old) { is_open = false; at_rest = false } }
+        ensures place { place_of self.new ≡ place_of self.old }
+    {
+        self.lane.end(how);
+        self.at_rest = false;
+    }
+
+    /// So many bytes of the text for the server were taken.
+    pub fn server_took(&mut self, n: usize)
+        requires sound { IsSound self.old }
+        requires within { n ≤ length (window_of self.old) }
+        ensures sound { IsSound self.new }
+        ensures leads { Leads self.old self.new (λ came. came) (λ put. put) }
+        ensures seen { (raw : List ℕ) → seen raw self.new ≡ record (seen raw self.old) { window = drop n (window_of self.old); at_rest = false } }
+        ensures place { place_of self.new ≡ place_of self.old }
+    {
+        self.lane.took(n);
+        self.at_rest = false;
+    }
+
+    /// The server takes nothing more: what waits for it, and all that follows, is dropped. The array on which rules run is
+    /// emptied.
+    pub fn drop_request(&mut self)
+        requires sound { IsSound self.old }
+        requires some { window_of self.old ≢ [] }
+        ensures sound { IsSound self.new }
+        ensures leads { (cfg : Config) (vars : Variables) (came : Coming) (asking : Asking Variables) (to_server put : List ℕ) (reply : Reply Variables)
+            → RequestStands cfg self.old vars came asking to_server reply → put ++ window_of self.old ≡ to_server → RequestStands cfg self.new vars came asking put reply }
+        ensures seen { (raw : List ℕ) → seen raw self.new ≡ record (seen raw self.old) { window = []; dropped = true; at_rest = false } }
+        ensures place { place_of self.new ≡ place_of self.old }
+    {
+        promise();
+        self.lane.discard();
+        self.at_rest = false;
+    }
+
+    /// Reads, filters and puts out as much of the request as there is room for. The array on which rules run changes.
+    pub fn step_request(&mut self)
+        requires { IsSound self.old }
+        ensures sound { IsSound self.new }
+        ensures puts { Puts self.old self.new }
+        ensures keeps { (raw left : List ℕ) → KeepsRequest (seen raw self.old) (seen left self.new) }
+        ensures place { place_of self.new ≡ place_of self.old }
+    {
+        self.at_rest = true;
+        if !self.is_going_out() {
+            return;
+        }
+        self.lane.step();
+    }
+
+    /// Whether text of a request is still to go out.
+    fn is_going_out(&self) -> bool
+        ensures going { result ≡ true → (place_of self.now ≡ place.Sending) × (stage_of self.now.lane ≡ stage.Sending) }
+        ensures rests { result ≡ false → place_of self.now ≡ place.Sending → stage_of self.now.lane ≢ stage.Sending }
+    {
+        match self.place {
+            Place::Sending => self.lane.stage() == Stage::Sending,
+            Place::Reading => false,
+            Place::Idle => false,
+            Place::Replied => false,
+        }
+    }
+
+    /// Reads the head of the client's next request. Where it stands in the array, rules may edit it there before it is sent.
+    pub fn read_head(&mut self) -> LaneHead
+        requires sound { IsSound self.old }
+        requires place { place_of self.old ≡ place.Reading }
+        ensures sound { IsSound self.new }
+        ensures tells { HeadTells self.old self.new result }
+        ensures open { is_open self.new ≡ is_open self.old }
+        ensures window { window_of self.new ≡ window_of self.old }
+    {
+        self.at_rest = false;
+        match self.lane.read_head() {
+            LaneHead::More => LaneHead::More,
+            LaneHead::Nothing => {
+                self.place = Place::Idle;
+                LaneHead::Nothing
+            }
+            LaneHead::Head => {
+                self.place = Place::Idle;
+                LaneHead::Head
+            }
+            LaneHead::Refuse(code) => {
+                self.place = Place::Idle;
+                LaneHead::Refuse(code)
+            }
+        }
+    }
+
+    /// The head that stands in the array, which rules edited and which is finished for its server, goes out, and the body behind
+    /// it in this framing. `awaits` says whether the client waits for a response head before it sends the body.
+    pub fn send(&mut self, framing: Framing, awaits: bool)
+        requires sound { IsSound self.old }
+        requires idle { place_of self.old ≡ place.Idle }
+        requires has { HasHead self.old }
+        requires head { (head : Head) × (blocks_of self.old.lane ≡ head_blocks head) }
+        ensures sound { IsSound self.new }
+        ensures leads { SendsOn self.old self.new framing }
+        ensures place { place_of self.new ≡ place.Sending }
+        ensures open { is_open self.new ≡ is_open self.old }
+        ensures window { window_of self.new ≡ window_of self.old }
+        ensures seen { (raw : List ℕ) → ((seen raw self.new).source ≡ source.Going) × ((seen raw self.new).sent ≡ false) × ((seen raw self.new).dropped ≡ false) × ((seen raw self.new).awaits ≡ awaits) }
+    {
+        self.lane.send(framing, false);
+        self.place = Place::Sending;
+        self.awaits = awaits;
+        self.at_rest = false;
+    }
+
+    /// Rules reply to the head that was read, with no server.
+    pub fn reply(&mut self)
+        requires sound { IsSound self.old }
+        requires idle { place_of self.old ≡ place.Idle }
+        ensures sound { IsSound self.new }
+        ensures leads { RepliesTo self.old self.new }
+        ensures place { place_of self.new ≡ place.Replied }
+        ensures open { is_open self.new ≡ is_open self.old }
+        ensures window { window_of self.new ≡ window_of self.old }
+    {
+        self.place = Place::Replied;
+        self.at_rest = false;
+    }
+
+    /// The next exchange begins behind a request that came whole, or that was replied to: the head of the next is to be read.
+    /// What stands in the output goes.
+    pub fn next(&mut self)
+        requires { IsSound self.old }
+        ensures sound { IsSound self.new }
+        ensures leads { ReadsNext self.old self.new }
+        ensures place { place_of self.old ≢ place.Idle → place_of self.new ≡ place.Reading }
+        ensures open { is_open self.new ≡ is_open self.old }
+        ensures window { window_of self.new ≡ [] }
+        ensures unread { (raw left : List ℕ) → (seen left self.new).unread ≡ (seen raw self.old).unread }
+    {
+        self.at_rest = false;
+        if self.place == Place::Idle {
+            return;
+        }
+        self.lane.next();
+        self.place = Place::Reading;
+    }
+}
