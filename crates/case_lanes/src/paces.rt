@@ -72,7 +72,12 @@ impl Agreed {
 
     /// What the row came to.
     pub fn into_text(self) -> Result<Vec<u8>, Fault> {
-        match self.facts {
+        let Agreed {
+            alloc: _,
+            facts,
+            differs: _,
+        } = self;
+        match facts {
             Some(facts) => Ok(facts),
             None => Err(Fault::Malformed),
         }

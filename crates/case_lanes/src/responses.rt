@@ -4,7 +4,7 @@
 //! ended, and behind a whole one what is left of the stream. Buffers have 1024 bytes.
 ghost use Rattle.std.specs.Prelude.{◌≡◌, ◌≤◌, length, OnOk};
 ghost use Rattle.body_filter.specs.Valid.{AreFilters};
-ghost use Rattle.lane.specs.Answering.{stage_of, ended_of, output_of, IsOpen, IsSoundAnswer};
+ghost use Rattle.lane.specs.Answering.{stage_of, ended_of, IsOpen, IsSoundAnswer};
 ghost use Rattle.lane_core.specs.declared.stage.Stage.TheVariants as stages;
 
 use crate::paces::{Agreed, Pace, ending_of};
@@ -13,7 +13,7 @@ use body_filter::FilterSpec;
 use case_bodies::{LIMITS, filters_of, framing_of};
 use case_rows::{Fault, Row, decoded};
 use http_model::{Ending, Framing};
-use lane::{LaneHead, ResponseLane, Stage};
+use lane::{ResponseLane, Stage};
 use std::alloc::Global;
 
 /// The messages of a row.
@@ -54,14 +54,14 @@ fn read_on(lane: &mut ResponseLane, messages: &Messages<'_>, seen: &mut Seen) ->
     ensures same { ended_of lane.new ≡ ended_of lane.old }
 {
     seen.told = lane.read_head(messages.head_asked);
-    match seen.told {
-        LaneHead::Head => {
+    match lane.stage() {
+        Stage::Head => {
             let step = step_at(messages.steps, seen.heads);
             seen.heads = seen.heads.saturating_add(1);
             handle(lane, step, messages.framing);
             true
         }
-        LaneHead::More | LaneHead::Nothing | LaneHead::Refuse(_) => false,
+        Stage::Reading | Stage::Sending | Stage::Done => false,
     }
 }
 
