@@ -119,7 +119,7 @@ fn facts_of(body: &Body<'_>, pieces: Pieces) -> Result<Vec<u8>, Fault> {
 }
 
 /// The framing that a text says.
-fn framing_of(text: &str) -> Result<Framing, Fault> {
+pub fn framing_of(text: &str) -> Result<Framing, Fault> {
     match text {
         "absent" => Ok(Framing::Absent),
         "chunked" => Ok(Framing::Chunked),

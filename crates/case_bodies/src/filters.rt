@@ -82,7 +82,7 @@ fn add_filter(filters: &mut Vec<FilterSpec>, filter: FilterSpec) -> Result<(), F
 }
 
 /// The filters of a row, with semicolons between them.
-fn filters_of(alloc: Global, text: &str) -> Result<Vec<FilterSpec>, Fault>
+pub fn filters_of(alloc: Global, text: &str) -> Result<Vec<FilterSpec>, Fault>
     ensures few { IfOk result (λ filters. length filters.items ≤ 8) }
     ensures valid { IfOk result (λ filters. AreFilters filters.items) }
 {

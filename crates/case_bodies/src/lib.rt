@@ -8,4 +8,7 @@ mod kinds;
 mod targets;
 mod windows;
 
+pub use bodies::framing_of;
+pub use filters::filters_of;
+pub use heads::LIMITS;
 pub use kinds::made;
