@@ -125,7 +125,7 @@ pub replied_session : (cfg : Config) (client server : List ℕ) (blocks reply : 
     → (x : ReadsPlain cfg.limits client blocks) → IsReplied cfg x.head m → reply ≡ message_blocks m → IsAnswered reply one
     → Session (meaning_of cfg) (closed client) (servers_by one.to_server server) (out_of_one one)
 replied_session cfg client server blocks reply m one valid x answers is a =
-    let good = replies.replied cfg.limits.bufsize directions.Request cfg.request (request_env no_variables x.head) m answers.0 valid.request.valid.each answers.1 in
+    let good = replies.replied cfg.limits.bufsize directions.Request cfg.request (request_env no_variables x.head) m answers.0 valid.request.each answers.1 in
     let asks = asks_reply cfg client x.head m x.reads x.plain answers in
     let text : Spells true false m one.to_client = subst (λ (t : List ℕ). Spells true false m t) (sym (a.client ∙ ap blocks_text is)) (spelled m good.trailers good.body) in
     session_by cfg client server one None end.Done a.server a.how (replied cfg client m asks.0 asks.1 one.to_client good.fits asks.2 text)
