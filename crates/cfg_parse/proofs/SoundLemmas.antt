@@ -22,7 +22,7 @@ use Rattle.rule_model.specs.declared.rule.Rule.{Rule}
 use Rattle.rule_model.specs.declared.names.Direction.{Direction as Rules}
 use Rattle.rule_model.specs.declared.names.Direction.TheVariants as lists
 use Rattle.rule_model.specs.declared.action.Action.{Action}
-use Rattle.rule_model.specs.Valid.{IsGoodRule}
+use Rattle.rule_model.specs.Valid.{AreRules, IsGoodRule}
 use Rattle.cfg_acl.specs.declared.written.AclLine.{AclLine}
 use Rattle.cfg_parse.specs.Reading.{◌>>=◌, argument, no_more, Leaves}
 use Rattle.cfg_parse.specs.Keywords.{is_timeout_name}
