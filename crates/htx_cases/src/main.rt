@@ -32,19 +32,11 @@ fn made_of_parts(alloc: Global, kind: &str, row: Row<'_>) -> Option<Result<Vec<u
     }
 }
 
-/// What a row of written messages or of those that go through a lane comes to.
-fn made_of_lanes(alloc: Global, kind: &str, row: Row<'_>) -> Option<Result<Vec<u8>, Fault>> {
-    match case_writing::made(alloc, kind, row) {
-        Some(made) => Some(made),
-        None => case_lanes::made(alloc, kind, row),
-    }
-}
-
 /// What a row of bodies or of whole messages comes to.
 fn made_of_messages(alloc: Global, kind: &str, row: Row<'_>) -> Option<Result<Vec<u8>, Fault>> {
     match case_bodies::made(alloc, kind, row) {
         Some(made) => Some(made),
-        None => made_of_lanes(alloc, kind, row),
+        None => case_writing::made(alloc, kind, row),
     }
 }
 
