@@ -60,4 +60,11 @@ impl<T> ItemList<T> {
     {
         &self.items[at as usize]
     }
+
+    /// The items, in order.
+    pub fn as_slice(&self) -> &[T]
+        ensures { result.now ≡ self.now }
+    {
+        self.items.as_slice()
+    }
 }
