@@ -2,7 +2,7 @@
 use Rattle.std.proofs.Common.{refl, ◌≡◌, ◌≢◌, ℕ, zero, suc, ◌+◌, ◌*◌, ◌<◌, ◌≤◌, inl, inr, List, [], ◌∷◌, length, map, ap, sym, ◌∙◌, arith, nat_lt, if◌then◌else◌, sum_by, get_or, set}
 use Rattle.std.specs.Prelude.{insert, remove}
 use Rattle.std.proofs.lemmas.Bool.{cases_lt, cases_eq, lt-ltb, le-ltb}
-use Rattle.std.proofs.lemmas.List.Sums.{sum_by-cons}
+use Rattle.std.proofs.lemmas.List.Sums.{sum_by-remove}
 use Rattle.htx_model.specs.Block.{Block, payload_len, EndHeaders}
 use Rattle.htx_space.specs.declared.space.Desc.{Desc}
 use Rattle.htx_space.specs.Windows.{desc_at}
@@ -25,15 +25,6 @@ map-remove : {X Y : Type 0} (f : X → Y) (xs : List X) (i : ℕ) → i < length
 map-remove f [] i h = absurd (omega arith)
 map-remove f (y ∷ ys) zero h = refl
 map-remove {X} {Y} f (y ∷ ys) (suc i) h = let g : List Y → List Y = λ zs. f y ∷ zs in ap g (map-remove f ys i (omega arith))
-
-sum-remove : (bs : List Block) (i : ℕ) (b : Block) → i < length bs → sum_by payload_len (remove bs i) + payload_len (get_or bs i b) ≡ sum_by payload_len bs
-sum-remove [] i b h = absurd (omega arith)
-sum-remove (y ∷ ys) zero b h = let whole = sum_by-cons payload_len y ys in omega arith
-sum-remove (y ∷ ys) (suc i) b h =
-    let whole = sum_by-cons payload_len y ys in
-    let less = sum_by-cons payload_len y (remove ys i) in
-    let rest = sum-remove ys i b (omega arith) in
-    omega arith
 
 -- one payload counts no more
 below-remove : (a : ℕ) (bs : List Block) (xs : List ℕ) (i : ℕ) (b : Block) → i < length bs → i < length xs →
@@ -113,7 +104,7 @@ carried_addrs raw mid new n i end sound filled told told' blocks addrs total sma
     let at_i = packed_addr raw mid n i addrs small in
     let block = get_or-listed (block_in raw) n i EndHeaders small in
     let own = ap payload_len block ∙ (told.told i small).len in
-    let less = sum-remove (blocks_of raw n) i EndHeaders (omega arith) in
+    let less = sum_by-remove payload_len (blocks_of raw n) i EndHeaders (omega arith) in
     let x = sum_by payload_len (remove (blocks_of raw n) i) in
     let here : addr_in new i ≡ x = let a = ap (λ (d : Desc). d.addr) (is.desc i small) in let b = sunk_here mid i end in omega arith in
     let each : (j : ℕ) → j < n → j ≢ i → addr_in new j ≡ h j = λ j j_small ne.

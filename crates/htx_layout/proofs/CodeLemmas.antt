@@ -25,10 +25,9 @@ lengths_small : (b : Block) → IsSmall b → lengths_of b < 2 ^ 28
 lengths_small (RequestLine a b c) h = omega (arith, h.small)
 lengths_small (ResponseLine a b c) h = omega (arith, h.small)
 lengths_small (Header n v) h = omega (arith, h.small, h.named)
-lengths_small EndHeaders h = omega arith
 lengths_small (Data p) h = omega (arith, h.small)
 lengths_small (Trailer n v) h = omega (arith, h.small, h.named)
-lengths_small EndTrailers h = omega arith
+lengths_small b h = omega arith
 
 code_in : (c x : ℕ) → x < 2 ^ 28 → (2 ^ 28 * c + x) / 2 ^ 28 ≡ c
 code_in c x h = omega arith
@@ -38,12 +37,7 @@ lengths_in c x h = omega arith
 
 kind_in : (k : Kind) → kind_of_code (code_of k) ≡ k
 kind_in kinds.RequestLine = refl
-kind_in kinds.ResponseLine = refl
-kind_in kinds.Header = refl
-kind_in kinds.EndHeaders = refl
-kind_in kinds.Data = refl
-kind_in kinds.Trailer = refl
-kind_in kinds.EndTrailers = refl
+kind_in k = refl
 
 pub info_kind_is : (b : Block) → IsSmall b → info_kind (info_of b) ≡ kind_of b
 info_kind_is b h = ap kind_of_code (code_in (code_of (kind_of b)) (lengths_of b) (lengths_small b h)) ∙ kind_in (kind_of b)
@@ -62,14 +56,13 @@ len_in_kind (Header n v) h =
     let small = h.small in
     let value = field_value 2 (length n) (length v) h.named (omega arith) in
     λ j. name j + value j
-len_in_kind EndHeaders h = refl
 len_in_kind (Data p) h = lengths_in 4 (length p) (lengths_small (Data p) h)
 len_in_kind (Trailer n v) h =
     let name = field_name 5 (length n) (length v) h.named in
     let small = h.small in
     let value = field_value 5 (length n) (length v) h.named (omega arith) in
     λ j. name j + value j
-len_in_kind EndTrailers h = refl
+len_in_kind b h = refl
 
 -- ---- the payload
 
@@ -134,19 +127,15 @@ block_in_kind (ResponseLine a b c) h =
     let p = line_parts a b c (omega arith) (omega arith) (omega arith) in
     λ j. ResponseLine (p.first j) (p.second j) (p.third j)
 block_in_kind (Header n v) h = cut_parts (name_len (info_of (Header n v))) n v (field_name 2 (length n) (length v) h.named)
-block_in_kind EndHeaders h = refl
-block_in_kind (Data p) h = refl
 block_in_kind (Trailer n v) h = cut_trailer (name_len (info_of (Trailer n v))) n v (field_name 5 (length n) (length v) h.named)
-block_in_kind EndTrailers h = refl
+block_in_kind b h = refl
 
 pub payload_long : (b : Block) → length (payload_of b) ≡ payload_len b
 payload_long (RequestLine a b c) = omega (arith, length-append (line_head (length a) (length b) (length c)) (a ++ (b ++ c)), length-append a (b ++ c), length-append b c)
 payload_long (ResponseLine a b c) = omega (arith, length-append (line_head (length a) (length b) (length c)) (a ++ (b ++ c)), length-append a (b ++ c), length-append b c)
 payload_long (Header n v) = length-append n v
-payload_long EndHeaders = refl
-payload_long (Data p) = refl
 payload_long (Trailer n v) = length-append n v
-payload_long EndTrailers = refl
+payload_long b = refl
 
 pub coded : (b : Block) → IsSmall b → IsCoded b
 unfolding info_len block_of
@@ -159,13 +148,9 @@ coded b h =
     }
 
 name_by : (b : Block) → IsSmall b → IsFieldKind (kind_of b) → name_len (info_of b) ≡ length (name_of b)
-name_by (RequestLine a b c) h g = absurd g
-name_by (ResponseLine a b c) h g = absurd g
 name_by (Header n v) h g = field_name 2 (length n) (length v) h.named
-name_by EndHeaders h g = absurd g
-name_by (Data p) h g = absurd g
 name_by (Trailer n v) h g = field_name 5 (length n) (length v) h.named
-name_by EndTrailers h g = absurd g
+name_by b h g = absurd g
 
 named_by : (b : Block) → IsSmall b → IsFieldKind (info_kind (info_of b)) → 1 ≤ name_len (info_of b)
 named_by b h g =
@@ -205,31 +190,19 @@ described_len b info d = sym d.tells.len ∙ ap payload_len d.is
 -- ---- the blocks that calls make of their arguments
 
 pub field_made : (k : Kind) (n v : List ℕ) (info : ℕ) (p : List ℕ) → IsFieldKind k → 1 ≤ length n → length n ≤ 255 → length n + length v ≤ 262144 → info ≡ 2 ^ 28 * code_of k + (256 * length v + length n) → p ≡ n ++ v → IsMade (block k n v []) info p
-field_made kinds.RequestLine n v info p h some named small e f = absurd h
-field_made kinds.ResponseLine n v info p h some named small e f = absurd h
 field_made kinds.Header n v info p h some named small e f = made (Header n v) info p e f (record { named = named; some = λ g. some; small = small })
-field_made kinds.EndHeaders n v info p h some named small e f = absurd h
-field_made kinds.Data n v info p h some named small e f = absurd h
 field_made kinds.Trailer n v info p h some named small e f = made (Trailer n v) info p e f (record { named = named; some = λ g. some; small = small })
-field_made kinds.EndTrailers n v info p h some named small e f = absurd h
+field_made k n v info p h some named small e f = absurd h
 
 pub line_made : (k : Kind) (a b c : List ℕ) (info : ℕ) (p : List ℕ) → IsLineKind k → 12 + length a + length b + length c ≤ 262144 → info ≡ 2 ^ 28 * code_of k + (12 + length a + length b + length c) → p ≡ line_head (length a) (length b) (length c) ++ (a ++ (b ++ c)) → IsMade (block k a b c) info p
 line_made kinds.RequestLine a b c info p h small e f = made (RequestLine a b c) info p e f (record { named = omega arith; some = λ g. absurd g; small = small })
 line_made kinds.ResponseLine a b c info p h small e f = made (ResponseLine a b c) info p e f (record { named = omega arith; some = λ g. absurd g; small = small })
-line_made kinds.Header a b c info p h small e f = absurd h
-line_made kinds.EndHeaders a b c info p h small e f = absurd h
-line_made kinds.Data a b c info p h small e f = absurd h
-line_made kinds.Trailer a b c info p h small e f = absurd h
-line_made kinds.EndTrailers a b c info p h small e f = absurd h
+line_made k a b c info p h small e f = absurd h
 
 pub end_made : (k : Kind) (info : ℕ) (p : List ℕ) → IsEndKind k → info ≡ 2 ^ 28 * code_of k + 1 → p ≡ 0 ∷ [] → IsMade (block k [] [] []) info p
-end_made kinds.RequestLine info p h e f = absurd h
-end_made kinds.ResponseLine info p h e f = absurd h
-end_made kinds.Header info p h e f = absurd h
 end_made kinds.EndHeaders info p h e f = made EndHeaders info p e f (record { named = omega arith; some = λ g. absurd g; small = omega arith })
-end_made kinds.Data info p h e f = absurd h
-end_made kinds.Trailer info p h e f = absurd h
 end_made kinds.EndTrailers info p h e f = made EndTrailers info p e f (record { named = omega arith; some = λ g. absurd g; small = omega arith })
+end_made k info p h e f = absurd h
 
 pub data_made : (q : List ℕ) (info : ℕ) (p : List ℕ) → length q ≤ 262144 → info ≡ 2 ^ 28 * 4 + length q → p ≡ q → IsMade (Data q) info p
 data_made q info p small e f = made (Data q) info p e f (record { named = omega arith; some = λ g. absurd g; small = small })

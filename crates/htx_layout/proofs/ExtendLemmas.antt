@@ -2,7 +2,6 @@
 use Rattle.std.proofs.Common.{refl, ◌≡◌, ℕ, zero, suc, ◌+◌, ◌*◌, ◌-◌, ◌^◌, ◌<◌, ◌≤◌, inl, inr, List, [], ◌∷◌, ◌++◌, length, ap, sym, ◌∙◌, arith, set, subst, sum_by}
 use Rattle.std.specs.Prelude.{insert, remove}
 use Rattle.std.proofs.lemmas.Bool.{cases_lt}
-use Rattle.std.proofs.lemmas.List.Sums.{sum_by-cons}
 use Rattle.htx_model.specs.Block.{Block, payload_len}
 use Rattle.htx_space.specs.declared.space.Desc.{Desc}
 use Rattle.htx_space.specs.Windows.{window, desc_at}
@@ -28,15 +27,6 @@ pub remove-insert : {X : Type 0} (xs : List X) (i : ℕ) (x : X) → i ≤ lengt
 remove-insert xs zero x h = refl
 remove-insert [] (suc i) x h = absurd (omega arith)
 remove-insert {X} (z ∷ zs) (suc i) x h = let f : List X → List X = λ ws. z ∷ ws in ap f (remove-insert zs i x (omega arith))
-
-pub sum-insert : (bs : List Block) (i : ℕ) (b : Block) → i ≤ length bs → sum_by payload_len (insert bs i b) ≡ sum_by payload_len bs + payload_len b
-sum-insert bs zero b h = let whole = sum_by-cons payload_len b bs in omega arith
-sum-insert [] (suc i) b h = absurd (omega arith)
-sum-insert (z ∷ zs) (suc i) b h =
-    let whole = sum_by-cons payload_len z zs in
-    let more = sum_by-cons payload_len z (insert zs i b) in
-    let rest = sum-insert zs i b (omega arith) in
-    omega arith
 
 pub kept_block : (raw new : List ℕ) (n : ℕ) → IsKept raw new n → (j : ℕ) → j < n → block_in new j ≡ block_in raw j
 kept_block raw new n is j small = ap (λ (d : Desc). block_of d.info (payload_in new j)) (is.desc j small) ∙ ap (block_of (desc_at raw j).info) (is.payload j small)

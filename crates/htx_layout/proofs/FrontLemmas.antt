@@ -6,7 +6,7 @@ use Rattle.htx_layout.specs.Sound.{IsSound, IsLaid, IsTop}
 use Rattle.htx_layout.specs.Place.{low, settled, settled_by}
 use Rattle.htx_layout.specs.Moves.{IsShifted}
 use Rattle.htx_layout.proofs.MoveLemmas.{shifted_told, shifted_filled}
-use Rattle.htx_layout.proofs.SpotLemmas.{IsLow, low_is, end_le_top, settled_parted}
+use Rattle.htx_layout.proofs.SpotLemmas.{IsLow, LowAt, low_is, end_le_top, settled_parted}
 use Rattle.htx_layout.proofs.TopLemmas.{top_from_under}
 
 settled_by_small : (o : Option ℕ) (front : ℕ) → settled_by o front ≤ front
@@ -19,13 +19,9 @@ laid_settled raw n front f laid e =
     let small = laid.small in
     subst (IsLaid raw n) (sym e) (record { sound = laid.sound; told = laid.told; filled = laid.filled; parted = settled_parted raw n front laid.parted; small = omega arith; most = laid.most })
 
--- a payload stands at or above the front exactly where one ends behind it
-settled_by_top : (raw : List ℕ) (n front t : ℕ) (o : Option ℕ) → IsLaid raw n front → IsTop raw n t → IsLow raw front 0 n o → settled_by o front ≡ (if nat_lt front t then front else 0)
-settled_by_top raw n front t None laid was past =
-    let under = top_from_under raw 0 n front (λ j from to. let len = (laid.told.told j (omega arith)).len in let below = past.none j from to in elim (laid.parted.parted j (omega arith)) [ inl h ↦ omega arith | inr h ↦ absurd (omega arith) ]) in
-    let is = was.is in
-    rw (le-ltb front t (omega arith)) refl
-settled_by_top raw n front t (Some l) laid was at =
+-- a payload stands at or above `front` exactly where one ends behind it
+past_top : (raw : List ℕ) (n front t l : ℕ) → IsLaid raw n front → IsTop raw n t → LowAt raw front 0 n l → front < t
+past_top raw n front t l laid was at =
     let last = at.last in
     let small : at.index < n = omega arith in
     let ends = end_le_top raw n at.index laid.told small in
@@ -33,7 +29,21 @@ settled_by_top raw n front t (Some l) laid was at =
     let above = at.above in
     let here = at.is in
     let is = was.is in
-    rw (lt-ltb front t (omega arith)) refl
+    omega arith
+
+settled_by_top : (raw : List ℕ) (n front t : ℕ) (o : Option ℕ) → IsLaid raw n front → IsTop raw n t → IsLow raw front 0 n o → settled_by o front ≡ (if nat_lt front t then front else 0)
+settled_by_top raw n front t None laid was past =
+    let under = top_from_under raw 0 n front (λ j from to. let len = (laid.told.told j (omega arith)).len in let below = past.none j from to in elim (laid.parted.parted j (omega arith)) [ inl h ↦ omega arith | inr h ↦ absurd (omega arith) ]) in
+    let is = was.is in
+    rw (le-ltb front t (omega arith)) refl
+settled_by_top raw n front t (Some l) laid was at = rw (lt-ltb front t (past_top raw n front t l laid was at)) refl
+
+none_by : (raw : List ℕ) (n front t : ℕ) (o : Option ℕ) → IsLaid raw n front → IsTop raw n t → t ≤ front → IsLow raw front 0 n o → None ≡ o
+none_by raw n front t None laid was h past = refl
+none_by raw n front t (Some l) laid was h at = let less = past_top raw n front t l laid was at in absurd (omega arith)
+
+pub low_past : (raw : List ℕ) (n front t : ℕ) → IsLaid raw n front → IsTop raw n t → t ≤ front → None ≡ low front (addrs_of raw n)
+low_past raw n front t laid was h = none_by raw n front t (low front (addrs_of raw n)) laid was h (low_is raw front 0 n)
 
 pub settled_top : (raw : List ℕ) (n front t : ℕ) → IsLaid raw n front → IsTop raw n t → (if nat_lt front t then front else 0) ≡ settled front (addrs_of raw n)
 settled_top raw n front t laid was = sym (settled_by_top raw n front t (low front (addrs_of raw n)) laid was (low_is raw front 0 n))

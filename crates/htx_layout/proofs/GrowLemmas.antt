@@ -10,7 +10,7 @@ use Rattle.htx_layout.specs.Raw.{addr_in, len_in, payload_in, block_in, block_of
 use Rattle.htx_layout.specs.Sound.{IsSound, IsTold, AreApart, end_of, IsLaid}
 use Rattle.htx_layout.specs.Moves.{CanPlace, IsOverwritten, CanRenew, IsRenewed, IsKept, IsOpen}
 use Rattle.htx_layout.specs.Steps.{spread, listed_at, placed}
-use Rattle.htx_layout.proofs.RawLemmas.{length-spread, length-listed_at, length-moved, payload_in-same}
+use Rattle.htx_layout.proofs.RawLemmas.{AreApart-same, length-spread, length-listed_at, length-moved, payload_in-same}
 use Rattle.htx_layout.proofs.MoveLemmas.{listed-same, listed-set, Tells-same}
 
 -- two windows, one behind the other
@@ -103,9 +103,6 @@ stayed_addrs raw new n i info payload is = listed-same (addr_in raw) (addr_in ne
   | inr ne ↦ ap (λ (d : Desc). d.addr) (is.other j small ne)
 ])
 
-AreApart-to : (a b c d : Desc) → a ≡ c → b ≡ d → AreApart c d → AreApart a b
-AreApart-to a b c d e f h = subst (λ (x : Desc). AreApart x b) (sym e) (subst (λ (y : Desc). AreApart c y) (sym f) h)
-
 renewed_sound : (raw new : List ℕ) (n i : ℕ) (d : Desc) (payload : List ℕ) → CanRenew raw n i d → IsRenewed raw new n i d payload → IsSound new n
 renewed_sound raw new n i d payload can is =
     let size = is.size in
@@ -122,10 +119,10 @@ renewed_sound raw new n i d payload can is =
           elim (cases_eq j i) [
             | inl e ↦
                 let ne : k ≢ i = omega arith in
-                AreApart-to _ _ d (desc_at raw k) (ap (desc_at new) e ∙ is.here) (is.other k small ne) (elim (can.free k small ne) [ inl h ↦ inl h | inr h ↦ inr h ])
+                AreApart-same _ _ d (desc_at raw k) (ap (desc_at new) e ∙ is.here) (is.other k small ne) (elim (can.free k small ne) [ inl h ↦ inl h | inr h ↦ inr h ])
             | inr nj ↦ elim (cases_eq k i) [
-              | inl e ↦ AreApart-to _ _ (desc_at raw j) d (is.other j j_small nj) (ap (desc_at new) e ∙ is.here) (elim (can.free j j_small nj) [ inl h ↦ inr h | inr h ↦ inl h ])
-              | inr nk ↦ AreApart-to _ _ (desc_at raw j) (desc_at raw k) (is.other j j_small nj) (is.other k small nk) (can.sound.apart j k lt small)
+              | inl e ↦ AreApart-same _ _ (desc_at raw j) d (is.other j j_small nj) (ap (desc_at new) e ∙ is.here) (elim (can.free j j_small nj) [ inl h ↦ inr h | inr h ↦ inl h ])
+              | inr nk ↦ AreApart-same _ _ (desc_at raw j) (desc_at raw k) (is.other j j_small nj) (is.other k small nk) (can.sound.apart j k lt small)
             ]
           ];
     }
@@ -199,7 +196,7 @@ kept_sound raw new n is sound =
     record {
       room = omega arith;
       within = λ j small. let e = ap end_of (is.desc j small) in let h = sound.within j small in omega arith;
-      apart = λ j k lt small. AreApart-to _ _ _ _ (is.desc j (omega arith)) (is.desc k small) (sound.apart j k lt small);
+      apart = λ j k lt small. AreApart-same _ _ _ _ (is.desc j (omega arith)) (is.desc k small) (sound.apart j k lt small);
     }
 
 pub filled_kept : (raw : List ℕ) (n from to keep : ℕ) (more : List ℕ) → IsSound raw n → IsOpen raw n to (keep + length more) → from + keep ≤ length raw → IsKept raw (overwritten (overwritten raw to (window raw from keep)) (to + keep) more) n

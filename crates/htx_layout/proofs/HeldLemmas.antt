@@ -49,12 +49,7 @@ laid_held raw n front laid =
 -- the type of a block in an array is none of those from 7 on
 code_small : (b : Block) → payload_len b ≤ 262144 → info_of b < 2 ^ 28 * 7
 code_small (RequestLine x y z) h = omega arith
-code_small (ResponseLine x y z) h = omega arith
-code_small (Header n v) h = omega arith
-code_small EndHeaders h = omega arith
-code_small (Data p) h = omega arith
-code_small (Trailer n v) h = omega arith
-code_small EndTrailers h = omega arith
+code_small b h = omega arith
 
 is_used : (raw : List ℕ) (n front i : ℕ) → IsLaid raw n front → i < n → (desc_at raw i).info / 2 ^ 28 ≢ 15
 is_used raw n front i laid h =

@@ -18,6 +18,7 @@ pub mod LentLemmas
 pub mod TellLemmas
 pub mod StayLemmas
 pub mod FrontLemmas
+pub mod KnownLemmas
 pub mod TopLemmas
 pub mod WholeLemmas
 pub mod PlaceLemmas

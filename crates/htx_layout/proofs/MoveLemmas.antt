@@ -9,7 +9,7 @@ use Rattle.htx_layout.specs.Raw.{Tells, listed, addr_in, len_in, block_in, block
 use Rattle.htx_layout.specs.Sound.{IsSound, AreApart, end_of, IsTold, IsFilled}
 use Rattle.htx_layout.specs.Moves.{IsShifted, CanMove, IsMoved}
 use Rattle.htx_layout.specs.Place.{below}
-use Rattle.htx_layout.proofs.RawLemmas.{length-listed, get_or-listed}
+use Rattle.htx_layout.proofs.RawLemmas.{AreApart-same, length-listed, get_or-listed}
 
 pub listed-same : {X : Type 0} (f g : ℕ → X) (n : ℕ) → ((j : ℕ) → j < n → g j ≡ f j) → listed g n ≡ listed f n
 listed-same f g n each =
@@ -124,12 +124,6 @@ moved_is raw n i to can addr_fits info_fits =
       payload = λ j small. payload_in-moved raw n i to j can addr_fits info_fits small;
     }
 
-desc_is : (d : Desc) (to : ℕ) → d.addr ≡ to → d ≡ record { addr = to; info = d.info }
-desc_is d to e = let at : ℕ → Desc = λ k. record { addr = k; info = d.info } in ap at e
-
-AreApart-at : (a b c d : Desc) → a ≡ c → b ≡ d → AreApart c d → AreApart a b
-AreApart-at a b c d e f h = subst (λ (x : Desc). AreApart x b) (sym e) (subst (λ (y : Desc). AreApart c y) (sym f) h)
-
 pub IsSound-moved : (raw new : List ℕ) (n i to : ℕ) → CanMove raw n i to → IsMoved raw new n i to → IsSound new n
 IsSound-moved raw new n i to can is =
     let room = can.sound.room in
@@ -149,10 +143,10 @@ IsSound-moved raw new n i to can is =
           elim (cases_eq j i) [
             | inl e ↦
                 let ne : k ≢ i = omega arith in
-                AreApart-at _ _ d (desc_at raw k) (ap (desc_at new) e ∙ is.here) (is.other k small ne) (elim (can.gap k small ne) [ inl h ↦ inr h | inr h ↦ inl (omega arith) ])
+                AreApart-same _ _ d (desc_at raw k) (ap (desc_at new) e ∙ is.here) (is.other k small ne) (elim (can.gap k small ne) [ inl h ↦ inr h | inr h ↦ inl (omega arith) ])
             | inr ne ↦ elim (cases_eq k i) [
-              | inl e ↦ AreApart-at _ _ (desc_at raw j) d (is.other j j_small ne) (ap (desc_at new) e ∙ is.here) (elim (can.gap j j_small ne) [ inl h ↦ inl h | inr h ↦ inr (omega arith) ])
-              | inr nk ↦ AreApart-at _ _ (desc_at raw j) (desc_at raw k) (is.other j j_small ne) (is.other k small nk) (can.sound.apart j k lt small)
+              | inl e ↦ AreApart-same _ _ (desc_at raw j) d (is.other j j_small ne) (ap (desc_at new) e ∙ is.here) (elim (can.gap j j_small ne) [ inl h ↦ inl h | inr h ↦ inr (omega arith) ])
+              | inr nk ↦ AreApart-same _ _ (desc_at raw j) (desc_at raw k) (is.other j j_small ne) (is.other k small nk) (can.sound.apart j k lt small)
             ]
           ];
     }

@@ -1,6 +1,6 @@
 -- A payload that changes where it stands: with more bytes behind it, or with others and no more.
-use Rattle.std.proofs.Common.{◌≡◌, ℕ, ◌+◌, ◌-◌, ◌*◌, ◌++◌, ◌<◌, ◌≤◌, ◌⊎◌, inl, inr, List, length, length-drop, get_or, set, take, drop, sum_by, max, Some, ap, sym, ◌∙◌, subst, arith}
-use Rattle.std.specs.Prelude.{remove}
+use Rattle.std.proofs.Common.{◌≡◌, ℕ, ◌+◌, ◌-◌, ◌*◌, ◌++◌, ◌<◌, ◌≤◌, ◌⊎◌, inl, inr, List, length, length-drop, get_or, set, take, drop, sum_by, max, Some, None, ap, sym, ◌∙◌, subst, arith}
+use Rattle.std.specs.Prelude.{remove, IfSome}
 use Rattle.std.proofs.lemmas.List.{take_all, take-take}
 use Rattle.std.proofs.lemmas.List.Sums.{sum_by-remove}
 use Rattle.htx_model.specs.Block.{Data, EndHeaders, kind_of, value_of, payload_len}
@@ -10,7 +10,8 @@ use Rattle.htx_model.specs.Blocks.{load, block_at}
 use Rattle.htx_space.specs.declared.space.Desc.{Desc}
 use Rattle.htx_space.specs.Windows.{desc_at, window}
 use Rattle.htx_layout.specs.Raw.{Tells, Describes, info_len, addr_in, len_in, block_in, block_of, payload_in, payload_of, blocks_of, addrs_of}
-use Rattle.htx_layout.specs.Sound.{IsLaid, IsTop, end_of}
+use Rattle.htx_layout.specs.Sound.{IsLaid, IsTop, IsKnown, StaysLow, end_of}
+use Rattle.htx_layout.specs.declared.scan.Ends.{Ends}
 use Rattle.htx_layout.specs.Place.{stays}
 use Rattle.htx_layout.specs.Moves.{IsRenewed}
 use Rattle.htx_layout.specs.Longer.{IsLonger, kept_bytes}
@@ -23,6 +24,7 @@ use Rattle.htx_layout.proofs.StayLemmas.{MayGrow, stays_grows}
 use Rattle.htx_layout.proofs.RoomLemmas.{within_own}
 use Rattle.htx_layout.proofs.GrowLemmas.{renewed_blocks, renewed_addrs, stayed_addrs, renewed_laid}
 use Rattle.htx_layout.proofs.TopLemmas.{top_longer, top_shorter, top_cut}
+use Rattle.htx_layout.proofs.KnownLemmas.{unknown, known_same, known_with}
 use Rattle.htx_layout.specs.Contents.{Contents}
 use Rattle.htx_layout.specs.Whole.{IsWhole}
 use Rattle.htx_layout.specs.declared.array.Array.TheInside.{Inside}
@@ -66,7 +68,7 @@ kept_all a s i keep more piece whole view h e f =
     (λ j. take (e j) (payload_in a.space i) ++ f j) ∙ ap (λ (p : List ℕ). p ++ piece) (take_all (len_in a.space i) (payload_in a.space i) (omega arith))
 
 pub record IsExtended (a : Inside) (s : Contents) (i info f : ℕ) (piece new : List ℕ) : Type 0 where
-  pub whole : (l t : ℕ) → l ≡ a.load + length piece → t ≡ max a.ends.top (addr_in a.space i + info_len info) → IsWhole (record { space = new; count = a.count; load = l; ends = record { front = f; top = t } })
+  pub whole : (l : ℕ) (e : Ends) → l ≡ a.load + length piece → e.front ≡ f → e.top ≡ max a.ends.top (addr_in a.space i + info_len info) → IfSome e.low (StaysLow a.ends (record { addr = addr_in a.space i; front = f })) → IsWhole (record { space = new; count = a.count; load = l; ends = e })
   pub blocks : blocks_of new a.count ≡ set s.blocks i (block_of info (payload_of (block_at s.blocks i) ++ piece))
   pub size : length new ≡ s.size
   pub addrs : addrs_of new a.count ≡ s.addrs
@@ -96,7 +98,7 @@ extended a s i info f keep more piece new whole view h sum stay told fits keeps 
     let loaded = num.loaded in
     let whole_size = num.size in
     record {
-      whole = λ l top e e_top. whole_set raw new n i a.load l f top (info_len info) (block_of info payload) laid.told whole.loaded t.small blocks made laid1 (omega arith) (subst (IsTop new n) (sym e_top) topped) (omega arith);
+      whole = λ l e more e_front e_top e_low. whole_set raw new n i a.load l e (info_len info) (block_of info payload) laid.told whole.loaded t.small blocks made (subst (IsLaid new n) (sym e_front) laid1) (omega arith) (subst (IsTop new n) (sym e_top) topped) (subst (λ (x : ℕ). IsKnown new n x e.low) (sym e_front) (known_with raw new n a.ends (record { addr = addr_in raw i; front = f }) e.low whole.known addrs e_low)) (omega arith);
       blocks = blocks ∙ (λ j. set ((ap (λ (x : Contents). x.blocks) view) j) i (block_of info (sym t.bytes j ++ piece)));
       size = size ∙ ap (λ (x : Contents). x.size) view;
       addrs = addrs ∙ ap (λ (x : Contents). x.addrs) view;
@@ -107,7 +109,8 @@ extended a s i info f keep more piece new whole view h sum stay told fits keeps 
 pub record IsRewritten (a : Inside) (s : Contents) (i keep info : ℕ) (more new : List ℕ) : Type 0 where
   pub laid : IsLaid new a.count a.ends.front
   pub stayed : end_of (desc_at a.space i) < a.ends.top → IsTop new a.count a.ends.top
-  pub whole : (l t : ℕ) → l + len_in a.space i ≡ a.load + info_len info → IsTop new a.count t → IsWhole (record { space = new; count = a.count; load = l; ends = record { front = a.ends.front; top = t } })
+  pub known : IsKnown new a.count a.ends.front a.ends.low
+  pub whole : (l : ℕ) (e : Ends) → l + len_in a.space i ≡ a.load + info_len info → IsLaid new a.count e.front → IsTop new a.count e.top → IsKnown new a.count e.front e.low → IsWhole (record { space = new; count = a.count; load = l; ends = e })
   pub blocks : blocks_of new a.count ≡ set s.blocks i (block_of info (take keep (payload_of (block_at s.blocks i)) ++ more))
   pub size : length new ≡ s.size
   pub addrs : addrs_of new a.count ≡ s.addrs
@@ -135,7 +138,8 @@ rewritten a s i keep info more new whole view h shorter some told is =
     record {
       laid = laid1;
       stayed = λ below. top_shorter raw new n i a.ends.top a.ends.front (block_of info payload) laid.told whole.topped t.small blocks addrs (omega arith) laid1 below;
-      whole = λ l top e topped. whole_set raw new n i a.load l a.ends.front top (info_len info) (block_of info payload) laid.told whole.loaded t.small blocks made laid1 e topped (omega arith);
+      known = known_same raw new n a.ends.front a.ends.low addrs whole.known;
+      whole = λ l e sum now topped known. whole_set raw new n i a.load l e (info_len info) (block_of info payload) laid.told whole.loaded t.small blocks made now sum topped known (omega arith);
       blocks = blocks ∙ (λ j. set ((ap (λ (x : Contents). x.blocks) view) j) i (block_of info (take keep (sym t.bytes j) ++ more)));
       size = size ∙ ap (λ (x : Contents). x.size) view;
       addrs = addrs ∙ ap (λ (x : Contents). x.addrs) view;
@@ -144,7 +148,7 @@ rewritten a s i keep info more new whole view h shorter some told is =
 -- ---- without the first bytes
 
 pub record IsTrimmed (a : Inside) (s : Contents) (i k info : ℕ) (new : List ℕ) : Type 0 where
-  pub whole : (l : ℕ) → l + k ≡ a.load → IsWhole (record { space = new; count = a.count; load = l; ends = record { front = a.ends.front; top = a.ends.top } })
+  pub whole : (l : ℕ) → l + k ≡ a.load → IsWhole (record { space = new; count = a.count; load = l; ends = record { front = a.ends.front; top = a.ends.top; low = None } })
   pub blocks : blocks_of new a.count ≡ set s.blocks i (block_of info (drop k (payload_of (block_at s.blocks i))))
   pub size : length new ≡ s.size
   pub addrs : addrs_of new a.count ≡ set s.addrs i (get_or s.addrs i 0 + k)
@@ -171,7 +175,7 @@ trimmed a s i k info new whole view h some sum told is =
     let weighs = t.weighs in
     let topped = top_cut raw new n i (addr_in raw i + k) a.ends.top a.ends.front (block_of info payload) laid.told whole.topped t.small blocks addrs (omega arith) laid1 in
     record {
-      whole = λ l e. whole_set raw new n i a.load l a.ends.front a.ends.top (info_len info) (block_of info payload) laid.told whole.loaded t.small blocks made laid1 (omega arith) topped (omega arith);
+      whole = λ l e. whole_set raw new n i a.load l _ (info_len info) (block_of info payload) laid.told whole.loaded t.small blocks made laid1 (omega arith) topped (unknown new n a.ends.front) (omega arith);
       blocks = blocks ∙ (λ j. set ((ap (λ (x : Contents). x.blocks) view) j) i (block_of info (drop k (sym t.bytes j))));
       size = size ∙ ap (λ (x : Contents). x.size) view;
       addrs = addrs ∙ (λ j. set ((ap (λ (x : Contents). x.addrs) view) j) i (sym t.addr j + k));

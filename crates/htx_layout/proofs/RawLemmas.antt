@@ -139,7 +139,7 @@ had raw n i k j room h small =
       | inr ge ↦ record { number = j + k; small = omega arith; same = desc_at-unlisted_above raw n i k j room ge (omega arith); below = λ (lt : j < i). absurd (omega arith); above = λ _. refl }
     ]
 
-AreApart-same : (a b c d : Desc) → a ≡ c → b ≡ d → AreApart c d → AreApart a b
+pub AreApart-same : (a b c d : Desc) → a ≡ c → b ≡ d → AreApart c d → AreApart a b
 AreApart-same a b c d e f h = subst (λ (x : Desc). AreApart x b) (sym e) (subst (λ (y : Desc). AreApart c y) (sym f) h)
 
 pub IsSound-unlisted : (raw : List ℕ) (n i k : ℕ) → IsSound raw n → i + k ≤ n → IsSound (unlisted raw n i k) (n - k)

@@ -49,64 +49,40 @@ data_less b info n d e small part =
 -- ---- a field
 
 bytes_by : (b : Block) → IsFieldKind (kind_of b) → payload_of b ≡ name_of b ++ value_of b
-bytes_by (RequestLine x y z) h = absurd h
-bytes_by (ResponseLine x y z) h = absurd h
 bytes_by (Header n v) h = refl
-bytes_by EndHeaders h = absurd h
-bytes_by (Data p) h = absurd h
 bytes_by (Trailer n v) h = refl
-bytes_by EndTrailers h = absurd h
+bytes_by b h = absurd h
 
 pub field_long : (b : Block) → IsFieldKind (kind_of b) → payload_len b ≡ length (name_of b) + length (value_of b)
 field_long b h = sym (payload_long b) ∙ ap length (bytes_by b h) ∙ length-append (name_of b) (value_of b)
 
 with_value_is : (b : Block) (w : List ℕ) → IsFieldKind (kind_of b) → with_value b w ≡ block (kind_of b) (name_of b) w []
-with_value_is (RequestLine x y z) w h = absurd h
-with_value_is (ResponseLine x y z) w h = absurd h
 with_value_is (Header n v) w h = refl
-with_value_is EndHeaders w h = absurd h
-with_value_is (Data p) w h = absurd h
 with_value_is (Trailer n v) w h = refl
-with_value_is EndTrailers w h = absurd h
+with_value_is b w h = absurd h
 
 pub field_len : (k : Kind) (n w : List ℕ) → IsFieldKind k → payload_len (block k n w []) ≡ length n + length w
-field_len kinds.RequestLine n w h = absurd h
-field_len kinds.ResponseLine n w h = absurd h
 field_len kinds.Header n w h = refl
-field_len kinds.EndHeaders n w h = absurd h
-field_len kinds.Data n w h = absurd h
 field_len kinds.Trailer n w h = refl
-field_len kinds.EndTrailers n w h = absurd h
+field_len k n w h = absurd h
 
 pub line_len : (k : Kind) (a b c : List ℕ) → IsLineKind k → payload_len (block k a b c) ≡ 12 + length a + length b + length c
 line_len kinds.RequestLine a b c h = refl
 line_len kinds.ResponseLine a b c h = refl
-line_len kinds.Header a b c h = absurd h
-line_len kinds.EndHeaders a b c h = absurd h
-line_len kinds.Data a b c h = absurd h
-line_len kinds.Trailer a b c h = absurd h
-line_len kinds.EndTrailers a b c h = absurd h
+line_len k a b c h = absurd h
 
 pub end_len : (k : Kind) → IsEndKind k → payload_len (block k [] [] []) ≡ 1
-end_len kinds.RequestLine h = absurd h
-end_len kinds.ResponseLine h = absurd h
-end_len kinds.Header h = absurd h
 end_len kinds.EndHeaders h = refl
-end_len kinds.Data h = absurd h
-end_len kinds.Trailer h = absurd h
 end_len kinds.EndTrailers h = refl
+end_len k h = absurd h
 
 pub with_value_long : (b : Block) (w : List ℕ) → IsFieldKind (kind_of b) → payload_len (with_value b w) ≡ length (name_of b) + length w
 with_value_long b w h = ap payload_len (with_value_is b w h) ∙ field_len (kind_of b) (name_of b) w h
 
 name_by : (k : Kind) (info : ℕ) → IsFieldKind k → name_len info ≤ len_by k info
-name_by kinds.RequestLine info h = absurd h
-name_by kinds.ResponseLine info h = absurd h
 name_by kinds.Header info h = omega arith
-name_by kinds.EndHeaders info h = absurd h
-name_by kinds.Data info h = absurd h
 name_by kinds.Trailer info h = omega arith
-name_by kinds.EndTrailers info h = absurd h
+name_by k info h = absurd h
 
 name_part : (info : ℕ) → IsFieldKind (info_kind info) → name_len info ≤ info_len info
 unfolding info_len

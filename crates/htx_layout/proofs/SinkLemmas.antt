@@ -7,6 +7,7 @@ use Rattle.htx_space.proofs.WindowLemmas.{length-overwritten, length-window, win
 use Rattle.htx_layout.specs.Raw.{addr_in, len_in, info_len}
 use Rattle.htx_layout.specs.Sound.{IsSound, AreApart, end_of}
 use Rattle.htx_layout.specs.Moves.{IsShifted, IsSunk, CanSink, sunk}
+use Rattle.htx_layout.proofs.RawLemmas.{AreApart-same}
 use Rattle.htx_layout.proofs.PackLemmas.{behind_other}
 
 -- ---- the three cases of an address
@@ -210,9 +211,6 @@ sinking_ends raw cur n i end k can s all = record {
 pub sunk_shifts : (raw new : List ℕ) (n i end : ℕ) → IsSunk raw new n i end → IsShifted raw new n
 sunk_shifts raw new n i end is = record { size = is.size; info = λ j small. ap (λ (d : Desc). d.info) (is.desc j small); payload = is.payload }
 
-AreApart-as : (a b c d : Desc) → a ≡ c → b ≡ d → AreApart c d → AreApart a b
-AreApart-as a b c d e f h = subst (λ (x : Desc). AreApart x b) (sym e) (subst (λ (y : Desc). AreApart c y) (sym f) h)
-
 pub IsSound-sunk : (raw new : List ℕ) (n i end : ℕ) → CanSink raw n i end → IsSunk raw new n i end → IsSound new n
 IsSound-sunk raw new n i end can is =
     let room = can.room in
@@ -220,5 +218,5 @@ IsSound-sunk raw new n i end can is =
     record {
       room = omega arith;
       within = λ j small. let ends = sunk_ends raw n i end j can small in let same = ap end_of (is.desc j small) in omega arith;
-      apart = λ j k lt small. AreApart-as _ _ _ _ (is.desc j (omega arith)) (is.desc k small) (sunk_apart raw n i end j k can lt small);
+      apart = λ j k lt small. AreApart-same _ _ _ _ (is.desc j (omega arith)) (is.desc k small) (sunk_apart raw n i end j k can lt small);
     }

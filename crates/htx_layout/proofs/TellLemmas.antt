@@ -15,12 +15,7 @@ use Rattle.htx_layout.proofs.RawLemmas.{length-listed, get_or-listed}
 
 kind_by : (k : Kind) (info : ℕ) (p : List ℕ) → kind_of (block_by k info p) ≡ k
 kind_by kinds.RequestLine info p = refl
-kind_by kinds.ResponseLine info p = refl
-kind_by kinds.Header info p = refl
-kind_by kinds.EndHeaders info p = refl
-kind_by kinds.Data info p = refl
-kind_by kinds.Trailer info p = refl
-kind_by kinds.EndTrailers info p = refl
+kind_by k info p = refl
 
 pub kind_told : (info : ℕ) (p : List ℕ) → kind_of (block_of info p) ≡ info_kind info
 unfolding block_of
@@ -29,13 +24,9 @@ kind_told info p = kind_by (info_kind info) info p
 -- ---- the name
 
 name_by : (k : Kind) (info : ℕ) (p : List ℕ) → IsFieldKind k → name_of (block_by k info p) ≡ take (name_len info) p
-name_by kinds.RequestLine info p h = absurd h
-name_by kinds.ResponseLine info p h = absurd h
 name_by kinds.Header info p h = refl
-name_by kinds.EndHeaders info p h = absurd h
-name_by kinds.Data info p h = absurd h
 name_by kinds.Trailer info p h = refl
-name_by kinds.EndTrailers info p h = absurd h
+name_by k info p h = absurd h
 
 pub name_told : (info : ℕ) (p : List ℕ) → IsFieldKind (info_kind info) → name_of (block_of info p) ≡ take (name_len info) p
 unfolding block_of
@@ -46,11 +37,7 @@ name_told info p h = name_by (info_kind info) info p h
 line_by : (k : Kind) (info : ℕ) (p : List ℕ) → IsLineKind k → line_of (block_by k info p) ≡ (window p 12 (word_at p 0), window p (12 + word_at p 0) (word_at p 4), window p (12 + word_at p 0 + word_at p 4) (word_at p 8))
 line_by kinds.RequestLine info p h = refl
 line_by kinds.ResponseLine info p h = refl
-line_by kinds.Header info p h = absurd h
-line_by kinds.EndHeaders info p h = absurd h
-line_by kinds.Data info p h = absurd h
-line_by kinds.Trailer info p h = absurd h
-line_by kinds.EndTrailers info p h = absurd h
+line_by k info p h = absurd h
 
 pub line_told : (info : ℕ) (p : List ℕ) → IsLineKind (info_kind info) → line_of (block_of info p) ≡ (window p 12 (word_at p 0), window p (12 + word_at p 0) (word_at p 4), window p (12 + word_at p 0 + word_at p 4) (word_at p 8))
 unfolding block_of
@@ -78,11 +65,7 @@ fits_by kinds.ResponseLine info p h e len small =
     let c = window p (12 + word_at p 0 + word_at p 4) (word_at p 8) in
     let words = words_are p a b c e (omega arith) (omega arith) (omega arith) in
     omega arith
-fits_by kinds.Header info p h e len small = absurd h
-fits_by kinds.EndHeaders info p h e len small = absurd h
-fits_by kinds.Data info p h e len small = absurd h
-fits_by kinds.Trailer info p h e len small = absurd h
-fits_by kinds.EndTrailers info p h e len small = absurd h
+fits_by k info p h e len small = absurd h
 
 pub line_fits : (info : ℕ) (p : List ℕ) → Tells info p → IsLineKind (info_kind info) → info_len info ≡ length p → length p ≤ 262144 → 12 + word_at p 0 + word_at p 4 + word_at p 8 ≤ length p
 unfolding block_of

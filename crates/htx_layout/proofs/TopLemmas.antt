@@ -1,5 +1,5 @@
 -- The greatest end of a payload after an edit of the list.
-use Rattle.std.proofs.Common.{◌≡◌, ℕ, zero, suc, ◌+◌, ◌-◌, ◌<◌, ◌≤◌, inl, inr, List, [], ◌∷◌, length, get_or, set, max, subst, arith}
+use Rattle.std.proofs.Common.{refl, ◌≡◌, ◌∙◌, ℕ, zero, suc, ◌+◌, ◌-◌, ◌<◌, ◌≤◌, inl, inr, List, [], ◌∷◌, length, drop, get_or, set, max, subst, arith}
 use Rattle.std.specs.Prelude.{insert, remove}
 use Rattle.std.proofs.lemmas.Bool.{cases_lt}
 use Rattle.htx_model.specs.Block.{Block, payload_len}
@@ -17,45 +17,47 @@ use Rattle.htx_layout.proofs.TellLemmas.{len_told, addr_told}
 
 -- no payload ends behind the top
 pub end-top : (bs : List Block) (xs : List ℕ) (i : ℕ) → i < length bs → length xs ≡ length bs → get_or xs i 0 + payload_len (block_at bs i) ≤ top bs xs
-end-top [] xs i h e = absurd (omega arith)
-end-top (b ∷ bs) [] i h e = absurd (omega arith)
 end-top (b ∷ bs) (a ∷ xs) zero h e = omega arith
 end-top (b ∷ bs) (a ∷ xs) (suc i) h e = let rest = end-top bs xs i (omega arith) (omega arith) in omega arith
+end-top bs xs i h e = absurd (omega arith)
 
 pub top-insert : (bs : List Block) (xs : List ℕ) (i : ℕ) (b : Block) (a : ℕ) → i ≤ length bs → length xs ≡ length bs → top (insert bs i b) (insert xs i a) ≡ max (top bs xs) (a + payload_len b)
 top-insert [] [] zero b a h e = omega arith
-top-insert [] [] (suc i) b a h e = absurd (omega arith)
-top-insert [] (y ∷ xs) i b a h e = absurd (omega arith)
-top-insert (x ∷ bs) [] i b a h e = absurd (omega arith)
 top-insert (x ∷ bs) (y ∷ xs) zero b a h e = omega arith
 top-insert (x ∷ bs) (y ∷ xs) (suc i) b a h e = let rest = top-insert bs xs i b a (omega arith) (omega arith) in omega arith
+top-insert bs xs i b a h e = absurd (omega arith)
 
 pub top-remove : (bs : List Block) (xs : List ℕ) (i : ℕ) → i < length bs → length xs ≡ length bs → max (top (remove bs i) (remove xs i)) (get_or xs i 0 + payload_len (block_at bs i)) ≡ top bs xs
-top-remove [] xs i h e = absurd (omega arith)
-top-remove (b ∷ bs) [] i h e = absurd (omega arith)
 top-remove (b ∷ bs) (a ∷ xs) zero h e = omega arith
 top-remove (b ∷ bs) (a ∷ xs) (suc i) h e = let rest = top-remove bs xs i (omega arith) (omega arith) in omega arith
+top-remove bs xs i h e = absurd (omega arith)
 
 -- one block is another, where its payload stands
 pub top-set : (bs : List Block) (xs : List ℕ) (i : ℕ) (b : Block) → i < length bs → length xs ≡ length bs →
     max (top (set bs i b) xs) (get_or xs i 0 + payload_len (block_at bs i)) ≡ max (top bs xs) (get_or xs i 0 + payload_len b)
-top-set [] xs i b h e = absurd (omega arith)
-top-set (x ∷ bs) [] i b h e = absurd (omega arith)
 top-set (x ∷ bs) (a ∷ xs) zero b h e = omega arith
 top-set (x ∷ bs) (a ∷ xs) (suc i) b h e = let rest = top-set bs xs i b (omega arith) (omega arith) in omega arith
+top-set bs xs i b h e = absurd (omega arith)
 
 pub top-longer : (bs : List Block) (xs : List ℕ) (i : ℕ) (b : Block) → i < length bs → length xs ≡ length bs → payload_len (block_at bs i) ≤ payload_len b → top (set bs i b) xs ≡ max (top bs xs) (get_or xs i 0 + payload_len b)
-top-longer [] xs i b h e f = absurd (omega arith)
-top-longer (x ∷ bs) [] i b h e f = absurd (omega arith)
 top-longer (x ∷ bs) (y ∷ xs) zero b h e f = omega arith
 top-longer (x ∷ bs) (y ∷ xs) (suc i) b h e f = let rest = top-longer bs xs i b (omega arith) (omega arith) f in omega arith
+top-longer bs xs i b h e f = absurd (omega arith)
 
 -- one block is another that ends where it ended
 pub top-stays : (bs : List Block) (xs : List ℕ) (i : ℕ) (b : Block) (a : ℕ) → i < length bs → length xs ≡ length bs → a + payload_len b ≡ get_or xs i 0 + payload_len (block_at bs i) → top (set bs i b) (set xs i a) ≡ top bs xs
-top-stays [] xs i b a h e f = absurd (omega arith)
-top-stays (x ∷ bs) [] i b a h e f = absurd (omega arith)
 top-stays (x ∷ bs) (y ∷ xs) zero b a h e f = omega arith
 top-stays (x ∷ bs) (y ∷ xs) (suc i) b a h e f = let rest = top-stays bs xs i b a (omega arith) (omega arith) f in omega arith
+top-stays bs xs i b a h e f = absurd (omega arith)
+
+pub top-drop : (bs : List Block) (xs : List ℕ) (k : ℕ) → length xs ≡ length bs → k ≤ length bs → ((j : ℕ) → j < k → get_or xs j 0 + payload_len (block_at bs j) < top bs xs) → top (drop k bs) (drop k xs) ≡ top bs xs
+top-drop bs xs zero e h below = refl
+top-drop [] xs (suc k) e h below = absurd (omega arith)
+top-drop (b ∷ bs) [] (suc k) e h below = absurd (omega arith)
+top-drop (b ∷ bs) (a ∷ xs) (suc k) e h below =
+    let here = below 0 (omega arith) in
+    let same : top bs xs ≡ top (b ∷ bs) (a ∷ xs) = omega arith in
+    top-drop bs xs k (omega arith) (omega arith) (λ j small. let one = below (suc j) (omega arith) in omega arith) ∙ same
 
 -- ---- the array
 
@@ -111,6 +113,14 @@ top_gone raw new n i t f told was small blocks addrs laid below =
     let is = was.is in
     let now : top (blocks_of new (n - 1)) (addrs_of new (n - 1)) ≡ top (remove (blocks_of raw n) i) (remove (addrs_of raw n) i) = (λ j. top (blocks j) (addrs j)) in
     is_top new (n - 1) t laid.sound laid.told (omega arith)
+
+-- the first blocks, which ended below the top, are gone
+pub top_dropped : (raw new : List ℕ) (n k t f : ℕ) → IsTold raw n → IsTop raw n t → k ≤ n → blocks_of new (n - k) ≡ drop k (blocks_of raw n) → addrs_of new (n - k) ≡ drop k (addrs_of raw n) → IsLaid new (n - k) f → ((j : ℕ) → j < k → end_of (desc_at raw j) < t) → IsTop new (n - k) t
+top_dropped raw new n k t f told was small blocks addrs laid below =
+    let is = was.is in
+    let kept = top-drop (blocks_of raw n) (addrs_of raw n) k (omega (arith, length-listed (block_in raw) n, length-listed (addr_in raw) n)) (omega (arith, length-listed (block_in raw) n)) (λ j h. let end = ends raw n j told (omega arith) in let under = below j h in omega arith) in
+    let now : top (blocks_of new (n - k)) (addrs_of new (n - k)) ≡ top (drop k (blocks_of raw n)) (drop k (addrs_of raw n)) = (λ j. top (blocks j) (addrs j)) in
+    is_top new (n - k) t laid.sound laid.told (omega arith)
 
 -- a block that ended below the top is no longer than it was
 pub top_shorter : (raw new : List ℕ) (n i t f : ℕ) (b : Block) → IsTold raw n → IsTop raw n t → i < n → blocks_of new n ≡ set (blocks_of raw n) i b → addrs_of new n ≡ addrs_of raw n → payload_len b ≤ len_in raw i → IsLaid new n f → end_of (desc_at raw i) < t → IsTop new n t

@@ -16,12 +16,7 @@ use Rattle.htx_layout.proofs.MoveLemmas.{listed-set, listed-same, Tells-same}
 
 size_within : (k : Kind) (info : ℕ) → value_off k info + value_size k info ≤ len_by k info
 size_within kinds.RequestLine info = omega arith
-size_within kinds.ResponseLine info = omega arith
-size_within kinds.Header info = omega arith
-size_within kinds.EndHeaders info = omega arith
-size_within kinds.Data info = omega arith
-size_within kinds.Trailer info = omega arith
-size_within kinds.EndTrailers info = omega arith
+size_within k info = omega arith
 
 -- a field's two parts after the second was written
 front_part : (raw w : List ℕ) (a n v : ℕ) → a + (n + v) ≤ length raw → take n (window (overwritten raw (a + n) w) a (n + v)) ≡ take n (window raw a (n + v))
@@ -45,10 +40,6 @@ whole_part raw w a v e fits =
 
 block_written : (k : Kind) (info a : ℕ) (raw w : List ℕ) → HasValue (kind_of (block_by k info (window raw a (len_by k info)))) → length w ≡ value_size k info → a + len_by k info ≤ length raw
     → block_by k info (window (overwritten raw (a + value_off k info) w) a (len_by k info)) ≡ with_value (block_by k info (window raw a (len_by k info))) w
-block_written kinds.RequestLine info a raw w h e fits = absurd h
-block_written kinds.ResponseLine info a raw w h e fits = absurd h
-block_written kinds.EndHeaders info a raw w h e fits = absurd h
-block_written kinds.EndTrailers info a raw w h e fits = absurd h
 block_written kinds.Data info a raw w h e fits = ap (λ p. block kinds.Data p [] []) (whole_part raw w a (info % 2 ^ 28) e fits)
 block_written kinds.Header info a raw w h e fits =
     let f = front_part raw w a (name_len info) (value_len info) fits in
@@ -58,24 +49,19 @@ block_written kinds.Trailer info a raw w h e fits =
     let f = front_part raw w a (name_len info) (value_len info) fits in
     let b = back_part raw w a (name_len info) (value_len info) e fits in
     λ j. block kinds.Trailer (f j) (b j) []
+block_written k info a raw w h e fits = absurd h
 
 value_by : (k : Kind) (info a : ℕ) (raw : List ℕ) → HasValue (kind_of (block_by k info (window raw a (len_by k info)))) → value_of (block_by k info (window raw a (len_by k info))) ≡ window raw (a + value_off k info) (value_size k info)
-value_by kinds.RequestLine info a raw h = absurd h
-value_by kinds.ResponseLine info a raw h = absurd h
-value_by kinds.EndHeaders info a raw h = absurd h
-value_by kinds.EndTrailers info a raw h = absurd h
 value_by kinds.Data info a raw h = let none : a ≡ a + 0 = omega arith in ap (λ k. window raw k (info % 2 ^ 28)) none
 value_by kinds.Header info a raw h = drop-take (name_len info) (value_len info) (drop a raw) ∙ ap (take (value_len info)) (drop-drop (name_len info) a raw)
 value_by kinds.Trailer info a raw h = drop-take (name_len info) (value_len info) (drop a raw) ∙ ap (take (value_len info)) (drop-drop (name_len info) a raw)
+value_by k info a raw h = absurd h
 
 pub payload-with_value : (b : Block) (w : List ℕ) → length w ≡ length (value_of b) → payload_len (with_value b w) ≡ payload_len b
-payload-with_value (RequestLine a b c) w e = refl
-payload-with_value (ResponseLine a b c) w e = refl
 payload-with_value (Header n v) w e = omega arith
-payload-with_value EndHeaders w e = refl
 payload-with_value (Data p) w e = e
 payload-with_value (Trailer n v) w e = omega arith
-payload-with_value EndTrailers w e = refl
+payload-with_value b w e = refl
 
 -- what holds where the value of block i may be written
 pub record CanWrite (raw : List ℕ) (n i : ℕ) (w : List ℕ) : Type 0 where
@@ -156,31 +142,20 @@ IsSound-over raw n i w can =
 -- ---- the word and the bytes of a block with another value
 
 info-with_value : (b : Block) (w : List ℕ) → length w ≡ length (value_of b) → info_of (with_value b w) ≡ info_of b
-info-with_value (RequestLine a b c) w e = refl
-info-with_value (ResponseLine a b c) w e = refl
 info-with_value (Header n v) w e = ap (λ (m : ℕ). 2 ^ 28 * 2 + (256 * m + length n)) e
-info-with_value EndHeaders w e = refl
 info-with_value (Data p) w e = ap (λ (m : ℕ). 2 ^ 28 * 4 + m) e
 info-with_value (Trailer n v) w e = ap (λ (m : ℕ). 2 ^ 28 * 5 + (256 * m + length n)) e
-info-with_value EndTrailers w e = refl
+info-with_value b w e = refl
 
 kind-with_value : (b : Block) (w : List ℕ) → kind_of (with_value b w) ≡ kind_of b
 kind-with_value (RequestLine a b c) w = refl
-kind-with_value (ResponseLine a b c) w = refl
-kind-with_value (Header n v) w = refl
-kind-with_value EndHeaders w = refl
-kind-with_value (Data p) w = refl
-kind-with_value (Trailer n v) w = refl
-kind-with_value EndTrailers w = refl
+kind-with_value b w = refl
 
 bytes_by : (k : Kind) (info : ℕ) (p : List ℕ) → HasValue (kind_of (block_by k info p)) → p ≡ payload_of (block_by k info p)
-bytes_by kinds.RequestLine info p h = absurd h
-bytes_by kinds.ResponseLine info p h = absurd h
 bytes_by kinds.Header info p h = sym (take-append-drop (name_len info) p)
-bytes_by kinds.EndHeaders info p h = absurd h
 bytes_by kinds.Data info p h = refl
 bytes_by kinds.Trailer info p h = sym (take-append-drop (name_len info) p)
-bytes_by kinds.EndTrailers info p h = absurd h
+bytes_by k info p h = absurd h
 
 pub bytes_of : (info : ℕ) (p : List ℕ) → HasValue (kind_of (block_of info p)) → p ≡ payload_of (block_of info p)
 unfolding block_of

@@ -6,10 +6,12 @@ use Rattle.htx_model.proofs.Loads.{load-payloads, load-set, load-remove, load-ta
 use Rattle.htx_space.specs.declared.space.Desc.{Desc}
 use Rattle.htx_space.specs.Windows.{desc_at}
 use Rattle.htx_layout.specs.Raw.{Tells, Describes, info_kind, block_of, addr_in, block_in, payload_in, payload_of, len_in, blocks_of, addrs_of}
-use Rattle.htx_layout.specs.Sound.{IsLaid, IsTold, IsTop}
+use Rattle.htx_layout.specs.Sound.{IsLaid, IsTold, IsTop, IsKnown}
+use Rattle.htx_layout.specs.declared.scan.Ends.{Ends}
 use Rattle.htx_layout.proofs.RawLemmas.{length-listed}
 use Rattle.htx_layout.proofs.TellLemmas.{kind_told, len_told, block_told, addr_told, listed-take}
 use Rattle.htx_layout.proofs.FrontLemmas.{laid_first}
+use Rattle.htx_layout.proofs.KnownLemmas.{unknown}
 use Rattle.htx_layout.specs.Contents.{Contents}
 use Rattle.htx_layout.specs.Whole.{IsWhole}
 use Rattle.htx_layout.specs.declared.array.Array.TheInside.{Inside}
@@ -108,13 +110,13 @@ first a s m whole view h =
     }
 
 -- one block is another: the load follows
-pub whole_set : (raw new : List ℕ) (n i was loaded front t m : ℕ) (b : Block) → IsTold raw n → was ≡ load (blocks_of raw n) → i < n → blocks_of new n ≡ set (blocks_of raw n) i b → payload_len b ≡ m → IsLaid new n front → loaded + len_in raw i ≡ was + m → IsTop new n t → loaded ≤ length new →
-    IsWhole (record { space = new; count = n; load = loaded; ends = record { front = front; top = t } })
-whole_set raw new n i was loaded front t m b told is small blocks len laid sum topped fits =
+pub whole_set : (raw new : List ℕ) (n i was loaded : ℕ) (e : Ends) (m : ℕ) (b : Block) → IsTold raw n → was ≡ load (blocks_of raw n) → i < n → blocks_of new n ≡ set (blocks_of raw n) i b → payload_len b ≡ m → IsLaid new n e.front → loaded + len_in raw i ≡ was + m → IsTop new n e.top → IsKnown new n e.front e.low → loaded ≤ length new →
+    IsWhole (record { space = new; count = n; load = loaded; ends = e })
+whole_set raw new n i was loaded e m b told is small blocks len laid sum topped known fits =
     let count = length-listed (block_in raw) n in
     let old = len_told raw n i told small in
     let change = load-set (blocks_of raw n) i b (omega arith) in
     let now = ap load blocks in
-    record { laid = laid; loaded = omega arith; topped = topped; fits = fits }
+    record { laid = laid; loaded = omega arith; topped = topped; known = known; fits = fits }
 
-pub ruleset wholes = (length-listed)
+pub ruleset wholes = (length-listed, unknown)

@@ -13,6 +13,7 @@ use Rattle.htx_layout.proofs.RawLemmas.{length-listed}
 use Rattle.htx_layout.proofs.TellLemmas.{len_told}
 use Rattle.htx_layout.proofs.ValueLemmas.{payload-with_value}
 use Rattle.htx_layout.proofs.TopLemmas.{top_same}
+use Rattle.htx_layout.proofs.KnownLemmas.{known_same}
 use Rattle.htx_layout.proofs.LentLemmas.{blocks_lent, addrs_lent, laid_lent}
 use Rattle.htx_layout.specs.Contents.{Contents}
 use Rattle.htx_layout.specs.Written.{written}
@@ -44,4 +45,4 @@ whole_lent a i start len w whole small valued s l =
     let laid = laid_lent raw n a.ends.front i start len w whole.laid small valued s l in
     let old = len_told raw n i whole.laid.told small in
     let topped = top_same raw (overwritten raw start (refill len (window raw start len) w)) n i a.ends.top a.ends.front (with_value (block_at bs i) (refill (length v) v w)) whole.laid.told whole.topped small blocks (addrs_lent raw n i start len w whole.laid.sound small valued s l).0 (omega arith) laid in
-    record { laid = laid; loaded = omega arith; topped = topped; fits = omega arith }
+    record { laid = laid; loaded = omega arith; topped = topped; known = known_same raw (overwritten raw start (refill len (window raw start len) w)) n a.ends.front a.ends.low (addrs_lent raw n i start len w whole.laid.sound small valued s l).0 whole.known; fits = omega arith }

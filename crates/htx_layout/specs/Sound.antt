@@ -1,9 +1,11 @@
 -- What holds of an array between two calls.
-use Rattle.std.specs.Prelude.{ℕ, ◌≡◌, ◌+◌, ◌*◌, ◌<◌, ◌≤◌, ◌⊎◌, List, length}
+use Rattle.std.specs.Prelude.{ℕ, Option, Some, ◌≡◌, ◌+◌, ◌*◌, ◌<◌, ◌≤◌, ◌⊎◌, List, length}
 use Rattle.htx_space.specs.declared.space.Desc.{Desc}
 use Rattle.htx_space.specs.Windows.{desc_at}
 use Rattle.htx_layout.specs.Raw.{info_len, addr_in, len_in, payload_in, blocks_of, addrs_of, Tells}
-use Rattle.htx_layout.specs.Place.{top}
+use Rattle.htx_layout.specs.Place.{top, low}
+use Rattle.htx_layout.specs.declared.scan.Ends.{Ends}
+use Rattle.htx_layout.specs.declared.scan.Spot.{Spot}
 
 -- where the payload ends
 abbrev pub end_of : Desc → ℕ
@@ -35,6 +37,17 @@ pub record IsParted (raw : List ℕ) (n front : ℕ) : Type 0 where
 pub record IsTop (raw : List ℕ) (n t : ℕ) : Type 0 where
   pub is : t ≡ top (blocks_of raw n) (addrs_of raw n)
   pub under : t ≤ length raw
+
+-- the least address at or above `front` is this one, where it is known
+pub record IsKnown (raw : List ℕ) (n front : ℕ) (o : Option ℕ) : Type 0 where
+  pub known : (l : ℕ) → o ≡ Some l → low front (addrs_of raw n) ≡ Some l
+
+-- the least address stays where a payload is put in front of it
+pub record StaysLow (e : Ends) (s : Spot) (l : ℕ) : Type 0 where
+  pub is : e.low ≡ Some l
+  pub beside : s.addr < s.front
+  pub up : e.front ≤ s.front
+  pub under : s.front ≤ l
 
 -- what holds of an array of n blocks between two calls
 pub record IsLaid (raw : List ℕ) (n front : ℕ) : Type 0 where

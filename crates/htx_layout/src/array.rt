@@ -17,8 +17,7 @@ use htx_space::Space;
 use std::alloc::Global;
 use std::marker::Model;
 
-/// Blocks in an array of bytes that is taken once. Their load, the end of the bytes in use at the beginning since
-/// wrapping (or 0), and the greatest end of a payload are kept.
+/// Blocks in an array of bytes that is taken once. Their load and the ends of the bytes in use are kept.
 #[derive(Drop)]
 pub struct Array {
     space: Space,
@@ -55,7 +54,11 @@ impl Array {
             space: Space::new(alloc, size)?,
             count: 0,
             load: 0,
-            ends: Ends { front: 0, top: 0 },
+            ends: Ends {
+                front: 0,
+                top: 0,
+                low: None,
+            },
         })
     }
 

@@ -1,7 +1,7 @@
 ghost use Rattle.std.specs.Prelude.{◌≡◌, ◌+◌, ◌-◌, ◌*◌, ◌^◌, ◌<◌, ◌≤◌, length, sum_by, insert, remove, slice_set};
 ghost use Rattle.htx_model.specs.Block.{payload_len};
 ghost use Rattle.htx_layout.specs.Raw.{blocks_of, addrs_of, block_of, info_len, addr_in, len_in};
-ghost use Rattle.htx_layout.specs.Sound.{IsLaid, IsTop};
+ghost use Rattle.htx_layout.specs.Sound.{IsLaid, IsTop, IsKnown};
 ghost use Rattle.htx_layout.specs.Place.{packed, layout};
 ghost use Rattle.htx_layout.specs.Moves.{IsSite, IsOpen, IsKept};
 ghost use Rattle.htx_layout.specs.Longer.{IsLonger, longer_bytes};
@@ -75,6 +75,7 @@ fn extend_packed(space: &mut Space, count: u32, at: u32, new: Longer<'_>) -> u32
 fn refit(space: &mut Space, count: u32, ends: Ends, at: u32, new: Longer<'_>) -> Ends
     requires laid { IsLaid space.old count ends.front }
     requires topped { IsTop space.old count ends.top }
+    requires known { IsKnown space.old count ends.front ends.low }
     requires longer { IsLonger space.old new }
     requires opens { IsOpen space.old count new.from (info_len new.kept.0) }
     requires within { at ≤ count }
@@ -84,20 +85,21 @@ fn refit(space: &mut Space, count: u32, ends: Ends, at: u32, new: Longer<'_>) ->
     ensures front { result.front ≡ (layout (length space.old) (blocks_of space.old count) (addrs_of space.old count) ends.front (info_len new.entry.info.0)).front }
     ensures laid { IsLaid space.new (count + 1) result.front }
     ensures topped { IsTop space.new (count + 1) result.top }
+    ensures known { IsKnown space.new (count + 1) result.front result.low }
     ensures size { length space.new ≡ length space.old }
 {
     let len = new.info.payload_len();
+    let low = scan::low_for(space, count, ends, len);
+    let ends = Ends { low, ..ends };
     match scan::spot_of(space, count, ends, len) {
         Some(spot) => {
             extend_free(space, count, at, spot, new);
-            Ends {
-                front: spot.front,
-                top: ends.top.max(spot.addr + len),
-            }
+            scan::ends_with(ends, spot, len)
         }
         None => Ends {
             front: 0,
             top: extend_packed(space, count, at, new),
+            low: None,
         },
     }
 }
@@ -106,6 +108,7 @@ fn refit(space: &mut Space, count: u32, ends: Ends, at: u32, new: Longer<'_>) ->
 pub fn extend(space: &mut Space, count: u32, ends: Ends, at: u32, new: Longer<'_>) -> Ends
     requires laid { IsLaid space.old count ends.front }
     requires topped { IsTop space.old count ends.top }
+    requires known { IsKnown space.old count ends.front ends.low }
     requires within { at < count }
     requires longer { IsLonger space.old new }
     requires own { new.from ≡ addr_in space.old at }
@@ -116,11 +119,13 @@ pub fn extend(space: &mut Space, count: u32, ends: Ends, at: u32, new: Longer<'_
     ensures front { result.front ≡ (layout (length space.old) (remove (blocks_of space.old count) at) (remove (addrs_of space.old count) at) ends.front (info_len new.entry.info.0)).front }
     ensures laid { IsLaid space.new count result.front }
     ensures topped { IsTop space.new count result.top }
+    ensures known { IsKnown space.new count result.front result.low }
     ensures size { length space.new ≡ length space.old }
 {
     let end = scan::end_at(space, count, at);
+    let Ends { front, top, .. } = ends;
+    let low = scan::low_without(ends, new.from);
     edits::unlist(space, count, at);
-    let top = scan::top_behind(space, count - 1, ends, end);
-    let front = ends.front;
-    refit(space, count - 1, Ends { front, top }, at, new)
+    let rest = scan::ends_behind(space, count - 1, Ends { front, top, low }, end);
+    refit(space, count - 1, rest, at, new)
 }

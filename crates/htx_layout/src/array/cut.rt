@@ -22,7 +22,11 @@ impl Array {
     {
         self.count = 0;
         self.load = 0;
-        self.ends = Ends { front: 0, top: 0 };
+        self.ends = Ends {
+            front: 0,
+            top: 0,
+            low: None,
+        };
     }
 
     /// Takes out a block.
@@ -46,11 +50,13 @@ impl Array {
         ensures front { self.new.front ≡ self.old.front }
     {
         let len = self.payload_len(at);
+        let addr = self.addr(at);
         let end = scan::end_at(&self.space, self.count, at);
+        self.ends.low = scan::low_without(self.ends, addr);
         edits::unlist(&mut self.space, self.count, at);
         self.count -= 1;
         self.load -= 8 + len;
-        self.ends.top = scan::top_behind(&self.space, self.count, self.ends, end);
+        self.ends = scan::ends_behind(&self.space, self.count, self.ends, end);
     }
 
     /// Brings `front` to 0 where no payload stands at or above it.
@@ -73,7 +79,7 @@ impl Array {
     {
         self.load -= scan::weight_from(&self.space, self.count, at);
         self.count = at;
-        self.ends.top = scan::top_of(&self.space, self.count);
+        self.ends = scan::ends_of(&self.space, self.count, self.ends.front);
         self.settle();
     }
 
@@ -85,10 +91,12 @@ impl Array {
         ensures addrs { self.new.addrs ≡ (dropped self.old n).addrs }
         ensures front { self.new.front ≡ (dropped self.old n).front }
     {
-        self.load -= scan::weight_from(&self.space, n, 0);
+        let gone = scan::weigh(&self.space, n, 0);
         edits::drop_first(&mut self.space, self.count, n);
         self.count -= n;
-        self.ends.top = scan::top_of(&self.space, self.count);
+        self.load -= gone.weight;
+        self.ends.low = None;
+        self.ends = scan::ends_behind(&self.space, self.count, self.ends, gone.end);
         self.settle();
     }
 
@@ -104,6 +112,7 @@ impl Array {
     {
         let info = self.info(at);
         change::trim(&mut self.space, self.count, at, n, Info(info.0 - n));
+        self.ends.low = None;
         self.load -= n;
     }
 
@@ -115,6 +124,10 @@ impl Array {
         ensures front { self.new.front ≡ 0 }
     {
         let top = pack::defrag(&mut self.space, self.count);
-        self.ends = Ends { front: 0, top };
+        self.ends = Ends {
+            front: 0,
+            top,
+            low: None,
+        };
     }
 }

@@ -8,11 +8,12 @@ ghost use Rattle.htx_layout.specs.Place.{stays};
 ghost use Rattle.htx_layout.specs.Addresses.{replaced, placed_anew, extended};
 
 use crate::array::Array;
+use crate::change;
 use crate::longer::{self, Longer};
 use crate::new_block::NewBlock;
 use crate::payload::Payload;
+use crate::scan::{self, Spot};
 use crate::words::Info;
-use crate::{change, scan};
 
 #[tactic(auto, using(crate::proofs::WholeLemmas::wholes))]
 impl Array {
@@ -92,9 +93,12 @@ impl Array {
         let keep = self.payload_len(at);
         let more = Payload::one(piece);
         change::rewrite(&mut self.space, self.count, at, keep, info, &more);
-        self.ends.top = self.ends.top.max(own.addr + info.payload_len());
+        let spot = Spot {
+            addr: own.addr,
+            front,
+        };
+        self.ends = scan::ends_with(self.ends, spot, info.payload_len());
         self.load += piece.len() as u32;
-        self.ends.front = front;
     }
 
     /// Writes bytes behind the first ones of a payload, which becomes no longer.
@@ -113,7 +117,7 @@ impl Array {
         let end = scan::end_at(&self.space, self.count, at);
         let gone = len - keep - more.len();
         change::rewrite(&mut self.space, self.count, at, keep, info, more);
-        self.ends.top = scan::top_behind(&self.space, self.count, self.ends, end);
+        self.ends = scan::ends_behind(&self.space, self.count, self.ends, end);
         self.load -= gone;
     }
 

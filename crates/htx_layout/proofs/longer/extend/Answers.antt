@@ -2,17 +2,18 @@ use Rattle.std.proofs.Common.{◌≡◌, ◌+◌, ◌-◌, ◌++◌, ◌∙◌, 
 use Rattle.std.specs.Prelude.{insert, remove}
 use Rattle.htx_model.specs.Block.{payload_len}
 use Rattle.htx_layout.specs.Raw.{info_len, block_in, block_of, blocks_of, addrs_of}
-use Rattle.htx_layout.specs.Sound.{IsLaid, IsTop}
+use Rattle.htx_layout.specs.Sound.{IsLaid, IsTop, IsKnown}
 use Rattle.htx_layout.specs.Place.{Layout, layout}
 use Rattle.htx_layout.specs.Longer.{longer_bytes}
 use Rattle.htx_layout.proofs.RawLemmas.{length-listed}
 use Rattle.htx_layout.proofs.CarryLemmas.{insert-remove}
 use Rattle.htx_layout.proofs.ExtendLemmas.{gone}
 use Rattle.htx_layout.proofs.TopLemmas.{top_gone}
+use Rattle.htx_layout.proofs.KnownLemmas.{known_gone}
 use Rattle.htx_layout.proofs.longer.extend.Goals as goal
 
-pub top_behind-top-requires : goal.top_behind-top-requires
-top_behind-top-requires c =
+pub ends_behind-rest-requires : goal.ends_behind-rest-requires
+ends_behind-rest-requires c =
     let raw = c.args.space.now in
     let laid = c.unlist.ensures.laid c.args.ends.front c.requires.laid in
     let end = c.end_at-end.ensures.value in
@@ -20,6 +21,7 @@ top_behind-top-requires c =
     record {
       laid = laid;
       stayed = λ below. top_gone raw c.unlist.new.space c.args.count c.args.at c.args.ends.top c.args.ends.front c.requires.laid.told c.requires.topped c.requires.within c.unlist.ensures.blocks c.unlist.ensures.addrs laid (omega arith);
+      known = known_gone raw c.unlist.new.space c.args.count c.args.ends.front c.args.new.from c.args.at c.args.ends.low c.low_without-low.result c.requires.known c.requires.within c.requires.own c.unlist.ensures.addrs c.low_without-low.ensures.kept c.low_without-low.ensures.below;
     }
 
 pub refit-requires : goal.refit-requires
@@ -29,7 +31,8 @@ refit-requires c =
     let size = g.size in
     let fits = c.requires.fits in
     let sum = ap (sum_by payload_len) c.unlist.ensures.blocks in
-    record { laid = g.laid; topped = c.top_behind-top.ensures; longer = g.longer; opens = g.opens; within = omega arith; fits = omega arith }
+    let r = c.ends_behind-rest.ensures in
+    record { laid = r.laid; topped = r.topped; known = r.known; longer = g.longer; opens = g.opens; within = omega arith; fits = omega arith }
 
 pub returns : goal.returns
 returns c =
@@ -43,13 +46,14 @@ returns c =
     let u = c.unlist.ensures in
     let e = c.refit.ensures in
     let new = c.refit.new.space in
-    let is : layout (length c.unlist.new.space) (blocks_of c.unlist.new.space (n - 1)) (addrs_of c.unlist.new.space (n - 1)) c.args.ends.front (info_len info) ≡ layout (length raw) (remove (blocks_of raw n) i) (remove (addrs_of raw n) i) c.args.ends.front (info_len info) =
-    (λ j. layout (g.size j) (u.blocks j) (u.addrs j) c.args.ends.front (info_len info)) in
+    let is : layout (length c.unlist.new.space) (blocks_of c.unlist.new.space (n - 1)) (addrs_of c.unlist.new.space (n - 1)) c.ends_behind-rest.result.front (info_len info) ≡ layout (length raw) (remove (blocks_of raw n) i) (remove (addrs_of raw n) i) c.args.ends.front (info_len info) =
+    (λ j. layout (g.size j) (u.blocks j) (u.addrs j) (c.ends_behind-rest.ensures.front j) (info_len info)) in
     record {
       blocks = ap (blocks_of new) (sym back) ∙ e.blocks ∙ (λ j. insert (u.blocks j) i (block_of info (g.own j ++ c.args.new.more.now))) ∙ insert-remove (blocks_of raw n) i (block_of info (longer_bytes raw c.args.new)) (omega (arith, length-listed (block_in raw) n));
       addrs = ap (addrs_of new) (sym back) ∙ e.addrs ∙ ap (λ (l : Layout). insert l.addrs i l.addr) is;
       front = e.front ∙ ap (λ (l : Layout). l.front) is;
       laid = subst (λ (m : ℕ). IsLaid new m c.refit.result.front) back e.laid;
       topped = subst (λ (m : ℕ). IsTop new m c.refit.result.top) back e.topped;
+      known = subst (λ (m : ℕ). IsKnown new m c.refit.result.front c.refit.result.low) back e.known;
       size = e.size ∙ g.size;
     }

@@ -1,11 +1,12 @@
 use Rattle.std.proofs.Common.{◌≡◌, ◌+◌, ◌++◌, ◌∙◌, subst, sym, ap, List, ℕ, arith, set, sum_by}
 use Rattle.std.specs.Prelude.{insert, remove}
+use Rattle.std.proofs.lemmas.List.Sums.{sum_by-insert}
 use Rattle.htx_model.specs.Block.{Block, payload_len}
 use Rattle.htx_layout.specs.Raw.{Tells, block_in, addr_in, block_of, blocks_of, addrs_of, payload_in}
 use Rattle.htx_layout.specs.Place.{packed}
 use Rattle.htx_layout.specs.Longer.{kept_bytes}
 use Rattle.htx_layout.proofs.RawLemmas.{length-listed}
-use Rattle.htx_layout.proofs.ExtendLemmas.{relisted, can_relist, set-insert, remove-insert, sum-insert}
+use Rattle.htx_layout.proofs.ExtendLemmas.{relisted, can_relist, set-insert, remove-insert}
 use Rattle.htx_layout.proofs.longer.extend_packed.Goals as goal
 
 pub list-requires : goal.list-requires
@@ -21,8 +22,7 @@ renew-requires c =
     let told = c.requires.longer.len in
     let fits = c.requires.fits in
     let tells = c.requires.longer.kept_tells.len in
-    let bs = length-listed (block_in c.args.space.now) c.args.count in
-    let sum = ap (sum_by payload_len) r.blocks ∙ sum-insert (blocks_of c.args.space.now c.args.count) c.args.at (block_of l.kept.0 (kept_bytes c.args.space.now l)) (omega arith) in
+    let sum = ap (sum_by payload_len) r.blocks ∙ sum_by-insert payload_len (blocks_of c.args.space.now c.args.count) c.args.at (block_of l.kept.0 (kept_bytes c.args.space.now l)) in
     record {
       laid = r.laid;
       within = omega arith;

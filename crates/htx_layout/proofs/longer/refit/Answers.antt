@@ -1,12 +1,13 @@
-use Rattle.std.proofs.Common.{◌≡◌, ◌+◌, ◌∙◌, subst, sym, ap, ℕ, List, length, Option, Some, None, max, rules}
+use Rattle.std.proofs.Common.{◌≡◌, ◌+◌, ◌∙◌, subst, sym, ap, ℕ, List, length, Option, Some, None, max}
 use Rattle.std.specs.Prelude.{insert}
 use Rattle.htx_layout.specs.Raw.{info_len, block_of, blocks_of, addrs_of}
 use Rattle.htx_layout.specs.Place.{Layout, layout, layout_by, spot}
 use Rattle.htx_layout.specs.Moves.{IsSite}
-use Rattle.htx_layout.specs.Sound.{IsTop}
+use Rattle.htx_layout.specs.Sound.{IsLaid, IsTop, IsKnown}
 use Rattle.htx_layout.specs.declared.scan.Spot.{Spot}
 use Rattle.htx_layout.specs.Longer.{longer_bytes}
 use Rattle.htx_layout.proofs.TopLemmas.{top_placed}
+use Rattle.htx_layout.proofs.KnownLemmas.{unknown, known_placed}
 use Rattle.htx_layout.proofs.SpotLemmas.{IsSpotFor, spot_is, layout_is}
 use Rattle.htx_layout.proofs.ExtendLemmas.{laid_zero}
 use Rattle.htx_layout.proofs.longer.refit.Goals as goal
@@ -44,14 +45,15 @@ returns-in-Some c =
     let is = laid_by c.args.space.now c.args.count c.args.ends.front c.payload_len-len.result (info_len l.info.0) (Some place) len c.in-Some.ensures in
     let e = c.extend_free.ensures in
     let topped = top_placed c.args.space.now c.extend_free.new.space c.args.count c.args.at c.args.ends.top place.front place.addr (block_of l.info.0 (longer_bytes c.args.space.now l)) c.requires.topped c.requires.within e.blocks e.addrs e.laid in
-    let greater : c.max.result ≡ max c.args.ends.top (place.addr + c.payload_len-len.result) = search rules in
-    let most = greater ∙ ap (λ (k : ℕ). max c.args.ends.top (place.addr + k)) (len ∙ sym c.requires.longer.tells.len) in
+    let r = c.ends_with.ensures in
+    let most = r.top ∙ ap (λ (k : ℕ). max c.args.ends.top (place.addr + k)) (len ∙ sym c.requires.longer.tells.len) in
     record {
       blocks = e.blocks;
       addrs = e.addrs ∙ sym (ap (λ (x : Layout). insert x.addrs c.args.at x.addr) is);
-      front = sym (ap (λ (x : Layout). x.front) is);
-      laid = e.laid;
+      front = r.front ∙ sym (ap (λ (x : Layout). x.front) is);
+      laid = subst (IsLaid c.extend_free.new.space (c.args.count + 1)) (sym r.front) e.laid;
       topped = subst (IsTop c.extend_free.new.space (c.args.count + 1)) (sym most) topped;
+      known = subst (λ (x : ℕ). IsKnown c.extend_free.new.space (c.args.count + 1) x c.ends_with.result.low) (sym r.front) (known_placed c.args.space.now c.extend_free.new.space c.args.count c.args.at (record { front = c.args.ends.front; top = c.args.ends.top; low = c.low_for-low.result }) place c.ends_with.result.low c.low_for-low.ensures c.requires.within e.addrs r.low);
       size = e.size;
     }
 
@@ -65,5 +67,6 @@ returns-in-None c =
       front = sym (ap (λ (x : Layout). x.front) is);
       laid = e.laid;
       topped = e.topped;
+      known = unknown _ _ _;
       size = e.size;
     }

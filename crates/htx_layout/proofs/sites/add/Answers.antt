@@ -1,17 +1,17 @@
-use Rattle.std.proofs.Common.{rules, ◌≡◌, ◌+◌, ◌∙◌, subst, sym, ap, max, ℕ, List, length, arith}
+use Rattle.std.proofs.Common.{◌≡◌, ◌+◌, ◌∙◌, subst, sym, ap, max, ℕ, List, length, arith}
 use Rattle.std.specs.Prelude.{insert}
 use Rattle.htx_layout.specs.Raw.{blocks_of, addrs_of}
 use Rattle.htx_layout.specs.Place.{Layout, layout}
-use Rattle.htx_layout.specs.Sound.{IsLaid, IsTop}
-use Rattle.htx_layout.specs.declared.scan.Spot.{Spot}
+use Rattle.htx_layout.specs.Sound.{IsLaid, IsTop, IsKnown}
 use Rattle.htx_layout.proofs.TopLemmas.{top_placed}
+use Rattle.htx_layout.proofs.KnownLemmas.{known_placed}
 use Rattle.htx_layout.proofs.EachLemmas.{can_place, IsLaid-placed}
 use Rattle.htx_layout.proofs.CodeLemmas.{described}
 use Rattle.htx_layout.proofs.sites.add.Goals as goal
 
 pub place-requires-clause-can : goal.place-requires-clause-can
 place-requires-clause-can c =
-    let s : Spot = record { addr = c.site-found.result.addr; front = c.site-found.result.front } in
+    let s = c.site-found.result.spot in
     let m = described c.args.new.now c.info-info.result.0 c.payload.result.now c.info-info.ensures c.payload.ensures in
     let site = c.site-found.ensures.site in
     let size = c.site-found.ensures.size in
@@ -20,7 +20,7 @@ place-requires-clause-can c =
 
 pub returns : goal.returns
 returns c =
-    let s : Spot = record { addr = c.site-found.result.addr; front = c.site-found.result.front } in
+    let s = c.site-found.result.spot in
     let raw = c.site-found.new.space in
     let n = c.args.count in
     let i = c.args.at in
@@ -38,13 +38,14 @@ returns c =
     let old = c.args.space.now in
     let places : ℕ → Layout = layout (length old) (blocks_of old n) (addrs_of old n) c.args.ends.front in
     let len = c.len.ensures.len in
-    let topped = top_placed raw c.place.new.space n i c.site-found.result.top s.front s.addr b f.topped c.requires.within (p.blocks ∙ ap (insert (blocks_of raw n) i) m.is) p.addrs laid in
-    let most : c.max.result ≡ max c.site-found.result.top (s.addr + c.len-2.result) = search rules in
+    let topped = top_placed raw c.place.new.space n i c.site-found.result.ends.top s.front s.addr b f.topped c.requires.within (p.blocks ∙ ap (insert (blocks_of raw n) i) m.is) p.addrs laid in
+    let e = c.ends_with.ensures in
     record {
       blocks = p.blocks ∙ (λ j. insert (f.blocks j) i (m.is j));
       addrs = p.addrs ∙ (λ j. insert (f.addrs j) i (f.addr j)) ∙ ap (λ (k : ℕ). insert (places k).addrs i (places k).addr) len;
-      front = f.front ∙ ap (λ (k : ℕ). (places k).front) len;
-      laid = laid;
-      topped = subst (IsTop c.place.new.space (n + 1)) (sym (most ∙ ap (λ (k : ℕ). max c.site-found.result.top (s.addr + k)) c.len-2.ensures.len)) topped;
+      front = e.front ∙ f.front ∙ ap (λ (k : ℕ). (places k).front) len;
+      laid = subst (IsLaid c.place.new.space (n + 1)) (sym e.front) laid;
+      topped = subst (IsTop c.place.new.space (n + 1)) (sym (e.top ∙ ap (λ (k : ℕ). max c.site-found.result.ends.top (s.addr + k)) c.len-2.ensures.len)) topped;
+      known = subst (λ (x : ℕ). IsKnown c.place.new.space (n + 1) x c.ends_with.result.low) (sym e.front) (known_placed raw c.place.new.space n i c.site-found.result.ends s c.ends_with.result.low f.known c.requires.within p.addrs e.low);
       size = p.size ∙ f.size;
     }

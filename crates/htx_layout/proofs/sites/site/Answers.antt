@@ -2,6 +2,7 @@ use Rattle.std.proofs.Common.{subst, sym, ap, arith, ◌∙◌, refl, Some, None
 use Rattle.htx_layout.specs.Place.{Layout}
 use Rattle.htx_layout.proofs.SpotLemmas.{IsSpotFor, layout_is, spot_is, top_is_site}
 use Rattle.htx_layout.proofs.MoveLemmas.{shifted_told, shifted_filled, shifted_blocks}
+use Rattle.htx_layout.proofs.KnownLemmas.{unknown}
 use Rattle.htx_layout.proofs.sites.site.Goals as goal
 
 pub returns-in-Some : goal.returns-in-Some
@@ -19,6 +20,7 @@ returns-in-Some c =
       filled = laid.filled;
       site = subst (IsSpotFor raw c.args.count c.args.len) (sym c.in-Some.ensures) (spot_is raw c.args.count c.args.ends.front c.args.len laid.told laid.parted);
       topped = c.requires.topped;
+      known = c.low_for-low.ensures;
       size = refl;
     }
 
@@ -42,5 +44,6 @@ returns-in-None c =
       filled = shifted_filled raw new n d.shifted c.requires.laid.filled;
       site = top_is_site new n c.args.len c.defrag-end.result d.up_to (omega arith);
       topped = d.topped;
+      known = unknown _ _ _;
       size = size;
     }

@@ -24,6 +24,7 @@ extend-self-inside-requires c =
     record {
       laid = c.self.invariant.laid;
       topped = c.self.invariant.topped;
+      known = c.self.invariant.known;
       within = (at c.self.inside c.args.self.now c.args.at c.self.invariant c.self.view_is c.requires.within).small;
       longer = q.longer;
       own = ap (λ (d : Desc). d.addr) c.descriptor-from.ensures;
@@ -49,7 +50,7 @@ invariant_of-self c =
     let fits = c.requires.fits in
     let whole_size = num.size in
     let loaded = num.loaded in
-    whole_set a.space c.extend-self-inside.new.space a.count i a.load _ _ _ (info_len info) (block_of info (longer_bytes a.space l)) c.self.invariant.laid.told c.self.invariant.loaded t.small e.blocks q.longer.tells.len e.laid (omega arith) e.topped (omega arith)
+    whole_set a.space c.extend-self-inside.new.space a.count i a.load _ _ (info_len info) (block_of info (longer_bytes a.space l)) c.self.invariant.laid.told c.self.invariant.loaded t.small e.blocks q.longer.tells.len e.laid (omega arith) e.topped e.known (omega arith)
 
 pub returns : goal.returns
 returns c =

@@ -1,4 +1,4 @@
-use Rattle.std.proofs.Common.{ap, arith}
+use Rattle.std.proofs.Common.{◌∙◌, ap, arith}
 use Rattle.htx_layout.specs.Raw.{addr_in}
 use Rattle.htx_layout.specs.Contents.{Contents}
 use Rattle.htx_layout.proofs.RoomLemmas.{within_own}
@@ -26,15 +26,15 @@ rewrite-requires c =
       len = c.requires.len;
     }
 
-pub top_behind-self-inside-requires : goal.top_behind-self-inside-requires
-top_behind-self-inside-requires c =
+pub ends_behind-self-inside-requires : goal.ends_behind-self-inside-requires
+ends_behind-self-inside-requires c =
     let shorter = c.requires.shorter in
     let some = c.requires.some in
     let sum = c.requires.len in
     let r = rewritten c.self.inside c.args.self.now c.args.at c.args.keep c.args.info.0 c.args.more.now c.rewrite.new.space c.self.invariant c.self.view_is c.requires.within (omega arith) (omega arith) c.requires.tells c.rewrite.ensures in
     let end = c.end_at-end.ensures.value in
     let told = (c.self.invariant.laid.told.told c.args.at (at c.self.inside c.args.self.now c.args.at c.self.invariant c.self.view_is c.requires.within).small).len in
-    record { laid = r.laid; stayed = λ below. r.stayed (omega arith) }
+    record { laid = r.laid; stayed = λ below. r.stayed (omega arith); known = r.known }
 
 pub invariant_of-self : goal.invariant_of-self
 invariant_of-self c =
@@ -47,7 +47,8 @@ invariant_of-self c =
     let len = t.len in
     let more = c.len.ensures in
     let weighs = t.weighs in
-    r.whole _ _ (omega arith) c.top_behind-self-inside.ensures
+    let e = c.ends_behind-self-inside.ensures in
+    r.whole _ _ (omega arith) e.laid e.topped e.known
 
 pub returns : goal.returns
 returns c =
@@ -55,4 +56,4 @@ returns c =
     let some = c.requires.some in
     let sum = c.requires.len in
     let r = rewritten c.self.inside c.args.self.now c.args.at c.args.keep c.args.info.0 c.args.more.now c.rewrite.new.space c.self.invariant c.self.view_is c.requires.within (omega arith) (omega arith) c.requires.tells c.rewrite.ensures in
-    record { blocks = r.blocks; size = r.size; addrs = r.addrs; front = ap (λ (s : Contents). s.front) c.self.view_is }
+    record { blocks = r.blocks; size = r.size; addrs = r.addrs; front = c.ends_behind-self-inside.ensures.front ∙ ap (λ (s : Contents). s.front) c.self.view_is }

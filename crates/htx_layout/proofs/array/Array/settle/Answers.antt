@@ -2,13 +2,16 @@ use Rattle.std.proofs.Common.{◌∙◌, ap}
 use Rattle.htx_layout.specs.Contents.{Contents}
 use Rattle.htx_layout.specs.Place.{settled}
 use Rattle.htx_layout.proofs.FrontLemmas.{laid_settled, settled_top}
+use Rattle.htx_layout.proofs.KnownLemmas.{known_settled}
 use Rattle.htx_layout.proofs.array.Array.settle.Goals as goal
 
 pub invariant_of-self : goal.invariant_of-self
 invariant_of-self c =
     let a = c.self.inside in
     let was = c.self.invariant in
-    record { laid = laid_settled a.space a.count a.ends.front c.settle-self-inside.result was.laid (c.settle-self-inside.ensures ∙ settled_top a.space a.count a.ends.front a.ends.top was.laid was.topped); loaded = was.loaded; topped = was.topped; fits = was.fits }
+    let f = c.settle-self-inside.result in
+    let is = c.settle-self-inside.ensures ∙ settled_top a.space a.count a.ends.front a.ends.top was.laid was.topped in
+    record { laid = laid_settled a.space a.count a.ends.front f was.laid is; loaded = was.loaded; topped = was.topped; known = known_settled a.space a.count a.ends.front f a.ends.low is was.known; fits = was.fits }
 
 pub returns-clause-front : goal.returns-clause-front
 returns-clause-front c =

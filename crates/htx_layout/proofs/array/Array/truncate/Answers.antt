@@ -2,6 +2,7 @@ use Rattle.std.proofs.Common.{◌∙◌, ap, arith}
 use Rattle.htx_layout.specs.Contents.{Contents}
 use Rattle.htx_layout.specs.Place.{settled}
 use Rattle.htx_layout.proofs.WholeLemmas.{first}
+use Rattle.htx_layout.proofs.KnownLemmas.{known_is}
 use Rattle.htx_layout.proofs.array.Array.truncate.Goals as goal
 
 pub overflow_sub-self : goal.overflow_sub-self
@@ -10,10 +11,8 @@ overflow_sub-self c =
     let gone = c.weight_from.ensures in
     omega arith
 
-pub top_of-self-inside-requires : goal.top_of-self-inside-requires
-top_of-self-inside-requires c =
-    let laid = (first c.self.inside c.args.self.now c.args.at c.self.invariant c.self.view_is c.requires).laid in
-    record { sound = laid.sound; told = laid.told; small = laid.most }
+pub ends_of-self-inside-requires : goal.ends_of-self-inside-requires
+ends_of-self-inside-requires c = record { laid = (first c.self.inside c.args.self.now c.args.at c.self.invariant c.self.view_is c.requires).laid }
 
 pub invariant_of-self : goal.invariant_of-self
 invariant_of-self c =
@@ -21,7 +20,8 @@ invariant_of-self c =
     let loads = q.loads in
     let gone = c.weight_from.ensures in
     let fits = c.self.invariant.fits in
-    record { laid = q.laid; loaded = omega arith; topped = c.top_of-self-inside.ensures; fits = omega arith }
+    let e = c.ends_of-self-inside.ensures in
+    record { laid = e.laid; loaded = omega arith; topped = e.topped; known = known_is _ _ _ _ e.low; fits = omega arith }
 
 pub returns : goal.returns
 returns c =
@@ -31,5 +31,5 @@ returns c =
       blocks = s.blocks ∙ q.blocks;
       size = s.size ∙ ap (λ (x : Contents). x.size) c.self.view_is;
       addrs = s.addrs ∙ q.addrs;
-      front = s.front ∙ (λ j. settled ((ap (λ (x : Contents). x.front) c.self.view_is) j) (q.addrs j));
+      front = s.front ∙ (λ j. settled ((c.ends_of-self-inside.ensures.front ∙ ap (λ (x : Contents). x.front) c.self.view_is) j) (q.addrs j));
     }

@@ -1,10 +1,11 @@
-use Rattle.std.proofs.Common.{ap, arith}
+use Rattle.std.proofs.Common.{◌∙◌, ap, arith}
 use Rattle.htx_model.specs.Blocks.{load}
 use Rattle.htx_model.proofs.Loads.{load-remove}
 use Rattle.htx_layout.specs.Raw.{block_in, blocks_of}
 use Rattle.htx_layout.proofs.RawLemmas.{length-listed}
 use Rattle.htx_layout.proofs.TellLemmas.{len_told}
 use Rattle.htx_layout.proofs.TopLemmas.{top_gone}
+use Rattle.htx_layout.proofs.KnownLemmas.{known_gone}
 use Rattle.htx_layout.proofs.WholeLemmas.{at}
 use Rattle.htx_layout.proofs.array.Array.unlist.Goals as goal
 
@@ -29,10 +30,11 @@ invariant_of-self c =
     let now = ap load c.unlist.ensures.blocks in
     let size = c.unlist.ensures.size in
     let fits = c.self.invariant.fits in
-    record { laid = c.unlist.ensures.laid a.ends.front c.self.invariant.laid; loaded = omega arith; topped = c.top_behind-self-inside.ensures; fits = omega arith }
+    let e = c.ends_behind-self-inside.ensures in
+    record { laid = e.laid; loaded = omega arith; topped = e.topped; known = e.known; fits = omega arith }
 
-pub top_behind-self-inside-requires : goal.top_behind-self-inside-requires
-top_behind-self-inside-requires c =
+pub ends_behind-self-inside-requires : goal.ends_behind-self-inside-requires
+ends_behind-self-inside-requires c =
     let a = c.self.inside in
     let t = at c.self.inside c.args.self.now c.args.at c.self.invariant c.self.view_is c.requires in
     let laid = c.unlist.ensures.laid a.ends.front c.self.invariant.laid in
@@ -41,4 +43,5 @@ top_behind-self-inside-requires c =
     record {
       laid = laid;
       stayed = λ below. top_gone a.space c.unlist.new.space a.count c.args.at a.ends.top a.ends.front c.self.invariant.laid.told c.self.invariant.topped t.small c.unlist.ensures.blocks c.unlist.ensures.addrs laid (omega arith);
+      known = known_gone a.space c.unlist.new.space a.count a.ends.front c.addr-addr.result c.args.at a.ends.low c.low_without-self-inside.result c.self.invariant.known t.small (c.addr-addr.ensures ∙ t.addr) c.unlist.ensures.addrs c.low_without-self-inside.ensures.kept c.low_without-self-inside.ensures.below;
     }
