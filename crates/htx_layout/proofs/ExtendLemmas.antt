@@ -1,8 +1,7 @@
 -- A block is put back with more bytes behind its first.
-use Rattle.std.proofs.Common.{refl, ◌≡◌, ℕ, zero, suc, ◌+◌, ◌*◌, ◌-◌, ◌^◌, ◌<◌, ◌≤◌, inl, inr, List, [], ◌∷◌, ◌++◌, length, ap, sym, ◌∙◌, arith, set, subst, sum_by}
+use Rattle.std.proofs.Common.{refl, ◌≡◌, ℕ, zero, suc, ◌+◌, ◌*◌, ◌-◌, ◌^◌, ◌<◌, ◌≤◌, inl, inr, List, [], ◌∷◌, ◌++◌, length, ap, sym, ◌∙◌, arith, set, subst}
 use Rattle.std.specs.Prelude.{insert, remove}
 use Rattle.std.proofs.lemmas.Bool.{cases_lt}
-use Rattle.htx_model.specs.Block.{Block, payload_len}
 use Rattle.htx_space.specs.declared.space.Desc.{Desc}
 use Rattle.htx_space.specs.Windows.{window, desc_at}
 use Rattle.htx_space.proofs.WindowLemmas.{length-window, window-overwritten_below}

@@ -1,5 +1,5 @@
 -- Bytes are written where no other payload stands: behind the first bytes of a payload, or in open bytes.
-use Rattle.std.proofs.Common.{subst, refl, ◌≡◌, ◌≢◌, ℕ, ◌+◌, ◌*◌, ◌-◌, ◌^◌, ◌<◌, ◌≤◌, ◌⊎◌, inl, inr, List, ◌++◌, length, take, drop, ap, sym, ◌∙◌, arith, set}
+use Rattle.std.proofs.Common.{refl, ◌≡◌, ◌≢◌, ℕ, ◌+◌, ◌*◌, ◌-◌, ◌^◌, ◌<◌, ◌≤◌, ◌⊎◌, inl, inr, List, ◌++◌, length, take, drop, ap, sym, ◌∙◌, arith, set}
 use Rattle.std.proofs.Math.Seq.{take-add}
 use Rattle.std.proofs.lemmas.Bool.{cases_lt, cases_eq}
 use Rattle.std.proofs.lemmas.List.{take_all, drop-drop, take-append-drop}
@@ -7,7 +7,7 @@ use Rattle.htx_space.specs.declared.space.Desc.{Desc}
 use Rattle.htx_space.specs.Windows.{desc_at, desc_place, desc_bytes, window, overwritten}
 use Rattle.htx_space.proofs.WindowLemmas.{length-overwritten, length-window, window-overwritten_below, window-overwritten_above, window-overwritten_within, desc_at-overwritten, desc_at-overwritten_below, desc_at-written, length-desc_bytes}
 use Rattle.htx_layout.specs.Raw.{addr_in, len_in, payload_in, block_in, block_of, info_len, blocks_of, addrs_of, Tells}
-use Rattle.htx_layout.specs.Sound.{IsSound, IsTold, AreApart, end_of, IsLaid}
+use Rattle.htx_layout.specs.Sound.{IsSound, IsTold, end_of, IsLaid}
 use Rattle.htx_layout.specs.Moves.{CanPlace, IsOverwritten, CanRenew, IsRenewed, IsKept, IsOpen}
 use Rattle.htx_layout.specs.Steps.{spread, listed_at, placed}
 use Rattle.htx_layout.proofs.RawLemmas.{AreApart-same, length-spread, length-listed_at, length-moved, payload_in-same}

@@ -30,9 +30,9 @@ low-remove (a ∷ xs) front (suc i) h lt = rw (low-remove xs front i (omega arit
 pub known_gone : (raw new : List ℕ) (n front a i : ℕ) (o p : Option ℕ) → IsKnown raw n front o → i < n → a ≡ addr_in raw i → addrs_of new (n - 1) ≡ remove (addrs_of raw n) i → ((l : ℕ) → p ≡ Some l → o ≡ Some l) → ((l : ℕ) → p ≡ Some l → a < front) → IsKnown new (n - 1) front p
 known_gone raw new n front a i o p was small is addrs kept below = record {
   known = λ l e.
-    let at = addr_told raw n i small in
-    let less = below l e in
-    ap (low front) addrs ∙ low-remove (addrs_of raw n) front i (omega (arith, length-listed (addr_in raw) n)) (omega arith) ∙ was.known l (kept l e);
+      let at = addr_told raw n i small in
+      let less = below l e in
+      ap (low front) addrs ∙ low-remove (addrs_of raw n) front i (omega (arith, length-listed (addr_in raw) n)) (omega arith) ∙ was.known l (kept l e);
 }
 
 -- `front` moves up to it at most
@@ -63,15 +63,15 @@ low-insert xs front i a h lt = absurd (omega arith)
 pub known_with : (raw new : List ℕ) (n : ℕ) (e : Ends) (s : Spot) (o : Option ℕ) → IsKnown raw n e.front e.low → addrs_of new n ≡ addrs_of raw n → IfSome o (StaysLow e s) → IsKnown new n s.front o
 known_with raw new n e s o was addrs stays = record {
   known = λ l h.
-    let k = subst (λ (p : Option ℕ). IfSome p (StaysLow e s)) h stays in
-    ap (low s.front) addrs ∙ low_up raw n e.front s.front l (was.known l k.is) k.up k.under;
+      let k = subst (λ (p : Option ℕ). IfSome p (StaysLow e s)) h stays in
+      ap (low s.front) addrs ∙ low_up raw n e.front s.front l (was.known l k.is) k.up k.under;
 }
 
 pub known_placed : (raw new : List ℕ) (n i : ℕ) (e : Ends) (s : Spot) (o : Option ℕ) → IsKnown raw n e.front e.low → i ≤ n → addrs_of new (n + 1) ≡ insert (addrs_of raw n) i s.addr → IfSome o (StaysLow e s) → IsKnown new (n + 1) s.front o
 known_placed raw new n i e s o was small addrs stays = record {
   known = λ l h.
-    let k = subst (λ (p : Option ℕ). IfSome p (StaysLow e s)) h stays in
-    ap (low s.front) addrs ∙ low-insert (addrs_of raw n) s.front i s.addr (omega (arith, length-listed (addr_in raw) n)) k.beside ∙ (known_with raw raw n e s o was refl stays).known l h;
+      let k = subst (λ (p : Option ℕ). IfSome p (StaysLow e s)) h stays in
+      ap (low s.front) addrs ∙ low-insert (addrs_of raw n) s.front i s.addr (omega (arith, length-listed (addr_in raw) n)) k.beside ∙ (known_with raw raw n e s o was refl stays).known l h;
 }
 
 -- `front` is 0 where none stands at or above it

@@ -6,7 +6,7 @@ use Rattle.htx_space.specs.declared.space.Desc.{Desc}
 use Rattle.htx_space.specs.Windows.{window, overwritten, desc_at, desc_place, desc_bytes}
 use Rattle.htx_space.proofs.WindowLemmas.{length-overwritten, window-overwritten_below, window-overwritten_above, window-overwritten_within, desc_at-overwritten, desc_at-overwritten_below, desc_at-written, length-desc_bytes}
 use Rattle.htx_layout.specs.Raw.{Tells, listed, addr_in, len_in, block_in, block_of, info_len, blocks_of, payload_in}
-use Rattle.htx_layout.specs.Sound.{IsSound, AreApart, end_of, IsTold, IsFilled}
+use Rattle.htx_layout.specs.Sound.{IsSound, end_of, IsTold, IsFilled}
 use Rattle.htx_layout.specs.Moves.{IsShifted, CanMove, IsMoved}
 use Rattle.htx_layout.specs.Place.{below}
 use Rattle.htx_layout.proofs.RawLemmas.{AreApart-same, length-listed, get_or-listed}

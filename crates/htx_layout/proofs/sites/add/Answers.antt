@@ -1,4 +1,4 @@
-use Rattle.std.proofs.Common.{◌≡◌, ◌+◌, ◌∙◌, subst, sym, ap, max, ℕ, List, length, arith}
+use Rattle.std.proofs.Common.{◌+◌, ◌∙◌, subst, sym, ap, max, ℕ, List, length, arith}
 use Rattle.std.specs.Prelude.{insert}
 use Rattle.htx_layout.specs.Raw.{blocks_of, addrs_of}
 use Rattle.htx_layout.specs.Place.{Layout, layout}
