@@ -1,5 +1,5 @@
 -- Where the two directions stand in the exchange in hand.
-use Rattle.std.specs.Prelude.{◌≡◌, Bool, true, false, if◌then◌else◌, Option}
+use Rattle.std.specs.Prelude.{◌≡◌, Bool, true, false, if◌then◌else◌, Option, None}
 use Rattle.session_core.specs.Sided.{AnswerSeen}
 use Rattle.session_core.specs.Waits.{is_turned}
 use Rattle.session_core.specs.declared.Phase.{Phase}
@@ -50,13 +50,13 @@ IsSomewhere placed = (at : Place) × placed at
 abbrev pub Stay : (old new : Place → Type 0) → Type 0
 Stay old new = (at : Place) → old at → new at
 
--- the directions of a core in this phase stand where it has them
+-- The directions of a core in this phase stand where it has them. No request was met as cut where another may follow.
 abbrev pub IsPlaced : (placed : Place → Type 0) → AnswerSeen → Phase → (cut : Option Bool) → Type 0
-IsPlaced placed a phase.Reading cut = placed Reads
-IsPlaced placed a phase.Opening cut = placed Opens
+IsPlaced placed a phase.Reading cut = placed Reads × (cut ≡ None)
+IsPlaced placed a phase.Opening cut = placed Opens × (cut ≡ None)
 IsPlaced placed a phase.Unserved cut = placed Opens
 IsPlaced placed a phase.Serving cut = placed (place_serving cut)
 IsPlaced placed a phase.Served cut = placed (place_serving cut) × (a.answered ≡ true)
 IsPlaced placed a phase.Refusing cut = placed Says
-IsPlaced placed a (phase.Replying kept) cut = placed Replies
+IsPlaced placed a (phase.Replying kept) cut = placed Replies × (cut ≡ None)
 IsPlaced placed a (phase.Over how) cut = IsSomewhere placed

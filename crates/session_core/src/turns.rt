@@ -1,5 +1,5 @@
 //! From one exchange to the next, or to the end of the session.
-ghost use Rattle.std.specs.Prelude.{◌≡◌, ◌≤◌, ◌<◌, ◌+◌, min, Option, Some, Bool, true, false, OnOk, IfOk, IsOk};
+ghost use Rattle.std.specs.Prelude.{◌≡◌, ◌≤◌, ◌<◌, ◌+◌, min, Option, Some, None, Bool, true, false, OnOk, IfOk, IsOk};
 ghost use Rattle.session_core.specs.History.{Past};
 ghost use Rattle.session_core.specs.Sided.{Sided, asker_in};
 ghost use Rattle.session_core.specs.Stands.{most};
@@ -99,7 +99,8 @@ impl<S: Sides> Core<S> {
     /// How the session ends behind an answer of the server, if it does.
     fn served_end(&self) -> Option<End>
         requires placed { IsSomewhere (S.placed self.now.sides) }
-        ensures { (cfg : S.Settings) (p : Sided (S.meaning cfg)) → S.stands cfg self.now.sides p → Follows (S.answer self.now.sides).told self.now.at.cut (asker_in p.asking).keep result }
+        ensures follows { (cfg : S.Settings) (p : Sided (S.meaning cfg)) → S.stands cfg self.now.sides p → Follows (S.answer self.now.sides).told self.now.at.cut (asker_in p.asking).keep result }
+        ensures uncut { result ≡ None → self.now.at.cut ≡ None }
     {
         match self.sides.told() {
             Told::Cut => Some(End::Cut),

@@ -127,6 +127,14 @@ impl<S: Sides> Core<S> {
         requires placed { IsPlaced (S.placed self.now.sides) (S.answer self.now.sides) self.now.at.phase self.now.at.cut }
         ensures { result ≡ wants_of (S.request self.now.sides) (S.answer self.now.sides) self.now.at }
     {
+        self.wants_here()
+    }
+
+    /// The same, wherever the directions stand.
+    fn wants_here(&self) -> Wants
+        requires placed { IsSomewhere (S.placed self.now.sides) }
+        ensures { result ≡ wants_of (S.request self.now.sides) (S.answer self.now.sides) self.now.at }
+    {
         Wants {
             client_read: self.takes_client()
                 && self.sides.client_is_open()
