@@ -64,3 +64,7 @@ pub core_front : (M : Meaning) → IsTotal M → {D : Type 0} (request : D → R
 core_front M total request answer stands sides at past s =
     over_perhaps (front M total at (request sides) (answer sides) s.sided past s.holds)
     (front_taken M past (answer sides).window (request sides).window (answer sides).begun)
+
+-- a core whose directions are as they were
+pub core_lends : {D C : Type 0} {old new : D} (core : D → C) → new ≡ old → core new ≡ core old
+core_lends core e = ap core e

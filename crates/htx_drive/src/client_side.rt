@@ -1,5 +1,5 @@
 //! Reads from the client and writes to it.
-ghost use Rattle.std.specs.Prelude.{◌≡◌, ◌<◌, true, false, IsErrOf};
+ghost use Rattle.std.specs.Prelude.{◌≡◌, ◌<◌, true, false, OnOk, IsErrOf};
 ghost use Rattle.session_core.specs.History.{Past};
 ghost use Rattle.htx_drive.specs.Driven.{Idle, ClientMoves, Ends};
 
@@ -13,6 +13,8 @@ pub(crate) const MOST: usize = 4096;
 pub(crate) fn read_client<C: Machine, L: Link>(core: &mut C, client: &mut L, most: u32)
     requires wanted { (C.seen core.old).wants.client_read ≡ true }
     requires most { 0 < most }
+    requires sound { C.sound core.old }
+    ensures sound { C.sound core.new }
     ensures moves { (cfg : C.Settings) (first : L) (past : Past) → Idle (C.stands cfg core.old) L.seen L.wrote first client.old false past → ClientMoves (C.stands cfg core.new) L.seen L.wrote first client.new past }
     ensures serving { (C.seen core.new).serving ≡ (C.seen core.old).serving }
 {
@@ -38,6 +40,8 @@ pub(crate) fn write_client<C: Machine, L: Link>(
 ) -> Result<(), SessionFault>
     requires wanted { (C.seen core.old).wants.client_write ≡ true }
     requires most { 0 < most }
+    requires sound { C.sound core.old }
+    ensures sound { OnOk result (C.sound core.new) }
     ensures moves { (cfg : C.Settings) (first : L) (past : Past) → Idle (C.stands cfg core.old) L.seen L.wrote first client.old false past
         → Ends result (λ _. ClientMoves (C.stands cfg core.new) L.seen L.wrote first client.new past) (λ failed. Idle (C.stands cfg core.new) L.seen L.wrote first client.new failed past) }
     ensures unspent { IsErrOf result SessionFault.Spent → ⊥ }

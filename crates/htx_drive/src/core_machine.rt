@@ -9,13 +9,20 @@ impl<S: Sides> Machine for Core<S> {
     type Settings = S::Settings;
 
     ghost use Rattle.session_core.specs.Leads.{Stands};
-    ghost use Rattle.htx_drive.specs.Cores.{core_seen, core_means, core_says, core_noted, core_over, core_front};
+    ghost use Rattle.session_core.specs.Place.{IsPlaced};
+    ghost use Rattle.htx_drive.specs.Cores.{core_seen, core_means, core_says, core_noted, core_over, core_front, core_lends};
 
     ghost meaning = { S.meaning };
 
     ghost stands = { λ cfg core past. Stands (S.meaning cfg) S.request S.answer (S.stands cfg) core.sides core.at past };
 
     ghost seen = { λ core. core_seen (S.request core.sides) (S.answer core.sides) core.at core.lost };
+
+    ghost sound = { λ core. IsPlaced (S.placed core.sides) (S.answer core.sides) core.at.phase core.at.cut };
+
+    ghost with_to_client = { λ core text. record core { sides = S.with_to_client core.sides text } };
+
+    ghost with_to_server = { λ core text. record core { sides = S.with_to_server core.sides text } };
 
     fn wants(&self) -> Wants {
         self.wants()
@@ -29,11 +36,11 @@ impl<S: Sides> Machine for Core<S> {
         self.server_room()
     }
 
-    fn to_client(&self) -> &[u8] {
+    fn to_client(&mut self) -> &mut [u8] {
         self.to_client()
     }
 
-    fn to_server(&self) -> &[u8] {
+    fn to_server(&mut self) -> &mut [u8] {
         self.to_server()
     }
 
@@ -84,6 +91,10 @@ impl<S: Sides> Machine for Core<S> {
     fn work(&mut self) -> Result<(), OutOfMemory> {
         self.work()
     }
+
+    ghost lends_to_client = { λ core. core_lends (λ sides. record core { sides = sides }) (S.lends_to_client core.sides) };
+
+    ghost lends_to_server = { λ core. core_lends (λ sides. record core { sides = sides }) (S.lends_to_server core.sides) };
 
     ghost wants_mean = { λ core. core_means (S.request core.sides) (S.answer core.sides) core.at core.lost };
 

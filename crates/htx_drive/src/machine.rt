@@ -8,6 +8,8 @@ ghost use Rattle.session_core.specs.Waits.{wants_any};
 ghost use Rattle.session_core.specs.Consequences.{IsFinal, IsFront, out_of_past};
 ghost use Rattle.session_core.specs.Sided.{Perhaps};
 ghost use Rattle.session_core.specs.Drives.{WantsSay};
+ghost use Rattle.std.specs.Borrow.{sem};
+ghost use Rattle.session_core.specs.Lending.{LendsText};
 ghost use Rattle.htx_drive.specs.Machine.{CoreSeen, WantsMean, Leads};
 
 use px_link::{Close, End, Ending, OutOfMemory};
@@ -24,20 +26,37 @@ pub trait Machine {
 
     ghost seen: { Self → CoreSeen };
 
+    /// It may be called: it is so from its making on, until `work` finds no memory.
+    ghost sound: { Self → Type 0 };
+
+    /// It is so, with this text in place of the one that waits for the client, or for the server.
+    ghost with_to_client: { Self → List ℕ → Self };
+
+    ghost with_to_server: { Self → List ℕ → Self };
+
     fn wants(&self) -> Wants
+        requires sound { sound self.now }
         ensures { result ≡ (seen self.now).wants };
 
     fn client_room(&self) -> usize
+        requires sound { sound self.now }
         ensures { result ≡ (seen self.now).client_room };
 
     fn server_room(&self) -> usize
+        requires sound { sound self.now }
         ensures { result ≡ (seen self.now).server_room };
 
-    fn to_client(&self) -> &[u8]
-        ensures { result.now ≡ (seen self.now).to_client };
+    /// The bytes that wait for the client, to be read alone.
+    fn to_client(&mut self) -> &mut [u8]
+        requires sound { sound self.old }
+        ensures* back { sem 𝓛 (LendsText Self.row self.entry result with_to_client) }
+        ensures value { result.now ≡ (seen self.old).to_client };
 
-    fn to_server(&self) -> &[u8]
-        ensures { result.now ≡ (seen self.now).to_server };
+    /// The bytes that wait for the server, to be read alone.
+    fn to_server(&mut self) -> &mut [u8]
+        requires sound { sound self.old }
+        ensures* back { sem 𝓛 (LendsText Self.row self.entry result with_to_server) }
+        ensures value { result.now ≡ (seen self.old).to_server };
 
     fn cut(&self) -> Option<bool>
         ensures { result ≡ (seen self.now).cut };
@@ -48,33 +67,45 @@ pub trait Machine {
     fn from_client(&mut self, bytes: &[u8])
         requires wanted { (seen self.old).wants.client_read ≡ true }
         requires room { length bytes.now ≤ (seen self.old).client_room }
+        requires sound { sound self.old }
+        ensures sound { sound self.new }
         ensures leads { Leads stands self.old self.new (FromClient bytes.now) }
         ensures serving { (seen self.new).serving ≡ (seen self.old).serving };
 
     fn client_ended(&mut self, how: Ending)
         requires wanted { (seen self.old).wants.client_read ≡ true }
+        requires sound { sound self.old }
+        ensures sound { sound self.new }
         ensures leads { Leads stands self.old self.new (ClientEnded how) }
         ensures serving { (seen self.new).serving ≡ (seen self.old).serving };
 
     fn client_took(&mut self, n: usize)
         requires some { 0 < n }
         requires within { n ≤ length (seen self.old).to_client }
+        requires sound { sound self.old }
+        ensures sound { sound self.new }
         ensures leads { Leads stands self.old self.new (ClientTook (take n (seen self.old).to_client)) }
         ensures serving { (seen self.new).serving ≡ (seen self.old).serving };
 
     fn server_opened(&mut self, yes: bool)
-        requires { (seen self.old).wants.server_open ≡ true }
+        requires wanted { (seen self.old).wants.server_open ≡ true }
+        requires sound { sound self.old }
+        ensures sound { sound self.new }
         ensures leads { Leads stands self.old self.new (ServerOpened yes) }
         ensures serving { (seen self.new).serving ≡ yes };
 
     fn from_server(&mut self, bytes: &[u8])
         requires wanted { (seen self.old).wants.server_read ≡ true }
         requires room { length bytes.now ≤ (seen self.old).server_room }
+        requires sound { sound self.old }
+        ensures sound { sound self.new }
         ensures leads { Leads stands self.old self.new (FromServer bytes.now) }
         ensures serving { (seen self.new).serving ≡ (seen self.old).serving };
 
     fn server_ended(&mut self, how: Ending)
-        requires { (seen self.old).wants.server_read ≡ true }
+        requires wanted { (seen self.old).wants.server_read ≡ true }
+        requires sound { sound self.old }
+        ensures sound { sound self.new }
         ensures leads { Leads stands self.old self.new (ServerEnded how) }
         ensures serving { (seen self.new).serving ≡ (seen self.old).serving };
 
@@ -82,24 +113,36 @@ pub trait Machine {
         requires wanted { (seen self.old).wants.server_write ≡ true }
         requires some { 0 < n }
         requires within { n ≤ length (seen self.old).to_server }
+        requires sound { sound self.old }
+        ensures sound { sound self.new }
         ensures leads { Leads stands self.old self.new (ServerTook (take n (seen self.old).to_server)) }
         ensures serving { (seen self.new).serving ≡ (seen self.old).serving };
 
     fn server_stopped(&mut self)
-        requires { (seen self.old).wants.server_write ≡ true }
+        requires wanted { (seen self.old).wants.server_write ≡ true }
+        requires sound { sound self.old }
+        ensures sound { sound self.new }
         ensures leads { Leads stands self.old self.new ServerStopped }
         ensures serving { (seen self.new).serving ≡ (seen self.old).serving };
 
     fn server_closed(&mut self)
-        requires { (how : Close) × ((seen self.old).wants.server_close ≡ Some how) }
+        requires wanted { (how : Close) × ((seen self.old).wants.server_close ≡ Some how) }
+        requires sound { sound self.old }
+        ensures sound { sound self.new }
         ensures leads { Leads stands self.old self.new ServerClosed }
         ensures serving { (seen self.new).serving ≡ false };
 
     fn work(&mut self) -> Result<(), OutOfMemory>
+        requires sound { sound self.old }
+        ensures sound { OnOk result (sound self.new) }
         ensures leads { OnOk result ((note : Option Bool) × Leads stands self.old self.new (Work note)) }
         ensures wants { OnOk result (wants_any (seen self.new).wants ≡ true) }
         ensures serving { OnOk result ((seen self.new).serving ≡ (seen self.old).serving) }
         ensures lost { IsErr result ↔ ((seen self.new).lost ≡ true) };
+
+    ghost lends_to_client: { (c : Self) → with_to_client c (seen c).to_client ≡ c };
+
+    ghost lends_to_server: { (c : Self) → with_to_server c (seen c).to_server ≡ c };
 
     ghost wants_mean: { (c : Self) → WantsMean (seen c) };
 

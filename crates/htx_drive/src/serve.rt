@@ -1,5 +1,5 @@
 //! An open server, until its link is to be closed.
-ghost use Rattle.std.specs.Prelude.{◌≡◌, ◌<◌, ◌≤◌, ◌+◌, ◌++◌, ◌∷◌, [], List, Some, true, false, length, IfOk, IsErrOf};
+ghost use Rattle.std.specs.Prelude.{◌≡◌, ◌<◌, ◌≤◌, ◌+◌, ◌++◌, ◌∷◌, [], List, Some, true, false, length, IfOk, OnOk, IsErrOf};
 ghost use Rattle.session_core.specs.History.{Past, Connect};
 ghost use Rattle.htx_drive.specs.Driven.{Hand, HandGoes, Left, Ends, paid_by};
 ghost use Rattle.htx_drive.specs.Acts.{moves_bytes};
@@ -20,6 +20,8 @@ fn serve_turn<C: Machine, L: Link, T: Turns>(
 ) -> Result<bool, SessionFault>
     requires wants { wants.now ≡ (C.seen core.old).wants }
     requires some { moves_bytes wants.now ≡ true }
+    requires sound { C.sound core.old }
+    ensures sound { OnOk result (C.sound core.new) }
     ensures goes { (cfg : C.Settings) (first first_link : L) (before : List Connect) (past : Past) (c : Connect) → Hand (C.stands cfg core.old) L.seen L.wrote first client.old first_link link.old false before past c
         → Ends result (λ moved. HandGoes (C.stands cfg core.new) L.seen L.wrote first client.new first_link link.new false before past (paid_by moved) 0) (λ failed. HandGoes (C.stands cfg core.new) L.seen L.wrote first client.new first_link link.new failed before past 0 0) }
     ensures serving { (C.seen core.new).serving ≡ (C.seen core.old).serving }
@@ -61,7 +63,9 @@ pub(crate) fn serve<C: Machine, L: Link, T: Turns>(
     turns: &mut T,
     left: &mut u64,
 ) -> Result<Close, SessionFault>
-    requires { (C.seen core.old).serving ≡ true }
+    requires serving { (C.seen core.old).serving ≡ true }
+    requires sound { C.sound core.old }
+    ensures sound { OnOk result (C.sound core.new) }
     ensures goes { (cfg : C.Settings) (first first_link : L) (before : List Connect) (past : Past) (c : Connect) → Hand (C.stands cfg core.old) L.seen L.wrote first client.old first_link link.old false before past c
         → Ends result (λ _. HandGoes (C.stands cfg core.new) L.seen L.wrote first client.new first_link link.new false before past left.old left.new) (λ failed. HandGoes (Left (C.meaning cfg) (C.stands cfg) core.new (C.seen core.new).lost) L.seen L.wrote first client.new first_link link.new failed before past left.old left.new) }
     ensures how { IfOk result (λ how. (C.seen core.new).wants.server_close ≡ Some how) }

@@ -26,6 +26,8 @@ fn client_turn<C: Machine, L: Link, T: Turns>(
     requires some { moves_bytes wants.now ≡ true }
     requires no_read { wants.now.server_read ≡ false }
     requires no_write { wants.now.server_write ≡ false }
+    requires sound { C.sound core.old }
+    ensures sound { OnOk result (C.sound core.new) }
     ensures goes { (cfg : C.Settings) (first : L) (past : Past) → Idle (C.stands cfg core.old) L.seen L.wrote first client.old false past
         → Ends result (λ moved. IdleGoes (C.stands cfg core.new) L.seen L.wrote first client.new false past (paid_by moved) 0) (λ failed. IdleGoes (C.stands cfg core.new) L.seen L.wrote first client.new failed past 0 0) }
     ensures serving { (C.seen core.new).serving ≡ (C.seen core.old).serving }
@@ -62,6 +64,8 @@ fn idle_turn<C: Machine, L: Link, T: Turns>(
     requires no_read { wants.now.server_read ≡ false }
     requires no_write { wants.now.server_write ≡ false }
     requires left { 0 < left.old }
+    requires sound { C.sound core.old }
+    ensures sound { OnOk result (C.sound core.new) }
     ensures goes { (cfg : C.Settings) (first : L) (past : Past) → Idle (C.stands cfg core.old) L.seen L.wrote first client.old false past
         → Ends result (λ _. IdleGoes (C.stands cfg core.new) L.seen L.wrote first client.new false past left.old left.new) (λ failed. IdleGoes (C.stands cfg core.new) L.seen L.wrote first client.new failed past left.old left.new) }
     ensures serving { (C.seen core.new).serving ≡ (C.seen core.old).serving }
@@ -92,6 +96,8 @@ fn step<C: Machine, L: Link, N: Net<Link = L>, T: Turns>(
     requires idle { (C.seen core.old).serving ≡ false }
     requires some { wants.now.server_open ≡ false → moves_bytes wants.now ≡ true }
     requires left { 0 < left.old }
+    requires sound { C.sound core.old }
+    ensures sound { OnOk result (C.sound core.new) }
     ensures goes { (cfg : C.Settings) (first : L) (first_net : N) (past : Past) → Idle (C.stands cfg core.old) L.seen L.wrote first client.old false past → Dials (address_of to.now) (N.seen first_net) (N.seen net.old) past.connects
         → Ends result (λ _. Goes (C.stands cfg core.new) L.seen L.wrote first client.new false (address_of to.now) (N.seen first_net) (N.seen net.new) past left.old left.new) (λ failed. Goes (Left (C.meaning cfg) (C.stands cfg) core.new (C.seen core.new).lost) L.seen L.wrote first client.new failed (address_of to.now) (N.seen first_net) (N.seen net.new) past left.old left.new) }
     ensures serving { OnOk result ((C.seen core.new).serving ≡ false) }
@@ -114,7 +120,9 @@ fn exchanges<C: Machine, L: Link, N: Net<Link = L>, T: Turns>(
     turns: &mut T,
     left: &mut u64,
 ) -> Result<End, SessionFault>
-    requires { (C.seen core.old).serving ≡ false }
+    requires serving { (C.seen core.old).serving ≡ false }
+    requires sound { C.sound core.old }
+    ensures sound { OnOk result (C.sound core.new) }
     ensures goes { (cfg : C.Settings) (first : L) (first_net : N) (past : Past) → Idle (C.stands cfg core.old) L.seen L.wrote first client.old false past → Dials (address_of to.now) (N.seen first_net) (N.seen net.old) past.connects
         → Ends result (λ _. Goes (C.stands cfg core.new) L.seen L.wrote first client.new false (address_of to.now) (N.seen first_net) (N.seen net.new) past left.old left.new) (λ failed. Goes (Left (C.meaning cfg) (C.stands cfg) core.new (C.seen core.new).lost) L.seen L.wrote first client.new failed (address_of to.now) (N.seen first_net) (N.seen net.new) past left.old left.new) }
     ensures over { IfOk result (λ how. (C.seen core.new).wants.over ≡ Some how) }
@@ -164,7 +172,8 @@ pub fn run_session<C: Machine, L: Link, N: Net<Link = L>, T: Turns>(
     turns: &mut T,
     budget: u64,
 ) -> Result<Ran, SessionFault>
-    requires { (C.seen core.old).serving ≡ false }
+    requires serving { (C.seen core.old).serving ≡ false }
+    requires sound { C.sound core.old }
     ensures ran { (cfg : C.Settings) → C.stands cfg core.old nothing_yet → IfOk result (λ ran. RanSo (C.meaning cfg) (C.stands cfg core.new) L.seen L.wrote client.old client.new (address_of to.now) (N.seen net.old) (N.seen net.new) ran) }
     ensures gave_up { (cfg : C.Settings) → C.stands cfg core.old nothing_yet → IfErr result (λ fault. GaveUp (C.meaning cfg) (C.stands cfg) core.new (C.seen core.new).lost L.seen L.wrote client.old client.new (address_of to.now) (N.seen net.old) (N.seen net.new) budget fault) }
 {

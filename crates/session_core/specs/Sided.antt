@@ -36,8 +36,8 @@ pub record RequestSeen : Type 0 where
   pub awaits : Bool
   -- the last step left nothing undone that could be done with what has come
   pub at_rest : Bool
-  -- the array on which request rules run
-  pub raw : List ℕ
+  -- the list in the array on which request rules run
+  pub list : List Block
 
 -- what a core sees of its answer direction
 pub record AnswerSeen : Type 0 where
