@@ -37,7 +37,7 @@ use Rattle.lane.specs.declared.phase.Phase.{Phase}
 use Rattle.lane.specs.declared.phase.Phase.TheVariants as phase
 use Rattle.lane.specs.declared.response_lane.ResponseLane.{ResponseLane}
 use Rattle.answer_side.specs.Seen.{told_by, is_done, told_at, answered_at, is_last}
-use Rattle.answer_side.specs.Stands.{IsInHand, IsResponse, IsInstead, IsFor, Decides, StandsAt, AnswerStands, HasBodies, GivesAll, list_text, is_serving}
+use Rattle.answer_side.specs.Stands.{IsInHand, IsResponse, IsInstead, IsFor, Decides, StandsAt, AnswerStands, HasBodies, list_text, is_serving}
 use Rattle.answer_side.specs.declared.place.Place.{Place}
 use Rattle.answer_side.specs.declared.place.Place.TheVariants as place
 use Rattle.answer_side.specs.declared.side.AnswerSide.{AnswerSide}
@@ -178,12 +178,12 @@ response_goes cfg asker before lane server put e now for h a promise r =
     }
 
 -- where a body has a reading, it is the last
-response_last : (cfg : Config) (asker : Asker) (before : Variables) (lane : ResponseLane) (server : Coming) (put : List ℕ) (e : Exchange) (now : Variables) → GivesAll cfg.res_filters → IsInHand asker lane server put e
+response_last : (cfg : Config) (asker : Asker) (before : Variables) (lane : ResponseLane) (server : Coming) (put : List ℕ) (e : Exchange) (now : Variables) → IsInHand asker lane server put e
     → (r : IsResponse cfg asker before now e) (g : ResponseGoes cfg asker r.received r.head (interim_text (sent_interim asker e.read)) put lane server e.read)
     → (rest : Stream) (used : List ℕ) (behind : Stream) → rest ≡ prepend used behind → g.left ≡ used ++ g.past.bytes → Continues (record { bytes = g.past.bytes; ending = server.ending }) behind
     → (body : BodyReading) → BodyOf cfg.limits r.received.framing behind.bytes behind.ending body
     → LastSo (meaning_of cfg) asker before (interim_text (sent_interim asker e.read)) (told_by (source_of lane)) now (is_done (stage_of lane)) (has_begun lane) put rest
-response_last cfg asker before lane server put e now all h r g rest used behind is left c body reads =
+response_last cfg asker before lane server put e now h r g rest used behind is left c body reads =
     let interim : List ℕ = interim_text (sent_interim asker e.read) in
     let m : More server.ending g.past.bytes behind = more_of server.ending g.past.bytes behind c in
     let m_lane : More lane.lane.ended g.past.bytes behind = subst (λ (o : Option Ending). More o g.past.bytes behind) (sym h.ending) m in
@@ -193,7 +193,7 @@ response_last cfg asker before lane server put e now all h r g rest used behind 
     (subst (λ (xs : List ℕ). ResponseOf asker.head_asked cfg.limits xs (Begins r.received (g.past.bytes ++ m.more))) text (g.reads m.more m.over)) in
     subst (λ (s : Stream). LastSo (meaning_of cfg) asker before interim (told_by (source_of lane)) now (is_done (stage_of lane)) (has_begun lane) put s) (sym is)
     (body_is_last (meaning_of cfg) asker before interim r.received r.at r.head now now (told_by (source_of lane)) (is_done (stage_of lane)) (has_begun lane) put used behind r.is_final head r.rules r.short r.after r.fits
-    (body_goes cfg asker r.received r.head now interim put (has_begun lane) lane.lane g.past g.text all g.serving behind m_lane body reads))
+    (body_goes cfg asker r.received r.head now interim put (has_begun lane) lane.lane g.past g.text g.serving behind m_lane body reads))
 
 if_body : (cfg : Config) (framing : Framing) (behind : Stream) (so : Told) (A : Type 0) → IsTotalAnswers (meaning_of cfg) → (so ≡ told.Closes → ⊥) → (so ≡ told.Whole → (body : BodyReading) × BodyOf cfg.limits framing behind.bytes behind.ending body)
     → (so ≡ told.Cut → HasBodies cfg) → ((body : BodyReading) → BodyOf cfg.limits framing behind.bytes behind.ending body → A) → IfTold so A
@@ -222,10 +222,10 @@ whole_body cfg asker received head interim put lane server q text s has behind m
     (subst (λ (f : Framing). IsBodyOf cfg.limits f (q.bytes ++ m.more) (Some behind.ending) read.0) s.framed
     (subst (λ (l : Limits). IsBodyOf l q.reads (q.bytes ++ m.more) (Some behind.ending) read.0) s.limits read.1)))
 
-response_answers : (cfg : Config) (asking : Asking Variables) (lane : ResponseLane) (server : Coming) (put : List ℕ) (e : Exchange) (now : Variables) → IsTotalAnswers (meaning_of cfg) → (told_by (source_of lane) ≡ told.Cut → HasBodies cfg) → GivesAll cfg.res_filters
+response_answers : (cfg : Config) (asking : Asking Variables) (lane : ResponseLane) (server : Coming) (put : List ℕ) (e : Exchange) (now : Variables) → IsTotalAnswers (meaning_of cfg) → (told_by (source_of lane) ≡ told.Cut → HasBodies cfg)
     → IsFor cfg lane → IsInHand (asker_in asking) lane server put e → AnswersLast lane e → Laws lane.lane → IsResponse cfg (asker_in asking) (answering asking.vars) now e
     → (stream : Stream) → Continues server stream → IfTold (told_by (source_of lane)) (AnswerGoes (meaning_of cfg) (told_by (source_of lane)) (is_done (stage_of lane)) (has_begun lane) asking put now stream)
-response_answers cfg asking lane server put e now total has all for h a laws r stream c =
+response_answers cfg asking lane server put e now total has for h a laws r stream c =
     let asker : Asker = asker_in asking in
     let g : ResponseGoes cfg asker r.received r.head (interim_text (sent_interim asker e.read)) put lane server e.read = response_goes cfg asker (answering asking.vars) lane server put e now for h a laws.promise r in
     let heads : Came cfg asker server e.read g.left = came cfg asker server e.read g.left g.came in
@@ -240,7 +240,7 @@ response_answers cfg asking lane server put e now total has all for h a laws r s
     let m : More lane.lane.ended g.past.bytes s.rest = subst (λ (o : Option Ending). More o g.past.bytes s.rest) (sym h.ending) (more_of server.ending g.past.bytes s.rest s.continues) in
     if_body cfg r.received.framing s.rest (told_by (source_of lane)) _ total (never_closes (source_of lane))
     (λ is. whole_body cfg asker r.received r.head (interim_text (sent_interim asker e.read)) put lane server g.past g.text g.serving (laws.has_body g.past g.stands (is_whole (source_of lane) is)) s.rest m) has
-    (λ body reads. response_last cfg asker (answering asking.vars) lane server put e now all h r g rest used.0 s.rest s.is used.1 s.continues body reads)) stream c
+    (λ body reads. response_last cfg asker (answering asking.vars) lane server put e now h r g rest used.0 s.rest s.is used.1 s.continues body reads)) stream c
 
 -- ---- the whole
 
@@ -259,13 +259,13 @@ settled (source.Cut code) off = tt
 done_told : (lane : ResponseLane) (e : Exchange) → AnswersLast lane e → is_done (stage_of lane) ≡ true → IsTold (told_by (source_of lane))
 done_told lane e a done = settled lane.lane.source (a.stands.done (done_is lane.lane.stage done))
 
-pub so_at : (at : Place) (cfg : Config) (asking : Asking Variables) (lane : ResponseLane) (server : Coming) (put : List ℕ) (now : Variables) (saying : List ℕ) → IsTotalAnswers (meaning_of cfg) → (told_at at (source_of lane) ≡ told.Cut → HasBodies cfg) → GivesAll cfg.res_filters
+pub so_at : (at : Place) (cfg : Config) (asking : Asking Variables) (lane : ResponseLane) (server : Coming) (put : List ℕ) (now : Variables) (saying : List ℕ) → IsTotalAnswers (meaning_of cfg) → (told_at at (source_of lane) ≡ told.Cut → HasBodies cfg)
     → ((e : Exchange) → Answers lane e → AnswerPromise lane e) → Laws lane.lane → IsFor cfg lane → is_serving at ≡ true → StandsAt at cfg (asker_in asking) (answering asking.vars) lane server put now saying
     → (answered_at at (stage_of lane) ≡ true → IsTold (told_at at (source_of lane)))
     × ((stream : Stream) → Continues server stream → IfTold (told_at at (source_of lane)) (AnswerGoes (meaning_of cfg) (told_at at (source_of lane)) (answered_at at (stage_of lane)) (has_begun lane) asking put now stream))
-so_at place.Idle cfg asking lane server put now saying total has all promise laws for serves s = absurd (let both : false ≡ true = serves in cc both)
-so_at place.Saying cfg asking lane server put now saying total has all promise laws for serves s = absurd (let both : false ≡ true = serves in cc both)
-so_at place.Heads cfg asking lane server put now saying total has all promise laws for serves s =
+so_at place.Idle cfg asking lane server put now saying total has promise laws for serves s = absurd (let both : false ≡ true = serves in cc both)
+so_at place.Saying cfg asking lane server put now saying total has promise laws for serves s = absurd (let both : false ≡ true = serves in cc both)
+so_at place.Heads cfg asking lane server put now saying total has promise laws for serves s =
     let e : Exchange = s.0 in
     let none : has_begun lane ≡ false = unbegun lane e s.2 s.1.answers in
     let left = heads_came cfg (asker_in asking) lane server put e for s.1 (promise e s.1.answers) in
@@ -275,13 +275,13 @@ so_at place.Heads cfg asking lane server put now saying total has all promise la
           (answers_open (meaning_of cfg) total asking server (record { bytes = left.0; ending = server.ending }) e.read heads.used put now heads.passed
           (interim_front (asker_in asking) lane server put e s.1 (promise e s.1.answers) none) stream c),
     )
-so_at place.Response cfg asking lane server put now saying total has all promise laws for serves s =
+so_at place.Response cfg asking lane server put now saying total has promise laws for serves s =
     let e : Exchange = s.0 in
     let a = answering_at lane.phase lane e _ _ _ _ refl s.2 s.3.last s.1.answers in
-    (done_told lane e a.1, response_answers cfg asking lane server put e now total has all for s.1 a.1 laws s.3)
-so_at place.Closing cfg asking lane server put now saying total has all promise laws for serves s =
+    (done_told lane e a.1, response_answers cfg asking lane server put e now total has for s.1 a.1 laws s.3)
+so_at place.Closing cfg asking lane server put now saying total has promise laws for serves s =
     (λ answered. tt, instead_closes cfg asking lane server put s.0 now for s.1 s.2 (promise s.0 s.1.answers) s.3)
-so_at place.Keeping cfg asking lane server put now saying total has all promise laws for serves s =
+so_at place.Keeping cfg asking lane server put now saying total has promise laws for serves s =
     (λ answered. tt, instead_keeps cfg asking lane server put s.0 now for s.1 s.2 (promise s.0 s.1.answers) s.3)
 
 pub in_hand_at : (at : Place) (cfg : Config) (asking : Asking Variables) (lane : ResponseLane) (server : Coming) (put : List ℕ) (now : Variables) (saying : List ℕ) → is_serving at ≡ true

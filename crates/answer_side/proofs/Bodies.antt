@@ -37,7 +37,6 @@ use Rattle.lane_core.specs.declared.stage.Source.TheVariants as source
 use Rattle.lane_core.specs.declared.stage.Stage.TheVariants as stage
 use Rattle.lane_core.specs.declared.stage.Stage.{Stage}
 use Rattle.answer_side.specs.Seen.{told_by, is_done}
-use Rattle.answer_side.specs.Stands.{GivesAll}
 use Rattle.answer_side.proofs.Heads.{More}
 
 -- ---- filters of a whole body come to an end
@@ -176,20 +175,20 @@ whole_final cfg asker received head vars before body trailers rest text (Refused
     (filtered cfg.res_filters true body).output (sent_body (filters_of cfg.res_filters) None body).output text (sym (ap not (refused_there cfg.res_filters body code e))) (sym (sent_output cfg.res_filters None body))
     (spells_cut (head_for cfg asker received head) (framing_for cfg asker received) trailers asker.head_asked (filtered cfg.res_filters true body).output text ended)
 
-broken_final : (cfg : Config) (asker : Asker) (received : Received) (head : Head) (vars : Variables) (body text : List ℕ) → GivesAll cfg.res_filters
-    → Spells false asker.head_asked (message (head_for cfg asker received head) (framing_for cfg asker received) (filtered cfg.res_filters false body).output []) text
+broken_final : (cfg : Config) (asker : Asker) (received : Received) (head : Head) (vars : Variables) (body text : List ℕ)
+    → Spells false asker.head_asked (message (head_for cfg asker received head) (framing_for cfg asker received) (filtered cfg.res_filters true body).output []) text
     → Spells (not (is_some (sent_body (filters_of cfg.res_filters) (Some 502) body).refused)) asker.head_asked
     (message (head_for cfg asker received head) (framing_for cfg asker received) (sent_body (filters_of cfg.res_filters) (Some 502) body).output []) text
-broken_final cfg asker received head vars body text all s =
+broken_final cfg asker received head vars body text s =
     spells_same (head_for cfg asker received head) (framing_for cfg asker received) [] asker.head_asked false (not (is_some (sent_body (filters_of cfg.res_filters) (Some 502) body).refused))
-    (filtered cfg.res_filters false body).output (sent_body (filters_of cfg.res_filters) (Some 502) body).output text (sym (ap not (cut_there cfg.res_filters body))) (all body ∙ sym (sent_output cfg.res_filters (Some 502) body)) s
+    (filtered cfg.res_filters true body).output (sent_body (filters_of cfg.res_filters) (Some 502) body).output text (sym (ap not (cut_there cfg.res_filters body))) (sym (sent_output cfg.res_filters (Some 502) body)) s
 
 -- the lane spells what the session does
-spells_final : (cfg : Config) (asker : Asker) (received : Received) (head : Head) (vars : Variables) (before : List ℕ) (body : BodyReading) (text : List ℕ) → GivesAll cfg.res_filters
+spells_final : (cfg : Config) (asker : Asker) (received : Received) (head : Head) (vars : Variables) (before : List ℕ) (body : BodyReading) (text : List ℕ)
     → LaneSpells cfg asker received head before body text → SpellsFinal (meaning_of cfg) asker (final_of cfg asker received head vars body) text
-spells_final cfg asker received head vars before (Whole body trailers rest) text all s = whole_final cfg asker received head vars before body trailers rest text (filtered cfg.res_filters true body).state refl s
-spells_final cfg asker received head vars before (Broke body) text all s = broken_final cfg asker received head vars body text all s
-spells_final cfg asker received head vars before (Bad body) text all s = broken_final cfg asker received head vars body text all s
+spells_final cfg asker received head vars before (Whole body trailers rest) text s = whole_final cfg asker received head vars before body trailers rest text (filtered cfg.res_filters true body).state refl s
+spells_final cfg asker received head vars before (Broke body) text s = broken_final cfg asker received head vars body text s
+spells_final cfg asker received head vars before (Bad body) text s = broken_final cfg asker received head vars body text s
 
 -- ---- how it stands
 
@@ -285,10 +284,10 @@ taken_by cfg asker received head interim put begun lane q text s rest m body rea
     (subst (λ (xs : List ℕ). IsBodyOf cfg.limits received.framing xs (Some rest.ending) (Reads body)) m.bytes reads))
 
 -- what it puts out is a front of the session's response, with this body
-pub body_goes : (cfg : Config) (asker : Asker) (received : Received) (head : Head) (vars : Variables) (interim put : List ℕ) (begun : Bool) (lane : Lane) (q : Past) (text : List ℕ) → GivesAll cfg.res_filters
+pub body_goes : (cfg : Config) (asker : Asker) (received : Received) (head : Head) (vars : Variables) (interim put : List ℕ) (begun : Bool) (lane : Lane) (q : Past) (text : List ℕ)
     → Serving cfg asker received head interim put begun lane q text → (rest : Stream) → More lane.ended q.bytes rest → (body : BodyReading) → BodyOf cfg.limits received.framing rest.bytes rest.ending body
     → AnswerBody (meaning_of cfg) asker interim received head vars (told_by lane.source) vars (is_done lane.stage) begun put rest
-body_goes cfg asker received head vars interim put begun lane q text all s rest m body reads =
+body_goes cfg asker received head vars interim put begun lane q text s rest m body reads =
     let goes = goes_on lane.ended q.bytes rest m in
     let taken = taken_by cfg asker received head interim put begun lane q text s rest m body reads in
     let t : Spelled cfg asker received head q.sent.before (is_done lane.stage) text body = spelled_at cfg asker received head lane q text m.more (Some rest.ending) body (is_done lane.stage) refl s.promise s.kept s.filters s.sent s.out goes taken in
@@ -297,7 +296,7 @@ body_goes cfg asker received head vars interim put begun lane q text all s rest 
       body = body;
       reads = reads;
       text = t.whole;
-      spelled = spells_final cfg asker received head vars q.sent.before body t.whole all t.spells;
+      spelled = spells_final cfg asker received head vars q.sent.before body t.whole t.spells;
       front = (t.left, front);
       told = told_is cfg asker received head vars lane q m.more (Some rest.ending) body lane.source refl s.promise s.filters goes taken;
       sent = λ e. sym (append-nil put) ∙ ap (λ xs. put ++ xs) (sym (t.sent e)) ∙ front;

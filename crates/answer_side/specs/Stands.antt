@@ -6,8 +6,6 @@ use Rattle.http_model.specs.Finish.{response_framing}
 use Rattle.http_model.specs.Reading.{Received, HeadReading, BodyReading}
 use Rattle.http_model.specs.Spelling.{head_text}
 use Rattle.http_model.specs.declared.Ending.{Ending}
-use Rattle.body_filter.specs.declared.filter_spec.FilterSpec.{FilterSpec}
-use Rattle.body_filter.specs.Filter.{filtered}
 use Rattle.px_sample.specs.Variables.{Variables}
 use Rattle.http_rules.specs.declared.config.Config.{Config}
 use Rattle.http_rules.specs.Lives.{answering}
@@ -157,7 +155,3 @@ is_serving place.Saying = false
 -- every body has a reading
 abbrev pub HasBodies : Config → Type 0
 HasBodies cfg = (framing : Framing) (bytes : List ℕ) (ending : Ending) → (body : BodyReading) × BodyOf cfg.limits framing bytes ending body
-
--- of a body that breaks off the filters give all that they would give of it as a whole
-abbrev pub GivesAll : List FilterSpec → Type 0
-GivesAll filters = (bytes : List ℕ) → (filtered filters false bytes).output ≡ (filtered filters true bytes).output

@@ -1,9 +1,6 @@
 -- What a chain of filters does with a text, and what of it comes into an empty array.
 use Rattle.std.specs.Prelude.{◌≡◌, ℕ, ◌<◌, ◌≤◌, Bool, true, false, List, [], ◌++◌, length, take}
-use Rattle.htx_model.specs.Block.{Block}
-use Rattle.htx_model.specs.Blocks.{append_data}
 use Rattle.body_filter.specs.declared.filter_spec.FilterSpec.{FilterSpec}
-use Rattle.body_filter.specs.declared.filter_spec.FedState.{FedState}
 use Rattle.body_filter.specs.declared.filter_spec.FedState.TheVariants.{Going, Over}
 use Rattle.body_filter.specs.declared.filter_spec.Fed.{Fed}
 use Rattle.body_filter.specs.declared.chain.Chain.{Chain}

@@ -7,8 +7,9 @@ ghost use Rattle.h1_body.specs.Trailers.{trailer_blocks};
 ghost use Rattle.body_filter.specs.Valid.{AreFilters};
 ghost use Rattle.body_filter.specs.declared.filter_spec.FilterSpec.{FilterSpec};
 ghost use Rattle.body_sieve.specs.Feeds.{Feeds};
-ghost use Rattle.body_sieve.specs.Sieved.{IsSieve, IsSection, HasSieved, IsIdle, IsStill, Sifts, answer_at, end_of, held_in, section_in};
+ghost use Rattle.body_sieve.specs.Sieved.{IsSieve, IsSection, HasSieved, IsIdle, IsStill, Sifts, answer_at, over_at, end_of, held_in, is_ended, section_in};
 ghost use Rattle.body_sieve.specs.declared.sieve.BodyEnd.TheVariants as body_end;
+ghost use Rattle.body_sieve.specs.declared.sieve.Sifted.TheVariants as sifted;
 
 use body_filter::{Chain, Fed, FedState, FilterSpec};
 use h1_body::add_trailers;
@@ -39,6 +40,8 @@ pub enum Sifted {
     Idle,
     /// The body is whole, was accepted, and all of it was given.
     Accepted,
+    /// The body is cut, what came of it was accepted, and all of it was given.
+    Cut,
     /// The body was refused with this code, and all that goes out of it was given.
     Refused(u16),
 }
@@ -102,12 +105,22 @@ fn has_moved(fed: Fed) -> bool
     fed.given > 0
 }
 
-/// What a call of the filters came to.
-fn answer_of(state: FedState, moved: bool) -> Sifted
-    ensures { result ≡ answer_at state moved }
+/// What filters that are over came to, by how the body ends.
+fn over_of(end: BodyEnd) -> Sifted
+    ensures { result ≡ over_at end }
+{
+    match end {
+        BodyEnd::Cut => Sifted::Cut,
+        BodyEnd::Open | BodyEnd::Whole | BodyEnd::Accepted => Sifted::Accepted,
+    }
+}
+
+/// What a call of the filters came to, by how the body ends.
+fn answer_of(end: BodyEnd, state: FedState, moved: bool) -> Sifted
+    ensures { result ≡ answer_at end state moved }
 {
     match state {
-        FedState::Over => Sifted::Accepted,
+        FedState::Over => over_of(end),
         FedState::Refused(code) => Sifted::Refused(code),
         FedState::Going => { if moved { Sifted::Gave } else { Sifted::Idle } }
     }
@@ -212,28 +225,28 @@ impl Sieve {
     {
         let last = self.is_last();
         let fed = feed_held(&mut self.chain, &mut self.held, last, &mut self.given, to);
-        self.meet(fed.state);
-        answer_of(fed.state, has_moved(fed))
+        let answer = answer_of(self.end, fed.state, has_moved(fed));
+        self.meet(answer);
+        answer
     }
 
     /// Whether nothing follows what is held.
     fn is_last(&self) -> bool
-        ensures last { result ≡ true → end_of self.now ≡ body_end.Whole }
-        ensures only { end_of self.now ≡ body_end.Whole → result ≡ true }
+        ensures { result ≡ is_ended (end_of self.now) }
     {
         match self.end {
-            BodyEnd::Whole => true,
-            BodyEnd::Open | BodyEnd::Cut | BodyEnd::Accepted => false,
+            BodyEnd::Open => false,
+            BodyEnd::Whole | BodyEnd::Cut | BodyEnd::Accepted => true,
         }
     }
 
-    /// Notes that the filters accepted the body, where they did.
-    fn meet(&mut self, state: FedState)
-        ensures over { state ≡ FedState.Over → self.new.end ≡ body_end.Accepted }
-        ensures other { state ≢ FedState.Over → self.new.end ≡ self.old.end }
+    /// Notes that the filters accepted a whole body, where they did.
+    fn meet(&mut self, answer: Sifted)
+        ensures accepted { answer ≡ sifted.Accepted → self.new.end ≡ body_end.Accepted }
+        ensures other { answer ≢ sifted.Accepted → self.new.end ≡ self.old.end }
         ensures same { self.new ≡ record self.old { end = self.new.end } }
     {
-        if state == FedState::Over {
+        if answer == Sifted::Accepted {
             self.end = BodyEnd::Accepted;
         }
     }

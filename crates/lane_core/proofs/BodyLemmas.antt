@@ -155,28 +155,11 @@ bad_stays limits framing used found section rest reader end h e = bad_at limits 
 
 -- ---- a reader that waits
 
--- it is not whole
-abbrev pub IsNotWhole : BodyRead → Type 0
-IsNotWhole (Reads (Whole body trailers rest)) = ⊥
-IsNotWhole (Reads (Broke body)) = Unit {0}
-IsNotWhole (Reads (Bad body)) = Unit {0}
-IsNotWhole (More body) = Unit {0}
-
-open_not_whole : (found : List ℕ) (read : BodyRead) → read ≡ More found → IsNotWhole read
-open_not_whole found read e = subst IsNotWhole (sym e) tt
-
-section_not_whole : (most : ℕ) (bytes found : List ℕ) (end : Option Ending) (read : BodyRead) → HasNoSection bytes → SectionTells most bytes found end read → IsNotWhole read
-section_not_whole most bytes found end (Reads (Whole body trailers rest)) none t = absurd (none t.1.0 t.1.1.begins.last rest t.1.1.begins.reads)
-section_not_whole most bytes found end (Reads (Bad body)) none t = tt
-section_not_whole most bytes found end (Reads (Broke body)) none t = tt
-section_not_whole most bytes found end (More body) none t = tt
-
 record Waiting (most : ℕ) (st : Stage) (at : BodyAt) (rest : List ℕ) : Type 0 where
   pub to : BodyAt
   pub goes : Goes at rest to []
   pub cut : (found : List ℕ) (how : Ending) (read : BodyRead) → (how ≡ ending.Closed → ends_at st ≡ false) → Tells most to found (Some how) read → IsCut read
   pub still : (found : List ℕ) (read : BodyRead) → Tells most to found None read → (read ≡ More found) ⊎ (HasNoSection rest × (length rest < most))
-  pub not_whole : (found : List ℕ) (read : BodyRead) → Tells most to found None read → IsNotWhole read
 
 stays_at : (at other : BodyAt) (rest : List ℕ) → at ≡ other → rest ≡ [] → Goes at rest other []
 stays_at at other rest e none = subst (λ (xs : List ℕ). Goes at xs other []) (sym none) (record { place = e; piece = refl })
@@ -199,12 +182,12 @@ no_byte rest (inl e) = absurd (omega arith)
 no_byte rest (inr e) = nil_from_length rest e
 
 waiting : (most : ℕ) (st : Stage) (at : BodyAt) (rest : List ℕ) → state_at st ≡ state.More → Stands most st at → WaitsAt most st rest 1 → Waiting most st at rest
-waiting most (stage.Left left) at rest more s w = record { to = Left left; goes = stays_at at (Left left) rest s.1 (no_byte rest w); cut = λ found how read _ t. open_cut found how read t; still = λ found read t. inl t; not_whole = λ found read t. open_not_whole found read t }
-waiting most stage.UntilClose at rest more s w = record { to = UntilClose; goes = stays_at at UntilClose rest s (no_byte rest w); cut = λ found how read h t. close_cut found how read h t; still = λ found read t. inl t; not_whole = λ found read t. open_not_whole found read t }
-waiting most (stage.Data left) at rest more s w = record { to = InData left; goes = stays_at at (InData left) rest s.1 (no_byte rest w); cut = λ found how read _ t. open_cut found how read t; still = λ found read t. inl t; not_whole = λ found read t. open_not_whole found read t }
+waiting most (stage.Left left) at rest more s w = record { to = Left left; goes = stays_at at (Left left) rest s.1 (no_byte rest w); cut = λ found how read _ t. open_cut found how read t; still = λ found read t. inl t }
+waiting most stage.UntilClose at rest more s w = record { to = UntilClose; goes = stays_at at UntilClose rest s (no_byte rest w); cut = λ found how read h t. close_cut found how read h t; still = λ found read t. inl t }
+waiting most (stage.Data left) at rest more s w = record { to = InData left; goes = stays_at at (InData left) rest s.1 (no_byte rest w); cut = λ found how read _ t. open_cut found how read t; still = λ found read t. inl t }
 waiting most stage.Line at rest more s (place, goes) =
-    record { to = InLine place (length rest); goes = subst (λ (p : BodyAt). Goes p rest (InLine place (length rest)) []) (sym s) goes; cut = λ found how read _ t. open_cut found how read t; still = λ found read t. inl t; not_whole = λ found read t. open_not_whole found read t }
-waiting most stage.LineEnd at rest more s (inl none) = record { to = AtReturn; goes = stays_at at AtReturn rest s none; cut = λ found how read _ t. open_cut found how read t; still = λ found read t. inl t; not_whole = λ found read t. open_not_whole found read t }
+    record { to = InLine place (length rest); goes = subst (λ (p : BodyAt). Goes p rest (InLine place (length rest)) []) (sym s) goes; cut = λ found how read _ t. open_cut found how read t; still = λ found read t. inl t }
+waiting most stage.LineEnd at rest more s (inl none) = record { to = AtReturn; goes = stays_at at AtReturn rest s none; cut = λ found how read _ t. open_cut found how read t; still = λ found read t. inl t }
 waiting most stage.LineEnd at rest more s (inr one) =
     let g : Goes AtReturn (13 ∷ []) AtFeed [] = record { place = refl; piece = refl } in
     record {
@@ -212,10 +195,9 @@ waiting most stage.LineEnd at rest more s (inr one) =
       goes = subst (λ (p : BodyAt). Goes p rest AtFeed []) (sym s) (subst (λ (xs : List ℕ). Goes AtReturn xs AtFeed []) (sym one) g);
       cut = λ found how read _ t. open_cut found how read t;
       still = λ found read t. inl t;
-      not_whole = λ found read t. open_not_whole found read t;
     }
 waiting most stage.Section at rest more s w =
-    record { to = InSection rest; goes = subst (λ (p : BodyAt). Goes p rest (InSection rest) []) (sym s) (section_goes rest []); cut = λ found how read _ t. section_cut most rest found how read w.none t; still = λ found read t. inr (w.none, w.short); not_whole = λ found read t. section_not_whole most rest found None read w.none t }
+    record { to = InSection rest; goes = subst (λ (p : BodyAt). Goes p rest (InSection rest) []) (sym s) (section_goes rest []); cut = λ found how read _ t. section_cut most rest found how read w.none t; still = λ found read t. inr (w.none, w.short) }
 waiting most stage.Over at rest more s w = absurd (cc)
 waiting most stage.Dead at rest more s w = absurd (cc)
 
@@ -245,11 +227,3 @@ waiting_open limits framing used found section rest reader read h more w x =
     let here : WaitsAt (section_limit limits) reader.stage rest 1 = subst (λ (k : ℕ). WaitsAt k reader.stage rest 1) h.limit w in
     let r = waiting (section_limit limits) reader.stage h.at rest more h.stands here in
     r.still found read (tells_at limits framing (used ++ rest) found r.to None read (goes_on limits framing used found rest h.at r.to h.goes r.goes) x)
-
--- nor is it whole there
-pub waiting_not_whole : (limits : Limits) (framing : Framing) (used found section rest : List ℕ) (reader : BodyReader) (read : BodyRead) → HasRead limits framing used found section reader
-    → state_of reader ≡ state.More → IsWaiting reader rest → IsBodyOf limits framing (used ++ rest) None read → IsNotWhole read
-waiting_not_whole limits framing used found section rest reader read h more w x =
-    let here : WaitsAt (section_limit limits) reader.stage rest 1 = subst (λ (k : ℕ). WaitsAt k reader.stage rest 1) h.limit w in
-    let r = waiting (section_limit limits) reader.stage h.at rest more h.stands here in
-    r.not_whole found read (tells_at limits framing (used ++ rest) found r.to None read (goes_on limits framing used found rest h.at r.to h.goes r.goes) x)

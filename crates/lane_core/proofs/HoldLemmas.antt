@@ -49,7 +49,7 @@ ended_sieve : (filters : List FilterSpec) (found passed : List ℕ) (sieve : Sie
     → HasSieved filters found passed (record sieve { end = body_end.Whole }) × HasSieved filters found passed (record sieve { end = body_end.Cut })
 ended_sieve filters found passed sieve open_ has =
     let u : SievedAt body_end.Open filters found passed sieve.chain sieve.held.items = subst (λ (e : BodyEnd). SievedAt e filters found passed sieve.chain sieve.held.items) open_ has in
-    (inl u, u)
+    (inl u, inl u)
 
 -- what was read into the sieve
 pub record Read (reader reader' : BodyReader) (before after : List ℕ) (sieve held_ : Sieve) (used : ℕ) (st : BodyState) : Type 0 where

@@ -46,16 +46,17 @@ all_passes whole body more = refl
 -- the filters' state, with what it tells of the body: while the body may go on, or once its end has come
 pub data Came (filters : List FilterSpec) (reader : BodyReader) (ended : Option Ending) (input section found passed : List ℕ) : Type 0 where
   GoesOn : Passes filters found passed → Came filters reader ended input section found passed
-  CutHere : IsCutAt reader ended input → Passes filters found passed → Came filters reader ended input section found passed
+  CutHere : IsCutAt reader ended input → PassesAll filters found passed → Came filters reader ended input section found passed
   WholeHere : IsWholeAt reader ended input section → PassesAll filters found passed → Came filters reader ended input section found passed
 
 came_at : (at : BodyEnd) (filters : List FilterSpec) (reader : BodyReader) (ended : Option Ending) (input section found passed : List ℕ) (chain : Chain) (held : List ℕ) → EndsAt at reader ended input section → SievedAt at filters found passed chain held
     → Came filters reader ended input section found passed
 came_at body_end.Open filters reader ended input section found passed chain held e s = GoesOn (uses_passes filters found passed chain held s)
-came_at body_end.Cut filters reader ended input section found passed chain held e s = CutHere e (uses_passes filters found passed chain held s)
+came_at body_end.Cut filters reader ended input section found passed chain held e (inl u) = CutHere e (passes_all filters found passed (uses_passes filters found passed chain held u))
+came_at body_end.Cut filters reader ended input section found passed chain held e (inr all) = CutHere e (at_end filters found passed chain all.1)
 came_at body_end.Whole filters reader ended input section found passed chain held e (inl u) = WholeHere e (passes_all filters found passed (uses_passes filters found passed chain held u))
 came_at body_end.Whole filters reader ended input section found passed chain held e (inr all) = WholeHere e (at_end filters found passed chain all.1)
-came_at body_end.Accepted filters reader ended input section found passed chain held e s = WholeHere e (at_end filters found passed chain s.1)
+came_at body_end.Accepted filters reader ended input section found passed chain held e s = WholeHere e (at_end filters found passed chain s.0.1)
 
 pub came_by : (sieve : Option Sieve) (filters : List FilterSpec) (reader : BodyReader) (ended : Option Ending) (input section found passed : List ℕ) → GoesOnBy sieve reader ended input section → HasPassed sieve filters found passed
     → Came filters reader ended input section found passed

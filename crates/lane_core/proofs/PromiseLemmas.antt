@@ -31,15 +31,15 @@ use Rattle.lane_core.specs.Sent.{Sent, Finish, Cut, Ends, SpellsAs, IsFrontOf, m
 use Rattle.lane_core.specs.Carried.{Carried, CarriesFront, Carries, EndIsOut}
 use Rattle.lane_core.specs.Pulled.{IsWaiting}
 use Rattle.lane_core.specs.Sends.{Past, Sends, Stands, SourceIs, IsAllOut, IsAtRest, RestsFor, IsOver, Waits, put_out}
-use Rattle.lane_core.specs.Filtering.{HasPassed, SieveRests, IsWholeAt, IsCutAt, CutBy, Broken, RefusedNow, RefusedWhole}
-use Rattle.lane_core.specs.Promise.{Promise, BodyTaken, HasBody, OnEachBody, GoesOnWith, body_in, body_sent, filter_of, finish_of, ends_as, IsCut, IsCutWith, ShowsNoCut, InSection}
+use Rattle.lane_core.specs.Filtering.{HasPassed, SieveRests, IsWholeAt, IsCutAt, CutBy, Broken, RefusedNow, RefusedAtEnd}
+use Rattle.lane_core.specs.Promise.{Promise, BodyTaken, HasBody, OnEachBody, GoesOnWith, body_in, body_sent, sent_so_far, filter_of, finish_of, ends_as, IsCut, IsCutWith, ShowsNoCut, InSection}
 use Rattle.lane_core.specs.declared.stage.Source.{Source}
 use Rattle.lane_core.specs.declared.stage.Source.TheVariants as source
 use Rattle.lane_core.specs.declared.lane.Lane.{Lane}
 use Rattle.htx_model.proofs.Flows.{flow-front}
 use Rattle.lane_core.proofs.FlowLemmas.{front_flow, front_more, front_ended}
 use Rattle.lane_core.proofs.ReadLemmas.{no_trailers}
-use Rattle.lane_core.proofs.BodyLemmas.{grows, whole_stays, bad_stays, waiting_body, waiting_cut, waiting_open, waiting_not_whole, IsNotWhole}
+use Rattle.lane_core.proofs.BodyLemmas.{grows, whole_stays, bad_stays, waiting_body, waiting_cut, waiting_open}
 use Rattle.lane_core.proofs.SendLemmas.{plain_settled}
 use Rattle.lane_core.proofs.SiftLemmas.{some_trailers}
 use Rattle.lane_core.proofs.PassLemmas.{Passes, Came, GoesOn, CutHere, WholeHere, came_by}
@@ -160,12 +160,19 @@ cut_is l p s (inr (how, ended, wait, waits, ends)) more ending g read x =
       cut = waiting_cut l.limits p.reads s.used s.found s.section l.input.items l.reader how read s.has_read wait waits ends here;
     }
 
--- of a body that is no whole one the filters make what they make of its bytes so far
-so_far : (filters : List FilterSpec) (read : BodyRead) → IsCut read → filter_of filters read ≡ filtered filters false (body_in read)
-so_far filters (Reads (Whole body trailers rest)) h = absurd h
-so_far filters (Reads (Broke body)) h = refl
-so_far filters (Reads (Bad body)) h = refl
-so_far filters (More body) h = absurd h
+-- of a body that is cut the filters make what they make of all that came
+all_that_came : (filters : List FilterSpec) (read : BodyRead) → IsCut read → filter_of filters read ≡ filtered filters true (body_in read)
+all_that_came filters (Reads (Whole body trailers rest)) h = absurd h
+all_that_came filters (Reads (Broke body)) h = refl
+all_that_came filters (Reads (Bad body)) h = refl
+all_that_came filters (More body) h = absurd h
+
+-- and so of one that is cut where the bytes were read to
+cut_filtered : (l : Lane) (p : Past) (s : Sends l p) → IsCutAt l.reader l.ended l.input.items
+    → (more : List ℕ) (ending : Option Ending) → GoesOnWith l.ended more ending → (read : BodyRead) → BodyTaken l p more ending read → filter_of p.filters read ≡ filtered p.filters true s.found
+cut_filtered l p s at more ending g read x =
+    let here = cut_is l p s at more ending g read x in
+    all_that_came p.filters read here.cut ∙ ap (filtered p.filters true) here.body
 
 cut_finish : (filters : List FilterSpec) (read : BodyRead) → IsCut read → finish_of filters read ≡ Cut
 cut_finish filters (Reads (Whole body trailers rest)) h = absurd h
@@ -176,8 +183,8 @@ cut_finish filters (More body) h = refl
 -- what the filters make of any reading, whole or so far
 either_way : (filters : List FilterSpec) (read : BodyRead) → (whole : Bool) × (filter_of filters read ≡ filtered filters whole (body_in read))
 either_way filters (Reads (Whole body trailers rest)) = (true, refl)
-either_way filters (Reads (Broke body)) = (false, refl)
-either_way filters (Reads (Bad body)) = (false, refl)
+either_way filters (Reads (Broke body)) = (true, refl)
+either_way filters (Reads (Bad body)) = (true, refl)
 either_way filters (More body) = (false, refl)
 
 refused_ends : (st : FedState) (code : ℕ) (trailers : List Field) → st ≡ state.Refused code → ends_as st trailers ≡ Cut
@@ -198,9 +205,9 @@ record CutSource (p : Past) (passed : List ℕ) (code : ℕ) (read : BodyRead) :
 
 cut_source : (l : Lane) (p : Past) (s : Sends l p) (code : ℕ) → CutBy p.filters l.reader l.ended l.input.items s.section s.found s.passed code
     → (more : List ℕ) (ending : Option Ending) → GoesOnWith l.ended more ending → (read : BodyRead) → BodyTaken l p more ending read → CutSource p s.passed code read
-cut_source l p s code (Broken four at settled) more ending g read x =
+cut_source l p s code (Broken four at all) more ending g read x =
     let here = cut_is l p s at more ending g read x in
-    let is : filter_of p.filters read ≡ record { output = s.passed; state = state.Going } = so_far p.filters read here.cut ∙ ap (filtered p.filters false) here.body ∙ settled in
+    let is : filter_of p.filters read ≡ record { output = s.passed; state = state.Over } = cut_filtered l p s at more ending g read x ∙ all in
     record { output = ap (λ (f : Filtered). f.output) is; finish = cut_finish p.filters read here.cut; why = inr (four, here.cut, ap (λ (f : Filtered). f.state) is) }
 cut_source l p s code (RefusedNow now) more ending g read x =
     let body = grows l.limits p.reads s.used s.found s.section (l.input.items ++ more) l.reader ending read s.has_read (reading l p s more ending read x) in
@@ -208,7 +215,11 @@ cut_source l p s code (RefusedNow now) more ending g read x =
     let is : filter_of p.filters read ≡ record { output = s.passed; state = state.Refused code } = way.1 ∙ ap (filtered p.filters way.0) body.1 ∙ now way.0 body.0 in
     let st : (filter_of p.filters read).state ≡ state.Refused code = ap (λ (f : Filtered). f.state) is in
     record { output = ap (λ (f : Filtered). f.output) is; finish = refused_finish p.filters read code st; why = inl st }
-cut_source l p s code (RefusedWhole at whole) more ending g read x =
+cut_source l p s code (RefusedAtEnd (inr at) refused) more ending g read x =
+    let is : filter_of p.filters read ≡ record { output = s.passed; state = state.Refused code } = cut_filtered l p s at more ending g read x ∙ refused in
+    let st : (filter_of p.filters read).state ≡ state.Refused code = ap (λ (f : Filtered). f.state) is in
+    record { output = ap (λ (f : Filtered). f.output) is; finish = refused_finish p.filters read code st; why = inl st }
+cut_source l p s code (RefusedAtEnd (inl at) whole) more ending g read x =
     let trailers = some_trailers l.limits p.reads s.used s.found s.section l.input.items l.reader l.ended s.has_read at in
     let same = whole_is l p s trailers.0 at trailers.1 more ending g read x in
     let is : filter_of p.filters read ≡ record { output = s.passed; state = state.Refused code } = ap (filter_of p.filters) same ∙ whole in
@@ -242,7 +253,8 @@ passes_read l p s h more ending read x =
 front_going : (l : Lane) (p : Past) (s : Sends l p) → Came p.filters l.reader l.ended l.input.items s.section s.found s.passed → CarriesFront l.writer p.sent (p.sent.given ++ s.passed) (put_out l p) l.out.blocks l.msg.blocks
     → OnEachBody l p (λ read. IsFrontOf p.sent (body_sent p read) (finish_of p.filters read) (put_out l p))
 front_going l p s (GoesOn h) c more ending g read x = let on = passes_read l p s h more ending read x in going_front l p s c more ending g read x on.0 on.1
-front_going l p s (CutHere at h) c more ending g read x = let on = passes_read l p s h more ending read x in going_front l p s c more ending g read x on.0 on.1
+front_going l p s (CutHere at h) c more ending g read x =
+    going_front l p s c more ending g read x h.all.0 (ap (λ (f : Filtered). f.output) (cut_filtered l p s at more ending g read x) ∙ h.all.1)
 front_going l p s (WholeHere at h) c more ending g read x =
     let trailers = some_trailers l.limits p.reads s.used s.found s.section l.input.items l.reader l.ended s.has_read at in
     let same = whole_is l p s trailers.0 at trailers.1 more ending g read x in
@@ -333,17 +345,11 @@ settled_by (Some sieve) filters found passed rests h =
     let all : found ≡ u.used = u.found_is ∙ ap (λ (b : List ℕ). u.used ++ b) rests.0.held ∙ append-nil u.used in
     ap (filtered filters false) all ∙ rests.1 filters u.used passed u.has
 
-so_open : (filters : List FilterSpec) (read : BodyRead) → IsNotWhole read → filter_of filters read ≡ filtered filters false (body_in read)
-so_open filters (Reads (Whole body trailers rest)) h = absurd h
-so_open filters (Reads (Broke body)) h = refl
-so_open filters (Reads (Bad body)) h = refl
-so_open filters (More body) h = refl
-
 -- what is known of the bytes taken where the lane waits
 record AtRest (l : Lane) (p : Past) (s : Sends l p) (read : BodyRead) : Type 0 where
   pub body : body_in read ≡ s.found
   pub open_ : (read ≡ More s.found) ⊎ InSection l
-  pub passed : filter_of p.filters read ≡ record { output = s.passed; state = state.Going }
+  pub passed : filtered p.filters false (body_in read) ≡ record { output = s.passed; state = state.Going }
 
 taken_here : (l : Lane) (p : Past) (s : Sends l p) (read : BodyRead) → BodyTaken l p [] l.ended read → IsBodyOf l.limits p.reads (s.used ++ l.input.items) l.ended read
 taken_here l p s read x = subst (λ (bytes : List ℕ). IsBodyOf l.limits p.reads bytes l.ended read) (append-nil p.bytes ∙ s.bytes) x
@@ -355,14 +361,13 @@ at_rest l p s ended waits more still read x =
     record {
       body = body;
       open_ = waiting_open l.limits p.reads s.used s.found s.section l.input.items l.reader read s.has_read more waits here;
-      passed = so_open p.filters read (waiting_not_whole l.limits p.reads s.used s.found s.section l.input.items l.reader read s.has_read more waits here)
-          ∙ ap (filtered p.filters false) body ∙ settled_by l.sieve p.filters s.found s.passed still s.has_passed;
+      passed = ap (filtered p.filters false) body ∙ settled_by l.sieve p.filters s.found s.passed still s.has_passed;
     }
 
-pub nothing_held_back : (l : Lane) (p : Past) → Stands l p → l.dropped ≡ false → l.source ≡ source.Going → IsAtRest l → (read : BodyRead) → BodyTaken l p [] l.ended read → SpellsAs p.sent (body_sent p read) Cut (put_out l p)
+pub nothing_held_back : (l : Lane) (p : Past) → Stands l p → l.dropped ≡ false → l.source ≡ source.Going → IsAtRest l → (read : BodyRead) → BodyTaken l p [] l.ended read → SpellsAs p.sent (sent_so_far p read) Cut (put_out l p)
 nothing_held_back l p st d e rest read x = by rest.for
   where
-    by : RestsFor l → SpellsAs p.sent (body_sent p read) Cut (put_out l p)
+    by : RestsFor l → SpellsAs p.sent (sent_so_far p read) Cut (put_out l p)
     by (IsOver over) = absurd (over e)
     by (Waits going ended waits more still) =
         let s = st.sends in

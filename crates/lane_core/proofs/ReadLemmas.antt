@@ -35,7 +35,7 @@ use Rattle.lane_core.specs.declared.lane.Lane.{Lane}
 use Rattle.lane_core.proofs.RoomLemmas.{some_end}
 use Rattle.body_sieve.specs.declared.sieve.Sieve.{Sieve}
 use Rattle.lane_core.specs.Filtering.{HasPassed, GoesOnBy, Broken}
-use Rattle.lane_core.proofs.SendLemmas.{sends_going, sends_section, none_rests, no_filters, plain_over, plain_settled}
+use Rattle.lane_core.proofs.SendLemmas.{sends_going, sends_section, none_rests, no_filters, plain_over}
 
 -- no section was read while the body still comes, or where it is none
 pub more_section : (st : Stage) (at : BodyAt) → state_at st ≡ state.More → section_in st at ≡ []
@@ -229,7 +229,7 @@ sends_bad l p input reader msg used st r is s =
       has_read = read;
       bytes = s.bytes ∙ ap (λ xs. s.used ++ xs) x.window ∙ sym (append_assoc s.used x.used input.items);
       has_passed = passes;
-      source = Broken refl (inl (sym x.told ∙ is)) (plain_settled l.sieve r.none p.filters (s.found ++ x.piece) (s.passed ++ x.piece) passes);
+      source = Broken refl (inl (sym x.told ∙ is)) (plain_over l.sieve r.none p.filters (s.found ++ x.piece) (s.passed ++ x.piece) passes);
       text = λ d. further l p s.passed x.piece msg.blocks (read_on l.writer p.sent (p.sent.given ++ s.passed) x.piece (put_out l p) l.out.blocks msg.blocks (carried l p s r.going r.empty d) (x.plain (wide l p s) none));
     }
 

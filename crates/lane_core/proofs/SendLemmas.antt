@@ -106,7 +106,7 @@ sends_cut l p how s is none ended waits more open_ = record {
   has_read = s.has_read;
   bytes = s.bytes;
   has_passed = s.has_passed;
-  source = Broken refl (inr (how, ended, more, waits, open_)) (plain_settled l.sieve none p.filters s.found s.passed s.has_passed);
+  source = Broken refl (inr (how, ended, more, waits, open_)) (plain_over l.sieve none p.filters s.found s.passed s.has_passed);
   text = λ d. sends_going l p s is d;
 }
 

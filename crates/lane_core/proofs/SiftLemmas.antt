@@ -1,5 +1,5 @@
 -- What a step of the filters makes of a message that is sent.
-use Rattle.std.proofs.Common.{◌≡◌, ◌≢◌, ℕ, ◌+◌, ◌<◌, ◌≤◌, inl, inr, List, [], ◌++◌, true, false, refl, sym, ap, ◌∙◌, subst, length, arith}
+use Rattle.std.proofs.Common.{◌≡◌, ℕ, ◌+◌, ◌<◌, ◌≤◌, inl, inr, List, [], ◌++◌, true, false, refl, sym, ap, ◌∙◌, subst, length, arith}
 use Rattle.std.specs.Prelude.{Option, Some, None}
 use Rattle.std.proofs.lemmas.List.{append-nil}
 use Rattle.htx_model.specs.Block.{Block}
@@ -21,15 +21,15 @@ use Rattle.h1_body.specs.declared.stages.Stage.{Stage}
 use Rattle.h1_body.specs.declared.stages.Stage.TheVariants as stage
 use Rattle.h1_body.proofs.Told.{told}
 use Rattle.body_filter.specs.declared.filter_spec.FilterSpec.{FilterSpec}
-use Rattle.body_sieve.specs.Sieved.{HasSieved, SievedAt, IsSettled, Sifts, end_of, section_in, is_open, sift_left}
+use Rattle.body_sieve.specs.Sieved.{HasSieved, SievedAt, is_ended, Sifts, end_of, section_in, is_open, sift_left}
 use Rattle.body_sieve.specs.declared.sieve.BodyEnd.{BodyEnd}
 use Rattle.body_sieve.specs.declared.sieve.BodyEnd.TheVariants as body_end
 use Rattle.body_sieve.specs.declared.sieve.Sifted.{Sifted}
 use Rattle.body_sieve.specs.declared.sieve.Sifted.TheVariants as sifted
 use Rattle.body_sieve.specs.declared.sieve.Sieve.{Sieve}
 use Rattle.lane_core.specs.Carried.{Carried, CarriesFront, Carries}
-use Rattle.lane_core.specs.Coming.{ComesTo, Comes, ComesBy, Given, EndsWith, SameEnd, IsCutNow, came_at, idle_at}
-use Rattle.lane_core.specs.Filtering.{HasPassed, AreThese, SieveFits, SieveRests, IsWholeAt, EndsAt, GoesOnBy, CutBy, Broken, RefusedNow, RefusedWhole, held_left}
+use Rattle.lane_core.specs.Coming.{ComesTo, Comes, ComesBy, Given, EndsWith, SameEnd, IsCutNow, came_at}
+use Rattle.lane_core.specs.Filtering.{HasPassed, AreThese, SieveFits, SieveRests, IsWholeAt, EndsAt, GoesOnBy, IsEndAt, CutBy, Broken, RefusedNow, RefusedAtEnd, held_left}
 use Rattle.lane_core.specs.Sent.{message_of}
 use Rattle.lane_core.specs.Sends.{Past, Sends, SourceIs, put_out, is_going, end_left}
 use Rattle.lane_core.specs.declared.sift.Came.{Came}
@@ -47,37 +47,25 @@ abbrev given_of : (filters : List FilterSpec) (found passed : List ℕ) (old new
     → Given filters found passed old new blocks
 given_of filters found passed old new answer blocks x section has = record { piece = x.piece; put = x.put; sieved = x.sieved filters found passed has; section = section }
 
--- the filters can give nothing
-idle_comes : (at : BodyEnd) (filters : List FilterSpec) (found passed : List ℕ) (size : ℕ) (old new : Sieve) (blocks : List Block) (x : Sifts old new sifted.Idle blocks) → section_in new ≡ section_in old → end_of old ≢ body_end.Accepted
-    → HasSieved filters found passed old → end_of new ≡ at → ComesTo (idle_at at) filters found passed size old new blocks
-idle_comes body_end.Open filters found passed size old new blocks x section other has e =
+pub comes : (answer : Sifted) (size : ℕ) (old new : Sieve) (blocks : List Block) → Sifts old new answer blocks → section_in new ≡ section_in old → Comes (came_at answer) size old new blocks
+comes sifted.Gave size old new blocks x section filters found passed has =
+    let t = x.tells filters found passed has in (given_of filters found passed old new sifted.Gave blocks x section has, inl t.0, t.1)
+comes sifted.Accepted size old new blocks x section filters found passed has =
+    let t = x.tells filters found passed has in (given_of filters found passed old new sifted.Accepted blocks x section has, inr (t.0, t.1), t.2)
+comes sifted.Cut size old new blocks x section filters found passed has =
+    let t = x.tells filters found passed has in (given_of filters found passed old new sifted.Cut blocks x section has, inl (t.1, refl, t.3), t.2)
+comes (sifted.Refused code) size old new blocks x section filters found passed has =
+    let t = x.tells filters found passed has in (given_of filters found passed old new (sifted.Refused code) blocks x section has, inr t.2, t.1)
+comes sifted.Idle size old new blocks x section filters found passed has =
     let t = x.tells filters found passed has in
     let same : passed ++ x.piece ≡ passed = ap (λ (b : List ℕ). passed ++ b) t.3 ∙ append-nil passed in (
       x.put ∙ ap (append_data []) t.3,
       subst (λ (b : List ℕ). HasSieved filters found b new) same (x.sieved filters found passed has),
-      record { end = e; held = t.2 },
+      record { end = t.0 ∙ t.1; held = t.2 },
       x.still refl,
       t.0,
       section,
     )
-idle_comes body_end.Whole filters found passed size old new blocks x section other has e = let t = x.tells filters found passed has in absurd (t.1 (sym t.0 ∙ e))
-idle_comes body_end.Accepted filters found passed size old new blocks x section other has e = let t = x.tells filters found passed has in absurd (other (sym t.0 ∙ e))
-idle_comes body_end.Cut filters found passed size old new blocks x section other has e =
-    let t = x.tells filters found passed has in
-    let same : passed ≡ passed ++ x.piece = sym (ap (λ (b : List ℕ). passed ++ b) t.3 ∙ append-nil passed) in (
-      given_of filters found passed old new sifted.Idle blocks x section has,
-      inl (sym t.0 ∙ e, refl, subst (λ (b : List ℕ). IsSettled filters found b) same t.4),
-      t.5,
-    )
-
-pub comes : (answer : Sifted) (size : ℕ) (old new : Sieve) (blocks : List Block) → Sifts old new answer blocks → section_in new ≡ section_in old → end_of old ≢ body_end.Accepted → Comes (came_at answer (end_of new)) size old new blocks
-comes sifted.Gave size old new blocks x section other filters found passed has =
-    let t = x.tells filters found passed has in (given_of filters found passed old new sifted.Gave blocks x section has, inl t.0, t.1)
-comes sifted.Accepted size old new blocks x section other filters found passed has =
-    let t = x.tells filters found passed has in (given_of filters found passed old new sifted.Accepted blocks x section has, inr (t.0, t.1), t.2)
-comes (sifted.Refused code) size old new blocks x section other filters found passed has =
-    let t = x.tells filters found passed has in (given_of filters found passed old new (sifted.Refused code) blocks x section has, inr t.2, t.1)
-comes sifted.Idle size old new blocks x section other filters found passed has = idle_comes (end_of new) filters found passed size old new blocks x section other has refl
 
 -- ---- the filters stay these
 
@@ -238,13 +226,20 @@ sends_waiting (Some old) l p sieve msg is x s =
     (subst (λ (src : Source). SourceIs src sieve p.filters l.reader l.ended l.input.items s.section s.found s.passed) (sym x.going) (subst (λ (o : Option Sieve). GoesOnBy o l.reader l.ended l.input.items s.section) (sym c.1) on))
     (λ d. subst (λ (bs : List Block). Carries l.source l.writer p.sent (p.sent.given ++ s.passed) s.section (put_out l p) l.out.blocks bs) blocks (s.text d))
 
+-- its end has come
+end_at : (at : BodyEnd) (reader : BodyReader) (ended : Option Ending) (input section : List ℕ) → is_ended at ≡ true → EndsAt at reader ended input section → IsEndAt reader ended input section
+end_at body_end.Open reader ended input section is h = absurd (let both : true ≡ false = sym is in cc both)
+end_at body_end.Whole reader ended input section is h = inl h
+end_at body_end.Accepted reader ended input section is h = inl h
+end_at body_end.Cut reader ended input section is h = inr h
+
 -- why it is cut
 cut_now : (l : Lane) (p : Past) (s : Sends l p) (old : Sieve) (passed : List ℕ) (code : ℕ) → EndsAt (end_of old) l.reader l.ended l.input.items s.section → IsCutNow (end_of old) p.filters s.found passed code
     → CutBy p.filters l.reader l.ended l.input.items s.section s.found passed code
-cut_now l p s old passed code ends (inl (is, four, settled)) =
-    Broken four (subst (λ (b : BodyEnd). EndsAt b l.reader l.ended l.input.items s.section) is ends) settled
+cut_now l p s old passed code ends (inl (is, four, all)) =
+    Broken four (subst (λ (b : BodyEnd). EndsAt b l.reader l.ended l.input.items s.section) is ends) all
 cut_now l p s old passed code ends (inr (inl now)) = RefusedNow now
-cut_now l p s old passed code ends (inr (inr (is, whole))) = RefusedWhole (subst (λ (b : BodyEnd). EndsAt b l.reader l.ended l.input.items s.section) is ends) whole
+cut_now l p s old passed code ends (inr (inr (is, whole))) = RefusedAtEnd (end_at (end_of old) l.reader l.ended l.input.items s.section is ends) whole
 
 pub sends_ended : (o : Option Sieve) (src : Source) (l : Lane) (p : Past) (sieve : Option Sieve) (msg : Contents) → l.sieve ≡ o → Steps l sieve msg (came.Ends src) → Sends l p → Sends (after_sift l sieve msg src) p
 sends_ended None src l p sieve msg is x s =
@@ -267,7 +262,7 @@ sends_ended (Some old) source.Whole l p sieve msg is x s =
     let put : msg.blocks ≡ trailer_blocks trailers.0 = t.2 trailers.0 (subst (λ (xs : List ℕ). HasTrailers xs trailers.0) (sym goes.1) trailers.1) fits in
     sends_as l p sieve msg (came.Ends source.Whole) source.Whole s.passed x s
     (subst (λ (o : Option Sieve). HasPassed o p.filters s.found s.passed) (sym c.1) (subst (λ (v : Sieve). HasSieved p.filters s.found s.passed v) (sym t.1) has))
-    (whole, at.2)
+    (whole, at.1)
     (λ d. (let f = carried l p s x.going x.empty d in (
       trailers.0,
       trailers.1,

@@ -20,7 +20,7 @@ use Rattle.body_filter.specs.declared.filter_spec.FilterSpec.{FilterSpec}
 use Rattle.body_sieve.specs.declared.sieve.BodyEnd.{BodyEnd}
 use Rattle.body_sieve.specs.declared.sieve.BodyEnd.TheVariants as body_end
 use Rattle.body_sieve.specs.declared.sieve.Sieve.{Sieve}
-use Rattle.lane_core.specs.Filtering.{IsWholeAt, IsCutAt, EndsAt, GoesOnBy, CutBy, Broken, RefusedNow, RefusedWhole, held_left}
+use Rattle.lane_core.specs.Filtering.{IsWholeAt, IsCutAt, EndsAt, GoesOnBy, IsEndAt, CutBy, Broken, RefusedNow, RefusedAtEnd, held_left}
 use Rattle.lane_core.specs.declared.stage.Source.{Source}
 use Rattle.lane_core.specs.Sends.{Past, Sends, SourceIs, IsAtRest, IsDrained, RestsFor, IsOver, Waits, GoesOn, IsAllOut, Stands, reads_left, brings_left, end_left, is_going}
 use Rattle.lane_core.specs.declared.stage.Stage.{Stage as LaneStage}
@@ -148,6 +148,10 @@ cut_open : (reader : BodyReader) (ended : Option Ending) (input : List ℕ) → 
 cut_open reader ended input open_ (inl bad) = bad
 cut_open reader ended input open_ (inr h) = absurd (let both : None ≡ Some h.0 = sym open_ ∙ h.1 in cc both)
 
+end_open : (reader : BodyReader) (ended later : Option Ending) (input grown section : List ℕ) → ended ≡ None → IsEndAt reader ended input section → IsEndAt reader later grown section
+end_open reader ended later input grown section open_ (inl whole) = inl (inl (whole_open reader ended input section open_ whole))
+end_open reader ended later input grown section open_ (inr cut) = inr (inl (cut_open reader ended input open_ cut))
+
 ends_open : (e : BodyEnd) (reader : BodyReader) (ended later : Option Ending) (input grown section : List ℕ) → ended ≡ None → EndsAt e reader ended input section → EndsAt e reader later grown section
 ends_open body_end.Open reader ended later input grown section open_ h = h
 ends_open body_end.Whole reader ended later input grown section open_ h = inl (whole_open reader ended input section open_ h)
@@ -160,9 +164,9 @@ goes_open (Some sieve) reader ended later input grown section open_ h = (ends_op
 
 cuts_open : (filters : List FilterSpec) (reader : BodyReader) (ended later : Option Ending) (input grown section found passed : List ℕ) (code : ℕ) → ended ≡ None → CutBy filters reader ended input section found passed code
     → CutBy filters reader later grown section found passed code
-cuts_open filters reader ended later input grown section found passed code open_ (Broken four at settled) = Broken four (inl (cut_open reader ended input open_ at)) settled
+cuts_open filters reader ended later input grown section found passed code open_ (Broken four at all) = Broken four (inl (cut_open reader ended input open_ at)) all
 cuts_open filters reader ended later input grown section found passed code open_ (RefusedNow now) = RefusedNow now
-cuts_open filters reader ended later input grown section found passed code open_ (RefusedWhole at whole) = RefusedWhole (inl (whole_open reader ended input section open_ at)) whole
+cuts_open filters reader ended later input grown section found passed code open_ (RefusedAtEnd at whole) = RefusedAtEnd (end_open reader ended later input grown section open_ at) whole
 
 source_open : (src : Source) (sieve : Option Sieve) (filters : List FilterSpec) (reader : BodyReader) (ended later : Option Ending) (input grown section found passed : List ℕ) → ended ≡ None
     → SourceIs src sieve filters reader ended input section found passed → SourceIs src sieve filters reader later grown section found passed

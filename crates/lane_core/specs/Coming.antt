@@ -6,7 +6,7 @@ use Rattle.http_model.specs.Head.{Field}
 use Rattle.h1_body.specs.Section.{HasTrailers}
 use Rattle.h1_body.specs.Trailers.{trailer_blocks}
 use Rattle.body_filter.specs.declared.filter_spec.FilterSpec.{FilterSpec}
-use Rattle.body_sieve.specs.Sieved.{HasSieved, IsIdle, IsStill, IsSettled, IsRefused, end_of, section_in, sift_left}
+use Rattle.body_sieve.specs.Sieved.{HasSieved, IsIdle, IsStill, IsAllGiven, IsRefused, end_of, section_in, sift_left}
 use Rattle.body_sieve.specs.declared.sieve.BodyEnd.{BodyEnd}
 use Rattle.body_sieve.specs.declared.sieve.BodyEnd.TheVariants as body_end
 use Rattle.body_sieve.specs.declared.sieve.Sifted.{Sifted}
@@ -17,26 +17,21 @@ use Rattle.lane_core.specs.declared.sift.Came.TheVariants as came
 use Rattle.lane_core.specs.declared.stage.Source.{Source}
 use Rattle.lane_core.specs.declared.stage.Source.TheVariants as source
 
--- what the filters' answer comes to, by how the body ends
-abbrev pub idle_at : BodyEnd → Came
-idle_at body_end.Open = came.Waits
-idle_at body_end.Whole = came.Waits
-idle_at body_end.Accepted = came.Waits
-idle_at body_end.Cut = came.Ends (source.Cut 400)
-
-abbrev pub came_at : Sifted → BodyEnd → Came
-came_at sifted.Gave end = came.More
-came_at sifted.Accepted end = came.More
-came_at sifted.Idle end = idle_at end
-came_at (sifted.Refused code) end = came.Ends (source.Cut code)
+-- what the filters' answer comes to
+abbrev pub came_at : Sifted → Came
+came_at sifted.Gave = came.More
+came_at sifted.Accepted = came.More
+came_at sifted.Idle = came.Waits
+came_at sifted.Cut = came.Ends (source.Cut 400)
+came_at (sifted.Refused code) = came.Ends (source.Cut code)
 
 -- the end is the same, or one that was accepted
 abbrev pub SameEnd : BodyEnd → BodyEnd → Type 0
 SameEnd old new = (new ≡ old) ⊎ ((old ≡ body_end.Whole) × (new ≡ body_end.Accepted))
 
--- the body is cut: it is cut, or the filters refused it
+-- the body is cut: it is cut and the filters refused nothing of it, or they refused it
 abbrev pub IsCutNow : BodyEnd → List FilterSpec → (found passed : List ℕ) → (code : ℕ) → Type 0
-IsCutNow end filters found passed code = ((end ≡ body_end.Cut) × (code ≡ 400) × IsSettled filters found passed) ⊎ IsRefused end filters found passed code
+IsCutNow end filters found passed code = ((end ≡ body_end.Cut) × (code ≡ 400) × IsAllGiven filters found passed) ⊎ IsRefused end filters found passed code
 
 -- some bytes were given, and stand in the array
 pub record Given (filters : List FilterSpec) (found passed : List ℕ) (old new : Sieve) (blocks : List Block) : Type 0 where

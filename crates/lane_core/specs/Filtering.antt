@@ -8,7 +8,7 @@ use Rattle.h1_body.specs.Stands.{state_of, ends_of}
 use Rattle.body_filter.specs.declared.filter_spec.FilterSpec.{FilterSpec}
 use Rattle.body_filter.specs.declared.filter_spec.FedState.TheVariants.{Refused}
 use Rattle.body_filter.specs.Filter.{filtered}
-use Rattle.body_sieve.specs.Sieved.{IsSieve, HasSieved, IsIdle, IsStill, IsSettled, end_of, section_in, sift_left}
+use Rattle.body_sieve.specs.Sieved.{IsSieve, HasSieved, IsIdle, IsStill, IsAllGiven, end_of, section_in, sift_left}
 use Rattle.body_sieve.specs.declared.sieve.BodyEnd.{BodyEnd}
 use Rattle.body_sieve.specs.declared.sieve.BodyEnd.TheVariants as body_end
 use Rattle.body_sieve.specs.declared.sieve.Sieve.{Sieve}
@@ -47,6 +47,10 @@ IsCutAt reader ended input =
     (state_of reader ≡ state.Bad)
     ⊎ ((how : Ending) × (ended ≡ Some how) × (state_of reader ≡ state.More) × IsWaiting reader input × (how ≡ ending.Closed → ends_of reader ≡ false))
 
+-- its end has come: it is whole, or cut
+abbrev pub IsEndAt : BodyReader → Option Ending → (input section : List ℕ) → Type 0
+IsEndAt reader ended input section = IsWholeAt reader ended input section ⊎ IsCutAt reader ended input
+
 -- how it ends behind what the filters hold
 abbrev pub EndsAt : BodyEnd → BodyReader → Option Ending → (input section : List ℕ) → Type 0
 EndsAt body_end.Open reader ended input section = section ≡ []
@@ -60,11 +64,11 @@ GoesOnBy None reader ended input section = section ≡ []
 GoesOnBy (Some sieve) reader ended input section = EndsAt (end_of sieve) reader ended input section × (section_in sieve ≡ section)
 
 -- Why a body is cut with this code: it broke off or is none, and no filter refused what came; or a filter refused it, however it
--- goes on, or as the whole that it is.
+-- goes on, or at its end as all that came.
 pub data CutBy (filters : List FilterSpec) (reader : BodyReader) (ended : Option Ending) (input section found passed : List ℕ) (code : ℕ) : Type 0 where
-  Broken : code ≡ 400 → IsCutAt reader ended input → IsSettled filters found passed → CutBy filters reader ended input section found passed code
+  Broken : code ≡ 400 → IsCutAt reader ended input → IsAllGiven filters found passed → CutBy filters reader ended input section found passed code
   RefusedNow : ((whole : Bool) (rest : List ℕ) → filtered filters whole (found ++ rest) ≡ record { output = passed; state = Refused code }) → CutBy filters reader ended input section found passed code
-  RefusedWhole : IsWholeAt reader ended input section → filtered filters true found ≡ record { output = passed; state = Refused code } → CutBy filters reader ended input section found passed code
+  RefusedAtEnd : IsEndAt reader ended input section → filtered filters true found ≡ record { output = passed; state = Refused code } → CutBy filters reader ended input section found passed code
 
 -- ---- what is left to do
 

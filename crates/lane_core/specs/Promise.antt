@@ -23,11 +23,11 @@ body_in (Reads (Broke body)) = body
 body_in (Reads (Bad body)) = body
 body_in (More body) = body
 
--- what the filters make of a body: of all of it where it is whole, else of the bytes so far
+-- what the filters make of a body: of all of it where it is whole, of all that came where it broke off or is none, else of the bytes so far
 abbrev pub filter_of : List FilterSpec → BodyRead → Filtered
 filter_of filters (Reads (Whole body trailers rest)) = filtered filters true body
-filter_of filters (Reads (Broke body)) = filtered filters false body
-filter_of filters (Reads (Bad body)) = filtered filters false body
+filter_of filters (Reads (Broke body)) = filtered filters true body
+filter_of filters (Reads (Bad body)) = filtered filters true body
 filter_of filters (More body) = filtered filters false body
 
 -- a body that the filters accepted ends as its framing asks for, with its trailers
@@ -69,7 +69,7 @@ IsCut (More body) = ⊥
 
 -- why it is cut with this code: a filter refused it, or it broke off or was none, and no filter refused what came
 abbrev pub IsCutWith : ℕ → List FilterSpec → BodyRead → Type 0
-IsCutWith code filters read = ((filter_of filters read).state ≡ Refused code) ⊎ ((code ≡ 400) × IsCut read × ((filter_of filters read).state ≡ Going))
+IsCutWith code filters read = ((filter_of filters read).state ≡ Refused code) ⊎ ((code ≡ 400) × IsCut read × ((filter_of filters read).state ≡ Over))
 
 -- it is whole, with what follows it, and the filters accepted it
 abbrev pub IsWholeWith : List FilterSpec → (rest : List ℕ) → BodyRead → Type 0
@@ -78,6 +78,10 @@ IsWholeWith filters rest read = (body : List ℕ) × (trailers : List Field) × 
 -- the bytes that are sent of a body
 abbrev pub body_sent : Past → BodyRead → List ℕ
 body_sent p read = p.sent.given ++ (filter_of p.filters read).output
+
+-- the bytes that are sent of a body so far, where more of it may come
+abbrev pub sent_so_far : Past → BodyRead → List ℕ
+sent_so_far p read = p.sent.given ++ (filtered p.filters false (body_in read)).output
 
 pub record Promise (lane : Lane) (p : Past) : Type 0 where
   -- at every moment the text is a front of the spelling of what comes
@@ -99,4 +103,4 @@ InSection lane = HasNoSection lane.input.items × (length lane.input.items < sec
 pub record ShowsNoCut (lane : Lane) (p : Past) : Type 0 where
   pub ended : lane.ended ≡ None
   pub still : (read : BodyRead) → BodyTaken lane p [] lane.ended read → (read ≡ More (body_in read)) ⊎ InSection lane
-  pub accepted : (read : BodyRead) → BodyTaken lane p [] lane.ended read → (filter_of p.filters read).state ≡ Going
+  pub accepted : (read : BodyRead) → BodyTaken lane p [] lane.ended read → (filtered p.filters false (body_in read)).state ≡ Going

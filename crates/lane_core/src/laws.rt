@@ -1,7 +1,7 @@
 //! What the definitions say together.
 ghost use Rattle.std.specs.Prelude.{◌≡◌, [], false};
 ghost use Rattle.h1_body.specs.BodyOf.{BodyRead};
-ghost use Rattle.lane_core.specs.Promise.{Promise, HasBody, BodyTaken, ShowsNoCut, body_sent};
+ghost use Rattle.lane_core.specs.Promise.{Promise, HasBody, BodyTaken, ShowsNoCut, sent_so_far};
 ghost use Rattle.lane_core.specs.Sent.{Cut, SpellsAs};
 ghost use Rattle.lane_core.specs.Sends.{Past, Stands, IsAtRest, RestsFor, put_out};
 ghost use Rattle.lane_core.specs.declared.lane.Lane.{Lane};
@@ -20,7 +20,7 @@ pub fn has_body()
 /// A lane that goes on and is at rest has put out all of the head and every body byte that came, but what filters keep back.
 pub fn nothing_held_back()
     ensures { (lane : Lane) (p : Past) → Stands lane p → lane.dropped ≡ false → lane.source ≡ source.Going → IsAtRest lane
-        → (read : BodyRead) → BodyTaken lane p [] lane.ended read → SpellsAs p.sent (body_sent p read) Cut (put_out lane p) }
+        → (read : BodyRead) → BodyTaken lane p [] lane.ended read → SpellsAs p.sent (sent_so_far p read) Cut (put_out lane p) }
 {}
 
 /// Where nothing comes though the body is not over, the bytes and the ending taken show no cut of it.

@@ -2,7 +2,7 @@
 ghost use Rattle.std.specs.Prelude.{◌≡◌, ◌≢◌, [], true, false};
 ghost use Rattle.body_sieve.specs.Sieved.{IsSieve, end_of};
 ghost use Rattle.body_sieve.specs.declared.sieve.BodyEnd.TheVariants as body_end;
-ghost use Rattle.lane_core.specs.Coming.{Comes, ComesBy, came_at, idle_at};
+ghost use Rattle.lane_core.specs.Coming.{Comes, ComesBy, came_at};
 ghost use Rattle.lane_core.specs.Filtering.{SieveFits};
 
 use crate::stage::Source;
@@ -20,23 +20,14 @@ pub(crate) enum Came {
     Ends(Source),
 }
 
-/// What filters that can give nothing come to, by how the body ends.
-fn idle_by(end: BodyEnd) -> Came
-    ensures { result ≡ idle_at end }
-{
-    match end {
-        BodyEnd::Open | BodyEnd::Whole | BodyEnd::Accepted => Came::Waits,
-        BodyEnd::Cut => Came::Ends(Source::Cut(400)),
-    }
-}
-
-/// What an answer of the filters comes to, by how the body ends.
-fn came_by(answer: Sifted, end: BodyEnd) -> Came
-    ensures { result ≡ came_at answer end }
+/// What an answer of the filters comes to.
+fn came_by(answer: Sifted) -> Came
+    ensures { result ≡ came_at answer }
 {
     match answer {
         Sifted::Gave | Sifted::Accepted => Came::More,
-        Sifted::Idle => idle_by(end),
+        Sifted::Idle => Came::Waits,
+        Sifted::Cut => Came::Ends(Source::Cut(400)),
         Sifted::Refused(code) => Came::Ends(Source::Cut(code)),
     }
 }
@@ -64,8 +55,7 @@ fn sift_into(sieve: &mut Sieve, to: &mut Arena) -> Came
         sieve.add_section(to);
         return Came::Ends(Source::Whole);
     }
-    let answer = sieve.sift(to);
-    came_by(answer, sieve.end())
+    came_by(sieve.sift(to))
 }
 
 /// The same where there may be no filters.

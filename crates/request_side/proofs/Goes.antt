@@ -33,7 +33,7 @@ use Rattle.request_side.specs.Seen.{source_by, source_at, is_done, sent_at}
 use Rattle.request_side.specs.Stands.{IsFor, coming, HasPut, GoesOut, StandsAt, message_to}
 use Rattle.request_side.specs.declared.place.Place.{Place}
 use Rattle.request_side.specs.declared.place.Place.TheVariants as place
-use Rattle.request_side.specs.Steps.{BreaksAlike, IfWhole}
+use Rattle.request_side.specs.Steps.{IfWhole}
 use Rattle.request_side.proofs.Bodies.{Follows, follows, is_read, perhaps_read}
 use Rattle.request_side.proofs.Messages.{LaneSpells, SessionSpells, spelled, cut_code, uncut, reading_in}
 
@@ -86,22 +86,22 @@ record Reading (cfg : Config) (lane : RequestLane) (p : Past) (b : BodyReading) 
   taken : BodyTaken lane.lane p follows.more (Some rest.ending) (Reads b)
 
 texts : (cfg : Config) (lane : RequestLane) (vars : Variables) (came : Coming) (asks : Asking Variables) (to_server : List ℕ) (g : GoesOut cfg lane vars came asks to_server) (rest : Stream) (b : BodyReading)
-    → Reading cfg lane g.past b rest → Promise lane.lane g.past → BreaksAlike cfg.req_filters → (d done : Bool) → is_dropping lane ≡ d → is_done (stage_of lane) ≡ done → HasPut d lane g.past to_server
+    → Reading cfg lane g.past b rest → Promise lane.lane g.past → (d done : Bool) → is_dropping lane ≡ d → is_done (stage_of lane) ≡ done → HasPut d lane g.past to_server
     → Texts cfg asks rest b (done && not d) d to_server
-texts cfg lane vars came asks to_server g rest b r promise alike false true dropped done put =
+texts cfg lane vars came asks to_server g rest b r promise false true dropped done put =
     let all : LaneSpells cfg asks b to_server = subst (λ (text : List ℕ). LaneSpells cfg asks b text) (sym put)
     (spells_all cfg asks g.past b (put_out lane.lane g.past) g.message g.filters (promise.spelled (done_is (stage_of lane) done) dropped r.follows.more (Some rest.ending) r.follows.goes (Reads b) r.taken)) in
-    record { text = to_server; spells = spelled cfg asks rest b to_server alike all; front = ([], append-nil to_server); sent = λ e. refl; lacks = λ e. absurd (cc) }
-texts cfg lane vars came asks to_server g rest b r promise alike false false dropped done put =
+    record { text = to_server; spells = spelled cfg asks rest b to_server all; front = ([], append-nil to_server); sent = λ e. refl; lacks = λ e. absurd (cc) }
+texts cfg lane vars came asks to_server g rest b r promise false false dropped done put =
     let h = fronts cfg asks g.past b (put_out lane.lane g.past) g.message g.filters (promise.front dropped r.follows.more (Some rest.ending) r.follows.goes (Reads b) r.taken) in
     let some : LaneSpells cfg asks b (to_server ++ h.0) = subst (λ (text : List ℕ). LaneSpells cfg asks b (text ++ h.0)) (sym put) h.1 in
-    record { text = to_server ++ h.0; spells = spelled cfg asks rest b (to_server ++ h.0) alike some; front = (h.0, refl); sent = λ e. absurd (cc); lacks = λ e. absurd (cc) }
-texts cfg lane vars came asks to_server g rest b r promise alike true done dropped is put =
+    record { text = to_server ++ h.0; spells = spelled cfg asks rest b (to_server ++ h.0) some; front = (h.0, refl); sent = λ e. absurd (cc); lacks = λ e. absurd (cc) }
+texts cfg lane vars came asks to_server g rest b r promise true done dropped is put =
     let l = put.1 in
     let h = fronts cfg asks g.past b (g.past.took ++ l.text) g.message g.filters (l.front r.follows.more (Some rest.ending) r.follows.goes (Reads b) r.taken) in
     let whole : List ℕ = (to_server ++ l.text) ++ h.0 in
     let some : LaneSpells cfg asks b whole = subst (λ (text : List ℕ). LaneSpells cfg asks b ((text ++ l.text) ++ h.0)) (sym put.0) h.1 in
-    record { text = whole; spells = spelled cfg asks rest b whole alike some; front = (l.text ++ h.0, sym (append_assoc to_server l.text h.0)); sent = λ e. absurd (never done e); lacks = λ e. lacks_more to_server l.text h.0 l.some }
+    record { text = whole; spells = spelled cfg asks rest b whole some; front = (l.text ++ h.0, sym (append_assoc to_server l.text h.0)); sent = λ e. absurd (never done e); lacks = λ e. lacks_more to_server l.text h.0 l.some }
   where
     never : (done : Bool) → (done && not true) ≡ true → ⊥
     never true e = cc
@@ -110,14 +110,14 @@ texts cfg lane vars came asks to_server g rest b r promise alike true done dropp
 -- ---- the source
 
 source_is : (cfg : Config) (lane : RequestLane) (vars : Variables) (came_ : Coming) (asks : Asking Variables) (to_server : List ℕ) (g : GoesOut cfg lane vars came_ asks to_server) (rest : Stream) (b : BodyReading)
-    → Reading cfg lane g.past b rest → Promise lane.lane g.past → BreaksAlike cfg.req_filters → (so : LaneSource) → source_of lane ≡ so → SourceIs (source_by so) (request_to (meaning_of cfg) asks rest b).cut
-source_is cfg lane vars came_ asks to_server g rest b r promise alike came.Going e = tt
-source_is cfg lane vars came_ asks to_server g rest b r promise alike came.Whole e =
+    → Reading cfg lane g.past b rest → Promise lane.lane g.past → (so : LaneSource) → source_of lane ≡ so → SourceIs (source_by so) (request_to (meaning_of cfg) asks rest b).cut
+source_is cfg lane vars came_ asks to_server g rest b r promise came.Going e = tt
+source_is cfg lane vars came_ asks to_server g rest b r promise came.Whole e =
     let w : IsWholeWith cfg.req_filters (input_of lane ++ r.follows.more) (Reads b) =
     subst (λ (fs : List FilterSpec). IsWholeWith fs (input_of lane ++ r.follows.more) (Reads b)) g.filters (promise.whole e r.follows.more (Some rest.ending) r.follows.goes (Reads b) r.taken) in
     (uncut cfg asks rest b (input_of lane ++ r.follows.more) w).cut
-source_is cfg lane vars came_ asks to_server g rest b r promise alike (came.Cut code) e =
-    cut_code cfg asks rest b code alike (subst (λ (fs : List FilterSpec). IsCutWith code fs (Reads b)) g.filters (promise.cut code e r.follows.more (Some rest.ending) r.follows.goes (Reads b) r.taken))
+source_is cfg lane vars came_ asks to_server g rest b r promise (came.Cut code) e =
+    cut_code cfg asks rest b code (subst (λ (fs : List FilterSpec). IsCutWith code fs (Reads b)) g.filters (promise.cut code e r.follows.more (Some rest.ending) r.follows.goes (Reads b) r.taken))
 
 -- ---- the body
 
@@ -137,29 +137,29 @@ taken_of cfg lane vars came_ asks to_server g is rest read f x =
 
 -- of a reading of what follows the head, what was put out is a front
 pub body_goes : (cfg : Config) (lane : RequestLane) (vars : Variables) (came_ : Coming) (asks : Asking Variables) (to_server : List ℕ) (g : GoesOut cfg lane vars came_ asks to_server) → IsFor cfg lane → Promise lane.lane g.past
-    → BreaksAlike cfg.req_filters → (rest : Stream) → Follows (ended_of lane) g.past.bytes rest → (b : BodyReading) → BodyOf cfg.limits asks.received.framing rest.bytes rest.ending b
+    → (rest : Stream) → Follows (ended_of lane) g.past.bytes rest → (b : BodyReading) → BodyOf cfg.limits asks.received.framing rest.bytes rest.ending b
     → BodyGoes (meaning_of cfg) asks (source_by (source_of lane)) (is_done (stage_of lane) && not (is_dropping lane)) (is_dropping lane) to_server rest
-body_goes cfg lane vars came_ asks to_server g is promise alike rest f b reads =
+body_goes cfg lane vars came_ asks to_server g is promise rest f b reads =
     let r : Reading cfg lane g.past b rest = record { follows = f; taken = taken_of cfg lane vars came_ asks to_server g is rest (Reads b) f reads } in
     let t : Texts cfg asks rest b (is_done (stage_of lane) && not (is_dropping lane)) (is_dropping lane) to_server =
-    texts cfg lane vars came_ asks to_server g rest b r promise alike (is_dropping lane) (is_done (stage_of lane)) refl refl g.put in
+    texts cfg lane vars came_ asks to_server g rest b r promise (is_dropping lane) (is_done (stage_of lane)) refl refl g.put in
     record {
       body = b;
       reads = reads;
       text = t.text;
       spelled = t.spells;
       front = t.front;
-      source = source_is cfg lane vars came_ asks to_server g rest b r promise alike (source_of lane) refl;
+      source = source_is cfg lane vars came_ asks to_server g rest b r promise (source_of lane) refl;
       sent = t.sent;
       lacks = t.lacks;
     }
 
 -- of this reading
 pub body_is : (cfg : Config) (lane : RequestLane) (vars : Variables) (came_ : Coming) (asks : Asking Variables) (to_server : List ℕ) (g : GoesOut cfg lane vars came_ asks to_server) (is : IsFor cfg lane) (promise : Promise lane.lane g.past)
-    (alike : BreaksAlike cfg.req_filters) (rest : Stream) (f : Follows (ended_of lane) g.past.bytes rest) (b : BodyReading) (reads : BodyOf cfg.limits asks.received.framing rest.bytes rest.ending b)
-    → (body_goes cfg lane vars came_ asks to_server g is promise alike rest f b reads).body ≡ b
+    (rest : Stream) (f : Follows (ended_of lane) g.past.bytes rest) (b : BodyReading) (reads : BodyOf cfg.limits asks.received.framing rest.bytes rest.ending b)
+    → (body_goes cfg lane vars came_ asks to_server g is promise rest f b reads).body ≡ b
 unfolding body_goes
-body_is cfg lane vars came_ asks to_server g is promise alike rest f b reads = refl
+body_is cfg lane vars came_ asks to_server g is promise rest f b reads = refl
 
 -- ---- the request
 
@@ -186,29 +186,29 @@ whole_source came.Whole e = refl
 whole_source (came.Cut code) e = absurd (cc)
 
 pub requests : (cfg : Config) (lane : RequestLane) (vars : Variables) (came_ : Coming) (asks : Asking Variables) (to_server : List ℕ) (g : GoesOut cfg lane vars came_ asks to_server) → IsFor cfg lane → Promise lane.lane g.past
-    → BreaksAlike cfg.req_filters → (source_of lane ≡ came.Whole → HasBody lane.lane g.past)
+    → (source_of lane ≡ came.Whole → HasBody lane.lane g.past)
     → ((bytes : List ℕ) (end : Option Ending) → ((read : BodyRead) → ¬ (IsBodyOf cfg.limits asks.received.framing bytes end read)) → ⊥)
     → (stream : Stream) → Continues came_ stream
     → IfWhole (source_by (source_of lane)) (RequestGoes (meaning_of cfg) (source_by (source_of lane)) (is_done (stage_of lane) && not (is_dropping lane)) (is_dropping lane) vars asks to_server stream)
-requests cfg lane vars came_ asks to_server g is promise alike has some stream c =
+requests cfg lane vars came_ asks to_server g is promise has some stream c =
     let M : Meaning = meaning_of cfg in
     let a : HeadAsks M vars (coming lane g.past.bytes) asks.received stream = head_asks M vars came_ (coming lane g.past.bytes) asks.received g.used g.head stream c in
     let f : Follows (ended_of lane) g.past.bytes a.rest = follows (ended_of lane) g.past.bytes a.rest a.continues in
     let Read : Type 0 = (b : BodyReading) × BodyOf cfg.limits asks.received.framing a.rest.bytes a.rest.ending b in
     if_read (source_of lane) (λ (b : Read).
-    record { rest = a.rest; asks = asks_for cfg lane vars came_ asks to_server g stream a.rest a.asks; goes = body_goes cfg lane vars came_ asks to_server g is promise alike a.rest f b.0 b.1 })
+    record { rest = a.rest; asks = asks_for cfg lane vars came_ asks to_server g stream a.rest a.asks; goes = body_goes cfg lane vars came_ asks to_server g is promise a.rest f b.0 b.1 })
     (λ whole. (let h = has (whole_source (source_of lane) whole) f.more (Some a.rest.ending) f.goes in
     let x : IsBodyOf cfg.limits asks.received.framing a.rest.bytes (Some a.rest.ending) h.0 = reads_of cfg lane vars came_ asks to_server g is a.rest h.0 f h.1 in
     let got : Read = (reading_in h.0, subst (IsBodyOf cfg.limits asks.received.framing a.rest.bytes (Some a.rest.ending)) (is_read cfg.limits asks.received.framing a.rest.bytes a.rest.ending h.0 x) x) in got))
     (perhaps_read cfg.limits asks.received.framing a.rest.bytes a.rest.ending (some a.rest.bytes (Some a.rest.ending)))
 
 pub requests_at : (at : Place) (cfg : Config) (lane : RequestLane) (vars : Variables) (came_ : Coming) (asks : Asking Variables) (to_server : List ℕ) (reply : Reply Variables) → at ≡ place.Sending → StandsAt at cfg lane vars came_ asks to_server reply
-    → IsFor cfg lane → ((p : Past) → asking.Sends lane p → Promise lane.lane p) → BreaksAlike cfg.req_filters → ((p : Past) → asking.Sends lane p → source_of lane ≡ came.Whole → HasBody lane.lane p)
+    → IsFor cfg lane → ((p : Past) → asking.Sends lane p → Promise lane.lane p) → ((p : Past) → asking.Sends lane p → source_of lane ≡ came.Whole → HasBody lane.lane p)
     → ((bytes : List ℕ) (end : Option Ending) → ((read : BodyRead) → ¬ (IsBodyOf cfg.limits asks.received.framing bytes end read)) → ⊥)
     → (stream : Stream) → Continues came_ stream
     → IfWhole (source_at at (source_of lane)) (RequestGoes (meaning_of cfg) (source_at at (source_of lane)) (sent_at at (stage_of lane) && not (is_dropping lane)) (is_dropping lane) vars asks to_server stream)
-requests_at place.Reading cfg lane vars came_ asks to_server reply e h is promise alike has some stream c = absurd (cc)
-requests_at place.Sending cfg lane vars came_ asks to_server reply e h is promise alike has some stream c =
-    requests cfg lane vars came_ asks to_server h is (promise h.past h.sends) alike (has h.past h.sends) some stream c
-requests_at place.Idle cfg lane vars came_ asks to_server reply e h is promise alike has some stream c = absurd (cc)
-requests_at place.Replied cfg lane vars came_ asks to_server reply e h is promise alike has some stream c = absurd (cc)
+requests_at place.Reading cfg lane vars came_ asks to_server reply e h is promise has some stream c = absurd (cc)
+requests_at place.Sending cfg lane vars came_ asks to_server reply e h is promise has some stream c =
+    requests cfg lane vars came_ asks to_server h is (promise h.past h.sends) (has h.past h.sends) some stream c
+requests_at place.Idle cfg lane vars came_ asks to_server reply e h is promise has some stream c = absurd (cc)
+requests_at place.Replied cfg lane vars came_ asks to_server reply e h is promise has some stream c = absurd (cc)

@@ -21,7 +21,6 @@ use Rattle.body_filter.specs.Filter.{filtered}
 use Rattle.lane_core.specs.Sent.{message_of, is_whole, trailers_in}
 use Rattle.lane_core.specs.Promise.{filter_of, finish_of, ends_as, IsCutWith, IsWholeWith}
 use Rattle.request_side.specs.Stands.{message_to}
-use Rattle.request_side.specs.Steps.{BreaksAlike}
 use Rattle.request_side.proofs.Filters.{IsEnd, whole_ends}
 
 -- ---- a body behind filters
@@ -93,36 +92,36 @@ whole_by cfg asking rest bytes trailers left text (state.Refused code) is end h 
     (sent_output fs None bytes) (ap is_none (sent_code fs None bytes (Some code) (ap refused_in is)))
     (cut_trailers head framing (filtered cfg.req_filters true bytes).output [] trailers text h)
 
-broken_by : (cfg : Config) (asking : Asking Variables) (bytes text : List ℕ) → BreaksAlike cfg.req_filters
-    → Spells false false (message_of (message_to cfg asking) (filtered cfg.req_filters false bytes).output []) text
+broken_by : (cfg : Config) (asking : Asking Variables) (bytes text : List ℕ)
+    → Spells false false (message_of (message_to cfg asking) (filtered cfg.req_filters true bytes).output []) text
     → Spells (is_none (sent_body (filters_of cfg.req_filters) (Some 400) bytes).refused) false (message_of (message_to cfg asking) (sent_body (filters_of cfg.req_filters) (Some 400) bytes).output []) text
-broken_by cfg asking bytes text alike h =
+broken_by cfg asking bytes text h =
     let fs : Filters = filters_of cfg.req_filters in
     with_cut (finish_request asking.head (request_framing (replaces cfg.req_filters) asking.received.framing)) (request_framing (replaces cfg.req_filters) asking.received.framing) []
-    (filtered cfg.req_filters false bytes).output (sent_body fs (Some 400) bytes).output text (sent_body fs (Some 400) bytes).refused false
-    (sent_output fs (Some 400) bytes ∙ sym (alike.output bytes))
+    (filtered cfg.req_filters true bytes).output (sent_body fs (Some 400) bytes).output text (sent_body fs (Some 400) bytes).refused false
+    (sent_output fs (Some 400) bytes)
     (ap is_none (sent_code fs (Some 400) bytes (refused_in (filtered cfg.req_filters true bytes).state) refl) ∙ cut_is_none (refused_in (filtered cfg.req_filters true bytes).state) 400) h
 
 -- both spell the same
-pub spelled : (cfg : Config) (asking : Asking Variables) (rest : Stream) (b : BodyReading) (text : List ℕ) → BreaksAlike cfg.req_filters → LaneSpells cfg asking b text → SessionSpells cfg asking rest b text
-spelled cfg asking rest (Whole bytes trailers left) text alike h =
+pub spelled : (cfg : Config) (asking : Asking Variables) (rest : Stream) (b : BodyReading) (text : List ℕ) → LaneSpells cfg asking b text → SessionSpells cfg asking rest b text
+spelled cfg asking rest (Whole bytes trailers left) text h =
     whole_by cfg asking rest bytes trailers left text (filtered cfg.req_filters true bytes).state refl (whole_ends cfg.req_filters bytes) h
-spelled cfg asking rest (Broke bytes) text alike h = broken_by cfg asking bytes text alike h
-spelled cfg asking rest (Bad bytes) text alike h = broken_by cfg asking bytes text alike h
+spelled cfg asking rest (Broke bytes) text h = broken_by cfg asking bytes text h
+spelled cfg asking rest (Bad bytes) text h = broken_by cfg asking bytes text h
 
 -- ---- why it is cut
 
-broken_code : (filters : List FilterSpec) (bytes : List ℕ) (code : ℕ) → BreaksAlike filters
-    → ((filtered filters false bytes).state ≡ state.Refused code) ⊎ ((code ≡ 400) × Unit {0} × ((filtered filters false bytes).state ≡ state.Going)) → (sent_body (filters_of filters) (Some 400) bytes).refused ≡ Some code
-broken_code filters bytes code alike (inl is) = sent_code (filters_of filters) (Some 400) bytes (Some code) (sym (alike.refused bytes) ∙ ap refused_in is)
-broken_code filters bytes code alike (inr (four, cut, is)) = sent_code (filters_of filters) (Some 400) bytes None (sym (alike.refused bytes) ∙ ap refused_in is) ∙ ap Some (sym four)
+broken_code : (filters : List FilterSpec) (bytes : List ℕ) (code : ℕ)
+    → ((filtered filters true bytes).state ≡ state.Refused code) ⊎ ((code ≡ 400) × Unit {0} × ((filtered filters true bytes).state ≡ state.Over)) → (sent_body (filters_of filters) (Some 400) bytes).refused ≡ Some code
+broken_code filters bytes code (inl is) = sent_code (filters_of filters) (Some 400) bytes (Some code) (ap refused_in is)
+broken_code filters bytes code (inr (four, cut, is)) = sent_code (filters_of filters) (Some 400) bytes None (ap refused_in is) ∙ ap Some (sym four)
 
 -- the code of the lane is that of the session
-pub cut_code : (cfg : Config) (asking : Asking Variables) (rest : Stream) (b : BodyReading) (code : ℕ) → BreaksAlike cfg.req_filters → IsCutWith code cfg.req_filters (Reads b) → (request_to (meaning_of cfg) asking rest b).cut ≡ Some code
-cut_code cfg asking rest (Whole bytes trailers left) code alike (inl is) = sent_code (filters_of cfg.req_filters) None bytes (Some code) (ap refused_in is)
-cut_code cfg asking rest (Whole bytes trailers left) code alike (inr (four, cut, is)) = absurd cut
-cut_code cfg asking rest (Broke bytes) code alike h = broken_code cfg.req_filters bytes code alike h
-cut_code cfg asking rest (Bad bytes) code alike h = broken_code cfg.req_filters bytes code alike h
+pub cut_code : (cfg : Config) (asking : Asking Variables) (rest : Stream) (b : BodyReading) (code : ℕ) → IsCutWith code cfg.req_filters (Reads b) → (request_to (meaning_of cfg) asking rest b).cut ≡ Some code
+cut_code cfg asking rest (Whole bytes trailers left) code (inl is) = sent_code (filters_of cfg.req_filters) None bytes (Some code) (ap refused_in is)
+cut_code cfg asking rest (Whole bytes trailers left) code (inr (four, cut, is)) = absurd cut
+cut_code cfg asking rest (Broke bytes) code h = broken_code cfg.req_filters bytes code h
+cut_code cfg asking rest (Bad bytes) code h = broken_code cfg.req_filters bytes code h
 
 -- the reading of a body that was read
 abbrev pub reading_in : BodyRead → BodyReading

@@ -27,7 +27,7 @@ use Rattle.request_side.specs.declared.place.Place.{Place}
 use Rattle.request_side.specs.declared.place.Place.TheVariants as place
 use Rattle.request_side.specs.Seen.{source_by, source_at, is_done}
 use Rattle.request_side.specs.Stands.{IsFor, coming, GoesOut, IsReplied, StandsAt}
-use Rattle.request_side.specs.Steps.{BreaksAlike, WholeCame}
+use Rattle.request_side.specs.Steps.{WholeCame}
 use Rattle.request_side.proofs.Bodies.{Follows, follows, is_read}
 use Rattle.request_side.proofs.Messages.{uncut, reading_in}
 use Rattle.request_side.proofs.Goes.{reads_of, body_goes, body_is, asks_for, whole_source}
@@ -53,9 +53,9 @@ GoesWhole cfg lane so vars asks to_server stream rest =
     × ((request_to (meaning_of cfg) asks g.rest g.goes.body).cut ≡ None) × ((request_to (meaning_of cfg) asks g.rest g.goes.body).rest ≡ rest)
 
 goes_whole : (cfg : Config) (lane : RequestLane) (vars : Variables) (came_ : Coming) (asks : Asking Variables) (to_server : List ℕ) (g : GoesOut cfg lane vars came_ asks to_server) → IsFor cfg lane → Promise lane.lane g.past
-    → BreaksAlike cfg.req_filters → source_of lane ≡ came.Whole → HasBody lane.lane g.past → (read : List ℕ) → g.past.bytes ≡ read ++ input_of lane → (rest : Stream) → Continues (coming lane (input_of lane)) rest
+    → source_of lane ≡ came.Whole → HasBody lane.lane g.past → (read : List ℕ) → g.past.bytes ≡ read ++ input_of lane → (rest : Stream) → Continues (coming lane (input_of lane)) rest
     → GoesWhole cfg lane (source_by (source_of lane)) vars asks to_server (prepend (g.used ++ read) rest) rest
-goes_whole cfg lane vars came_ asks to_server g is promise alike e has read bytes rest c =
+goes_whole cfg lane vars came_ asks to_server g is promise e has read bytes rest c =
     let M : Meaning = meaning_of cfg in
     let with_bytes : List ℕ → Stream = λ bs. record { bytes = bs; ending = rest.ending } in
     let behind : Stream = prepend read rest in
@@ -79,8 +79,8 @@ goes_whole cfg lane vars came_ asks to_server g is promise alike e has read byte
     let a : Asks M vars (prepend g.used behind) (asked_by M asks.received behind (M.request_rules (request_env vars asks.received.head))) = record { head = Begins asks.received behind.bytes; reads = g.head.reads behind on; asks = refl } in
     let s : Asks M vars (prepend (g.used ++ read) rest) (Sends (forwarded_to asks behind)) =
     subst (λ (st : Stream). Asks M vars st (Sends (forwarded_to asks behind))) (sym (ap with_bytes (append_assoc g.used read rest.bytes))) (asks_for cfg lane vars came_ asks to_server g (prepend g.used behind) behind a) in
-    let goes : BodyGoes M asks (source_by (source_of lane)) (is_done (stage_of lane) && not (is_dropping lane)) (is_dropping lane) to_server behind = body_goes cfg lane vars came_ asks to_server g is promise alike behind f b y in
-    let body : b ≡ goes.body = sym (body_is cfg lane vars came_ asks to_server g is promise alike behind f b y) in (
+    let goes : BodyGoes M asks (source_by (source_of lane)) (is_done (stage_of lane) && not (is_dropping lane)) (is_dropping lane) to_server behind = body_goes cfg lane vars came_ asks to_server g is promise behind f b y in
+    let body : b ≡ goes.body = sym (body_is cfg lane vars came_ asks to_server g is promise behind f b y) in (
       record { rest = behind; asks = s; goes = goes },
       subst (λ (x : BodyReading). (request_to M asks behind x).cut ≡ None) body u.cut,
       subst (λ (x : BodyReading). (request_to M asks behind x).rest ≡ rest) body (u.behind ∙ ap with_bytes (sym left.is)),
@@ -93,20 +93,20 @@ came_behind cfg lane vars came_ asks to_server g read bytes =
     g.head.came_is ∙ ap (λ (bs : List ℕ). with_bytes (g.used ++ bs)) bytes ∙ ap with_bytes (sym (append_assoc g.used read (input_of lane)))
 
 pub whole_at : (at : Place) (cfg : Config) (lane : RequestLane) (awaits rests : Bool) (vars : Variables) (came_ : Coming) (asks : Asking Variables) (to_server : List ℕ) (reply : Reply Variables)
-    → source_at at (source_of lane) ≡ source.Whole → StandsAt at cfg lane vars came_ asks to_server reply → IsFor cfg lane → ((p : Past) → asking.Sends lane p → Promise lane.lane p) → BreaksAlike cfg.req_filters
+    → source_at at (source_of lane) ≡ source.Whole → StandsAt at cfg lane vars came_ asks to_server reply → IsFor cfg lane → ((p : Past) → asking.Sends lane p → Promise lane.lane p)
     → ((p : Past) → asking.Sends lane p → source_of lane ≡ came.Whole → HasBody lane.lane p)
     → WholeCame cfg (record { lane = lane; place = at; awaits = awaits; at_rest = rests }) vars came_ asks to_server (coming lane (input_of lane))
-whole_at place.Reading cfg lane awaits rests vars came_ asks to_server reply e h is promise alike has = absurd (cc)
-whole_at place.Sending cfg lane awaits rests vars came_ asks to_server reply e h is promise alike has =
+whole_at place.Reading cfg lane awaits rests vars came_ asks to_server reply e h is promise has = absurd (cc)
+whole_at place.Sending cfg lane awaits rests vars came_ asks to_server reply e h is promise has =
     let whole : source_of lane ≡ came.Whole = whole_source (source_of lane) e in
     let read : List ℕ = h.sends.sends.used in
     record {
       used = h.used ++ read;
       came_is = came_behind cfg lane vars came_ asks to_server h read h.sends.sends.bytes;
-      goes = goes_whole cfg lane vars came_ asks to_server h is (promise h.past h.sends) alike whole (has h.past h.sends whole) read h.sends.sends.bytes;
+      goes = goes_whole cfg lane vars came_ asks to_server h is (promise h.past h.sends) whole (has h.past h.sends whole) read h.sends.sends.bytes;
     }
-whole_at place.Idle cfg lane awaits rests vars came_ asks to_server reply e h is promise alike has = absurd (cc)
-whole_at place.Replied cfg lane awaits rests vars came_ asks to_server reply e h is promise alike has = absurd (cc)
+whole_at place.Idle cfg lane awaits rests vars came_ asks to_server reply e h is promise has = absurd (cc)
+whole_at place.Replied cfg lane awaits rests vars came_ asks to_server reply e h is promise has = absurd (cc)
 
 pub replied_at : (at : Place) (cfg : Config) (lane : RequestLane) (vars : Variables) (came_ : Coming) (asks : Asking Variables) (to_server : List ℕ) (reply : Reply Variables) → at ≡ place.Replied
     → StandsAt at cfg lane vars came_ asks to_server reply → IsReplied cfg vars came_ reply (coming lane (input_of lane))

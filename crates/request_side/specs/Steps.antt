@@ -1,5 +1,5 @@
 -- What the calls of the request direction come to.
-use Rattle.std.specs.Prelude.{◌≡◌, ◌≢◌, ℕ, List, ◌++◌, true, false, not, ◌&&◌, None}
+use Rattle.std.specs.Prelude.{◌≡◌, ◌≢◌, ℕ, List, ◌++◌, not, ◌&&◌, None}
 use Rattle.session_model.specs.Stream.{Stream}
 use Rattle.session_core.specs.History.{Coming, Continues, prepend, prepended}
 use Rattle.session_core.specs.Sided.{Asking, Reply, Perhaps, RequestGoes, request_to}
@@ -7,19 +7,12 @@ use Rattle.session_core.specs.declared.Source.{Source}
 use Rattle.session_core.specs.declared.Source.TheVariants as source
 use Rattle.px_sample.specs.Variables.{Variables}
 use Rattle.http_rules.specs.declared.config.Config.{Config}
-use Rattle.body_filter.specs.declared.filter_spec.FilterSpec.{FilterSpec}
-use Rattle.body_filter.specs.Filter.{filtered}
-use Rattle.proxy_meaning.specs.Product.{meaning_of, refused_in}
+use Rattle.proxy_meaning.specs.Product.{meaning_of}
 use Rattle.lane.specs.Asking.{stage_of, is_dropping}
 use Rattle.request_side.specs.Seen.{place_of, source_of, sent_at, window_of}
 use Rattle.request_side.specs.Stands.{RequestStands, left_of}
 use Rattle.request_side.specs.declared.place.Place.TheVariants as place
 use Rattle.request_side.specs.declared.side.RequestSide.{RequestSide}
-
--- Of a body that breaks off the filters make what they make of its bytes so far: they keep nothing back. So do no filters and limits.
-pub record BreaksAlike (filters : List FilterSpec) : Type 0 where
-  pub output : (bytes : List ℕ) → (filtered filters false bytes).output ≡ (filtered filters true bytes).output
-  pub refused : (bytes : List ℕ) → refused_in (filtered filters false bytes).state ≡ refused_in (filtered filters true bytes).state
 
 -- So of a body that is whole, and not impossible of another: of a body that goes on, or that is cut by a filter, it is not known
 -- what its bytes come to.

@@ -10,7 +10,7 @@ ghost use Rattle.http_rules.specs.declared.config.Config.{Config};
 ghost use Rattle.proxy_meaning.specs.Product.{meaning_of};
 ghost use Rattle.request_side.specs.Seen.{place_of, source_of};
 ghost use Rattle.request_side.specs.Stands.{RequestStands, IsReplied, left_of};
-ghost use Rattle.request_side.specs.Steps.{BreaksAlike, RequestsSo, WholeCame};
+ghost use Rattle.request_side.specs.Steps.{RequestsSo, WholeCame};
 ghost use Rattle.request_side.specs.declared.place.Place.TheVariants as place;
 ghost use Rattle.request_side.specs.declared.side.RequestSide.{RequestSide};
 
@@ -30,7 +30,7 @@ pub fn total()
 /// the source is as that request is.
 pub fn requests()
     ensures { (cfg : Config) (side : RequestSide) (vars : Variables) (came : Coming) (asking : Asking Variables) (to_server : List ℕ) (reply : Reply Variables)
-        → place_of side ≡ place.Sending → BreaksAlike cfg.req_filters → RequestStands cfg side vars came asking to_server reply → RequestsSo cfg side vars came asking to_server }
+        → place_of side ≡ place.Sending → RequestStands cfg side vars came asking to_server reply → RequestsSo cfg side vars came asking to_server }
 {
     lanes::promise();
     lanes::has_body();
@@ -46,7 +46,7 @@ pub fn asks_for_a_server()
 /// Where the source is whole the request has come whole, and what stands in the input window follows it.
 pub fn came_whole()
     ensures { (cfg : Config) (side : RequestSide) (vars : Variables) (came : Coming) (asking : Asking Variables) (to_server : List ℕ) (reply : Reply Variables)
-        → source_of side ≡ source.Whole → BreaksAlike cfg.req_filters → RequestStands cfg side vars came asking to_server reply → WholeCame cfg side vars came asking to_server (left_of side) }
+        → source_of side ≡ source.Whole → RequestStands cfg side vars came asking to_server reply → WholeCame cfg side vars came asking to_server (left_of side) }
 {
     lanes::promise();
     lanes::has_body();

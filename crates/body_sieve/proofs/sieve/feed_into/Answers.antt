@@ -1,4 +1,4 @@
-use Rattle.std.proofs.Common.{◌≡◌, ℕ, ◌≤◌, ◌+◌, List, [], ◌∙◌, ap, length, take, arith}
+use Rattle.std.proofs.Common.{◌≡◌, ℕ, List, [], ◌∙◌, ap, length, take, arith}
 use Rattle.std.proofs.lemmas.List.{length-take-le, take_all}
 use Rattle.htx_model.specs.Block.{Block}
 use Rattle.htx_model.specs.Blocks.{append_data, taken}

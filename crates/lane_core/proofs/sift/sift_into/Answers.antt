@@ -2,7 +2,7 @@ use Rattle.std.proofs.Common.{◌++◌, List, sym, ap, ◌∙◌, subst}
 use Rattle.htx_model.specs.Block.{Block}
 use Rattle.htx_model.specs.Blocks.{Fits}
 use Rattle.h1_body.specs.Trailers.{trailer_blocks}
-use Rattle.lane_core.specs.Coming.{Comes, came_at}
+use Rattle.lane_core.specs.Coming.{Comes}
 use Rattle.lane_core.specs.declared.sift.Came.{Came}
 use Rattle.lane_core.proofs.SiftLemmas.{comes}
 use Rattle.lane_core.proofs.sift.sift_into.Goals as goal
@@ -18,8 +18,7 @@ returns-then-is_accepted-clause-comes c = λ filters found passed has. (
 pub returns-clause-comes : goal.returns-clause-comes
 returns-clause-comes c =
     let old = c.args.sieve.now in
-    let new = c.sift-answer.new.self in
+    let new = c.sift.new.self in
     let size = c.args.to.now.size in
-    let blocks = c.sift-answer.new.to.blocks in
-    subst (λ (a : Came). Comes a size old new blocks) (sym (c.came_by.ensures ∙ ap (came_at c.sift-answer.result) c.end.ensures))
-    (comes c.sift-answer.result size old new blocks c.sift-answer.ensures.sifts c.sift-answer.ensures.section (c.is_accepted.ensures.other c.if-is_accepted.false))
+    let blocks = c.sift.new.to.blocks in
+    subst (λ (a : Came). Comes a size old new blocks) (sym c.came_by.ensures) (comes c.sift.result size old new blocks c.sift.ensures.sifts c.sift.ensures.section)

@@ -1,5 +1,5 @@
-use Rattle.std.proofs.Common.{◌≡◌, ℕ, List, ◌++◌, sym, subst, ◌≤◌}
-use Rattle.std.specs.Prelude.{OnOk, IsOk, ◌↔◌, Result, Ok, Err}
+use Rattle.std.proofs.Common.{ℕ, List, sym, subst}
+use Rattle.std.specs.Prelude.{OnOk, IsOk, Result, Ok, Err}
 use Rattle.htx_arena.specs.declared.arena.Full.{Full}
 use Rattle.h1_body.specs.Section.{HasTrailers}
 use Rattle.body_sieve.proofs.sieve.Sieve.add_section.Goals as goal

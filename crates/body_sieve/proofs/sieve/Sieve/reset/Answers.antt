@@ -1,4 +1,4 @@
-use Rattle.std.proofs.Common.{◌≡◌, ℕ, ◌≤◌, List, [], ◌++◌, sym, ◌∙◌, length, drop, arith}
+use Rattle.std.proofs.Common.{◌≡◌, [], sym, ◌∙◌, drop, arith}
 use Rattle.std.proofs.lemmas.List.{drop_all}
 use Rattle.body_sieve.proofs.Sifting.{reset_at}
 use Rattle.body_sieve.proofs.sieve.Sieve.reset.Goals as goal
