@@ -6,3 +6,5 @@ pub mod Whole
 pub mod Parts
 pub mod Frames
 mod Heads
+pub mod Walking
+pub mod Backwards

@@ -26,7 +26,7 @@ among_here name f fs same =
     ∙ length-append (values_of f.2) (values_among name fs)
 
 -- one header in front
-one_more : (name n v : List ℕ) (bs : List Block) → values_named name (Header n v ∷ bs) ≡ cond (same_name n name) (values_of v ++ values_named name bs) (values_named name bs)
+pub one_more : (name n v : List ℕ) (bs : List Block) → values_named name (Header n v ∷ bs) ≡ cond (same_name n name) (values_of v ++ values_named name bs) (values_named name bs)
 one_more name n v bs = by_test (same_name n name)
   where
     by_test : (t : Bool) → values_in (map value_of (cond t (Header n v ∷ filter (is_header_named name) bs) (filter (is_header_named name) bs))) ≡ cond t (values_of v ++ values_named name bs) (values_named name bs)

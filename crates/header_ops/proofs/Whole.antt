@@ -12,8 +12,8 @@ fulls_among name [] = []
 fulls_among name (f ∷ fs) = cond (same_name f.1 name) (f.2 ∷ fulls_among name fs) (fulls_among name fs)
 
 -- one header in front
-one_more : (name n v : List ℕ) (bs : List Block) → fulls_named name (Header n v ∷ bs) ≡ cond (same_name n name) (v ∷ fulls_named name bs) (fulls_named name bs)
-one_more name n v bs = by_test (same_name n name)
+pub full_one_more : (name n v : List ℕ) (bs : List Block) → fulls_named name (Header n v ∷ bs) ≡ cond (same_name n name) (v ∷ fulls_named name bs) (fulls_named name bs)
+full_one_more name n v bs = by_test (same_name n name)
   where
     by_test : (t : Bool) → map value_of (cond t (Header n v ∷ filter (is_header_named name) bs) (filter (is_header_named name) bs)) ≡ cond t (v ∷ fulls_named name bs) (fulls_named name bs)
     by_test true = refl
@@ -21,7 +21,7 @@ one_more name n v bs = by_test (same_name n name)
 
 among_from : (name : List ℕ) (i : ℕ) (bs : List Block) → fulls_among name (fields_from i bs) ≡ fulls_named name bs
 among_from name i [] = refl
-among_from name i (Header n v ∷ bs) = ap (λ t. cond (same_name n name) (v ∷ t) t) (among_from name (i + 1) bs) ∙ sym (one_more name n v bs)
+among_from name i (Header n v ∷ bs) = ap (λ t. cond (same_name n name) (v ∷ t) t) (among_from name (i + 1) bs) ∙ sym (full_one_more name n v bs)
 among_from name i (RequestLine a b c ∷ bs) = among_from name (i + 1) bs
 among_from name i (ResponseLine a b c ∷ bs) = among_from name (i + 1) bs
 among_from name i (EndHeaders ∷ bs) = among_from name (i + 1) bs
@@ -35,7 +35,7 @@ fulls-fields_of name bs = among_from name 0 bs
 -- there are at most as many as there are blocks
 pub few_fulls : (name : List ℕ) (bs : List Block) → length (fulls_named name bs) ≤ length bs
 few_fulls name [] = omega arith
-few_fulls name (Header n v ∷ bs) = rw (one_more name n v bs) (by_test (same_name n name) (few_fulls name bs))
+few_fulls name (Header n v ∷ bs) = rw (full_one_more name n v bs) (by_test (same_name n name) (few_fulls name bs))
   where
     by_test : (t : Bool) → length (fulls_named name bs) ≤ length bs → length (cond t (v ∷ fulls_named name bs) (fulls_named name bs)) ≤ length (Header n v ∷ bs)
     by_test true few = omega (arith, few)

@@ -7,7 +7,7 @@ use htx_arena::Arena;
 use px_bytes::{eq_fold, values};
 
 /// How many values a field has.
-fn count_in(field: &[u8]) -> usize
+pub fn count_in(field: &[u8]) -> usize
     ensures { result ≡ length (values_of field.now) }
 {
     values(field).count()

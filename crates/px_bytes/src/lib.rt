@@ -13,6 +13,6 @@ mod token;
 pub use blanks::trim;
 pub use case::{eq_fold, fold};
 pub use digits::{hex_value, read_decimal, read_hex};
-pub use pieces::{ValueIndices, ValueIter, value_indices, values};
+pub use pieces::{ValueIndices, ValueIter, first_value, value_indices, values};
 pub use texts::{write_decimal, write_hex, write_signed};
 pub use token::is_token;

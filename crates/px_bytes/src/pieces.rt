@@ -3,7 +3,7 @@ ghost use Rattle.std.specs.Prelude.{◌≡◌, ◌≤◌, ◌<◌, ◌+◌, [], 
 ghost use Rattle.std.specs.Iterator.{YieldsFirstBy, YieldsFirstRef, item_count};
 ghost use Rattle.px_bytes.specs.Values.{next_place, pieces_of, values_of, placed_values, value_at, seen, LiesIn};
 
-use crate::blanks::{blanks_in_front, trim_behind};
+use crate::blanks::{blanks_in_front, trim, trim_behind};
 use std::marker::Model;
 
 /// Where a byte of a field stands: outside of double quotes, inside, or behind a backslash inside.
@@ -54,6 +54,18 @@ fn piece_len(bytes: &[u8]) -> usize
         place = place_after(place, *byte);
     }
     bytes.len()
+}
+
+/// The first value of a field, and how many bytes it takes with the blanks around it and the comma behind. Where they are more than
+/// the field has, no comma follows and there is no other value; else the others are the values of the bytes behind.
+pub fn first_value(bytes: &[u8]) -> (&[u8], usize)
+    ensures more { result.1 ≤ length bytes.now → values_of bytes.now ≡ result.0.now ∷ values_of (drop result.1 bytes.now) }
+    ensures last { length bytes.now < result.1 → values_of bytes.now ≡ result.0.now ∷ [] }
+    ensures some { 0 < result.1 }
+    ensures within { result.1 ≤ length bytes.now + 1 }
+{
+    let len = piece_len(bytes);
+    (trim(&bytes[..len]), len + 1)
 }
 
 /// The values of a field in turn, each with its offset in the field.
