@@ -1,0 +1,5 @@
+mod Addresses
+mod Chain
+mod Endings
+mod Outputs
+mod Rounds

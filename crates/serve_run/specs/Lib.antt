@@ -1,0 +1,4 @@
+pub mod Lines
+pub mod Visits
+pub mod Served
+pub mod Told
