@@ -60,7 +60,7 @@ record Step (after : NetSeen) (coming : List Coming) (before : List Kept) : Type
   answers : after.answers ≡ Some left
   kept : after.kept ≡ Some (before ++ kept_of visit)
 
-next_as : (old new : Option (List Coming)) (coming : List Coming) (P : Coming → Type 0) → old ≡ Some coming → IsNext old new P → IsNext (Some coming) new P
+pub next_as : (old new : Option (List Coming)) (coming : List Coming) (P : Coming → Type 0) → old ≡ Some coming → IsNext old new P → IsNext (Some coming) new P
 next_as old new coming P e h = let Q : Option (List Coming) → Type 0 = λ o. IsNext o new P in subst Q e h
 
 keeps_as : (old new : Option (List Kept)) (before : List Kept) (link : Kept) → old ≡ Some before → KeepsMore old new link → new ≡ Some (before ++ link ∷ [])

@@ -2,3 +2,5 @@ pub mod Lines
 pub mod Visits
 pub mod Served
 pub mod Told
+pub mod Drove
+pub mod Headline

@@ -34,6 +34,7 @@ pub(crate) fn connections<N: Net, S: Sessions<N>, K: Sink>(
         × GainsFront (K.written out.old) (K.written out.new) (lines_from 1 outcomes)) }
     ensures output { IsErrOf result ServeFault.Output → Rose (K.faults out.old) (K.faults out.new) }
     ensures leaves { Leaves (S.to (S.settings sessions.old)) (N.seen net.old) (N.seen net.new) }
+    ensures settings { S.settings sessions.new ≡ S.settings sessions.old }
 {
     for served in 0..count {
         match serve_one(alloc, served + 1, sessions, net, out) {

@@ -3,11 +3,14 @@
 
 mod connection;
 mod connections;
+mod driven;
+pub mod laws;
 mod line;
 mod outcome;
 mod serving;
 mod sessions;
 
+pub use driven::{Driven, Opens};
 pub use htx_drive::{Ran, SessionFault};
 pub use outcome::{Outcome, ServeFault};
 pub use px_link::{Address, Close, End, Fault, Link, Net, OutOfMemory, Sink};

@@ -33,6 +33,7 @@ fn bound_and_served<N: Net, S: Sessions<N>, K: Sink>(
     ensures bound { ((N.seen net.new).bound ≡ (N.seen net.old).bound) ⊎ ((N.seen net.new).bound ≡ (N.seen net.old).bound ++ address_of at.now ∷ []) }
     ensures dialled { Dialled (N.seen net.old).dialled (N.seen net.new).dialled (S.to (S.settings sessions.old)) }
     ensures lent { (N.seen net.new).lent ≡ (N.seen net.old).lent }
+    ensures settings { S.settings sessions.new ≡ S.settings sessions.old }
 {
     match net.bind(at) {
         Ok(()) => connections(alloc, count, sessions, net, out),
@@ -80,6 +81,7 @@ pub fn serve<N: Net, S: Sessions<N>, K: Sink>(
     ensures bound { ((N.seen net.new).bound ≡ (N.seen net.old).bound) ⊎ ((N.seen net.new).bound ≡ (N.seen net.old).bound ++ address_of at.now ∷ []) }
     ensures dialled { Dialled (N.seen net.old).dialled (N.seen net.new).dialled (S.to (S.settings sessions.old)) }
     ensures lent { (N.seen net.new).lent ≡ (N.seen net.old).lent }
+    ensures settings { S.settings sessions.new ≡ S.settings sessions.old }
     ensures complete { (Rose (N.seen net.old).bind_faults (N.seen net.new).bind_faults → ⊥) → (Rose (K.faults out.old) (K.faults out.new) → ⊥) → IsOkUnless result ServeFault.OutOfMemory }
 {
     match bound_and_served(alloc, at, count, sessions, net, out) {

@@ -1,4 +1,3 @@
-use Rattle.std.proofs.Common.{rules}
 use Rattle.serve_run.proofs.Endings.{net_behind, bind_breaks}
 use Rattle.serve_run.proofs.serving.bound_and_served.Goals as goal
 
