@@ -1,0 +1,10 @@
+//! The client and the origin of a run over loopback, as functions over any link and net.
+#![tactic(auto)]
+
+mod play;
+mod texts;
+mod visits;
+
+pub use play::{PlayFault, expect, send};
+pub use texts::{ANSWER, CONFIGURATION, FORWARDED, REDIRECT, REDIRECTED, REQUEST, RESPONSE};
+pub use visits::{connect_patiently, forwarded, redirected};

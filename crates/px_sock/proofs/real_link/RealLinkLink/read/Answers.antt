@@ -1,0 +1,7 @@
+use Rattle.std.proofs.Common.{rules}
+use Rattle.px_sock.proofs.Failing.{read_failed}
+use Rattle.px_sock.proofs.real_link.RealLinkLink.read.Goals as goal
+
+pub returns-in-Err-clause-reads : goal.returns-in-Err-clause-reads
+returns-in-Err-clause-reads g c =
+    rw (← c.self.view_is) (read_failed c.self.inside.read_faults c.self.inside.write_faults c.count.new.faults c.count.ensures.rose c.count.ensures.never_falls)

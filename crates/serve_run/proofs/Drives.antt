@@ -1,0 +1,54 @@
+-- What the driver's clauses say of a session's net and of its client's link.
+use Rattle.std.proofs.Common.{◌≡◌, ℕ, ◌⊎◌, inl, inr, List, [], ◌++◌, Some, Result, Ok, Err, sym, ap, subst, ◌∙◌, refl}
+use Rattle.std.proofs.lemmas.List.{append-nil}
+use Rattle.std.specs.List.{flat_map}
+use Rattle.session_model.specs.Meaning.{Meaning}
+use Rattle.session_core.specs.History.{Past, Connect}
+use Rattle.px_link.specs.Link.{Seen}
+use Rattle.px_link.specs.Net.{Place, NetSeen}
+use Rattle.htx_drive.specs.Machine.{CoreSeen}
+use Rattle.htx_drive.specs.Dialled.{Dials}
+use Rattle.htx_drive.specs.declared.Ran.{Ran}
+use Rattle.htx_drive.specs.declared.SessionFault.{SessionFault}
+use Rattle.serve_run.specs.Visits.{Visits, Puts}
+use Rattle.serve_run.specs.Drove.{Drove}
+
+dials_visits : (to : Place) (first now : NetSeen) (connects : List Connect) → Dials to first now connects → Visits to first now
+dials_visits to first now connects d =
+    record {
+      lent = d.lent;
+      plain = d.plain;
+      accepts = d.coming.accepts;
+      bound = d.coming.bound;
+      binds = d.coming.binds;
+      dialled = d.dialled;
+      told = λ answers kept a k. let t = d.told answers kept a k in (t.left, flat_map (λ dial. dial.kept) t.dials, t.answers, t.kept);
+    }
+
+visits_none : (to : Place) (net : NetSeen) → Visits to net net
+visits_none to net =
+    record {
+      lent = refl;
+      plain = refl;
+      accepts = refl;
+      bound = refl;
+      binds = refl;
+      dialled = inl refl;
+      told = λ answers kept a k. (answers, [], a, k ∙ ap (λ l. Some l) (sym (append-nil kept)));
+    }
+
+pub drove_visits : {Settings C L : Type 0} (meaning : Settings → Meaning) (stands : Settings → C → Past → Type 0) (core_seen : C → CoreSeen) (seen : L → Seen) (wrote : L → List ℕ → Type 0)
+    (cfg : Settings) (to : Place) (first client : L) (first_net net : NetSeen) (result : Result Ran SessionFault)
+    → Drove meaning stands core_seen seen wrote cfg to first client first_net net result → Visits to first_net net
+drove_visits meaning stands core_seen seen wrote cfg to first client first_net net (Ok ran) h = let so = h.1 in dials_visits to first_net net so.past.connects so.dials
+drove_visits meaning stands core_seen seen wrote cfg to first client first_net net (Err fault) (inl h) = let so = h.1 in dials_visits to first_net net so.past.connects so.dials
+drove_visits meaning stands core_seen seen wrote cfg to first client first_net net (Err fault) (inr h) =
+    let P : NetSeen → Type 0 = λ n. Visits to first_net n in subst P (sym h.untouched) (visits_none to first_net)
+
+pub drove_puts : {Settings C L : Type 0} (meaning : Settings → Meaning) (stands : Settings → C → Past → Type 0) (core_seen : C → CoreSeen) (seen : L → Seen) (wrote : L → List ℕ → Type 0)
+    (cfg : Settings) (to : Place) (first client : L) (first_net net : NetSeen) (result : Result Ran SessionFault)
+    → Drove meaning stands core_seen seen wrote cfg to first client first_net net result → Puts (wrote first) (wrote client)
+drove_puts meaning stands core_seen seen wrote cfg to first client first_net net (Ok ran) h = let so = h.1 in (so.past.taken, so.put.wrote)
+drove_puts meaning stands core_seen seen wrote cfg to first client first_net net (Err fault) (inl h) = let so = h.1 in (so.past.taken, so.put.wrote)
+drove_puts meaning stands core_seen seen wrote cfg to first client first_net net (Err fault) (inr h) =
+    ([], λ bytes w. subst (wrote client) (sym (append-nil bytes)) (h.same bytes w))

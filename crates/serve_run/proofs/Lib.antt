@@ -1,0 +1,6 @@
+mod Addresses
+mod Chain
+mod Drives
+mod Endings
+mod Outputs
+mod Rounds

@@ -1,0 +1,6 @@
+pub mod Lines
+pub mod Visits
+pub mod Served
+pub mod Told
+pub mod Drove
+pub mod Headline

@@ -1,0 +1,92 @@
+//! Sessions that the driver runs, each over a core of its own.
+ghost use Rattle.std.specs.Prelude.{◌≡◌, ◌^◌, [], false, IfOk};
+ghost use Rattle.session_core.specs.History.{nothing_yet};
+ghost use Rattle.px_link.specs.Net.{address_of};
+ghost use Rattle.serve_run.specs.Drove.{Drove};
+
+use crate::{Ran, SessionFault, Sessions};
+use htx_drive::{Machine, run_session};
+use px_link::{Address, Close, Link, Net, OutOfMemory, Turn, Turns};
+use std::marker::PhantomData;
+
+/// Makes a core for each connection.
+pub trait Opens<C: Machine> {
+    /// The configuration of the cores.
+    ghost settings: { Self → C.Settings };
+
+    /// A core to which nothing has happened yet.
+    fn open(&mut self) -> Result<C, OutOfMemory>
+        ensures stands { IfOk result (λ core. C.stands (settings self.old) core nothing_yet) }
+        ensures idle { IfOk result (λ core. (C.seen core).serving ≡ false) }
+        ensures settings { settings self.new ≡ settings self.old };
+}
+
+/// Sessions of the driver, with the servers at one address.
+#[derive(Drop)]
+pub struct Driven<'a, C, O> {
+    opener: O,
+    to: &'a Address,
+    core: PhantomData<C>,
+}
+
+impl<'a, C: Machine, O: Opens<C>> Driven<'a, C, O> {
+    /// Sessions over cores of this opener.
+    pub fn new(opener: O, to: &'a Address) -> Self {
+        Driven {
+            opener,
+            to,
+            core: PhantomData,
+        }
+    }
+}
+
+/// How many turns that move something, and openings, a connection may take.
+const BUDGET: u64 = 1 << 63;
+
+/// No turns: the first want that stands is met.
+#[derive(Drop)]
+struct NoTurns;
+
+impl Turns for NoTurns {
+    ghost left = { λ _. [] };
+
+    fn next(&mut self) -> Option<Turn> {
+        None
+    }
+}
+
+/// Runs the session of a core to which nothing has happened yet.
+fn drive<C: Machine + Drop, N: Net>(
+    core: C,
+    to: &Address,
+    client: &mut N::Link,
+    net: &mut N,
+) -> Result<Ran, SessionFault>
+    requires { (C.seen core).serving ≡ false }
+    ensures { (cfg : C.Settings) → C.stands cfg core nothing_yet
+        → Drove C.meaning C.stands C.seen N.Link.seen N.Link.wrote cfg (address_of to.now) client.old client.new (N.seen net.old) (N.seen net.new) result }
+{
+    let mut running = core;
+    run_session(&mut running, to, client, net, &mut NoTurns, BUDGET)
+}
+
+impl<'a, N: Net, C: Machine + Drop, O: Opens<C>> Sessions<N> for Driven<'a, C, O> {
+    type Settings = (C::Settings, Address);
+
+    ghost settings = { λ sessions. (O.settings sessions.opener, sessions.to.now) };
+
+    ghost to = { λ settings. address_of settings.1 };
+
+    ghost session = { λ settings first client first_net net result.
+        Drove C.meaning C.stands C.seen N.Link.seen N.Link.wrote settings.0 (address_of settings.1) first client (N.seen first_net) (N.seen net) result };
+
+    fn run(&mut self, client: &mut N::Link, net: &mut N) -> Result<Ran, SessionFault> {
+        match self.opener.open() {
+            Ok(core) => drive(core, self.to, client, net),
+            Err(OutOfMemory) => {
+                client.close(Close::Failed);
+                Err(SessionFault::OutOfMemory)
+            }
+        }
+    }
+}

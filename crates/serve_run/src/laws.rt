@@ -1,0 +1,22 @@
+//! What follows where the net tells its links.
+ghost use Rattle.std.specs.Prelude.{◌≡◌, ◌∷◌, List, Option, Some, Ok};
+ghost use Rattle.htx_drive.specs.declared.Ran.{Ran};
+ghost use Rattle.px_link.specs.Net.{Coming, Kept, Place};
+ghost use Rattle.serve_run.specs.Drove.{Drove};
+ghost use Rattle.serve_run.specs.Headline.{ServedSession};
+ghost use Rattle.serve_run.specs.Served.{Connection};
+
+use htx_drive::Machine;
+use htx_drive::laws::ran_is_the_session;
+use px_link::Net;
+
+/// A connection that the driver served to its end is the session of the accepted link's own stream and of the servers that the connects
+/// found, with the end and the number of exchanges that its line says.
+pub fn a_line_is_its_session<C: Machine, N: Net>()
+    ensures { (cfg : C.Settings) (to : Place) (before after : N) (ran : Ran) (link : Coming) (later : List Coming) (answers : List (Option Coming)) (kept : List Kept)
+        → Connection N.Link.seen N.Link.wrote N.seen (λ first client first_net net result. Drove C.meaning C.stands C.seen N.Link.seen N.Link.wrote cfg to first client (N.seen first_net) (N.seen net) result) to before after (Ok ran)
+        → (N.seen before).accepts ≡ Some (link ∷ later) → (N.seen before).answers ≡ Some answers → (N.seen before).kept ≡ Some kept
+        → ServedSession (C.meaning cfg) N.Link.seen N.Link.wrote N.seen to link answers kept after ran }
+{
+    ran_is_the_session::<C, N::Link, N>();
+}

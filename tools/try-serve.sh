@@ -1,0 +1,211 @@
+#!/usr/bin/env bash
+# try-serve.sh [PROGRAM]: real clients and servers through `serve`, over loopback: curl, wrk and raw sockets in front, nginx and a server that
+# breaks off behind. It prints a line for each check, `ok NAME` or `FAILED NAME: WHY`, and ends with 0 where all are ok. PROGRAM is the built
+# program, as `rt ci` leaves it. Where curl, nginx or wrk is missing it is installed from Debian, which wants root. It is no part of the gate.
+set -u
+here="$(cd "$(dirname "$0")/.." && pwd)"
+program="$(realpath "${1:-$here/crates/htx_proxy/out/htx_proxy}")"
+[ -x "$program" ] || { echo "try-serve: no program $program: run \`rt ci\`, or name a built one" >&2; exit 70; }
+
+# ---- what it needs
+
+missing=()
+for tool in curl nginx wrk; do
+  PATH="$PATH:/usr/sbin" command -v "$tool" >/dev/null || missing+=("$tool")
+done
+if [ "${#missing[@]}" -gt 0 ]; then
+  [ "$(id -u)" = 0 ] || { echo "try-serve: not there: ${missing[*]}; as root this script installs them" >&2; exit 70; }
+  export DEBIAN_FRONTEND=noninteractive
+  # nginx is not to be started as a service here
+  printf '#!/bin/sh\nexit 101\n' >/tmp/try-serve-policy.$$ && chmod +x /tmp/try-serve-policy.$$
+  [ -e /usr/sbin/policy-rc.d ] || { mv /tmp/try-serve-policy.$$ /usr/sbin/policy-rc.d && policy=/usr/sbin/policy-rc.d; }
+  { apt-get update && apt-get install -y --no-install-recommends "${missing[@]}"; } >/tmp/try-serve-apt.log 2>&1
+  got=$?
+  rm -f /tmp/try-serve-policy.$$ ${policy:-}
+  [ "$got" = 0 ] || { echo "try-serve: apt-get failed; its words are in /tmp/try-serve-apt.log" >&2; exit 70; }
+fi
+PATH="$PATH:/usr/sbin"
+
+work="$(mktemp -d)"
+started=()
+end_all() {
+  for pid in "${started[@]}"; do kill "$pid" 2>/dev/null; done
+  wait 2>/dev/null
+  rm -rf "$work"
+}
+trap end_all EXIT
+
+# ports that nobody listens at now
+listens() { grep -qi "^ *[0-9]*: [0-9A-F]*:$(printf '%04X' "$1") 00000000:0000 0A" /proc/net/tcp; }
+free_port() {
+  local port
+  while :; do
+    port=$((20000 + RANDOM % 20000))
+    listens "$port" || { echo "$port"; return; }
+  done
+}
+await_listener() { # PORT: true once somebody listens there; no connection is made, since `serve` would count it
+  for _ in $(seq 500); do listens "$1" && return 0; sleep 0.01; done
+  return 1
+}
+front="$(free_port)"; origin="$(free_port)"; sink="$(free_port)"; breaking="$(free_port)"
+
+# ---- nginx as the origin
+
+mkdir -p "$work/www" "$work/kept" "$work/temp"
+echo "hello" >"$work/www/small"
+head -c 1048576 /dev/urandom >"$work/www/large"
+head -c 1048576 /dev/urandom >"$work/piece"
+cat >"$work/nginx.conf" <<CONF
+$([ "$(id -u)" = 0 ] && echo "user root;")
+daemon off;
+worker_processes 1;
+pid $work/nginx.pid;
+error_log $work/nginx-error.log;
+events { worker_connections 256; }
+http {
+  access_log off;
+  client_max_body_size 16m;
+  client_body_temp_path $work/kept;
+  proxy_temp_path $work/temp; fastcgi_temp_path $work/temp; uwsgi_temp_path $work/temp; scgi_temp_path $work/temp;
+  server {
+    listen 127.0.0.1:$origin;
+    root $work/www;
+    location /upload {
+      client_body_in_file_only on;
+      add_header x-kept \$request_body_file always;
+      proxy_pass http://127.0.0.1:$sink/;
+    }
+  }
+  server { listen 127.0.0.1:$sink; location / { return 200 "taken"; } }
+}
+CONF
+nginx -c "$work/nginx.conf" -p "$work" 2>"$work/nginx-said" & started+=($!)
+await_listener "$origin" || { echo "try-serve: nginx does not listen: $(cat "$work/nginx-said")" >&2; exit 70; }
+
+# a server that breaks off in the middle of each body
+python3 - "$breaking" <<'PY' & started+=($!)
+import socket, sys
+at = socket.create_server(("127.0.0.1", int(sys.argv[1])))
+while True:
+    peer, _ = at.accept()
+    seen = b""
+    while b"\r\n\r\n" not in seen:
+        more = peer.recv(4096)
+        if not more:
+            break
+        seen += more
+    peer.sendall(b"HTTP/1.1 200 OK\r\nContent-Length: 1000\r\n\r\nonly this")
+    peer.close()
+PY
+await_listener "$breaking" || { echo "try-serve: the breaking server does not listen" >&2; exit 70; }
+
+configure() { # SERVER-PORT
+  printf 'listen p\n  bind 127.0.0.1:%s\n  server s 127.0.0.1:%s\n' "$front" "$1" >"$work/proxy.cfg"
+}
+
+# ---- the checks
+
+good=0 bad=0
+says() { # NAME WHY: a check is ok where WHY is empty
+  if [ -z "$2" ]; then good=$((good + 1)); echo "ok $1"; else bad=$((bad + 1)); echo "FAILED $1: $2"; fi
+}
+serve() { # COUNT
+  "$program" serve "$work/proxy.cfg" "$1" >"$work/lines" 2>"$work/said" & serving=$!
+  started+=("$serving")
+  await_listener "$front"
+}
+ended() { # waits for the program at most 20 seconds; its status is in $status
+  for _ in $(seq 2000); do kill -0 "$serving" 2>/dev/null || break; sleep 0.01; done
+  if kill -0 "$serving" 2>/dev/null; then kill "$serving"; wait "$serving" 2>/dev/null; status=late; return; fi
+  wait "$serving"; status=$?
+}
+fetch() { curl -sS --noproxy '*' --max-time 20 "$@"; }
+url="http://127.0.0.1:$front"
+
+why() { # LINE-PATTERNS..: what is wrong with the program's status and lines
+  [ "$status" = 0 ] || { echo "status $status; $(head -c 300 "$work/said")"; return; }
+  [ "$(wc -l <"$work/lines")" = "$#" ] || { echo "the lines are: $(head -c 300 "$work/lines" | tr '\n' '/')"; return; }
+  local number=1 pattern line
+  for pattern in "$@"; do
+    line="$(sed -n "${number}p" "$work/lines")"
+    [[ "$line" =~ ^connection\ $number:\ $pattern$ ]] || { echo "line $number is: $line"; return; }
+    number=$((number + 1))
+  done
+}
+finish() { # NAME WRONG LINE-PATTERNS..: ends a check in which WRONG was seen so far
+  ended
+  says "$1" "$2$(why "${@:3}")"
+}
+one() { finish "$1" "$2" 'end done exchanges 1'; }
+
+configure "$origin"
+
+serve 1; fetch "$url/small" -o "$work/got"
+one "GET" "$(cmp "$work/got" "$work/www/small" 2>&1)"
+
+serve 1; fetch -I "$url/large" >"$work/got"
+one "HEAD" "$(grep -qi '^content-length: 1048576' "$work/got" || echo "no length: $(head -c 200 "$work/got") ")"
+
+kept() { # HEADERS: what is wrong with the body that nginx kept
+  local file; file="$(sed -n 's/^[Xx]-[Kk]ept: *\([^\r]*\).*/\1/p' "$1" | tail -1)"
+  [ -n "$file" ] && cmp "$file" "$work/piece" 2>&1 || echo "the body isn't what was sent "
+}
+upload() { fetch "$url/upload" --data-binary "@$work/piece" -D "$work/heads" -o /dev/null "$@"; }
+
+serve 1; upload -H 'Expect:'
+one "POST of 1 MB by length" "$(kept "$work/heads")"
+
+serve 1; upload -H 'Expect:' -H 'Transfer-Encoding: chunked'
+one "POST of 1 MB by chunks" "$(kept "$work/heads")"
+
+serve 1; fetch "$url/large" -o "$work/got"
+one "download of 1 MB" "$(cmp "$work/got" "$work/www/large" 2>&1)"
+
+serve 1; upload -H 'Expect: 100-continue' --expect100-timeout 10
+one "Expect: 100-continue" "$(grep -q '^HTTP/1.1 100' "$work/heads" || echo 'no 100 came '; kept "$work/heads")"
+
+serve 1; fetch -0 "$url/small" -o "$work/got"
+one "HTTP/1.0" "$(cmp "$work/got" "$work/www/small" 2>&1)"
+
+serve 1; fetch "$url/small?[1-100]" -o /dev/null -w '%{num_connects} %{http_code}\n' >"$work/got"
+finish "100 requests on one connection" "$(awk '{ made += $1; if ($2 == 200) good++ } END { if (made != 1 || good != 100) printf "connections %d, answers 200 %d ", made, good }' "$work/got")" 'end done exchanges 100'
+
+half() { # sends the head and a part of a body, and closes; with the word reset it resets
+  python3 - "$front" "$1" <<'PY'
+import socket, struct, sys
+peer = socket.create_connection(("127.0.0.1", int(sys.argv[1])))
+peer.sendall(b"POST /upload HTTP/1.1\r\nHost: h\r\nContent-Length: 1000\r\n\r\nonly this")
+if sys.argv[2] == "reset":
+    peer.setsockopt(socket.SOL_SOCKET, socket.SO_LINGER, struct.pack("ii", 1, 0))
+peer.close()
+PY
+}
+over='(end (closed|cut) exchanges 1|client write fault)'
+
+serve 2; half close; fetch "$url/small" -o "$work/got"
+finish "a client that closes in mid-body, and the next one" "$(cmp "$work/got" "$work/www/small" 2>&1)" "$over" 'end done exchanges 1'
+
+serve 2; half reset; fetch "$url/small" -o "$work/got"
+finish "a client that resets in mid-body, and the next one" "$(cmp "$work/got" "$work/www/small" 2>&1)" "$over" 'end done exchanges 1'
+
+configure "$breaking"
+serve 1; fetch "$url/any" -o "$work/got" 2>/dev/null; left=$?
+finish "a server that closes in mid-body" "$([ "$left" = 18 ] && [ "$(cat "$work/got")" = "only this" ] || echo "curl ended with $left ")" 'end cut exchanges 1'
+
+configure 1
+serve 1; fetch "$url/any" -o /dev/null -w '%{http_code}' >"$work/got"
+finish "a server that isn't there" "$([ "$(cat "$work/got")" = 503 ] || echo "the answer is $(cat "$work/got") ")" 'end closed exchanges 1'
+
+printf 'listen p\n  bind 127.0.0.1:%s\n  server s 127.0.0.1:%s\n' "$origin" "$sink" >"$work/proxy.cfg"
+"$program" serve "$work/proxy.cfg" 1 >"$work/lines" 2>/dev/null; status=$?
+says "an address that is taken" "$([ "$status" = 6 ] && [ "$(cat "$work/lines")" = net ] || echo "status $status, lines $(tr '\n' '/' <"$work/lines")")"
+
+# wrk opens a connection that it closes at once, and then one that it keeps; how its last request ends is not said
+configure "$origin"
+serve 2; wrk -t1 -c1 -d2s "$url/small" >"$work/got" 2>&1
+kill "$serving" 2>/dev/null; wait "$serving" 2>/dev/null
+says "wrk for 2 seconds, $(sed -n 's/^Requests\/sec: *//p' "$work/got") requests a second" "$(grep -E 'Socket errors|Non-2xx|unable' "$work/got"; grep -q '^Requests/sec: *[1-9]' "$work/got" || echo 'nothing was answered')"
+
+echo "$good ok, $bad failed"
+[ "$bad" = 0 ]
