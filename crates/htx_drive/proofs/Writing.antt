@@ -50,6 +50,3 @@ put_more_at W V U first old new put window m n b e kind h t =
 
 pub longer_at : (put window : List ℕ) (m n : ℕ) → 0 < n → n ≤ length (take m window) → length put < length (put ++ take n window)
 longer_at put window m n h w = let P : List ℕ → Type 0 = λ l. length put < length (put ++ l) in subst P (take_less n m window w) (longer put (take m window) n h w)
-
-pub took_of : (V U : List ℕ → Type 0) (old new : Seen) (lent window : List ℕ) (m n : ℕ) → lent ≡ window → Took V U old new (take m lent) n → Took V U old new (take m window) n
-took_of V U old new lent window m n e t = let P : List ℕ → Type 0 = λ l. Took V U old new (take m l) n in subst P e t

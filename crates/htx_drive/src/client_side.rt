@@ -1,6 +1,7 @@
 //! Reads from the client and writes to it.
-ghost use Rattle.std.specs.Prelude.{◌≡◌, ◌<◌, true, false, OnOk, IsErrOf};
+ghost use Rattle.std.specs.Prelude.{◌≡◌, ◌<◌, true, false, OnOk, IsErrOf, ℕ, ◌≤◌, length, take};
 ghost use Rattle.session_core.specs.History.{Past};
+ghost use Rattle.px_link.specs.Link.{Writes};
 ghost use Rattle.htx_drive.specs.Driven.{Idle, ClientMoves, Ends};
 
 use crate::{Machine, SessionFault};
@@ -32,6 +33,19 @@ pub(crate) fn read_client<C: Machine, L: Link>(core: &mut C, client: &mut L, mos
     }
 }
 
+/// Writes at most so many of the bytes that wait for the client. The core stays as it is.
+fn offer_client<C: Machine, L: Link>(core: &mut C, link: &mut L, most: u32) -> Result<usize, Fault>
+    requires some { 0 < length (C.seen core.old).to_client }
+    requires most { 0 < most }
+    requires sound { C.sound core.old }
+    ensures same { core.new ≡ core.old }
+    ensures writes { (n : ℕ) × (n ≤ most) × Writes (L.wrote link.old) (L.wrote link.new) (L.seen link.old) (L.seen link.new) (take n (C.seen core.old).to_client) result }
+{
+    let window: &[u8] = core.to_client();
+    let n = window.len().min(most as usize);
+    link.write(&window[..n])
+}
+
 /// One write of the client's link.
 pub(crate) fn write_client<C: Machine, L: Link>(
     core: &mut C,
@@ -47,9 +61,7 @@ pub(crate) fn write_client<C: Machine, L: Link>(
     ensures unspent { IsErrOf result SessionFault.Spent → ⊥ }
     ensures serving { (C.seen core.new).serving ≡ (C.seen core.old).serving }
 {
-    let window = core.to_client();
-    let n = window.len().min(most as usize);
-    match client.write(&window[..n]) {
+    match offer_client(core, client, most) {
         Ok(taken) => {
             core.client_took(taken);
             Ok(())

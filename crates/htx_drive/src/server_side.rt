@@ -1,6 +1,7 @@
 //! Reads from an open server and writes to it.
-ghost use Rattle.std.specs.Prelude.{◌≡◌, ◌<◌, ◌++◌, ◌∷◌, [], List, true, false, OnOk, IsErrOf};
+ghost use Rattle.std.specs.Prelude.{◌≡◌, ◌<◌, ◌++◌, ◌∷◌, [], List, true, false, OnOk, IsErrOf, ℕ, ◌≤◌, length, take};
 ghost use Rattle.session_core.specs.History.{Past, Connect};
+ghost use Rattle.px_link.specs.Link.{Writes};
 ghost use Rattle.htx_drive.specs.Driven.{Linked, ServerMoves, Ends};
 
 use crate::client_side::MOST;
@@ -31,6 +32,19 @@ pub(crate) fn read_server<C: Machine, L: Link>(core: &mut C, link: &mut L, most:
     }
 }
 
+/// Writes at most so many of the bytes that wait for the server. The core stays as it is.
+fn offer_server<C: Machine, L: Link>(core: &mut C, link: &mut L, most: u32) -> Result<usize, Fault>
+    requires some { 0 < length (C.seen core.old).to_server }
+    requires most { 0 < most }
+    requires sound { C.sound core.old }
+    ensures same { core.new ≡ core.old }
+    ensures writes { (n : ℕ) × (n ≤ most) × Writes (L.wrote link.old) (L.wrote link.new) (L.seen link.old) (L.seen link.new) (take n (C.seen core.old).to_server) result }
+{
+    let window: &[u8] = core.to_server();
+    let n = window.len().min(most as usize);
+    link.write(&window[..n])
+}
+
 /// One write of the server's link; where it fails the server has stopped taking.
 pub(crate) fn write_server<C: Machine, L: Link>(
     core: &mut C,
@@ -46,9 +60,7 @@ pub(crate) fn write_server<C: Machine, L: Link>(
     ensures unspent { IsErrOf result SessionFault.Spent → ⊥ }
     ensures serving { (C.seen core.new).serving ≡ (C.seen core.old).serving }
 {
-    let window = core.to_server();
-    let n = window.len().min(most as usize);
-    match link.write(&window[..n]) {
+    match offer_server(core, link, most) {
         Ok(taken) => {
             core.server_took(taken);
             Ok(())

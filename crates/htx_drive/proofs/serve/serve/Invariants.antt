@@ -9,6 +9,7 @@ invariant-turns g l =
       goes : (cfg : g.row.C-Settings.Denot) (first first_link : g.row.L.Denot) (before : List Connect) (past : Past) (c : Connect)
           → Hand (g.C.Machine.stands cfg l.initial.core) g.L.Link.seen g.L.Link.wrote first l.initial.client first_link l.initial.link false before past c
           → HandGoes (g.C.Machine.stands cfg l.core) g.L.Link.seen g.L.Link.wrote first l.client first_link l.link false before past l.initial.left l.left;
+      sound : g.C.Machine.sound l.core;
       serving : (g.C.Machine.seen l.core).serving ≡ true;
       fewer : length (g.T.Turns.left l.turns) ≤ length (g.T.Turns.left l.initial.turns);
       spends : l.left ≤ l.initial.left;

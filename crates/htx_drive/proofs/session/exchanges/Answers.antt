@@ -32,5 +32,6 @@ steps-preserved g c =
           let n = c.in-Ok.ensures.leads in
           let on = goes_works _ _ _ _ first _ (address_of c.args.to.now) _ _ past _ _ n.0 (n.1 cfg) (c.steps.invariant.goes cfg first first_net past h d) in
           goes_then _ _ _ _ first _ _ _ (address_of c.args.to.now) _ _ _ past _ _ _ on (λ p i e. c.in-Ok-step.ensures.goes cfg first first_net p i e);
+      sound = c.in-Ok-step.ensures.sound;
       serving = c.in-Ok-step.ensures.serving;
     }

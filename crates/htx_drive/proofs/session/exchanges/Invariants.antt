@@ -11,6 +11,7 @@ invariant-steps g l =
       goes : (cfg : g.row.C-Settings.Denot) (first : g.row.L.Denot) (first_net : g.row.N.Denot) (past : Past)
           → Idle (g.C.Machine.stands cfg l.initial.core) g.L.Link.seen g.L.Link.wrote first l.initial.client false past → Dials (address_of l.to) (g.N.Net.seen first_net) (g.N.Net.seen l.initial.net) past.connects
           → Goes (g.C.Machine.stands cfg l.core) g.L.Link.seen g.L.Link.wrote first l.client false (address_of l.to) (g.N.Net.seen first_net) (g.N.Net.seen l.net) past l.initial.left l.left;
+      sound : g.C.Machine.sound l.core;
       serving : (g.C.Machine.seen l.core).serving ≡ false;
     }
 
