@@ -1,9 +1,9 @@
 //! A link over a stream of the system.
-ghost use Rattle.std.specs.Prelude.{◌≡◌, ◌<◌, length};
-ghost use Rattle.std.specs.Io.{ReadsAtMost, WritesAtMost};
+ghost use Rattle.std.specs.Prelude.{◌≡◌, ◌<◌, ◌≤◌, length, IfOk};
+ghost use Rattle.std.specs.Io.{ReadsAtMost};
 ghost use Rattle.px_link.specs.Link.{untold};
 
-use crate::faults::{count, wants_memory};
+use crate::faults::{count, counted};
 use crate::linger::linger;
 use px_link::{Close, Failed, Fault, Link};
 use std::io;
@@ -46,57 +46,27 @@ impl<S: OpenStream + Drop> RealLink<S> {
     }
 }
 
-/// Reads, and again where a signal came.
-fn read_from<S: Read>(stream: &mut S, into: &mut [u8]) -> io::Result<usize>
-    ensures { ReadsAtMost result into.new }
-{
-    for _ in 0..u64::MAX {
-        match stream.read(into) {
-            Ok(n) => return Ok(n),
-            Err(error) => {
-                if error.kind() != ErrorKind::Interrupted {
-                    return Err(error);
-                }
-            }
-        }
-    }
-    Err(io::Error::from(ErrorKind::Interrupted))
-}
-
-/// Writes, and again where a signal came.
-fn write_to<S: Write>(stream: &mut S, piece: &[u8]) -> io::Result<usize>
-    ensures { WritesAtMost result piece.now }
-{
-    for _ in 0..u64::MAX {
-        match stream.write(piece) {
-            Ok(n) => return Ok(n),
-            Err(error) => {
-                if error.kind() != ErrorKind::Interrupted {
-                    return Err(error);
-                }
-            }
-        }
-    }
-    Err(io::Error::from(ErrorKind::Interrupted))
-}
-
 /// Reads from a stream that is open.
 fn read_open<S: Read>(stream: &mut Option<S>, into: &mut [u8]) -> io::Result<usize>
     ensures { ReadsAtMost result into.new }
 {
     match stream {
-        Some(stream) => read_from(stream, into),
+        Some(stream) => stream.read(into),
         None => Err(io::Error::from(ErrorKind::NotConnected)),
     }
 }
 
-/// Writes to a stream that is open.
+/// Writes some of a piece to a stream that is open; one that takes nothing fails.
 fn write_open<S: Write>(stream: &mut Option<S>, piece: &[u8]) -> io::Result<usize>
-    ensures { WritesAtMost result piece.now }
+    ensures { IfOk result (λ n. (0 < n) × (n ≤ length piece.now)) }
 {
-    match stream {
-        Some(stream) => write_to(stream, piece),
-        None => Err(io::Error::from(ErrorKind::NotConnected)),
+    let Some(stream) = stream else {
+        return Err(io::Error::from(ErrorKind::NotConnected));
+    };
+    match stream.write(piece) {
+        Ok(0) => Err(io::Error::from(ErrorKind::WriteZero)),
+        Ok(n) => Ok(n),
+        Err(error) => Err(error),
     }
 }
 
@@ -119,19 +89,11 @@ impl<S: Read + Write + OpenStream + Drop> Link for RealLink<S> {
 
     /// A write that takes nothing fails.
     fn write(&mut self, piece: &[u8]) -> Result<usize, Fault> {
-        match write_open(&mut self.stream, piece) {
-            Ok(0) => {
-                count(&mut self.write_faults);
-                Err(Fault::Failed)
-            }
+        let taken = write_open(&mut self.stream, piece);
+        match counted(&mut self.write_faults, taken) {
             Ok(n) => Ok(n),
-            Err(error) => {
-                if wants_memory(&error) {
-                    return Err(Fault::OutOfMemory);
-                }
-                count(&mut self.write_faults);
-                Err(Fault::Failed)
-            }
+            Err(Fault::Failed) => Err(Fault::Failed),
+            Err(Fault::OutOfMemory) => Err(Fault::OutOfMemory),
         }
     }
 

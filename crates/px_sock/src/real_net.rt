@@ -3,7 +3,7 @@ ghost use Rattle.std.specs.Prelude.{◌≡◌, ◌<◌, []};
 ghost use Rattle.px_sock.specs.Untold.{untold_net};
 
 use crate::addresses::Addresses;
-use crate::faults::{count, wants_memory};
+use crate::faults::{count, counted};
 use crate::real_link::RealLink;
 use px_link::{Address, Fault, Net};
 use std::alloc::Global;
@@ -69,19 +69,13 @@ fn dial<R: net::Net>(rt: &R, to: &Address) -> io::Result<R::Stream> {
     TcpStream::connect(rt, (host_of(to)?, to.port))
 }
 
-/// Whether an accept that failed so is made again: a signal came, or the peer was gone before it was accepted.
-fn is_passing(error: &io::Error) -> bool {
-    let kind = error.kind();
-    kind == ErrorKind::Interrupted || kind == ErrorKind::ConnectionAborted
-}
-
-/// The next stream that comes in.
+/// The next stream that comes in. A peer that was gone before it was accepted is none.
 fn next_stream<L: OpenListener>(listener: &L) -> io::Result<L::Stream> {
     for _ in 0..u64::MAX {
         match listener.accept() {
             Ok((stream, _)) => return Ok(stream),
             Err(error) => {
-                if !is_passing(&error) {
+                if error.kind() != ErrorKind::ConnectionAborted {
                     return Err(error);
                 }
             }
@@ -105,18 +99,14 @@ impl<'a, R: net::Net> Net for RealNet<'a, R> {
 
     fn bind(&mut self, at: &Address) -> Result<(), Fault> {
         self.bound.push(at)?;
-        match listen(self.rt, at) {
+        let answer = listen(self.rt, at);
+        match counted(&mut self.bind_faults, answer) {
             Ok(listener) => {
                 self.listener = Some(listener);
                 Ok(())
             }
-            Err(error) => {
-                if wants_memory(&error) {
-                    return Err(Fault::OutOfMemory);
-                }
-                count(&mut self.bind_faults);
-                Err(Fault::Failed)
-            }
+            Err(Fault::Failed) => Err(Fault::Failed),
+            Err(Fault::OutOfMemory) => Err(Fault::OutOfMemory),
         }
     }
 
@@ -126,18 +116,14 @@ impl<'a, R: net::Net> Net for RealNet<'a, R> {
             count(&mut self.bind_faults);
             return Err(Fault::Failed);
         }
-        match accept_from(&self.listener) {
+        let answer = accept_from(&self.listener);
+        match counted(&mut self.bind_faults, answer) {
             Ok(stream) => {
                 self.lent += 1;
                 Ok(RealLink::new(stream, true))
             }
-            Err(error) => {
-                if wants_memory(&error) {
-                    return Err(Fault::OutOfMemory);
-                }
-                count(&mut self.bind_faults);
-                Err(Fault::Failed)
-            }
+            Err(Fault::Failed) => Err(Fault::Failed),
+            Err(Fault::OutOfMemory) => Err(Fault::OutOfMemory),
         }
     }
 
@@ -147,18 +133,14 @@ impl<'a, R: net::Net> Net for RealNet<'a, R> {
             count(&mut self.connect_faults);
             return Err(Fault::Failed);
         }
-        match dial(self.rt, to) {
+        let answer = dial(self.rt, to);
+        match counted(&mut self.connect_faults, answer) {
             Ok(stream) => {
                 self.lent += 1;
                 Ok(RealLink::new(stream, false))
             }
-            Err(error) => {
-                if wants_memory(&error) {
-                    return Err(Fault::OutOfMemory);
-                }
-                count(&mut self.connect_faults);
-                Err(Fault::Failed)
-            }
+            Err(Fault::Failed) => Err(Fault::Failed),
+            Err(Fault::OutOfMemory) => Err(Fault::OutOfMemory),
         }
     }
 

@@ -1,6 +1,5 @@
 -- The addresses of connects that all went to one.
-use Rattle.std.proofs.Common.{◌≡◌, ℕ, inl, inr, List, [], ◌∷◌, ◌++◌, Bool, true, false, ◌&&◌, ◌||◌, ◌==◌, if◌then◌else◌, sym, ap, ◌∙◌, refl, eq-eqb}
-use Rattle.std.specs.Str.{bytes_eq}
+use Rattle.std.proofs.Common.{◌≡◌, inl, inr, List, [], ◌∷◌, ◌++◌, Bool, true, false, ◌&&◌, ◌||◌, ◌==◌, if◌then◌else◌, ap, ◌∙◌, refl, eq-eqb}
 use Rattle.std.proofs.lemmas.Slice.Eq.{bytes_eq-Decides}
 use Rattle.px_link.specs.Net.{Place, with_address, is_among, same_address}
 use Rattle.htx_drive.specs.Dialled.{Dialled}

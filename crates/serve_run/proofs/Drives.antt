@@ -1,5 +1,5 @@
 -- What the driver's clauses say of a session's net and of its client's link.
-use Rattle.std.proofs.Common.{◌≡◌, ℕ, ◌⊎◌, inl, inr, List, [], ◌++◌, Some, Result, Ok, Err, sym, ap, subst, ◌∙◌, refl}
+use Rattle.std.proofs.Common.{ℕ, inl, inr, List, [], Some, Result, Ok, Err, sym, ap, subst, ◌∙◌, refl}
 use Rattle.std.proofs.lemmas.List.{append-nil}
 use Rattle.std.specs.List.{flat_map}
 use Rattle.session_model.specs.Meaning.{Meaning}

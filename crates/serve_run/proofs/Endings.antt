@@ -1,5 +1,5 @@
 -- How serving ends.
-use Rattle.std.proofs.Common.{◌≡◌, ℕ, ◌+◌, ◌<◌, ◌≤◌, ◌⊎◌, inl, inr, List, [], ◌∷◌, ◌++◌, length, Option, Some, Result, Ok, Err, sym, ap, subst, ◌∙◌, refl, append_assoc, arith}
+use Rattle.std.proofs.Common.{◌≡◌, ℕ, ◌<◌, inl, inr, List, [], ◌++◌, length, Option, Some, Result, Ok, Err, sym, ap, subst, ◌∙◌, refl}
 use Rattle.std.proofs.lemmas.List.{append-nil}
 use Rattle.px_link.specs.declared.fault.Fault.TheVariants as faults
 use Rattle.px_link.specs.Told.{Rose, Gains, GainsFront}
@@ -9,10 +9,10 @@ use Rattle.px_link.specs.Link.{Seen}
 use Rattle.px_link.specs.Net.{Place, Coming, Kept, NetSeen, AcceptFailed, Binds}
 use Rattle.serve_run.specs.declared.outcome.Outcome.{Outcome}
 use Rattle.serve_run.specs.Lines.{lines_from, net_line}
-use Rattle.serve_run.specs.Served.{ServedOne, Serves, Reached, ServedAll, FailsAt, NetFails, Front, NetFront, Breaks}
+use Rattle.serve_run.specs.Served.{ServedOne, Serves, ServedAll, NetFails, Breaks}
 use Rattle.serve_run.specs.Told.{Visited}
 use Rattle.serve_run.proofs.Chain.{visited}
-use Rattle.serve_run.proofs.Outputs.{gains_none, gains_same, gains_then, gains_as, front_then, front_as}
+use Rattle.serve_run.proofs.Outputs.{gains_none, gains_then, gains_as, front_then, front_as}
 
 pub rose_from : (a b c : ℕ) → b ≡ a → Rose b c → Rose a c
 rose_from a b c e h = let P : ℕ → Type 0 = λ n. Rose n c in subst P e h

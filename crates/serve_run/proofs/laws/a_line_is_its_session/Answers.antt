@@ -1,4 +1,4 @@
-use Rattle.std.proofs.Common.{rules, ◌∷◌, [], ap, ◌∙◌}
+use Rattle.std.proofs.Common.{◌∷◌, [], ap, ◌∙◌}
 use Rattle.px_link.specs.Link.{Seen}
 use Rattle.px_link.specs.Net.{IsNew}
 use Rattle.serve_run.proofs.Chain.{next_as}

@@ -1,4 +1,3 @@
-use Rattle.std.proofs.Common.{rules}
 use Rattle.px_sock.proofs.Failing.{read_failed}
 use Rattle.px_sock.proofs.real_link.RealLinkLink.read.Goals as goal
 

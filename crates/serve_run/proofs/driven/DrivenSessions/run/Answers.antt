@@ -1,4 +1,3 @@
-use Rattle.std.proofs.Common.{rules}
 use Rattle.serve_run.proofs.Drives.{drove_visits, drove_puts}
 use Rattle.serve_run.proofs.driven.DrivenSessions.run.Goals as goal
 
