@@ -17,6 +17,7 @@ use Rattle.htx_drive.specs.Dialled.{Dial, KeptSo, IsServed, IsDial, IsDialBy, Ch
 use Rattle.htx_drive.specs.declared.SessionFault.{SessionFault}
 use Rattle.htx_drive.proofs.Handing.{moved_before}
 use Rattle.htx_drive.proofs.Reading.{ends_same}
+use Rattle.htx_drive.proofs.Refusals.{counts_found, counts_refused, counts_same}
 use Rattle.htx_drive.proofs.Writing.{fails_same}
 
 -- ---- a link that has just come
@@ -79,6 +80,7 @@ returned seen wrote link last shut old new c how closed h e w k is =
       plain = k.plain;
       coming = record { accepts = k.accepts; bound = k.bound; binds = k.binds };
       dialled = k.dialled;
+      connects = k.connects;
     }
 
 same_coming : (first old new : NetSeen) → SameComing first old → SameComing old new → SameComing first new
@@ -172,6 +174,7 @@ dials_served seen wrote link to first old mid new cs c d k is r =
       plain = r.plain ∙ k.plain ∙ d.plain;
       coming = same_coming first old new d.coming (same_coming old mid new (record { accepts = k.accepts; bound = k.bound; binds = k.binds }) r.coming);
       dialled = dialled_on first.dialled old.dialled new.dialled to d.dialled (inr (r.dialled ∙ k.dialled));
+      refused = counts_found cs c first.connect_faults old.connect_faults new.connect_faults d.refused is (r.connects ∙ k.connects);
       told = λ coming ks ea ek.
           let t = d.told coming ks ea ek in
           let P : Option (List (Option Coming)) → Type 0 = λ o. IsFirst o mid.answers (λ x. (seen link ≡ new_link x) × wrote link []) in
@@ -202,6 +205,7 @@ dials_refused to first old new cs d r =
       plain = r.plain ∙ d.plain;
       coming = same_coming first old new d.coming (record { accepts = r.accepts; bound = r.bound; binds = r.binds });
       dialled = dialled_on first.dialled old.dialled new.dialled to d.dialled (inr r.dialled);
+      refused = counts_refused cs (connected false) first.connect_faults old.connect_faults new.connect_faults d.refused refl r.never_falls r.rose;
       told = λ coming ks ea ek.
           let t = d.told coming ks ea ek in
           let P : Option (List (Option Coming)) → Type 0 = λ o. LosesRefused o new.answers in
@@ -224,6 +228,7 @@ dials_memory to first old new cs d r =
       plain = r.plain ∙ d.plain;
       coming = same_coming first old new d.coming (record { accepts = r.accepts; bound = r.bound; binds = r.binds });
       dialled = dialled_on first.dialled old.dialled new.dialled to d.dialled r.dialled;
+      refused = counts_same cs first.connect_faults old.connect_faults new.connect_faults d.refused r.connects;
       told = λ coming ks ea ek.
           let t = d.told coming ks ea ek in
           record { dials = t.dials; left = t.left; connects = t.connects; chain = t.chain; answers = r.answers ∙ t.answers; kept = r.kept ∙ t.kept; each = t.each };

@@ -1,4 +1,6 @@
 pub mod Reading
+pub mod Refusals
+pub mod Resting
 pub mod Headlines
 pub mod Budgets
 pub mod Running

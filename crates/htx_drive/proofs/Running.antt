@@ -8,6 +8,7 @@ use Rattle.px_link.specs.Net.{Place, NetSeen}
 use Rattle.htx_drive.specs.Came.{Put}
 use Rattle.htx_drive.specs.Driven.{Idle, ClientMoves, IdleGoes, moved, client_moved}
 use Rattle.htx_drive.specs.Dialled.{Dials, Goes}
+use Rattle.htx_drive.proofs.Refusals.{counts_none}
 use Rattle.htx_drive.proofs.Writing.{put_still}
 
 pub idle_moves : {L : Type 0} (T : Past → Type 0) (seen : L → Seen) (wrote : L → List ℕ → Type 0) (first client : L) (past : Past) → ClientMoves T seen wrote first client past → IdleGoes T seen wrote first client false past 1 0
@@ -63,6 +64,7 @@ dials_fresh to net =
       plain = refl;
       coming = record { accepts = refl; bound = refl; binds = refl };
       dialled = inl refl;
+      refused = counts_none net.connect_faults;
       told = λ coming ks ea ek. record { dials = []; left = coming; connects = refl; chain = refl; answers = ea; kept = ek ∙ ap (λ l. Some l) (sym (append-nil ks)); each = tt };
     }
 

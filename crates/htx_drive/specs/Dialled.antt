@@ -1,10 +1,11 @@
 -- The connects of a call, as the net told them.
 use Rattle.std.specs.Prelude.{◌≡◌, ℕ, ◌+◌, ◌<◌, ◌≤◌, ◌^◌, ◌⊎◌, List, [], ◌∷◌, ◌++◌, length, map, Bool, true, false, Option, Some, None}
-use Rattle.std.specs.List.{flat_map, AllByRecursion}
+use Rattle.std.specs.List.{flat_map, list_all, AllByRecursion}
 use Rattle.http_model.specs.declared.Close.{Close}
 use Rattle.http_model.specs.declared.Close.TheVariants.{Failed}
 use Rattle.session_core.specs.History.{Past, Connect, connected}
 use Rattle.px_link.specs.Link.{Seen, WithinTakes, MayRefuse}
+use Rattle.px_link.specs.Told.{Rose}
 use Rattle.px_link.specs.Net.{Place, Coming, NetSeen, Kept, new_link, with_address, LosesRefused, RefusesOnly}
 use Rattle.htx_drive.specs.Came.{Came, FailsSo}
 use Rattle.htx_drive.specs.Driven.{Idle, moved}
@@ -80,12 +81,23 @@ pub record SameComing (first now : NetSeen) : Type 0 where
   pub bound : now.bound ≡ first.bound
   pub binds : now.bind_faults ≡ first.bind_faults
 
+-- each connect found a server
+abbrev pub all_there : List Connect → Bool
+all_there cs = list_all (λ (c : Connect). c.there) cs
+
+-- the count of connects that failed rose where one of these was refused, and else it is as it was
+pub record CountsRefused (cs : List Connect) (before now : ℕ) : Type 0 where
+  pub never_falls : before ≤ now
+  pub found : all_there cs ≡ true → now ≡ before
+  pub refused : all_there cs ≡ false → Rose before now
+
 -- since the net was first seen these connects were made, all to one address
 pub record Dials (to : Place) (first now : NetSeen) (cs : List Connect) : Type 0 where
   pub lent : now.lent ≡ first.lent
   pub plain : now.plain ≡ first.plain
   pub coming : SameComing first now
   pub dialled : Dialled first.dialled now.dialled to
+  pub refused : CountsRefused cs first.connect_faults now.connect_faults
   pub told : (answers : List (Option Coming)) (ks : List Kept) → first.answers ≡ Some answers → first.kept ≡ Some ks → Told first now answers ks cs
 
 -- a link that was lent is kept, with the last connect of a past
@@ -96,6 +108,7 @@ pub record Returned {L : Type 0} (seen : L → Seen) (wrote : L → List ℕ →
   pub plain : now.plain ≡ old.plain
   pub coming : SameComing old now
   pub dialled : now.dialled ≡ old.dialled
+  pub connects : now.connect_faults ≡ old.connect_faults
 
 -- one more connect was made, and is over
 pub record Served {L : Type 0} (S : Past → Type 0) (seen : L → Seen) (wrote : L → List ℕ → Type 0) (first client : L) (failed : Bool) (link : L) (old now : NetSeen) (past : Past) (had has : ℕ) : Type 0 where

@@ -1,5 +1,6 @@
 -- A session that is driven: a past that is tied to its links and its net.
 use Rattle.std.specs.Prelude.{◌≡◌, ℕ, ◌+◌, ◌<◌, ◌≤◌, List, [], ◌∷◌, ◌++◌, length, sum_by, Bool, true, false, None, is_some, if◌then◌else◌, Result, Ok, Err}
+use Rattle.std.specs.List.{AllByRecursion}
 use Rattle.session_model.specs.Meaning.{Meaning}
 use Rattle.htx_drive.specs.Machine.{TookFront}
 use Rattle.session_core.specs.History.{Past, Coming, Connect}
@@ -28,6 +29,15 @@ pub record Idle {L : Type 0} (S : Past → Type 0) (seen : L → Seen) (wrote : 
   pub came : Came (seen first) (seen client) past.client
   pub put : Put (wrote first) (wrote client) (seen first) (seen client) past.taken failed
   pub closed : (seen client).closed ≡ (seen first).closed
+
+-- a connect that found a server is over: its link was closed
+abbrev pub IsOver : Connect → Type 0
+IsOver c = c.there ≡ true → is_some c.closed ≡ true
+
+-- S holds of the past, and all of its connects are over
+pub record Rests (S : Past → Type 0) (past : Past) : Type 0 where
+  pub stand : S past
+  pub over : AllByRecursion IsOver past.connects
 
 -- the client gave or took something
 pub record ClientMoves {L : Type 0} (S : Past → Type 0) (seen : L → Seen) (wrote : L → List ℕ → Type 0) (first client : L) (past : Past) : Type 0 where

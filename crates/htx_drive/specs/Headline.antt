@@ -1,6 +1,6 @@
 -- What a session that ended is, in words of its links' own streams.
 use Rattle.std.specs.Prelude.{◌≡◌, ℕ, List, ◌∷◌, ◌++◌, map, true, false, Option, Some, None}
-use Rattle.std.specs.List.{AllZip}
+use Rattle.std.specs.List.{AllByRecursion, AllZip}
 use Rattle.http_model.specs.declared.Ending.{Ending}
 use Rattle.http_model.specs.declared.Ending.TheVariants.{Closed, Broke}
 use Rattle.session_model.specs.Stream.{Stream, Server, NotThere, Open}
@@ -10,7 +10,8 @@ use Rattle.session_core.specs.History as history
 use Rattle.session_core.specs.History.{sent_of}
 use Rattle.px_link.specs.Link.{Seen, closed_by}
 use Rattle.px_link.specs.Net.{Place, Coming, NetSeen, Kept}
-use Rattle.htx_drive.specs.Dialled.{Dial, Told, Dialled}
+use Rattle.htx_drive.specs.Driven.{IsOver}
+use Rattle.htx_drive.specs.Dialled.{CountsRefused, Dial, Told, Dialled}
 use Rattle.htx_drive.specs.declared.Ran.{Ran}
 
 -- the stream of a link: its own, or where a read failed what came before, which broke off
@@ -46,7 +47,10 @@ pub record IsSessionOf {L : Type 0} (M : Meaning) (seen : L → Seen) (wrote : L
   -- what was written to the client, and its close
   pub wrote_client : (bs : List ℕ) → wrote first bs → wrote client (bs ++ out.client.bytes)
   pub closed_client : (seen client).closed ≡ closed_by (seen first).closed out.client.close
-  -- what was sent to each server is what the kept links were written, with their closes
+  -- what was sent to each server is what the kept links were written, with their closes: each link was closed
   pub sent : out.servers ≡ map sent_of connects
+  pub over : AllByRecursion IsOver connects
+  -- the count of connects that failed tells whether one was refused
+  pub refused : CountsRefused connects first_net.connect_faults net.connect_faults
   pub lent : net.lent ≡ first_net.lent
   pub dialled : Dialled first_net.dialled net.dialled to

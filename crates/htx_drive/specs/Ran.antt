@@ -9,14 +9,15 @@ use Rattle.px_link.specs.Link.{Seen, closed_by}
 use Rattle.px_link.specs.Net.{Place, NetSeen}
 use Rattle.htx_drive.specs.Machine.{TookFront}
 use Rattle.htx_drive.specs.Came.{Came, Put}
-use Rattle.htx_drive.specs.Driven.{moved, failed_by}
+use Rattle.std.specs.List.{AllByRecursion}
+use Rattle.htx_drive.specs.Driven.{IsOver, moved, failed_by}
 use Rattle.htx_drive.specs.Dialled.{Dials}
 use Rattle.htx_drive.specs.declared.Ran.{Ran}
 use Rattle.htx_drive.specs.declared.SessionFault.{SessionFault}
 use Rattle.htx_drive.specs.declared.SessionFault.TheVariants as faults
 
 -- The session is over. The core stands for a past that is tied to the client's link and to the net, and the past is a
--- session's: with this end, count and bit, with the bytes that were written to each link, and with the closes.
+-- session's: with this end, count and bit, with the bytes that were written to each link, and with the closes: each connect is over.
 pub record RanSo {L : Type 0} (M : Meaning) (stands : Past → Type 0) (seen : L → Seen) (wrote : L → List ℕ → Type 0) (first client : L) (to : Place) (first_net net : NetSeen) (ran : Ran) : Type 0 where
   pub past : Past
   pub stand : stands past
@@ -25,6 +26,7 @@ pub record RanSo {L : Type 0} (M : Meaning) (stands : Past → Type 0) (seen : L
   pub came : Came (seen first) (seen client) past.client
   pub put : Put (wrote first) (wrote client) (seen first) (seen client) past.taken false
   pub closed : (seen client).closed ≡ closed_by (seen first).closed (close_of ran.end)
+  pub over : AllByRecursion IsOver past.connects
   pub dials : Dials to first_net net past.connects
 
 -- The session was given up. What was written is a front, a core that isn't lost stands for the past, and each link that was

@@ -5,7 +5,7 @@ ghost use Rattle.session_model.specs.Session.{close_of};
 ghost use Rattle.session_core.specs.History.{Past, nothing_yet};
 ghost use Rattle.px_link.specs.Net.{address_of};
 ghost use Rattle.htx_drive.specs.Acts.{moves_bytes};
-ghost use Rattle.htx_drive.specs.Driven.{Idle, IdleGoes, Left, Ends, paid_by};
+ghost use Rattle.htx_drive.specs.Driven.{Idle, IdleGoes, Rests, Left, Ends, paid_by};
 ghost use Rattle.htx_drive.specs.Dialled.{Goes, Dials};
 ghost use Rattle.htx_drive.specs.Ran.{RanSo, GaveUp};
 
@@ -98,8 +98,8 @@ fn step<C: Machine, L: Link, N: Net<Link = L>, T: Turns>(
     requires left { 0 < left.old }
     requires sound { C.sound core.old }
     ensures sound { OnOk result (C.sound core.new) }
-    ensures goes { (cfg : C.Settings) (first : L) (first_net : N) (past : Past) → Idle (C.stands cfg core.old) L.seen L.wrote first client.old false past → Dials (address_of to.now) (N.seen first_net) (N.seen net.old) past.connects
-        → Ends result (λ _. Goes (C.stands cfg core.new) L.seen L.wrote first client.new false (address_of to.now) (N.seen first_net) (N.seen net.new) past left.old left.new) (λ failed. Goes (Left (C.meaning cfg) (C.stands cfg) core.new (C.seen core.new).lost) L.seen L.wrote first client.new failed (address_of to.now) (N.seen first_net) (N.seen net.new) past left.old left.new) }
+    ensures goes { (cfg : C.Settings) (first : L) (first_net : N) (past : Past) → Idle (Rests (C.stands cfg core.old)) L.seen L.wrote first client.old false past → Dials (address_of to.now) (N.seen first_net) (N.seen net.old) past.connects
+        → Ends result (λ _. Goes (Rests (C.stands cfg core.new)) L.seen L.wrote first client.new false (address_of to.now) (N.seen first_net) (N.seen net.new) past left.old left.new) (λ failed. Goes (Left (C.meaning cfg) (C.stands cfg) core.new (C.seen core.new).lost) L.seen L.wrote first client.new failed (address_of to.now) (N.seen first_net) (N.seen net.new) past left.old left.new) }
     ensures serving { OnOk result ((C.seen core.new).serving ≡ false) }
     ensures less { OnOk result (left.new + length (T.left turns.new) < left.old + length (T.left turns.old)) }
     ensures spent { IsErrOf result SessionFault.Spent → left.new ≡ 0 }
@@ -123,8 +123,8 @@ fn exchanges<C: Machine, L: Link, N: Net<Link = L>, T: Turns>(
     requires serving { (C.seen core.old).serving ≡ false }
     requires sound { C.sound core.old }
     ensures sound { OnOk result (C.sound core.new) }
-    ensures goes { (cfg : C.Settings) (first : L) (first_net : N) (past : Past) → Idle (C.stands cfg core.old) L.seen L.wrote first client.old false past → Dials (address_of to.now) (N.seen first_net) (N.seen net.old) past.connects
-        → Ends result (λ _. Goes (C.stands cfg core.new) L.seen L.wrote first client.new false (address_of to.now) (N.seen first_net) (N.seen net.new) past left.old left.new) (λ failed. Goes (Left (C.meaning cfg) (C.stands cfg) core.new (C.seen core.new).lost) L.seen L.wrote first client.new failed (address_of to.now) (N.seen first_net) (N.seen net.new) past left.old left.new) }
+    ensures goes { (cfg : C.Settings) (first : L) (first_net : N) (past : Past) → Idle (Rests (C.stands cfg core.old)) L.seen L.wrote first client.old false past → Dials (address_of to.now) (N.seen first_net) (N.seen net.old) past.connects
+        → Ends result (λ _. Goes (Rests (C.stands cfg core.new)) L.seen L.wrote first client.new false (address_of to.now) (N.seen first_net) (N.seen net.new) past left.old left.new) (λ failed. Goes (Left (C.meaning cfg) (C.stands cfg) core.new (C.seen core.new).lost) L.seen L.wrote first client.new failed (address_of to.now) (N.seen first_net) (N.seen net.new) past left.old left.new) }
     ensures over { IfOk result (λ how. (C.seen core.new).wants.over ≡ Some how) }
     ensures spent { IsErrOf result SessionFault.Spent → left.new ≡ 0 }
 {

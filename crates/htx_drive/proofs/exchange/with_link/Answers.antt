@@ -3,13 +3,14 @@ use Rattle.session_core.specs.History.{connected, closing_by, close_by}
 use Rattle.htx_drive.specs.Dialled.{closed_how}
 use Rattle.http_model.specs.declared.Close.TheVariants.{Failed}
 use Rattle.htx_drive.proofs.Last.{stand_last}
+use Rattle.htx_drive.proofs.Resting.{over_more}
 use Rattle.htx_drive.proofs.Dialling.{linked_fresh, returned, moved_opened, moved_closed}
 use Rattle.htx_drive.proofs.exchange.with_link.Goals as goal
 
 pub returns-in-Ok-clause-goes : goal.returns-in-Ok-clause-goes
 returns-in-Ok-clause-goes g c = λ cfg first past h.
     let done = c.in-Ok.ensures.goes cfg first c.args.lent past.connects (record past { connects = past.connects ++ connected true ∷ [] }) (connected true) (record {
-      idle = record { stand = c.server_opened.ensures.leads cfg past h.stand; came = h.came; put = h.put; closed = h.closed };
+      idle = record { stand = c.server_opened.ensures.leads cfg past h.stand.stand; came = h.came; put = h.put; closed = h.closed };
       connects = refl;
       linked = linked_fresh g.L.Link.seen g.L.Link.wrote c.args.lent;
     }) in
@@ -22,7 +23,10 @@ returns-in-Ok-clause-goes g c = λ cfg first past h.
       behind = record done.now { connects = past.connects ++ closing_by done.now.note done.c ∷ [] };
       c = closing_by done.now.note done.c;
       idle = record {
-        stand = stand_last (g.C.Machine.stands cfg c.server_closed.new.self) done.now past.connects done.c (closing_by done.now.note) hand.connects (c.server_closed.ensures.leads cfg done.now hand.idle.stand);
+        stand = record {
+          stand = stand_last (g.C.Machine.stands cfg c.server_closed.new.self) done.now past.connects done.c (closing_by done.now.note) hand.connects (c.server_closed.ensures.leads cfg done.now hand.idle.stand);
+          over = over_more past.connects (closing_by done.now.note done.c) h.stand.over (λ there. refl);
+        };
         came = hand.idle.came;
         put = hand.idle.put;
         closed = hand.idle.closed;
@@ -36,7 +40,7 @@ returns-in-Ok-clause-goes g c = λ cfg first past h.
 pub returns-in-Err-clause-goes : goal.returns-in-Err-clause-goes
 returns-in-Err-clause-goes g c = λ cfg first past h.
     let done = c.in-Err.ensures.goes cfg first c.args.lent past.connects (record past { connects = past.connects ++ connected true ∷ [] }) (connected true) (record {
-      idle = record { stand = c.server_opened.ensures.leads cfg past h.stand; came = h.came; put = h.put; closed = h.closed };
+      idle = record { stand = c.server_opened.ensures.leads cfg past h.stand.stand; came = h.came; put = h.put; closed = h.closed };
       connects = refl;
       linked = linked_fresh g.L.Link.seen g.L.Link.wrote c.args.lent;
     }) in

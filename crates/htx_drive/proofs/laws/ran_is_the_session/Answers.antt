@@ -22,6 +22,8 @@ returns g c = λ cfg core first client to first_net net ran own ending answers k
       wrote_client = r.put.wrote;
       closed_client = r.closed;
       sent = refl;
+      over = r.over;
+      refused = r.dials.refused;
       lent = r.dials.lent;
       dialled = r.dials.dialled;
     }

@@ -1,7 +1,7 @@
 use Rattle.std.proofs.Common.{◌≡◌, ◌+◌, false, length}
 use Rattle.session_core.specs.History.{Past}
 use Rattle.px_link.specs.Net.{address_of}
-use Rattle.htx_drive.specs.Driven.{Idle}
+use Rattle.htx_drive.specs.Driven.{Idle, Rests}
 use Rattle.htx_drive.specs.Dialled.{Goes, Dials}
 use Rattle.htx_drive.proofs.session.exchanges.Given as goal
 
@@ -9,8 +9,8 @@ abbrev pub invariant-steps : goal.invariant-steps
 invariant-steps g l =
     record {
       goes : (cfg : g.row.C-Settings.Denot) (first : g.row.L.Denot) (first_net : g.row.N.Denot) (past : Past)
-          → Idle (g.C.Machine.stands cfg l.initial.core) g.L.Link.seen g.L.Link.wrote first l.initial.client false past → Dials (address_of l.to) (g.N.Net.seen first_net) (g.N.Net.seen l.initial.net) past.connects
-          → Goes (g.C.Machine.stands cfg l.core) g.L.Link.seen g.L.Link.wrote first l.client false (address_of l.to) (g.N.Net.seen first_net) (g.N.Net.seen l.net) past l.initial.left l.left;
+          → Idle (Rests (g.C.Machine.stands cfg l.initial.core)) g.L.Link.seen g.L.Link.wrote first l.initial.client false past → Dials (address_of l.to) (g.N.Net.seen first_net) (g.N.Net.seen l.initial.net) past.connects
+          → Goes (Rests (g.C.Machine.stands cfg l.core)) g.L.Link.seen g.L.Link.wrote first l.client false (address_of l.to) (g.N.Net.seen first_net) (g.N.Net.seen l.net) past l.initial.left l.left;
       sound : g.C.Machine.sound l.core;
       serving : (g.C.Machine.seen l.core).serving ≡ false;
     }

@@ -10,14 +10,15 @@ use Rattle.htx_drive.proofs.session.run_session.Goals as goal
 pub returns-in-Ok-clause-ran : goal.returns-in-Ok-clause-ran
 returns-in-Ok-clause-ran g c = λ cfg s.
     let client = c.args.client.now in
-    let goes = c.in-Ok.ensures.goes cfg client c.args.net.now nothing_yet (record { stand = s; came = came_fresh (g.L.Link.seen client); put = put_fresh (g.L.Link.wrote client) (g.L.Link.seen client); closed = refl }) (dials_fresh (address_of c.args.to.now) (g.N.Net.seen c.args.net.now)) in
+    let goes = c.in-Ok.ensures.goes cfg client c.args.net.now nothing_yet (record { stand = record { stand = s; over = tt }; came = came_fresh (g.L.Link.seen client); put = put_fresh (g.L.Link.wrote client) (g.L.Link.seen client); closed = refl }) (dials_fresh (address_of c.args.to.now) (g.N.Net.seen c.args.net.now)) in
     let P : ℕ → Type 0 = λ n. IsFinal (g.C.Machine.meaning cfg) goes.now (out_of_past goes.now goes.now.taken n c.in-Ok.end) in
     let idle = goes.idle in
     record {
       past = goes.now;
-      stand = idle.stand;
-      session = subst P (sym c.exchanges-in-Ok.ensures) (g.met.C.Machine.over_is_the_session cfg c.exchanges.new.core goes.now c.in-Ok.end idle.stand c.in-Ok.ensures.over);
-      bit = c.cut.ensures ∙ g.met.C.Machine.cut_is_noted cfg c.exchanges.new.core goes.now idle.stand;
+      stand = idle.stand.stand;
+      over = idle.stand.over;
+      session = subst P (sym c.exchanges-in-Ok.ensures) (g.met.C.Machine.over_is_the_session cfg c.exchanges.new.core goes.now c.in-Ok.end idle.stand.stand c.in-Ok.ensures.over);
+      bit = c.cut.ensures ∙ g.met.C.Machine.cut_is_noted cfg c.exchanges.new.core goes.now idle.stand.stand;
       came = came_shut (g.L.Link.seen client) (g.L.Link.seen c.exchanges.new.client) (g.L.Link.seen c.close.new.self) _ goes.now.client c.close.ensures.seen idle.came;
       put = put_shut _ _ _ (g.L.Link.seen client) (g.L.Link.seen c.exchanges.new.client) (g.L.Link.seen c.close.new.self) _ goes.now.taken false c.close.ensures.seen c.close.ensures.wrote idle.put;
       closed = shut_closed (g.L.Link.seen client) (g.L.Link.seen c.exchanges.new.client) (g.L.Link.seen c.close.new.self) _ _ c.close.ensures.seen idle.closed c.close_of.ensures;
@@ -27,7 +28,7 @@ returns-in-Ok-clause-ran g c = λ cfg s.
 pub returns-in-Err-clause-gave_up : goal.returns-in-Err-clause-gave_up
 returns-in-Err-clause-gave_up g c = λ cfg s.
     let client = c.args.client.now in
-    let goes = c.in-Err.ensures.goes cfg client c.args.net.now nothing_yet (record { stand = s; came = came_fresh (g.L.Link.seen client); put = put_fresh (g.L.Link.wrote client) (g.L.Link.seen client); closed = refl }) (dials_fresh (address_of c.args.to.now) (g.N.Net.seen c.args.net.now)) in
+    let goes = c.in-Err.ensures.goes cfg client c.args.net.now nothing_yet (record { stand = record { stand = s; over = tt }; came = came_fresh (g.L.Link.seen client); put = put_fresh (g.L.Link.wrote client) (g.L.Link.seen client); closed = refl }) (dials_fresh (address_of c.args.to.now) (g.N.Net.seen c.args.net.now)) in
     let more : moved nothing_yet + c.args.budget ≤ moved goes.now + c.exchanges.new.left = goes.more in
     let idle = goes.idle in
     record {

@@ -1,0 +1,4 @@
+pub mod Drawn
+pub mod Drill
+pub mod Lines
+pub mod Plan
