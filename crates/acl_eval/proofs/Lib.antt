@@ -1,3 +1,4 @@
 pub mod Trying
 pub mod Literals
 pub mod Casting
+pub mod Walking

@@ -13,12 +13,6 @@ drop_get [] at x is = cc
 drop_get {A} (y ∷ xs) zero x is = let same : y ≡ x = cc in ap (λ (z : A). z ∷ xs) same
 drop_get (y ∷ xs) (suc at) x is = drop_get xs at x is
 
--- past the last item there is none
-pub past : {A : Type 0} (xs : List A) (at : ℕ) → slice_get xs at ≡ None → length xs ≤ at
-past [] at is = omega arith
-past (x ∷ xs) zero is = cc
-past (x ∷ xs) (suc at) is = let rest = past xs at is in omega (arith, rest)
-
 -- an item that doesn't pass leaves the others to decide whether one does
 pub goes_on : {A : Type 0} (f : A → Bool) (xs : List A) (at : ℕ) (x : A) (whole : Bool) → slice_get xs at ≡ Some x → false ≡ f x
     → list_any f (drop at xs) ≡ whole → list_any f (drop (at + 1) xs) ≡ whole

@@ -5,7 +5,7 @@ ghost use Rattle.acl_eval.specs.Condition as conditions;
 
 use crate::condition::{Cond, GroupList, Term, TermList, Test, TestList};
 use crate::matching::matches_sample;
-use px_expr::{Searchers, eval_nth};
+use px_expr::{Searchers, eval_next};
 use px_sample::{Buf, Env, OutOfMemory};
 use std::alloc::Global;
 
@@ -24,8 +24,9 @@ fn test_holds<'c, E: Env>(
     ensures cap { buf.new.cap ≡ buf.old.cap }
     ensures spare_cap { spare.new.cap ≡ buf.old.cap }
 {
-    for nth in 0..u32::MAX {
-        match eval_nth(alloc, searchers, &test.expr, nth, env, buf, spare)? {
+    let mut place = env.start(&test.expr.fetch);
+    'samples: loop {
+        match eval_next(alloc, searchers, &test.expr, &mut place, env, buf, spare)? {
             Some(sample) => {
                 if matches_sample(alloc, searchers, test, sample, buf)? {
                     return Ok(true);
@@ -34,7 +35,6 @@ fn test_holds<'c, E: Env>(
             None => return Ok(false),
         }
     }
-    Ok(false)
 }
 
 /// Whether one of the tests holds.

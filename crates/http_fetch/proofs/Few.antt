@@ -1,6 +1,7 @@
 -- A fetch has fewer samples than a message has bytes.
 use Rattle.std.proofs.Common.{ℕ, ◌<◌, ◌^◌, ℤ, List, length, Option, Some, None, arith}
 use Rattle.std.proofs.lemmas.List.{length-map}
+use Rattle.htx_model.specs.Block.{Block}
 use Rattle.http_model.specs.Blocks.{load}
 use Rattle.header_ops.specs.Lists.{values_named, fulls_named}
 use Rattle.header_ops.proofs.Listed.{few_values}
@@ -8,7 +9,15 @@ use Rattle.header_ops.proofs.Whole.{few_fulls}
 use Rattle.px_sample.specs.Sample.{Bytes}
 use Rattle.px_sample.specs.declared.fetch.Fetch.{Fetch}
 use Rattle.px_sample.specs.declared.fetch.Fetch.TheVariants as fetches
+use Rattle.http_fetch.specs.Found.{read_named}
+use Rattle.http_fetch.specs.declared.headers.Reading.{Reading}
+use Rattle.http_fetch.specs.declared.headers.Reading.TheVariants as readings
 use Rattle.http_fetch.specs.Fetches.{RequestAt, ResponseAt, header_samples, request_samples, response_samples}
+
+-- the values of a field
+pub few_read : (reading : Reading) (name : List ℕ) (blocks : List Block) → length blocks < 2 ^ 32 → load blocks < 2 ^ 32 → length (read_named reading name blocks) < 2 ^ 32
+few_read readings.Values name blocks count weight = omega (arith, few_values name blocks, weight)
+few_read readings.Wholes name blocks count weight = omega (arith, few_fulls name blocks, count)
 
 few_headers : (values : List (List ℕ)) (at : Option ℤ) → length values < 2 ^ 32 → length (header_samples values at) < 2 ^ 32
 few_headers values None h = omega (arith, length-map values (λ value. Some (Bytes value)), h)

@@ -1,3 +1,4 @@
 pub mod Param
 pub mod Fetches
 pub mod Found
+pub mod Walk

@@ -1,5 +1,5 @@
 //! What a fetch has found, before it is copied.
-ghost use Rattle.std.specs.Prelude.{◌≡◌, ◌∷◌, ◌++◌, [], Some, slice_get, option_map};
+ghost use Rattle.std.specs.Prelude.{◌≡◌, ◌++◌, Some, option_map};
 ghost use Rattle.px_sample.specs.Sample.{Bytes, value_in, within};
 ghost use Rattle.http_fetch.specs.Found.{value_of};
 
@@ -15,13 +15,6 @@ pub(crate) enum Found<'a> {
     /// Three texts, one behind another.
     Joined(&'a [u8], &'a [u8], &'a [u8]),
     Variable(&'a Vars, Scope, &'a [u8]),
-}
-
-/// The one sample of a fetch.
-pub(crate) fn one(found: Found<'_>, nth: u32) -> Option<Found<'_>>
-    ensures { option_map value_of result ≡ slice_get (value_of found.entry ∷ []) nth }
-{
-    if nth == 0 { Some(found) } else { None }
 }
 
 /// Bytes where there are some.

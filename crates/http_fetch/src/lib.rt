@@ -4,6 +4,7 @@
 
 mod env;
 mod found;
+mod given;
 mod headers;
 mod line;
 mod param;

@@ -1,22 +1,20 @@
-//! Where the value of a number stands among others.
-ghost use Rattle.std.specs.Prelude.{◌≡◌, List, ℕ, length, slice_get, option_and_then};
+//! How many values are passed on the way to one of a number.
+ghost use Rattle.std.specs.Prelude.{◌≡◌, ◌<◌, ◌+◌, ◌^◌, List, ℕ, length, None, unsigned_abs, IfSome, IfNone};
 ghost use Rattle.http_fetch.specs.Fetches.{at_occurrence};
 
-/// The index of the value of this number among so many: from 1 at the front, or from -1 at the back.
+/// How many values are passed before the one of this number is met: from 1 at the front, or from -1 at the back. None for 0, and
+/// where they are more than a message has.
 #[tactic(auto, using(crate::proofs::Places::places))]
-pub(crate) fn place_of(occurrence: i64, total: u32) -> Option<u32>
-    ensures { (values : List (List ℕ)) → length values ≡ total → option_and_then (slice_get values) result ≡ at_occurrence occurrence values }
+pub(crate) fn passed_before(occurrence: i64) -> Option<u32>
+    ensures near { IfSome result (λ passed. passed + 1 ≡ unsigned_abs occurrence) }
+    ensures far { IfNone result ((values : List (List ℕ)) → length values < 2 ^ 32 → at_occurrence occurrence values ≡ None) }
 {
     if occurrence == 0 {
         return None;
     }
     let passed = occurrence.unsigned_abs() - 1;
-    if passed >= total as u64 {
+    if passed > u32::MAX as u64 {
         return None;
     }
-    if occurrence > 0 {
-        Some(passed as u32)
-    } else {
-        Some(total - 1 - passed as u32)
-    }
+    Some(passed as u32)
 }

@@ -1,5 +1,5 @@
 //! The samples of expressions.
-ghost use Rattle.std.specs.Prelude.{◌≡◌, ◌<◌, ◌^◌, false, length, slice_get, option_map, IsOk, IfOk, IfNone};
+ghost use Rattle.std.specs.Prelude.{◌≡◌, ◌<◌, ◌^◌, false, length, drop, slice_get, option_map, IsOk, IfOk, IfNone};
 ghost use Rattle.std.specs.List.{list_any};
 ghost use Rattle.px_sample.specs.Sample.{value_in};
 ghost use Rattle.px_conv.specs.Conv.{has_pattern};
@@ -7,7 +7,7 @@ ghost use Rattle.px_expr.specs.Expr.{put_through, sample, samples, holds_pattern
 
 use crate::expr::{ConvList, Expr};
 use px_conv::{Searchers, convert};
-use px_sample::{Buf, Env, OutOfMemory, Sample};
+use px_sample::{Buf, Env, OutOfMemory, Place, Sample};
 use std::alloc::Global;
 
 /// Puts a sample through converters, up to one that makes nothing of it.
@@ -76,6 +76,30 @@ pub fn eval_nth<'c, E: Env>(
     ensures spare_cap { spare.new.cap ≡ buf.old.cap }
 {
     match env.fetch(&expr.fetch, nth, buf) {
+        Some(first) => Ok(Some(convert_all(alloc, searchers, &expr.convs, first, buf, spare)?)),
+        None => Ok(None),
+    }
+}
+
+/// The sample at a place, put through the converters; the place moves on to the next one. None past the last. A condition tries
+/// the samples so, from `Env::start` on, and the walk goes over a message once. Else as `eval`.
+pub fn eval_next<'c, E: Env>(
+    alloc: Global,
+    searchers: &mut Searchers<'c>,
+    expr: &'c Expr,
+    place: &mut Place,
+    env: &E,
+    buf: &mut Buf,
+    spare: &mut Buf,
+) -> Result<Option<Sample>, OutOfMemory>
+    requires { spare.old.cap ≡ buf.old.cap }
+    ensures value { IfOk result (λ made. option_map (λ one. value_in one buf.new.bytes) made ≡ slice_get (samples buf.old.cap (λ fetch. E.left env.now fetch place.old) expr.now) 0) }
+    ensures left { E.left env.now expr.now.fetch place.new ≡ drop 1 (E.left env.now expr.now.fetch place.old) }
+    ensures succeeds { holds_pattern expr.now ≡ false → IsOk result }
+    ensures cap { buf.new.cap ≡ buf.old.cap }
+    ensures spare_cap { spare.new.cap ≡ buf.old.cap }
+{
+    match env.next(&expr.fetch, place, buf) {
         Some(first) => Ok(Some(convert_all(alloc, searchers, &expr.convs, first, buf, spare)?)),
         None => Ok(None),
     }

@@ -6,8 +6,8 @@ mod evaluation;
 mod expr;
 mod mem_env;
 
-pub use evaluation::{eval, eval_nth};
+pub use evaluation::{eval, eval_next, eval_nth};
 pub use expr::{ConvList, Expr};
 pub use mem_env::{Given, MemEnv};
 pub use px_conv::{Conv, Pat, Searchers};
-pub use px_sample::{Buf, Env, Fetch, OutOfMemory, Sample, Scope, Text};
+pub use px_sample::{Buf, Env, Fetch, OutOfMemory, Place, Sample, Scope, Text};

@@ -1,9 +1,9 @@
 //! An environment in memory, for tests of what stands on `Env`.
-ghost use Rattle.std.specs.Prelude.{◌≡◌, ◌<◌, ◌^◌, ◌∷◌, [], length, map, slice_get, option_map};
+ghost use Rattle.std.specs.Prelude.{◌≡◌, ◌<◌, ◌^◌, ◌∷◌, [], length, map, drop, slice_get, option_map};
 ghost use Rattle.px_sample.specs.Sample.{value_in, within};
 ghost use Rattle.px_expr.specs.MemEnv.{value_of, samples_in};
 
-use px_sample::{Buf, Env, Fetch, Sample};
+use px_sample::{Buf, Env, Fetch, Place, Sample};
 
 /// A sample that is handed in.
 #[derive(Clone, Copy, Debug, PartialEq, Eq)]
@@ -79,9 +79,25 @@ impl MemEnv<'_> {
 impl Env for MemEnv<'_> {
     ghost samples = { λ env fetch. samples_in env.given.now fetch };
 
+    ghost left = { λ env fetch place. drop place.at (samples_in env.given.now fetch) };
+
     fn fetch(&self, fetch: &Fetch, nth: u32, into: &mut Buf) -> Option<Sample> {
         match self.nth_of(fetch, nth) {
             Some(given) => Some(hand(given, into)),
+            None => None,
+        }
+    }
+
+    fn start(&self, _: &Fetch) -> Place {
+        Place { at: 0, within: 0 }
+    }
+
+    fn next(&self, fetch: &Fetch, place: &mut Place, into: &mut Buf) -> Option<Sample> {
+        match self.nth_of(fetch, place.at) {
+            Some(given) => {
+                place.at += 1;
+                Some(hand(given, into))
+            }
             None => None,
         }
     }
