@@ -1,10 +1,10 @@
 -- Texts and their parts, with the case of letters ignored or not.
 use Rattle.std.proofs.Common.{inl, inr, ◌≡◌, ℕ, zero, suc, Bool, true, false, ◌+◌, ◌-◌, ◌<◌, ◌≤◌, ◌||◌, List, [], ◌∷◌, length, take, drop, refl, sym, ap, ap₂, ◌∙◌, add-one, arith}
-use Rattle.std.specs.Prelude.{nat_eq, map}
+use Rattle.std.specs.Prelude.{nat_eq}
 use Rattle.std.specs.Char.{to_ascii_lowercase}
 use Rattle.std.specs.Str.{bytes_eq}
 use Rattle.std.specs.List.{starts_with, ends_with}
-use Rattle.std.proofs.lemmas.Bool.{cases_Bool, false≢true}
+use Rattle.std.proofs.lemmas.Bool.{cases_Bool}
 use Rattle.std.proofs.lemmas.Slice.Eq.{bytes_eq-Decides}
 use Rattle.std.proofs.lemmas.List.{take-map, drop-map, length-map, length-drop, take_all}
 use Rattle.std.proofs.Math.ListN.{drop_of_length-le}

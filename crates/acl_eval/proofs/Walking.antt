@@ -1,5 +1,5 @@
 -- Samples that are gone through up to the first that matches: each is made of what a fetch gives.
-use Rattle.std.proofs.Common.{◌≡◌, ℕ, Bool, false, true, ◌<◌, ◌||◌, List, [], ◌∷◌, length, map, drop, sym, ap, ◌∙◌, arith, Option, Some, None}
+use Rattle.std.proofs.Common.{◌≡◌, Bool, false, true, ◌<◌, ◌||◌, List, [], ◌∷◌, length, map, drop, sym, ap, ◌∙◌, arith, Some, None}
 use Rattle.std.specs.Prelude.{slice_get}
 use Rattle.std.specs.List.{list_any}
 

@@ -1,6 +1,6 @@
 -- The samples of a field, one after another.
-use Rattle.std.proofs.Common.{◌≡◌, ℕ, List, [], ◌∷◌, drop, slice_get, Option, Some, None, ap, sym, ◌∙◌}
-use Rattle.px_sample.specs.Sample.{Value, Bytes}
+use Rattle.std.proofs.Common.{◌≡◌, ℕ, List, [], ◌∷◌, drop, slice_get, Some, None, ap, sym, ◌∙◌}
+use Rattle.px_sample.specs.Sample.{Bytes}
 use Rattle.http_fetch.specs.Fetches.{header_samples}
 
 -- the first one

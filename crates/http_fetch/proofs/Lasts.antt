@@ -1,9 +1,9 @@
 -- The last sample of a field.
-use Rattle.std.proofs.Common.{◌≡◌, ℕ, zero, suc, ◌-◌, ◌<◌, List, [], ◌∷◌, length, map, get_or, slice_get, Option, Some, None, option_map, refl, sym, ap, ◌∙◌, arith}
+use Rattle.std.proofs.Common.{◌≡◌, ℕ, zero, suc, ◌-◌, ◌<◌, List, [], ◌∷◌, length, map, get_or, slice_get, Option, Some, None, option_map, refl, ap, ◌∙◌, arith}
 use denote.Ref.{Bor}
 use Rattle.std.proofs.lemmas.Bool.Decides.{nat_tests}
 use Rattle.std.proofs.lemmas.List.{length-map}
-use Rattle.px_sample.specs.Sample.{Value, Bytes}
+use Rattle.px_sample.specs.Sample.{Bytes}
 use Rattle.px_sample.specs.Fetched.{last_of}
 use Rattle.header_ops.specs.Walk.{from_back}
 use Rattle.http_fetch.specs.Fetches.{header_samples}

@@ -1,8 +1,7 @@
-use Rattle.std.proofs.Common.{◌≡◌, ℕ, List, Option, refl, sym, ap, ◌∙◌, Some, None}
+use Rattle.std.proofs.Common.{ℕ, List, Option, refl, sym, ap, ◌∙◌}
 use Rattle.std.specs.Prelude.{slice_get}
 use Rattle.std.specs.List.{list_any}
 use Rattle.px_sample.specs.Sample.{Value, value_in, within}
-use Rattle.px_sample.specs.Fetched.{all_within}
 use Rattle.px_sample.specs.declared.fetch.Fetch.{Fetch}
 use Rattle.px_expr.specs.Expr.{put_through, samples}
 use Rattle.acl_eval.specs.Matches.{sample_matches}

@@ -1,7 +1,7 @@
-use Rattle.std.proofs.Common.{◌≡◌, ℕ, Bool, List, sym, ap, subst, rules, ◌∙◌, Some}
+use Rattle.std.proofs.Common.{◌≡◌, ℕ, Bool, List, ap, subst, ◌∙◌}
 use Rattle.std.specs.Prelude.{IfOk}
 use Rattle.std.specs.List.{list_any}
-use Rattle.px_sample.specs.Sample.{Bytes, value_in}
+use Rattle.px_sample.specs.Sample.{value_in}
 use Rattle.acl_eval.specs.Matches.{text_matches}
 use Rattle.acl_eval.proofs.Casting.{bytes_decide}
 use Rattle.acl_eval.proofs.matching.matches_sample.Goals as goal

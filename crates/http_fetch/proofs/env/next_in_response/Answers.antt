@@ -1,7 +1,7 @@
 use Rattle.std.proofs.Common.{◌≡◌, ◌∙◌, List, [], Option, ap, sym, drop, slice_get, arith}
 use Rattle.px_sample.specs.Sample.{Value}
 use Rattle.http_fetch.specs.Fetches.{ResponseAt, response_samples}
-use Rattle.http_fetch.specs.Walk.{response_field, response_left, given_field, given_samples, given_left}
+use Rattle.http_fetch.specs.Walk.{response_field, response_left, given_field, given_samples}
 use Rattle.http_fetch.proofs.Starts.{none_at_end, same_left}
 use Rattle.http_fetch.proofs.env.next_in_response.Goals as goal
 

@@ -1,6 +1,6 @@
 use Rattle.std.proofs.Common.{◌∙◌, ap, sym}
 use Rattle.header_ops.specs.Lists.{values_named, fulls_named}
-use Rattle.http_fetch.specs.Fetches.{ResponseAt, header_samples, count_sample, one, response_samples}
+use Rattle.http_fetch.specs.Fetches.{ResponseAt, header_samples, response_samples}
 use Rattle.http_fetch.specs.Walk.{field_of, response_field}
 use Rattle.http_fetch.specs.declared.headers.Reading.TheVariants as readings
 use Rattle.http_fetch.proofs.env.of_response.Goals as goal
