@@ -7,3 +7,4 @@ pub mod Seen
 pub mod Stands
 pub mod Said
 pub mod Listed
+pub mod Lent
