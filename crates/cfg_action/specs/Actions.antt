@@ -1,15 +1,16 @@
 -- One action and its arguments (Configuration Manual, sections 4.2 and 6).
-use Rattle.std.specs.Prelude.{ℕ, List, [], ◌∷◌, length, Bool, false, if◌then◌else◌, Ok, Err, codes}
+use Rattle.std.specs.Prelude.{ℕ, List, [], ◌∷◌, length, Bool, false, if◌then◌else◌, Option, Some, None, Ok, Err, codes}
 use Rattle.std.specs.Str.{bytes_eq}
 use Rattle.log_format.specs.declared.fmt.Fmt.{Fmt}
 use Rattle.px_pattern.specs.Pattern.{Pattern}
-use Rattle.rule_model.specs.declared.names.ActionName.{ActionName}
-use Rattle.rule_model.specs.declared.names.ActionName.TheVariants as names
-use Rattle.rule_model.specs.declared.names.Direction.{Direction}
+use Rattle.rule_model.specs.declared.action.ActionName.{ActionName}
+use Rattle.rule_model.specs.declared.action.ActionName.TheVariants as names
+use Rattle.rule_model.specs.declared.action.Direction.{Direction}
 use Rattle.rule_model.specs.declared.action.DelBy.{DelBy}
 use Rattle.rule_model.specs.declared.action.DelBy.TheVariants.{Str, Beg, End, Sub, Reg}
 use Rattle.rule_model.specs.declared.action.Action.{Action}
 use Rattle.rule_model.specs.declared.action.Action.TheVariants as actions
+use Rattle.rule_model.specs.Actions.{takes_pattern, by_text, by_pattern}
 use Rattle.cfg_expr.specs.declared.side.Side.{Side}
 use Rattle.cfg_expr.specs.Reading.{Reading, plain, built, ◌>>=◌}
 use Rattle.cfg_expr.specs.Exprs.{expr_of}
@@ -103,25 +104,22 @@ field_at side _ words = plain (Err Keyword)
 
 -- ---- the line of a request
 
--- a part that becomes a text
-abbrev pub set_by : (Fmt → Action) → Side → Words → RuleReading Behind
-set_by made side words = format_at side words >>= λ fmt. plain (Ok (made fmt.0, fmt.1))
+-- an action that there is
+abbrev pub known : Option Action → Words → RuleReading Behind
+known None others = plain (Err Keyword)
+known (Some action) others = plain (Ok (action, others))
 
--- a part in which a pattern is replaced
-abbrev pub changed_by : (Pattern → Fmt → Action) → Side → Words → RuleReading Behind
-changed_by made side words = pattern_and_format side words >>= λ found. plain (Ok (made found.0 found.1, found.2))
+-- FMT: a part that becomes a text
+unfoldable pub set_at : Side → ActionName → Words → RuleReading Behind
+set_at side name words = format_at side words >>= λ fmt. known (by_text name fmt.0) fmt.1
 
--- actions on a request line; no other is one
+-- RE FMT: a part in which a pattern is replaced
+unfoldable pub changed_at : Side → ActionName → Words → RuleReading Behind
+changed_at side name words = pattern_and_format side words >>= λ found. known (by_pattern name found.0 found.1) found.2
+
+-- actions on a request line
 unfoldable pub line_at : Side → ActionName → Words → RuleReading Behind
-line_at side names.SetMethod words = set_by actions.SetMethod side words
-line_at side names.SetPath words = set_by actions.SetPath side words
-line_at side names.SetPathq words = set_by actions.SetPathq side words
-line_at side names.SetUri words = set_by actions.SetUri side words
-line_at side names.SetQuery words = set_by actions.SetQuery side words
-line_at side names.ReplacePath words = changed_by actions.ReplacePath side words
-line_at side names.ReplacePathq words = changed_by actions.ReplacePathq side words
-line_at side names.ReplaceUri words = changed_by actions.ReplaceUri side words
-line_at side _ words = plain (Err Keyword)
+line_at side name words = if takes_pattern name then changed_at side name words else set_at side name words
 
 -- ---- variables
 
@@ -147,7 +145,7 @@ unfoldable pub return_parts : Side → Words → RuleReading (ActionParts × Wor
 return_parts side words =
     return_options side (length words) returns.no_options words >>= λ found. plain (Ok (parts.Return found.0, found.1))
 
--- the action of a name and its own word, and what stands behind it
+-- The action of a name and its own word, and what stands behind it. All others are on a request line.
 unfoldable pub action_parts : Direction → ActionName → (word : List ℕ) → Words → RuleReading (ActionParts × Words)
 action_parts direction names.Allow word words = plain (Ok (parts.Whole actions.Allow, words))
 action_parts direction names.Deny word words = whole (plain (denied direction words))
@@ -156,20 +154,13 @@ action_parts direction names.SetHeader word words = whole (field_at (side_of dir
 action_parts direction names.DelHeader word words = whole (field_at (side_of direction) names.DelHeader words)
 action_parts direction names.ReplaceHeader word words = whole (field_at (side_of direction) names.ReplaceHeader words)
 action_parts direction names.ReplaceValue word words = whole (field_at (side_of direction) names.ReplaceValue words)
-action_parts direction names.SetMethod word words = whole (line_at (side_of direction) names.SetMethod words)
-action_parts direction names.SetPath word words = whole (line_at (side_of direction) names.SetPath words)
-action_parts direction names.SetPathq word words = whole (line_at (side_of direction) names.SetPathq words)
-action_parts direction names.SetUri word words = whole (line_at (side_of direction) names.SetUri words)
-action_parts direction names.SetQuery word words = whole (line_at (side_of direction) names.SetQuery words)
-action_parts direction names.ReplacePath word words = whole (line_at (side_of direction) names.ReplacePath words)
-action_parts direction names.ReplacePathq word words = whole (line_at (side_of direction) names.ReplacePathq words)
-action_parts direction names.ReplaceUri word words = whole (line_at (side_of direction) names.ReplaceUri words)
 action_parts direction names.SetStatus word words = whole (plain (status_set words))
 action_parts direction names.SetVar word words = whole (variable_set (side_of direction) word words)
 action_parts direction names.UnsetVar word words = whole (plain (variable_unset word words))
 action_parts direction names.StrictMode word words = whole (plain (mode_set words))
 action_parts direction names.Redirect word words = redirect_parts (side_of direction) words
 action_parts direction names.Return word words = return_parts (side_of direction) words
+action_parts direction name word words = whole (line_at (side_of direction) name words)
 
 -- The action that its parts make. What lacks in them counts as behind the last word of the line.
 abbrev pub made_of : ActionParts → Read Action

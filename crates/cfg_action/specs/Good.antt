@@ -1,10 +1,10 @@
 -- Arguments of actions that a configuration may have, while they are read.
 use Rattle.std.specs.Prelude.{◌≡◌, true, false, not, ◌&&◌, IfSome, is_some}
 use Rattle.std.specs.List.{AllByRecursion}
-use Rattle.rule_model.specs.declared.names.ActionName.{ActionName}
-use Rattle.rule_model.specs.declared.names.ActionName.TheVariants as names
+use Rattle.rule_model.specs.declared.action.ActionName.{ActionName}
+use Rattle.rule_model.specs.declared.action.ActionName.TheVariants as names
 use Rattle.rule_model.specs.declared.action.Action.{Action}
-use Rattle.rule_model.specs.Directions.{name_of}
+use Rattle.rule_model.specs.Actions.{name_of}
 use Rattle.rule_model.specs.Valid.{IsGoodAction, IsMadeName, IsCode, is_redirect_code, may_drop_query, may_append_slash}
 use Rattle.cfg_action.specs.declared.redirect.RedirectOptions.{RedirectOptions}
 use Rattle.cfg_action.specs.declared.returns.ReturnOptions.{ReturnOptions}

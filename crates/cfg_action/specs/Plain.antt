@@ -1,8 +1,8 @@
 -- Actions without formats and patterns (Configuration Manual, section 4.2).
 use Rattle.std.specs.Prelude.{ℕ, List, [], ◌∷◌, Bool, true, false, ◌||◌, if◌then◌else◌, Some, None, Ok, Err, codes}
 use Rattle.std.specs.Str.{bytes_eq}
-use Rattle.rule_model.specs.declared.names.Direction.{Direction}
-use Rattle.rule_model.specs.declared.names.Direction.TheVariants as directions
+use Rattle.rule_model.specs.declared.action.Direction.{Direction}
+use Rattle.rule_model.specs.declared.action.Direction.TheVariants as directions
 use Rattle.rule_model.specs.declared.action.Action.{Action}
 use Rattle.rule_model.specs.declared.action.Action.TheVariants.{Deny, SetStatus, UnsetVar, StrictMode}
 use Rattle.rule_model.specs.Valid.{is_bodiless}

@@ -1,12 +1,13 @@
 -- A rule: an action, and a condition or none.
 use Rattle.std.specs.Prelude.{ℕ, List, Ok}
-use Rattle.rule_model.specs.declared.names.Direction.{Direction}
+use Rattle.rule_model.specs.declared.action.Direction.{Direction}
 use Rattle.rule_model.specs.declared.rule.Rule.{Rule}
 use Rattle.cfg_acl.specs.declared.written.AclLine.{AclLine}
 use Rattle.cfg_acl.specs.Conditions.{rule_end}
 use Rattle.cfg_expr.specs.Reading.{Reading, plain, ◌>>=◌}
 use Rattle.cfg_action.specs.Faults.{RuleReading, of_text, argument}
-use Rattle.cfg_action.specs.Names.{action_named, placed, side_of}
+use Rattle.rule_model.specs.Actions.{action_named}
+use Rattle.cfg_action.specs.Names.{placed, side_of}
 use Rattle.cfg_action.specs.Arguments.{Words}
 use Rattle.cfg_action.specs.Actions.{action_parts, made_of}
 

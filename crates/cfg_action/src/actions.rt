@@ -1,6 +1,6 @@
 //! One action and its arguments.
 ghost use Rattle.std.specs.Prelude.{◌≡◌, IfOk};
-ghost use Rattle.rule_model.specs.declared.names.ActionName.TheVariants as names;
+ghost use Rattle.rule_model.specs.declared.action.ActionName.TheVariants as names;
 ghost use Rattle.cfg_action.specs.declared.parts.ActionParts.TheVariants as parts;
 ghost use Rattle.cfg_action.specs.Faults.{ReadsRule};
 ghost use Rattle.cfg_action.specs.Good.{IsNamed, AreGoodParts};
@@ -119,13 +119,6 @@ pub fn action_parts<'w, P: Patterns>(
         | ActionName::DelHeader
         | ActionName::ReplaceHeader
         | ActionName::ReplaceValue => Ok(whole(field_at(alloc, side, name, words, pats)?)),
-        ActionName::SetMethod
-        | ActionName::SetPath
-        | ActionName::SetPathq
-        | ActionName::SetUri
-        | ActionName::SetQuery
-        | ActionName::ReplacePath
-        | ActionName::ReplacePathq
-        | ActionName::ReplaceUri => Ok(whole(line_at(alloc, side, name, words, pats)?)),
+        _ => Ok(whole(line_at(alloc, side, name, words, pats)?)),
     }
 }

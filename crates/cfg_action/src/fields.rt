@@ -1,6 +1,6 @@
 //! Actions on fields.
 ghost use Rattle.std.specs.Prelude.{◌≡◌, IfOk};
-ghost use Rattle.rule_model.specs.declared.names.ActionName.TheVariants as names;
+ghost use Rattle.rule_model.specs.declared.action.ActionName.TheVariants as names;
 ghost use Rattle.rule_model.specs.Valid.{IsMadeName, IsGoodDel};
 ghost use Rattle.cfg_action.specs.Faults.{ReadsRule};
 ghost use Rattle.cfg_action.specs.Good.{IsNamed};

@@ -1,6 +1,6 @@
 //! What is known of an action in front of its condition.
 ghost use Rattle.std.specs.Prelude.{IfOk};
-ghost use Rattle.rule_model.specs.declared.names.ActionName.{ActionName};
+ghost use Rattle.rule_model.specs.declared.action.ActionName.{ActionName};
 ghost use Rattle.cfg_action.specs.Faults.{Gives};
 
 use crate::fault::RuleFault;

@@ -1,6 +1,6 @@
 //! Actions without formats and patterns.
 ghost use Rattle.std.specs.Prelude.{◌≡◌, IfOk, false};
-ghost use Rattle.rule_model.specs.declared.names.ActionName.TheVariants as names;
+ghost use Rattle.rule_model.specs.declared.action.ActionName.TheVariants as names;
 ghost use Rattle.rule_model.specs.Valid.{IsSetStatus, is_bodiless};
 ghost use Rattle.cfg_action.specs.Faults.{Gives};
 ghost use Rattle.cfg_action.specs.Good.{IsNamed};

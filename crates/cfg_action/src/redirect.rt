@@ -1,6 +1,6 @@
 //! The options of `redirect`, in any order.
 ghost use Rattle.std.specs.Prelude.{◌≡◌, ◌||◌, true, false, IfOk};
-ghost use Rattle.rule_model.specs.declared.names.ActionName.TheVariants as names;
+ghost use Rattle.rule_model.specs.declared.action.ActionName.TheVariants as names;
 ghost use Rattle.px_bytes.specs.Numbers.{decimal_of};
 ghost use Rattle.rule_model.specs.Valid.{is_redirect_code, may_drop_query, may_append_slash};
 ghost use Rattle.rule_model.specs.declared.reply.RedirectTo.TheVariants.{Location, Prefix, Scheme};

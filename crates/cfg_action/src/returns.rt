@@ -1,6 +1,6 @@
 //! The options of `return`, in any order.
 ghost use Rattle.std.specs.Prelude.{◌≡◌, ◌+◌, ◌<◌, ◌≤◌, ◌&&◌, false, length, IfOk};
-ghost use Rattle.rule_model.specs.declared.names.ActionName.TheVariants as names;
+ghost use Rattle.rule_model.specs.declared.action.ActionName.TheVariants as names;
 ghost use Rattle.cfg_action.specs.Faults.{Gives, ReadsRule};
 ghost use Rattle.cfg_action.specs.Good.{IsNamed, AreReturnOptions};
 ghost use Rattle.cfg_action.specs.Returns.{return_word, once, has_no_body, may_have_payload, going_with, status_at, content_type_at, literal_at, return_of};

@@ -19,8 +19,8 @@ use Rattle.cfg_parse.specs.declared.fault.CfgFault.{CfgFault}
 use Rattle.cfg_parse.specs.declared.draft.Draft.{Draft}
 use Rattle.cfg_parse.specs.declared.fault.LineRefusal.{LineRefusal}
 use Rattle.rule_model.specs.declared.rule.Rule.{Rule}
-use Rattle.rule_model.specs.declared.names.Direction.{Direction as Rules}
-use Rattle.rule_model.specs.declared.names.Direction.TheVariants as lists
+use Rattle.rule_model.specs.declared.action.Direction.{Direction as Rules}
+use Rattle.rule_model.specs.declared.action.Direction.TheVariants as lists
 use Rattle.rule_model.specs.declared.action.Action.{Action}
 use Rattle.rule_model.specs.Valid.{AreRules, IsGoodRule}
 use Rattle.cfg_acl.specs.declared.written.AclLine.{AclLine}

@@ -1,7 +1,7 @@
 -- What lines before this one have set is within its limits.
 use Rattle.std.specs.Prelude.{ℕ, ◌≤◌, IfSome}
 use Rattle.http_model.specs.Sizes.{least_size, most_size}
-use Rattle.rule_model.specs.declared.names.Direction.TheVariants.{Request, Response, After}
+use Rattle.rule_model.specs.declared.action.Direction.TheVariants.{Request, Response, After}
 use Rattle.http_rules.specs.Valid.{HasPort, HasHost, IsChain}
 use Rattle.rule_model.specs.Valid.{AreRules}
 use Rattle.cfg_parse.specs.declared.draft.Draft.{Draft}

@@ -1,5 +1,4 @@
 pub mod Ruling
-pub mod Replies
 pub mod Texts
 pub mod Said
 pub mod Forwarded

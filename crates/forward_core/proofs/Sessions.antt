@@ -4,15 +4,16 @@ use Rattle.std.specs.Prelude.{◌&&◌, Option, Some, None, ◌⊎◌}
 use Rattle.http_model.specs.declared.Close.TheVariants.{Clean}
 use Rattle.http_model.specs.declared.End.{End}
 use Rattle.http_model.specs.declared.End.TheVariants as end
+use Rattle.std.proofs.lemmas.Bool.{le-leb}
 use Rattle.http_model.specs.Block.{Block}
+use Rattle.http_model.specs.Blocks.{load, Fits}
+use Rattle.http_model.specs.Refusal.{closing}
 use Rattle.http_model.specs.Head.{Head, Message, head_blocks, message_blocks}
 use Rattle.http_model.specs.Reading.{Begins}
 use Rattle.http_model.specs.Reading as reading
-use Rattle.http_model.specs.Spelling.{Spells}
+use Rattle.http_model.specs.Spelling.{Spells, SpellsBody}
 use Rattle.h1_head.specs.Request.{RequestOf}
 use Rattle.http_rules.specs.declared.config.Config.{Config}
-use Rattle.http_rules.specs.Valid.{IsValid}
-use Rattle.rule_model.specs.declared.names.Direction.TheVariants as directions
 use Rattle.session_model.specs.Env.{Env, request_env, method_of, method_in}
 use Rattle.session_model.specs.Asking.{Asks, Refused, Replied}
 use Rattle.session_model.specs.Meaning.{is_head_request}
@@ -25,7 +26,6 @@ use Rattle.forward_core.specs.Out.{servers_by, sent_by, out_of_one, IsRefused, I
 use Rattle.forward_core.specs.declared.exchange.One.{One}
 use Rattle.px_sample.specs.Variables.{Variables, no_variables}
 use Rattle.forward_core.proofs.Forwarded.{forwarded}
-use Rattle.forward_core.proofs.Replies as replies
 use Rattle.forward_core.proofs.Said.{refused, replied}
 use Rattle.forward_core.proofs.Small.{small}
 use Rattle.forward_core.proofs.Texts.{text_of_head, spelled}
@@ -121,14 +121,14 @@ rules_refused cfg client server blocks code one size low x (inr denied) r =
     refused_session cfg client server code asks.0 asks.1 one size low asks.2 r
 
 -- a reply of the rules is a session with no server
-pub replied_session : (cfg : Config) (client server : List ℕ) (blocks reply : List Block) (m : Message) (one : One) → IsValid cfg
+pub replied_session : (cfg : Config) (client server : List ℕ) (blocks reply : List Block) (m : Message) (one : One) → m.trailers ≡ []
+    → Fits (message_blocks (closing m)) cfg.limits.bufsize → SpellsBody true m.framing m.body m.trailers m.body
     → (x : ReadsPlain cfg.limits client blocks) → IsReplied cfg x.head m → reply ≡ message_blocks m → IsAnswered reply one
     → Session (meaning_of cfg) (closed client) (servers_by one.to_server server) (out_of_one one)
-replied_session cfg client server blocks reply m one valid x answers is a =
-    let good = replies.replied cfg.limits.bufsize directions.Request cfg.request (request_env no_variables x.head) m answers.0 valid.request.each answers.1 in
+replied_session cfg client server blocks reply m one none fits body x answers is a =
     let asks = asks_reply cfg client x.head m x.reads x.plain answers in
-    let text : Spells true false m one.to_client = subst (λ (t : List ℕ). Spells true false m t) (sym (a.client ∙ ap blocks_text is)) (spelled m good.trailers good.body) in
-    session_by cfg client server one None end.Done a.server a.how (replied cfg client m asks.0 asks.1 one.to_client good.fits asks.2 text)
+    let text : Spells true false m one.to_client = subst (λ (t : List ℕ). Spells true false m t) (sym (a.client ∙ ap blocks_text is)) (spelled m none body) in
+    session_by cfg client server one None end.Done a.server a.how (replied cfg client m asks.0 asks.1 one.to_client (le-leb (load (message_blocks (closing m))) cfg.limits.bufsize fits) asks.2 text)
 
 -- a request that was sent and answered is a session with one server
 pub forwarded_session : (cfg : Config) (client server : List ℕ) (blocks sent : List Block) (one : One) → 1024 ≤ cfg.limits.bufsize → IsFirstServer server

@@ -15,7 +15,7 @@ use crate::ask::{Asked, ask};
 use crate::client::{ClientAsks, read_client};
 use crate::text::text_of;
 use http_model::{End, OutOfMemory};
-use http_rules::{Config, Scratch, Searchers, Vars};
+use http_rules::{Config, Scratch, Searchers, Vars, replies_are_plain};
 use htx_arena::Arena;
 use px_link::Bytes;
 use px_reply::laws::replies_of_messages;
@@ -151,6 +151,7 @@ fn serve(
     ensures { IfOk result (λ one. (client : List ℕ) → ReadsPlain cfg.now.limits client msg.old.blocks
         → Session (meaning_of cfg.now) (closed client) (servers_by one.to_server server.now) (out_of_one one)) }
 {
+    replies_are_plain();
     let asked = ask_fresh(alloc, cfg, msg, reply)?;
     match asked {
         Asked::Sends => forward(alloc, msg, server),

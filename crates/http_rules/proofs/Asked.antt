@@ -7,9 +7,9 @@ use Rattle.acl_eval.proofs.Trying.{not_this_one}
 use Rattle.http_model.specs.declared.Why.{Why}
 use Rattle.http_model.specs.Block.{Block}
 use Rattle.http_model.specs.Head.{Message}
-use Rattle.rule_model.specs.declared.names.Direction.TheVariants as directions
-use Rattle.rule_model.specs.Directions.{stands_in, name_of}
-use Rattle.rule_model.specs.Patterns.{action_holds_pattern, cond_holds_pattern, rule_holds_pattern, rules_hold_pattern}
+use Rattle.rule_model.specs.declared.action.Direction.TheVariants as directions
+use Rattle.rule_model.specs.Actions.{stands_in, name_of}
+use Rattle.rule_model.specs.Actions.{action_holds_pattern, cond_holds_pattern, rule_holds_pattern, rules_hold_pattern}
 use Rattle.rule_model.specs.Valid.{IsGoodAction, IsGoodRule}
 use Rattle.session_model.specs.Env.{Pass, Reply, Deny, Fail}
 use Rattle.px_sample.specs.Variables.{Variables}
@@ -21,8 +21,7 @@ use Rattle.rule_actions.specs.declared.side.Side.{Side}
 use Rattle.rule_actions.specs.declared.stepped.Stepped.{Stepped}
 use Rattle.rule_actions.specs.declared.stepped.Stepped.TheVariants.{Done, Failed}
 use Rattle.rule_actions.specs.Acts.{Act, Next, Stop, Replies, Denies, Fails, replying, act}
-use Rattle.rule_actions.specs.Answering.{replied_by}
-use Rattle.rule_actions.specs.Does.{Does}
+use Rattle.rule_actions.specs.Does.{Replied}
 use Rattle.rule_actions.specs.Outcome.{IsAt}
 use Rattle.rule_actions.specs.Replies.{redirected, returned}
 use Rattle.http_rules.specs.Rules.{Comes, answers, runs, behind, by_rule, walk, rules_of}
@@ -43,25 +42,7 @@ alone size strict (actions.Redirect to code drop_query append_slash) env others 
     replies_or_fails strict (actions.Redirect to code drop_query append_slash) env (redirected size to code drop_query append_slash env) others a
 alone size strict (actions.Return status content_type payload hdrs) env others a =
     replies_or_fails strict (actions.Return status content_type payload hdrs) env (returned size status content_type payload hdrs env) others a
-alone size strict actions.Allow env others a = absurd (false≢true a)
-alone size strict (actions.Deny code) env others a = absurd (false≢true a)
-alone size strict (actions.AddHeader name fmt) env others a = absurd (false≢true a)
-alone size strict (actions.SetHeader name fmt) env others a = absurd (false≢true a)
-alone size strict (actions.DelHeader by) env others a = absurd (false≢true a)
-alone size strict (actions.ReplaceHeader name pat fmt) env others a = absurd (false≢true a)
-alone size strict (actions.ReplaceValue name pat fmt) env others a = absurd (false≢true a)
-alone size strict (actions.SetMethod fmt) env others a = absurd (false≢true a)
-alone size strict (actions.SetPath fmt) env others a = absurd (false≢true a)
-alone size strict (actions.SetPathq fmt) env others a = absurd (false≢true a)
-alone size strict (actions.SetUri fmt) env others a = absurd (false≢true a)
-alone size strict (actions.SetQuery fmt) env others a = absurd (false≢true a)
-alone size strict (actions.ReplacePath pat fmt) env others a = absurd (false≢true a)
-alone size strict (actions.ReplacePathq pat fmt) env others a = absurd (false≢true a)
-alone size strict (actions.ReplaceUri pat fmt) env others a = absurd (false≢true a)
-alone size strict (actions.SetStatus code reason) env others a = absurd (false≢true a)
-alone size strict (actions.SetVar scope name expr) env others a = absurd (false≢true a)
-alone size strict (actions.UnsetVar scope name) env others a = absurd (false≢true a)
-alone size strict (actions.StrictMode on) env others a = absurd (false≢true a)
+alone size strict action env others a = absurd (false≢true a)
 
 -- rules that came to one which answers
 pub awaits : (side : Side) (size : ℕ) (rules : List Rule) (env : Env) (at : ℕ) (rule : Rule) (strict : Bool) (old new : List Block) (vars left_vars : Variables)
@@ -79,22 +60,14 @@ awaits side size rules env at rule strict old new vars left_vars is r asked =
 
 -- and what its step makes of them
 pub answered : (side : Side) (size : ℕ) (rules : List Rule) (env : Env) (action : Action) (step : Stepped) (blocks : List Block) (vars : Variables) (reply : List Block)
-    → (a : Awaits side size rules env action blocks vars) → Does side a.left (act size action a.left) (replied_by step) blocks vars reply
-    → Leaves side (rules_of size rules env) (verdict_by step) blocks vars reply
-answered side size rules env action step blocks vars reply a does =
-    subst (λ (c : Comes). Leaves side c (verdict_by step) blocks vars reply) (sym a.comes) (by (act size action a.left) step does)
+    → (a : Awaits side size rules env action blocks vars) → Replied a.left (act size action a.left) step reply → Leaves side (rules_of size rules env) (verdict_by step) blocks vars reply
+answered side size rules env action step blocks vars reply a done =
+    subst (λ (c : Comes). Leaves side c (verdict_by step) blocks vars reply) (sym a.comes) (by (act size action a.left) step done)
   where
-    by : (o : Act) (s : Stepped) → Does side a.left o (replied_by s) blocks vars reply → Leaves side (behind true action a.left o (λ mode next. Pass next)) (verdict_by s) blocks vars reply
-    by (Replies m) Done h = h
-    by (Replies m) (Failed told) h = absurd h
-    by (Fails why left) Done h = absurd h
-    by (Fails why left) (Failed told) h = h
-    by (Next next) Done h = absurd h
-    by (Next next) (Failed told) h = absurd h
-    by Stop Done h = absurd h
-    by Stop (Failed told) h = absurd h
-    by (Denies code) Done h = absurd h
-    by (Denies code) (Failed told) h = absurd h
+    by : (o : Act) (s : Stepped) → Replied a.left o s reply → Leaves side (behind true action a.left o (λ mode next. Pass next)) (verdict_by s) blocks vars reply
+    by (Replies m) Done h = (a.at_left, h)
+    by (Fails why left) (Failed told) h = (h.0, subst (λ (e : Env). IsAt side e blocks vars) (sym h.1) a.at_left, h.2)
+    by o s h = absurd h
 
 -- ---- the rule that answers
 
@@ -116,22 +89,4 @@ no_answer rules action all a = by a.rule.action (ap answers (sym a.is) ∙ a.ans
     by : (action : Action) → answers action ≡ true → stands_in directions.After (name_of action) ≡ true → ⊥
     by (actions.Redirect to code drop_query append_slash) x stands = false≢true stands
     by (actions.Return status content_type payload hdrs) x stands = false≢true stands
-    by actions.Allow x stands = false≢true x
-    by (actions.Deny code) x stands = false≢true x
-    by (actions.AddHeader name fmt) x stands = false≢true x
-    by (actions.SetHeader name fmt) x stands = false≢true x
-    by (actions.DelHeader names) x stands = false≢true x
-    by (actions.ReplaceHeader name pat fmt) x stands = false≢true x
-    by (actions.ReplaceValue name pat fmt) x stands = false≢true x
-    by (actions.SetMethod fmt) x stands = false≢true x
-    by (actions.SetPath fmt) x stands = false≢true x
-    by (actions.SetPathq fmt) x stands = false≢true x
-    by (actions.SetUri fmt) x stands = false≢true x
-    by (actions.SetQuery fmt) x stands = false≢true x
-    by (actions.ReplacePath pat fmt) x stands = false≢true x
-    by (actions.ReplacePathq pat fmt) x stands = false≢true x
-    by (actions.ReplaceUri pat fmt) x stands = false≢true x
-    by (actions.SetStatus code reason) x stands = false≢true x
-    by (actions.SetVar scope name expr) x stands = false≢true x
-    by (actions.UnsetVar scope name) x stands = false≢true x
-    by (actions.StrictMode on) x stands = false≢true x
+    by action x stands = false≢true x

@@ -8,7 +8,7 @@ use Rattle.http_model.specs.Block.{Block}
 use denote.Ref.{Bor}
 use Rattle.std.proofs.lemmas.List.{append-nil}
 use Rattle.http_model.specs.Head.{Head, head_blocks, front_blocks}
-use Rattle.rule_model.specs.declared.names.Direction.{Direction}
+use Rattle.rule_model.specs.declared.action.Direction.{Direction}
 use Rattle.rule_model.specs.Valid.{IsGoodAction, IsGoodRule}
 use Rattle.session_model.specs.Env.{Pass, Reply, Deny, Fail, request_env, response_env}
 use Rattle.px_sample.specs.Variables.{Variables}
@@ -30,59 +30,38 @@ use Rattle.http_rules.specs.Rules.{Comes, answers, mode_after, runs, behind, by_
 use Rattle.http_rules.specs.Run.{Leaves, GoesOn, EndsRules, RuleLeaves, ruled_by, IsHead}
 
 -- a rule that does not run
-pub passed_over : (side : Side) (size : ℕ) (rule : Rule) (strict : Bool) (env : Env) (blocks : List Block) (vars : Variables) (reply : List Block)
-    → IsAt side env blocks vars → reply ≡ [] → runs size rule.cond env ≡ false → RuleLeaves side size rule strict env (Goes strict) blocks vars reply
-passed_over side size rule strict env blocks vars reply at none off =
+pub passed_over : (side : Side) (size : ℕ) (rule : Rule) (strict : Bool) (env : Env) (blocks : List Block) (vars : Variables)
+    → IsAt side env blocks vars → runs size rule.cond env ≡ false → RuleLeaves side size rule strict env (Goes strict) blocks vars
+passed_over side size rule strict env blocks vars at off =
     record {
       next = env;
       at_next = at;
-      no_reply = none;
       others = λ rest. ap (λ (t : Bool). cond t (behind strict rule.action env (act size rule.action env) rest) (rest strict env)) off;
     }
 
 -- one that does
-pub ran : (side : Side) (size : ℕ) (rule : Rule) (strict : Bool) (env : Env) (done : Acted) (blocks : List Block) (vars : Variables) (reply : List Block)
-    → Does side env (act size rule.action env) done blocks vars reply → runs size rule.cond env ≡ true → RuleLeaves side size rule strict env (ruled_by strict rule.action done) blocks vars reply
-ran side size rule strict env done blocks vars reply does on = by (act size rule.action env) done refl does
+pub ran : (side : Side) (size : ℕ) (rule : Rule) (strict : Bool) (env : Env) (done : Acted) (blocks : List Block) (vars : Variables)
+    → Does side env (act size rule.action env) done blocks vars → runs size rule.cond env ≡ true → RuleLeaves side size rule strict env (ruled_by strict rule.action done) blocks vars
+ran side size rule strict env done blocks vars does on = by (act size rule.action env) done refl does
   where
     known : (o : Act) → act size rule.action env ≡ o → (rest : Bool → Env → Comes) → by_rule size rule strict env rest ≡ behind strict rule.action env o rest
     known o e rest =
         ap (λ (t : Bool). cond t (behind strict rule.action env (act size rule.action env) rest) (rest strict env)) on
         ∙ ap (λ (x : Act). behind strict rule.action env x rest) e
 
-    failed : (t : Bool) (why told : Why) (left : Env) → (not strict && not (answers rule.action)) ≡ t → act size rule.action env ≡ Fails why left → told ≡ why → IsAt side left blocks vars → reply ≡ []
-        → RuleLeaves side size rule strict env (cond t (Goes strict) (Ends (verdicts.Fail told))) blocks vars reply
-    failed true why told left off e same at none =
-        record { next = left; at_next = at; no_reply = none; others = λ rest. known (Fails why left) e rest ∙ ap (λ (t : Bool). cond t (rest strict left) (Fail why left)) off }
-    failed false why told left off e same at none =
-        record { comes = Fail why left; leaves = (same, at, none); whatever = λ rest. known (Fails why left) e rest ∙ ap (λ (t : Bool). cond t (rest strict left) (Fail why left)) off }
+    failed : (t : Bool) (why told : Why) (left : Env) → (not strict && not (answers rule.action)) ≡ t → act size rule.action env ≡ Fails why left → told ≡ why → IsAt side left blocks vars
+        → RuleLeaves side size rule strict env (cond t (Goes strict) (Ends (verdicts.Fail told))) blocks vars
+    failed true why told left off e same at =
+        record { next = left; at_next = at; others = λ rest. known (Fails why left) e rest ∙ ap (λ (t : Bool). cond t (rest strict left) (Fail why left)) off }
+    failed false why told left off e same at =
+        record { comes = Fail why left; leaves = (same, at, refl); whatever = λ rest. known (Fails why left) e rest ∙ ap (λ (t : Bool). cond t (rest strict left) (Fail why left)) off }
 
-    by : (o : Act) (d : Acted) → act size rule.action env ≡ o → Does side env o d blocks vars reply → RuleLeaves side size rule strict env (ruled_by strict rule.action d) blocks vars reply
-    by (Next next) acted.Next e h = record { next = next; at_next = h.0; no_reply = h.1; others = known (Next next) e }
-    by (Next next) acted.Stop e h = absurd h
-    by (Next next) acted.Reply e h = absurd h
-    by (Next next) (acted.Deny told) e h = absurd h
-    by (Next next) (acted.Failed told) e h = absurd h
-    by Stop acted.Next e h = absurd h
-    by Stop acted.Stop e h = record { comes = Pass env; leaves = (h.0, h.1); whatever = known Stop e }
-    by Stop acted.Reply e h = absurd h
-    by Stop (acted.Deny told) e h = absurd h
-    by Stop (acted.Failed told) e h = absurd h
-    by (Replies m) acted.Next e h = absurd h
-    by (Replies m) acted.Stop e h = absurd h
-    by (Replies m) acted.Reply e h = record { comes = Reply m env; leaves = (h.0, h.1); whatever = known (Replies m) e }
-    by (Replies m) (acted.Deny told) e h = absurd h
-    by (Replies m) (acted.Failed told) e h = absurd h
-    by (Denies code) acted.Next e h = absurd h
-    by (Denies code) acted.Stop e h = absurd h
-    by (Denies code) acted.Reply e h = absurd h
-    by (Denies code) (acted.Deny told) e h = record { comes = Deny code env; leaves = (h.0, h.1, h.2); whatever = known (Denies code) e }
-    by (Denies code) (acted.Failed told) e h = absurd h
-    by (Fails why left) acted.Next e h = absurd h
-    by (Fails why left) acted.Stop e h = absurd h
-    by (Fails why left) acted.Reply e h = absurd h
-    by (Fails why left) (acted.Deny told) e h = absurd h
-    by (Fails why left) (acted.Failed told) e h = failed (not strict && not (answers rule.action)) why told left refl e h.0 h.1 h.2
+    by : (o : Act) (d : Acted) → act size rule.action env ≡ o → Does side env o d blocks vars → RuleLeaves side size rule strict env (ruled_by strict rule.action d) blocks vars
+    by (Next next) acted.Next e h = record { next = next; at_next = h; others = known (Next next) e }
+    by Stop acted.Stop e h = record { comes = Pass env; leaves = (h, refl); whatever = known Stop e }
+    by (Denies code) (acted.Deny told) e h = record { comes = Deny code env; leaves = (h.0, h.1, refl); whatever = known (Denies code) e }
+    by (Fails why left) (acted.Failed told) e h = failed (not strict && not (answers rule.action)) why told left refl e h.0 h.1
+    by o d e h = absurd h
 
 -- the rules from a place on begin with the one that stands there
 drop_get : (rules : List Rule) (at : ℕ) (rule : Rule) → slice_get rules at ≡ Some rule → drop at rules ≡ rule ∷ drop (suc at) rules
@@ -110,10 +89,10 @@ pub first_rule : (size : ℕ) (rules : List Rule) (at : ℕ) (rule : Rule) (stri
 first_rule size rules at rule strict now is = ap (λ (rs : List Rule). walk size rs strict now) (drop_get rules at rule is)
 
 -- a rule behind which the next one runs
-pub goes_on : (side : Side) (size : ℕ) (rules : List Rule) (env : Env) (at : ℕ) (rule : Rule) (strict mode : Bool) (old new : List Block) (vars left_vars : Variables) (reply : List Block)
-    → slice_get rules at ≡ Some rule → (r : Reached side size rules env at strict old vars) → RuleLeaves side size rule strict r.now (Goes mode) new left_vars reply
+pub goes_on : (side : Side) (size : ℕ) (rules : List Rule) (env : Env) (at : ℕ) (rule : Rule) (strict mode : Bool) (old new : List Block) (vars left_vars : Variables)
+    → slice_get rules at ≡ Some rule → (r : Reached side size rules env at strict old vars) → RuleLeaves side size rule strict r.now (Goes mode) new left_vars
     → Reached side size rules env (at + 1) mode new left_vars
-goes_on side size rules env at rule strict mode old new vars left_vars reply is r on =
+goes_on side size rules env at rule strict mode old new vars left_vars is r on =
     let same : at + 1 ≡ suc at = omega arith in
     record {
       now = on.next;
@@ -124,19 +103,19 @@ goes_on side size rules env at rule strict mode old new vars left_vars reply is 
     }
 
 -- one that decides
-pub ends : (side : Side) (size : ℕ) (rules : List Rule) (env : Env) (at : ℕ) (rule : Rule) (strict : Bool) (verdict : Answered) (old new : List Block) (vars left_vars : Variables) (reply : List Block)
-    → slice_get rules at ≡ Some rule → (r : Reached side size rules env at strict old vars) → RuleLeaves side size rule strict r.now (Ends verdict) new left_vars reply
-    → Leaves side (rules_of size rules env) verdict new left_vars reply
-ends side size rules env at rule strict verdict old new vars left_vars reply is r over =
+pub ends : (side : Side) (size : ℕ) (rules : List Rule) (env : Env) (at : ℕ) (rule : Rule) (strict : Bool) (verdict : Answered) (old new : List Block) (vars left_vars : Variables)
+    → slice_get rules at ≡ Some rule → (r : Reached side size rules env at strict old vars) → RuleLeaves side size rule strict r.now (Ends verdict) new left_vars
+    → Leaves side (rules_of size rules env) verdict new left_vars []
+ends side size rules env at rule strict verdict old new vars left_vars is r over =
     let comes : over.comes ≡ rules_of size rules env = sym (over.whatever (walk size (drop (suc at) rules))) ∙ sym (first_rule size rules at rule strict r.now is) ∙ r.left in
-    subst (λ (c : Comes). Leaves side c verdict new left_vars reply) comes over.leaves
+    subst (λ (c : Comes). Leaves side c verdict new left_vars []) comes over.leaves
 
 -- all rules have run
-pub over : (side : Side) (size : ℕ) (rules : List Rule) (env : Env) (at : ℕ) (strict : Bool) (blocks : List Block) (vars : Variables) (reply : List Block)
-    → length rules ≤ at → Reached side size rules env at strict blocks vars → reply ≡ [] → Leaves side (rules_of size rules env) verdicts.Pass blocks vars reply
-over side size rules env at strict blocks vars reply all r none =
+pub over : (side : Side) (size : ℕ) (rules : List Rule) (env : Env) (at : ℕ) (strict : Bool) (blocks : List Block) (vars : Variables)
+    → length rules ≤ at → Reached side size rules env at strict blocks vars → Leaves side (rules_of size rules env) verdicts.Pass blocks vars []
+over side size rules env at strict blocks vars all r =
     let comes : Pass r.now ≡ rules_of size rules env = sym (ap (λ (rs : List Rule). walk size rs strict r.now) (drop_of_length-le rules all)) ∙ r.left in
-    subst (λ (c : Comes). Leaves side c verdicts.Pass blocks vars reply) comes (r.at_now, none)
+    subst (λ (c : Comes). Leaves side c verdicts.Pass blocks vars []) comes (r.at_now, refl)
 
 -- an environment that an array holds
 pub held : (side : Side) (blocks : List Block) (vars : Variables) → IsFront blocks → (env : Env) × IsAt side env blocks vars

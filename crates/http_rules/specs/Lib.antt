@@ -4,8 +4,7 @@ pub use Rattle.http_model.specs.Finish
 pub use Rattle.session_model.specs.Env
 pub use Rattle.session_model.specs.Meaning
 pub use Rattle.body_filter.specs.Filter
-pub use Rattle.rule_model.specs.Directions
-pub use Rattle.rule_model.specs.Patterns
+pub use Rattle.rule_model.specs.Actions
 pub use Rattle.rule_actions.specs.Given
 pub use Rattle.rule_actions.specs.Edits
 pub use Rattle.rule_actions.specs.Steps

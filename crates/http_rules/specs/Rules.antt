@@ -13,26 +13,7 @@ pub use Rattle.rule_actions.specs.Answering.{answers}
 -- the mode behind an action
 abbrev pub mode_after : (strict : Bool) → Action → Bool
 mode_after strict (actions.StrictMode on) = on
-mode_after strict actions.Allow = strict
-mode_after strict (actions.Deny code) = strict
-mode_after strict (actions.AddHeader name fmt) = strict
-mode_after strict (actions.SetHeader name fmt) = strict
-mode_after strict (actions.DelHeader by) = strict
-mode_after strict (actions.ReplaceHeader name pat fmt) = strict
-mode_after strict (actions.ReplaceValue name pat fmt) = strict
-mode_after strict (actions.SetMethod fmt) = strict
-mode_after strict (actions.SetPath fmt) = strict
-mode_after strict (actions.SetPathq fmt) = strict
-mode_after strict (actions.SetUri fmt) = strict
-mode_after strict (actions.SetQuery fmt) = strict
-mode_after strict (actions.ReplacePath pat fmt) = strict
-mode_after strict (actions.ReplacePathq pat fmt) = strict
-mode_after strict (actions.ReplaceUri pat fmt) = strict
-mode_after strict (actions.SetStatus code reason) = strict
-mode_after strict (actions.Redirect to code drop_query append_slash) = strict
-mode_after strict (actions.Return status content_type payload hdrs) = strict
-mode_after strict (actions.SetVar scope name expr) = strict
-mode_after strict (actions.UnsetVar scope name) = strict
+mode_after strict action = strict
 
 -- what rules come to, with the variables of the four scopes
 abbrev pub Comes : Type 0

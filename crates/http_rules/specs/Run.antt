@@ -47,21 +47,19 @@ Leaves side (Fail why left) (verdicts.Deny told) blocks vars reply = ⊥
 abbrev pub ruled_by : (strict : Bool) → Action → Acted → Ruled
 ruled_by strict action acted.Next = Goes (mode_after strict action)
 ruled_by strict action acted.Stop = Ends verdicts.Pass
-ruled_by strict action acted.Reply = Ends verdicts.Reply
 ruled_by strict action (acted.Deny code) = Ends (verdicts.Deny code)
 ruled_by strict action (acted.Failed why) = if not strict && not (answers action) then Goes strict else Ends (verdicts.Fail why)
 
 -- one rule goes on, so the others decide on the environment that it leaves
-pub record GoesOn (side : Side) (size : ℕ) (rule : Rule) (strict : Bool) (env : Env) (mode : Bool) (blocks : List Block) (vars : Variables) (reply : List Block) : Type 0 where
+pub record GoesOn (side : Side) (size : ℕ) (rule : Rule) (strict : Bool) (env : Env) (mode : Bool) (blocks : List Block) (vars : Variables) : Type 0 where
   pub next : Env
   pub at_next : IsAt side next blocks vars
-  pub no_reply : reply ≡ []
   pub others : (rest : Bool → Env → Comes) → by_rule size rule strict env rest ≡ rest mode next
 
 -- one rule decides, whatever stands behind it
-pub record EndsRules (side : Side) (size : ℕ) (rule : Rule) (strict : Bool) (env : Env) (verdict : Answer) (blocks : List Block) (vars : Variables) (reply : List Block) : Type 0 where
+pub record EndsRules (side : Side) (size : ℕ) (rule : Rule) (strict : Bool) (env : Env) (verdict : Answer) (blocks : List Block) (vars : Variables) : Type 0 where
   pub comes : Comes
-  pub leaves : Leaves side comes verdict blocks vars reply
+  pub leaves : Leaves side comes verdict blocks vars []
   pub whatever : (rest : Bool → Env → Comes) → by_rule size rule strict env rest ≡ comes
 
 -- one rule runs on this environment and answers by itself
@@ -71,10 +69,10 @@ pub record IsAsked (side : Side) (size : ℕ) (rule : Rule) (env : Env) (blocks 
   pub runs_is : runs size rule.cond env ≡ true
 
 -- what one rule came to
-abbrev pub RuleLeaves : Side → (size : ℕ) → Rule → (strict : Bool) → Env → Ruled → List Block → Variables → List Block → Type 0
-RuleLeaves side size rule strict env (Goes mode) blocks vars reply = GoesOn side size rule strict env mode blocks vars reply
-RuleLeaves side size rule strict env (Ends verdict) blocks vars reply = EndsRules side size rule strict env verdict blocks vars reply
-RuleLeaves side size rule strict env Answers blocks vars reply = IsAsked side size rule env blocks vars
+abbrev pub RuleLeaves : Side → (size : ℕ) → Rule → (strict : Bool) → Env → Ruled → List Block → Variables → Type 0
+RuleLeaves side size rule strict env (Goes mode) blocks vars = GoesOn side size rule strict env mode blocks vars
+RuleLeaves side size rule strict env (Ends verdict) blocks vars = EndsRules side size rule strict env verdict blocks vars
+RuleLeaves side size rule strict env Answers blocks vars = IsAsked side size rule env blocks vars
 
 -- Rules came to one that answers by itself, on the environment that they left: the verdict is what it makes of that. Such an action
 -- never goes on, so what stands behind it does not matter.

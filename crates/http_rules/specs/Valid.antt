@@ -7,7 +7,7 @@ use Rattle.px_link.specs.declared.address.Address.{Address}
 use Rattle.body_filter.specs.declared.filter_spec.FilterSpec.{FilterSpec}
 use Rattle.body_filter.specs.declared.filter_spec.FilterSpec.TheVariants.{Limit, Deny, Replace}
 use Rattle.body_filter.specs.Valid.{AreFilters}
-use Rattle.rule_model.specs.declared.names.Direction.TheVariants as directions
+use Rattle.rule_model.specs.declared.action.Direction.TheVariants as directions
 use Rattle.rule_model.specs.Valid.{AreRules}
 use Rattle.http_rules.specs.declared.config.Config.{Config}
 

@@ -5,8 +5,8 @@ ghost use Rattle.http_model.specs.Head.{Head, head_blocks, front_blocks};
 ghost use Rattle.session_model.specs.Env.{request_env, response_env};
 ghost use Rattle.std.specs.Prelude.{List, ℕ};
 ghost use Rattle.rule_model.specs.Valid.{IsGoodAction, AreRules};
-ghost use Rattle.rule_model.specs.Patterns.{rules_hold_pattern, rule_holds_pattern, cond_holds_pattern};
-ghost use Rattle.rule_model.specs.declared.names.Direction.TheVariants as directions;
+ghost use Rattle.rule_model.specs.Actions.{rules_hold_pattern, rule_holds_pattern, cond_holds_pattern};
+ghost use Rattle.rule_model.specs.declared.action.Direction.TheVariants as directions;
 ghost use Rattle.rule_actions.specs.Given.{Env};
 ghost use Rattle.rule_actions.specs.Outcome.{IsScratch, IsAt, IsFront};
 ghost use Rattle.http_rules.specs.Rules as spec;
@@ -27,26 +27,7 @@ fn mode_after(strict: bool, action: &Action) -> bool
 {
     match action {
         Action::StrictMode(on) => *on,
-        Action::Allow
-        | Action::Deny(_)
-        | Action::AddHeader(_, _)
-        | Action::SetHeader(_, _)
-        | Action::DelHeader(_)
-        | Action::ReplaceHeader(_, _, _)
-        | Action::ReplaceValue(_, _, _)
-        | Action::SetMethod(_)
-        | Action::SetPath(_)
-        | Action::SetPathq(_)
-        | Action::SetUri(_)
-        | Action::SetQuery(_)
-        | Action::ReplacePath(_, _)
-        | Action::ReplacePathq(_, _)
-        | Action::ReplaceUri(_, _)
-        | Action::SetStatus(_, _)
-        | Action::Redirect { .. }
-        | Action::Return { .. }
-        | Action::SetVar(_, _, _)
-        | Action::UnsetVar(_, _) => strict,
+        _ => strict,
     }
 }
 
@@ -57,7 +38,6 @@ fn outcome_of(strict: bool, action: &Action, acted: Acted) -> Ruled
     match acted {
         Acted::Next => Ruled::Goes(mode_after(strict, action)),
         Acted::Stop => Ruled::Ends(Verdict::Pass),
-        Acted::Reply => Ruled::Ends(Verdict::Reply),
         Acted::Deny(code) => Ruled::Ends(Verdict::Deny(code)),
         Acted::Failed(why) => {
             if !strict && !answers(action) {
@@ -104,7 +84,7 @@ fn run_rule<'c>(
     requires scratch { IsScratch msg.old.size scratch.old }
     requires front { IsFront msg.old.blocks }
     requires valid { IsGoodAction rule.now.action }
-    ensures ruled { IfOk result (λ ruled. (env : Env) → IsAt side.entry env msg.old.blocks vars.old → RuleLeaves side.entry msg.old.size rule.now strict env ruled msg.new.blocks vars.new []) }
+    ensures ruled { IfOk result (λ ruled. (env : Env) → IsAt side.entry env msg.old.blocks vars.old → RuleLeaves side.entry msg.old.size rule.now strict env ruled msg.new.blocks vars.new) }
     ensures succeeds { rule_holds_pattern rule.now ≡ false → IsOk result }
     ensures size { msg.new.size ≡ msg.old.size }
     ensures scratch { IsScratch msg.old.size scratch.new }

@@ -140,7 +140,7 @@ front_left side vars left old new make step front came =
     by_side side (λ env at. came env at)
   where
     of_came : (env : Env) (r : Result Env Why) (s : Stepped) (on : Side) → Came on env r s new left → IsFront new
-    of_came env (Ok next) Done on c = (next.head, next.body, c.blocks_are)
+    of_came env (Ok next) Done on c = (next.head, env.body, c.blocks_are)
     of_came env (Ok next) (Failed why) on c = absurd c
     of_came env (Err why) Done on c = absurd c
     of_came env (Err why) (Failed reason) on c = (env.head, env.body, c.1.blocks_are)

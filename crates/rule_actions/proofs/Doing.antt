@@ -25,47 +25,42 @@ use Rattle.rule_actions.specs.Outcome.{IsOn, IsAt, Came, Ran, IsFront}
 use Rattle.rule_actions.specs.Does.{Does, acted_by}
 
 -- one step alone
-pub one : (side : Side) (env : Env) (step : Step) (came : Stepped) (blocks : List Block) (vars : Variables) (reply : List Block) → Came side env (step env) came blocks vars → reply ≡ []
-    → Does side env (run_steps (step ∷ []) env) (acted_by came) blocks vars reply
-one side env step came blocks vars reply c none = by (step env) came c
+pub one : (side : Side) (env : Env) (step : Step) (came : Stepped) (blocks : List Block) (vars : Variables) → Came side env (step env) came blocks vars
+    → Does side env (run_steps (step ∷ []) env) (acted_by came) blocks vars
+one side env step came blocks vars c = by (step env) came c
   where
-    by : (r : Result Env Why) (s : Stepped) → Came side env r s blocks vars → Does side env (after_step env r (run_steps [])) (acted_by s) blocks vars reply
-    by (Ok next) Done h = (h, none)
+    by : (r : Result Env Why) (s : Stepped) → Came side env r s blocks vars → Does side env (after_step env r (run_steps [])) (acted_by s) blocks vars
+    by (Ok next) Done h = h
     by (Ok next) (Failed why) h = absurd h
     by (Err why) Done h = absurd h
-    by (Err why) (Failed told) h = (h.0, h.1, none)
+    by (Err why) (Failed told) h = h
 
 -- steps in turn
-pub several : (side : Side) (env : Env) (act : Act) (came : Stepped) (blocks : List Block) (vars : Variables) (reply : List Block) → Ran side act came blocks vars → reply ≡ []
-    → Does side env act (acted_by came) blocks vars reply
-several side env (Next next) Done blocks vars reply h none = (h, none)
-several side env (Next next) (Failed why) blocks vars reply h none = absurd h
-several side env (Fails why left) Done blocks vars reply h none = absurd h
-several side env (Fails why left) (Failed told) blocks vars reply h none = (h.0, h.1, none)
-several side env Stop came blocks vars reply h none = absurd h
-several side env (Replies m) came blocks vars reply h none = absurd h
-several side env (Denies code) came blocks vars reply h none = absurd h
+pub several : (side : Side) (env : Env) (act : Act) (came : Stepped) (blocks : List Block) (vars : Variables) → Ran side act came blocks vars → Does side env act (acted_by came) blocks vars
+several side env (Next next) Done blocks vars h = h
+several side env (Fails why left) (Failed told) blocks vars h = h
+several side env act came blocks vars h = absurd h
 
 -- the actions of one step by name
 pub deleted : (side : Side) (env : Env) (size : ℕ) (by : DelBy) (action : Action) (came : Stepped) (done : Acted) (blocks : List Block) (vars : Variables) → action ≡ actions.DelHeader by → done ≡ acted_by came
-    → Came side env (del_step size by env) came blocks vars → Does side env (act size action env) done blocks vars []
+    → Came side env (del_step size by env) came blocks vars → Does side env (act size action env) done blocks vars
 unfolding act steps_of
 deleted side env size by action came done blocks vars is told c =
-    subst (λ (a : Action). Does side env (act size a env) done blocks vars []) (sym is)
-    (subst (λ (d : Acted). Does side env (act size (actions.DelHeader by) env) d blocks vars []) (sym told) (one side env (del_step size by) came blocks vars [] c refl))
+    subst (λ (a : Action). Does side env (act size a env) done blocks vars) (sym is)
+    (subst (λ (d : Acted). Does side env (act size (actions.DelHeader by) env) d blocks vars) (sym told) (one side env (del_step size by) came blocks vars c))
 
 pub stated_anew : (side : Side) (env : Env) (size code : ℕ) (reason : Option (List ℕ)) (action : Action) (came : Stepped) (done : Acted) (blocks : List Block) (vars : Variables) → action ≡ actions.SetStatus code reason → done ≡ acted_by came
-    → Came side env (restated size env code (reason_by code reason)) came blocks vars → Does side env (act size action env) done blocks vars []
+    → Came side env (restated size env code (reason_by code reason)) came blocks vars → Does side env (act size action env) done blocks vars
 unfolding act steps_of
 stated_anew side env size code reason action came done blocks vars is told c =
-    subst (λ (a : Action). Does side env (act size a env) done blocks vars []) (sym is)
-    (subst (λ (d : Acted). Does side env (act size (actions.SetStatus code reason) env) d blocks vars []) (sym told)
-    (one side env (λ e. restated size e code (reason_by code reason)) came blocks vars [] c refl))
+    subst (λ (a : Action). Does side env (act size a env) done blocks vars) (sym is)
+    (subst (λ (d : Acted). Does side env (act size (actions.SetStatus code reason) env) d blocks vars) (sym told)
+    (one side env (λ e. restated size e code (reason_by code reason)) came blocks vars c))
 
 pub unset : (side : Side) (env : Env) (size : ℕ) (scope : Scope) (name given : List ℕ) (action : Action) (came : Stepped) (done : Acted) (blocks : List Block) (vars : Variables) → action ≡ actions.UnsetVar scope name → done ≡ acted_by came
-    → given ≡ name → Came side env (unset_var_step scope given env) came blocks vars → Does side env (act size action env) done blocks vars []
+    → given ≡ name → Came side env (unset_var_step scope given env) came blocks vars → Does side env (act size action env) done blocks vars
 unfolding act steps_of
 unset side env size scope name given action came done blocks vars is told same c =
-    subst (λ (a : Action). Does side env (act size a env) done blocks vars []) (sym is)
-    (subst (λ (d : Acted). Does side env (act size (actions.UnsetVar scope name) env) d blocks vars []) (sym told)
-    (one side env (unset_var_step scope name) came blocks vars [] (subst (λ (n : List ℕ). Came side env (unset_var_step scope n env) came blocks vars) same c) refl))
+    subst (λ (a : Action). Does side env (act size a env) done blocks vars) (sym is)
+    (subst (λ (d : Acted). Does side env (act size (actions.UnsetVar scope name) env) d blocks vars) (sym told)
+    (one side env (unset_var_step scope name) came blocks vars (subst (λ (n : List ℕ). Came side env (unset_var_step scope n env) came blocks vars) same c)))

@@ -19,19 +19,19 @@ use Rattle.rule_actions.specs.Does.{Does, acted_by}
 use Rattle.rule_actions.proofs.Doing.{several}
 
 pub whole : (side : Side) (env : Env) (size : ℕ) (name given : List ℕ) (pat : Pattern) (fmt : Fmt) (action : Action) (came : Stepped) (done : Acted) (blocks : List Block) (vars : Variables) → action ≡ actions.ReplaceHeader name pat fmt → done ≡ acted_by came
-    → given ≡ name → Ran side (run_steps (map (replace_in Whole size pat fmt) (places given env.head.fields 0)) env) came blocks vars → Does side env (act size action env) done blocks vars []
+    → given ≡ name → Ran side (run_steps (map (replace_in Whole size pat fmt) (places given env.head.fields 0)) env) came blocks vars → Does side env (act size action env) done blocks vars
 unfolding act steps_of
 whole side env size name given pat fmt action came done blocks vars is told same ran =
-    subst (λ (a : Action). Does side env (act size a env) done blocks vars []) (sym is)
-    (subst (λ (d : Acted). Does side env (act size (actions.ReplaceHeader name pat fmt) env) d blocks vars []) (sym told)
-    (several side env (run_steps (map (replace_in Whole size pat fmt) (places name env.head.fields 0)) env) came blocks vars []
-    (subst (λ (n : List ℕ). Ran side (run_steps (map (replace_in Whole size pat fmt) (places n env.head.fields 0)) env) came blocks vars) same ran) refl))
+    subst (λ (a : Action). Does side env (act size a env) done blocks vars) (sym is)
+    (subst (λ (d : Acted). Does side env (act size (actions.ReplaceHeader name pat fmt) env) d blocks vars) (sym told)
+    (several side env (run_steps (map (replace_in Whole size pat fmt) (places name env.head.fields 0)) env) came blocks vars
+    (subst (λ (n : List ℕ). Ran side (run_steps (map (replace_in Whole size pat fmt) (places n env.head.fields 0)) env) came blocks vars) same ran)))
 
 pub values : (side : Side) (env : Env) (size : ℕ) (name given : List ℕ) (pat : Pattern) (fmt : Fmt) (action : Action) (came : Stepped) (done : Acted) (blocks : List Block) (vars : Variables) → action ≡ actions.ReplaceValue name pat fmt → done ≡ acted_by came
-    → given ≡ name → Ran side (run_steps (map (replace_in Values size pat fmt) (places given env.head.fields 0)) env) came blocks vars → Does side env (act size action env) done blocks vars []
+    → given ≡ name → Ran side (run_steps (map (replace_in Values size pat fmt) (places given env.head.fields 0)) env) came blocks vars → Does side env (act size action env) done blocks vars
 unfolding act steps_of
 values side env size name given pat fmt action came done blocks vars is told same ran =
-    subst (λ (a : Action). Does side env (act size a env) done blocks vars []) (sym is)
-    (subst (λ (d : Acted). Does side env (act size (actions.ReplaceValue name pat fmt) env) d blocks vars []) (sym told)
-    (several side env (run_steps (map (replace_in Values size pat fmt) (places name env.head.fields 0)) env) came blocks vars []
-    (subst (λ (n : List ℕ). Ran side (run_steps (map (replace_in Values size pat fmt) (places n env.head.fields 0)) env) came blocks vars) same ran) refl))
+    subst (λ (a : Action). Does side env (act size a env) done blocks vars) (sym is)
+    (subst (λ (d : Acted). Does side env (act size (actions.ReplaceValue name pat fmt) env) d blocks vars) (sym told)
+    (several side env (run_steps (map (replace_in Values size pat fmt) (places name env.head.fields 0)) env) came blocks vars
+    (subst (λ (n : List ℕ). Ran side (run_steps (map (replace_in Values size pat fmt) (places n env.head.fields 0)) env) came blocks vars) same ran)))

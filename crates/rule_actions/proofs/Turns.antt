@@ -25,7 +25,7 @@ use Rattle.rule_actions.specs.Given.{Env, text_on}
 use Rattle.rule_actions.specs.Edits.{by_text, by_value, edited, fits_with, are_value_bytes}
 use Rattle.rule_actions.specs.Replacing.{matches, replaced, replaced_values, by_extent, places, replace_in, with_value, made_of_field}
 use Rattle.rule_actions.specs.Turns.{has_name, named_step, run_from, HadTurns}
-use Rattle.rule_actions.specs.Acts.{Act, Fails, after_step, run_steps}
+use Rattle.rule_actions.specs.Acts.{left_by, Act, Fails, after_step, run_steps}
 use Rattle.rule_actions.specs.Outcome.{IsAt, Came, Ran}
 
 -- ---- a step leaves the fields behind its own
@@ -98,25 +98,25 @@ past_too (g ∷ fields) (suc place) h = past_too fields place h
 
 -- a step that was done
 pub turned : (extent : Extent) (size : ℕ) (name : List ℕ) (pat : Pattern) (fmt : Fmt) (place : ℕ) (now next : Env) → named_step name extent size pat fmt place now ≡ Ok next
-    → run_from extent size name pat fmt place now ≡ run_from extent size name pat fmt (suc place) next
+    → run_from extent size name pat fmt place now ≡ run_from extent size name pat fmt (suc place) (left_by now next)
 turned extent size name pat fmt place now next done = by (slice_get now.head.fields place) refl done
   where
     named : (t : Bool) → cond t (replace_in extent size pat fmt place now) (Ok now) ≡ Ok next
         → run_steps (map (replace_in extent size pat fmt) (cond t (place ∷ places name (drop (suc place) now.head.fields) (suc place)) (places name (drop (suc place) now.head.fields) (suc place)))) now
-        ≡ run_from extent size name pat fmt (suc place) next
+        ≡ run_from extent size name pat fmt (suc place) (left_by now next)
     named true h =
         ap (λ (r : Result Env Why). after_step now r (run_steps (map (replace_in extent size pat fmt) (places name (drop (suc place) now.head.fields) (suc place))))) h
-        ∙ ap (λ (fs : List Field). run_steps (map (replace_in extent size pat fmt) (places name fs (suc place))) next) (sym (step_left extent size pat fmt place now next h))
-    named false h = let one : now ≡ next = cc in ap (λ (e : Env). run_from extent size name pat fmt (suc place) e) one
+        ∙ ap (λ (fs : List Field). run_steps (map (replace_in extent size pat fmt) (places name fs (suc place))) (left_by now next)) (sym (step_left extent size pat fmt place now next h))
+    named false h = let one : now ≡ next = cc in ap (λ (e : Env). run_from extent size name pat fmt (suc place) (left_by now e)) one
 
     by : (o : Option Field) → slice_get now.head.fields place ≡ o → cond (has_name name o) (replace_in extent size pat fmt place now) (Ok now) ≡ Ok next
-        → run_from extent size name pat fmt place now ≡ run_from extent size name pat fmt (suc place) next
+        → run_from extent size name pat fmt place now ≡ run_from extent size name pat fmt (suc place) (left_by now next)
     by None is h =
         let one : now ≡ next = cc in
         let none = past now.head.fields place is in
         ap (λ (fs : List Field). run_steps (map (replace_in extent size pat fmt) (places name fs place)) now) none
         ∙ sym (ap (λ (fs : List Field). run_steps (map (replace_in extent size pat fmt) (places name fs (suc place))) now) (past_too now.head.fields place none))
-        ∙ ap (λ (e : Env). run_from extent size name pat fmt (suc place) e) one
+        ∙ ap (λ (e : Env). run_from extent size name pat fmt (suc place) (left_by now e)) one
     by (Some f) is h =
         ap (λ (fs : List Field). run_steps (map (replace_in extent size pat fmt) (places name fs place)) now) (split now.head.fields place f is)
         ∙ named (is_named name f) h
@@ -140,7 +140,7 @@ stopped extent size name pat fmt place now why failed = by (slice_get now.head.f
 -- ---- the loop
 
 -- what a step that was done left
-pub done_is : (side : Side) (env : Env) (r : Result Env Why) (blocks : List Block) (vars : Variables) → Came side env r Done blocks vars → (next : Env) × (r ≡ Ok next) × IsAt side next blocks vars
+pub done_is : (side : Side) (env : Env) (r : Result Env Why) (blocks : List Block) (vars : Variables) → Came side env r Done blocks vars → (next : Env) × (r ≡ Ok next) × IsAt side (left_by env next) blocks vars
 done_is side env (Ok next) blocks vars c = (next, refl, c)
 done_is side env (Err why) blocks vars c = absurd c
 
@@ -160,9 +160,9 @@ turned_on side all extent size here name pat fmt place behind step old new vars 
     in
     let made = done_is side had.now (named_step name extent size pat fmt place had.now) new vars told in
     record {
-      now = made.0;
+      now = left_by had.now made.0;
       at = made.2;
-      left = had.left ∙ turned extent size name pat fmt place had.now made.0 made.1 ∙ ap (λ (n : ℕ). run_from extent size name pat fmt n made.0) (sym is);
+      left = had.left ∙ turned extent size name pat fmt place had.now made.0 made.1 ∙ ap (λ (n : ℕ). run_from extent size name pat fmt n (left_by had.now made.0)) (sym is);
     }
 
 -- a field's step failed

@@ -17,9 +17,13 @@ pub data Act : Type 0 where
   Denies : (code : ℕ) → Act
   Fails : Why → Env → Act
 
+-- what a step leaves: its head and its variables; all else stays as it was
+abbrev pub left_by : (env next : Env) → Env
+left_by env next = record { is_request = env.is_request; head = next.head; body = env.body; method = env.method; vars = next.vars }
+
 -- what comes behind a step: a step that fails decides, and undoes nothing
 abbrev pub after_step : Env → Result Env Why → (Env → Act) → Act
-after_step env (Ok next) others = others next
+after_step env (Ok next) others = others (left_by env next)
 after_step env (Err why) others = Fails why env
 
 -- steps in turn

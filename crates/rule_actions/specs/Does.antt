@@ -1,4 +1,4 @@
--- What an action leaves in the arrays and in the variables.
+-- What an action leaves in the array and in the variables, and what one that answers does.
 use Rattle.std.specs.Prelude.{◌≡◌, ℕ, List, []}
 use Rattle.http_model.specs.Block.{Block}
 use Rattle.http_model.specs.Head.{message_blocks}
@@ -17,31 +17,16 @@ abbrev pub acted_by : Stepped → Acted
 acted_by steps.Done = acted.Next
 acted_by (steps.Failed why) = acted.Failed why
 
--- The action came to this: the array and the variables hold the environment of that moment, and a reply stands in its own
--- array, which is empty otherwise.
-abbrev pub Does : Side → Env → Act → Acted → List Block → Variables → List Block → Type 0
-Does side env (Next next) acted.Next blocks vars reply = IsAt side next blocks vars × (reply ≡ [])
-Does side env (Next next) acted.Stop blocks vars reply = ⊥
-Does side env (Next next) acted.Reply blocks vars reply = ⊥
-Does side env (Next next) (acted.Deny told) blocks vars reply = ⊥
-Does side env (Next next) (acted.Failed told) blocks vars reply = ⊥
-Does side env Stop acted.Next blocks vars reply = ⊥
-Does side env Stop acted.Stop blocks vars reply = IsAt side env blocks vars × (reply ≡ [])
-Does side env Stop acted.Reply blocks vars reply = ⊥
-Does side env Stop (acted.Deny told) blocks vars reply = ⊥
-Does side env Stop (acted.Failed told) blocks vars reply = ⊥
-Does side env (Replies m) acted.Next blocks vars reply = ⊥
-Does side env (Replies m) acted.Stop blocks vars reply = ⊥
-Does side env (Replies m) acted.Reply blocks vars reply = IsAt side env blocks vars × (reply ≡ message_blocks m)
-Does side env (Replies m) (acted.Deny told) blocks vars reply = ⊥
-Does side env (Replies m) (acted.Failed told) blocks vars reply = ⊥
-Does side env (Denies code) acted.Next blocks vars reply = ⊥
-Does side env (Denies code) acted.Stop blocks vars reply = ⊥
-Does side env (Denies code) acted.Reply blocks vars reply = ⊥
-Does side env (Denies code) (acted.Deny told) blocks vars reply = (told ≡ code) × IsAt side env blocks vars × (reply ≡ [])
-Does side env (Denies code) (acted.Failed told) blocks vars reply = ⊥
-Does side env (Fails why left) acted.Next blocks vars reply = ⊥
-Does side env (Fails why left) acted.Stop blocks vars reply = ⊥
-Does side env (Fails why left) acted.Reply blocks vars reply = ⊥
-Does side env (Fails why left) (acted.Deny told) blocks vars reply = ⊥
-Does side env (Fails why left) (acted.Failed told) blocks vars reply = (told ≡ why) × IsAt side left blocks vars × (reply ≡ [])
+-- An action that does not answer came to this: the array and the variables hold the environment of that moment.
+abbrev pub Does : Side → Env → Act → Acted → List Block → Variables → Type 0
+Does side env (Next next) acted.Next blocks vars = IsAt side next blocks vars
+Does side env Stop acted.Stop blocks vars = IsAt side env blocks vars
+Does side env (Denies code) (acted.Deny told) blocks vars = (told ≡ code) × IsAt side env blocks vars
+Does side env (Fails why left) (acted.Failed told) blocks vars = (told ≡ why) × IsAt side left blocks vars
+Does side env act done blocks vars = ⊥
+
+-- One that answers came to this: its reply stands in an array of its own, which is empty where it fails. All else stays.
+abbrev pub Replied : Env → Act → Stepped → (reply : List Block) → Type 0
+Replied env (Replies m) steps.Done reply = reply ≡ message_blocks m
+Replied env (Fails why left) (steps.Failed told) reply = (told ≡ why) × (left ≡ env) × (reply ≡ [])
+Replied env act step reply = ⊥

@@ -1,7 +1,6 @@
 pub use Rattle.http_model.specs.Head
 pub use Rattle.session_model.specs.Env
-pub use Rattle.rule_model.specs.Directions
-pub use Rattle.rule_model.specs.Patterns
+pub use Rattle.rule_model.specs.Actions
 pub use Rattle.rule_model.specs.Valid
 pub mod Given
 pub mod Edits

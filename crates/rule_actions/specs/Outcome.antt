@@ -14,7 +14,7 @@ use Rattle.rule_actions.specs.declared.stepped.Stepped.{Stepped}
 use Rattle.rule_actions.specs.declared.stepped.Stepped.TheVariants.{Done, Failed}
 use Rattle.rule_actions.specs.Given.{Env}
 use Rattle.rule_actions.specs.Lines.{is_target}
-use Rattle.rule_actions.specs.Acts.{Act, Next, Stop, Replies, Denies, Fails}
+use Rattle.rule_actions.specs.Acts.{left_by, Act, Next, Stop, Replies, Denies, Fails}
 
 -- four buffers of this size
 pub record IsScratch (size : ℕ) (scratch : Scratch) : Type 0 where
@@ -46,7 +46,7 @@ step_by (Err full) = Failed Room
 -- The step is that of the definition on an environment: it leaves the environment that comes of it, or the one that it began
 -- with where it fails.
 abbrev pub Came : Side → Env → Result Env Why → Stepped → List Block → Variables → Type 0
-Came side env (Ok next) Done blocks vars = IsAt side next blocks vars
+Came side env (Ok next) Done blocks vars = IsAt side (left_by env next) blocks vars
 Came side env (Ok next) (Failed reason) blocks vars = ⊥
 Came side env (Err why) Done blocks vars = ⊥
 Came side env (Err why) (Failed reason) blocks vars = (reason ≡ why) × IsAt side env blocks vars

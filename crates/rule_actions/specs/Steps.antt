@@ -69,6 +69,18 @@ replace_part size part pat fmt env =
     on_request env (λ method target version.
     by_match size env pat fmt (part_of part target) (λ text. sent_to size env method (with_part part target text) version))
 
+-- the step of an action on a request line, and none of any other
+unfoldable pub line_step : (size : ℕ) → Action → Step
+line_step size (actions.SetMethod fmt) env = method_step size fmt env
+line_step size (actions.SetPath fmt) env = part_step size Path fmt env
+line_step size (actions.SetPathq fmt) env = part_step size Pathq fmt env
+line_step size (actions.SetUri fmt) env = part_step size Uri fmt env
+line_step size (actions.SetQuery fmt) env = query_step size fmt env
+line_step size (actions.ReplacePath pat fmt) env = replace_part size Path pat fmt env
+line_step size (actions.ReplacePathq pat fmt) env = replace_part size Pathq pat fmt env
+line_step size (actions.ReplaceUri pat fmt) env = replace_part size Uri pat fmt env
+line_step size action env = Ok env
+
 -- ---- variables
 
 abbrev pub set_var_step : (size : ℕ) → Scope → (name : List ℕ) → Expr → Step
@@ -80,7 +92,7 @@ unset_var_step scope name env = Ok (env_with_vars env (unset_variable env.vars s
 -- ---- all
 
 -- The steps of an action; how many they are is seen on the environment that the rule begins with. An action that answers, and
--- one that changes the mode, has none.
+-- one that changes the mode, has none; all that are not named here are on a request line.
 unfoldable pub steps_of : (size : ℕ) → Action → Env → List Step
 steps_of size actions.Allow env = []
 steps_of size (actions.Deny code) env = []
@@ -89,17 +101,10 @@ steps_of size (actions.SetHeader name fmt) env = set_step size name fmt ∷ []
 steps_of size (actions.DelHeader by) env = del_step size by ∷ []
 steps_of size (actions.ReplaceHeader name pat fmt) env = map (replace_whole size pat fmt) (places name env.head.fields 0)
 steps_of size (actions.ReplaceValue name pat fmt) env = map (replace_values size pat fmt) (places name env.head.fields 0)
-steps_of size (actions.SetMethod fmt) env = method_step size fmt ∷ []
-steps_of size (actions.SetPath fmt) env = part_step size Path fmt ∷ []
-steps_of size (actions.SetPathq fmt) env = part_step size Pathq fmt ∷ []
-steps_of size (actions.SetUri fmt) env = part_step size Uri fmt ∷ []
-steps_of size (actions.SetQuery fmt) env = query_step size fmt ∷ []
-steps_of size (actions.ReplacePath pat fmt) env = replace_part size Path pat fmt ∷ []
-steps_of size (actions.ReplacePathq pat fmt) env = replace_part size Pathq pat fmt ∷ []
-steps_of size (actions.ReplaceUri pat fmt) env = replace_part size Uri pat fmt ∷ []
 steps_of size (actions.SetStatus code reason) env = (λ e. restated size e code (reason_by code reason)) ∷ []
 steps_of size (actions.Redirect to code drop_query append_slash) env = []
 steps_of size (actions.Return status content_type payload hdrs) env = []
 steps_of size (actions.SetVar scope name expr) env = set_var_step size scope name expr ∷ []
 steps_of size (actions.UnsetVar scope name) env = unset_var_step scope name ∷ []
 steps_of size (actions.StrictMode on) env = []
+steps_of size action env = line_step size action ∷ []

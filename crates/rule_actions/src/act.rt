@@ -1,18 +1,17 @@
 //! What one action makes of a message.
-ghost use Rattle.std.specs.Prelude.{◌≡◌, [], false, true, IsOk, IfOk};
+ghost use Rattle.std.specs.Prelude.{◌≡◌, false, true, IsOk, IfOk};
 ghost use Rattle.rule_model.specs.Valid.{IsGoodAction};
-ghost use Rattle.rule_model.specs.Patterns.{action_holds_pattern};
+ghost use Rattle.rule_model.specs.Actions.{action_holds_pattern};
 ghost use Rattle.rule_actions.specs.Given.{Env};
 ghost use Rattle.rule_actions.specs.Acts.{act};
 ghost use Rattle.rule_actions.specs.Answering.{answers};
 ghost use Rattle.rule_actions.specs.Outcome.{IsScratch, IsAt, IsFront};
 
 use crate::extent::Extent;
-use crate::making::{add_header, set_header, set_method, set_part, set_query, set_status};
-use crate::part::TargetPart;
+use crate::making::{add_header, set_header, set_status};
 use crate::removal::del_header;
 use crate::replacing::replace_fields;
-use crate::retarget::replace_part;
+use crate::request_line::run_line;
 use crate::scratch::Scratch;
 use crate::side::Side;
 use crate::stepped::Stepped;
@@ -31,8 +30,6 @@ pub enum Acted {
     Next,
     /// No later rule runs.
     Stop,
-    /// A reply stands in its array.
-    Reply,
     /// A refusal with this code.
     Deny(u16),
     /// A step failed, and the message is as it was before that step.
@@ -67,7 +64,7 @@ pub fn run_action<'c>(
     requires valid { IsGoodAction action.now }
     requires edits { answers action.now ≡ false }
     ensures came { IfOk result (λ done. (env : Env) → IsAt side.entry env msg.old.blocks vars.old
-        → Does side.entry env (act msg.old.size action.now env) done msg.new.blocks vars.new []) }
+        → Does side.entry env (act msg.old.size action.now env) done msg.new.blocks vars.new) }
     ensures succeeds { action_holds_pattern action.now ≡ false → IsOk result }
     ensures size { msg.new.size ≡ msg.old.size }
     ensures scratch { IsScratch msg.old.size scratch.new }
@@ -103,53 +100,6 @@ pub fn run_action<'c>(
         }
         Action::DelHeader(by) => {
             let step = del_header(alloc, searchers, by, msg, scratch)?;
-            Ok(done_by(step))
-        }
-        Action::SetMethod(fmt) => {
-            let step = set_method(alloc, searchers, fmt, side, msg, vars, scratch)?;
-            Ok(done_by(step))
-        }
-        Action::SetPath(fmt) => {
-            let step = set_part(
-                alloc,
-                searchers,
-                TargetPart::Path,
-                fmt,
-                side,
-                msg,
-                vars,
-                scratch,
-            )?;
-            Ok(done_by(step))
-        }
-        Action::SetPathq(fmt) => {
-            let step = set_part(
-                alloc,
-                searchers,
-                TargetPart::Pathq,
-                fmt,
-                side,
-                msg,
-                vars,
-                scratch,
-            )?;
-            Ok(done_by(step))
-        }
-        Action::SetUri(fmt) => {
-            let step = set_part(
-                alloc,
-                searchers,
-                TargetPart::Uri,
-                fmt,
-                side,
-                msg,
-                vars,
-                scratch,
-            )?;
-            Ok(done_by(step))
-        }
-        Action::SetQuery(fmt) => {
-            let step = set_query(alloc, searchers, fmt, side, msg, vars, scratch)?;
             Ok(done_by(step))
         }
         Action::SetStatus(code, reason) => Ok(done_by(set_status(*code, reason, msg, scratch))),
@@ -199,48 +149,10 @@ pub fn run_action<'c>(
             )?;
             Ok(done_by(step))
         }
-        Action::ReplacePath(pat, fmt) => {
-            let step = replace_part(
-                alloc,
-                searchers,
-                TargetPart::Path,
-                pat,
-                fmt,
-                side,
-                msg,
-                vars,
-                scratch,
-            )?;
-            Ok(done_by(step))
-        }
-        Action::ReplacePathq(pat, fmt) => {
-            let step = replace_part(
-                alloc,
-                searchers,
-                TargetPart::Pathq,
-                pat,
-                fmt,
-                side,
-                msg,
-                vars,
-                scratch,
-            )?;
-            Ok(done_by(step))
-        }
-        Action::ReplaceUri(pat, fmt) => {
-            let step = replace_part(
-                alloc,
-                searchers,
-                TargetPart::Uri,
-                pat,
-                fmt,
-                side,
-                msg,
-                vars,
-                scratch,
-            )?;
-            Ok(done_by(step))
-        }
         Action::Redirect { .. } | Action::Return { .. } => unreachable!(),
+        _ => {
+            let step = run_line(alloc, searchers, action, side, msg, vars, scratch)?;
+            Ok(done_by(step))
+        }
     }
 }

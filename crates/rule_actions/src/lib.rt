@@ -18,6 +18,7 @@ mod removal_by;
 mod replacing;
 mod reply_fields;
 mod replying;
+mod request_line;
 mod retarget;
 mod returning;
 mod scratch;

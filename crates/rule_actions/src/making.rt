@@ -1,17 +1,15 @@
-//! Actions by the text of a format.
+//! Fields by the text of a format, and statuses.
 ghost use Rattle.std.specs.Prelude.{◌≡◌, ◌≤◌, false, length, IsOk, IfOk};
 ghost use Rattle.http_model.specs.Sizes.{most_name};
 ghost use Rattle.log_format.specs.Format as formats;
 ghost use Rattle.rule_actions.specs.Given.{Env};
-ghost use Rattle.rule_actions.specs.Steps.{add_step, set_step, method_step, part_step, query_step};
+ghost use Rattle.rule_actions.specs.Steps.{add_step, set_step};
 ghost use Rattle.rule_actions.specs.Lines.{restated, reason_by};
 ghost use Rattle.rule_actions.specs.declared.side.Side.{Side as On};
 ghost use Rattle.px_sample.specs.Variables.{Variables};
 ghost use Rattle.rule_actions.specs.Outcome.{IsScratch, IsAt, Came, IsFront};
 
 use crate::fields::{add_made, set_made};
-use crate::line::{put_method, put_part, put_query};
-use crate::part::TargetPart;
 use crate::scratch::Scratch;
 use crate::side::Side;
 use crate::status::put_status;
@@ -78,97 +76,6 @@ pub(crate) fn set_header<'c>(
         return Ok(Stepped::Failed(Why::Bytes));
     }
     Ok(set_made(msg, name, scratch.text.bytes()))
-}
-
-/// `set-method`.
-pub(crate) fn set_method<'c>(
-    alloc: Global,
-    searchers: &mut Searchers<'c>,
-    fmt: &'c Fmt,
-    side: Side<'_>,
-    msg: &mut Arena,
-    vars: &Vars,
-    scratch: &mut Scratch,
-) -> Result<Stepped, OutOfMemory>
-    requires scratch { IsScratch msg.old.size scratch.old }
-    requires front { IsFront msg.old.blocks }
-    ensures came { IfOk result (λ step. (env : Env) → IsAt side.entry env msg.old.blocks vars.now
-        → Came side.entry env (method_step msg.old.size fmt.now env) step msg.new.blocks vars.now) }
-    ensures succeeds { formats.holds_pattern fmt.now ≡ false → IsOk result }
-    ensures size { msg.new.size ≡ msg.old.size }
-    ensures scratch { IsScratch msg.old.size scratch.new }
-{
-    if !write_text(alloc, searchers, fmt, side, msg, vars, scratch)? {
-        return Ok(Stepped::Failed(Why::Bytes));
-    }
-    let Scratch {
-        text,
-        buf,
-        spare,
-        ..
-    } = scratch;
-    Ok(put_method(msg, text.bytes(), buf, spare))
-}
-
-/// `set-path`, `set-pathq` and `set-uri`.
-pub(crate) fn set_part<'c>(
-    alloc: Global,
-    searchers: &mut Searchers<'c>,
-    part: TargetPart,
-    fmt: &'c Fmt,
-    side: Side<'_>,
-    msg: &mut Arena,
-    vars: &Vars,
-    scratch: &mut Scratch,
-) -> Result<Stepped, OutOfMemory>
-    requires scratch { IsScratch msg.old.size scratch.old }
-    requires front { IsFront msg.old.blocks }
-    ensures came { IfOk result (λ step. (env : Env) → IsAt side.entry env msg.old.blocks vars.now
-        → Came side.entry env (part_step msg.old.size part fmt.now env) step msg.new.blocks vars.now) }
-    ensures succeeds { formats.holds_pattern fmt.now ≡ false → IsOk result }
-    ensures size { msg.new.size ≡ msg.old.size }
-    ensures scratch { IsScratch msg.old.size scratch.new }
-{
-    if !write_text(alloc, searchers, fmt, side, msg, vars, scratch)? {
-        return Ok(Stepped::Failed(Why::Bytes));
-    }
-    let Scratch {
-        text,
-        made,
-        buf,
-        spare,
-    } = scratch;
-    Ok(put_part(msg, part, text.bytes(), made, buf, spare))
-}
-
-/// `set-query`.
-pub(crate) fn set_query<'c>(
-    alloc: Global,
-    searchers: &mut Searchers<'c>,
-    fmt: &'c Fmt,
-    side: Side<'_>,
-    msg: &mut Arena,
-    vars: &Vars,
-    scratch: &mut Scratch,
-) -> Result<Stepped, OutOfMemory>
-    requires scratch { IsScratch msg.old.size scratch.old }
-    requires front { IsFront msg.old.blocks }
-    ensures came { IfOk result (λ step. (env : Env) → IsAt side.entry env msg.old.blocks vars.now
-        → Came side.entry env (query_step msg.old.size fmt.now env) step msg.new.blocks vars.now) }
-    ensures succeeds { formats.holds_pattern fmt.now ≡ false → IsOk result }
-    ensures size { msg.new.size ≡ msg.old.size }
-    ensures scratch { IsScratch msg.old.size scratch.new }
-{
-    if !write_text(alloc, searchers, fmt, side, msg, vars, scratch)? {
-        return Ok(Stepped::Failed(Why::Bytes));
-    }
-    let Scratch {
-        text,
-        made,
-        buf,
-        spare,
-    } = scratch;
-    Ok(put_query(msg, text.bytes(), made, buf, spare))
 }
 
 /// The reason that is given, or the table's.

@@ -1,7 +1,7 @@
 //! The payload of a `return`, its type and its length (RFC 9110 section 8).
 ghost use Rattle.std.specs.Prelude.{◌≡◌, false, IsOk, IfOk, option_copied, option_map};
 ghost use Rattle.px_bytes.specs.Blanks.{trimmed};
-ghost use Rattle.rule_model.specs.Patterns.{payload_holds_pattern};
+ghost use Rattle.rule_model.specs.Actions.{payload_holds_pattern};
 ghost use Rattle.rule_actions.specs.Given.{Env};
 ghost use Rattle.rule_actions.specs.Replies as spec;
 ghost use Rattle.rule_actions.specs.Outcome.{IsAt};

@@ -2,7 +2,7 @@
 ghost use Rattle.std.specs.Prelude.{◌≡◌, ◌≤◌, ℕ, List, [], false, length, IsOk, IfOk};
 ghost use Rattle.uri_parts.specs.Target.{target_parts};
 ghost use Rattle.http_fetch.specs.Fetches.{host_in};
-ghost use Rattle.rule_model.specs.Patterns.{location_holds_pattern};
+ghost use Rattle.rule_model.specs.Actions.{location_holds_pattern};
 ghost use Rattle.rule_actions.specs.Given.{Env};
 ghost use Rattle.rule_actions.specs.Edits.{by_text};
 ghost use Rattle.rule_actions.specs.Replies as spec;

@@ -2,7 +2,7 @@
 ghost use Rattle.std.specs.Prelude.{◌≡◌, false, not, filter, IfOk, IsOk};
 ghost use Rattle.header_ops.specs.Matching.{is_field_matching};
 ghost use Rattle.px_sample.specs.Variables.{Variables};
-ghost use Rattle.rule_model.specs.Patterns.{del_holds_pattern};
+ghost use Rattle.rule_model.specs.Actions.{del_holds_pattern};
 ghost use Rattle.rule_actions.specs.declared.side.Side.{Side as On};
 ghost use Rattle.rule_actions.specs.Given.{Env};
 ghost use Rattle.rule_actions.specs.Edits.{edited};

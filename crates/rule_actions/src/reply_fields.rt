@@ -5,7 +5,7 @@ ghost use Rattle.std.specs.List.{AllByRecursion, list_any};
 ghost use Rattle.http_model.specs.Head.{Field, Head};
 ghost use Rattle.http_model.specs.Sizes.{most_name};
 ghost use Rattle.px_bytes.specs.Blanks.{trimmed};
-ghost use Rattle.rule_model.specs.Patterns.{hdr_holds_pattern};
+ghost use Rattle.rule_model.specs.Actions.{hdr_holds_pattern};
 ghost use Rattle.rule_model.specs.Valid.{IsMadeName};
 ghost use Rattle.rule_actions.specs.declared.stepped.Stepped.TheVariants.{Done};
 ghost use Rattle.rule_actions.specs.Given.{Env};

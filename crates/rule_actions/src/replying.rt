@@ -1,11 +1,11 @@
 //! The actions that answer by themselves.
 ghost use Rattle.std.specs.Prelude.{◌≡◌, [], true, false, IsOk, IfOk};
-ghost use Rattle.rule_model.specs.Patterns.{action_holds_pattern};
+ghost use Rattle.rule_model.specs.Actions.{action_holds_pattern};
 ghost use Rattle.rule_model.specs.Valid.{IsGoodAction};
 ghost use Rattle.rule_actions.specs.Given.{Env};
 ghost use Rattle.rule_actions.specs.Acts.{act};
-ghost use Rattle.rule_actions.specs.Answering.{answers, replied_by};
-ghost use Rattle.rule_actions.specs.Does.{Does};
+ghost use Rattle.rule_actions.specs.Answering.{answers};
+ghost use Rattle.rule_actions.specs.Does.{Replied};
 ghost use Rattle.rule_actions.specs.Outcome.{IsScratch, IsAt};
 
 use crate::redirect::redirect;
@@ -25,25 +25,7 @@ pub fn answers(action: &Action) -> bool
 {
     match action {
         Action::Redirect { .. } | Action::Return { .. } => true,
-        Action::Allow
-        | Action::Deny(_)
-        | Action::AddHeader(_, _)
-        | Action::SetHeader(_, _)
-        | Action::DelHeader(_)
-        | Action::ReplaceHeader(_, _, _)
-        | Action::ReplaceValue(_, _, _)
-        | Action::SetMethod(_)
-        | Action::SetPath(_)
-        | Action::SetPathq(_)
-        | Action::SetUri(_)
-        | Action::SetQuery(_)
-        | Action::ReplacePath(_, _)
-        | Action::ReplacePathq(_, _)
-        | Action::ReplaceUri(_, _)
-        | Action::SetStatus(_, _)
-        | Action::SetVar(_, _, _)
-        | Action::UnsetVar(_, _)
-        | Action::StrictMode(_) => false,
+        _ => false,
     }
 }
 
@@ -65,7 +47,7 @@ pub fn run_reply<'c>(
     requires reply_size { reply.old.size ≡ msg.now.size }
     requires no_reply { reply.old.blocks ≡ [] }
     ensures came { IfOk result (λ step. (env : Env) → IsAt side.entry env msg.now.blocks vars.now
-        → Does side.entry env (act msg.now.size action.now env) (replied_by step) msg.now.blocks vars.now reply.new.blocks) }
+        → Replied env (act msg.now.size action.now env) step reply.new.blocks) }
     ensures succeeds { action_holds_pattern action.now ≡ false → IsOk result }
     ensures reply_size { reply.new.size ≡ reply.old.size }
     ensures scratch { IsScratch msg.now.size scratch.new }
@@ -107,24 +89,6 @@ pub fn run_reply<'c>(
             scratch,
             reply,
         ),
-        Action::Allow
-        | Action::Deny(_)
-        | Action::AddHeader(_, _)
-        | Action::SetHeader(_, _)
-        | Action::DelHeader(_)
-        | Action::ReplaceHeader(_, _, _)
-        | Action::ReplaceValue(_, _, _)
-        | Action::SetMethod(_)
-        | Action::SetPath(_)
-        | Action::SetPathq(_)
-        | Action::SetUri(_)
-        | Action::SetQuery(_)
-        | Action::ReplacePath(_, _)
-        | Action::ReplacePathq(_, _)
-        | Action::ReplaceUri(_, _)
-        | Action::SetStatus(_, _)
-        | Action::SetVar(_, _, _)
-        | Action::UnsetVar(_, _)
-        | Action::StrictMode(_) => unreachable!(),
+        _ => unreachable!(),
     }
 }

@@ -6,7 +6,7 @@ ghost use Rattle.http_model.specs.declared.Why.{Why as Reason};
 ghost use Rattle.http_model.specs.Head.{Head, Message, head_blocks};
 ghost use Rattle.http_model.specs.Reply.{reply_head};
 ghost use Rattle.px_bytes.specs.Blanks.{trimmed};
-ghost use Rattle.rule_model.specs.Patterns.{payload_holds_pattern, hdr_holds_pattern};
+ghost use Rattle.rule_model.specs.Actions.{payload_holds_pattern, hdr_holds_pattern};
 ghost use Rattle.rule_model.specs.Valid.{IsMadeName};
 ghost use Rattle.rule_actions.specs.Given.{Env};
 ghost use Rattle.rule_actions.specs.Replies.{returned, length_by};

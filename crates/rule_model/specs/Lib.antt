@@ -1,6 +1,5 @@
 pub use Rattle.log_format.specs.Format
 pub use Rattle.acl_eval.specs.Condition
 pub use Rattle.px_expr.specs.Expr
-pub mod Directions
-pub mod Patterns
+pub mod Actions
 pub mod Valid

@@ -6,7 +6,7 @@ use Rattle.std.specs.Str.{bytes_eq, str_to_ascii_lowercase}
 use Rattle.http_model.specs.Sizes.{most_name}
 use Rattle.http_model.specs.Finish.{framing_names}
 use Rattle.px_bytes.specs.Tokens.{is_token}
-use Rattle.rule_model.specs.declared.names.Direction.{Direction}
+use Rattle.rule_model.specs.declared.action.Direction.{Direction}
 use Rattle.rule_model.specs.declared.reply.RedirectTo.{RedirectTo}
 use Rattle.rule_model.specs.declared.reply.RedirectTo.TheVariants.{Location, Prefix, Scheme}
 use Rattle.rule_model.specs.declared.reply.Payload.{Payload}
@@ -16,7 +16,7 @@ use Rattle.rule_model.specs.declared.action.DelBy.TheVariants.{Str, Beg, End, Su
 use Rattle.rule_model.specs.declared.action.Action.{Action}
 use Rattle.rule_model.specs.declared.action.Action.TheVariants as actions
 use Rattle.rule_model.specs.declared.rule.Rule.{Rule}
-use Rattle.rule_model.specs.Directions.{stands_in, name_of}
+use Rattle.rule_model.specs.Actions.{stands_in, name_of}
 
 -- a name in a rule: a token of 1 to 255 bytes in lower case
 pub record IsName (name : List ℕ) : Type 0 where
@@ -88,29 +88,20 @@ pub record IsVariableName (name : List ℕ) : Type 0 where
   pub some : 1 ≤ length name
   pub bytes : list_all is_variable_byte name ≡ true
 
--- the arguments of an action are such as a configuration may have
+-- The arguments of an action are such as a configuration may have. Texts and patterns are.
 abbrev pub IsGoodAction : Action → Type 0
-IsGoodAction actions.Allow = Unit {0}
 IsGoodAction (actions.Deny code) = IsCode 400 599 code
 IsGoodAction (actions.AddHeader name fmt) = IsMadeName name
 IsGoodAction (actions.SetHeader name fmt) = IsMadeName name
 IsGoodAction (actions.DelHeader by) = IsGoodDel by
 IsGoodAction (actions.ReplaceHeader name pat fmt) = IsMadeName name
 IsGoodAction (actions.ReplaceValue name pat fmt) = IsMadeName name
-IsGoodAction (actions.SetMethod fmt) = Unit {0}
-IsGoodAction (actions.SetPath fmt) = Unit {0}
-IsGoodAction (actions.SetPathq fmt) = Unit {0}
-IsGoodAction (actions.SetUri fmt) = Unit {0}
-IsGoodAction (actions.SetQuery fmt) = Unit {0}
-IsGoodAction (actions.ReplacePath pat fmt) = Unit {0}
-IsGoodAction (actions.ReplacePathq pat fmt) = Unit {0}
-IsGoodAction (actions.ReplaceUri pat fmt) = Unit {0}
 IsGoodAction (actions.SetStatus code reason) = IsSetStatus code
 IsGoodAction (actions.Redirect to code drop_query append_slash) = IsGoodRedirect to code drop_query append_slash
 IsGoodAction (actions.Return status content_type payload hdrs) = IsGoodReturn status content_type payload hdrs
 IsGoodAction (actions.SetVar scope name expr) = IsVariableName name
 IsGoodAction (actions.UnsetVar scope name) = IsVariableName name
-IsGoodAction (actions.StrictMode on) = Unit {0}
+IsGoodAction action = Unit {0}
 
 -- the action stands in this direction with such arguments
 pub record IsGoodRule (direction : Direction) (rule : Rule) : Type 0 where

@@ -1,8 +1,8 @@
-//! What rules do, one variant for each action.
-ghost use Rattle.std.specs.Prelude.{◌≡◌};
-ghost use Rattle.rule_model.specs.Directions.{name_of};
+//! What rules do: the actions with their words, the lists of rules in which each may stand, and their arguments.
+ghost use Rattle.std.specs.Prelude.{◌≡◌, codes, IfSome};
+ghost use Rattle.rule_model.specs.Actions as spec;
+ghost use Rattle.rule_model.specs.Valid.{IsGoodAction};
 
-use crate::names::ActionName;
 use crate::reply::{HdrList, Payload, RedirectTo};
 use log_format::Fmt;
 use px_expr::{Expr, Pat, Scope, Text};
@@ -88,7 +88,7 @@ pub enum DelBy {
 impl Action {
     /// The action's name.
     pub fn name(&self) -> ActionName
-        ensures { result ≡ name_of self.now }
+        ensures { result ≡ spec.name_of self.now }
     {
         match self {
             Action::Allow => ActionName::Allow,
@@ -114,4 +114,208 @@ impl Action {
             Action::StrictMode(_) => ActionName::StrictMode,
         }
     }
+
+    /// The action on a request line of this name whose argument is a text.
+    pub fn by_text(name: ActionName, fmt: Fmt) -> Option<Action>
+        ensures action { result ≡ spec.by_text name fmt }
+        ensures named { IfSome result (λ action. spec.name_of action ≡ name) }
+        ensures good { IfSome result IsGoodAction }
+    {
+        match name {
+            ActionName::SetMethod => Some(Action::SetMethod(fmt)),
+            ActionName::SetPath => Some(Action::SetPath(fmt)),
+            ActionName::SetPathq => Some(Action::SetPathq(fmt)),
+            ActionName::SetUri => Some(Action::SetUri(fmt)),
+            ActionName::SetQuery => Some(Action::SetQuery(fmt)),
+            _ => None,
+        }
+    }
+
+    /// The action on a request line of this name whose arguments are a pattern and a text.
+    pub fn by_pattern(name: ActionName, pat: Pat, fmt: Fmt) -> Option<Action>
+        ensures action { result ≡ spec.by_pattern name pat fmt }
+        ensures named { IfSome result (λ action. spec.name_of action ≡ name) }
+        ensures good { IfSome result IsGoodAction }
+    {
+        match name {
+            ActionName::ReplacePath => Some(Action::ReplacePath(pat, fmt)),
+            ActionName::ReplacePathq => Some(Action::ReplacePathq(pat, fmt)),
+            ActionName::ReplaceUri => Some(Action::ReplaceUri(pat, fmt)),
+            _ => None,
+        }
+    }
+}
+
+/// The list that a rule stands in.
+#[derive(Clone, Copy, Debug, PartialEq, Eq)]
+pub enum Direction {
+    /// `http-request`.
+    Request,
+    /// `http-response`.
+    Response,
+    /// `http-after-response`: on each final response, reply and refusal.
+    After,
+}
+
+/// The actions by name (Configuration Manual, section 4.2).
+#[derive(Clone, Copy, Debug, PartialEq, Eq)]
+pub enum ActionName {
+    Allow,
+    Deny,
+    AddHeader,
+    SetHeader,
+    DelHeader,
+    ReplaceHeader,
+    ReplaceValue,
+    SetMethod,
+    SetPath,
+    SetPathq,
+    SetUri,
+    SetQuery,
+    ReplacePath,
+    ReplacePathq,
+    ReplaceUri,
+    SetStatus,
+    Redirect,
+    Return,
+    SetVar,
+    UnsetVar,
+    StrictMode,
+}
+
+/// Whether rules of this direction may have the action: the one table of it.
+pub fn stands_in(direction: Direction, name: ActionName) -> bool
+    ensures { result ≡ spec.stands_in direction name }
+{
+    match name {
+        ActionName::Allow
+        | ActionName::AddHeader
+        | ActionName::SetHeader
+        | ActionName::DelHeader
+        | ActionName::ReplaceHeader
+        | ActionName::ReplaceValue
+        | ActionName::SetVar
+        | ActionName::UnsetVar
+        | ActionName::StrictMode => true,
+        ActionName::Deny | ActionName::Return => direction != Direction::After,
+        ActionName::SetStatus => direction != Direction::Request,
+        ActionName::SetMethod
+        | ActionName::SetPath
+        | ActionName::SetPathq
+        | ActionName::SetUri
+        | ActionName::SetQuery
+        | ActionName::ReplacePath
+        | ActionName::ReplacePathq
+        | ActionName::ReplaceUri
+        | ActionName::Redirect => direction == Direction::Request,
+    }
+}
+
+/// Whether an action on a request line has a pattern in front of its text.
+pub fn takes_pattern(name: ActionName) -> bool
+    ensures { result ≡ spec.takes_pattern name }
+{
+    match name {
+        ActionName::ReplacePath | ActionName::ReplacePathq | ActionName::ReplaceUri => true,
+        _ => false,
+    }
+}
+
+/// Actions on fields and on the mode, and the end of the rules.
+#[tactic(auto, unfolding(crate::specs::Actions::field_action))]
+fn field_action(word: &[u8]) -> Option<ActionName>
+    ensures { result ≡ spec.field_action word.now }
+{
+    if word == b"allow".as_slice() {
+        Some(ActionName::Allow)
+    } else if word == b"add-header".as_slice() {
+        Some(ActionName::AddHeader)
+    } else if word == b"set-header".as_slice() {
+        Some(ActionName::SetHeader)
+    } else if word == b"del-header".as_slice() {
+        Some(ActionName::DelHeader)
+    } else if word == b"replace-header".as_slice() {
+        Some(ActionName::ReplaceHeader)
+    } else if word == b"replace-value".as_slice() {
+        Some(ActionName::ReplaceValue)
+    } else if word == b"strict-mode".as_slice() {
+        Some(ActionName::StrictMode)
+    } else {
+        None
+    }
+}
+
+/// Actions on a request line.
+#[tactic(auto, unfolding(crate::specs::Actions::line_action))]
+fn line_action(word: &[u8]) -> Option<ActionName>
+    ensures { result ≡ spec.line_action word.now }
+{
+    if word == b"set-method".as_slice() {
+        Some(ActionName::SetMethod)
+    } else if word == b"set-path".as_slice() {
+        Some(ActionName::SetPath)
+    } else if word == b"set-pathq".as_slice() {
+        Some(ActionName::SetPathq)
+    } else if word == b"set-uri".as_slice() {
+        Some(ActionName::SetUri)
+    } else if word == b"set-query".as_slice() {
+        Some(ActionName::SetQuery)
+    } else if word == b"replace-path".as_slice() {
+        Some(ActionName::ReplacePath)
+    } else if word == b"replace-pathq".as_slice() {
+        Some(ActionName::ReplacePathq)
+    } else if word == b"replace-uri".as_slice() {
+        Some(ActionName::ReplaceUri)
+    } else {
+        None
+    }
+}
+
+/// The word is `set-var`, or has a bracket behind that.
+fn is_set_var(word: &[u8]) -> bool
+    ensures { result ≡ spec.is_call_of (codes "set-var") word.now }
+{
+    word == b"set-var".as_slice() || word.starts_with(b"set-var(")
+}
+
+/// The same of `unset-var`.
+fn is_unset_var(word: &[u8]) -> bool
+    ensures { result ≡ spec.is_call_of (codes "unset-var") word.now }
+{
+    word == b"unset-var".as_slice() || word.starts_with(b"unset-var(")
+}
+
+/// Answers, a status, and variables.
+#[tactic(auto, unfolding(crate::specs::Actions::other_action))]
+fn other_action(word: &[u8]) -> Option<ActionName>
+    ensures { result ≡ spec.other_action word.now }
+{
+    if word == b"deny".as_slice() {
+        Some(ActionName::Deny)
+    } else if word == b"redirect".as_slice() {
+        Some(ActionName::Redirect)
+    } else if word == b"return".as_slice() {
+        Some(ActionName::Return)
+    } else if word == b"set-status".as_slice() {
+        Some(ActionName::SetStatus)
+    } else if is_set_var(word) {
+        Some(ActionName::SetVar)
+    } else if is_unset_var(word) {
+        Some(ActionName::UnsetVar)
+    } else {
+        None
+    }
+}
+
+/// The action of a word; that of `set-var` and `unset-var` also with a bracket behind it.
+pub fn action_named(word: &[u8]) -> Option<ActionName>
+    ensures { result ≡ spec.action_named word.now }
+{
+    if let Some(name) = field_action(word) {
+        return Some(name);
+    }
+    if let Some(name) = line_action(word) {
+        return Some(name);
+    }
+    other_action(word)
 }

@@ -3,14 +3,14 @@
 #![tactic(auto)]
 
 mod action;
-mod names;
 mod reply;
 mod rule;
 
 pub use acl_eval::Cond;
-pub use action::{Action, DelBy};
+pub use action::{
+    Action, ActionName, DelBy, Direction, action_named, stands_in, takes_pattern,
+};
 pub use log_format::{Fmt, Part, PartList};
-pub use names::{ActionName, Direction, stands_in};
 pub use px_expr::{ConvList, Expr, Fetch, OutOfMemory, Pat, Scope, Text};
 pub use reply::{Hdr, HdrList, Payload, RedirectTo};
 pub use rule::{Rule, Rules};

@@ -2,7 +2,6 @@
 //! client is sent in place of a server's answer.
 #![tactic(auto)]
 
-pub mod laws;
 mod rules;
 mod saying;
 

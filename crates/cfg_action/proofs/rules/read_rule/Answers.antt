@@ -2,15 +2,16 @@ use Rattle.std.proofs.Common.{◌≡◌, ◌∙◌, Ok, ap, refl, List, ℕ}
 use Rattle.std.specs.Prelude.{Option}
 use Rattle.std.proofs.lemmas.Result.{err_from_is_err_and}
 use Rattle.acl_eval.specs.declared.condition.Cond.{Cond}
-use Rattle.rule_model.specs.declared.names.ActionName.{ActionName}
+use Rattle.rule_model.specs.declared.action.ActionName.{ActionName}
 use Rattle.rule_model.specs.declared.rule.Rule.{Rule}
-use Rattle.rule_model.specs.Directions.{stands_in}
+use Rattle.rule_model.specs.Actions.{stands_in}
 use Rattle.cfg_acl.specs.Conditions.{rule_end}
 use Rattle.cfg_expr.specs.Reading.{plain, ◌>>=◌}
 use Rattle.cfg_expr.proofs.Readings.{fails_behind, fails_first}
 use Rattle.cfg_action.specs.declared.parts.ActionParts.{ActionParts}
 use Rattle.cfg_action.specs.Faults.{RuleReading, of_text, argument}
-use Rattle.cfg_action.specs.Names.{action_named, placed, side_of}
+use Rattle.rule_model.specs.Actions.{action_named}
+use Rattle.cfg_action.specs.Names.{placed, side_of}
 use Rattle.cfg_action.specs.Arguments.{Words}
 use Rattle.cfg_action.specs.Actions.{action_parts, made_of}
 use Rattle.cfg_action.specs.Rules.{rule_of}

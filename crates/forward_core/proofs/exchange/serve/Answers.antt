@@ -1,5 +1,8 @@
 use Rattle.std.proofs.Common.{subst, arith}
 use Rattle.std.proofs.lemmas.Result.{IfOk-weaker}
+use Rattle.session_model.specs.Env.{request_env}
+use Rattle.px_sample.specs.Variables.{no_variables}
+use Rattle.rule_model.specs.declared.action.Direction.TheVariants as directions
 use Rattle.forward_core.specs.Out.{IsRefused, IsAnswered, IsForwarded}
 use Rattle.forward_core.specs.Ruled.{ComesTo}
 use Rattle.forward_core.specs.declared.ask.Asked.{Asked}
@@ -29,5 +32,11 @@ pub returns-in-Replies : goal.returns-in-Replies
 returns-in-Replies c =
     IfOk-weaker c.answer.result (IsAnswered c.ask_fresh.new.reply.blocks) _ (λ one answered client x.
     let came = subst (λ (a : Asked). ComesTo c.args.cfg.now x.head a c.ask_fresh.new.msg.blocks c.ask_fresh.new.reply.blocks) c.in-Replies.is (c.in_ok-asked.ensures.asked x.head x.blocks_are) in
-    replied_session c.args.cfg.now client c.args.server.now c.args.msg.now.blocks c.ask_fresh.new.reply.blocks came.0 one
-    c.requires.valid x came.1 came.2 answered) c.answer.ensures
+    let cfg = c.args.cfg.now in
+    let size = cfg.limits.bufsize in
+    let env = request_env no_variables x.head in
+    replied_session cfg client c.args.server.now c.args.msg.now.blocks c.ask_fresh.new.reply.blocks came.0 one
+    (c.replies_are_plain.ensures.trailers size cfg.request env came.1.0 came.0 came.1.1)
+    (c.replies_are_plain.ensures.fits size cfg.request env came.1.0 came.0 came.1.1)
+    (c.replies_are_plain.ensures.body size directions.Request cfg.request env came.1.0 came.0 c.requires.valid.request came.1.1)
+    x came.1 came.2 answered) c.answer.ensures

@@ -1,5 +1,5 @@
 use Rattle.std.proofs.Common.{false, subst}
-use Rattle.rule_model.specs.declared.names.Direction.TheVariants as directions
+use Rattle.rule_model.specs.declared.action.Direction.TheVariants as directions
 use Rattle.rule_actions.specs.declared.side.Side.TheVariants as sides
 use Rattle.rule_actions.specs.Given.{Env}
 use Rattle.http_rules.specs.declared.verdict.Ended.{Ended}

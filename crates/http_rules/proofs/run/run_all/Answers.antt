@@ -2,8 +2,7 @@ use Rattle.std.proofs.Common.{ℕ, List, [], sym, subst}
 use Rattle.std.proofs.lemmas.Bool.{false≢true}
 use Rattle.http_model.specs.Block.{Block}
 use Rattle.rule_actions.specs.Acts.{act}
-use Rattle.rule_actions.specs.Answering.{replied_by}
-use Rattle.rule_actions.specs.Does.{Does}
+use Rattle.rule_actions.specs.Does.{Replied}
 use Rattle.http_rules.specs.declared.verdict.Ended.{Ended}
 use Rattle.http_rules.specs.declared.verdict.Verdict.{Verdict}
 use Rattle.http_rules.specs.Rules.{rules_of}
@@ -35,7 +34,7 @@ returns-in_ok-step-in-Answering-clause-leaves c =
     let vars = c.run_rules.new.vars in
     let reply = c.run_reply.new.reply.blocks in
     let awaited = subst (λ (o : Ended). EndsAt c.args.side size c.args.rules.now env o blocks vars) c.in-Answering.is (c.in_ok-verdict.ensures.leaves env at) in
-    let does = subst (λ (n : ℕ). Does c.args.side awaited.left (act n action awaited.left) (replied_by c.in_ok-step-in-Answering.step) blocks vars reply) c.in_ok-verdict.ensures.size
+    let does = subst (λ (n : ℕ). Replied awaited.left (act n action awaited.left) c.in_ok-step-in-Answering.step reply) c.in_ok-verdict.ensures.size
     (c.in_ok-step-in-Answering.ensures.came awaited.left awaited.at_left) in
     subst (λ (v : Verdict). Leaves c.args.side (rules_of size c.args.rules.now env) v blocks vars reply) (sym c.verdict_by.ensures)
     (answered c.args.side size c.args.rules.now env action c.in_ok-step-in-Answering.step blocks vars reply awaited does)

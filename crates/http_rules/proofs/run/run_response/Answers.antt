@@ -6,7 +6,7 @@ use Rattle.http_rules.specs.declared.verdict.Verdict.{Verdict}
 use Rattle.http_rules.specs.Run.{Leaves}
 use Rattle.std.proofs.lemmas.Result.{IfOk-weaker}
 use Rattle.session_model.specs.Env.{response_env}
-use Rattle.rule_model.specs.declared.names.Direction.TheVariants as directions
+use Rattle.rule_model.specs.declared.action.Direction.TheVariants as directions
 use Rattle.rule_actions.specs.declared.side.Side.TheVariants as sides
 use Rattle.http_rules.specs.Rules.{rules_of}
 use Rattle.http_rules.proofs.Runs.{on_answer, head_front, good_actions}

@@ -6,7 +6,7 @@ use Rattle.rule_actions.specs.Given.{Env}
 use Rattle.rule_actions.specs.Outcome.{IsAt, IsScratch}
 use Rattle.std.proofs.lemmas.Bool.{false≢true}
 use Rattle.acl_eval.proofs.Trying.{not_this_one}
-use Rattle.rule_model.specs.Patterns.{rule_holds_pattern}
+use Rattle.rule_model.specs.Actions.{rule_holds_pattern}
 use Rattle.http_rules.specs.declared.verdict.Ruled.{Ruled}
 use Rattle.http_rules.specs.Run.{RuleLeaves}
 use Rattle.http_rules.proofs.Asked.{awaits}
@@ -29,35 +29,35 @@ pub returns-in-Ends-clause-leaves : goal.returns-in-Ends-clause-leaves
 returns-in-Ends-clause-leaves c =
     λ env at.
     let r = c.loop-at.invariant.reached env at in
-    let ruled = subst (λ (n : ℕ). RuleLeaves c.args.side n c.get-rule.result.now c.loop-at.strict r.now c.in_ok-outcome.outcome c.run_rule.new.msg.blocks c.run_rule.new.vars []) c.loop-at.invariant.size (c.in_ok-outcome.ensures.ruled r.now r.at_now) in
-    ends c.args.side c.args.msg.now.size c.args.rules.now env c.loop-at.at c.get-rule.result.now c.loop-at.strict c.in-Ends.verdict c.loop-at.msg.blocks c.run_rule.new.msg.blocks c.loop-at.vars c.run_rule.new.vars []
+    let ruled = subst (λ (n : ℕ). RuleLeaves c.args.side n c.get-rule.result.now c.loop-at.strict r.now c.in_ok-outcome.outcome c.run_rule.new.msg.blocks c.run_rule.new.vars) c.loop-at.invariant.size (c.in_ok-outcome.ensures.ruled r.now r.at_now) in
+    ends c.args.side c.args.msg.now.size c.args.rules.now env c.loop-at.at c.get-rule.result.now c.loop-at.strict c.in-Ends.verdict c.loop-at.msg.blocks c.run_rule.new.msg.blocks c.loop-at.vars c.run_rule.new.vars
     c.get-rule.ensures r
-    (subst (λ (o : Ruled). RuleLeaves c.args.side c.args.msg.now.size c.get-rule.result.now c.loop-at.strict r.now o c.run_rule.new.msg.blocks c.run_rule.new.vars []) c.in-Ends.is ruled)
+    (subst (λ (o : Ruled). RuleLeaves c.args.side c.args.msg.now.size c.get-rule.result.now c.loop-at.strict r.now o c.run_rule.new.msg.blocks c.run_rule.new.vars) c.in-Ends.is ruled)
 
 pub returns-in-Answers-clause-leaves : goal.returns-in-Answers-clause-leaves
 returns-in-Answers-clause-leaves c =
     λ env at.
     let r = c.loop-at.invariant.reached env at in
-    let ruled = subst (λ (n : ℕ). RuleLeaves c.args.side n c.get-rule.result.now c.loop-at.strict r.now c.in_ok-outcome.outcome c.run_rule.new.msg.blocks c.run_rule.new.vars []) c.loop-at.invariant.size (c.in_ok-outcome.ensures.ruled r.now r.at_now) in
+    let ruled = subst (λ (n : ℕ). RuleLeaves c.args.side n c.get-rule.result.now c.loop-at.strict r.now c.in_ok-outcome.outcome c.run_rule.new.msg.blocks c.run_rule.new.vars) c.loop-at.invariant.size (c.in_ok-outcome.ensures.ruled r.now r.at_now) in
     awaits c.args.side c.args.msg.now.size c.args.rules.now env c.loop-at.at c.get-rule.result.now c.loop-at.strict c.loop-at.msg.blocks c.run_rule.new.msg.blocks c.loop-at.vars c.run_rule.new.vars
     c.get-rule.ensures r
-    (subst (λ (o : Ruled). RuleLeaves c.args.side c.args.msg.now.size c.get-rule.result.now c.loop-at.strict r.now o c.run_rule.new.msg.blocks c.run_rule.new.vars []) c.in-Answers.is ruled)
+    (subst (λ (o : Ruled). RuleLeaves c.args.side c.args.msg.now.size c.get-rule.result.now c.loop-at.strict r.now o c.run_rule.new.msg.blocks c.run_rule.new.vars) c.in-Answers.is ruled)
 
 pub returns-in-Answers-clause-answers : goal.returns-in-Answers-clause-answers
 returns-in-Answers-clause-answers c =
     let start = held c.args.side c.args.msg.now.blocks c.args.vars.now c.requires.front in
     let r = c.loop-at.invariant.reached start.0 start.1 in
-    let asked = subst (λ (o : Ruled). RuleLeaves c.args.side c.loop-at.msg.size c.get-rule.result.now c.loop-at.strict r.now o c.run_rule.new.msg.blocks c.run_rule.new.vars []) c.in-Answers.is (c.in_ok-outcome.ensures.ruled r.now r.at_now) in
+    let asked = subst (λ (o : Ruled). RuleLeaves c.args.side c.loop-at.msg.size c.get-rule.result.now c.loop-at.strict r.now o c.run_rule.new.msg.blocks c.run_rule.new.vars) c.in-Answers.is (c.in_ok-outcome.ensures.ruled r.now r.at_now) in
     record { at = c.loop-at.at; rule = c.get-rule.result.now; there = c.get-rule.ensures; is = refl; answers_is = asked.answers_is }
 
 pub loop-at-preserved : goal.loop-at-preserved
 loop-at-preserved c =
     let next : (env : Env) → IsAt c.args.side env c.args.msg.now.blocks c.args.vars.now → Reached c.args.side c.args.msg.now.size c.args.rules.now env (c.loop-at.at + 1) c.in-Goes.mode c.run_rule.new.msg.blocks c.run_rule.new.vars = λ env at.
     let r = c.loop-at.invariant.reached env at in
-    let ruled = subst (λ (n : ℕ). RuleLeaves c.args.side n c.get-rule.result.now c.loop-at.strict r.now c.in_ok-outcome.outcome c.run_rule.new.msg.blocks c.run_rule.new.vars []) c.loop-at.invariant.size (c.in_ok-outcome.ensures.ruled r.now r.at_now) in
-    goes_on c.args.side c.args.msg.now.size c.args.rules.now env c.loop-at.at c.get-rule.result.now c.loop-at.strict c.in-Goes.mode c.loop-at.msg.blocks c.run_rule.new.msg.blocks c.loop-at.vars c.run_rule.new.vars []
+    let ruled = subst (λ (n : ℕ). RuleLeaves c.args.side n c.get-rule.result.now c.loop-at.strict r.now c.in_ok-outcome.outcome c.run_rule.new.msg.blocks c.run_rule.new.vars) c.loop-at.invariant.size (c.in_ok-outcome.ensures.ruled r.now r.at_now) in
+    goes_on c.args.side c.args.msg.now.size c.args.rules.now env c.loop-at.at c.get-rule.result.now c.loop-at.strict c.in-Goes.mode c.loop-at.msg.blocks c.run_rule.new.msg.blocks c.loop-at.vars c.run_rule.new.vars
     c.get-rule.ensures r
-    (subst (λ (o : Ruled). RuleLeaves c.args.side c.args.msg.now.size c.get-rule.result.now c.loop-at.strict r.now o c.run_rule.new.msg.blocks c.run_rule.new.vars []) c.in-Goes.is ruled)
+    (subst (λ (o : Ruled). RuleLeaves c.args.side c.args.msg.now.size c.get-rule.result.now c.loop-at.strict r.now o c.run_rule.new.msg.blocks c.run_rule.new.vars) c.in-Goes.is ruled)
     in
     let start = held c.args.side c.args.msg.now.blocks c.args.vars.now c.requires.front in
     record {
@@ -70,7 +70,7 @@ loop-at-preserved c =
 pub returns-clause-leaves : goal.returns-clause-leaves
 returns-clause-leaves c =
     λ env at.
-    over c.args.side c.args.msg.now.size c.args.rules.now env c.loop-at.at c.loop-at.strict c.loop-at.msg.blocks c.loop-at.vars [] (omega (arith, c.loop-at-test.false, c.len-at-end.ensures)) (c.loop-at.invariant.reached env at) refl
+    over c.args.side c.args.msg.now.size c.args.rules.now env c.loop-at.at c.loop-at.strict c.loop-at.msg.blocks c.loop-at.vars (omega (arith, c.loop-at-test.false, c.len-at-end.ensures)) (c.loop-at.invariant.reached env at)
 
 pub returns-in_err-outcome-clause-succeeds : goal.returns-in_err-outcome-clause-succeeds
 returns-in_err-outcome-clause-succeeds c =

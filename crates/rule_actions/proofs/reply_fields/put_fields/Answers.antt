@@ -4,7 +4,7 @@ use Rattle.std.proofs.lemmas.Bool.{false≢true}
 use Rattle.std.proofs.lemmas.List.{take_all}
 use Rattle.http_model.specs.Head.{Head}
 use Rattle.px_bytes.specs.Blanks.{trimmed}
-use Rattle.rule_model.specs.Patterns.{hdr_holds_pattern}
+use Rattle.rule_model.specs.Actions.{hdr_holds_pattern}
 use Rattle.rule_model.specs.Valid.{IsMadeName}
 use Rattle.rule_actions.specs.Given.{Env}
 use Rattle.rule_actions.specs.Outcome.{IsAt}

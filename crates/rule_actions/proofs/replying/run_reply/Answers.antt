@@ -2,8 +2,7 @@ use Rattle.std.proofs.lemmas.Result.{IfOk-weaker}
 use Rattle.rule_actions.specs.declared.stepped.Stepped.{Stepped}
 use Rattle.rule_actions.specs.Given.{Env}
 use Rattle.rule_actions.specs.Acts.{act}
-use Rattle.rule_actions.specs.Answering.{replied_by}
-use Rattle.rule_actions.specs.Does.{Does}
+use Rattle.rule_actions.specs.Does.{Replied}
 use Rattle.rule_actions.specs.Outcome.{IsAt, Answers}
 use Rattle.rule_actions.specs.Replies.{redirected, returned}
 use Rattle.rule_actions.proofs.Replied.{redirects, returns}
@@ -15,9 +14,8 @@ returns-in-Redirect-clause-came c =
     let at_redirect = c.in-Redirect in
     IfOk-weaker c.redirect.result
     (λ (step : Stepped). (env : Env) → IsAt c.args.side env c.args.msg.now.blocks c.args.vars.now → Answers (redirected size at_redirect.to at_redirect.code at_redirect.drop_query at_redirect.append_slash env) step c.redirect.new.reply.blocks)
-    (λ (step : Stepped). (env : Env) → IsAt c.args.side env c.args.msg.now.blocks c.args.vars.now → Does c.args.side env (act size c.args.action.now env) (replied_by step) c.args.msg.now.blocks c.args.vars.now c.redirect.new.reply.blocks)
-    (λ step h. λ env at. redirects c.args.side env size c.args.action.now at_redirect.to at_redirect.code at_redirect.drop_query at_redirect.append_slash step
-    c.args.msg.now.blocks c.args.vars.now c.redirect.new.reply.blocks at_redirect.is at (h env at))
+    (λ (step : Stepped). (env : Env) → IsAt c.args.side env c.args.msg.now.blocks c.args.vars.now → Replied env (act size c.args.action.now env) step c.redirect.new.reply.blocks)
+    (λ step h. λ env at. redirects env size c.args.action.now at_redirect.to at_redirect.code at_redirect.drop_query at_redirect.append_slash step c.redirect.new.reply.blocks at_redirect.is (h env at))
     c.redirect.ensures.came
 
 pub returns-in-Return-clause-came : goal.returns-in-Return-clause-came
@@ -26,7 +24,6 @@ returns-in-Return-clause-came c =
     let at_return = c.in-Return in
     IfOk-weaker c.return_reply.result
     (λ (step : Stepped). (env : Env) → IsAt c.args.side env c.args.msg.now.blocks c.args.vars.now → Answers (returned size at_return.status at_return.content_type at_return.payload at_return.hdrs env) step c.return_reply.new.reply.blocks)
-    (λ (step : Stepped). (env : Env) → IsAt c.args.side env c.args.msg.now.blocks c.args.vars.now → Does c.args.side env (act size c.args.action.now env) (replied_by step) c.args.msg.now.blocks c.args.vars.now c.return_reply.new.reply.blocks)
-    (λ step h. λ env at. returns c.args.side env size c.args.action.now at_return.status at_return.content_type at_return.payload at_return.hdrs step
-    c.args.msg.now.blocks c.args.vars.now c.return_reply.new.reply.blocks at_return.is at (h env at))
+    (λ (step : Stepped). (env : Env) → IsAt c.args.side env c.args.msg.now.blocks c.args.vars.now → Replied env (act size c.args.action.now env) step c.return_reply.new.reply.blocks)
+    (λ step h. λ env at. returns env size c.args.action.now at_return.status at_return.content_type at_return.payload at_return.hdrs step c.return_reply.new.reply.blocks at_return.is (h env at))
     c.return_reply.ensures.came
