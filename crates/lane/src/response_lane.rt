@@ -1,19 +1,20 @@
 //! The direction in which the client is answered: a server's heads come, interim ones are passed on or dropped, and the
 //! last that answers goes out behind them, the server's or one in its place.
-ghost use Rattle.std.specs.Prelude.{◌≡◌, ◌≢◌, ◌≤◌, ◌<◌, ◌+◌, ◌++◌, ◌∷◌, ◌⊎◌, [], length, drop, true, false, List, ℕ, Some, None, Bool, IfOk, IsTrue};
+ghost use Rattle.std.specs.Prelude.{◌≡◌, ◌≤◌, ◌<◌, ◌+◌, ◌⊎◌, [], length, drop, true, false, List, ℕ, Some, Bool, IfOk};
 ghost use Rattle.htx_model.specs.Blocks.{Fits};
-ghost use Rattle.http_model.specs.Finish.{finish_interim};
 ghost use Rattle.http_model.specs.Head.{Head, head_blocks};
 ghost use Rattle.http_model.specs.Reading.{Received};
 ghost use Rattle.http_model.specs.Sizes.{least_size, most_size, least_head};
 ghost use Rattle.body_filter.specs.Valid.{AreFilters};
 ghost use Rattle.body_filter.specs.declared.filter_spec.FilterSpec.{FilterSpec};
 ghost use Rattle.http_model.specs.Head.{front_blocks};
-ghost use Rattle.lane.specs.Answering.{Exchange, Answers, HeadComes, PutsOut, is_interim, IsOpen, with_bytes, with_put, passes, drops, serves, replies, fresh, IsSoundAnswer, MayGoOn, HasFilters, shows_head, shows_last, stage_of, source_of, input_of, came_in, most_of, ended_of, output_of, window_of, limits_of, array_of, blocks_of, addrs_of, framing_of, declared_of, close_of, has_begun, phase_of};
+ghost use Rattle.lane.specs.Answering.{Exchange, Answers, HeadComes, is_interim, IsOpen, with_bytes, passes, drops, serves, replies, fresh, IsSoundAnswer, HasFilters, shows_head, shows_last, stage_of, source_of, input_of, came_in, most_of, ended_of, output_of, window_of, limits_of, array_of, blocks_of, has_begun, phase_of};
 ghost use Rattle.lane.specs.declared.phase.Phase.TheVariants as phase;
+ghost use Rattle.lane_core.specs.declared.stage.LaneHead.TheVariants as says;
 ghost use Rattle.lane_core.specs.declared.stage.Stage.TheVariants as stage;
 ghost use Rattle.lane_core.specs.declared.stage.Source.TheVariants as source;
 
+mod stepping;
 mod views;
 
 use crate::phase::Phase;
@@ -58,6 +59,7 @@ impl ResponseLane {
         ensures fresh { IfOk result (λ lane. (asked : Bool) → Answers lane (fresh asked)) }
         ensures reading { IfOk result (λ lane. stage_of lane ≡ stage.Reading) }
         ensures open { IfOk result IsOpen }
+        ensures output { IfOk result (λ lane. output_of lane ≡ []) }
         ensures begun { IfOk result (λ lane. has_begun lane ≡ false) }
         ensures sound { IfOk result IsSoundAnswer }
     {
@@ -103,6 +105,8 @@ impl ResponseLane {
         ensures comes { (p : Exchange) → Answers self.old p → p.asked ≡ head_asked → HeadComes p self.new result }
         ensures same { (window_of self.new ≡ window_of self.old) × (ended_of self.new ≡ ended_of self.old) × (has_begun self.new ≡ has_begun self.old) }
         ensures phase { phase_of self.new ≡ phase_of self.old }
+        ensures shrinks { length (input_of self.new) ≤ length (input_of self.old) }
+        ensures takes { result ≡ says.Head → length (input_of self.new) < length (input_of self.old) }
         ensures limits { limits_of self.new ≡ limits_of self.old }
         ensures sound { IsSoundAnswer self.new }
         ensures filters { (filters : List FilterSpec) → HasFilters self.old filters → HasFilters self.new filters }
@@ -136,6 +140,7 @@ impl ResponseLane {
         ensures stage { stage_of self.new ≡ stage.Sending }
         ensures limits { limits_of self.new ≡ limits_of self.old }
         ensures same { (window_of self.new ≡ window_of self.old) × (ended_of self.new ≡ ended_of self.old) × (has_begun self.new ≡ has_begun self.old) }
+        ensures keeps { (came_in self.new ≡ came_in self.old) × (shows_last (phase_of self.new) ≡ false) }
         ensures sound { IsSoundAnswer self.new }
         ensures filters { (filters : List FilterSpec) → HasFilters self.old filters → HasFilters self.new filters }
     {
@@ -153,6 +158,7 @@ impl ResponseLane {
         ensures stage { stage_of self.new ≡ stage.Reading }
         ensures limits { limits_of self.new ≡ limits_of self.old }
         ensures same { (window_of self.new ≡ window_of self.old) × (ended_of self.new ≡ ended_of self.old) × (has_begun self.new ≡ has_begun self.old) }
+        ensures keeps { (came_in self.new ≡ came_in self.old) × (shows_last (phase_of self.new) ≡ false) }
         ensures sound { IsSoundAnswer self.new }
         ensures filters { (filters : List FilterSpec) → HasFilters self.old filters → HasFilters self.new filters }
     {
@@ -184,6 +190,7 @@ impl ResponseLane {
         requires fits { Fits list.old.blocks (limits_of self.old).bufsize }
         ensures answers { (p : Exchange) (head : Head) (body : List ℕ) → Answers self.old p → list.old.blocks ≡ front_blocks head body → Answers self.new (replies p head body no_body) }
         ensures list { list.new.blocks ≡ [] }
+        ensures list_size { list.new.size ≡ list.old.size }
         ensures stage { (stage_of self.new ≡ stage.Sending) × (source_of self.new ≡ source.Whole) }
         ensures last { shows_last (phase_of self.new) ≡ true }
         ensures limits { limits_of self.new ≡ limits_of self.old }
@@ -207,92 +214,6 @@ impl ResponseLane {
         match self.phase {
             Phase::Heads | Phase::Answering => false,
             Phase::Passing | Phase::Turning { no_body: _ } => true,
-        }
-    }
-
-    /// Does all that can be done with what came and what room there is.
-    pub fn step(&mut self)
-        requires sound { IsSoundAnswer self.old }
-        requires sending { stage_of self.old ≡ stage.Sending }
-        ensures answers { PutsOut self.old self.new }
-        ensures no_stall { (p : Exchange) → Answers self.old p → stage_of self.new ≡ stage.Sending → MayGoOn self.new }
-        ensures begun { has_begun self.old ≡ true → has_begun self.new ≡ true }
-        ensures last { shows_last (phase_of self.old) ≡ true → shows_last (phase_of self.new) ≡ true }
-        ensures whole { shows_last (phase_of self.old) ≡ true → source_of self.old ≡ source.Whole → source_of self.new ≡ source.Whole }
-        ensures keeps { ended_of self.new ≡ ended_of self.old }
-        ensures limits { limits_of self.new ≡ limits_of self.old }
-        ensures sound { IsSoundAnswer self.new }
-        ensures filters { (filters : List FilterSpec) → HasFilters self.old filters → HasFilters self.new filters }
-    {
-        match self.phase {
-            Phase::Heads => {}
-            Phase::Passing => self.pass_on(),
-            Phase::Turning { no_body } => self.turn_on(no_body),
-            Phase::Answering => self.answer_on(),
-        }
-    }
-
-    /// Puts out more of an interim head; heads are read on behind it.
-    fn pass_on(&mut self)
-        requires sound { IsSoundAnswer self.old }
-        requires at { phase_of self.old ≡ phase.Passing }
-        ensures answers { PutsOut self.old self.new }
-        ensures no_stall { (p : Exchange) → Answers self.old p → stage_of self.new ≡ stage.Sending → MayGoOn self.new }
-        ensures begun { has_begun self.old ≡ true → has_begun self.new ≡ true }
-        ensures last { shows_last (phase_of self.old) ≡ true → shows_last (phase_of self.new) ≡ true }
-        ensures whole { shows_last (phase_of self.old) ≡ true → source_of self.old ≡ source.Whole → source_of self.new ≡ source.Whole }
-        ensures keeps { ended_of self.new ≡ ended_of self.old }
-        ensures limits { limits_of self.new ≡ limits_of self.old }
-        ensures sound { IsSoundAnswer self.new }
-        ensures filters { (filters : List FilterSpec) → HasFilters self.old filters → HasFilters self.new filters }
-    {
-        if self.lane.show_on() {
-            self.lane.next();
-            self.phase = Phase::Heads;
-        }
-    }
-
-    /// Puts out more of an interim head, and then what stands in the first array.
-    fn turn_on(&mut self, no_body: bool)
-        requires sound { IsSoundAnswer self.old }
-        requires at { phase_of self.old ≡ phase.Turning no_body }
-        ensures answers { PutsOut self.old self.new }
-        ensures no_stall { (p : Exchange) → Answers self.old p → stage_of self.new ≡ stage.Sending → MayGoOn self.new }
-        ensures begun { has_begun self.old ≡ true → has_begun self.new ≡ true }
-        ensures last { shows_last (phase_of self.old) ≡ true → shows_last (phase_of self.new) ≡ true }
-        ensures whole { shows_last (phase_of self.old) ≡ true → source_of self.old ≡ source.Whole → source_of self.new ≡ source.Whole }
-        ensures keeps { ended_of self.new ≡ ended_of self.old }
-        ensures limits { limits_of self.new ≡ limits_of self.old }
-        ensures sound { IsSoundAnswer self.new }
-        ensures filters { (filters : List FilterSpec) → HasFilters self.old filters → HasFilters self.new filters }
-    {
-        if self.lane.show_on() {
-            self.lane.hide();
-            self.lane.say_msg(no_body);
-            self.phase = Phase::Answering;
-            self.answer_on();
-        }
-    }
-
-    /// Puts out more of the last that answers.
-    fn answer_on(&mut self)
-        requires sound { IsSoundAnswer self.old }
-        requires at { phase_of self.old ≡ phase.Answering }
-        requires sending { stage_of self.old ≡ stage.Sending }
-        ensures answers { PutsOut self.old self.new }
-        ensures no_stall { (p : Exchange) → Answers self.old p → stage_of self.new ≡ stage.Sending → MayGoOn self.new }
-        ensures begun { has_begun self.old ≡ true → has_begun self.new ≡ true }
-        ensures last { shows_last (phase_of self.old) ≡ true → shows_last (phase_of self.new) ≡ true }
-        ensures whole { shows_last (phase_of self.old) ≡ true → source_of self.old ≡ source.Whole → source_of self.new ≡ source.Whole }
-        ensures keeps { ended_of self.new ≡ ended_of self.old }
-        ensures limits { limits_of self.new ≡ limits_of self.old }
-        ensures sound { IsSoundAnswer self.new }
-        ensures filters { (filters : List FilterSpec) → HasFilters self.old filters → HasFilters self.new filters }
-    {
-        let before = self.lane.put();
-        self.lane.step();
-        if self.lane.put() > before {
-            self.begun = true;
         }
     }
 

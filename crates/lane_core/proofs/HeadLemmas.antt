@@ -12,7 +12,7 @@ use Rattle.htx_arena.specs.Contents.{Contents}
 use Rattle.http_model.specs.declared.Framing.{Framing}
 use Rattle.http_model.specs.declared.Limits.{Limits}
 use Rattle.http_model.specs.Sizes.{least_size}
-use Rattle.http_model.specs.Reading.{Begins}
+use Rattle.http_model.specs.Reading.{Received, Begins}
 use Rattle.h1_head.specs.Answers.{Keeps}
 use Rattle.h1_head.specs.Decides.{OnEachStream}
 use Rattle.lane_core.specs.Sends.{IsSound, IsReading}
@@ -99,3 +99,12 @@ received side l used input msg framing declared close whole r is items capacity 
           (Begins (record { head = keeps.head; framing = framing; declared = declared; close = close }) (left ++ more)))) (sym items) keeps.begins);
       received = keeps.received;
     }
+
+-- what follows a head is shorter than the bytes that begin with it
+pub head_takes : (side : Side) (limits : Limits) (window left : List ℕ) (whole : Bool) (got : Received) → ((limits : Limits) (stream : List ℕ) (got : Received) (rest : List ℕ) → HeadOf (kind_of side) limits stream (Begins got rest) → length rest < length stream)
+    → OnEachStream whole (λ more. HeadOf (kind_of side) limits (window ++ more) (Begins got (left ++ more))) → length left < length window
+head_takes side limits window left whole got bytes begins =
+    let less = bytes limits (window ++ []) got (left ++ []) (begins [] (λ _. refl)) in
+    let a : length (left ++ []) ≡ length left = ap length (append-nil left) in
+    let b : length (window ++ []) ≡ length window = ap length (append-nil window) in
+    omega arith

@@ -76,6 +76,7 @@ impl Lane {
         ensures filters { IfOk result (λ lane. AreThese lane.sieve filters.now) }
         ensures reading { IfOk result (λ lane. (side : Side) → IsReading side lane) }
         ensures input { IfOk result (λ lane. (lane.input.items ≡ []) × (lane.ended ≡ None)) }
+        ensures output { IfOk result (λ lane. lane.output.items ≡ []) }
         ensures limits { IfOk result (λ lane. lane.limits ≡ limits) }
     {
         stays_scanned();

@@ -1,12 +1,13 @@
 //! The head of the next message.
-ghost use Rattle.std.specs.Prelude.{◌≡◌};
+ghost use Rattle.std.specs.Prelude.{◌≡◌, ◌≤◌, ◌<◌, length};
 ghost use Rattle.h1_head.specs.declared.answer.Side.{Side};
 ghost use Rattle.lane_core.specs.Sends.{IsReading};
 ghost use Rattle.lane_core.specs.Heads.{HeadTells};
+ghost use Rattle.lane_core.specs.declared.stage.LaneHead.TheVariants as says;
 
 use crate::lane::Lane;
 use crate::stage::{LaneHead, Stage};
-use h1_head::laws::drops_lines;
+use h1_head::laws::{drops_lines, has_bytes};
 use h1_head::{HeadRead, Side};
 
 impl Lane {
@@ -17,9 +18,12 @@ impl Lane {
         ensures tells { HeadTells side self.old self.new result }
         ensures same { (self.new.limits ≡ self.old.limits) × (self.new.ended ≡ self.old.ended) }
         ensures sieve { self.new.sieve ≡ self.old.sieve }
+        ensures shrinks { length self.new.input.items ≤ length self.old.input.items }
+        ensures takes { result ≡ says.Head → length self.new.input.items < length self.old.input.items }
         ensures still { (self.new.output ≡ self.old.output) × (self.new.out ≡ self.old.out) × (self.new.dropped ≡ self.old.dropped) }
     {
         drops_lines();
+        has_bytes();
         let whole = self.ended.is_some();
         match self
             .input

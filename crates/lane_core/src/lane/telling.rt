@@ -30,6 +30,7 @@ impl Lane {
         ensures filters { (filters : List FilterSpec) → AreThese self.old.sieve filters → AreThese self.new.sieve filters }
         ensures sound { IsSound self.new }
         ensures list { list.new.blocks ≡ [] }
+        ensures list_size { list.new.size ≡ list.old.size }
         ensures stage { (self.new.stage ≡ stage.Sending) × (self.new.source ≡ source.Whole) }
         ensures same { (self.new.input ≡ self.old.input) × (self.new.ended ≡ self.old.ended) × (self.new.output ≡ self.old.output) × (self.new.dropped ≡ self.old.dropped) × (self.new.limits ≡ self.old.limits) }
     {
@@ -43,6 +44,7 @@ impl Lane {
         requires size { self.old.msg.size ≡ self.old.limits.bufsize }
         requires fits { Fits list.old.blocks self.old.limits.bufsize }
         ensures list { list.new.blocks ≡ [] }
+        ensures list_size { list.new.size ≡ list.old.size }
         ensures flow { flow self.new.msg.blocks ≡ flow list.old.blocks }
         ensures same { self.new ≡ record self.old { msg = self.new.msg } }
         ensures size { self.new.msg.size ≡ self.old.msg.size }

@@ -24,3 +24,6 @@ returns-clause-answers c = λ p got a e is blocks.
           (came_same c.args.self.now.lane c.show.new.self (record { limits = limits; ended = ended }) p.asked (p.read ++ got.head ∷ []) p.bytes c.args.self.now.lane.input.items
           (came_behind c.args.self.now p h got e is)),
     )
+
+pub returns-clause-keeps : goal.returns-clause-keeps
+returns-clause-keeps c = (c.show.ensures.same.0 ∙ ap (λ (l : Lane). l.input) c.strip.ensures.same, refl)

@@ -1,4 +1,4 @@
-use Rattle.std.proofs.Common.{◌≡◌, List, ℕ, ◌++◌, Bool, sym, ap, ◌∙◌, subst, append_assoc}
+use Rattle.std.proofs.Common.{◌≡◌, List, ℕ, ◌++◌, Bool, sym, ap, ◌∙◌, subst, append_assoc, length, arith}
 use Rattle.wire_buf.specs.Buffer.{Buffer}
 use Rattle.htx_model.specs.Blocks.{flow}
 use Rattle.http_model.specs.Head.{front_blocks}
@@ -66,3 +66,15 @@ returns-else-show_on-clause-answers c =
             (h.3.0, h.3.1, h.3.2, ap (λ (l : Lane). flow l.msg.blocks) same ∙ h.3.3),
           );
     }
+
+pub returns-then-show_on-clause-shrinks : goal.returns-then-show_on-clause-shrinks
+returns-then-show_on-clause-shrinks c =
+    let input = c.say_msg.ensures.same.0 ∙ ap (λ (l : Lane). l.input) c.hide.ensures.same ∙ ap (λ (l : Lane). l.input) c.show_on.ensures.same in
+    let e : length c.say_msg.new.self.input.items ≡ length c.args.self.now.lane.input.items = ap (λ (b : Buffer ℕ). length b.items) input in
+    let less = c.answer_on.ensures.shrinks in
+    omega arith
+
+pub returns-else-show_on-clause-shrinks : goal.returns-else-show_on-clause-shrinks
+returns-else-show_on-clause-shrinks c =
+    let e : length c.show_on.new.self.input.items ≡ length c.args.self.now.lane.input.items = ap (λ (l : Lane). length l.input.items) c.show_on.ensures.same in
+    omega arith

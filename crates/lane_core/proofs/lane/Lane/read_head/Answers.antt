@@ -1,10 +1,11 @@
-use Rattle.std.proofs.Common.{◌≡◌, ℕ, Bool, true, false, ap, sym, ◌∙◌, subst, drop, Option, Some, None, refl}
+use Rattle.std.proofs.Common.{◌≡◌, ℕ, ◌≤◌, Bool, true, false, ap, sym, ◌∙◌, subst, length, drop, Option, Some, None, refl, arith}
+use Rattle.std.proofs.lemmas.List.{length-drop}
 use Rattle.std.specs.Prelude.{is_some}
 use Rattle.wire_buf.specs.Buffer.{Buffer}
 use Rattle.http_model.specs.declared.Ending.{Ending}
 use Rattle.h1_head.specs.Sides.{kind_of}
 use Rattle.h1_head.specs.Decides.{MayWait}
-use Rattle.lane_core.proofs.HeadLemmas.{looked, received}
+use Rattle.lane_core.proofs.HeadLemmas.{looked, received, head_takes}
 use Rattle.lane_core.proofs.lane.Lane.read_head.Goals as goal
 
 not_ended : (o : Option Ending) (whole : Bool) → whole ≡ is_some o → whole ≡ false → o ≡ None
@@ -28,3 +29,30 @@ returns-in-Head-clause-tells c =
     let got = c.in-Head.ensures in
     received c.args.side l c.in-Head.used c.drop_front-in-Head.new.self c.read_head.new.to c.in-Head.framing c.in-Head.declared c.in-Head.close c.is_some-whole.result c.requires c.is_some-whole.ensures
     (c.drop_front-in-Head.ensures.items ∙ ap (λ (b : Buffer ℕ). drop c.in-Head.used b.items) got.same) (c.drop_front-in-Head.ensures.capacity ∙ ap (λ (b : Buffer ℕ). b.capacity) got.same) got.head got.size
+
+left_is : (input : Buffer ℕ) (old kept : Buffer ℕ) (n : ℕ) → input.items ≡ drop n kept.items → kept ≡ old → input.items ≡ drop n old.items
+left_is input old kept n items same = items ∙ ap (λ (b : Buffer ℕ). drop n b.items) same
+
+fewer : (input : Buffer ℕ) (old kept : Buffer ℕ) (n : ℕ) → input.items ≡ drop n kept.items → kept ≡ old → length input.items ≤ length old.items
+fewer input old kept n items same =
+    let e : length input.items ≡ length (drop n old.items) = ap length (left_is input old kept n items same) in
+    let d = length-drop n old.items in
+    omega arith
+
+pub returns-in-Head-clause-takes : goal.returns-in-Head-clause-takes
+returns-in-Head-clause-takes c = λ is.
+    let l = c.args.self.now in
+    let got = c.in-Head.ensures in
+    let k = got.head in
+    let less = head_takes c.args.side l.limits l.input.items (drop c.in-Head.used l.input.items) c.is_some-whole.result (record { head = k.head; framing = c.in-Head.framing; declared = c.in-Head.declared; close = c.in-Head.close }) (c.has_bytes.ensures c.args.side) k.begins in
+    let e : length c.drop_front-in-Head.new.self.items ≡ length (drop c.in-Head.used l.input.items) = ap length (left_is c.drop_front-in-Head.new.self l.input c.read_head.new.self c.in-Head.used c.drop_front-in-Head.ensures.items got.same) in
+    omega arith
+
+pub returns-in-Head-clause-shrinks : goal.returns-in-Head-clause-shrinks
+returns-in-Head-clause-shrinks c = fewer c.drop_front-in-Head.new.self c.args.self.now.input c.read_head.new.self c.in-Head.used c.drop_front-in-Head.ensures.items c.in-Head.ensures.same
+
+pub returns-then-whole-clause-shrinks : goal.returns-then-whole-clause-shrinks
+returns-then-whole-clause-shrinks c = fewer c.drop_front.new.self c.args.self.now.input c.read_head.new.self c.in-More.skip c.drop_front.ensures.items c.in-More.ensures.same
+
+pub returns-else-whole-clause-shrinks : goal.returns-else-whole-clause-shrinks
+returns-else-whole-clause-shrinks c = fewer c.drop_front.new.self c.args.self.now.input c.read_head.new.self c.in-More.skip c.drop_front.ensures.items c.in-More.ensures.same
