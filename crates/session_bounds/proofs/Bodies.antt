@@ -1,6 +1,6 @@
 -- The data and the trailers of a body are no longer than the bytes that they were read from allow.
-use Rattle.std.proofs.Common.{◌≡◌, ℕ, suc, zero, ◌+◌, ◌*◌, ◌-◌, ◌<◌, ◌≤◌, ◌⊎◌, inl, inr, Bool, true, false, List, [], ◌∷◌, ◌++◌, length, refl, sym, ap, ◌∙◌, subst, length-append, arith}
-use Rattle.std.specs.Prelude.{Option, Some, None, if◌then◌else◌, ◌==◌, nat_le}
+use Rattle.std.proofs.Common.{◌≡◌, ℕ, ◌+◌, ◌*◌, ◌-◌, ◌≤◌, Bool, true, false, List, [], ◌∷◌, ◌++◌, length, refl, ap, length-append, arith}
+use Rattle.std.specs.Prelude.{Some, if◌then◌else◌, ◌==◌, nat_le}
 use Rattle.std.specs.List.{fold, flat_map}
 use Rattle.httparse.specs.Grammar.{print_end, print_field}
 use Rattle.httparse.specs.Grammar as grammar
@@ -15,7 +15,7 @@ use Rattle.http_model.specs.Spelling.{fields_text}
 use Rattle.h1_body.specs.declared.line.LinePlace.{LinePlace}
 use Rattle.h1_body.specs.declared.line.LinePlace.TheVariants.{Digits, Blanks, Extension, Return, Ended, Dead}
 use Rattle.h1_body.specs.Line.{next_line, goes_on}
-use Rattle.h1_body.specs.Body.{BodyAt, Left, UntilClose, InLine, InData, AtReturn, AtFeed, InSection, Over, Hopeless, line_start, after_size, in_line, after_line, step, takes_data, data_in, Goes}
+use Rattle.h1_body.specs.Body.{BodyAt, Left, UntilClose, InLine, InData, AtReturn, AtFeed, InSection, Over, Hopeless, line_start, after_line, step, takes_data, data_in, Goes}
 use Rattle.h1_body.specs.Section.{section_limit, BeginsSection, trailers_of, is_kept}
 use Rattle.h1_body.specs.Stands.{start_of}
 use Rattle.h1_body.specs.BodyOf.{Reads, Tells, BodyOf}

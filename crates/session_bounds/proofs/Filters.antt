@@ -1,12 +1,12 @@
 -- Filters make at most 256 bytes of one.
-use Rattle.std.proofs.Common.{◌≡◌, ℕ, suc, zero, ◌+◌, ◌*◌, ◌-◌, ◌<◌, ◌≤◌, ◌⊎◌, inl, inr, Bool, true, false, cond, List, [], ◌∷◌, ◌++◌, length, take, refl, sym, ap, ◌∙◌, subst, length-append, arith}
+use Rattle.std.proofs.Common.{◌≡◌, ℕ, suc, zero, ◌+◌, ◌*◌, ◌-◌, ◌≤◌, ◌⊎◌, inl, inr, Bool, true, false, cond, List, [], ◌∷◌, length, take, refl, sym, ap, ◌∙◌, length-append, arith}
 use Rattle.std.specs.Prelude.{Option, Some, None, if◌then◌else◌, ◌&&◌, not, nat_le, count_by, ⊤}
 use Rattle.std.proofs.lemmas.List.Sums.{sum_by-cons}
 use Rattle.body_filter.specs.declared.filter_spec.FilterSpec.{FilterSpec}
 use Rattle.body_filter.specs.declared.filter_spec.FilterSpec.TheVariants.{Limit, Deny, Replace}
 use Rattle.body_filter.specs.declared.filter_spec.FedState.{FedState}
 use Rattle.body_filter.specs.declared.filter_spec.FedState.TheVariants.{Going, Over, Refused}
-use Rattle.body_filter.specs.Filter.{Filtered, ended, behind, end_of, is_over, begins, limited, matched, searched, filtered_by, joined, through, passed, filtered}
+use Rattle.body_filter.specs.Filter.{Filtered, ended, behind, end_of, is_over, begins, matched, searched, filtered_by, joined, filtered}
 use Rattle.body_filter.specs.Valid.{IsFilter, AreFilters}
 use Rattle.http_rules.specs.Valid.{is_replace}
 use Rattle.proxy_meaning.specs.Product.{refused_in}

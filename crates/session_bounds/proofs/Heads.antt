@@ -1,6 +1,6 @@
 -- The text of a received head is at most twice the bytes that it was read from.
-use Rattle.std.proofs.Common.{◌≡◌, ℕ, suc, zero, ◌+◌, ◌*◌, ◌^◌, ◌<◌, ◌≤◌, ◌⊎◌, inl, inr, Bool, true, false, List, [], ◌∷◌, ◌++◌, length, reverse, map, refl, sym, ap, ◌∙◌, subst, length-append, arith}
-use Rattle.std.specs.Prelude.{Option, Some, None, Result, Ok, Err, if◌then◌else◌, not, ◌&&◌, ◌==◌, nat_le, codes, decimal, sum_by}
+use Rattle.std.proofs.Common.{◌≡◌, ℕ, ◌+◌, ◌*◌, ◌^◌, ◌<◌, ◌≤◌, ◌⊎◌, inl, inr, Bool, true, false, List, [], ◌∷◌, ◌++◌, length, reverse, map, refl, sym, ap, ◌∙◌, length-append, arith}
+use Rattle.std.specs.Prelude.{Option, Some, None, Ok, Err, if◌then◌else◌, not, ◌&&◌, ◌==◌, nat_le, decimal, sum_by}
 use Rattle.std.specs.Char.{digit_value, is_ascii_digit}
 use Rattle.std.specs.List.{flat_map, filter}
 use Rattle.std.specs.Str.{str_to_ascii_lowercase}
@@ -197,7 +197,6 @@ behind_short (a ∷ b ∷ bytes) = two (a == 10) (a == 13 && b == 10) (behind_sh
 kept_size : (h : ResponseHead) (framed : Framing) → IsResponseHead h
     → length (head_text (finish_interim (kept_reading (status_line (response_parts_of h)) framed (map name_and_value h.fields)).head)) ≤ 2 * length (print_response h)
 kept_size h framed is =
-    let fields = map name_and_value h.fields in
     let i = interim_short (kept_head (status_line (response_parts_of h)) (map name_and_value h.fields)) in
     let k = kept_short (is_kept (map name_and_value h.fields)) h.fields in
     let l = line_size (print_version h.minor) (decimal (status_code h)) (reason_phrase h.reason) in

@@ -1,4 +1,4 @@
-use Rattle.std.proofs.Common.{ℕ, ◌<◌, ◌≤◌, List, length, true, arith}
+use Rattle.std.proofs.Common.{true, arith}
 use Rattle.h1_head.specs.declared.answer.Side.TheVariants as sides
 use Rattle.session_bounds.proofs.Filters.{chain_short, chain_refuses}
 use Rattle.session_bounds.proofs.Heads.{head_short}
