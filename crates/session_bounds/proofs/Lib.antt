@@ -1,0 +1,4 @@
+pub mod Filters
+pub mod Heads
+pub mod Bodies
+pub mod Refusals

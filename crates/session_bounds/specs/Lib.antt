@@ -1,0 +1,1 @@
+pub use Rattle.session_laws.specs.Bound
