@@ -7,7 +7,7 @@ ghost use Rattle.proxy_meaning.specs.Product.{meaning_of};
 ghost use Rattle.session_laws.specs.Bound.{IsBounded};
 
 use h1_head::laws::has_bytes;
-use session_rules::laws::replies_are_plain;
+use http_rules::replies_are_plain;
 
 /// Readers use up what they read, a filter makes at most 256 bytes of one, refusals on which no rule runs fit the buffer, and no
 /// reply is chunked: the bound on the texts of a session holds for each valid configuration.
