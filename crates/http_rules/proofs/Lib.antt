@@ -1,3 +1,4 @@
 pub mod Runs
 pub mod Bodies
 pub mod Asked
+pub mod Replies

@@ -1,11 +1,28 @@
 //! What holds of the meaning of rules, whichever they are.
-ghost use Rattle.std.specs.Prelude.{◌≡◌, ℕ, List};
-ghost use Rattle.session_model.specs.Env.{Pass};
+ghost use Rattle.std.specs.Prelude.{◌≡◌, ◌≢◌, ℕ, List, [], true};
+ghost use Rattle.http_model.specs.declared.Framing.TheVariants.{Chunked};
+ghost use Rattle.http_model.specs.Blocks.{Fits};
+ghost use Rattle.http_model.specs.Head.{Message, message_blocks};
+ghost use Rattle.http_model.specs.Refusal.{closing};
+ghost use Rattle.http_model.specs.Spelling.{SpellsBody};
+ghost use Rattle.session_model.specs.Env.{Pass, Reply};
+ghost use Rattle.rule_model.specs.declared.names.Direction.{Direction};
 ghost use Rattle.rule_model.specs.declared.rule.Rule.{Rule};
+ghost use Rattle.rule_model.specs.Valid.{AreRules};
 ghost use Rattle.rule_actions.specs.Given.{Env};
 ghost use Rattle.http_rules.specs.Rules.{rules_of};
 
 /// Rules that pass leave the body behind the head.
 pub fn body_stays()
     ensures { (size : ℕ) (rules : List Rule) (env left : Env) → rules_of size rules env ≡ Pass left → left.body ≡ env.body }
+{}
+
+/// A reply of rules has no trailers, is not chunked, and fits with `connection: close`. That of rules which a configuration may
+/// have is sent with its body as it is.
+pub fn replies_are_plain()
+    ensures trailers { (size : ℕ) (rules : List Rule) (env left : Env) (m : Message) → rules_of size rules env ≡ Reply m left → m.trailers ≡ [] }
+    ensures framing { (size : ℕ) (rules : List Rule) (env left : Env) (m : Message) → rules_of size rules env ≡ Reply m left → m.framing ≢ Chunked }
+    ensures fits { (size : ℕ) (rules : List Rule) (env left : Env) (m : Message) → rules_of size rules env ≡ Reply m left → Fits (message_blocks (closing m)) size }
+    ensures body { (size : ℕ) (direction : Direction) (rules : List Rule) (env left : Env) (m : Message) → AreRules direction rules → rules_of size rules env ≡ Reply m left
+        → SpellsBody true m.framing m.body m.trailers m.body }
 {}

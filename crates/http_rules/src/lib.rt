@@ -10,7 +10,7 @@ mod verdict;
 pub use body_filter::FilterSpec;
 pub use config::{Config, Filters};
 pub use http_model::{Limits, Why};
-pub use laws::body_stays;
+pub use laws::{body_stays, replies_are_plain};
 pub use lives::{begin_answer, begin_exchange};
 pub use px_expr::Searchers;
 pub use px_link::{Address, OutOfMemory};
