@@ -8,3 +8,9 @@ pub mod Views
 pub mod Saying
 pub mod Listed
 pub mod Putting
+pub mod ReadLemmas
+pub mod SettleLemmas
+pub mod VerdictLemmas
+pub mod JudgeLemmas
+pub mod LastLemmas
+pub mod StepLemmas

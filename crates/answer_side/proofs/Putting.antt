@@ -25,7 +25,7 @@ pub record Puts (old new : ResponseLane) (more : List ℕ) : Type 0 where
   pub ended : ended_of new ≡ ended_of old
   pub last : shows_last (phase_of old) ≡ true → shows_last (phase_of new) ≡ true
 
-in_hand_puts : (asker : Asker) (old new : ResponseLane) (server : Coming) (put : List ℕ) (e : Exchange) (more : List ℕ) → Puts old new more → IsInHand asker old server put e → IsInHand asker new server (put ++ more) (with_put e more)
+pub in_hand_puts : (asker : Asker) (old new : ResponseLane) (server : Coming) (put : List ℕ) (e : Exchange) (more : List ℕ) → Puts old new more → IsInHand asker old server put e → IsInHand asker new server (put ++ more) (with_put e more)
 in_hand_puts asker old new server put e more t h =
     record { answers = t.answers e h.answers; asked = h.asked; bytes = h.bytes; ending = t.ended ∙ h.ending; passed = h.passed; put_is = ap (λ xs. xs ++ more) h.put_is }
 

@@ -32,7 +32,7 @@ seen_same a b is_open room window told answered begun heard at_rest = λ i. reco
 pub fits_same : (at : Place) (old new : AnswerSide) → new.heard ≡ old.heard → stage_of new.lane ≡ stage_of old.lane → has_begun new.lane ≡ has_begun old.lane → phase_of new.lane ≡ phase_of old.lane → source_of new.lane ≡ source_of old.lane
     → FitsAt at old → FitsAt at new
 fits_same place.Idle old new heard st begun ph src f = (st ∙ f.0, begun ∙ f.1, heard ∙ f.2)
-fits_same place.Heads old new heard st begun ph src f = (begun ∙ f.0, ap shows_last ph ∙ f.1, λ done. f.2 (sym st ∙ done))
+fits_same place.Heads old new heard st begun ph src f = (begun ∙ f.0, ap shows_last ph ∙ f.1, (λ done. f.2 (sym st ∙ done)), (λ head. f.3 (sym st ∙ head)))
 fits_same place.Response old new heard st begun ph src f = ap shows_last ph ∙ f
 fits_same place.Closing old new heard st begun ph src f = (ap shows_last ph ∙ f.0, src ∙ f.1)
 fits_same place.Keeping old new heard st begun ph src f = (ap shows_last ph ∙ f.0, src ∙ f.1)

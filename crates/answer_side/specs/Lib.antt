@@ -3,8 +3,12 @@ pub use Rattle.session_core.specs.Sided
 pub use Rattle.session_core.specs.Leads
 pub use Rattle.session_core.specs.Lanes
 pub use Rattle.lane.specs.Answering
+pub use Rattle.session_rules.specs.Ruling
 pub mod Seen
 pub mod Stands
 pub mod Said
 pub mod Listed
 pub mod Lent
+pub mod Stepping
+pub mod Hearing
+pub mod Judging

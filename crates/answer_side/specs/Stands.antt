@@ -129,7 +129,8 @@ pub record AnswerStands (cfg : Config) (side : AnswerSide) (asking : Asking Vari
 -- by its place where the lane stands
 abbrev pub FitsAt : Place → AnswerSide → Type 0
 FitsAt place.Idle side = (stage_of side.lane ≡ stage.Reading) × (has_begun side.lane ≡ false) × (side.heard ≡ false)
-FitsAt place.Heads side = (has_begun side.lane ≡ false) × (shows_last (phase_of side.lane) ≡ false) × (stage_of side.lane ≢ stage.Done)
+FitsAt place.Heads side =
+    (has_begun side.lane ≡ false) × (shows_last (phase_of side.lane) ≡ false) × (stage_of side.lane ≢ stage.Done) × (stage_of side.lane ≢ stage.Head)
 FitsAt place.Response side = shows_last (phase_of side.lane) ≡ true
 FitsAt place.Closing side = (shows_last (phase_of side.lane) ≡ true) × (source_of side.lane ≡ source.Whole)
 FitsAt place.Keeping side = (shows_last (phase_of side.lane) ≡ true) × (source_of side.lane ≡ source.Whole)

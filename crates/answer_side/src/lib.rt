@@ -2,6 +2,8 @@
 #![tactic(auto)]
 
 mod asker;
+mod framing;
+mod hearing;
 pub mod laws;
 mod place;
 mod side;

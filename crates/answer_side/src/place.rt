@@ -9,9 +9,9 @@ pub enum Place {
     Heads,
     /// The server's response.
     Response,
-    /// In its place a refusal, or a reply behind which the connection is closed.
+    /// In its place a refusal, or the plain one.
     Closing,
-    /// In its place a reply behind which the connection is kept.
+    /// In its place a reply of the rules, which closes the connection only where it may not be kept.
     Keeping,
     /// What no server answers: the refusal or the reply of a request, or the refusal of a cut one.
     Saying,

@@ -10,8 +10,12 @@ ghost use Rattle.answer_side.specs.Seen.{seen, place_of, asker_of};
 ghost use Rattle.answer_side.specs.Stands.{AnswerStands, IsSoundSide, IsAsker};
 ghost use Rattle.answer_side.specs.declared.place.Place.TheVariants as place;
 
+mod instead;
+mod judging;
 mod putting;
+mod reading;
 mod saying;
+mod stepping;
 mod views;
 
 use crate::asker::Asker;

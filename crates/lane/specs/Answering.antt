@@ -280,6 +280,13 @@ HeadComes p new says.Head =
     × IsReceived (kind_of (Response p.asked)) new.lane.limits got.head
 HeadComes p new (says.Refuse code) = Answers new p × (new.lane.stage ≡ stage.Done) × (code ≡ 502)
 
+-- what stands there then, whatever the exchange: none of the answers is `Nothing`
+abbrev pub HeadStands : LaneHead → ResponseLane → Type 0
+HeadStands says.More new = new.lane.stage ≡ stage.Reading
+HeadStands says.Nothing new = ⊥
+HeadStands says.Head new = (new.lane.stage ≡ stage.Head) × ((head : Head) × (new.lane.msg.blocks ≡ head_blocks head))
+HeadStands (says.Refuse code) new = new.lane.stage ≡ stage.Done
+
 -- a step puts out text, and the lane stands for the exchange with it
 pub record PutsOut (old new : ResponseLane) : Type 0 where
   pub put : List ℕ
@@ -303,6 +310,11 @@ shows_last phase.Heads = false
 shows_last phase.Passing = false
 shows_last (phase.Turning no_body) = true
 shows_last phase.Answering = true
+
+-- heads are read on, or an interim one still goes out
+pub record IsAmongHeads (lane : ResponseLane) : Type 0 where
+  pub first : shows_last (phase_of lane) ≡ false
+  pub stage : (stage_of lane ≡ stage.Sending) ⊎ (stage_of lane ≡ stage.Reading)
 
 -- ---- the contract
 

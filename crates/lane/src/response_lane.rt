@@ -8,7 +8,7 @@ ghost use Rattle.http_model.specs.Sizes.{least_size, most_size, least_head};
 ghost use Rattle.body_filter.specs.Valid.{AreFilters};
 ghost use Rattle.body_filter.specs.declared.filter_spec.FilterSpec.{FilterSpec};
 ghost use Rattle.http_model.specs.Head.{front_blocks};
-ghost use Rattle.lane.specs.Answering.{Exchange, Answers, HeadComes, is_interim, IsOpen, with_bytes, passes, drops, serves, replies, fresh, IsSoundAnswer, HasFilters, shows_head, shows_last, stage_of, source_of, input_of, came_in, most_of, ended_of, output_of, window_of, limits_of, array_of, blocks_of, has_begun, phase_of};
+ghost use Rattle.lane.specs.Answering.{Exchange, Answers, HeadComes, HeadStands, is_interim, IsOpen, with_bytes, passes, drops, serves, replies, fresh, IsSoundAnswer, HasFilters, shows_head, shows_last, stage_of, source_of, input_of, came_in, most_of, ended_of, output_of, window_of, limits_of, array_of, blocks_of, has_begun, phase_of};
 ghost use Rattle.lane.specs.declared.phase.Phase.TheVariants as phase;
 ghost use Rattle.lane_core.specs.declared.stage.LaneHead.TheVariants as says;
 ghost use Rattle.lane_core.specs.declared.stage.Stage.TheVariants as stage;
@@ -106,6 +106,7 @@ impl ResponseLane {
         ensures same { (window_of self.new ≡ window_of self.old) × (ended_of self.new ≡ ended_of self.old) × (has_begun self.new ≡ has_begun self.old) }
         ensures phase { phase_of self.new ≡ phase_of self.old }
         ensures shrinks { length (input_of self.new) ≤ length (input_of self.old) }
+        ensures stands { HeadStands result self.new }
         ensures takes { result ≡ says.Head → length (input_of self.new) < length (input_of self.old) }
         ensures limits { limits_of self.new ≡ limits_of self.old }
         ensures sound { IsSoundAnswer self.new }

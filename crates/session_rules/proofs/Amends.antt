@@ -1,6 +1,6 @@
 -- What the rules on all that a client is sent leave of a reply.
 use Rattle.std.proofs.Common.{inl, inr, ◌≡◌, ◌≤◌, ℕ, List, [], ◌++◌, Bool, true, false, map, refl, sym, ap, subst, ◌∙◌}
-use Rattle.std.specs.Prelude.{nat_le, ◌↔◌, IsTrue}
+use Rattle.std.specs.Prelude.{None, nat_le, ◌↔◌, ◌&&◌, IsTrue}
 use Rattle.std.proofs.lemmas.Bool.{cases_Bool, le-leb, leb-true, false≢true}
 use Rattle.std.proofs.lemmas.List.{append-nil}
 use Rattle.http_model.specs.Block.{Block, Header}
@@ -12,7 +12,8 @@ use Rattle.proxy_meaning.specs.Product.{meaning_of}
 use Rattle.http_model.specs.Head.{Head, Message, with_head, head_blocks, front_blocks, message_blocks, ended_trailers, trailer_block}
 use Rattle.http_model.specs.Refusal.{closing}
 use Rattle.session_model.specs.Env.{Pass, Reply, Deny, Fail, Amended, Edited, Plain, reply_env}
-use Rattle.session_model.specs.Amending.{closing_fits, plain_refusal}
+use Rattle.session_model.specs.Meaning.{Meaning}
+use Rattle.session_model.specs.Amending.{amended, behind_reply, closing_fits, plain_refusal}
 use Rattle.px_sample.specs.Variables.{Variables}
 use Rattle.rule_model.specs.declared.rule.Rule.{Rule}
 use Rattle.rule_actions.specs.Given.{Env}
@@ -21,7 +22,7 @@ use Rattle.http_rules.specs.declared.verdict.Verdict.{Verdict}
 use Rattle.http_rules.specs.declared.verdict.Verdict.TheVariants as verdicts
 use Rattle.http_rules.specs.Rules.{Comes, rules_of, amended_by, after_of}
 use Rattle.http_rules.specs.Run.{Leaves}
-use Rattle.session_rules.specs.Ruling.{is_pass, AmendsFront, AmendsHead, IsReply, SaysReply}
+use Rattle.session_rules.specs.Ruling.{is_pass, AmendsFront, AmendsHead, IsReply, AmendsReply, SaysReply, kept_with}
 
 -- a body that stays behind the head
 abbrev pub Stays : Type 0
@@ -86,10 +87,10 @@ module _ (cfg : Config) (m : Message) (method : List ℕ) (vars : Variables) (be
   of_reply edited run = run m.head m.body (reply.blocks ∙ front_of m reply.none)
 
   -- a rule fails
-  pub failed : (keep : Bool) (said : List Block) (left : Variables) (edited : Bool) → edited ≡ false → Run edited → said ≡ message_blocks plain_refusal → SaysReply cfg m method vars keep false said left
+  pub failed : (keep : Bool) (said : List Block) (left : Variables) (edited : Bool) → edited ≡ false → Run edited → said ≡ message_blocks plain_refusal → AmendsReply cfg m method vars keep false said left
   failed keep said left edited off run is = by ((meaning_of cfg).after_rules (reply_env vars method m)) refl (of_reply false (subst Run off run))
     where
-      by : (a : Amended Variables) → (meaning_of cfg).after_rules (reply_env vars method m) ≡ a → AmendsFront m.body a false between now → SaysReply cfg m method vars keep false said left
+      by : (a : Amended Variables) → (meaning_of cfg).after_rules (reply_env vars method m) ≡ a → AmendsFront m.body a false between now → AmendsReply cfg m method vars keep false said left
       by (Edited head after) e h = absurd h
       by Plain e h = record { says = is ∙ rw e refl; behind = rw e refl }
 
@@ -125,21 +126,41 @@ module _ (cfg : Config) (m : Message) (method : List ℕ) (vars : Variables) (be
         ∙ ap (λ bs. nat_le (load bs) size) (sym closed) ∙ fits_so (load (with_header (Header close_field.0 close_field.1) between)) size room tells
 
     -- it is too long with that field
-    pub too_long : (keep : Bool) (said : List Block) (left : Variables) → room ≡ false → said ≡ message_blocks plain_refusal → SaysReply cfg m method vars keep false said left
+    pub too_long : (keep : Bool) (said : List Block) (left : Variables) → room ≡ false → said ≡ message_blocks plain_refusal → AmendsReply cfg m method vars keep false said left
     too_long keep said left tight is =
         let fits : closing_fits (meaning_of cfg) (with_head m edits.head) ≡ false = within ∙ tight in
         record { says = is ∙ rw edits.edits (rw fits refl); behind = rw edits.edits (rw fits refl) }
 
     -- the connection goes on
-    pub goes_on : room ≡ true → (keep : Bool) → keep ≡ true → SaysReply cfg m method vars keep keep between now
+    pub goes_on : room ≡ true → (keep : Bool) → keep ≡ true → AmendsReply cfg m method vars keep true between now
     goes_on fit true kept =
         let fits : closing_fits (meaning_of cfg) (with_head m edits.head) ≡ true = within ∙ fit in
         record { says = edits.blocks ∙ rw edits.edits (rw fits refl); behind = rw edits.edits (rw fits refl) }
     goes_on fit false kept = absurd (false≢true kept)
 
     -- or closes
-    pub shut : room ≡ true → (said : List Block) → said ≡ with_header (Header close_field.0 close_field.1) between → (keep : Bool) → keep ≡ false → SaysReply cfg m method vars keep keep said now
+    pub shut : room ≡ true → (said : List Block) → said ≡ with_header (Header close_field.0 close_field.1) between → (keep : Bool) → keep ≡ false → AmendsReply cfg m method vars keep true said now
     shut fit said is true kept = absurd (false≢true (sym kept))
     shut fit said is false kept =
         let fits : closing_fits (meaning_of cfg) (with_head m edits.head) ≡ true = within ∙ fit in
         record { says = is ∙ closed ∙ rw edits.edits (rw fits refl); behind = rw edits.edits (rw fits refl) }
+
+-- ---- whether the connection goes on
+
+-- behind a reply that closes nothing goes on
+never_kept : (M : Meaning) (m : Message) (method : List ℕ) (vars : M.Vars) → behind_reply M m method vars false ≡ None
+never_kept M m method vars = by (amended M m method vars) refl
+  where
+    by : (x : Amended M.Vars) → amended M m method vars ≡ x → behind_reply M m method vars false ≡ None
+    by (Edited head after) e = rw e refl
+    by Plain e = rw e refl
+
+pub reply_kept : (cfg : Config) (m : Message) (method : List ℕ) (vars : Variables) (keep edited : Bool) (said : List Block) (now : Variables) → AmendsReply cfg m method vars keep edited said now → SaysReply cfg m method vars keep (edited && keep) said now
+reply_kept cfg m method vars true true said now a = record { says = a.says; behind = a.behind }
+reply_kept cfg m method vars true false said now a = record { says = a.says; behind = a.behind }
+reply_kept cfg m method vars false true said now a = record { says = a.says; behind = never_kept (meaning_of cfg) m method vars }
+reply_kept cfg m method vars false false said now a = record { says = a.says; behind = never_kept (meaning_of cfg) m method vars }
+
+pub reply_plain : (cfg : Config) (m : Message) (method : List ℕ) (vars : Variables) (keep edited : Bool) (said : List Block) (now : Variables) → edited ≡ false → AmendsReply cfg m method vars keep edited said now → SaysReply cfg m method vars keep edited said now
+reply_plain cfg m method vars keep true said now off a = absurd (false≢true (sym off))
+reply_plain cfg m method vars keep false said now off a = reply_kept cfg m method vars keep false said now a

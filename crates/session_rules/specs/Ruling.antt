@@ -62,6 +62,12 @@ pub record SaysReply (cfg : Config) (m : Message) (method : List ℕ) (vars : Va
   pub says : said ≡ message_blocks (reply_sent (meaning_of cfg) m method vars keep)
   pub behind : behind_reply (meaning_of cfg) m method vars keep ≡ kept_with kept now
 
+-- What is said for a reply, as the rules on all that the client is sent leave it. Where they edited it, these are the variables behind
+-- it, whether the connection is kept or not; else it is plain.
+pub record AmendsReply (cfg : Config) (m : Message) (method : List ℕ) (vars : Variables) (keep edited : Bool) (said : List Block) (now : Variables) : Type 0 where
+  pub says : said ≡ message_blocks (reply_sent (meaning_of cfg) m method vars keep)
+  pub behind : behind_reply (meaning_of cfg) m method vars true ≡ kept_with edited now
+
 -- a message without trailers stands to be said
 pub record IsReply (m : Message) (said : List Block) : Type 0 where
   pub blocks : said ≡ message_blocks m

@@ -4,7 +4,7 @@ ghost use Rattle.http_model.specs.Head.{Message, message_blocks};
 ghost use Rattle.http_model.specs.Refusal.{refusal, closing};
 ghost use Rattle.session_model.specs.Amending.{refusal_sent, plain_refusal};
 ghost use Rattle.proxy_meaning.specs.Product.{meaning_of};
-ghost use Rattle.session_rules.specs.Ruling.{IsReady, config_of, holds_pattern, HasReply, IsReply, SaysReply};
+ghost use Rattle.session_rules.specs.Ruling.{IsReady, config_of, holds_pattern, HasReply, IsReply, AmendsReply, SaysReply};
 
 use crate::rules::SessionRules;
 use http_model::OutOfMemory;
@@ -39,11 +39,11 @@ impl<'c> SessionRules<'c> {
 
     /// What stands to be said becomes what the client is sent for it: as the rules on all that it is sent leave it, with
     /// `connection: close` where the connection isn't kept; plain where a rule fails, or where it would not fit with that
-    /// field. Answers whether the connection goes on.
-    pub fn say_reply(&mut self, method: &[u8], keep: bool) -> Result<bool, OutOfMemory>
+    /// field. Answers whether it isn't plain.
+    pub fn amend_reply(&mut self, method: &[u8], keep: bool) -> Result<bool, OutOfMemory>
         requires ready { IsReady self.old }
         requires reply { HasReply self.old.said.blocks }
-        ensures says { IfOk result (λ kept. (m : Message) → IsReply m self.old.said.blocks → SaysReply (config_of self.old) m method.now self.old.vars keep kept self.new.said.blocks self.new.vars) }
+        ensures amends { IfOk result (λ edited. (m : Message) → IsReply m self.old.said.blocks → AmendsReply (config_of self.old) m method.now self.old.vars keep edited self.new.said.blocks self.new.vars) }
         ensures succeeds { holds_pattern (config_of self.old) ≡ false → IsOk result }
         ensures ready { IsReady self.new }
         ensures config { config_of self.new ≡ config_of self.old }
@@ -60,7 +60,20 @@ impl<'c> SessionRules<'c> {
         if !keep {
             add_close(&mut self.said).unwrap();
         }
-        Ok(keep)
+        Ok(true)
+    }
+
+    /// The same, and answers whether the connection goes on: where it may be kept, and the reply isn't plain.
+    pub fn say_reply(&mut self, method: &[u8], keep: bool) -> Result<bool, OutOfMemory>
+        requires ready { IsReady self.old }
+        requires reply { HasReply self.old.said.blocks }
+        ensures says { IfOk result (λ kept. (m : Message) → IsReply m self.old.said.blocks → SaysReply (config_of self.old) m method.now self.old.vars keep kept self.new.said.blocks self.new.vars) }
+        ensures succeeds { holds_pattern (config_of self.old) ≡ false → IsOk result }
+        ensures ready { IsReady self.new }
+        ensures config { config_of self.new ≡ config_of self.old }
+    {
+        let edited = self.amend_reply(method, keep)?;
+        Ok(edited && keep)
     }
 
     /// The refusal with this code is said, as the rules on all that the client is sent leave it.

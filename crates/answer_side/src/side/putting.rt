@@ -1,11 +1,11 @@
 //! A response on its way to the client, or what stands in its place.
-ghost use Rattle.std.specs.Prelude.{◌≡◌, ℕ, List, true};
+ghost use Rattle.std.specs.Prelude.{◌≡◌, ℕ, List, true, false};
 ghost use Rattle.px_sample.specs.Variables.{Variables};
 ghost use Rattle.http_rules.specs.declared.config.Config.{Config};
 ghost use Rattle.session_core.specs.History.{Coming};
 ghost use Rattle.session_core.specs.Sided.{Asking};
 ghost use Rattle.answer_side.specs.Seen as spec;
-ghost use Rattle.answer_side.specs.Seen.{seen, place_of};
+ghost use Rattle.answer_side.specs.Seen.{seen, place_of, size_of};
 ghost use Rattle.answer_side.specs.Stands.{AnswerStands, IsSoundSide};
 ghost use Rattle.answer_side.specs.Said.{PutsMore};
 
@@ -37,6 +37,8 @@ impl AnswerSide {
         ensures place { place_of self.new ≡ place_of self.old }
         ensures open { (seen self.new).is_open ≡ (seen self.old).is_open }
         ensures heard { (seen self.new).heard ≡ (seen self.old).heard }
+        ensures rests { spec.is_last (place_of self.old) ≡ false → self.new ≡ self.old }
+        ensures size { size_of self.new ≡ size_of self.old }
         ensures sound { IsSoundSide self.new }
     {
         if is_last(self.place) {
@@ -54,6 +56,7 @@ impl AnswerSide {
         ensures place { place_of self.new ≡ place_of self.old }
         ensures open { (seen self.new).is_open ≡ (seen self.old).is_open }
         ensures heard { (seen self.new).heard ≡ (seen self.old).heard }
+        ensures size { size_of self.new ≡ size_of self.old }
         ensures sound { IsSoundSide self.new }
     {
         self.at_rest = true;

@@ -28,6 +28,7 @@ impl AnswerSide {
         ensures starts { place_of self.old ≡ place.Idle → (seen self.new).answered ≡ false }
         ensures heard { place_of self.old ≡ place.Idle → (seen self.new).heard ≡ false }
         ensures window { (seen self.new).window ≡ (seen self.old).window }
+        ensures list_size { list.new.size ≡ list.old.size }
         ensures sound { IsSoundSide self.new }
     {
         match self.place {
@@ -47,8 +48,11 @@ impl AnswerSide {
         requires fits { Fits list.old.blocks (size_of self.old) }
         ensures leads { (cfg : Config) (asking : Asking Variables) (server : Coming) (put : List ℕ) (now : Variables) (saying : List ℕ) (head : Head) (body : List ℕ) → AnswerStands cfg self.old asking server put now saying
             → is_serving (place_of self.old) ≡ true → (seen self.old).begun ≡ false → list.old.blocks ≡ front_blocks head body → TurnsTo cfg self.new asking server put now head body }
+        ensures place { is_serving (place_of self.old) ≡ true → (seen self.old).begun ≡ false → place_of self.new ≡ place.Saying }
+        ensures starts { is_serving (place_of self.old) ≡ true → (seen self.old).begun ≡ false → (seen self.new).answered ≡ false }
         ensures window { (seen self.new).window ≡ (seen self.old).window }
         ensures open { (seen self.new).is_open ≡ (seen self.old).is_open }
+        ensures list_size { list.new.size ≡ list.old.size }
         ensures sound { IsSoundSide self.new }
     {
         answer_promise();

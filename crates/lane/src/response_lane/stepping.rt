@@ -1,7 +1,7 @@
 //! Text that a lane of answers puts out.
-ghost use Rattle.std.specs.Prelude.{◌≡◌, ◌≤◌, length, true, List};
+ghost use Rattle.std.specs.Prelude.{◌≡◌, ◌≤◌, length, true, false, List};
 ghost use Rattle.body_filter.specs.declared.filter_spec.FilterSpec.{FilterSpec};
-ghost use Rattle.lane.specs.Answering.{Exchange, Answers, PutsOut, IsSoundAnswer, MayGoOn, HasFilters, shows_last, stage_of, source_of, input_of, ended_of, limits_of, has_begun, phase_of};
+ghost use Rattle.lane.specs.Answering.{Exchange, Answers, PutsOut, IsSoundAnswer, IsAmongHeads, MayGoOn, HasFilters, shows_last, stage_of, source_of, input_of, ended_of, limits_of, has_begun, phase_of};
 ghost use Rattle.lane.specs.declared.phase.Phase.TheVariants as phase;
 ghost use Rattle.lane_core.specs.declared.stage.Source.TheVariants as source;
 ghost use Rattle.lane_core.specs.declared.stage.Stage.TheVariants as stage;
@@ -19,6 +19,7 @@ impl ResponseLane {
         ensures begun { has_begun self.old ≡ true → has_begun self.new ≡ true }
         ensures last { shows_last (phase_of self.old) ≡ true → shows_last (phase_of self.new) ≡ true }
         ensures whole { shows_last (phase_of self.old) ≡ true → source_of self.old ≡ source.Whole → source_of self.new ≡ source.Whole }
+        ensures heads { shows_last (phase_of self.old) ≡ false → IsAmongHeads self.new }
         ensures keeps { ended_of self.new ≡ ended_of self.old }
         ensures shrinks { length (input_of self.new) ≤ length (input_of self.old) }
         ensures limits { limits_of self.new ≡ limits_of self.old }
@@ -42,6 +43,7 @@ impl ResponseLane {
         ensures begun { has_begun self.old ≡ true → has_begun self.new ≡ true }
         ensures last { shows_last (phase_of self.old) ≡ true → shows_last (phase_of self.new) ≡ true }
         ensures whole { shows_last (phase_of self.old) ≡ true → source_of self.old ≡ source.Whole → source_of self.new ≡ source.Whole }
+        ensures heads { shows_last (phase_of self.old) ≡ false → IsAmongHeads self.new }
         ensures keeps { ended_of self.new ≡ ended_of self.old }
         ensures shrinks { length (input_of self.new) ≤ length (input_of self.old) }
         ensures limits { limits_of self.new ≡ limits_of self.old }

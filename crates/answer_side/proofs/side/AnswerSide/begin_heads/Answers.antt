@@ -50,5 +50,10 @@ returns-clause-sound c =
     record {
       lane = c.restart.ensures.sound;
       open_is = sym (ap is_none c.restart.ensures.open);
-      at = (c.restart.ensures.begun, c.restart.ensures.phase, λ done. (let both : stage.Reading ≡ stage.Done = sym c.restart.ensures.stage ∙ done in cc both));
+      at = (
+        c.restart.ensures.begun,
+        c.restart.ensures.phase,
+        λ done. (let both : stage.Reading ≡ stage.Done = sym c.restart.ensures.stage ∙ done in cc both),
+        λ head. (let both : stage.Reading ≡ stage.Head = sym c.restart.ensures.stage ∙ head in cc both),
+      );
     }

@@ -1,0 +1,135 @@
+-- A server's stream answers one last, however it goes on.
+use Rattle.std.proofs.Common.{◌≡◌, ◌≢◌, ◌⊎◌, inl, inr, ℕ, List, ◌++◌, Bool, true, false, refl, sym, ◌∙◌, subst}
+use Rattle.std.specs.Prelude.{Option, Some, is_some, not}
+use Rattle.http_model.specs.declared.Ending.{Ending}
+use Rattle.http_model.specs.declared.Limits.{Limits}
+use Rattle.http_model.specs.Head.{Head}
+use Rattle.http_model.specs.Reading.{Received, HeadReading, Begins, Refused, Nothing}
+use Rattle.px_sample.specs.Variables.{Variables}
+use Rattle.http_rules.specs.declared.config.Config.{Config}
+use Rattle.http_rules.specs.Lives.{answering}
+use Rattle.proxy_meaning.specs.Product.{meaning_of}
+use Rattle.session_model.specs.Stream.{Stream}
+use Rattle.session_model.specs.Env.{response_env}
+use Rattle.session_model.specs.Asking.{Asker}
+use Rattle.session_model.specs.Answering.{Final, Refuses, AnswersReading, AnswersBy}
+use Rattle.session_core.specs.History.{Coming}
+use Rattle.session_core.specs.Sided.{Asking, asker_in}
+use Rattle.lane_core.specs.declared.stage.Stage.{Stage}
+use Rattle.lane_core.specs.declared.stage.Stage.TheVariants as stage
+use Rattle.lane.specs.Answering.{Exchange, Answers, AnswersAt, HeadsAt, HeadsCame, Reads, IsSoundAnswer, IsSoundAt, phase_of, stage_of, shows_last}
+use Rattle.lane.specs.declared.phase.Phase.{Phase}
+use Rattle.lane.specs.declared.phase.Phase.TheVariants as phase
+use Rattle.lane.specs.declared.response_lane.ResponseLane.{ResponseLane}
+use Rattle.answer_side.specs.Stands.{IsAsker, IsFor, IsInHand}
+use Rattle.answer_side.specs.Hearing.{IsBetween, FinalHead}
+use Rattle.answer_side.specs.Judging.{Settles}
+use Rattle.answer_side.specs.declared.side.AnswerSide.{AnswerSide}
+use Rattle.answer_side.proofs.Heads.{More, more_of}
+use Rattle.answer_side.proofs.ReadLemmas.{InHeads}
+
+-- ---- what the lane holds of the head that it read last
+
+heads_phase : (ph : Phase) (lane : ResponseLane) → IsSoundAt ph lane → shows_last ph ≡ false → stage_of lane ≢ stage.Sending → ph ≡ phase.Heads
+heads_phase phase.Heads lane s first off = refl
+heads_phase phase.Passing lane s first off = absurd (off s.0)
+heads_phase (phase.Turning no_body) lane s first off = absurd (let both : true ≡ false = first in cc both)
+heads_phase phase.Answering lane s first off = absurd (let both : true ≡ false = first in cc both)
+
+heads_at : (lane : ResponseLane) (e : Exchange) → IsSoundAnswer lane → shows_last (phase_of lane) ≡ false → stage_of lane ≢ stage.Sending → Answers lane e → HeadsAt (stage_of lane) lane.lane e
+heads_at lane e s first off a =
+    let h : AnswersAt phase.Heads lane e = subst (λ (ph : Phase). AnswersAt ph lane e) (heads_phase lane.phase lane s.at first off) a in
+    h.2
+
+-- what is left behind the interim heads, and how it reads
+record ReadsBehind (cfg : Config) (asker : Asker) (server : Coming) (e : Exchange) (reading : List ℕ → HeadReading) : Type 0 where
+  left : List ℕ
+  came : HeadsCame asker.head_asked cfg.limits server.ending e.read e.bytes left
+  reads : Reads asker.head_asked cfg.limits server.ending left reading
+
+as_reads : (cfg : Config) (asker : Asker) (lane : ResponseLane) (server : Coming) (put : List ℕ) (e : Exchange) → IsFor cfg lane → IsInHand asker lane server put e → (left : List ℕ) (reading : List ℕ → HeadReading)
+    → Reads e.asked lane.lane.limits lane.lane.ended left reading → Reads asker.head_asked cfg.limits server.ending left reading
+as_reads cfg asker lane server put e for h left reading x =
+    subst (λ (a : Bool). Reads a cfg.limits server.ending left reading) h.asked
+    (subst (λ (l : Limits). Reads e.asked l server.ending left reading) for.limits
+    (subst (λ (o : Option Ending). Reads e.asked lane.lane.limits o left reading) h.ending x))
+
+as_came : (cfg : Config) (asker : Asker) (lane : ResponseLane) (server : Coming) (put : List ℕ) (e : Exchange) → IsFor cfg lane → IsInHand asker lane server put e → (left : List ℕ)
+    → HeadsCame e.asked lane.lane.limits lane.lane.ended e.read e.bytes left → HeadsCame asker.head_asked cfg.limits server.ending e.read e.bytes left
+as_came cfg asker lane server put e for h left x =
+    subst (λ (a : Bool). HeadsCame a cfg.limits server.ending e.read e.bytes left) h.asked
+    (subst (λ (l : Limits). HeadsCame e.asked l server.ending e.read e.bytes left) for.limits
+    (subst (λ (o : Option Ending). HeadsCame e.asked lane.lane.limits o e.read e.bytes left) h.ending x))
+
+-- a last that each way in which the stream goes on answers, by how it reads
+settled_by : (cfg : Config) (side : AnswerSide) (asking : Asking Variables) (server : Coming) (put : List ℕ) (last : Final Variables) (e : Exchange) (reading : List ℕ → HeadReading)
+    → IsAsker side.asker (asker_in asking) → IsFor cfg side.lane → IsInHand (asker_in asking) side.lane server put e → ReadsBehind cfg (asker_in asking) server e reading
+    → ((more : List ℕ) (ending : Ending) → AnswersReading (meaning_of cfg) (asker_in asking) (answering asking.vars) ending (reading more) last) → Settles cfg side asking server put last
+settled_by cfg side asking server put last e reading asks for h c answers =
+    record {
+      asks = asks;
+      for_it = for;
+      e = e;
+      in_hand = h;
+      left = c.left;
+      came = c.came;
+      answers = λ rest goes.
+          let m : More server.ending c.left rest = more_of server.ending c.left rest goes in
+          record {
+            head = reading m.more;
+            reads = subst (λ (xs : List ℕ). (meaning_of cfg).reads_response (asker_in asking).head_asked xs (reading m.more)) (sym m.bytes) (c.reads m.more m.over);
+            answers = answers m.more rest.ending;
+          };
+    }
+
+-- ---- no head is to be had
+
+not_sending : (st : Stage) → st ≡ stage.Done → st ≢ stage.Sending
+not_sending st e f = let both : stage.Done ≡ stage.Sending = sym e ∙ f in absurd (cc both)
+
+pub settles_refused : (cfg : Config) (side : AnswerSide) (asking : Asking Variables) (server : Coming) (put : List ℕ) → IsBetween side → stage_of side.lane ≡ stage.Done → (h : InHeads cfg side asking server put)
+    → Settles cfg side asking server put (Refuses 502 (asker_in asking).method (answering asking.vars))
+settles_refused cfg side asking server put b done h =
+    let asker : Asker = asker_in asking in
+    let at : HeadsAt stage.Done side.lane.lane h.e =
+    subst (λ (st : Stage). HeadsAt st side.lane.lane h.e) done (heads_at side.lane h.e b.lane b.first (not_sending (stage_of side.lane) done) h.in_hand.answers) in
+    let came = as_came cfg asker side.lane server put h.e h.for_it h.in_hand at.0 at.1 in
+    by at.0 came at.2
+  where
+    by : (left : List ℕ) → HeadsCame (asker_in asking).head_asked cfg.limits server.ending h.e.read h.e.bytes left
+        → (Reads h.e.asked side.lane.lane.limits side.lane.lane.ended left (λ more. Refused 502) ⊎ ((is_some side.lane.lane.ended ≡ true) × Reads h.e.asked side.lane.lane.limits side.lane.lane.ended left (λ more. Nothing)))
+        → Settles cfg side asking server put (Refuses 502 (asker_in asking).method (answering asking.vars))
+    by left came (inl refused) =
+        settled_by cfg side asking server put _ h.e (λ more. Refused 502) h.asks h.for_it h.in_hand
+        (record { left = left; came = came; reads = as_reads cfg (asker_in asking) side.lane server put h.e h.for_it h.in_hand left (λ more. Refused 502) refused }) (λ more ending. refl)
+    by left came (inr nothing) =
+        settled_by cfg side asking server put _ h.e (λ more. Nothing) h.asks h.for_it h.in_hand
+        (record { left = left; came = came; reads = as_reads cfg (asker_in asking) side.lane server put h.e h.for_it h.in_hand left (λ more. Nothing) nothing.1 }) (λ more ending. refl)
+
+-- ---- a final head
+
+same_received : (o : Option Received) (a b : Received) → o ≡ Some a → o ≡ Some b → a ≡ b
+same_received o a b e f = let both : Some a ≡ Some b = sym e ∙ f in cc
+
+head_not_sending : (st : Stage) → st ≡ stage.Head → st ≢ stage.Sending
+head_not_sending st e f = let both : stage.Head ≡ stage.Sending = sym e ∙ f in absurd (cc both)
+
+-- what it answers is settled where that does not hang on what follows the head
+pub settles_head : (cfg : Config) (side : AnswerSide) (asking : Asking Variables) (server : Coming) (put : List ℕ) (received : Received) (last : Final Variables) → IsBetween side → stage_of side.lane ≡ stage.Head
+    → FinalHead cfg side asking server put received
+    → ((rest : Stream) → AnswersBy (meaning_of cfg) (asker_in asking) received rest ((meaning_of cfg).response_rules (response_env (answering asking.vars) (asker_in asking).method received.head)) last)
+    → Settles cfg side asking server put last
+settles_head cfg side asking server put received last b head f answers =
+    let asker : Asker = asker_in asking in
+    let r = f.read in
+    let at : HeadsAt stage.Head side.lane.lane r.e =
+    subst (λ (st : Stage). HeadsAt st side.lane.lane r.e) head (heads_at side.lane r.e b.lane b.first (head_not_sending (stage_of side.lane) head) r.in_hand.answers) in
+    let got : at.0 ≡ received = same_received r.e.pending at.0 received at.2 r.pending in
+    let reading : Received → List ℕ → HeadReading = λ g more. Begins g (side.lane.lane.input.items ++ more) in
+    settled_by cfg side asking server put last r.e (reading received) r.asks r.for_it r.in_hand
+    (record {
+      left = at.1;
+      came = as_came cfg asker side.lane server put r.e r.for_it r.in_hand at.1 at.3;
+      reads = subst (λ (g : Received). Reads asker.head_asked cfg.limits server.ending at.1 (reading g)) got (as_reads cfg asker side.lane server put r.e r.for_it r.in_hand at.1 (reading at.0) at.4);
+    })
+    (λ more ending. (f.is_final, answers (record { bytes = side.lane.lane.input.items ++ more; ending = ending })))

@@ -1,0 +1,39 @@
+use Rattle.std.proofs.Common.{◌≤◌, ℕ, false, refl, sym, ap, ◌∙◌, subst, arith}
+use Rattle.wire_buf.specs.Buffer.{Buffer}
+use Rattle.http_rules.specs.Lives.{answering}
+use Rattle.session_core.specs.Sided.{asker_in}
+use Rattle.answer_side.specs.Stands.{StandsAt}
+use Rattle.answer_side.specs.Judging.{place_when}
+use Rattle.answer_side.specs.declared.place.Place.{Place}
+use Rattle.answer_side.specs.declared.side.AnswerSide.{AnswerSide}
+use Rattle.answer_side.proofs.Events.{for_new}
+use Rattle.answer_side.proofs.JudgeLemmas.{instead_stands}
+use Rattle.answer_side.proofs.LastLemmas.{when_last, when_fits, goes_out}
+use Rattle.answer_side.proofs.side.AnswerSide.say_instead.Goals as goal
+
+pub answer-requires-clause-sound : goal.answer-requires-clause-sound
+answer-requires-clause-sound c = c.requires.between.lane
+
+pub answer-requires-clause-unbegun : goal.answer-requires-clause-unbegun
+answer-requires-clause-unbegun c = c.requires.between.begun
+
+pub answer-requires-clause-fits : goal.answer-requires-clause-fits
+answer-requires-clause-fits c = omega arith
+
+pub returns-clause-leads : goal.returns-clause-leads
+returns-clause-leads c = λ cfg asking server put saying now last head body s is spelled told.
+    let old = c.args.self.now in
+    let new = c.answer.new.self in
+    record {
+      asks = s.asks;
+      for_it = for_new cfg old.lane new c.answer.ensures.limits c.answer.ensures.filters s.for_it;
+      at = subst (λ (p : Place). StandsAt p cfg (asker_in asking) (answering asking.vars) new server put now saying) (sym c.place_when-self.ensures)
+          (instead_stands cfg old new asking server put now saying last head body c.args.replied s spelled told c.answer.ensures.same.1 c.answer.ensures.last (c.answer.ensures.answers s.e head body s.in_hand.answers is));
+    }
+
+pub returns-clause-goes_out : goal.returns-clause-goes_out
+returns-clause-goes_out c =
+    let old = c.args.self.now in
+    let new : AnswerSide = record old { lane = c.answer.new.self; place = c.place_when-self.result; at_rest = false } in
+    goes_out old new (place_when c.args.replied) c.requires.between c.place_when-self.ensures (when_last c.args.replied) (when_fits c.args.replied new c.answer.ensures.last c.answer.ensures.stage.1) refl refl c.answer.ensures.sound
+    c.answer.ensures.same.1 (ap (λ (b : Buffer ℕ). b.items) c.answer.ensures.same.0) c.answer.ensures.limits

@@ -1,0 +1,68 @@
+use Rattle.std.proofs.Common.{refl, sym, ap, ◌∙◌}
+use Rattle.std.specs.Prelude.{is_none}
+use Rattle.http_model.specs.declared.Limits.{Limits}
+use Rattle.answer_side.specs.Hearing.{IsBetween}
+use Rattle.answer_side.specs.declared.side.AnswerSide.{AnswerSide}
+use Rattle.answer_side.proofs.Putting.{Puts}
+use Rattle.answer_side.proofs.ReadLemmas.{InHeads, in_heads, stands_in, puts_more, between_on, fits_sending, reads_on, waits_on}
+use Rattle.answer_side.proofs.side.AnswerSide.show_on.Goals as goal
+
+pub step-requires-clause-sound : goal.step-requires-clause-sound
+step-requires-clause-sound c = c.requires.between.lane
+
+pub returns-then-is_showing-clause-leads : goal.returns-then-is_showing-clause-leads
+returns-then-is_showing-clause-leads c = λ cfg asking server put now saying s.
+    let old = c.args.self.now in
+    let new : AnswerSide = record old { lane = c.step.new.self } in
+    let p = c.step.ensures.answers in
+    let h : InHeads cfg old asking server put = in_heads cfg old asking server put now saying c.requires.between.place s in
+    let t : Puts old.lane new.lane p.put = record { answers = p.answers; ended = c.step.ensures.keeps; last = c.step.ensures.last } in
+    record {
+      put = p.put;
+      window = p.window;
+      tells = (
+        stands_in cfg new asking server _ now saying c.requires.between.place (puts_more cfg old new asking server put p.put refl t c.step.ensures.limits c.step.ensures.filters h),
+        waits_on new (c.step.ensures.no_stall h.e h.in_hand.answers (c.is_showing.ensures.shows c.if-is_showing.true)),
+      );
+    }
+
+pub returns-clause-leads : goal.returns-clause-leads
+returns-clause-leads c = λ cfg asking server put now saying s.
+    let old = c.args.self.now in
+    let new : AnswerSide = record old { lane = c.step.new.self } in
+    let p = c.step.ensures.answers in
+    let h : InHeads cfg old asking server put = in_heads cfg old asking server put now saying c.requires.between.place s in
+    let t : Puts old.lane new.lane p.put = record { answers = p.answers; ended = c.step.ensures.keeps; last = c.step.ensures.last } in
+    record {
+      put = p.put;
+      window = p.window;
+      tells = stands_in cfg new asking server _ now saying c.requires.between.place (puts_more cfg old new asking server put p.put refl t c.step.ensures.limits c.step.ensures.filters h);
+    }
+
+pub returns-then-is_showing-clause-between : goal.returns-then-is_showing-clause-between
+returns-then-is_showing-clause-between c =
+    between_on c.args.self.now (record c.args.self.now { lane = c.step.new.self }) c.requires.between refl refl c.step.ensures.keeps c.step.ensures.sound (c.step.ensures.heads c.requires.between.first).first
+
+pub returns-clause-between : goal.returns-clause-between
+returns-clause-between c =
+    between_on c.args.self.now (record c.args.self.now { lane = c.step.new.self }) c.requires.between refl refl c.step.ensures.keeps c.step.ensures.sound (c.step.ensures.heads c.requires.between.first).first
+
+pub returns-then-is_showing-clause-there : goal.returns-then-is_showing-clause-there
+returns-then-is_showing-clause-there c =
+    let new : AnswerSide = record c.args.self.now { lane = c.step.new.self } in
+    fits_sending new (between_on c.args.self.now new c.requires.between refl refl c.step.ensures.keeps c.step.ensures.sound (c.step.ensures.heads c.requires.between.first).first) (c.is_showing.ensures.shows c.if-is_showing.true)
+
+pub returns-clause-there : goal.returns-clause-there
+returns-clause-there c = reads_on c.step.new.self (c.step.ensures.heads c.requires.between.first) (c.is_showing.ensures.rests c.if-is_showing.false)
+
+pub returns-then-is_showing-clause-open : goal.returns-then-is_showing-clause-open
+returns-then-is_showing-clause-open c = ap is_none c.step.ensures.keeps
+
+pub returns-clause-open : goal.returns-clause-open
+returns-clause-open c = ap is_none c.step.ensures.keeps
+
+pub returns-then-is_showing-clause-size : goal.returns-then-is_showing-clause-size
+returns-then-is_showing-clause-size c = ap (λ (l : Limits). l.bufsize) c.step.ensures.limits
+
+pub returns-clause-size : goal.returns-clause-size
+returns-clause-size c = ap (λ (l : Limits). l.bufsize) c.step.ensures.limits
