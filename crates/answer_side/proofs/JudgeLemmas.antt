@@ -1,5 +1,5 @@
 -- A server's final head, and the last that answers.
-use Rattle.std.proofs.Common.{inl, inr, ◌≤◌, ◌≡◌, ℕ, List, [], Bool, true, false, refl, sym, ap, ◌∙◌, subst}
+use Rattle.std.proofs.Common.{inl, inr, ◌≤◌, ◌≡◌, ℕ, List, [], Bool, true, false, refl, sym, ap, ◌∙◌}
 use Rattle.std.specs.Prelude.{nat_le, IsTrue, ◌↔◌, Option, None, not, ◌&&◌, ◌||◌, if◌then◌else◌}
 use Rattle.std.proofs.lemmas.Bool.{cases_Bool, le-leb, leb-true, false≢true}
 use Rattle.htx_model.specs.Blocks.{load}
@@ -25,8 +25,10 @@ use Rattle.lane_core.specs.declared.stage.Stage.TheVariants as stage
 use Rattle.lane.specs.Answering.{Exchange, Answers, Replies as ListReplies, Serves, IsSoundAnswer, ended_of, phase_of, stage_of, array_of, framing_of, declared_of, shows_last, replies, serves}
 use Rattle.lane.specs.Lending.{with_answer_head}
 use Rattle.lane.specs.declared.response_lane.ResponseLane.{ResponseLane}
-use Rattle.answer_side.specs.Seen.{seen, size_of}
-use Rattle.answer_side.specs.Stands.{IsAsker, IsInHand, StandsAt, list_text}
+use Rattle.answer_side.specs.Seen.{size_of}
+use Rattle.session_core.specs.declared.Told.{Told}
+use Rattle.session_core.specs.declared.Told.TheVariants as told
+use Rattle.answer_side.specs.Stands.{IsAsker, IsInHand, IsInstead, StandsAt, list_text}
 use Rattle.answer_side.specs.Hearing.{IsBetween, FinalHead}
 use Rattle.answer_side.specs.Judging.{Edits, Settles, GoesOut, IsEdited, told_when, place_when, is_not_modified, finished_by}
 use Rattle.answer_side.specs.declared.place.Place.TheVariants as place
@@ -149,38 +151,25 @@ pub instead_stands : (cfg : Config) (old : AnswerSide) (new : ResponseLane) (ask
     → (s : Settles cfg old asking server put last) → SpellsFinal (meaning_of cfg) (asker_in asking) last (list_text (asker_in asking).head_asked head body) → ToldIs (meaning_of cfg) (told_when replied) now last
     → ended_of new ≡ ended_of old.lane → shows_last (phase_of new) ≡ true → Answers new (replies s.e head body old.asker.head_asked)
     → StandsAt (place_when replied) cfg (asker_in asking) (answering asking.vars) new server put now saying
-instead_stands cfg old new asking server put now saying last head body replied s spelled told ended shows a = by replied told
+instead_stands cfg old new asking server put now saying last head body replied s spelled is_told ended shows a = by replied is_told
   where
     in_hand : IsInHand (asker_in asking) new server put (replies s.e head body old.asker.head_asked)
     in_hand = record { answers = a; asked = s.in_hand.asked; bytes = s.in_hand.bytes; ending = ended ∙ s.in_hand.ending; passed = s.in_hand.passed; put_is = s.in_hand.put_is }
 
+    instead : (so : Told) → ToldIs (meaning_of cfg) so now last → IsInstead cfg (asker_in asking) (answering asking.vars) server so now (replies s.e head body old.asker.head_asked)
+    instead so told_ =
+        record {
+          head = head;
+          body = body;
+          last = ap (λ (b : Bool). ListReplies head body b) s.asks.head_asked;
+          left = s.left;
+          came = s.came;
+          decides = λ rest goes. (let x = s.answers rest goes in record { last = last; head = x.head; reads = x.reads; answers = x.answers; spelled = spelled; told = told_ });
+        }
+
     by : (r : Bool) → ToldIs (meaning_of cfg) (told_when r) now last → StandsAt (place_when r) cfg (asker_in asking) (answering asking.vars) new server put now saying
-    by true told_ = (
-      replies s.e head body old.asker.head_asked,
-      in_hand,
-      shows,
-      record {
-        head = head;
-        body = body;
-        last = ap (λ (b : Bool). ListReplies head body b) s.asks.head_asked;
-        left = s.left;
-        came = s.came;
-        decides = λ rest goes. (let x = s.answers rest goes in record { last = last; head = x.head; reads = x.reads; answers = x.answers; spelled = spelled; told = told_ });
-      },
-    )
-    by false told_ = (
-      replies s.e head body old.asker.head_asked,
-      in_hand,
-      shows,
-      record {
-        head = head;
-        body = body;
-        last = ap (λ (b : Bool). ListReplies head body b) s.asks.head_asked;
-        left = s.left;
-        came = s.came;
-        decides = λ rest goes. (let x = s.answers rest goes in record { last = last; head = x.head; reads = x.reads; answers = x.answers; spelled = spelled; told = told_ });
-      },
-    )
+    by true told_ = (replies s.e head body old.asker.head_asked, in_hand, shows, instead told.Whole told_)
+    by false told_ = (replies s.e head body old.asker.head_asked, in_hand, shows, instead told.Closes told_)
 
 -- ---- its length
 

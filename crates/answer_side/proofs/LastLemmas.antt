@@ -1,5 +1,5 @@
 -- What goes out in place of a server's response.
-use Rattle.std.proofs.Common.{◌≡◌, ◌≤◌, ℕ, List, Bool, true, false, refl, sym, ap, ◌∙◌, subst}
+use Rattle.std.proofs.Common.{◌≡◌, ℕ, List, Bool, true, false, refl, sym, ap, ◌∙◌, subst}
 use Rattle.std.specs.Prelude.{is_none}
 use Rattle.http_model.specs.declared.Limits.{Limits}
 use Rattle.http_model.specs.Head.{Message}
@@ -14,13 +14,12 @@ use Rattle.session_model.specs.Answering.{Replies}
 use Rattle.session_model.specs.Session.{SpellsFinal}
 use Rattle.session_core.specs.Sided.{ToldIs}
 use Rattle.lane_core.specs.declared.stage.Source.TheVariants as source
-use Rattle.lane.specs.Answering.{IsSoundAnswer, ended_of, limits_of, phase_of, source_of, has_begun, output_of, shows_last}
-use Rattle.answer_side.specs.Seen.{is_last, seen}
-use Rattle.answer_side.specs.Stands.{FitsAt, IsSoundSide}
+use Rattle.lane.specs.Answering.{IsSoundAnswer, ended_of, limits_of, phase_of, source_of, output_of, shows_last}
+use Rattle.answer_side.specs.Seen.{is_last}
+use Rattle.answer_side.specs.Stands.{FitsAt}
 use Rattle.answer_side.specs.Hearing.{IsBetween}
 use Rattle.answer_side.specs.Judging.{GoesOut, place_when, told_when}
 use Rattle.answer_side.specs.declared.place.Place.{Place}
-use Rattle.answer_side.specs.declared.place.Place.TheVariants as place
 use Rattle.answer_side.specs.declared.side.AnswerSide.{AnswerSide}
 
 pub when_last : (replied : Bool) → is_last (place_when replied) ≡ true

@@ -1,21 +1,19 @@
 -- Heads of a server are read.
-use Rattle.std.proofs.Common.{◌≡◌, ◌≢◌, ◌⊎◌, inl, inr, ℕ, ◌<◌, List, [], ◌∷◌, ◌++◌, Bool, true, false, refl, sym, ap, ◌∙◌, subst, append_assoc, length, arith, map, if◌then◌else◌}
-use Rattle.std.specs.Prelude.{Some, None, is_none}
+use Rattle.std.proofs.Common.{◌≡◌, ◌≢◌, ◌⊎◌, inl, inr, ℕ, List, [], ◌∷◌, ◌++◌, Bool, true, false, refl, sym, ap, ◌∙◌, subst, append_assoc, length, arith, map, if◌then◌else◌}
+use Rattle.std.specs.Prelude.{Some, is_none}
 use Rattle.std.proofs.lemmas.List.{append-nil, map-append}
-use Rattle.http_model.specs.Head.{Head, head_blocks}
+use Rattle.http_model.specs.Head.{Head}
 use Rattle.http_model.specs.Finish.{finish_interim}
 use Rattle.http_model.specs.Reading.{Received}
 use Rattle.body_filter.specs.declared.filter_spec.FilterSpec.{FilterSpec}
 use Rattle.px_sample.specs.Variables.{Variables}
 use Rattle.http_rules.specs.declared.config.Config.{Config}
 use Rattle.http_rules.specs.Lives.{answering}
-use Rattle.session_model.specs.Asking.{Asker}
-use Rattle.session_model.specs.Answering.{sent_interim}
 use Rattle.session_core.specs.History.{Coming}
 use Rattle.session_core.specs.Sided.{Asking, asker_in}
 use Rattle.lane_core.specs.declared.stage.Stage.{Stage}
 use Rattle.lane_core.specs.declared.stage.Stage.TheVariants as stage
-use Rattle.lane.specs.Answering.{Exchange, Answers, HasFilters, IsSoundAnswer, IsSoundAt, IsAmongHeads, MayGoOn, NotYet, ended_of, limits_of, phase_of, stage_of, has_begun, shows_last, output_of, framing_of, declared_of, passes, drops, with_put}
+use Rattle.lane.specs.Answering.{Exchange, Answers, HasFilters, IsSoundAnswer, IsSoundAt, IsAmongHeads, MayGoOn, NotYet, ended_of, limits_of, phase_of, stage_of, shows_last, output_of, framing_of, declared_of, passes, drops, with_put}
 use Rattle.lane.specs.declared.phase.Phase.{Phase}
 use Rattle.lane.specs.declared.phase.Phase.TheVariants as phase
 use Rattle.lane.specs.declared.response_lane.ResponseLane.{ResponseLane}
@@ -26,7 +24,7 @@ use Rattle.answer_side.specs.declared.hearing.Heard.{Heard}
 use Rattle.answer_side.specs.declared.place.Place.{Place}
 use Rattle.answer_side.specs.declared.place.Place.TheVariants as place
 use Rattle.answer_side.specs.declared.side.AnswerSide.{AnswerSide}
-use Rattle.answer_side.proofs.Events.{for_new, none_of}
+use Rattle.answer_side.proofs.Events.{for_new}
 use Rattle.answer_side.proofs.Putting.{Puts, in_hand_puts}
 use Rattle.answer_side.proofs.Views.{at_place}
 
@@ -208,6 +206,11 @@ hears_none cfg old new asking server put now saying says window tells =
       window = window ∙ sym (append-nil (seen old).window);
       tells = subst (λ xs. HeadSays says cfg new asking server xs now saying) (sym (append-nil put)) tells;
     }
+
+-- more was put out of an interim head
+pub hears_more : (cfg : Config) (old new : AnswerSide) (asking : Asking Variables) (server : Coming) (put more : List ℕ) (now : Variables) (saying : List ℕ) (says : Heard) → (seen new).window ≡ (seen old).window ++ more → new.place ≡ place.Heads
+    → InHeads cfg new asking server (put ++ more) → (AnswerStands cfg new asking server (put ++ more) now saying → HeadSays says cfg new asking server (put ++ more) now saying) → Hears cfg old new asking server put now saying says
+hears_more cfg old new asking server put more now saying says window heads h tells = record { put = more; window = window; tells = tells (stands_in cfg new asking server (put ++ more) now saying heads h) }
 
 -- what is heard from a side with the same window
 pub hears_from : (cfg : Config) (old mid new : AnswerSide) (asking : Asking Variables) (server : Coming) (put : List ℕ) (now : Variables) (saying : List ℕ) (says : Heard) → (seen mid).window ≡ (seen old).window

@@ -1,9 +1,8 @@
 -- A server's stream answers one last, however it goes on.
 use Rattle.std.proofs.Common.{◌≡◌, ◌≢◌, ◌⊎◌, inl, inr, ℕ, List, ◌++◌, Bool, true, false, refl, sym, ◌∙◌, subst}
-use Rattle.std.specs.Prelude.{Option, Some, is_some, not}
+use Rattle.std.specs.Prelude.{Option, Some, is_some}
 use Rattle.http_model.specs.declared.Ending.{Ending}
 use Rattle.http_model.specs.declared.Limits.{Limits}
-use Rattle.http_model.specs.Head.{Head}
 use Rattle.http_model.specs.Reading.{Received, HeadReading, Begins, Refused, Nothing}
 use Rattle.px_sample.specs.Variables.{Variables}
 use Rattle.http_rules.specs.declared.config.Config.{Config}

@@ -6,8 +6,7 @@ use Rattle.px_sample.specs.Variables.{Variables}
 use Rattle.http_rules.specs.declared.config.Config.{Config}
 use Rattle.http_rules.specs.Lives.{answering}
 use Rattle.session_core.specs.History.{Coming}
-use Rattle.session_core.specs.Leads.{AnswerWaits}
-use Rattle.session_core.specs.Sided.{Asking, asker_in}
+use Rattle.session_core.specs.Sided.{Asking}
 use Rattle.session_core.specs.declared.Told.TheVariants as told
 use Rattle.lane.specs.Answering.{source_of}
 use Rattle.answer_side.specs.Seen.{seen, place_of, size_of, is_last, told_at}

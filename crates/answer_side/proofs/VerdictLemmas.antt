@@ -5,7 +5,7 @@ use Rattle.std.proofs.lemmas.Bool.{false≢true}
 use Rattle.htx_model.specs.Block.{Block}
 use Rattle.http_model.specs.declared.Framing.{Framing}
 use Rattle.http_model.specs.declared.Why.{Why}
-use Rattle.http_model.specs.Head.{Head, Message, head_blocks, front_blocks, message_blocks}
+use Rattle.http_model.specs.Head.{Head, Message, head_blocks, front_blocks, message_blocks, Field}
 use Rattle.http_model.specs.Reading.{Received}
 use Rattle.px_sample.specs.Variables.{Variables}
 use Rattle.rule_actions.specs.declared.side.Side.{Side}
@@ -16,7 +16,7 @@ use Rattle.http_rules.specs.Run.{Leaves}
 use Rattle.rule_actions.specs.Outcome.{IsOn}
 use Rattle.http_rules.specs.Rules.{Comes}
 use Rattle.proxy_meaning.specs.Product.{meaning_of}
-use Rattle.session_rules.specs.Ruling.{AmendsHead}
+use Rattle.session_rules.specs.Ruling.{AmendsHead, config_of}
 use Rattle.session_model.specs.Stream.{Stream}
 use Rattle.session_model.specs.Env.{Env, Verdict, Pass, Reply, Deny, Fail, Amended, Edited, response_env}
 use Rattle.session_model.specs.Env as env
@@ -25,23 +25,18 @@ use Rattle.session_model.specs.Asking.{Asker}
 use Rattle.session_model.specs.Answering.{Final, Refuses, Replies, Plain, AnswersBy, response_declares_too_much, response_fits}
 use Rattle.session_core.specs.History.{Coming}
 use Rattle.session_core.specs.Sided.{Asking, asker_in}
-use Rattle.lane_core.specs.declared.stage.Stage.TheVariants as stage
-use Rattle.lane.specs.Answering.{stage_of}
 use Rattle.answer_side.specs.Hearing.{FinalHead}
-use Rattle.answer_side.specs.Judging.{Edits, Settles}
+use Rattle.answer_side.specs.Judging.{Edits, Settles, Passes}
 use Rattle.answer_side.specs.Stepping.{RunsFor}
-use Rattle.session_rules.specs.Ruling.{config_of}
 use Rattle.session_rules.specs.declared.rules.SessionRules.{SessionRules}
 use Rattle.answer_side.specs.declared.side.AnswerSide.{AnswerSide}
 use denote.Ref.{Bor}
 use Rattle.http_model.specs.declared.Framing.TheVariants as framing
-use Rattle.http_model.specs.Head.{Field}
 use Rattle.http_model.specs.Spelling.{SpellsBody}
 use Rattle.rule_actions.specs.declared.side.Side.TheVariants.{Answer}
 use Rattle.http_rules.specs.declared.verdict.Verdict.{Verdict as Told}
 use Rattle.lane.specs.Answering.{blocks_of}
 use Rattle.answer_side.specs.Listed.{IsListed, IsSentAsItIs}
-use Rattle.answer_side.specs.Judging.{Passes}
 use Rattle.answer_side.proofs.SettleLemmas.{settles_head}
 
 -- ---- the rules on it

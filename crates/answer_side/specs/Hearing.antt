@@ -1,5 +1,5 @@
 -- Heads of a server are read.
-use Rattle.std.specs.Prelude.{◌≡◌, ◌≢◌, ◌⊎◌, ℕ, ◌<◌, List, [], ◌++◌, Bool, true, false, Some, is_none}
+use Rattle.std.specs.Prelude.{◌≡◌, ◌≢◌, ◌⊎◌, ℕ, ◌<◌, List, [], ◌++◌, true, false, Some, is_none}
 use Rattle.http_model.specs.Head.{Head, head_blocks}
 use Rattle.http_model.specs.Reading.{Received}
 use Rattle.session_model.specs.Meaning.{is_interim}

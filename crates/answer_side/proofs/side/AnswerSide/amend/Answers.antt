@@ -1,11 +1,9 @@
-use Rattle.std.proofs.Common.{◌≡◌, true, false, refl, sym, ap, ◌∙◌, subst, ℕ, List}
-use Rattle.http_rules.specs.declared.config.Config.{Config}
+use Rattle.std.proofs.Common.{sym, ◌∙◌}
 use Rattle.proxy_meaning.specs.Product.{meaning_of}
 use Rattle.session_rules.specs.Ruling.{config_of}
 use Rattle.session_model.specs.Env.{response_env}
 use Rattle.session_model.specs.Answering.{Plain}
 use Rattle.session_core.specs.Sided.{asker_in}
-use Rattle.answer_side.specs.Hearing.{IsBetween}
 use Rattle.answer_side.proofs.SettleLemmas.{settles_head}
 use Rattle.answer_side.proofs.VerdictLemmas.{answers_plain, edited_so, plain_so, same_after}
 use Rattle.answer_side.proofs.JudgeLemmas.{edits_goes, sized_still}

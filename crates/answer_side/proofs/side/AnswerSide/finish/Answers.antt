@@ -1,12 +1,10 @@
-use Rattle.std.proofs.Common.{◌≡◌, true, false, refl, sym, ap, ◌∙◌, subst, ℕ, List}
+use Rattle.std.proofs.Common.{◌≡◌, true, false, refl, sym, ap, ◌∙◌}
 use Rattle.http_model.specs.declared.Limits.{Limits}
 use Rattle.http_model.specs.Head.{head_blocks}
 use Rattle.http_rules.specs.declared.config.Config.{Config}
 use Rattle.proxy_meaning.specs.Product.{meaning_of, replaces}
-use Rattle.session_rules.specs.Ruling.{config_of}
-use Rattle.session_model.specs.Answering.{Plain, response_fits, finished_response}
+use Rattle.session_model.specs.Answering.{Plain}
 use Rattle.session_core.specs.Sided.{asker_in}
-use Rattle.answer_side.specs.Hearing.{IsBetween}
 use Rattle.answer_side.proofs.SettleLemmas.{settles_head}
 use Rattle.answer_side.proofs.VerdictLemmas.{answers_unfit}
 use Rattle.answer_side.proofs.JudgeLemmas.{edits_goes, finished_is, fits_as}

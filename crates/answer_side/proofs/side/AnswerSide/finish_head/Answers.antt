@@ -1,4 +1,4 @@
-use Rattle.std.proofs.Common.{refl, sym, ap, ◌∙◌}
+use Rattle.std.proofs.Common.{ap, ◌∙◌}
 use Rattle.htx_arena.specs.Contents.{Contents}
 use Rattle.answer_side.proofs.JudgeLemmas.{edits_by}
 use Rattle.answer_side.proofs.side.AnswerSide.finish_head.Goals as goal

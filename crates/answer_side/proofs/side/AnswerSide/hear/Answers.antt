@@ -1,4 +1,3 @@
-use Rattle.std.proofs.Common.{◌∙◌}
 use Rattle.answer_side.proofs.ReadLemmas.{hears_behind}
 use Rattle.answer_side.proofs.side.AnswerSide.hear.Goals as goal
 

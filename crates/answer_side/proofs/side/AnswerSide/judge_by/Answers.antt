@@ -1,6 +1,5 @@
-use Rattle.std.proofs.Common.{refl, sym, ap, ◌∙◌}
+use Rattle.std.proofs.Common.{◌∙◌}
 use Rattle.std.proofs.lemmas.Result.{on_ok_weaker}
-use Rattle.http_rules.specs.declared.config.Config.{Config}
 use Rattle.session_rules.specs.Ruling.{config_of}
 use Rattle.answer_side.proofs.VerdictLemmas.{passed_head, replied_so, judged_deny, judged_fail, judged_reply, judged_pass, listed_by}
 use Rattle.answer_side.proofs.JudgeLemmas.{edits_goes, sized_still}

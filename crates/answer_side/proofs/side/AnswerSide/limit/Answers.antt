@@ -1,4 +1,4 @@
-use Rattle.std.proofs.Common.{◌≡◌, true, false, refl, sym, ap, ◌∙◌, subst, ℕ, List}
+use Rattle.std.proofs.Common.{refl, sym, ap, ◌∙◌, subst, ℕ, List}
 use Rattle.std.proofs.lemmas.Result.{on_ok_weaker}
 use Rattle.http_rules.specs.declared.config.Config.{Config}
 use Rattle.proxy_meaning.specs.Product.{meaning_of}

@@ -1,9 +1,7 @@
-use Rattle.std.proofs.Common.{◌≡◌, ◌≤◌, refl, sym, ap, ◌∙◌, ◌++◌, [], ℕ, List, length, subst}
-use Rattle.std.proofs.lemmas.List.{append-nil}
+use Rattle.std.proofs.Common.{◌≤◌, refl, ap, ◌∙◌, ℕ, length, subst}
 use Rattle.std.specs.Prelude.{is_none}
 use Rattle.http_model.specs.declared.Limits.{Limits}
 use Rattle.wire_buf.specs.Buffer.{Buffer}
-use Rattle.answer_side.specs.Hearing.{IsBetween, Hears}
 use Rattle.answer_side.specs.declared.side.AnswerSide.{AnswerSide}
 use Rattle.answer_side.proofs.ReadLemmas.{stands_in, passes_on, drops_on, between_on, hears_none, hears_from}
 use Rattle.answer_side.proofs.side.AnswerSide.pass_or_drop.Goals as goal

@@ -1,6 +1,6 @@
-use Rattle.std.proofs.Common.{◌≡◌, ◌++◌, refl, sym, ap, ◌∙◌}
+use Rattle.std.proofs.Common.{◌++◌, refl, ◌∙◌}
 use Rattle.answer_side.specs.declared.hearing.Heard.TheVariants as heard
-use Rattle.answer_side.proofs.ReadLemmas.{hears_none, hears_behind}
+use Rattle.answer_side.proofs.ReadLemmas.{hears_behind}
 use Rattle.answer_side.proofs.side.AnswerSide.read_heads.Goals as goal
 
 pub heads-preserved : goal.heads-preserved

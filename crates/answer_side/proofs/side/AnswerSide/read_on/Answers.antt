@@ -1,10 +1,8 @@
-use Rattle.std.proofs.Common.{◌≡◌, ◌<◌, ◌≤◌, inr, refl, sym, ap, ◌∙◌, length, ℕ, true, arith}
-use Rattle.std.specs.Prelude.{is_none, Some}
+use Rattle.std.proofs.Common.{◌<◌, ◌≤◌, inr, refl, sym, ap, ◌∙◌, length, ℕ, true, arith}
+use Rattle.std.specs.Prelude.{is_none}
 use Rattle.wire_buf.specs.Buffer.{Buffer}
 use Rattle.http_model.specs.declared.Limits.{Limits}
-use Rattle.http_model.specs.Reading.{Received}
 use Rattle.lane.specs.Answering.{shows_last}
-use Rattle.answer_side.specs.Hearing.{IsBetween, HasHead, IsRead}
 use Rattle.answer_side.specs.declared.hearing.Heard.TheVariants as heard
 use Rattle.answer_side.specs.declared.side.AnswerSide.{AnswerSide}
 use Rattle.answer_side.proofs.ReadLemmas.{InHeads, in_heads, stands_in, stands_by, between_on, fits_reading, hears_none, hears_from, is_read}

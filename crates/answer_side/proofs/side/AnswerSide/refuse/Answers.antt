@@ -1,4 +1,4 @@
-use Rattle.std.proofs.Common.{◌≡◌, false, refl, ap, ◌∙◌, subst}
+use Rattle.std.proofs.Common.{false, refl, ap, ◌∙◌, subst}
 use Rattle.http_model.specs.Head.{Message}
 use Rattle.http_model.specs.Refusal.{refusal}
 use Rattle.http_rules.specs.declared.config.Config.{Config}

@@ -1,5 +1,4 @@
-use Rattle.std.proofs.Common.{◌≡◌, Bool, true, false, refl, sym, ap, ◌∙◌, subst}
-use Rattle.std.specs.Prelude.{List, ℕ, Some, None}
+use Rattle.std.proofs.Common.{refl, ap, ◌∙◌, subst}
 use Rattle.http_model.specs.Head.{Message}
 use Rattle.http_rules.specs.declared.config.Config.{Config}
 use Rattle.proxy_meaning.specs.Product.{meaning_of}

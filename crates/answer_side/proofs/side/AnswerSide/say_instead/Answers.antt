@@ -1,4 +1,4 @@
-use Rattle.std.proofs.Common.{◌≤◌, ℕ, false, refl, sym, ap, ◌∙◌, subst, arith}
+use Rattle.std.proofs.Common.{ℕ, false, refl, sym, ap, subst, arith}
 use Rattle.wire_buf.specs.Buffer.{Buffer}
 use Rattle.http_rules.specs.Lives.{answering}
 use Rattle.session_core.specs.Sided.{asker_in}

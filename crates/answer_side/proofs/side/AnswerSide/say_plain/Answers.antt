@@ -1,13 +1,10 @@
-use Rattle.std.proofs.Common.{◌≡◌, refl, ap, ◌∙◌, subst}
-use Rattle.http_model.specs.Head.{Message}
+use Rattle.std.proofs.Common.{refl, ap, ◌∙◌}
 use Rattle.http_model.specs.Refusal.{refusal}
 use Rattle.http_rules.specs.declared.config.Config.{Config}
-use Rattle.session_rules.specs.Ruling.{config_of}
 use Rattle.session_model.specs.Amending.{plain_refusal}
 use Rattle.session_model.specs.Answering.{Plain}
 use Rattle.session_core.specs.Sided.{asker_in}
 use Rattle.answer_side.specs.Listed.{IsListed}
-use Rattle.answer_side.specs.Judging.{Settles, Finds}
 use Rattle.answer_side.proofs.Listed.{listed_blocks, listed_spells, refusal_listed, closing_listed}
 use Rattle.answer_side.proofs.side.AnswerSide.say_plain.Goals as goal
 

@@ -1,4 +1,4 @@
-use Rattle.std.proofs.Common.{◌≡◌, refl, sym, ap, ◌∙◌, subst, ℕ, false}
+use Rattle.std.proofs.Common.{refl, ap, ◌∙◌, ℕ, false}
 use Rattle.wire_buf.specs.Buffer.{Buffer}
 use Rattle.http_model.specs.Finish.{response_framing}
 use Rattle.session_model.specs.Answering.{finished_response}

@@ -1,10 +1,9 @@
-use Rattle.std.proofs.Common.{refl, sym, ap, ◌∙◌}
+use Rattle.std.proofs.Common.{refl, ap}
 use Rattle.std.specs.Prelude.{is_none}
 use Rattle.http_model.specs.declared.Limits.{Limits}
-use Rattle.answer_side.specs.Hearing.{IsBetween}
+use Rattle.answer_side.specs.declared.hearing.Heard.TheVariants as heard
 use Rattle.answer_side.specs.declared.side.AnswerSide.{AnswerSide}
-use Rattle.answer_side.proofs.Putting.{Puts}
-use Rattle.answer_side.proofs.ReadLemmas.{InHeads, in_heads, stands_in, puts_more, between_on, fits_sending, reads_on, waits_on}
+use Rattle.answer_side.proofs.ReadLemmas.{InHeads, in_heads, puts_more, hears_more, between_on, fits_sending, reads_on, waits_on}
 use Rattle.answer_side.proofs.side.AnswerSide.show_on.Goals as goal
 
 pub step-requires-clause-sound : goal.step-requires-clause-sound
@@ -16,28 +15,19 @@ returns-then-is_showing-clause-leads c = λ cfg asking server put now saying s.
     let new : AnswerSide = record old { lane = c.step.new.self } in
     let p = c.step.ensures.answers in
     let h : InHeads cfg old asking server put = in_heads cfg old asking server put now saying c.requires.between.place s in
-    let t : Puts old.lane new.lane p.put = record { answers = p.answers; ended = c.step.ensures.keeps; last = c.step.ensures.last } in
-    record {
-      put = p.put;
-      window = p.window;
-      tells = (
-        stands_in cfg new asking server _ now saying c.requires.between.place (puts_more cfg old new asking server put p.put refl t c.step.ensures.limits c.step.ensures.filters h),
-        waits_on new (c.step.ensures.no_stall h.e h.in_hand.answers (c.is_showing.ensures.shows c.if-is_showing.true)),
-      );
-    }
+    hears_more cfg old new asking server put p.put now saying heard.More p.window c.requires.between.place
+    (puts_more cfg old new asking server put p.put refl (record { answers = p.answers; ended = c.step.ensures.keeps; last = c.step.ensures.last }) c.step.ensures.limits c.step.ensures.filters h)
+    (λ stands. (stands, waits_on new (c.step.ensures.no_stall h.e h.in_hand.answers (c.is_showing.ensures.shows c.if-is_showing.true))))
 
 pub returns-clause-leads : goal.returns-clause-leads
 returns-clause-leads c = λ cfg asking server put now saying s.
     let old = c.args.self.now in
     let new : AnswerSide = record old { lane = c.step.new.self } in
     let p = c.step.ensures.answers in
-    let h : InHeads cfg old asking server put = in_heads cfg old asking server put now saying c.requires.between.place s in
-    let t : Puts old.lane new.lane p.put = record { answers = p.answers; ended = c.step.ensures.keeps; last = c.step.ensures.last } in
-    record {
-      put = p.put;
-      window = p.window;
-      tells = stands_in cfg new asking server _ now saying c.requires.between.place (puts_more cfg old new asking server put p.put refl t c.step.ensures.limits c.step.ensures.filters h);
-    }
+    hears_more cfg old new asking server put p.put now saying heard.Interim p.window c.requires.between.place
+    (puts_more cfg old new asking server put p.put refl (record { answers = p.answers; ended = c.step.ensures.keeps; last = c.step.ensures.last }) c.step.ensures.limits c.step.ensures.filters
+    (in_heads cfg old asking server put now saying c.requires.between.place s))
+    (λ stands. stands)
 
 pub returns-then-is_showing-clause-between : goal.returns-then-is_showing-clause-between
 returns-then-is_showing-clause-between c =

@@ -1,4 +1,4 @@
-use Rattle.std.proofs.Common.{sym, ap, ◌∙◌, subst}
+use Rattle.std.proofs.Common.{ap, ◌∙◌}
 use Rattle.answer_side.specs.Stands.{is_serving}
 use Rattle.answer_side.proofs.StepLemmas.{steps_on}
 use Rattle.answer_side.proofs.side.AnswerSide.step_answer.Goals as goal
