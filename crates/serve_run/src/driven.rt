@@ -18,6 +18,7 @@ pub trait Opens<C: Machine> {
     fn open(&mut self) -> Result<C, OutOfMemory>
         ensures stands { IfOk result (λ core. C.stands (settings self.old) core nothing_yet) }
         ensures idle { IfOk result (λ core. (C.seen core).serving ≡ false) }
+        ensures sound { IfOk result (λ core. C.sound core) }
         ensures settings { settings self.new ≡ settings self.old };
 }
 
@@ -62,7 +63,8 @@ fn drive<C: Machine + Drop, N: Net>(
     client: &mut N::Link,
     net: &mut N,
 ) -> Result<Ran, SessionFault>
-    requires { (C.seen core).serving ≡ false }
+    requires idle { (C.seen core).serving ≡ false }
+    requires sound { C.sound core }
     ensures { (cfg : C.Settings) → C.stands cfg core nothing_yet
         → Drove C.meaning C.stands C.seen N.Link.seen N.Link.wrote cfg (address_of to.now) client.old client.new (N.seen net.old) (N.seen net.new) result }
 {
