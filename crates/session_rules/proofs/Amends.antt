@@ -22,7 +22,7 @@ use Rattle.http_rules.specs.declared.verdict.Verdict.{Verdict}
 use Rattle.http_rules.specs.declared.verdict.Verdict.TheVariants as verdicts
 use Rattle.http_rules.specs.Rules.{Comes, rules_of, amended_by, after_of}
 use Rattle.http_rules.specs.Run.{Leaves}
-use Rattle.session_rules.specs.Ruling.{is_pass, AmendsFront, AmendsHead, IsReply, AmendsReply, SaysReply, kept_with}
+use Rattle.session_rules.specs.Ruling.{is_pass, AmendsFront, AmendsHead, IsReply, AmendsReply, SaysReply}
 
 -- a body that stays behind the head
 abbrev pub Stays : Type 0
