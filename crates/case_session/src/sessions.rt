@@ -85,11 +85,10 @@ fn replied_failing(alloc: Global, row: Row<'_>) -> Result<Vec<u8>, Fault> {
 }
 
 /// What a session of files comes to, as a file of this ending tells it: `report` the exact report, `expected` facts of
-/// it, `record` the line of a refused record, `check` the line of `check`, `rewritten` what `check --record` writes.
+/// it, `check` the line of `check`.
 pub fn session_made(alloc: Global, ending: &str, cfg: &[u8], rec: &[u8]) -> Result<Vec<u8>, Fault> {
     let words = match ending {
         "check" => "check;c;",
-        "rewritten" => "check;--record;r;",
         _ => "replay;c;r;",
     };
     let reply = reply_to(alloc, words, cfg, rec, Vec::new(alloc))?;

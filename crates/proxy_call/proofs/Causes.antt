@@ -8,17 +8,13 @@ use Rattle.cfg_parse.specs.declared.fault.CfgFault.{CfgFault}
 use Rattle.cfg_parse.specs.declared.fault.CfgFault.TheVariants as configurations
 use Rattle.forward_core.specs.declared.exchange.ExchangeFault.{ExchangeFault}
 use Rattle.forward_core.specs.declared.exchange.ExchangeFault.TheVariants as exchanges
-use Rattle.rec_format.specs.declared.record.RecFault.{RecFault}
-use Rattle.rec_format.specs.declared.record.RecFault.TheVariants as records
-use Rattle.rec_format.specs.Parts.{Refuses}
-use Rattle.rec_format.specs.Recorded.{record_of}
-use Rattle.px_command.specs.Command.{NamesConfig}
-use Rattle.proxy_call.specs.Answers.{DecidesBy, DecidesRecord, IsAccepted, UnbuiltBy}
+use Rattle.px_command.specs.Command.{IsReplay, NamesConfig}
+use Rattle.proxy_call.specs.Answers.{DecidesBy, IsAccepted, UnbuiltBy}
 use Rattle.proxy_call.specs.Replay.{IfTold, Builder, Configured}
-use Rattle.proxy_call.specs.Stops.{Answers, ReadStops, StopsBy, stop_of_configuration, stop_of_record, stop_of_exchange}
+use Rattle.proxy_call.specs.Stops.{Answers, ReadStops, StopsBy, stop_of_configuration, stop_of_exchange}
 use Rattle.proxy_call.specs.declared.stop.Stop.{Stop}
 use Rattle.proxy_call.specs.declared.stop.Stop.TheVariants as stops
-use Rattle.proxy_call.proofs.Told.{recorded, refused, weaker}
+use Rattle.proxy_call.proofs.Told.{refused, weaker}
 
 -- a count that rose before or after rose in all
 pub rose_before : (a b d : ℕ) → Rose a b → b ≤ d → Rose a d
@@ -47,7 +43,6 @@ pub read_stops : (words : List (List ℕ)) (files : Option (List NamedBytes)) (b
     → ReadStops name last from now s → StopsBy words files builder last before now s
 read_stops words files builder name last from before now (stops.Usage text) rose decides given = absurd given
 read_stops words files builder name last from before now (stops.Refused line kind) rose decides given = absurd given
-read_stops words files builder name last from before now (stops.Record place kind) rose decides given = absurd given
 read_stops words files builder name last from before now (stops.File failed) rose decides given =
     (rose given.0, given.1, subst (DecidesBy words files) (sym given.2) decides)
 read_stops words files builder name last from before now stops.Output rose decides given = absurd given
@@ -59,13 +54,6 @@ pub load_stops : (words : List (List ℕ)) (files : Option (List NamedBytes)) (b
     → Loads bytes builder.before builder.now builder.kept (Err fault) → StopsBy words files builder last before now (stop_of_configuration fault)
 load_stops words files builder name last bytes before now (configurations.Refused line kind) named read loads = (name, named, refused files builder name bytes line kind read loads)
 load_stops words files builder name last bytes before now configurations.OutOfMemory named read loads = tt
-
--- a record that is refused
-pub record_stops : (words : List (List ℕ)) (files : Option (List NamedBytes)) (builder : Builder) (name last bytes : List ℕ) (before now : ℕ) (fault : RecFault) → DecidesRecord words files name
-    → Reads files name 67108865 bytes → Refuses (record_of bytes) fault → StopsBy words files builder last before now (stop_of_record fault)
-record_stops words files builder name last bytes before now (records.Refused place kind) decides read refuses =
-    (name, decides, recorded files name bytes (Err (record { place = place; kind = kind })) read refuses)
-record_stops words files builder name last bytes before now records.OutOfMemory decides read refuses = tt
 
 -- an exchange that isn't served
 pub exchange_stops : (words : List (List ℕ)) (files : Option (List NamedBytes)) (builder : Builder) (last : List ℕ) (before now : ℕ) (fault : ExchangeFault) → (fault ≡ exchanges.Unbuilt → UnbuiltBy words files)

@@ -5,8 +5,6 @@ use Rattle.http_rules.specs.declared.config.Config.{Config}
 use Rattle.px_pattern.specs.Refusals.{Kept}
 use Rattle.cfg_parse.specs.Whole.{config_of, Refusal, Builds}
 use Rattle.rec_format.specs.Record.{IsFirstRecord, server_text}
-use Rattle.rec_format.specs.Recorded as records
-use Rattle.rec_format.specs.Recorded.{Recorded, record_of}
 use Rattle.rec_format.specs.Report.{report_of}
 use Rattle.session_model.specs.Stream.{Server, NotThere, Open}
 use Rattle.session_model.specs.Session.{Out, Session}
@@ -35,14 +33,6 @@ told_by before now kept = record { before = before; now = now; kept = kept }
 abbrev pub Configured : List NamedBytes → (cfg_name : List ℕ) → Result Config Refusal → Type 0
 Configured files cfg_name result = Holds files cfg_name (λ text. config_of text None ≡ result)
 
--- the text of this file comes to this as a record
-abbrev pub RecordIs : List NamedBytes → (rec_name : List ℕ) → Result Recorded records.Refusal → Type 0
-RecordIs files rec_name result = Holds files rec_name (λ text. record_of text ≡ result)
-
--- the text of this file is accepted as a record
-abbrev pub IsRecord : List NamedBytes → (rec_name : List ℕ) → Type 0
-IsRecord files rec_name = (r : Recorded) × RecordIs files rec_name (Ok r)
-
 -- it is refused so; r is none, or the number of the pattern that the builder refused, and then refused last
 abbrev pub Refuses : List NamedBytes → Builder → (cfg_name : List ℕ) → (r : Option ℕ) → Refusal → Type 0
 Refuses files builder cfg_name r refusal =
@@ -51,7 +41,6 @@ Refuses files builder cfg_name r refusal =
 -- the two files say this
 pub record Say (files : List NamedBytes) (cfg_name rec_name : List ℕ) (cfg : Config) (client body : List ℕ) : Type 0 where
   pub configuration : Configured files cfg_name (Ok cfg)
-  pub accepted : IsRecord files rec_name
   pub recorded : Holds files rec_name (λ text. IsFirstRecord text client body)
 
 -- Of the servers of a record, those that so many connects found: past the record's list there is none.
@@ -80,11 +69,10 @@ pub record IsReportOf (files : Option (List NamedBytes)) (cfg_name rec_name text
   pub say : IfTold files (λ fs. Say fs cfg_name rec_name cfg client body)
   pub reports : Reports cfg client body text
 
--- the configuration and the record are accepted, and the record isn't in the first form
+-- the configuration is accepted, and the record isn't in the first form
 abbrev pub NoRecord : List NamedBytes → (cfg_name rec_name : List ℕ) → Type 0
 NoRecord files cfg_name rec_name =
     ((cfg : Config) × Configured files cfg_name (Ok cfg))
-    × IsRecord files rec_name
     × Holds files rec_name (λ text. (client body : List ℕ) → IsFirstRecord text client body → ⊥)
 
 -- both are, and the client isn't served yet

@@ -8,10 +8,8 @@ use Rattle.cfg_parse.specs.declared.fault.CfgFault.TheVariants as configurations
 use Rattle.forward_core.specs.declared.exchange.ExchangeFault.{ExchangeFault}
 use Rattle.forward_core.specs.declared.exchange.ExchangeFault.TheVariants as exchanges
 use Rattle.px_command.specs.Command.{IsUsage, NamesConfig}
-use Rattle.rec_format.specs.declared.record.RecFault.{RecFault}
-use Rattle.rec_format.specs.declared.record.RecFault.TheVariants as records
-use Rattle.proxy_call.specs.Answers.{DecidesBy, DecidesRecord, IsAnswer, IsGood, IsRefused, UnbuiltBy, WritesFront}
-use Rattle.proxy_call.specs.Replay.{IfTold, Builder, RecordIs}
+use Rattle.proxy_call.specs.Answers.{DecidesBy, IsAnswer, IsGood, IsRefused, UnbuiltBy, WritesFront}
+use Rattle.proxy_call.specs.Replay.{Builder}
 use Rattle.proxy_call.specs.declared.status.Status.{Status}
 use Rattle.proxy_call.specs.declared.status.Status.TheVariants as ended
 use Rattle.proxy_call.specs.declared.reply.Reply.{Reply}
@@ -28,10 +26,6 @@ abbrev pub stop_of_configuration : CfgFault → Stop
 stop_of_configuration (configurations.Refused line kind) = stops.Refused line kind
 stop_of_configuration configurations.OutOfMemory = stops.OutOfMemory
 
-abbrev pub stop_of_record : RecFault → Stop
-stop_of_record (records.Refused place kind) = stops.Record place kind
-stop_of_record records.OutOfMemory = stops.OutOfMemory
-
 abbrev pub stop_of_exchange : ExchangeFault → Stop
 stop_of_exchange exchanges.Unbuilt = stops.Unbuilt
 stop_of_exchange exchanges.OutOfMemory = stops.OutOfMemory
@@ -42,7 +36,6 @@ stop_of_exchange exchanges.OutOfMemory = stops.OutOfMemory
 abbrev pub status_of : Stop → Status
 status_of (stops.Usage text) = ended.Usage
 status_of (stops.Refused line kind) = ended.Config
-status_of (stops.Record place kind) = ended.Record
 status_of (stops.File name) = ended.FileFault
 status_of stops.Output = ended.OutFault
 status_of stops.Unbuilt = ended.Unbuilt
@@ -53,8 +46,6 @@ status_of stops.OutOfMemory = ended.OutOfMemory
 abbrev pub StopsBy : List (List ℕ) → Option (List NamedBytes) → Builder → (last : List ℕ) → (before now : ℕ) → Stop → Type 0
 StopsBy words files builder last before now (stops.Usage text) = IsUsage words
 StopsBy words files builder last before now (stops.Refused line kind) = (cfg_name : List ℕ) × NamesConfig words cfg_name × IsRefused files builder cfg_name line kind
-StopsBy words files builder last before now (stops.Record place kind) =
-    (rec_name : List ℕ) × DecidesRecord words files rec_name × IfTold files (λ fs. RecordIs fs rec_name (Err (record { place = place; kind = kind })))
 StopsBy words files builder last before now (stops.File name) = Rose before now × (last ≡ name.now) × DecidesBy words files name.now
 StopsBy words files builder last before now stops.Output = ⊥
 StopsBy words files builder last before now stops.Unbuilt = UnbuiltBy words files
@@ -64,7 +55,6 @@ StopsBy words files builder last before now stops.OutOfMemory = Unit {0}
 abbrev pub ReadStops : (name last : List ℕ) → (before now : ℕ) → Stop → Type 0
 ReadStops name last before now (stops.Usage text) = ⊥
 ReadStops name last before now (stops.Refused line kind) = ⊥
-ReadStops name last before now (stops.Record place kind) = ⊥
 ReadStops name last before now (stops.File failed) = Rose before now × (last ≡ failed.now) × (failed.now ≡ name)
 ReadStops name last before now stops.Output = ⊥
 ReadStops name last before now stops.Unbuilt = ⊥
@@ -79,7 +69,6 @@ Answers words files builder last before now (Err stop) = StopsBy words files bui
 abbrev pub IsSilent : List (List ℕ) → Option (List NamedBytes) → Stop → Type 0
 IsSilent words files (stops.Usage text) = ⊥
 IsSilent words files (stops.Refused line kind) = ⊥
-IsSilent words files (stops.Record place kind) = ⊥
 IsSilent words files (stops.File name) = ⊥
 IsSilent words files stops.Output = ⊥
 IsSilent words files stops.Unbuilt = UnbuiltBy words files
@@ -94,7 +83,6 @@ Replies words files builder last before now (Err stop) = IsSilent words files st
 abbrev pub Breaks : List (List ℕ) → Option (List NamedBytes) → Builder → (last : List ℕ) → (before now : ℕ) → (old new : Option (List ℕ)) → Stop → Type 0
 Breaks words files builder last before now old new (stops.Usage text) = ⊥
 Breaks words files builder last before now old new (stops.Refused line kind) = ⊥
-Breaks words files builder last before now old new (stops.Record place kind) = ⊥
 Breaks words files builder last before now old new (stops.File name) = ⊥
 Breaks words files builder last before now old new stops.Output = Rose before now × WritesFront words files builder last old new
 Breaks words files builder last before now old new stops.Unbuilt = UnbuiltBy words files × (new ≡ old)

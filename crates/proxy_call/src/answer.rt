@@ -3,8 +3,8 @@
 ghost use Rattle.std.specs.Prelude.{◌≡◌, ◌≤◌, ℕ, List, map, string_bytes, IfOk, IfErr};
 ghost use Rattle.px_link.specs.Told.{Reads};
 ghost use Rattle.http_rules.specs.Valid.{IsValid};
-ghost use Rattle.px_command.specs.Command.{IsCheck, IsCheckRecord, IsReplay, NamesConfig};
-ghost use Rattle.proxy_call.specs.Replay.{IfTold, Builder, Configured, told_by};
+ghost use Rattle.px_command.specs.Command.{IsCheck, IsReplay, NamesConfig};
+ghost use Rattle.proxy_call.specs.Replay.{IfTold, Configured, told_by};
 ghost use Rattle.proxy_call.specs.Stops.{Answers, ReadStops, StopsBy};
 
 use crate::lines::accepted_line;
@@ -14,7 +14,6 @@ use cfg_parse::{Config, MAX_TEXT, load};
 use px_command::{Asked, asked_by, help_text, version_text};
 use px_link::{Bytes, Fault, Files};
 use px_pattern::Patterns;
-use rec_format::{read_record, write_record};
 use std::alloc::Global;
 
 /// The most bytes of a record.
@@ -73,20 +72,6 @@ fn check<'a, F: Files, P: Patterns>(
     Ok(accepted_line(alloc, cfg.request.len(), answers, cfg.filter_count())?)
 }
 
-/// The record of `check --record REC`, in the second format.
-fn check_record<'a, F: Files>(
-    alloc: Global,
-    files: &mut F,
-    name: &'a str,
-) -> Result<Bytes, Stop<'a>>
-    ensures { (words : List (List ℕ)) (builder : Builder) → IsCheckRecord words name.now
-        → Answers words (F.files files.old) builder (F.last_failed files.new) (F.faults files.old) (F.faults files.new) result }
-{
-    let text = read(alloc, files, name, MAX_RECORD + 1)?;
-    let record = read_record(alloc, text.as_slice())?;
-    Ok(write_record(alloc, &record)?)
-}
-
 /// The report of `replay CFG REC`.
 fn replay<'a, F: Files, P: Patterns>(
     alloc: Global,
@@ -100,7 +85,6 @@ fn replay<'a, F: Files, P: Patterns>(
 {
     let cfg = configuration(alloc, files, cfg_name, pats)?;
     let text = read(alloc, files, rec_name, MAX_RECORD + 1)?;
-    read_record(alloc, text.as_slice())?;
     Ok(report_by(alloc, &cfg, text.as_slice())?)
 }
 
@@ -115,9 +99,8 @@ pub fn answer<'a, F: Files, P: Patterns>(
 {
     match asked_by(alloc, words)? {
         Asked::Check { cfg } => check(alloc, files, cfg, pats),
-        Asked::CheckRecord { rec } => check_record(alloc, files, rec),
         Asked::Replay { cfg, rec } => replay(alloc, files, cfg, rec, pats),
-        Asked::Serve { .. } | Asked::Drill { .. } => Err(Stop::Unbuilt),
+        Asked::Later => Err(Stop::Unbuilt),
         Asked::Help => Ok(help_text(alloc)?),
         Asked::Version => Ok(version_text(alloc)?),
         Asked::Usage { text } => Err(Stop::Usage { text }),

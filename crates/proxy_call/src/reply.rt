@@ -5,7 +5,7 @@ ghost use Rattle.proxy_call.specs.Replay.{Builder, told_by};
 ghost use Rattle.proxy_call.specs.Stops.{Replies, StopsBy};
 
 use crate::answer::answer;
-use crate::lines::{file_line, record_line, refused_line};
+use crate::lines::{file_line, refused_line};
 use crate::status::Status;
 use crate::stop::Stop;
 use px_link::{Bytes, Files};
@@ -32,10 +32,6 @@ fn told<'a>(alloc: Global, stop: Stop<'a>) -> Result<Reply, Stop<'a>>
         Stop::Refused { line, kind } => Ok(Reply {
             status: Status::Config,
             text: refused_line(alloc, line, kind)?,
-        }),
-        Stop::Record { place, kind } => Ok(Reply {
-            status: Status::Record,
-            text: record_line(alloc, place, kind)?,
         }),
         Stop::File { name } => Ok(Reply {
             status: Status::FileFault,

@@ -9,8 +9,6 @@ pub enum Status {
     Usage = 1,
     /// The configuration is refused.
     Config = 2,
-    /// The record is refused.
-    Record = 3,
     /// A file could not be read.
     FileFault = 4,
     /// The output could not be written.

@@ -7,7 +7,6 @@ use cfg_parse::{CfgFault, CfgKind};
 use forward_core::ExchangeFault;
 use http_model::OutOfMemory;
 use px_link::{Bytes, Fault};
-use rec_format::{RecFault, RecKind};
 
 /// Why a command stops.
 #[derive(Drop)]
@@ -16,8 +15,6 @@ pub enum Stop<'a> {
     Usage { text: Bytes },
     /// The configuration is refused at this line.
     Refused { line: u32, kind: CfgKind },
-    /// The record is refused at this byte.
-    Record { place: u32, kind: RecKind },
     /// The file of this name could not be read.
     File { name: &'a str },
     /// The output could not be written.
@@ -35,7 +32,6 @@ impl<'a> Stop<'a> {
         match self {
             Stop::Usage { .. } => Status::Usage,
             Stop::Refused { .. } => Status::Config,
-            Stop::Record { .. } => Status::Record,
             Stop::File { .. } => Status::FileFault,
             Stop::Output => Status::OutFault,
             Stop::Unbuilt => Status::Unbuilt,
@@ -80,20 +76,6 @@ impl<'a> From<CfgFault> for Stop<'a> {
         match fault {
             CfgFault::Refused { line, kind } => Stop::Refused { line, kind },
             CfgFault::OutOfMemory => Stop::OutOfMemory,
-        }
-    }
-}
-
-impl<'a> From<RecFault> for Stop<'a> {
-    ghost use Rattle.std.specs.Prelude.{◌≡◌};
-    ghost use Rattle.proxy_call.specs.Stops.{stop_of_record};
-
-    ghost from_gives = { λ fault stop. stop ≡ stop_of_record fault };
-
-    fn from(fault: RecFault) -> Self {
-        match fault {
-            RecFault::Refused { place, kind } => Stop::Record { place, kind },
-            RecFault::OutOfMemory => Stop::OutOfMemory,
         }
     }
 }

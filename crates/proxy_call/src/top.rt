@@ -3,7 +3,7 @@ ghost use Rattle.std.specs.Prelude.{◌≡◌, ◌⊎◌, ℕ, List, map, string
 ghost use Rattle.px_link.specs.Told.{NamedBytes, Rose, Gains};
 ghost use Rattle.px_command.specs.Command.{IsUsage, NamesConfig};
 ghost use Rattle.proxy_call.specs.Lines.{file_line};
-ghost use Rattle.proxy_call.specs.Answers.{IsGood, IsRefusedOf, IsRecordRefusedOf, DecidesRecord, DecidesBy, WritesFront, UnbuiltBy, IsDue};
+ghost use Rattle.proxy_call.specs.Answers.{IsGood, IsRefusedOf, DecidesBy, WritesFront, UnbuiltBy, IsDue};
 ghost use Rattle.proxy_call.specs.Replay.{told_by};
 ghost use Rattle.proxy_call.specs.Stops.{Ends};
 
@@ -51,10 +51,6 @@ pub fn htx_proxy<F: Files, K: Sink, P: Patterns>(
     // where the builder refused a pattern of the file, and it was the last one.
     ensures config { result ≡ Status.Config → (name : List ℕ) × NamesConfig (map string_bytes words.now) name
         × (text : List ℕ) × IsRefusedOf (F.files files.old) (told_by (P.refusals pats.old) (P.refusals pats.new) (P.last_refused pats.new)) name text × Gains (K.written out.old) (K.written out.new) text }
-
-    // Record comes only where the record is refused, and has written the first byte of the line and what must stand there.
-    ensures record_refused { result ≡ Status.Record → (name : List ℕ) × DecidesRecord (map string_bytes words.now) (F.files files.old) name
-        × (text : List ℕ) × IsRecordRefusedOf (F.files files.old) name text × Gains (K.written out.old) (K.written out.new) text }
 
     // A fault has its cause in the object that was handed in. The file is the one that decides: the record's only where the
     // configuration is accepted.

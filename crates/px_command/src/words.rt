@@ -12,16 +12,14 @@ pub fn is_file_word(word: &str) -> bool
     !bytes.is_empty() && bytes[0] != b'-'
 }
 
-/// The number within bounds that a word of 1 to 10 decimal digits is.
-pub fn number(word: &str, least: u32, most: u32) -> Option<u32>
-    ensures some { IfSome result (IsNumber least most word.now) }
-    ensures none { IfNone result ((n : ℕ) → IsNumber least most word.now n → ⊥) }
+/// Whether a word is a number of 1 to 10 decimal digits within bounds.
+pub fn is_number(word: &str, least: u64, most: u64) -> bool
+    ensures { IsTrue result ↔ IsNumber least most word.now }
 {
-    let number = read_decimal(word.as_bytes(), 10)?;
-    if number < u64::from(least) || u64::from(most) < number {
-        return None;
+    match read_decimal(word.as_bytes(), 10) {
+        Some(number) => least <= number && number <= most,
+        None => false,
     }
-    Some(number as u32)
 }
 
 /// Whether the words are this one alone.
