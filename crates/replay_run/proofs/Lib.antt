@@ -1,0 +1,6 @@
+pub mod Dials
+pub mod Fresh
+pub mod Lasts
+pub mod Nets
+pub mod Streams
+pub mod Whole
