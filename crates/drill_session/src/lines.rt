@@ -61,7 +61,11 @@ pub fn write_lines(alloc: Global, report: &Report) -> Result<Bytes, OutOfMemory>
     let mut text = Vec::new(alloc);
     put_count(&mut text, b"exchanges ", report.exchanges as u64)?;
     put_count(&mut text, b"server bytes ", total)?;
-    put_count(&mut text, b"client bytes ", report.client.bytes.as_slice().len() as u64)?;
+    put_count(
+        &mut text,
+        b"client bytes ",
+        report.client.bytes.as_slice().len() as u64,
+    )?;
     put_line(&mut text, b"end ", end_word(report.end))?;
     Ok(Bytes::from(text))
 }

@@ -74,7 +74,11 @@ fn check<'a, F: Files, P: Patterns>(
 }
 
 /// The record of `check --record REC`, in the second format.
-fn check_record<'a, F: Files>(alloc: Global, files: &mut F, name: &'a str) -> Result<Bytes, Stop<'a>>
+fn check_record<'a, F: Files>(
+    alloc: Global,
+    files: &mut F,
+    name: &'a str,
+) -> Result<Bytes, Stop<'a>>
     ensures { (words : List (List ℕ)) (builder : Builder) → IsCheckRecord words name.now
         → Answers words (F.files files.old) builder (F.last_failed files.new) (F.faults files.old) (F.faults files.new) result }
 {
