@@ -8,6 +8,7 @@ pub mod Seen
 pub mod Stands
 pub mod Said
 pub mod Listed
+pub mod Lent
 pub mod Stepping
 pub mod Hearing
 pub mod Judging

@@ -10,11 +10,12 @@ ghost use Rattle.http_rules.specs.declared.config.Config.{Config};
 ghost use Rattle.proxy_meaning.specs.Product.{meaning_of};
 ghost use Rattle.session_core.specs.Lanes.{IsTotalAnswers};
 ghost use Rattle.session_core.specs.Sided.{Sided, AnswersSo, IsBefore};
-ghost use Rattle.session_core.specs.declared.Told.TheVariants as told;
 ghost use Rattle.lane.specs.Answering.{has_begun};
 ghost use Rattle.answer_side.specs.Seen.{seen, place_of};
-ghost use Rattle.answer_side.specs.Stands.{AnswerStands, HasBodies, is_serving, list_text};
+ghost use Rattle.answer_side.specs.Stands.{AnswerStands, is_serving, list_text};
 ghost use Rattle.answer_side.specs.declared.side.AnswerSide.{AnswerSide};
+
+use body_readings::reading;
 
 /// No stream of a server is without a reading, and a head is at least one byte.
 pub fn total()
@@ -27,10 +28,11 @@ pub fn total()
 
 /// While a server answers, what was put out to the client is a front of its answer, however its stream goes on.
 pub fn answers()
-    ensures { (cfg : Config) (side : AnswerSide) (p : Sided (meaning_of cfg)) → ((seen side).told ≡ told.Cut → HasBodies cfg)
+    ensures { (cfg : Config) (side : AnswerSide) (p : Sided (meaning_of cfg))
         → AnswerStands cfg side p.asking p.server p.to_client p.now p.saying → is_serving (place_of side) ≡ true → AnswersSo (meaning_of cfg) (seen side) p }
 {
     total();
+    reading();
     lane::laws::answer_promise();
     lane_core::laws::promise();
     lane_core::laws::has_body();

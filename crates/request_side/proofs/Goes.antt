@@ -33,8 +33,7 @@ use Rattle.request_side.specs.Seen.{source_by, source_at, is_done, sent_at}
 use Rattle.request_side.specs.Stands.{IsFor, coming, HasPut, GoesOut, StandsAt, message_to}
 use Rattle.request_side.specs.declared.place.Place.{Place}
 use Rattle.request_side.specs.declared.place.Place.TheVariants as place
-use Rattle.request_side.specs.Steps.{IfWhole}
-use Rattle.request_side.proofs.Bodies.{Follows, follows, is_read, perhaps_read}
+use Rattle.request_side.proofs.Bodies.{Follows, follows, is_read}
 use Rattle.request_side.proofs.Messages.{LaneSpells, SessionSpells, spelled, cut_code, uncut, reading_in}
 
 -- ---- text
@@ -171,44 +170,34 @@ asks_for cfg lane vars came_ asks to_server g stream rest a =
     subst (λ (x : Asking Variables). Asks (meaning_of cfg) vars stream (Sends (forwarded_to x rest))) (sym g.asks)
     (sends_head (meaning_of cfg) vars asks.received g.env stream rest g.rules g.short g.fits a)
 
-over_perhaps : {A B : Type 0} → (A → B) → Perhaps A → Perhaps B
-over_perhaps f p none = p (λ a. none (f a))
-
--- a way to have a reading makes one of what was put out
-if_read : {A B : Type 0} (so : LaneSource) → (A → B) → (source_by so ≡ source.Whole → A) → Perhaps A → IfWhole (source_by so) B
-if_read came.Going f a p = over_perhaps f p
-if_read came.Whole f a p = f (a refl)
-if_read (came.Cut code) f a p = over_perhaps f p
-
 pub whole_source : (so : LaneSource) → source_by so ≡ source.Whole → so ≡ came.Whole
 whole_source came.Going e = absurd (cc)
 whole_source came.Whole e = refl
 whole_source (came.Cut code) e = absurd (cc)
 
 pub requests : (cfg : Config) (lane : RequestLane) (vars : Variables) (came_ : Coming) (asks : Asking Variables) (to_server : List ℕ) (g : GoesOut cfg lane vars came_ asks to_server) → IsFor cfg lane → Promise lane.lane g.past
-    → (source_of lane ≡ came.Whole → HasBody lane.lane g.past)
-    → ((bytes : List ℕ) (end : Option Ending) → ((read : BodyRead) → ¬ (IsBodyOf cfg.limits asks.received.framing bytes end read)) → ⊥)
+    → ((bytes : List ℕ) (end : Option Ending) → (read : BodyRead) × IsBodyOf cfg.limits asks.received.framing bytes end read)
     → (stream : Stream) → Continues came_ stream
-    → IfWhole (source_by (source_of lane)) (RequestGoes (meaning_of cfg) (source_by (source_of lane)) (is_done (stage_of lane) && not (is_dropping lane)) (is_dropping lane) vars asks to_server stream)
-requests cfg lane vars came_ asks to_server g is promise has some stream c =
+    → RequestGoes (meaning_of cfg) (source_by (source_of lane)) (is_done (stage_of lane) && not (is_dropping lane)) (is_dropping lane) vars asks to_server stream
+requests cfg lane vars came_ asks to_server g is promise reading stream c =
     let M : Meaning = meaning_of cfg in
     let a : HeadAsks M vars (coming lane g.past.bytes) asks.received stream = head_asks M vars came_ (coming lane g.past.bytes) asks.received g.used g.head stream c in
     let f : Follows (ended_of lane) g.past.bytes a.rest = follows (ended_of lane) g.past.bytes a.rest a.continues in
-    let Read : Type 0 = (b : BodyReading) × BodyOf cfg.limits asks.received.framing a.rest.bytes a.rest.ending b in
-    if_read (source_of lane) (λ (b : Read).
-    record { rest = a.rest; asks = asks_for cfg lane vars came_ asks to_server g stream a.rest a.asks; goes = body_goes cfg lane vars came_ asks to_server g is promise a.rest f b.0 b.1 })
-    (λ whole. (let h = has (whole_source (source_of lane) whole) f.more (Some a.rest.ending) f.goes in
-    let x : IsBodyOf cfg.limits asks.received.framing a.rest.bytes (Some a.rest.ending) h.0 = reads_of cfg lane vars came_ asks to_server g is a.rest h.0 f h.1 in
-    let got : Read = (reading_in h.0, subst (IsBodyOf cfg.limits asks.received.framing a.rest.bytes (Some a.rest.ending)) (is_read cfg.limits asks.received.framing a.rest.bytes a.rest.ending h.0 x) x) in got))
-    (perhaps_read cfg.limits asks.received.framing a.rest.bytes a.rest.ending (some a.rest.bytes (Some a.rest.ending)))
+    let h = reading a.rest.bytes (Some a.rest.ending) in
+    let x : BodyOf cfg.limits asks.received.framing a.rest.bytes a.rest.ending (reading_in h.0) =
+    subst (IsBodyOf cfg.limits asks.received.framing a.rest.bytes (Some a.rest.ending)) (is_read cfg.limits asks.received.framing a.rest.bytes a.rest.ending h.0 h.1) h.1 in
+    record {
+      rest = a.rest;
+      asks = asks_for cfg lane vars came_ asks to_server g stream a.rest a.asks;
+      goes = body_goes cfg lane vars came_ asks to_server g is promise a.rest f (reading_in h.0) x;
+    }
 
 pub requests_at : (at : Place) (cfg : Config) (lane : RequestLane) (vars : Variables) (came_ : Coming) (asks : Asking Variables) (to_server : List ℕ) (reply : Reply Variables) → at ≡ place.Sending → StandsAt at cfg lane vars came_ asks to_server reply
-    → IsFor cfg lane → ((p : Past) → asking.Sends lane p → Promise lane.lane p) → ((p : Past) → asking.Sends lane p → source_of lane ≡ came.Whole → HasBody lane.lane p)
-    → ((bytes : List ℕ) (end : Option Ending) → ((read : BodyRead) → ¬ (IsBodyOf cfg.limits asks.received.framing bytes end read)) → ⊥)
+    → IsFor cfg lane → ((p : Past) → asking.Sends lane p → Promise lane.lane p)
+    → ((bytes : List ℕ) (end : Option Ending) → (read : BodyRead) × IsBodyOf cfg.limits asks.received.framing bytes end read)
     → (stream : Stream) → Continues came_ stream
-    → IfWhole (source_at at (source_of lane)) (RequestGoes (meaning_of cfg) (source_at at (source_of lane)) (sent_at at (stage_of lane) && not (is_dropping lane)) (is_dropping lane) vars asks to_server stream)
-requests_at place.Reading cfg lane vars came_ asks to_server reply e h is promise has some stream c = absurd (cc)
-requests_at place.Sending cfg lane vars came_ asks to_server reply e h is promise has some stream c =
-    requests cfg lane vars came_ asks to_server h is (promise h.past h.sends) (has h.past h.sends) some stream c
-requests_at place.Idle cfg lane vars came_ asks to_server reply e h is promise has some stream c = absurd (cc)
-requests_at place.Replied cfg lane vars came_ asks to_server reply e h is promise has some stream c = absurd (cc)
+    → RequestGoes (meaning_of cfg) (source_at at (source_of lane)) (sent_at at (stage_of lane) && not (is_dropping lane)) (is_dropping lane) vars asks to_server stream
+requests_at place.Reading cfg lane vars came_ asks to_server reply e h is promise reading stream c = absurd (cc)
+requests_at place.Sending cfg lane vars came_ asks to_server reply e h is promise reading stream c = requests cfg lane vars came_ asks to_server h is (promise h.past h.sends) reading stream c
+requests_at place.Idle cfg lane vars came_ asks to_server reply e h is promise reading stream c = absurd (cc)
+requests_at place.Replied cfg lane vars came_ asks to_server reply e h is promise reading stream c = absurd (cc)

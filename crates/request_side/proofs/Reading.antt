@@ -1,5 +1,5 @@
 -- From what a lane tells of a head to what the client's stream asks for.
-use Rattle.std.proofs.Common.{◌≡◌, ℕ, ◌<◌, inl, inr, List, [], ◌∷◌, ◌++◌, ◌&&◌, ◌==◌, Bool, true, false, refl, ap, sym, ◌∙◌, subst, append_assoc, if◌then◌else◌, length, ◌-◌, arith}
+use Rattle.std.proofs.Common.{◌≡◌, ◌≢◌, ℕ, ◌<◌, inl, inr, List, [], ◌∷◌, ◌++◌, ◌&&◌, ◌==◌, Bool, true, false, refl, ap, sym, ◌∙◌, subst, append_assoc, if◌then◌else◌, length, ◌-◌, arith}
 use Rattle.std.specs.Prelude.{Option, Some, None, is_some}
 use Rattle.std.proofs.lemmas.List.{append-nil}
 use Rattle.http_model.specs.declared.Ending.{Ending}
@@ -14,7 +14,8 @@ use Rattle.http_rules.specs.declared.config.Config.{Config}
 use Rattle.proxy_meaning.specs.Product.{meaning_of}
 use Rattle.h1_head.specs.Kind.{request_heads}
 use Rattle.h1_head.specs.Request.{RequestOf}
-use Rattle.httparse.specs.Grammar.{print_request}
+use Rattle.httparse.specs.Grammar.{RequestHead, print_request, print_blank}
+use Rattle.httparse.proofs.GrammarLemmas.{print_request-append}
 use Rattle.h1_head.specs.Stream.{behind, BeginsWith, HasNoHead, HeadOf}
 use Rattle.lane_core.specs.Promise.{GoesOnWith}
 use Rattle.h1_head.specs.Decides.{OnEachStream}
@@ -160,3 +161,35 @@ nothing_out place.Reading lane e s = s.1
 nothing_out place.Sending lane e s = absurd (cc)
 nothing_out place.Idle lane e s = absurd (cc)
 nothing_out place.Replied lane e s = absurd (cc)
+
+-- ---- bytes that are used
+
+front_nil : (xs ys : List ℕ) → xs ++ ys ≡ [] → xs ≡ []
+front_nil [] ys e = refl
+front_nil (x ∷ xs) ys e = absurd (cc)
+
+back_nil : (xs ys : List ℕ) → xs ++ ys ≡ [] → ys ≡ []
+back_nil [] ys e = e
+back_nil (x ∷ xs) ys e = absurd (cc)
+
+no_byte : (x : ℕ) (xs : List ℕ) → x ∷ xs ≡ [] → ⊥
+no_byte x xs e = cc
+
+-- a head is not empty
+head_has : (h : RequestHead) (rest : List ℕ) → print_request h ++ rest ≡ [] → ⊥
+head_has h rest e = no_byte _ _ (back_nil h.method _ (back_nil (print_blank h.blank) _ (sym (print_request-append h rest) ∙ e)))
+
+refused_some : (limits : Limits) (stream : List ℕ) (code : ℕ) → RequestOf limits stream (Refused code) → behind stream ≢ []
+refused_some limits stream code (inl (h, is)) = h.some
+refused_some limits stream code (inr (why, h, is)) = λ none. head_has h.head h.rest (sym h.begins.reads.1 ∙ none)
+
+pub refuses_bytes : (limits : Limits) (input : List ℕ) (ended : Bool) (code : ℕ) → OnEachStream ended (λ more. RequestOf limits (input ++ more) (Refused code)) → 0 < length input
+refuses_bytes limits [] ended code each = absurd (refused_some limits [] code (each [] (λ e. refl)) refl)
+refuses_bytes limits (x ∷ input) ended code each = omega arith
+
+pub head_uses : (limits : Limits) (input left : List ℕ) (ended : Bool) (got : Received) → ((stream : List ℕ) (got : Received) (rest : List ℕ) → RequestOf limits stream (Begins got rest) → length rest < length stream)
+    → OnEachStream ended (λ more. RequestOf limits (input ++ more) (Begins got (left ++ more))) → length left < length input
+head_uses limits input left ended got shorter each =
+    let h = shorter (input ++ []) got (left ++ []) (each [] (λ e. refl)) in
+    let P : List ℕ → List ℕ → Type 0 = λ xs ys. length xs < length ys in
+    subst (λ xs. P xs input) (append-nil left) (subst (λ ys. P (left ++ []) ys) (append-nil input) h)

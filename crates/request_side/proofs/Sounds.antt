@@ -5,7 +5,7 @@ use Rattle.http_model.specs.declared.Ending.{Ending}
 use Rattle.lane_core.specs.Sends.{Past}
 use Rattle.lane_core.specs.declared.stage.Stage.{Stage}
 use Rattle.lane_core.specs.declared.stage.Stage.TheVariants as stage
-use Rattle.lane.specs.Asking.{stage_of, source_of, input_of, most_of, ended_of, output_of, is_dropping, limits_of, IsWell, MayRead, Sends}
+use Rattle.lane.specs.Asking.{stage_of, source_of, input_of, most_of, ended_of, output_of, is_dropping, limits_of, array_of, blocks_of, IsWell, MayRead, Sends}
 use Rattle.lane.specs.declared.request_lane.RequestLane.{RequestLane}
 use Rattle.request_side.specs.declared.place.Place.{Place}
 use Rattle.request_side.specs.declared.place.Place.TheVariants as place
@@ -41,12 +41,12 @@ room_same old new was now limits input =
     let most : most_of new ≡ most_of old = now.sized.input ∙ ap (λ l. l.bufsize) limits ∙ sym was.sized.input in
     λ i. most i - length (input i)
 
-pub seen_as : (raw : List ℕ) (old new : RequestLane) (at : Place) (awaits was now open_ dropped : Bool) (room unread : ℕ) (window : List ℕ)
+pub seen_as : (old new : RequestLane) (at : Place) (awaits was now open_ dropped : Bool) (room unread : ℕ) (window : List ℕ)
     → is_none (ended_of new) ≡ open_ → most_of new - length (input_of new) ≡ room → unread_at at (input_of new) ≡ unread → output_of new ≡ window
-    → source_of new ≡ source_of old → stage_of new ≡ stage_of old → is_dropping new ≡ dropped
-    → seen raw (record { lane = new; place = at; awaits = awaits; at_rest = now })
-    ≡ record (seen raw (record { lane = old; place = at; awaits = awaits; at_rest = was })) { is_open = open_; room = room; unread = unread; window = window; dropped = dropped; at_rest = now }
-seen_as raw old new at awaits was now open_ dropped room unread window is_open is_room is_unread is_window source stays is_dropped =
+    → source_of new ≡ source_of old → stage_of new ≡ stage_of old → is_dropping new ≡ dropped → array_of new ≡ array_of old
+    → seen (record { lane = new; place = at; awaits = awaits; at_rest = now })
+    ≡ record (seen (record { lane = old; place = at; awaits = awaits; at_rest = was })) { is_open = open_; room = room; unread = unread; window = window; dropped = dropped; at_rest = now }
+seen_as old new at awaits was now open_ dropped room unread window is_open is_room is_unread is_window source stays is_dropped array =
     λ i. record {
       is_open = is_open i;
       room = is_room i;
@@ -57,5 +57,25 @@ seen_as raw old new at awaits was now open_ dropped room unread window is_open i
       dropped = is_dropped i;
       awaits = awaits;
       at_rest = now;
-      raw = raw;
+      list = (array i).blocks;
+    }
+
+-- what is seen once the text that waits is dropped
+pub seen_dropped : (old new : RequestLane) (at : Place) (awaits was now : Bool) → IsWell old → IsWell new → limits_of new ≡ limits_of old → input_of new ≡ input_of old
+    → ended_of new ≡ ended_of old → output_of new ≡ [] → source_of new ≡ source_of old → stage_of new ≡ stage_of old → is_dropping new ≡ true
+    → seen (record { lane = new; place = at; awaits = awaits; at_rest = now })
+    ≡ record (seen (record { lane = old; place = at; awaits = awaits; at_rest = was })) { window = []; dropped = true; at_rest = now; list = blocks_of new }
+seen_dropped old new at awaits was now well_old well_new limits input ended output source stays dropping =
+    let room = room_same old new well_old well_new limits input in
+    λ i. record {
+      is_open = is_none (ended i);
+      room = room i;
+      unread = unread_at at (input i);
+      window = output i;
+      source = source_at at (source i);
+      sent = sent_at at (stays i);
+      dropped = dropping i;
+      awaits = awaits;
+      at_rest = now;
+      list = blocks_of new;
     }

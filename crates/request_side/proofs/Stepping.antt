@@ -111,9 +111,9 @@ step_unread place.Sending old new e t = t.shrinks
 step_unread place.Idle old new e t = absurd (cc)
 step_unread place.Replied old new e t = absurd (cc)
 
-pub step_keeps : (raw left : List ℕ) (at : Place) (awaits was : Bool) (old new : RequestLane) → at ≡ place.Sending → Steps old new → SoundAt at old
-    → KeepsRequest (seen raw (record { lane = old; place = at; awaits = awaits; at_rest = was })) (seen left (record { lane = new; place = at; awaits = awaits; at_rest = true }))
-step_keeps raw left at awaits was old new e t s = record {
+pub step_keeps : (at : Place) (awaits was : Bool) (old new : RequestLane) → at ≡ place.Sending → Steps old new → SoundAt at old
+    → KeepsRequest (seen (record { lane = old; place = at; awaits = awaits; at_rest = was })) (seen (record { lane = new; place = at; awaits = awaits; at_rest = true }))
+step_keeps at awaits was old new e t s = record {
   is_open = ap is_none t.keeps.ended;
   dropped = t.dropped;
   drops = λ d. t.drops (sym t.dropped ∙ d);
@@ -132,9 +132,9 @@ rest_waits place.Sending lane over s h = absurd (over refl (undone (stage_of lan
 rest_waits place.Idle lane over s h = absurd (cc)
 rest_waits place.Replied lane over s h = absurd (cc)
 
-pub rest_keeps : (raw left : List ℕ) (at : Place) (awaits was : Bool) (lane : RequestLane) → (at ≡ place.Sending → stage_of lane ≢ stage.Sending) → SoundAt at lane
-    → KeepsRequest (seen raw (record { lane = lane; place = at; awaits = awaits; at_rest = was })) (seen left (record { lane = lane; place = at; awaits = awaits; at_rest = true }))
-rest_keeps raw left at awaits was lane over s = record {
+pub rest_keeps : (at : Place) (awaits was : Bool) (lane : RequestLane) → (at ≡ place.Sending → stage_of lane ≢ stage.Sending) → SoundAt at lane
+    → KeepsRequest (seen (record { lane = lane; place = at; awaits = awaits; at_rest = was })) (seen (record { lane = lane; place = at; awaits = awaits; at_rest = true }))
+rest_keeps at awaits was lane over s = record {
   is_open = refl;
   dropped = refl;
   drops = λ d. refl;

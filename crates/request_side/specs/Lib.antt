@@ -6,3 +6,4 @@ pub mod Stands
 pub mod Steps
 pub mod Reads
 pub mod Kept
+pub mod Edits

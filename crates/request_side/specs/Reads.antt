@@ -1,5 +1,5 @@
 -- What reading the head of the client's next request comes to.
-use Rattle.std.specs.Prelude.{◌≡◌, ℕ, ◌<◌, List, [], true, false, ◌&&◌}
+use Rattle.std.specs.Prelude.{◌≡◌, ℕ, ◌<◌, List, [], true, false, ◌&&◌, ⊤}
 use Rattle.http_model.specs.declared.Framing.{Framing}
 use Rattle.http_model.specs.Finish.{finish_request, request_framing}
 use Rattle.http_model.specs.Head.{Message, head_blocks}
@@ -22,7 +22,7 @@ use Rattle.lane_core.specs.declared.stage.Stage.TheVariants as stage
 use Rattle.lane.specs.Asking.{stage_of, blocks_of, framing_of, declared_of, close_of, MaySend}
 use Rattle.request_side.specs.declared.place.Place.TheVariants as place
 use Rattle.request_side.specs.declared.side.RequestSide.{RequestSide}
-use Rattle.request_side.specs.Seen.{place_of, is_open, room_of}
+use Rattle.request_side.specs.Seen.{place_of, is_open, room_of, input_size_of}
 use Rattle.request_side.specs.Stands.{IsFor, RequestStands, Leads, left_of}
 
 -- a head stands in the array, for rules to run on; nothing of it goes out yet
@@ -65,6 +65,13 @@ HeadTells old new says.More = (place_of new ≡ place.Reading) × (is_open new �
 HeadTells old new says.Nothing = (place_of new ≡ place.Idle) × Leads old new (λ came. came) (λ put. put) × AsksAlways old (λ vars. Nothing)
 HeadTells old new says.Head = (place_of new ≡ place.Idle) × HeadComes old new
 HeadTells old new (says.Refuse code) = (place_of new ≡ place.Idle) × Leads old new (λ came. came) (λ put. put) × AsksAlways old (λ vars. Refused code false [] vars)
+
+-- what is refused is at least one byte, and a head takes some
+abbrev pub UsesBytes : RequestSide → RequestSide → LaneHead → Type 0
+UsesBytes old new says.More = ⊤
+UsesBytes old new says.Nothing = ⊤
+UsesBytes old new says.Head = input_size_of new < input_size_of old
+UsesBytes old new (says.Refuse code) = 0 < input_size_of old
 
 -- ---- what is made of a head
 

@@ -1,5 +1,7 @@
 -- What a core sees of the request direction.
 use Rattle.std.specs.Prelude.{ℕ, ◌-◌, List, Bool, true, false, is_none, length}
+use Rattle.htx_model.specs.Block.{Block}
+use Rattle.http_model.specs.declared.Limits.{Limits}
 use Rattle.lane.specs.Asking as lanes
 use Rattle.lane.specs.Asking.{stage_of, input_of, most_of, ended_of, output_of, is_dropping}
 use Rattle.lane_core.specs.declared.stage.Stage.{Stage}
@@ -69,9 +71,21 @@ unread_of side = unread_at side.place (input_of side.lane)
 abbrev pub source_of : RequestSide → Source
 source_of side = source_at side.place (lanes.source_of side.lane)
 
--- all that a core sees, with these bytes as the array on which rules run
-abbrev pub seen : (raw : List ℕ) → RequestSide → RequestSeen
-seen raw side =
+-- the sizes that it was made with
+abbrev pub limits_of : RequestSide → Limits
+limits_of side = lanes.limits_of side.lane
+
+-- how many bytes of the client's stream stand in its window
+abbrev pub input_size_of : RequestSide → ℕ
+input_size_of side = length (input_of side.lane)
+
+-- the blocks of the array on which rules run
+abbrev pub list_of : RequestSide → List Block
+list_of side = lanes.blocks_of side.lane
+
+-- all that a core sees
+abbrev pub seen : RequestSide → RequestSeen
+seen side =
     record {
       is_open = is_open side;
       room = room_of side;
@@ -82,5 +96,5 @@ seen raw side =
       dropped = is_dropping side.lane;
       awaits = side.awaits;
       at_rest = side.at_rest;
-      raw = raw;
+      list = list_of side;
     }

@@ -1,5 +1,5 @@
 -- What the calls of the request direction come to.
-use Rattle.std.specs.Prelude.{◌≡◌, ◌≢◌, ℕ, List, ◌++◌, not, ◌&&◌, None}
+use Rattle.std.specs.Prelude.{◌≡◌, ◌≢◌, ℕ, List, ◌++◌, true, false, not, ◌&&◌, None}
 use Rattle.session_model.specs.Stream.{Stream}
 use Rattle.session_core.specs.History.{Coming, Continues, prepend, prepended}
 use Rattle.session_core.specs.Sided.{Asking, Reply, Perhaps, RequestGoes, request_to}
@@ -14,19 +14,11 @@ use Rattle.request_side.specs.Stands.{RequestStands, left_of}
 use Rattle.request_side.specs.declared.place.Place.TheVariants as place
 use Rattle.request_side.specs.declared.side.RequestSide.{RequestSide}
 
--- So of a body that is whole, and not impossible of another: of a body that goes on, or that is cut by a filter, it is not known
--- what its bytes come to.
-abbrev pub IfWhole : Source → Type 0 → Type 0
-IfWhole source.Going A = Perhaps A
-IfWhole source.Whole A = A
-IfWhole (source.Cut code) A = Perhaps A
-
 -- however the client's stream goes on, what was put out to the server is a front of the request that it brings, or all of it
 abbrev pub RequestsSo : Config → RequestSide → (vars : Variables) → (came : Coming) → Asking Variables → (to_server : List ℕ) → Type 0
 RequestsSo cfg side vars came asking to_server =
     (stream : Stream) → Continues came stream
-    → IfWhole (source_of side)
-    (RequestGoes (meaning_of cfg) (source_of side) (sent_at side.place (stage_of side.lane) && not (is_dropping side.lane)) (is_dropping side.lane) vars asking to_server stream)
+    → RequestGoes (meaning_of cfg) (source_of side) (sent_at side.place (stage_of side.lane) && not (is_dropping side.lane)) (is_dropping side.lane) vars asking to_server stream
 
 -- The request has come whole: the exchange used these bytes, and this is left.
 pub record WholeCame (cfg : Config) (side : RequestSide) (vars : Variables) (came : Coming) (asking : Asking Variables) (to_server : List ℕ) (left : Coming) : Type 0 where

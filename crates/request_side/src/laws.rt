@@ -8,13 +8,16 @@ ghost use Rattle.session_core.specs.declared.Source.TheVariants as source;
 ghost use Rattle.px_sample.specs.Variables.{Variables};
 ghost use Rattle.http_rules.specs.declared.config.Config.{Config};
 ghost use Rattle.proxy_meaning.specs.Product.{meaning_of};
-ghost use Rattle.request_side.specs.Seen.{place_of, source_of};
+ghost use Rattle.request_side.specs.Seen.{place_of, source_of, limits_of};
 ghost use Rattle.request_side.specs.Stands.{RequestStands, IsReplied, left_of};
+ghost use Rattle.htx_arena.specs.Contents.{Contents};
+ghost use Rattle.request_side.specs.Reads.{HasHead};
+ghost use Rattle.request_side.specs.Edits.{Edits, array_size_of, with_head};
 ghost use Rattle.request_side.specs.Steps.{RequestsSo, WholeCame};
 ghost use Rattle.request_side.specs.declared.place.Place.TheVariants as place;
 ghost use Rattle.request_side.specs.declared.side.RequestSide.{RequestSide};
 
-use h1_body::laws as bodies;
+use body_readings::reading;
 use h1_head::laws as heads;
 use lane::laws as lanes;
 
@@ -33,8 +36,7 @@ pub fn requests()
         → place_of side ≡ place.Sending → RequestStands cfg side vars came asking to_server reply → RequestsSo cfg side vars came asking to_server }
 {
     lanes::promise();
-    lanes::has_body();
-    bodies::some_reading();
+    reading();
 }
 
 /// The request in hand asks for a server, however the client's stream goes on.
@@ -42,6 +44,14 @@ pub fn asks_for_a_server()
     ensures { (cfg : Config) (side : RequestSide) (vars : Variables) (came : Coming) (asking : Asking Variables) (to_server : List ℕ) (reply : Reply Variables)
         → place_of side ≡ place.Sending → RequestStands cfg side vars came asking to_server reply → (stream : Stream) → Continues came stream → RequestAsks (meaning_of cfg) vars asking stream }
 {}
+
+/// Whatever edits a head leave in its array, the direction is else as it was: the head that came is still the one that came.
+pub fn edited()
+    ensures size { (side : RequestSide) → HasHead side → array_size_of side ≡ (limits_of side).bufsize }
+    ensures edits { (side : RequestSide) (msg : Contents) → msg.size ≡ array_size_of side → place_of side ≡ place.Idle → HasHead side → Edits side (with_head side msg) }
+{
+    lanes::edited_request();
+}
 
 /// Where the source is whole the request has come whole, and what stands in the input window follows it.
 pub fn came_whole()

@@ -1,21 +1,26 @@
 //! The request direction of a session, and its events and work.
-ghost use Rattle.std.specs.Prelude.{◌≡◌, ◌≢◌, ◌≤◌, ◌+◌, ℕ, List, [], ◌++◌, true, false, drop, length, IfOk};
+ghost use Rattle.std.specs.Prelude.{◌≡◌, ◌≢◌, ◌≤◌, ◌+◌, ℕ, List, [], ◌++◌, true, false, not, drop, length, IfOk};
 ghost use Rattle.http_model.specs.Head.{Head, head_blocks};
 ghost use Rattle.http_model.specs.Sizes.{least_size, most_size, least_head};
-ghost use Rattle.htx_layout.specs.Held.{held};
+ghost use Rattle.htx_model.specs.Block.{Block};
 ghost use Rattle.body_filter.specs.Valid.{AreFilters};
 ghost use Rattle.px_sample.specs.Variables.{Variables};
 ghost use Rattle.http_rules.specs.declared.config.Config.{Config};
 ghost use Rattle.session_core.specs.History.{Coming, no_stream, gains, ends};
-ghost use Rattle.session_core.specs.Sided.{Asking, Reply};
+ghost use Rattle.session_core.specs.Sided.{Asking, Reply, HoldsList};
 ghost use Rattle.session_core.specs.Leads.{KeepsRequest};
+ghost use Rattle.session_core.specs.Waits.{is_empty};
 ghost use Rattle.session_core.specs.declared.Source.TheVariants as source;
-ghost use Rattle.lane.specs.Asking.{stage_of, blocks_of, addrs_of};
+ghost use Rattle.lane.specs.Asking.{stage_of, array_of, blocks_of, framing_of, declared_of, close_of};
 ghost use Rattle.lane_core.specs.declared.stage.Stage.TheVariants as stage;
+
+mod views;
 
 use crate::place::Place;
 use body_filter::FilterSpec;
+use h1_head::laws::has_bytes;
 use http_model::{Ending, Framing, Limits, OutOfMemory};
+use htx_arena::Arena;
 use lane::laws::promise;
 use lane::{LaneHead, RequestLane, Source as LaneSource, Stage};
 use session_core::Source;
@@ -32,22 +37,11 @@ pub struct RequestSide {
     at_rest: bool,
 }
 
-ghost use Rattle.request_side.specs.Seen.{seen, place_of, is_open, room_of, window_of, source_by};
+ghost use Rattle.request_side.specs.Seen.{seen, list_of, limits_of, input_size_of, place_of, is_open, room_of, window_of, source_by};
 ghost use Rattle.request_side.specs.Stands.{IsSound, RequestStands, Leads};
 ghost use Rattle.request_side.specs.Steps.{Puts, ReadsNext};
-ghost use Rattle.request_side.specs.Reads.{HeadTells, HasHead, SendsOn, RepliesTo};
+ghost use Rattle.request_side.specs.Reads.{HeadTells, UsesBytes, HasHead, SendsOn, RepliesTo};
 ghost use Rattle.request_side.specs.declared.place.Place.TheVariants as place;
-
-/// How a body stands, in the words of a core.
-fn source_by(source: LaneSource) -> Source
-    ensures { result ≡ source_by source }
-{
-    match source {
-        LaneSource::Going => Source::Going,
-        LaneSource::Whole => Source::Whole,
-        LaneSource::Cut(code) => Source::Cut(code),
-    }
-}
 
 impl RequestSide {
     /// A direction to which nothing has happened. Its input window and its arrays have `limits.bufsize` bytes, its output
@@ -65,6 +59,7 @@ impl RequestSide {
         requires few { length filters.now ≤ 8 }
         requires valid { AreFilters filters.now }
         ensures sound { IfOk result IsSound }
+        ensures limits { IfOk result (λ side. limits_of side ≡ limits) }
         ensures stands { IfOk result (λ side. (cfg : Config) (vars : Variables) (asking : Asking Variables) (to_server : List ℕ) (reply : Reply Variables)
             → cfg.limits ≡ limits → cfg.req_filters ≡ filters.now → RequestStands cfg side vars no_stream asking to_server reply) }
         ensures fresh { IfOk result (λ side. (place_of side ≡ place.Reading) × (is_open side ≡ true) × (window_of side ≡ [])) }
@@ -79,63 +74,6 @@ impl RequestSide {
         })
     }
 
-    /// What is made of the client's next request.
-    pub fn place(&self) -> Place
-        ensures { result ≡ place_of self.now }
-    {
-        self.place
-    }
-
-    /// How the body of the request stands that goes to a server.
-    pub fn source(&self) -> Source
-        ensures { (raw : List ℕ) → result ≡ (seen raw self.now).source }
-    {
-        match self.place {
-            Place::Sending => source_by(self.lane.source()),
-            Place::Reading => Source::Cut(400),
-            Place::Idle => Source::Cut(400),
-            Place::Replied => Source::Cut(400),
-        }
-    }
-
-    /// All of the request's text was put out, or is dropped.
-    pub fn is_sent(&self) -> bool
-        ensures { (raw : List ℕ) → result ≡ (seen raw self.now).sent }
-    {
-        match self.place {
-            Place::Sending => match self.lane.stage() {
-                Stage::Done => true,
-                Stage::Reading => false,
-                Stage::Head => false,
-                Stage::Sending => false,
-            },
-            Place::Reading => true,
-            Place::Idle => true,
-            Place::Replied => true,
-        }
-    }
-
-    /// The client waits for a response head before it sends the body of the request in hand.
-    pub fn awaits_continue(&self) -> bool
-        ensures { (raw : List ℕ) → result ≡ (seen raw self.now).awaits }
-    {
-        self.awaits
-    }
-
-    /// How many bytes of the client's stream can be taken.
-    pub fn client_room(&self) -> usize
-        ensures { result ≡ room_of self.now }
-    {
-        self.lane.room()
-    }
-
-    /// The bytes of the array on which rules run (HTX API).
-    pub fn request_raw(&self) -> &[u8]
-        ensures { held result.now (blocks_of self.now.lane) (addrs_of self.now.lane) }
-    {
-        self.lane.raw()
-    }
-
     /// Bytes of the client's stream come.
     pub fn take_client(&mut self, bytes: &[u8])
         requires sound { IsSound self.old }
@@ -143,8 +81,9 @@ impl RequestSide {
         requires room { length bytes.now ≤ room_of self.old }
         ensures sound { IsSound self.new }
         ensures leads { Leads self.old self.new (λ came. gains came bytes.now) (λ put. put) }
-        ensures seen { (raw : List ℕ) → (room : ℕ) × (unread : ℕ) × (seen raw self.new ≡ record (seen raw self.old) { room = room; unread = unread; at_rest = false }) }
+        ensures seen { (room : ℕ) × (unread : ℕ) × (seen self.new ≡ record (seen self.old) { room = room; unread = unread; at_rest = false }) }
         ensures place { place_of self.new ≡ place_of self.old }
+        ensures limits { limits_of self.new ≡ limits_of self.old }
     {
         self.lane.take(bytes);
         self.at_rest = false;
@@ -156,8 +95,9 @@ impl RequestSide {
         requires open { is_open self.old ≡ true }
         ensures sound { IsSound self.new }
         ensures leads { Leads self.old self.new (λ came. ends came how) (λ put. put) }
-        ensures seen { (raw : List ℕ) → seen raw self.new ≡ record (seen raw self.old) { is_open = false; at_rest = false } }
+        ensures seen { seen self.new ≡ record (seen self.old) { is_open = false; at_rest = false } }
         ensures place { place_of self.new ≡ place_of self.old }
+        ensures limits { limits_of self.new ≡ limits_of self.old }
     {
         self.lane.end(how);
         self.at_rest = false;
@@ -169,8 +109,9 @@ impl RequestSide {
         requires within { n ≤ length (window_of self.old) }
         ensures sound { IsSound self.new }
         ensures leads { Leads self.old self.new (λ came. came) (λ put. put) }
-        ensures seen { (raw : List ℕ) → seen raw self.new ≡ record (seen raw self.old) { window = drop n (window_of self.old); at_rest = false } }
+        ensures seen { seen self.new ≡ record (seen self.old) { window = drop n (window_of self.old); at_rest = false } }
         ensures place { place_of self.new ≡ place_of self.old }
+        ensures limits { limits_of self.new ≡ limits_of self.old }
     {
         self.lane.took(n);
         self.at_rest = false;
@@ -184,8 +125,9 @@ impl RequestSide {
         ensures sound { IsSound self.new }
         ensures leads { (cfg : Config) (vars : Variables) (came : Coming) (asking : Asking Variables) (to_server put : List ℕ) (reply : Reply Variables)
             → RequestStands cfg self.old vars came asking to_server reply → put ++ window_of self.old ≡ to_server → RequestStands cfg self.new vars came asking put reply }
-        ensures seen { (raw : List ℕ) → seen raw self.new ≡ record (seen raw self.old) { window = []; dropped = true; at_rest = false } }
+        ensures seen { (list : List Block) × (seen self.new ≡ record (seen self.old) { window = []; dropped = true; at_rest = false; list = list }) }
         ensures place { place_of self.new ≡ place_of self.old }
+        ensures limits { limits_of self.new ≡ limits_of self.old }
     {
         promise();
         self.lane.discard();
@@ -197,8 +139,9 @@ impl RequestSide {
         requires { IsSound self.old }
         ensures sound { IsSound self.new }
         ensures puts { Puts self.old self.new }
-        ensures keeps { (raw left : List ℕ) → KeepsRequest (seen raw self.old) (seen left self.new) }
+        ensures keeps { KeepsRequest (seen self.old) (seen self.new) }
         ensures place { place_of self.new ≡ place_of self.old }
+        ensures limits { limits_of self.new ≡ limits_of self.old }
     {
         self.at_rest = true;
         if !self.is_going_out() {
@@ -226,9 +169,12 @@ impl RequestSide {
         requires place { place_of self.old ≡ place.Reading }
         ensures sound { IsSound self.new }
         ensures tells { HeadTells self.old self.new result }
+        ensures uses { UsesBytes self.old self.new result }
         ensures open { is_open self.new ≡ is_open self.old }
         ensures window { window_of self.new ≡ window_of self.old }
+        ensures limits { limits_of self.new ≡ limits_of self.old }
     {
+        has_bytes();
         self.at_rest = false;
         match self.lane.read_head() {
             LaneHead::More => LaneHead::More,
@@ -259,7 +205,9 @@ impl RequestSide {
         ensures place { place_of self.new ≡ place.Sending }
         ensures open { is_open self.new ≡ is_open self.old }
         ensures window { window_of self.new ≡ window_of self.old }
-        ensures seen { (raw : List ℕ) → ((seen raw self.new).source ≡ source.Going) × ((seen raw self.new).sent ≡ false) × ((seen raw self.new).dropped ≡ false) × ((seen raw self.new).awaits ≡ awaits) }
+        ensures list { list_of self.new ≡ list_of self.old }
+        ensures seen { ((seen self.new).source ≡ source.Going) × ((seen self.new).sent ≡ false) × ((seen self.new).dropped ≡ false) × ((seen self.new).awaits ≡ awaits) }
+        ensures limits { limits_of self.new ≡ limits_of self.old }
     {
         self.lane.send(framing, false);
         self.place = Place::Sending;
@@ -276,6 +224,8 @@ impl RequestSide {
         ensures place { place_of self.new ≡ place.Replied }
         ensures open { is_open self.new ≡ is_open self.old }
         ensures window { window_of self.new ≡ window_of self.old }
+        ensures limits { limits_of self.new ≡ limits_of self.old }
+        ensures input { input_size_of self.new ≡ input_size_of self.old }
     {
         self.place = Place::Replied;
         self.at_rest = false;
@@ -290,7 +240,8 @@ impl RequestSide {
         ensures place { place_of self.old ≢ place.Idle → place_of self.new ≡ place.Reading }
         ensures open { is_open self.new ≡ is_open self.old }
         ensures window { window_of self.new ≡ [] }
-        ensures unread { (raw left : List ℕ) → (seen left self.new).unread ≡ (seen raw self.old).unread }
+        ensures unread { (seen self.new).unread ≡ (seen self.old).unread }
+        ensures limits { limits_of self.new ≡ limits_of self.old }
     {
         self.at_rest = false;
         if self.place == Place::Idle {

@@ -3,6 +3,7 @@ use Rattle.std.proofs.Common.{◌≡◌, ◌≢◌, ℕ, ◌+◌, suc, length, l
 use Rattle.std.proofs.Math.Seq.{drop-nil}
 use Rattle.std.proofs.lemmas.List.{append-nil, append_cancel_right, take-append-drop}
 use Rattle.http_model.specs.declared.Ending.{Ending}
+use Rattle.htx_model.specs.Block.{Block}
 use Rattle.session_model.specs.Stream.{Stream}
 use Rattle.session_model.specs.Meaning.{Meaning}
 use Rattle.session_core.specs.History.{Past, Coming, Connect, Continues, close_by, prepended, gains, ends, at_last, given_by, ended_by, taking, stopping, closing_by}
@@ -253,26 +254,30 @@ drops_one : (M : Meaning) (q : RequestSeen) (p : Sided M) (put : List ℕ) (s : 
     → RequestGoes M q.source (is_all q) q.dropped p.vars p.asking p.to_server s → RequestGoes M q.source (q.sent && not true) true p.vars p.asking put s
 drops_one M q p put s some e g = record { rest = g.rest; asks = g.asks; goes = body_drops M q p.asking p.to_server put g.rest some e g.goes }
 
-drops : (M : Meaning) (q : RequestSeen) (p : Sided M) (put : List ℕ) → q.window ≢ [] → put ++ q.window ≡ p.to_server → Requests M q p
-    → Requests M (record q { window = []; dropped = true; at_rest = false }) (record p { to_server = put })
-drops M q p put some e h s c = if_settled q.source (drops_one M q p put s some e) (h s c)
+-- a request that is dropped, with this list in the array
+abbrev pub dropping : RequestSeen → List Block → RequestSeen
+dropping q list = record q { window = []; dropped = true; at_rest = false; list = list }
 
-serves_dropped : (M : Meaning) (q : RequestSeen) (a : AnswerSeen) (p : Sided M) (put : List ℕ) (cut : Option Bool) → q.window ≢ [] → put ++ q.window ≡ p.to_server
-    → Serves M q a p cut → Serves M (record q { window = []; dropped = true; at_rest = false }) a (record p { to_server = put }) cut
-serves_dropped M q a p put None some e h = (drops M q p put some e h.0, h.1, h.2, h.3)
-serves_dropped M q a p put (Some true) some e h = (drops M q p put some e h.0, h.1, h.2, h.3, h.4)
-serves_dropped M q a p put (Some false) some e h = (drops M q p put some e h.0, h.1, h.2, h.3)
+drops : (M : Meaning) (q : RequestSeen) (list : List Block) (p : Sided M) (put : List ℕ) → q.window ≢ [] → put ++ q.window ≡ p.to_server → Requests M q p
+    → Requests M (dropping q list) (record p { to_server = put })
+drops M q list p put some e h s c = if_settled q.source (drops_one M q p put s some e) (h s c)
 
-pub server_stops : (M : Meaning) (q : RequestSeen) (a : AnswerSeen) (p : Sided M) (cut : Option Bool) (c : Connect)
+serves_dropped : (M : Meaning) (q : RequestSeen) (list : List Block) (a : AnswerSeen) (p : Sided M) (put : List ℕ) (cut : Option Bool) → q.window ≢ [] → put ++ q.window ≡ p.to_server
+    → Serves M q a p cut → Serves M (dropping q list) a (record p { to_server = put }) cut
+serves_dropped M q list a p put None some e h = (drops M q list p put some e h.0, h.1, h.2, h.3)
+serves_dropped M q list a p put (Some true) some e h = (drops M q list p put some e h.0, h.1, h.2, h.3, h.4)
+serves_dropped M q list a p put (Some false) some e h = (drops M q list p put some e h.0, h.1, h.2, h.3)
+
+pub server_stops : (M : Meaning) (q : RequestSeen) (list : List Block) (a : AnswerSeen) (p : Sided M) (cut : Option Bool) (c : Connect)
     → q.window ≢ [] → IsServing M q a p cut (c ∷ []) c
-    → InPhase M (record q { window = []; dropped = true; at_rest = false }) a (record p { to_server = c.taken }) 1 cut (stopping c ∷ []) phase.Serving
-server_stops M q a p cut c some h = (
+    → InPhase M (dropping q list) a (record p { to_server = c.taken }) 1 cut (stopping c ∷ []) phase.Serving
+server_stops M q list a p cut c some h = (
   refl,
   stopping c,
   (
     refl,
     record { there = h.1.there; stopped = refl; stream = h.1.stream; taken = append-nil c.taken },
-    serves_dropped M q a p c.taken cut some h.1.taken h.2,
+    serves_dropped M q list a p c.taken cut some h.1.taken h.2,
     record { is_open = h.3.is_open; settled = h.3.settled; drops = λ e. refl; waits = h.3.waits },
   ),
 )
@@ -305,14 +310,14 @@ connect_of M at q a p past is h =
     let serving : InPhase M q a p h.hand at.cut h.now phase.Serving = subst P is h.phase in
     record { connect = serving.1; taken = serving.2.1.taken }
 
-pub stops : (M : Meaning) (at : At) (q : RequestSeen) (a : AnswerSeen) (p : Sided M) (past : Past)
+pub stops : (M : Meaning) (at : At) (q : RequestSeen) (list : List Block) (a : AnswerSeen) (p : Sided M) (past : Past)
     → (is : at.phase ≡ phase.Serving) → q.window ≢ [] → (h : Holds M at q a p past)
-    → Holds M (record at { phase = phase.Serving }) (record q { window = []; dropped = true; at_rest = false }) a
+    → Holds M (record at { phase = phase.Serving }) (dropping q list) a
     (record p { to_server = (connect_of M at q a p past is h).connect.taken }) (record past { connects = at_last stopping past.connects })
-stops M at q a p past is some h =
+stops M at q list a p past is some h =
     let k : InHandAt M q p = connect_of M at q a p past is h in
-    while_serving M at phase.Serving q (record q { window = []; dropped = true; at_rest = false }) a a p (record p { to_server = k.connect.taken }) past stopping is refl refl refl refl refl
+    while_serving M at phase.Serving q (dropping q list) a a p (record p { to_server = k.connect.taken }) past stopping is refl refl refl refl refl
     (λ d now s n.
     let same : d.taken ≡ k.connect.taken = append_cancel_right d.taken k.connect.taken q.window (s.1.taken ∙ sym k.taken) in
-    let P : List ℕ → Type 0 = λ put. InPhase M (record q { window = []; dropped = true; at_rest = false }) a (record p { to_server = put }) 1 at.cut (stopping d ∷ []) phase.Serving in
-    subst P same (server_stops M q a p at.cut d some s)) h
+    let P : List ℕ → Type 0 = λ put. InPhase M (dropping q list) a (record p { to_server = put }) 1 at.cut (stopping d ∷ []) phase.Serving in
+    subst P same (server_stops M q list a p at.cut d some s)) h

@@ -7,7 +7,7 @@ use Rattle.session_model.specs.Asking.{Sends, Asks}
 use Rattle.session_model.specs.Answering.{Answered, AnswersFrom}
 use Rattle.session_model.specs.Session.{interim_text}
 use Rattle.session_core.specs.History.{Past, Connect, Continues, close_by}
-use Rattle.session_core.specs.Sided.{RequestSeen, AnswerSeen, Asking, asker_in, Perhaps, Interims, HoldsList, finished_blocks, forwarded_to}
+use Rattle.session_core.specs.Sided.{RequestSeen, AnswerSeen, Asking, asker_in, Perhaps, Interims, finished_blocks, forwarded_to}
 use Rattle.session_core.specs.Awaits.{awaits_continue}
 use Rattle.session_core.specs.declared.machine.Wants.{Wants}
 
@@ -66,12 +66,12 @@ pub record BegunSays (M : Meaning) (past : Past) (window : List ℕ) (begun : Bo
   pub before : begun ≡ false → Interims M (asker_in asking) last.connect.stream put
 
 -- While a server is to be opened: however the client's stream goes on, it asks for a server for this head behind the exchanges that
--- are done; the head's finished list stands in the array; and the client waits where the head says so.
+-- are done; its finished list is the one in the array; and the client waits where the head says so.
 pub record IsAskedFor (M : Meaning) (q : RequestSeen) (past : Past) : Type 0 where
   pub vars : M.Vars
   pub used : List ℕ
   pub asking : Asking M.Vars
   pub asks : (stream : Stream) → Continues past.client stream
       → (rest left : Stream) × (stream.bytes ≡ used ++ rest.bytes) × (stream.ending ≡ rest.ending) × Asks M vars rest (Sends (forwarded_to asking left))
-  pub held : HoldsList q.raw (finished_blocks M asking)
+  pub held : q.list ≡ finished_blocks M asking
   pub waits : q.awaits ≡ awaits_continue asking.received

@@ -8,7 +8,7 @@ use Rattle.session_model.specs.Meaning.{Meaning}
 use Rattle.session_model.specs.Asking.{Asks, Nothing, Refused}
 use Rattle.session_model.specs.Amending.{reply_sent, refusal_sent, behind_reply}
 use Rattle.session_core.specs.History.{Event, Past, Coming, Continues, after, no_stream}
-use Rattle.session_core.specs.Sided.{Sided, HoldsList, finished_blocks, Asking, asker_in, Reply, replied_to, RequestSeen, AnswerSeen, Requests, RequestsAsk, AnswersSo, IsBefore, IsTurned, IsUncut, IsSettled, CameWhole, CameReplied}
+use Rattle.session_core.specs.Sided.{Sided, finished_blocks, Asking, asker_in, Reply, replied_to, RequestSeen, AnswerSeen, Requests, RequestsAsk, AnswersSo, IsBefore, IsTurned, IsUncut, IsSettled, CameWhole, CameReplied}
 use Rattle.session_core.specs.Awaits.{awaits_continue}
 use Rattle.session_core.specs.Stands.{Holds, kept_with}
 use Rattle.session_core.specs.declared.machine.At.{At}
@@ -116,7 +116,7 @@ pub record AsksServer (M : Meaning) (S : Sided M → Type 0) (new : RequestSeen)
   pub dropped : new.dropped ≡ false
   pub settled : new.sent ≡ true → IsSettled new.source
   pub awaits : new.awaits ≡ awaits_continue asking.received
-  pub held : HoldsList new.raw (finished_blocks M asking)
+  pub held : new.list ≡ finished_blocks M asking
 
 -- what the client's next request asks for
 abbrev pub AsksTo : (M : Meaning) → (Sided M → Type 0) → RequestSeen → Sided M → Asked → Type 0

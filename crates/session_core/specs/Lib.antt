@@ -10,6 +10,8 @@ pub mod Sided
 pub mod Stands
 pub mod Consequences
 pub mod Drives
+pub mod Place
+pub mod Lending
 pub mod Leads
 pub mod Waits
 pub mod Lanes

@@ -1,7 +1,7 @@
 -- What the two directions of a core have made of one exchange.
 use Rattle.std.specs.Prelude.{◌≡◌, ◌≢◌, ℕ, List, [], ◌∷◌, ◌++◌, Bool, true, false, Option, Some, None, is_none, not, ◌&&◌, ⊤, length}
 use Rattle.htx_model.specs.Block.{Block}
-use Rattle.htx_layout.specs.Raw.{blocks_of}
+use Rattle.htx_layout.specs.Held.{blocks_of}
 use Rattle.http_model.specs.Head.{Head, Message, head_blocks}
 use Rattle.http_model.specs.Finish.{finish_request, request_framing}
 use Rattle.http_model.specs.Reading.{Received, BodyReading}
@@ -36,8 +36,8 @@ pub record RequestSeen : Type 0 where
   pub awaits : Bool
   -- the last step left nothing undone that could be done with what has come
   pub at_rest : Bool
-  -- the array on which request rules run
-  pub raw : List ℕ
+  -- the list in the array on which request rules run
+  pub list : List Block
 
 -- what a core sees of its answer direction
 pub record AnswerSeen : Type 0 where

@@ -13,7 +13,7 @@ use Rattle.session_model.specs.Asking.{Asked, Asks}
 use Rattle.session_model.specs.Amending.{reply_sent, behind_reply}
 use Rattle.session_model.specs.Session.{Exchange, Over, Goes, Follow, first_bit}
 use Rattle.session_core.specs.History.{Past, Coming, Connect, Continues, ContinuesServer, prepend, prepended, sent_of, Fronts, close_by, connected}
-use Rattle.session_core.specs.Sided.{Sided, HoldsList, finished_blocks, Reply, replied_to, RequestSeen, AnswerSeen, Requests, RequestsAsk, AnswersSo, IsBefore, IsTurned, IsUncut, IsSettled}
+use Rattle.session_core.specs.Sided.{Sided, finished_blocks, Reply, replied_to, RequestSeen, AnswerSeen, Requests, RequestsAsk, AnswersSo, IsBefore, IsTurned, IsUncut, IsSettled}
 use Rattle.session_core.specs.Awaits.{awaits_continue}
 use Rattle.session_core.specs.declared.Source.{Source}
 use Rattle.session_core.specs.declared.Source.TheVariants as source
@@ -139,17 +139,17 @@ pub record IsUnopened (window : List ℕ) (cut : Option Bool) : Type 0 where
   pub uncut : cut ≡ None
 
 -- a head that goes to a server, of which nothing was put out
-pub record IsOpening (so : Source) (sent dropped awaits : Bool) (raw : List ℕ) (put : List ℕ) (received : Received) (blocks : List Block) : Type 0 where
+pub record IsOpening (so : Source) (sent dropped awaits : Bool) (list : List Block) (put : List ℕ) (received : Received) (blocks : List Block) : Type 0 where
   pub none : put ≡ []
   pub takes : dropped ≡ false
   pub uncut : IsUncut so
   pub settled : sent ≡ true → IsSettled so
   pub waits : awaits ≡ awaits_continue received
   -- the finished list stands in the array
-  pub held : HoldsList raw blocks
+  pub held : list ≡ blocks
 
 abbrev pub Opens : {M : Meaning} → RequestSeen → Sided M → Type 0
-Opens {M} q p = IsOpening q.source q.sent q.dropped q.awaits q.raw p.to_server p.asking.received (finished_blocks M p.asking)
+Opens {M} q p = IsOpening q.source q.sent q.dropped q.awaits q.list p.to_server p.asking.received (finished_blocks M p.asking)
 
 abbrev pub InPhase : (M : Meaning) → RequestSeen → AnswerSeen → Sided M → (hand : ℕ) → (cut : Option Bool) → List Connect → Phase → Type 0
 InPhase M q a p hand cut now phase.Reading = (hand ≡ 0) × IsUnopened q.window cut × (p.to_client ≡ []) × (now ≡ [])

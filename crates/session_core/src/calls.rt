@@ -3,6 +3,7 @@ ghost use Rattle.std.specs.Prelude.{◌≡◌, ◌≢◌, ◌≤◌, [], length,
 ghost use Rattle.session_core.specs.History.{FromClient, ClientEnded, ClientTook, ServerOpened, FromServer, ServerEnded, ServerTook, ServerStopped, ServerClosed};
 ghost use Rattle.session_core.specs.Waits.{is_serving};
 ghost use Rattle.session_core.specs.Leads.{Leads};
+ghost use Rattle.session_core.specs.Place.{IsPlaced};
 
 use crate::Phase;
 use crate::machine::Core;
@@ -14,6 +15,8 @@ impl<S: Sides> Core<S> {
     pub fn from_client(&mut self, bytes: &[u8])
         requires open { IsTrue (S.request self.old.sides).is_open }
         requires room { length bytes.now ≤ (S.request self.old.sides).room }
+        requires placed { IsPlaced (S.placed self.old.sides) (S.answer self.old.sides) self.old.at.phase self.old.at.cut }
+        ensures placed { IsPlaced (S.placed self.new.sides) (S.answer self.new.sides) self.new.at.phase self.new.at.cut }
         ensures leads { Leads S.meaning S.request S.answer S.stands self.old.sides self.old.at self.new.sides self.new.at (FromClient bytes.now) }
         ensures serving { is_serving self.new.at.phase ≡ is_serving self.old.at.phase }
         ensures lost { self.new.lost ≡ self.old.lost }
@@ -23,7 +26,9 @@ impl<S: Sides> Core<S> {
 
     /// The client's stream has ended.
     pub fn client_ended(&mut self, how: Ending)
-        requires { IsTrue (S.request self.old.sides).is_open }
+        requires open { IsTrue (S.request self.old.sides).is_open }
+        requires placed { IsPlaced (S.placed self.old.sides) (S.answer self.old.sides) self.old.at.phase self.old.at.cut }
+        ensures placed { IsPlaced (S.placed self.new.sides) (S.answer self.new.sides) self.new.at.phase self.new.at.cut }
         ensures leads { Leads S.meaning S.request S.answer S.stands self.old.sides self.old.at self.new.sides self.new.at (ClientEnded how) }
         ensures serving { is_serving self.new.at.phase ≡ is_serving self.old.at.phase }
         ensures lost { self.new.lost ≡ self.old.lost }
@@ -33,7 +38,9 @@ impl<S: Sides> Core<S> {
 
     /// The client took so many bytes of its output window.
     pub fn client_took(&mut self, n: usize)
-        requires { n ≤ length (S.answer self.old.sides).window }
+        requires within { n ≤ length (S.answer self.old.sides).window }
+        requires placed { IsPlaced (S.placed self.old.sides) (S.answer self.old.sides) self.old.at.phase self.old.at.cut }
+        ensures placed { IsPlaced (S.placed self.new.sides) (S.answer self.new.sides) self.new.at.phase self.new.at.cut }
         ensures leads { Leads S.meaning S.request S.answer S.stands self.old.sides self.old.at self.new.sides self.new.at (ClientTook (take n (S.answer self.old.sides).window)) }
         ensures serving { is_serving self.new.at.phase ≡ is_serving self.old.at.phase }
         ensures lost { self.new.lost ≡ self.old.lost }
@@ -43,7 +50,9 @@ impl<S: Sides> Core<S> {
 
     /// A server was opened, or was refused.
     pub fn server_opened(&mut self, yes: bool)
-        requires { self.old.at.phase ≡ Phase.Opening }
+        requires phase { self.old.at.phase ≡ Phase.Opening }
+        requires placed { IsPlaced (S.placed self.old.sides) (S.answer self.old.sides) self.old.at.phase self.old.at.cut }
+        ensures placed { IsPlaced (S.placed self.new.sides) (S.answer self.new.sides) self.new.at.phase self.new.at.cut }
         ensures leads { Leads S.meaning S.request S.answer S.stands self.old.sides self.old.at self.new.sides self.new.at (ServerOpened yes) }
         ensures serving { is_serving self.new.at.phase ≡ yes }
         ensures lost { self.new.lost ≡ self.old.lost }
@@ -61,6 +70,8 @@ impl<S: Sides> Core<S> {
         requires serving { self.old.at.phase ≡ Phase.Serving }
         requires open { IsTrue (S.answer self.old.sides).is_open }
         requires room { length bytes.now ≤ (S.answer self.old.sides).room }
+        requires placed { IsPlaced (S.placed self.old.sides) (S.answer self.old.sides) self.old.at.phase self.old.at.cut }
+        ensures placed { IsPlaced (S.placed self.new.sides) (S.answer self.new.sides) self.new.at.phase self.new.at.cut }
         ensures leads { Leads S.meaning S.request S.answer S.stands self.old.sides self.old.at self.new.sides self.new.at (FromServer bytes.now) }
         ensures serving { is_serving self.new.at.phase ≡ is_serving self.old.at.phase }
         ensures lost { self.new.lost ≡ self.old.lost }
@@ -72,6 +83,8 @@ impl<S: Sides> Core<S> {
     pub fn server_ended(&mut self, how: Ending)
         requires serving { self.old.at.phase ≡ Phase.Serving }
         requires open { IsTrue (S.answer self.old.sides).is_open }
+        requires placed { IsPlaced (S.placed self.old.sides) (S.answer self.old.sides) self.old.at.phase self.old.at.cut }
+        ensures placed { IsPlaced (S.placed self.new.sides) (S.answer self.new.sides) self.new.at.phase self.new.at.cut }
         ensures leads { Leads S.meaning S.request S.answer S.stands self.old.sides self.old.at self.new.sides self.new.at (ServerEnded how) }
         ensures serving { is_serving self.new.at.phase ≡ is_serving self.old.at.phase }
         ensures lost { self.new.lost ≡ self.old.lost }
@@ -83,6 +96,8 @@ impl<S: Sides> Core<S> {
     pub fn server_took(&mut self, n: usize)
         requires serving { self.old.at.phase ≡ Phase.Serving }
         requires within { n ≤ length (S.request self.old.sides).window }
+        requires placed { IsPlaced (S.placed self.old.sides) (S.answer self.old.sides) self.old.at.phase self.old.at.cut }
+        ensures placed { IsPlaced (S.placed self.new.sides) (S.answer self.new.sides) self.new.at.phase self.new.at.cut }
         ensures leads { Leads S.meaning S.request S.answer S.stands self.old.sides self.old.at self.new.sides self.new.at (ServerTook (take n (S.request self.old.sides).window)) }
         ensures serving { is_serving self.new.at.phase ≡ is_serving self.old.at.phase }
         ensures lost { self.new.lost ≡ self.old.lost }
@@ -94,6 +109,8 @@ impl<S: Sides> Core<S> {
     pub fn server_stopped(&mut self)
         requires serving { self.old.at.phase ≡ Phase.Serving }
         requires waits { (S.request self.old.sides).window ≢ [] }
+        requires placed { IsPlaced (S.placed self.old.sides) (S.answer self.old.sides) self.old.at.phase self.old.at.cut }
+        ensures placed { IsPlaced (S.placed self.new.sides) (S.answer self.new.sides) self.new.at.phase self.new.at.cut }
         ensures leads { Leads S.meaning S.request S.answer S.stands self.old.sides self.old.at self.new.sides self.new.at ServerStopped }
         ensures serving { is_serving self.new.at.phase ≡ is_serving self.old.at.phase }
         ensures lost { self.new.lost ≡ self.old.lost }
@@ -107,6 +124,8 @@ impl<S: Sides> Core<S> {
         requires sent { IsTrue (S.request self.old.sides).sent }
         requires taken { (S.request self.old.sides).window ≡ [] }
         requires answered { IsTrue (S.answer self.old.sides).answered }
+        requires placed { IsPlaced (S.placed self.old.sides) (S.answer self.old.sides) self.old.at.phase self.old.at.cut }
+        ensures placed { IsPlaced (S.placed self.new.sides) (S.answer self.new.sides) self.new.at.phase self.new.at.cut }
         ensures leads { Leads S.meaning S.request S.answer S.stands self.old.sides self.old.at self.new.sides self.new.at ServerClosed }
         ensures serving { is_serving self.new.at.phase ≡ false }
         ensures lost { self.new.lost ≡ self.old.lost }

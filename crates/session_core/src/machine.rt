@@ -1,7 +1,9 @@
 //! A core: its two directions, and where it stands in its session.
 ghost use Rattle.std.specs.Prelude.{◌≡◌, Option, Bool, false};
 ghost use Rattle.session_core.specs.History.{nothing_yet};
-ghost use Rattle.session_core.specs.Sided.{Sided};
+ghost use Rattle.session_core.specs.Sided.{Sided, HoldsList};
+ghost use Rattle.session_core.specs.Place as place;
+ghost use Rattle.session_core.specs.Place.{IsPlaced};
 ghost use Rattle.session_core.specs.Leads.{Stands, IsFresh};
 
 use crate::Phase;
@@ -42,8 +44,14 @@ pub struct Core<S> {
 }
 
 impl<S: Sides> Core<S> {
+    ghost use Rattle.std.specs.Borrow.{sem};
+    ghost use Rattle.session_core.specs.Lending.{LendsText};
+    ghost use Rattle.session_core.specs.contracts.machine.Core.{the_row};
+
     /// A core to which nothing has happened.
     pub fn new(sides: S) -> Core<S>
+        requires placed { S.placed sides place.Reads }
+        ensures placed { IsPlaced (S.placed result.sides) (S.answer result.sides) result.at.phase result.at.cut }
         ensures stands { (cfg : S.Settings) (p : Sided (S.meaning cfg)) → S.stands cfg sides p → IsFresh (S.meaning cfg) (S.request sides) (S.answer sides) p
             → Stands (S.meaning cfg) S.request S.answer (S.stands cfg) result.sides result.at nothing_yet }
         ensures lost { result.lost ≡ false }
@@ -61,6 +69,7 @@ impl<S: Sides> Core<S> {
 
     /// The answer of the exchange in hand has begun.
     pub fn begun(&self) -> bool
+        requires placed { IsPlaced (S.placed self.now.sides) (S.answer self.now.sides) self.now.at.phase self.now.at.cut }
         ensures { result ≡ (S.answer self.now.sides).begun }
     {
         self.sides.is_begun()
@@ -85,15 +94,18 @@ impl<S: Sides> Core<S> {
         self.lost
     }
 
-    /// The bytes that wait for the client.
-    pub fn to_client(&self) -> &[u8]
-        ensures { result.now ≡ (S.answer self.now.sides).window }
+    /// The bytes that wait for the client, to be read alone.
+    pub fn to_client(&mut self) -> &mut [u8]
+        requires placed { IsPlaced (S.placed self.old.sides) (S.answer self.old.sides) self.old.at.phase self.old.at.cut }
+        ensures* back { sem 𝓛 (LendsText (the_row S.row) self.entry result (λ core text. record core { sides = S.with_to_client core.sides text })) }
+        ensures value { result.now ≡ (S.answer self.old.sides).window }
     {
         self.sides.to_client()
     }
 
     /// The room for bytes of the client.
     pub fn client_room(&self) -> usize
+        requires placed { IsPlaced (S.placed self.now.sides) (S.answer self.now.sides) self.now.at.phase self.now.at.cut }
         ensures { result ≡ (S.request self.now.sides).room }
     {
         self.sides.client_room()
@@ -101,6 +113,7 @@ impl<S: Sides> Core<S> {
 
     /// The room for bytes of the server.
     pub fn server_room(&self) -> usize
+        requires placed { IsPlaced (S.placed self.now.sides) (S.answer self.now.sides) self.now.at.phase self.now.at.cut }
         ensures { result ≡ (S.answer self.now.sides).room }
     {
         self.sides.server_room()
@@ -108,14 +121,17 @@ impl<S: Sides> Core<S> {
 
     /// The array on which request rules run.
     pub fn request_raw(&self) -> &[u8]
-        ensures { result.now ≡ (S.request self.now.sides).raw }
+        requires placed { IsPlaced (S.placed self.now.sides) (S.answer self.now.sides) self.now.at.phase self.now.at.cut }
+        ensures { HoldsList result.now (S.request self.now.sides).list }
     {
         self.sides.request_raw()
     }
 
-    /// The bytes that wait for the server.
-    pub fn to_server(&self) -> &[u8]
-        ensures { result.now ≡ (S.request self.now.sides).window }
+    /// The bytes that wait for the server, to be read alone.
+    pub fn to_server(&mut self) -> &mut [u8]
+        requires placed { IsPlaced (S.placed self.old.sides) (S.answer self.old.sides) self.old.at.phase self.old.at.cut }
+        ensures* back { sem 𝓛 (LendsText (the_row S.row) self.entry result (λ core text. record core { sides = S.with_to_server core.sides text })) }
+        ensures value { result.now ≡ (S.request self.old.sides).window }
     {
         self.sides.to_server()
     }

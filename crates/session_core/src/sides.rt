@@ -1,9 +1,15 @@
 //! The two directions of a core, as it sees them.
-ghost use Rattle.std.specs.Prelude.{◌≡◌, ◌≢◌, ◌≤◌, ◌<◌, ◌++◌, ◌⊎◌, [], ℕ, List, Option, Some, None, Bool, true, false, length, take, drop, OnOk, IfOk, IsOk, IsTrue, IsFalse};
+ghost use Rattle.std.specs.Prelude.{◌≡◌, ◌≢◌, ◌≤◌, ◌<◌, ◌++◌, ◌⊎◌, [], ℕ, List, Option, Some, None, Bool, true, false, not, length, take, drop, OnOk, IfOk, IsOk, IsTrue, IsFalse};
 ghost use Rattle.session_model.specs.Meaning.{Meaning};
 ghost use Rattle.session_core.specs.Consequences.{IsTotal};
 ghost use Rattle.session_core.specs.History.{no_stream, gains, ends};
-ghost use Rattle.session_core.specs.Sided.{Sided, asker_in, RequestSeen, AnswerSeen, Requests, AnswersSo, IsBefore};
+ghost use Rattle.std.specs.Borrow.{sem};
+ghost use Rattle.htx_model.specs.Block.{Block};
+ghost use Rattle.session_core.specs.Sided.{Sided, asker_in, RequestSeen, AnswerSeen, Requests, AnswersSo, IsBefore, HoldsList};
+ghost use Rattle.session_core.specs.Waits.{is_empty};
+ghost use Rattle.session_core.specs.Place as place;
+ghost use Rattle.session_core.specs.Place.{Place, is_saying, place_behind, IsSomewhere, Stay};
+ghost use Rattle.session_core.specs.Lending.{LendsText};
 ghost use Rattle.session_core.specs.Leads.{StepsRequest, KeepsRequest, StepsAnswer, AnswerWaits, Says, Refuses, Turns, AsksTo, AskKeeps, Renews, RenewsReplied};
 
 use crate::{Source, Told};
@@ -44,77 +50,120 @@ pub trait Sides {
 
     ghost stands: { (cfg : Self.Settings) → Self → Sided (meaning cfg) → Type 0 };
 
+    /// They are sound, and stand at this place of the exchange in hand.
+    ghost placed: { Self → Place → Type 0 };
+
+    /// They are so, with this text in place of the one that waits for the client, or for the server.
+    ghost with_to_client: { Self → List ℕ → Self };
+
+    ghost with_to_server: { Self → List ℕ → Self };
+
     // ---- what a core sees
 
     fn source(&self) -> Source
+        requires placed { IsSomewhere (placed self.now) }
         ensures { result ≡ (request self.now).source };
 
     /// All of the request's text was put out, or is dropped.
     fn is_sent(&self) -> bool
+        requires placed { IsSomewhere (placed self.now) }
         ensures { result ≡ (request self.now).sent };
 
     fn told(&self) -> Told
+        requires placed { IsSomewhere (placed self.now) }
         ensures { result ≡ (answer self.now).told };
 
     /// All of the answer's text was put out.
     fn is_answered(&self) -> bool
+        requires placed { IsSomewhere (placed self.now) }
         ensures { result ≡ (answer self.now).answered };
 
     /// A byte of the last that answers was put out.
     fn is_begun(&self) -> bool
+        requires placed { IsSomewhere (placed self.now) }
         ensures { result ≡ (answer self.now).begun };
 
     /// The request in hand lets the connection be kept.
     fn keeps(&self) -> bool
+        requires placed { IsSomewhere (placed self.now) }
         ensures { (cfg : Self.Settings) (p : Sided (meaning cfg)) → stands cfg self.now p → result ≡ (asker_in p.asking).keep };
 
     /// The client waits for a response head before it sends the body of the request in hand.
     fn awaits_continue(&self) -> bool
+        requires placed { IsSomewhere (placed self.now) }
         ensures { result ≡ (request self.now).awaits };
 
     /// A response head was read.
     fn has_heard(&self) -> bool
+        requires placed { IsSomewhere (placed self.now) }
         ensures { result ≡ (answer self.now).heard };
 
     fn client_is_open(&self) -> bool
+        requires placed { IsSomewhere (placed self.now) }
         ensures { result ≡ (request self.now).is_open };
 
     fn client_room(&self) -> usize
+        requires placed { IsSomewhere (placed self.now) }
         ensures { result ≡ (request self.now).room };
 
     fn server_is_open(&self) -> bool
+        requires placed { IsSomewhere (placed self.now) }
         ensures { result ≡ (answer self.now).is_open };
 
     fn server_room(&self) -> usize
+        requires placed { IsSomewhere (placed self.now) }
         ensures { result ≡ (answer self.now).room };
+
+    /// Bytes wait for the client.
+    fn has_to_client(&self) -> bool
+        requires placed { IsSomewhere (placed self.now) }
+        ensures { result ≡ not (is_empty (answer self.now).window) };
+
+    /// Bytes wait for the server.
+    fn has_to_server(&self) -> bool
+        requires placed { IsSomewhere (placed self.now) }
+        ensures { result ≡ not (is_empty (request self.now).window) };
 
     /// The array on which request rules run.
     fn request_raw(&self) -> &[u8]
-        ensures { result.now ≡ (request self.now).raw };
+        requires placed { IsSomewhere (placed self.now) }
+        ensures { HoldsList result.now (request self.now).list };
 
-    fn to_client(&self) -> &[u8]
-        ensures { result.now ≡ (answer self.now).window };
+    /// The bytes that wait for the client, to be read alone.
+    fn to_client(&mut self) -> &mut [u8]
+        requires placed { IsSomewhere (placed self.old) }
+        ensures* back { sem 𝓛 (LendsText Self.row self.entry result with_to_client) }
+        ensures value { result.now ≡ (answer self.old).window };
 
-    fn to_server(&self) -> &[u8]
-        ensures { result.now ≡ (request self.now).window };
+    /// The bytes that wait for the server, to be read alone.
+    fn to_server(&mut self) -> &mut [u8]
+        requires placed { IsSomewhere (placed self.old) }
+        ensures* back { sem 𝓛 (LendsText Self.row self.entry result with_to_server) }
+        ensures value { result.now ≡ (request self.old).window };
 
     // ---- what peers give and take
 
     fn take_client(&mut self, bytes: &[u8])
         requires open { IsTrue (request self.old).is_open }
         requires room { length bytes.now ≤ (request self.old).room }
+        requires placed { IsSomewhere (placed self.old) }
+        ensures placed { Stay (placed self.old) (placed self.new) }
         ensures leads { (cfg : Self.Settings) (p : Sided (meaning cfg)) → stands cfg self.old p → stands cfg self.new (record p { came = gains p.came bytes.now }) }
         ensures request { (room : ℕ) × (unread : ℕ) × (request self.new ≡ record (request self.old) { room = room; unread = unread; at_rest = false }) }
         ensures answer { answer self.new ≡ answer self.old };
 
     fn end_client(&mut self, how: Ending)
-        requires { IsTrue (request self.old).is_open }
+        requires open { IsTrue (request self.old).is_open }
+        requires placed { IsSomewhere (placed self.old) }
+        ensures placed { Stay (placed self.old) (placed self.new) }
         ensures leads { (cfg : Self.Settings) (p : Sided (meaning cfg)) → stands cfg self.old p → stands cfg self.new (record p { came = ends p.came how }) }
         ensures request { request self.new ≡ record (request self.old) { is_open = false; at_rest = false } }
         ensures answer { answer self.new ≡ answer self.old };
 
     fn client_took(&mut self, n: usize)
-        requires { n ≤ length (answer self.old).window }
+        requires within { n ≤ length (answer self.old).window }
+        requires placed { IsSomewhere (placed self.old) }
+        ensures placed { Stay (placed self.old) (placed self.new) }
         ensures leads { (cfg : Self.Settings) (p : Sided (meaning cfg)) → stands cfg self.old p → stands cfg self.new p }
         ensures request { request self.new ≡ request self.old }
         ensures answer { answer self.new ≡ record (answer self.old) { window = drop n (answer self.old).window; at_rest = false } };
@@ -122,31 +171,41 @@ pub trait Sides {
     fn take_server(&mut self, bytes: &[u8])
         requires open { IsTrue (answer self.old).is_open }
         requires room { length bytes.now ≤ (answer self.old).room }
+        requires placed { IsSomewhere (placed self.old) }
+        ensures placed { Stay (placed self.old) (placed self.new) }
         ensures leads { (cfg : Self.Settings) (p : Sided (meaning cfg)) → stands cfg self.old p → stands cfg self.new (record p { server = gains p.server bytes.now }) }
         ensures request { request self.new ≡ request self.old }
         ensures answer { (room : ℕ) × (answer self.new ≡ record (answer self.old) { room = room; at_rest = false }) };
 
     fn end_server(&mut self, how: Ending)
-        requires { IsTrue (answer self.old).is_open }
+        requires open { IsTrue (answer self.old).is_open }
+        requires placed { IsSomewhere (placed self.old) }
+        ensures placed { Stay (placed self.old) (placed self.new) }
         ensures leads { (cfg : Self.Settings) (p : Sided (meaning cfg)) → stands cfg self.old p → stands cfg self.new (record p { server = ends p.server how }) }
         ensures request { request self.new ≡ request self.old }
         ensures answer { answer self.new ≡ record (answer self.old) { is_open = false; at_rest = false } };
 
     fn server_took(&mut self, n: usize)
-        requires { n ≤ length (request self.old).window }
+        requires within { n ≤ length (request self.old).window }
+        requires placed { IsSomewhere (placed self.old) }
+        ensures placed { Stay (placed self.old) (placed self.new) }
         ensures leads { (cfg : Self.Settings) (p : Sided (meaning cfg)) → stands cfg self.old p → stands cfg self.new p }
         ensures request { request self.new ≡ record (request self.old) { window = drop n (request self.old).window; at_rest = false } }
         ensures answer { answer self.new ≡ answer self.old };
 
     /// The server takes nothing more: what stands in its window, and all that follows, is dropped.
     fn drop_request(&mut self)
-        requires { (request self.old).window ≢ [] }
+        requires waits { (request self.old).window ≢ [] }
+        requires placed { IsSomewhere (placed self.old) }
+        ensures placed { Stay (placed self.old) (placed self.new) }
         ensures leads { (cfg : Self.Settings) (p : Sided (meaning cfg)) (put : List ℕ) → stands cfg self.old p → put ++ (request self.old).window ≡ p.to_server → stands cfg self.new (record p { to_server = put }) }
-        ensures request { request self.new ≡ record (request self.old) { window = []; dropped = true; at_rest = false } }
+        ensures request { (list : List Block) × (request self.new ≡ record (request self.old) { window = []; dropped = true; at_rest = false; list = list }) }
         ensures answer { answer self.new ≡ answer self.old };
 
     /// A server is open for the request in hand.
     fn open_server(&mut self)
+        requires placed { placed self.old place.Opens }
+        ensures placed { placed self.new place.Serves }
         ensures leads { (cfg : Self.Settings) (p : Sided (meaning cfg)) → stands cfg self.old p → stands cfg self.new (record p { server = no_stream }) }
         ensures answers { (cfg : Self.Settings) (p : Sided (meaning cfg)) → stands cfg self.old p → p.to_client ≡ [] → AnswersSo (meaning cfg) (answer self.new) (record p { server = no_stream }) }
         ensures request { request self.new ≡ request self.old }
@@ -159,6 +218,8 @@ pub trait Sides {
 
     /// Reads the next request, runs its rules and finishes it.
     fn ask(&mut self) -> Result<Asked, OutOfMemory>
+        requires placed { placed self.old place.Reads }
+        ensures placed { IfOk result (λ asked. placed self.new (place_behind asked)) }
         ensures succeeds { (cfg : Self.Settings) (p : Sided (meaning cfg)) → stands cfg self.old p → needs cfg ≡ false → IsOk result }
         ensures leads { IfOk result (λ asked. (cfg : Self.Settings) (p : Sided (meaning cfg)) → stands cfg self.old p → AsksTo (meaning cfg) (stands cfg self.new) (request self.new) p asked) }
         ensures request { IfOk result (AskKeeps (request self.old) (request self.new)) }
@@ -168,12 +229,16 @@ pub trait Sides {
 
     /// Reads, filters and puts out as much of the request as there is room for.
     fn step_request(&mut self)
+        requires placed { IsSomewhere (placed self.old) }
+        ensures placed { Stay (placed self.old) (placed self.new) }
         ensures leads { (cfg : Self.Settings) (p : Sided (meaning cfg)) → stands cfg self.old p → Requests (meaning cfg) (request self.old) p → StepsRequest (meaning cfg) (stands cfg self.new) (request self.old) (request self.new) p }
         ensures keeps { KeepsRequest (request self.old) (request self.new) }
         ensures answer { answer self.new ≡ answer self.old };
 
     /// Reads heads of the server, runs the rules on the final one, and puts out as much of the answer as there is room for.
     fn step_answer(&mut self) -> Result<(), OutOfMemory>
+        requires placed { placed self.old place.Serves }
+        ensures placed { OnOk result (placed self.new place.Serves) }
         ensures succeeds { (cfg : Self.Settings) (p : Sided (meaning cfg)) → stands cfg self.old p → needs cfg ≡ false → IsOk result }
         ensures leads { OnOk result ((cfg : Self.Settings) (p : Sided (meaning cfg)) → stands cfg self.old p → AnswersSo (meaning cfg) (answer self.old) p
             → StepsAnswer (meaning cfg) (stands cfg self.new) (answer self.old) (answer self.new) p) }
@@ -183,6 +248,8 @@ pub trait Sides {
 
     /// Begins the refusal of the request in hand, for which no server is open.
     fn refuse(&mut self, code: u16) -> Result<(), OutOfMemory>
+        requires placed { placed self.old place.Opens }
+        ensures placed { OnOk result (placed self.new place.Says) }
         ensures succeeds { (cfg : Self.Settings) (p : Sided (meaning cfg)) → stands cfg self.old p → needs cfg ≡ false → IsOk result }
         ensures leads { OnOk result ((cfg : Self.Settings) (p : Sided (meaning cfg)) → stands cfg self.old p → Refuses (meaning cfg) (stands cfg self.new) p code) }
         ensures request { OnOk result (request self.new ≡ request self.old) }
@@ -192,6 +259,9 @@ pub trait Sides {
     /// In place of the server's answer, which hasn't begun, the client is refused behind the interim heads, each whole. No
     /// rule runs on this refusal.
     fn turn(&mut self, code: u16)
+        requires placed { placed self.old place.Serves }
+        requires begun { (answer self.old).begun ≡ false }
+        ensures placed { placed self.new place.Says }
         ensures leads { (cfg : Self.Settings) (p : Sided (meaning cfg)) → stands cfg self.old p → IsBefore (meaning cfg) p → Turns (meaning cfg) (stands cfg self.new) (answer self.new) p code }
         ensures request { request self.new ≡ request self.old }
         ensures window { (answer self.new).window ≡ (answer self.old).window }
@@ -199,6 +269,8 @@ pub trait Sides {
 
     /// Puts out as much of a refusal or reply as there is room for.
     fn say(&mut self)
+        requires placed { (at : Place) × (is_saying at ≡ true) × placed self.old at }
+        ensures placed { (at : Place) → is_saying at ≡ true → placed self.old at → placed self.new at }
         ensures leads { (cfg : Self.Settings) (p : Sided (meaning cfg)) → stands cfg self.old p → Says (meaning cfg) (stands cfg self.new) (answer self.old) (answer self.new) p }
         ensures waits { (answer self.new).answered ≡ false → (answer self.new).window ≢ [] }
         ensures open { (answer self.new).is_open ≡ (answer self.old).is_open }
@@ -206,6 +278,9 @@ pub trait Sides {
 
     /// The next exchange begins behind a request that came whole.
     fn next(&mut self)
+        requires placed { placed self.old place.Serves }
+        requires answered { (answer self.old).answered ≡ true }
+        ensures placed { placed self.new place.Reads }
         ensures leads { (cfg : Self.Settings) (p : Sided (meaning cfg)) → stands cfg self.old p → Requests (meaning cfg) (request self.old) p → (request self.old).source ≡ Source.Whole → (request self.old).sent ≡ true
             → Renews (meaning cfg) (stands cfg self.new) (request self.old) p }
         ensures request { (request self.new).is_open ≡ (request self.old).is_open }
@@ -215,9 +290,18 @@ pub trait Sides {
 
     /// The next exchange begins behind a request that was replied to.
     fn next_replied(&mut self)
+        requires placed { placed self.old place.Replies }
+        requires answered { (answer self.old).answered ≡ true }
+        ensures placed { placed self.new place.Reads }
         ensures leads { (cfg : Self.Settings) (p : Sided (meaning cfg)) → stands cfg self.old p → RenewsReplied (meaning cfg) (stands cfg self.new) p }
         ensures request { (request self.new).is_open ≡ (request self.old).is_open }
         ensures window { (request self.new).window ≡ [] }
         ensures unread { (request self.new).unread ≤ (request self.old).unread }
         ensures answer { (answer self.new).window ≡ (answer self.old).window };
+
+    // ---- laws
+
+    ghost lends_to_client: { (sides : Self) → with_to_client sides (answer sides).window ≡ sides };
+
+    ghost lends_to_server: { (sides : Self) → with_to_server sides (request sides).window ≡ sides };
 }

@@ -1,10 +1,11 @@
 //! From one exchange to the next, or to the end of the session.
-ghost use Rattle.std.specs.Prelude.{◌≡◌, ◌≤◌, ◌<◌, ◌+◌, min, Option, Some, Bool, true, false, OnOk, IfOk, IsOk};
+ghost use Rattle.std.specs.Prelude.{◌≡◌, ◌≤◌, ◌<◌, ◌+◌, min, Option, Some, None, Bool, true, false, OnOk, IfOk, IsOk};
 ghost use Rattle.session_core.specs.History.{Past};
 ghost use Rattle.session_core.specs.Sided.{Sided, asker_in};
 ghost use Rattle.session_core.specs.Stands.{most};
 ghost use Rattle.session_core.specs.Waits.{is_serving, Ready, SayWaits, IsSaying, Ended, Settled};
 ghost use Rattle.session_core.specs.Leads.{Stands, Keeps, Follows};
+ghost use Rattle.session_core.specs.Place.{IsPlaced, IsSomewhere};
 
 use crate::machine::{At, Core};
 use crate::sides::{Asked, Sides};
@@ -14,6 +15,8 @@ use http_model::{End, OutOfMemory};
 impl<S: Sides> Core<S> {
     /// Where the exchange in hand has ended, what follows it.
     pub(crate) fn end_exchange(&mut self)
+        requires placed { IsPlaced (S.placed self.old.sides) (S.answer self.old.sides) self.old.at.phase self.old.at.cut }
+        ensures placed { IsPlaced (S.placed self.new.sides) (S.answer self.new.sides) self.new.at.phase self.new.at.cut }
         ensures keeps { Keeps S.meaning S.request S.answer S.stands self.old.sides self.old.at self.new.sides self.new.at }
         ensures cut { self.new.at.cut ≡ self.old.at.cut }
         ensures unread { (S.request self.new.sides).unread ≤ (S.request self.old.sides).unread }
@@ -33,7 +36,9 @@ impl<S: Sides> Core<S> {
     }
 
     fn end_refused(&mut self)
-        requires { self.old.at.phase ≡ Phase.Refusing }
+        requires phase { self.old.at.phase ≡ Phase.Refusing }
+        requires placed { IsPlaced (S.placed self.old.sides) (S.answer self.old.sides) self.old.at.phase self.old.at.cut }
+        ensures placed { IsPlaced (S.placed self.new.sides) (S.answer self.new.sides) self.new.at.phase self.new.at.cut }
         ensures keeps { Keeps S.meaning S.request S.answer S.stands self.old.sides self.old.at self.new.sides self.new.at }
         ensures cut { self.new.at.cut ≡ self.old.at.cut }
         ensures unread { (S.request self.new.sides).unread ≤ (S.request self.old.sides).unread }
@@ -46,7 +51,9 @@ impl<S: Sides> Core<S> {
     }
 
     fn end_replied(&mut self, kept: bool)
-        requires { self.old.at.phase ≡ Phase.Replying kept }
+        requires phase { self.old.at.phase ≡ Phase.Replying kept }
+        requires placed { IsPlaced (S.placed self.old.sides) (S.answer self.old.sides) self.old.at.phase self.old.at.cut }
+        ensures placed { IsPlaced (S.placed self.new.sides) (S.answer self.new.sides) self.new.at.phase self.new.at.cut }
         ensures keeps { Keeps S.meaning S.request S.answer S.stands self.old.sides self.old.at self.new.sides self.new.at }
         ensures cut { self.new.at.cut ≡ self.old.at.cut }
         ensures unread { (S.request self.new.sides).unread ≤ (S.request self.old.sides).unread }
@@ -65,7 +72,9 @@ impl<S: Sides> Core<S> {
     }
 
     fn end_served(&mut self)
-        requires { self.old.at.phase ≡ Phase.Served }
+        requires phase { self.old.at.phase ≡ Phase.Served }
+        requires placed { IsPlaced (S.placed self.old.sides) (S.answer self.old.sides) self.old.at.phase self.old.at.cut }
+        ensures placed { IsPlaced (S.placed self.new.sides) (S.answer self.new.sides) self.new.at.phase self.new.at.cut }
         ensures keeps { Keeps S.meaning S.request S.answer S.stands self.old.sides self.old.at self.new.sides self.new.at }
         ensures cut { self.new.at.cut ≡ self.old.at.cut }
         ensures unread { (S.request self.new.sides).unread ≤ (S.request self.old.sides).unread }
@@ -89,7 +98,9 @@ impl<S: Sides> Core<S> {
 
     /// How the session ends behind an answer of the server, if it does.
     fn served_end(&self) -> Option<End>
-        ensures { (cfg : S.Settings) (p : Sided (S.meaning cfg)) → S.stands cfg self.now.sides p → Follows (S.answer self.now.sides).told self.now.at.cut (asker_in p.asking).keep result }
+        requires placed { IsSomewhere (S.placed self.now.sides) }
+        ensures follows { (cfg : S.Settings) (p : Sided (S.meaning cfg)) → S.stands cfg self.now.sides p → Follows (S.answer self.now.sides).told self.now.at.cut (asker_in p.asking).keep result }
+        ensures uncut { result ≡ None → self.now.at.cut ≡ None }
     {
         match self.sides.told() {
             Told::Cut => Some(End::Cut),
@@ -110,6 +121,8 @@ impl<S: Sides> Core<S> {
 
     /// Begins the next exchange, and answers whether it has an answer of its own.
     pub(crate) fn begin_exchange(&mut self) -> Result<bool, OutOfMemory>
+        requires placed { IsPlaced (S.placed self.old.sides) (S.answer self.old.sides) self.old.at.phase self.old.at.cut }
+        ensures placed { OnOk result (IsPlaced (S.placed self.new.sides) (S.answer self.new.sides) self.new.at.phase self.new.at.cut) }
         ensures keeps { OnOk result (Keeps S.meaning S.request S.answer S.stands self.old.sides self.old.at self.new.sides self.new.at) }
         ensures succeeds { (cfg : S.Settings) (past : Past) → Stands (S.meaning cfg) S.request S.answer (S.stands cfg) self.old.sides self.old.at past → S.needs cfg ≡ false → IsOk result }
         ensures cut { OnOk result (self.new.at.cut ≡ self.old.at.cut) }
@@ -131,7 +144,9 @@ impl<S: Sides> Core<S> {
     }
 
     fn ask(&mut self) -> Result<bool, OutOfMemory>
-        requires { self.old.at.phase ≡ Phase.Reading }
+        requires phase { self.old.at.phase ≡ Phase.Reading }
+        requires placed { IsPlaced (S.placed self.old.sides) (S.answer self.old.sides) self.old.at.phase self.old.at.cut }
+        ensures placed { OnOk result (IsPlaced (S.placed self.new.sides) (S.answer self.new.sides) self.new.at.phase self.new.at.cut) }
         ensures keeps { OnOk result (Keeps S.meaning S.request S.answer S.stands self.old.sides self.old.at self.new.sides self.new.at) }
         ensures succeeds { (cfg : S.Settings) (past : Past) → Stands (S.meaning cfg) S.request S.answer (S.stands cfg) self.old.sides self.old.at past → S.needs cfg ≡ false → IsOk result }
         ensures cut { OnOk result (self.new.at.cut ≡ self.old.at.cut) }

@@ -2,6 +2,7 @@
 ghost use Rattle.std.specs.Prelude.{◌≡◌, Option, Some, None, Bool, if◌then◌else◌, not, ◌&&◌, nat_lt};
 ghost use Rattle.session_core.specs.History.{close_by};
 ghost use Rattle.session_core.specs.Waits.{wants_of, is_turned, is_empty, is_serving, is_opening, is_sending, takes_client, is_going, is_telling, has_ended, over_by};
+ghost use Rattle.session_core.specs.Place.{IsPlaced, IsSomewhere};
 
 use crate::machine::{Core, Wants};
 use crate::sides::Sides;
@@ -11,13 +12,15 @@ use http_model::{Close, End};
 impl<S: Sides> Core<S> {
     /// Both directions of the open server have ended.
     fn has_ended(&self) -> bool
+        requires placed { IsSomewhere (S.placed self.now.sides) }
         ensures { result ≡ has_ended (S.request self.now.sides) (S.answer self.now.sides) }
     {
-        self.sides.is_sent() && is_empty(self.sides.to_server()) && self.sides.is_answered()
+        self.sides.is_sent() && !self.sides.has_to_server() && self.sides.is_answered()
     }
 
     /// The client may give more of the request in hand, or of the next.
     fn takes_client(&self) -> bool
+        requires placed { IsSomewhere (S.placed self.now.sides) }
         ensures { result ≡ takes_client (S.request self.now.sides).source self.now.at.phase }
     {
         match self.at.phase {
@@ -34,6 +37,7 @@ impl<S: Sides> Core<S> {
 
     /// The source of the request in hand goes on.
     fn is_going(&self) -> bool
+        requires placed { IsSomewhere (S.placed self.now.sides) }
         ensures { result ≡ is_going (S.request self.now.sides).source }
     {
         match self.sides.source() {
@@ -45,6 +49,7 @@ impl<S: Sides> Core<S> {
 
     /// The last that answers goes on.
     fn is_telling(&self) -> bool
+        requires placed { IsSomewhere (S.placed self.now.sides) }
         ensures { result ≡ is_telling (S.answer self.now.sides).told }
     {
         match self.sides.told() {
@@ -66,14 +71,15 @@ impl<S: Sides> Core<S> {
     }
 
     fn over(&self) -> Option<End>
+        requires placed { IsSomewhere (S.placed self.now.sides) }
         ensures { result ≡ over_by self.now.at.phase (is_empty (S.answer self.now.sides).window) }
     {
         match self.at.phase {
             Phase::Over(end) => {
-                if is_empty(self.sides.to_client()) {
-                    Some(end)
-                } else {
+                if self.sides.has_to_client() {
                     None
+                } else {
+                    Some(end)
                 }
             }
             Phase::Reading => None,
@@ -87,6 +93,7 @@ impl<S: Sides> Core<S> {
     }
 
     fn server_close(&self) -> Option<Close>
+        requires placed { IsSomewhere (S.placed self.now.sides) }
         ensures { result ≡ (if is_serving self.now.at.phase && has_ended (S.request self.now.sides) (S.answer self.now.sides) then Some (close_by self.now.at.cut) else None) }
     {
         if is_serving(self.at.phase) && self.has_ended() {
@@ -97,6 +104,7 @@ impl<S: Sides> Core<S> {
     }
 
     fn server_read(&self) -> bool
+        requires placed { IsSomewhere (S.placed self.now.sides) }
         ensures { result ≡ (is_serving self.now.at.phase && not (is_turned self.now.at.cut) && is_telling (S.answer self.now.sides).told && (S.answer self.now.sides).is_open && nat_lt 0 (S.answer self.now.sides).room) }
     {
         is_serving(self.at.phase)
@@ -108,6 +116,7 @@ impl<S: Sides> Core<S> {
 
     /// The client waits for a response head before it sends the body.
     fn client_waits(&self) -> bool
+        requires placed { IsSomewhere (S.placed self.now.sides) }
         ensures { result ≡ (is_sending self.now.at.phase && (S.request self.now.sides).awaits && not (S.answer self.now.sides).heard) }
     {
         is_sending(self.at.phase) && self.sides.awaits_continue() && !self.sides.has_heard()
@@ -115,27 +124,30 @@ impl<S: Sides> Core<S> {
 
     /// What the core wants of its driver. It changes with each event and with work alone.
     pub fn wants(&self) -> Wants
+        requires placed { IsPlaced (S.placed self.now.sides) (S.answer self.now.sides) self.now.at.phase self.now.at.cut }
+        ensures { result ≡ wants_of (S.request self.now.sides) (S.answer self.now.sides) self.now.at }
+    {
+        self.wants_here()
+    }
+
+    /// The same, wherever the directions stand.
+    fn wants_here(&self) -> Wants
+        requires placed { IsSomewhere (S.placed self.now.sides) }
         ensures { result ≡ wants_of (S.request self.now.sides) (S.answer self.now.sides) self.now.at }
     {
         Wants {
             client_read: self.takes_client()
                 && self.sides.client_is_open()
                 && self.sides.client_room() > 0,
-            client_write: !is_empty(self.sides.to_client()),
+            client_write: self.sides.has_to_client(),
             client_waits: self.client_waits(),
             server_open: is_opening(self.at.phase),
             server_read: self.server_read(),
-            server_write: is_serving(self.at.phase) && !is_empty(self.sides.to_server()),
+            server_write: is_serving(self.at.phase) && self.sides.has_to_server(),
             server_close: self.server_close(),
             over: self.over(),
         }
     }
-}
-
-fn is_empty(bytes: &[u8]) -> bool
-    ensures { result ≡ is_empty bytes.now }
-{
-    bytes.is_empty()
 }
 
 fn is_turned(cut: Option<bool>) -> bool

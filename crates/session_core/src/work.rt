@@ -4,6 +4,7 @@ ghost use Rattle.session_core.specs.History.{Past, Work};
 ghost use Rattle.session_core.specs.Sided.{IsUncut};
 ghost use Rattle.session_core.specs.Waits.{wants_of, wants_any, is_serving, RequestWaits, AnswerWaitsAt, Stepped, Answered, Settled, refused_phase};
 ghost use Rattle.session_core.specs.Leads.{Stands, Leads, Keeps, IsNote, Meets};
+ghost use Rattle.session_core.specs.Place.{IsPlaced, IsSomewhere};
 
 use crate::machine::Core;
 use crate::sides::Sides;
@@ -13,6 +14,8 @@ use http_model::OutOfMemory;
 impl<S: Sides> Core<S> {
     /// Does all that can be done without another event.
     pub fn work(&mut self) -> Result<(), OutOfMemory>
+        requires placed { IsPlaced (S.placed self.old.sides) (S.answer self.old.sides) self.old.at.phase self.old.at.cut }
+        ensures placed { OnOk result (IsPlaced (S.placed self.new.sides) (S.answer self.new.sides) self.new.at.phase self.new.at.cut) }
         ensures leads { OnOk result ((note : Option Bool) × IsNote self.old.at.cut self.new.at.cut (S.answer self.old.sides).begun note × Leads S.meaning S.request S.answer S.stands self.old.sides self.old.at self.new.sides self.new.at (Work note)) }
         ensures succeeds { (cfg : S.Settings) (past : Past) → Stands (S.meaning cfg) S.request S.answer (S.stands cfg) self.old.sides self.old.at past → S.needs cfg ≡ false → IsOk result }
         ensures lost { IsErr result ↔ IsTrue self.new.lost }
@@ -33,6 +36,8 @@ impl<S: Sides> Core<S> {
     }
 
     fn run(&mut self) -> Result<(), OutOfMemory>
+        requires placed { IsPlaced (S.placed self.old.sides) (S.answer self.old.sides) self.old.at.phase self.old.at.cut }
+        ensures placed { OnOk result (IsPlaced (S.placed self.new.sides) (S.answer self.new.sides) self.new.at.phase self.new.at.cut) }
         ensures keeps { OnOk result (Keeps S.meaning S.request S.answer S.stands self.old.sides self.old.at self.new.sides self.new.at) }
         ensures succeeds { (cfg : S.Settings) (past : Past) → Stands (S.meaning cfg) S.request S.answer (S.stands cfg) self.old.sides self.old.at past → S.needs cfg ≡ false → IsOk result }
         ensures met { OnOk result (Meets self.old.at.cut self.new.at.cut (S.answer self.old.sides).begun) }
@@ -52,6 +57,7 @@ impl<S: Sides> Core<S> {
 
     /// The code of a cut that was not met before.
     fn newly_cut(&self) -> Option<u16>
+        requires placed { IsSomewhere (S.placed self.now.sides) }
         ensures { MatchOption result (self.now.at.cut ≡ None → IsUncut (S.request self.now.sides).source) (λ code. (self.now.at.cut ≡ None) × ((S.request self.now.sides).source ≡ Source.Cut code)) }
     {
         match self.at.cut {
@@ -67,6 +73,8 @@ impl<S: Sides> Core<S> {
     /// The request direction, as far as it can go. Where the request is met as cut and the answer hasn't begun, a refusal
     /// takes its place.
     fn run_request(&mut self)
+        requires placed { IsPlaced (S.placed self.old.sides) (S.answer self.old.sides) self.old.at.phase self.old.at.cut }
+        ensures placed { IsPlaced (S.placed self.new.sides) (S.answer self.new.sides) self.new.at.phase self.new.at.cut }
         ensures keeps { Keeps S.meaning S.request S.answer S.stands self.old.sides self.old.at self.new.sides self.new.at }
         ensures met { Meets self.old.at.cut self.new.at.cut (S.answer self.old.sides).begun }
         ensures phase { self.new.at.phase ≡ self.old.at.phase }
@@ -85,7 +93,9 @@ impl<S: Sides> Core<S> {
     }
 
     fn step_request(&mut self)
-        requires { self.old.at.phase ≡ Phase.Serving }
+        requires phase { self.old.at.phase ≡ Phase.Serving }
+        requires placed { IsPlaced (S.placed self.old.sides) (S.answer self.old.sides) self.old.at.phase self.old.at.cut }
+        ensures placed { IsPlaced (S.placed self.new.sides) (S.answer self.new.sides) self.new.at.phase self.new.at.cut }
         ensures keeps { Keeps S.meaning S.request S.answer S.stands self.old.sides self.old.at self.new.sides self.new.at }
         ensures met { Meets self.old.at.cut self.new.at.cut (S.answer self.old.sides).begun }
         ensures phase { self.new.at.phase ≡ self.old.at.phase }
@@ -107,6 +117,8 @@ impl<S: Sides> Core<S> {
 
     /// A server was refused: so is the client.
     fn refuse_unserved(&mut self) -> Result<(), OutOfMemory>
+        requires placed { IsPlaced (S.placed self.old.sides) (S.answer self.old.sides) self.old.at.phase self.old.at.cut }
+        ensures placed { OnOk result (IsPlaced (S.placed self.new.sides) (S.answer self.new.sides) self.new.at.phase self.new.at.cut) }
         ensures keeps { OnOk result (Keeps S.meaning S.request S.answer S.stands self.old.sides self.old.at self.new.sides self.new.at) }
         ensures succeeds { (cfg : S.Settings) (past : Past) → Stands (S.meaning cfg) S.request S.answer (S.stands cfg) self.old.sides self.old.at past → S.needs cfg ≡ false → IsOk result }
         ensures cut { OnOk result (self.new.at.cut ≡ self.old.at.cut) }
@@ -126,7 +138,9 @@ impl<S: Sides> Core<S> {
     }
 
     fn refuse_server(&mut self) -> Result<(), OutOfMemory>
-        requires { self.old.at.phase ≡ Phase.Unserved }
+        requires phase { self.old.at.phase ≡ Phase.Unserved }
+        requires placed { IsPlaced (S.placed self.old.sides) (S.answer self.old.sides) self.old.at.phase self.old.at.cut }
+        ensures placed { OnOk result (IsPlaced (S.placed self.new.sides) (S.answer self.new.sides) self.new.at.phase self.new.at.cut) }
         ensures keeps { OnOk result (Keeps S.meaning S.request S.answer S.stands self.old.sides self.old.at self.new.sides self.new.at) }
         ensures succeeds { (cfg : S.Settings) (past : Past) → Stands (S.meaning cfg) S.request S.answer (S.stands cfg) self.old.sides self.old.at past → S.needs cfg ≡ false → IsOk result }
         ensures cut { OnOk result (self.new.at.cut ≡ self.old.at.cut) }
@@ -150,6 +164,8 @@ impl<S: Sides> Core<S> {
 
     /// The answer direction, as far as it can go.
     fn run_answer(&mut self) -> Result<(), OutOfMemory>
+        requires placed { IsPlaced (S.placed self.old.sides) (S.answer self.old.sides) self.old.at.phase self.old.at.cut }
+        ensures placed { OnOk result (IsPlaced (S.placed self.new.sides) (S.answer self.new.sides) self.new.at.phase self.new.at.cut) }
         ensures keeps { OnOk result (Keeps S.meaning S.request S.answer S.stands self.old.sides self.old.at self.new.sides self.new.at) }
         ensures succeeds { (cfg : S.Settings) (past : Past) → Stands (S.meaning cfg) S.request S.answer (S.stands cfg) self.old.sides self.old.at past → S.needs cfg ≡ false → IsOk result }
         ensures at { OnOk result (self.new.at ≡ self.old.at) }
@@ -175,7 +191,9 @@ impl<S: Sides> Core<S> {
     }
 
     fn answer_or_say(&mut self) -> Result<(), OutOfMemory>
-        requires { self.old.at.phase ≡ Phase.Serving }
+        requires phase { self.old.at.phase ≡ Phase.Serving }
+        requires placed { IsPlaced (S.placed self.old.sides) (S.answer self.old.sides) self.old.at.phase self.old.at.cut }
+        ensures placed { OnOk result (IsPlaced (S.placed self.new.sides) (S.answer self.new.sides) self.new.at.phase self.new.at.cut) }
         ensures keeps { OnOk result (Keeps S.meaning S.request S.answer S.stands self.old.sides self.old.at self.new.sides self.new.at) }
         ensures succeeds { (cfg : S.Settings) (past : Past) → Stands (S.meaning cfg) S.request S.answer (S.stands cfg) self.old.sides self.old.at past → S.needs cfg ≡ false → IsOk result }
         ensures at { OnOk result (self.new.at ≡ self.old.at) }

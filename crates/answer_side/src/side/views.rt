@@ -1,5 +1,6 @@
 //! What is seen of the answer direction.
-ghost use Rattle.std.specs.Prelude.{◌≡◌};
+ghost use Rattle.std.specs.Prelude.{◌≡◌, not};
+ghost use Rattle.session_core.specs.Waits.{is_empty};
 ghost use Rattle.answer_side.specs.Seen.{seen, place_of, asker_of};
 ghost use Rattle.answer_side.specs.Stands.{IsSoundSide};
 
@@ -30,6 +31,9 @@ pub(super) fn is_done(stage: Stage) -> bool
 }
 
 impl AnswerSide {
+    ghost use Rattle.std.specs.Borrow.{sem};
+    ghost use Rattle.answer_side.specs.Lent.{LendsText};
+
     /// What is put out.
     pub fn place(&self) -> Place
         ensures { result ≡ place_of self.now }
@@ -99,5 +103,27 @@ impl AnswerSide {
         ensures { result ≡ (seen self.now).room }
     {
         self.lane.room()
+    }
+
+    /// Whether the request in hand is a HEAD (RFC 9110 section 9.3.2).
+    pub fn asks_head(&self) -> bool
+        ensures { result ≡ (asker_of self.now).head_asked }
+    {
+        self.asker.head_asked
+    }
+
+    /// Whether bytes wait for the client.
+    pub fn has_to_client(&self) -> bool
+        ensures { result ≡ not (is_empty (seen self.now).window) }
+    {
+        self.lane.output_len() > 0
+    }
+
+    /// The bytes that wait for the client.
+    pub fn to_client(&mut self) -> &mut [u8]
+        ensures* back { sem 𝓛 (LendsText self.entry result) }
+        ensures value { result.now ≡ (seen self.old).window }
+    {
+        self.lane.output()
     }
 }

@@ -1,7 +1,7 @@
 //! What is seen of a lane of answers.
 ghost use Rattle.std.specs.Prelude.{◌≡◌, ◌+◌, length};
 ghost use Rattle.htx_layout.specs.Held.{held};
-ghost use Rattle.lane.specs.Answering.{stage_of, source_of, input_of, most_of, blocks_of, addrs_of, framing_of, declared_of, close_of, has_begun};
+ghost use Rattle.lane.specs.Answering.{stage_of, source_of, input_of, output_of, most_of, blocks_of, addrs_of, framing_of, declared_of, close_of, has_begun};
 
 use crate::response_lane::ResponseLane;
 use http_model::Framing;
@@ -62,5 +62,12 @@ impl ResponseLane {
         ensures { held result.now (blocks_of self.now) (addrs_of self.now) }
     {
         self.lane.raw()
+    }
+
+    /// How many bytes of the text that was put out and not taken there are.
+    pub fn output_len(&self) -> usize
+        ensures { result ≡ length (output_of self.now) }
+    {
+        self.lane.put()
     }
 }

@@ -1,5 +1,5 @@
 //! The calls of a lane beside reading a head.
-ghost use Rattle.std.specs.Prelude.{◌≡◌, ◌≢◌, ◌≤◌, ◌<◌, ◌+◌, ◌++◌, ◌⊎◌, [], length, take, drop, true, false, List, ℕ, Some, None, Option, IfOk};
+ghost use Rattle.std.specs.Prelude.{◌≡◌, ◌≢◌, ◌≤◌, ◌<◌, ◌+◌, ◌++◌, ◌⊎◌, [], length, take, drop, true, false, List, ℕ, Some, None, Option, IfOk, is_none};
 ghost use Rattle.http_model.specs.Head.{Head, head_blocks};
 ghost use Rattle.http_model.specs.Sizes.{least_size, most_size, least_head};
 ghost use Rattle.http_model.specs.declared.Ending.{Ending};
@@ -7,7 +7,7 @@ ghost use Rattle.body_filter.specs.declared.filter_spec.FilterSpec.{FilterSpec};
 ghost use Rattle.body_filter.specs.Valid.{AreFilters};
 ghost use Rattle.h1_body.specs.declared.reader.BodyReader.{BodyReader};
 ghost use Rattle.lane_core.specs.Filtering.{AreThese, HasPassed, SieveFits, GoesOnBy};
-ghost use Rattle.htx_layout.specs.Held.{held};
+ghost use Rattle.htx_layout.specs.Held.{held, blocks_of as told};
 ghost use Rattle.header_ops.specs.Headers.{without_framing};
 ghost use Rattle.h1_head.specs.declared.answer.Side.{Side};
 ghost use Rattle.lane_core.specs.Sends.{Past, Stands, GoesOn, IsAtRest, IsAllOut, IsSound, IsReady, IsReading, RestsFor, begun};
@@ -142,6 +142,13 @@ impl Lane {
         self.close
     }
 
+    /// Whether the stream has not ended.
+    pub fn is_open(&self) -> bool
+        ensures { result ≡ is_none self.now.ended }
+    {
+        self.ended.is_none()
+    }
+
     /// Bytes of the stream come.
     pub fn take(&mut self, bytes: &[u8])
         requires open { self.old.ended ≡ None }
@@ -179,6 +186,7 @@ impl Lane {
     pub fn raw(&self) -> &[u8]
         ensures held { held result.now self.now.msg.blocks self.now.msg.addrs }
         ensures size { length result.now ≡ self.now.msg.size }
+        ensures gives_back { told result.now (length self.now.msg.blocks) ≡ self.now.msg.blocks }
     {
         self.msg.raw()
     }

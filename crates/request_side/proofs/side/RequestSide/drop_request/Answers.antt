@@ -1,5 +1,7 @@
 use Rattle.request_side.proofs.Events.{Keeps, drops, for_same}
-use Rattle.request_side.proofs.Sounds.{sound_drops}
+use Rattle.std.proofs.Common.{false}
+use Rattle.lane.specs.Asking.{blocks_of}
+use Rattle.request_side.proofs.Sounds.{sound_drops, seen_dropped}
 use Rattle.request_side.proofs.side.RequestSide.drop_request.Goals as goal
 
 pub returns-clause-sound : goal.returns-clause-sound
@@ -19,3 +21,10 @@ returns-clause-leads c = λ cfg vars came asking to_server put reply h is.
       at = drops c.args.self.now.place cfg c.args.self.now.lane c.discard.new.self vars came asking to_server put reply k c.requires.sound.at e.same.2 c.requires.some e.dropping.0 e.sends
           (λ p s. c.promise.ensures c.args.self.now.lane p s) is h.at;
     }
+
+pub returns-clause-seen : goal.returns-clause-seen
+returns-clause-seen c =
+    let e = c.discard.ensures in
+    let old = c.args.self.now.lane in
+    let new = c.discard.new.self in
+    (blocks_of new, seen_dropped old new c.args.self.now.place c.args.self.now.awaits c.args.self.now.at_rest false c.requires.sound.well (e.well c.requires.sound.well) e.same.4 e.same.2 e.same.3 e.dropping.1 e.same.1 e.same.0 e.dropping.0)

@@ -1,10 +1,11 @@
 use Rattle.std.proofs.Common.{false, ap, ◌∙◌, refl}
-use Rattle.std.specs.Prelude.{is_none}
+use Rattle.std.specs.Prelude.{is_none, is_some}
 use Rattle.http_model.specs.Reading.{Nothing, Refused}
-use Rattle.lane.specs.Asking.{input_of, most_of}
+use Rattle.h1_head.specs.declared.answer.Side.TheVariants as side
+use Rattle.lane.specs.Asking.{input_of, most_of, limits_of, ended_of}
 use Rattle.request_side.specs.declared.place.Place.TheVariants as place
 use Rattle.request_side.proofs.Events.{for_same}
-use Rattle.request_side.proofs.Reading.{at_reading, on_reading, still_reading, nothing_out, each_nothing, asks_reading, head_read, reads_on, some_room}
+use Rattle.request_side.proofs.Reading.{at_reading, on_reading, still_reading, nothing_out, each_nothing, asks_reading, head_read, reads_on, some_room, refuses_bytes, head_uses}
 use Rattle.request_side.proofs.side.RequestSide.read_head.Goals as goal
 
 pub returns-in-More-clause-sound : goal.returns-in-More-clause-sound
@@ -82,3 +83,15 @@ returns-in-Refuse-clause-tells c =
       λ cfg vars came asking to_server reply h stream on.
           asks_reading cfg old vars came (Refused c.in-Refuse.code) h.is_for (at_reading c.args.self.now.place cfg old vars came asking to_server reply c.requires.place h.at) e.tells.refused stream on,
     )
+
+pub returns-in-Head-clause-uses : goal.returns-in-Head-clause-uses
+returns-in-Head-clause-uses c =
+    let old = c.args.self.now.lane in
+    let t = c.in-Head.ensures.tells in
+    head_uses (limits_of old) (input_of old) (input_of c.read_head.new.self) (is_some (ended_of old)) (record { head = t.head; framing = c.read_head.new.self.lane.framing; declared = c.read_head.new.self.lane.declared; close = c.read_head.new.self.lane.close })
+    (λ stream got rest h. c.has_bytes.ensures side.Request (limits_of old) stream got rest h) t.begins
+
+pub returns-in-Refuse-clause-uses : goal.returns-in-Refuse-clause-uses
+returns-in-Refuse-clause-uses c =
+    let old = c.args.self.now.lane in
+    refuses_bytes (limits_of old) (input_of old) (is_some (ended_of old)) c.in-Refuse.code c.in-Refuse.ensures.tells.refused

@@ -30,6 +30,7 @@ returns c =
           at = step_stands c.args.self.now.place cfg old new vars came asking to_server e.grows.0 reply sending t e.grows.1 h.at;
         };
       };
-      keeps = λ raw left. step_keeps raw left c.args.self.now.place c.args.self.now.awaits c.args.self.now.at_rest old new sending t c.requires.at;
+      keeps = step_keeps c.args.self.now.place c.args.self.now.awaits c.args.self.now.at_rest old new sending t c.requires.at;
       place = refl;
+      limits = e.same.1;
     }

@@ -29,12 +29,12 @@ returns-clause-leads c = λ cfg vars came asking to_server reply h.
     record { is_for = for_same cfg c.args.self.now.lane c.take.new.self t.same h.is_for; at = takes c.args.self.now.place cfg c.args.self.now.lane c.take.new.self c.args.bytes.now vars came asking to_server reply t h.at }
 
 pub returns-clause-seen : goal.returns-clause-seen
-returns-clause-seen c = λ raw.
+returns-clause-seen c =
     let e = c.take.ensures in
     let old = c.args.self.now.lane in
     let new = c.take.new.self in (
       most_of new - length (input_of new),
       unread_at c.args.self.now.place (input_of new),
-      seen_as raw old new c.args.self.now.place c.args.self.now.awaits c.args.self.now.at_rest false (is_none (ended_of old)) (is_dropping old)
-          (most_of new - length (input_of new)) (unread_at c.args.self.now.place (input_of new)) (output_of old) (ap is_none (e.same.3 ∙ sym (none_is (ended_of old) c.requires.open))) refl refl e.same.4 e.same.1 e.same.0 e.same.2,
+      seen_as old new c.args.self.now.place c.args.self.now.awaits c.args.self.now.at_rest false (is_none (ended_of old)) (is_dropping old)
+          (most_of new - length (input_of new)) (unread_at c.args.self.now.place (input_of new)) (output_of old) (ap is_none (e.same.3 ∙ sym (none_is (ended_of old) c.requires.open))) refl refl e.same.4 e.same.1 e.same.0 e.same.2 e.array,
     )

@@ -1,6 +1,8 @@
-use Rattle.std.proofs.Common.{false}
+use Rattle.std.proofs.Common.{false, ap}
 use Rattle.session_core.specs.History.{ends}
 use Rattle.session_core.proofs.Events.{holds_at, client_ends}
+use Rattle.session_core.proofs.Placing.{is_somewhere, stay_placed}
+use Rattle.session_core.specs.Sided.{AnswerSeen}
 use Rattle.session_core.proofs.machine.Core.client_ended.Goals as goal
 
 pub returns-clause-leads : goal.returns-clause-leads
@@ -13,5 +15,11 @@ returns-clause-leads g c = λ cfg past s.
       sided = record s.sided { came = ends s.sided.came c.args.how };
       stand = c.end_client.ensures.leads cfg s.sided s.stand;
       holds = holds_at M at (record q { is_open = false; at_rest = false }) (g.S.Sides.request c.end_client.new.self) a (g.S.Sides.answer c.end_client.new.self) _ _ c.end_client.ensures.request c.end_client.ensures.answer
-          (client_ends M at q a s.sided past c.args.how c.requires s.holds);
+          (client_ends M at q a s.sided past c.args.how c.requires.open s.holds);
     }
+
+pub end_client-requires-clause-placed : goal.end_client-requires-clause-placed
+end_client-requires-clause-placed g c = is_somewhere (g.S.Sides.placed c.args.self.now.sides) (g.S.Sides.answer c.args.self.now.sides) c.args.self.now.at.phase c.args.self.now.at.cut c.requires.placed
+
+pub returns-clause-placed : goal.returns-clause-placed
+returns-clause-placed g c = stay_placed (g.S.Sides.placed c.args.self.now.sides) (g.S.Sides.placed c.end_client.new.self) (g.S.Sides.answer c.args.self.now.sides) (g.S.Sides.answer c.end_client.new.self) c.args.self.now.at.phase c.args.self.now.at.cut c.end_client.ensures.placed (ap (λ (a : AnswerSeen). a.answered) c.end_client.ensures.answer) c.requires.placed

@@ -1,6 +1,8 @@
-use Rattle.std.proofs.Common.{false}
+use Rattle.std.proofs.Common.{false, ap}
 use Rattle.session_core.specs.History.{gains}
 use Rattle.session_core.proofs.Events.{holds_at, client_gives}
+use Rattle.session_core.proofs.Placing.{is_somewhere, stay_placed}
+use Rattle.session_core.specs.Sided.{AnswerSeen}
 use Rattle.session_core.proofs.machine.Core.from_client.Goals as goal
 
 pub returns-clause-leads : goal.returns-clause-leads
@@ -16,3 +18,9 @@ returns-clause-leads g c = λ cfg past s.
       holds = holds_at M at (record q { room = r.0; unread = r.1; at_rest = false }) (g.S.Sides.request c.take_client.new.self) a (g.S.Sides.answer c.take_client.new.self) _ _ r.2 c.take_client.ensures.answer
           (client_gives M at q a s.sided past c.args.bytes.now r.0 r.1 c.requires.open s.holds);
     }
+
+pub take_client-requires-clause-placed : goal.take_client-requires-clause-placed
+take_client-requires-clause-placed g c = is_somewhere (g.S.Sides.placed c.args.self.now.sides) (g.S.Sides.answer c.args.self.now.sides) c.args.self.now.at.phase c.args.self.now.at.cut c.requires.placed
+
+pub returns-clause-placed : goal.returns-clause-placed
+returns-clause-placed g c = stay_placed (g.S.Sides.placed c.args.self.now.sides) (g.S.Sides.placed c.take_client.new.self) (g.S.Sides.answer c.args.self.now.sides) (g.S.Sides.answer c.take_client.new.self) c.args.self.now.at.phase c.args.self.now.at.cut c.take_client.ensures.placed (ap (λ (a : AnswerSeen). a.answered) c.take_client.ensures.answer) c.requires.placed

@@ -1,7 +1,9 @@
-use Rattle.std.proofs.Common.{false, refl}
+use Rattle.std.proofs.Common.{false, refl, ap}
 use Rattle.session_core.specs.History.{gains, given_by}
 use Rattle.session_core.specs.declared.Phase.TheVariants as phase
 use Rattle.session_core.proofs.Events.{holds_at, holds_in, while_serving, server_gives}
+use Rattle.session_core.proofs.Placing.{is_somewhere, stay_placed}
+use Rattle.session_core.specs.Sided.{AnswerSeen}
 use Rattle.session_core.proofs.machine.Core.from_server.Goals as goal
 
 pub returns-clause-leads : goal.returns-clause-leads
@@ -18,3 +20,9 @@ returns-clause-leads g c = λ cfg past s.
           (while_serving M at phase.Serving q q a (record a { room = b.0; at_rest = false }) s.sided (record s.sided { server = gains s.sided.server c.args.bytes.now }) past (given_by c.args.bytes.now) c.requires.serving refl refl refl refl refl
           (λ d now h n. server_gives M q a s.sided c.args.bytes.now b.0 at.cut d c.requires.open h) s.holds));
     }
+
+pub take_server-requires-clause-placed : goal.take_server-requires-clause-placed
+take_server-requires-clause-placed g c = is_somewhere (g.S.Sides.placed c.args.self.now.sides) (g.S.Sides.answer c.args.self.now.sides) c.args.self.now.at.phase c.args.self.now.at.cut c.requires.placed
+
+pub returns-clause-placed : goal.returns-clause-placed
+returns-clause-placed g c = stay_placed (g.S.Sides.placed c.args.self.now.sides) (g.S.Sides.placed c.take_server.new.self) (g.S.Sides.answer c.args.self.now.sides) (g.S.Sides.answer c.take_server.new.self) c.args.self.now.at.phase c.args.self.now.at.cut c.take_server.ensures.placed (ap (λ (a : AnswerSeen). a.answered) c.take_server.ensures.answer.1) c.requires.placed

@@ -10,6 +10,7 @@ pub loop-self-init : goal.loop-self-init
 loop-self-init g c =
     record {
       keeps = λ cfg past s. c.end_exchange.ensures.keeps cfg _ (c.in_ok-run_answer.ensures.keeps cfg _ (c.in_ok-refuse_unserved.ensures.keeps cfg _ (c.run_request.ensures.keeps cfg past s)));
+      placed = c.end_exchange.ensures.placed;
       met =
           meets_on _ c.run_request.new.self.at.cut _ _ c.run_request.ensures.met
           (c.end_exchange.ensures.cut ∙ ap (λ (t : At). t.cut) c.in_ok-run_answer.ensures.at ∙ c.in_ok-refuse_unserved.ensures.cut);
@@ -26,6 +27,7 @@ pub loop-self-preserved : goal.loop-self-preserved
 loop-self-preserved g c =
     record {
       keeps = λ cfg past s. c.end_exchange-in-loop-self.ensures.keeps cfg _ (c.in_ok-run_answer-2.ensures.keeps cfg _ (c.in_ok-begin_exchange.ensures.keeps cfg _ (c.loop-self.invariant.keeps cfg past s)));
+      placed = c.end_exchange-in-loop-self.ensures.placed;
       met =
           meets_on _ c.loop-self.self.at.cut _ _ c.loop-self.invariant.met
           (c.end_exchange-in-loop-self.ensures.cut ∙ ap (λ (t : At). t.cut) c.in_ok-run_answer-2.ensures.at ∙ c.in_ok-begin_exchange.ensures.cut);

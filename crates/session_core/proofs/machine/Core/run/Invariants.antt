@@ -1,5 +1,6 @@
 use Rattle.std.proofs.Common.{◌≡◌}
 use Rattle.session_core.specs.Leads.{Keeps, Meets}
+use Rattle.session_core.specs.Place.{IsPlaced}
 use Rattle.session_core.specs.Waits.{is_serving, Ended}
 use Rattle.session_core.proofs.machine.Core.run.Given as goal
 
@@ -7,6 +8,7 @@ abbrev pub invariant-loop-self : goal.invariant-loop-self
 invariant-loop-self g l =
     record {
       keeps : Keeps g.S.Sides.meaning g.S.Sides.request g.S.Sides.answer g.S.Sides.stands l.fn.self.sides l.fn.self.at l.self.sides l.self.at;
+      placed : IsPlaced (g.S.Sides.placed l.self.sides) (g.S.Sides.answer l.self.sides) l.self.at.phase l.self.at.cut;
       met : Meets l.fn.self.at.cut l.self.at.cut (g.S.Sides.answer l.fn.self.sides).begun;
       serving : is_serving l.self.at.phase ≡ is_serving l.fn.self.at.phase;
       ended : Ended l.self.at.phase l.self.at.cut (g.S.Sides.request l.self.sides) (g.S.Sides.answer l.self.sides);

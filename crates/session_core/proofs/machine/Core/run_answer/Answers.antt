@@ -2,6 +2,7 @@ use Rattle.std.proofs.Common.{◌++◌, refl}
 use Rattle.session_core.proofs.Working.{still}
 use Rattle.session_core.proofs.Answering.{says_refusal, says_reply}
 use Rattle.session_core.proofs.Events.{holds_at}
+use Rattle.session_core.proofs.Placing.{placed_in, placed_at}
 use Rattle.session_core.proofs.machine.Core.run_answer.Goals as goal
 
 pub returns-in-Refusing-clause-keeps : goal.returns-in-Refusing-clause-keeps
@@ -48,3 +49,17 @@ returns-in-Served-clause-keeps g c = λ cfg past s. still (g.S.Sides.meaning cfg
 
 pub returns-in-Over-clause-keeps : goal.returns-in-Over-clause-keeps
 returns-in-Over-clause-keeps g c = λ cfg past s. still (g.S.Sides.meaning cfg) g.S.Sides.request g.S.Sides.answer (g.S.Sides.stands cfg) c.args.self.now.sides c.args.self.now.at past s
+
+pub say-requires : goal.say-requires
+say-requires g c = record { placed = (_, refl, placed_in (g.S.Sides.placed c.args.self.now.sides) (g.S.Sides.answer c.args.self.now.sides) c.args.self.now.at.phase _ c.args.self.now.at.cut c.in-Refusing.is c.requires.placed) }
+
+pub returns-in-Refusing-clause-placed : goal.returns-in-Refusing-clause-placed
+returns-in-Refusing-clause-placed g c = placed_at (g.S.Sides.placed c.say.new.self) (g.S.Sides.answer c.say.new.self) c.args.self.now.at.phase _ c.args.self.now.at.cut c.in-Refusing.is (c.say.ensures.placed _ refl (placed_in (g.S.Sides.placed c.args.self.now.sides) (g.S.Sides.answer c.args.self.now.sides) c.args.self.now.at.phase _ c.args.self.now.at.cut c.in-Refusing.is c.requires.placed))
+
+pub say-requires-in-Replying : goal.say-requires-in-Replying
+say-requires-in-Replying g c = record { placed = (_, refl, (placed_in (g.S.Sides.placed c.args.self.now.sides) (g.S.Sides.answer c.args.self.now.sides) c.args.self.now.at.phase _ c.args.self.now.at.cut c.in-Replying.is c.requires.placed).0) }
+
+pub returns-in-Replying-clause-placed : goal.returns-in-Replying-clause-placed
+returns-in-Replying-clause-placed g c =
+    let from = placed_in (g.S.Sides.placed c.args.self.now.sides) (g.S.Sides.answer c.args.self.now.sides) c.args.self.now.at.phase _ c.args.self.now.at.cut c.in-Replying.is c.requires.placed in
+    placed_at (g.S.Sides.placed c.say-in-Replying.new.self) (g.S.Sides.answer c.say-in-Replying.new.self) c.args.self.now.at.phase _ c.args.self.now.at.cut c.in-Replying.is (c.say-in-Replying.ensures.placed _ refl from.0, from.1)

@@ -2,6 +2,7 @@ use Rattle.std.proofs.Common.{refl}
 use Rattle.session_core.specs.History.{closing_by}
 use Rattle.session_core.specs.declared.Phase.TheVariants as phase
 use Rattle.session_core.proofs.Events.{while_serving, server_closes}
+use Rattle.session_core.proofs.Placing.{placed_in}
 use Rattle.session_core.proofs.machine.Core.server_closed.Goals as goal
 
 pub returns-clause-leads : goal.returns-clause-leads
@@ -16,3 +17,6 @@ returns-clause-leads g c = λ cfg past s.
       holds = while_serving M at phase.Served q q a a s.sided s.sided past (closing_by past.note) c.requires.serving refl refl refl refl refl
           (λ d now h n. server_closes M q a s.sided past.note at.cut d c.requires.sent c.requires.taken c.requires.answered n h) s.holds;
     }
+
+pub returns-clause-placed : goal.returns-clause-placed
+returns-clause-placed g c = (placed_in (g.S.Sides.placed c.args.self.now.sides) (g.S.Sides.answer c.args.self.now.sides) c.args.self.now.at.phase phase.Serving c.args.self.now.at.cut c.requires.serving c.requires.placed, c.requires.answered)

@@ -1,7 +1,9 @@
-use Rattle.std.proofs.Common.{false, refl}
+use Rattle.std.proofs.Common.{false, refl, ap}
 use Rattle.session_core.specs.History.{ends, ended_by}
 use Rattle.session_core.specs.declared.Phase.TheVariants as phase
 use Rattle.session_core.proofs.Events.{holds_at, holds_in, while_serving, server_ends}
+use Rattle.session_core.proofs.Placing.{is_somewhere, stay_placed}
+use Rattle.session_core.specs.Sided.{AnswerSeen}
 use Rattle.session_core.proofs.machine.Core.server_ended.Goals as goal
 
 pub returns-clause-leads : goal.returns-clause-leads
@@ -17,3 +19,9 @@ returns-clause-leads g c = λ cfg past s.
           (while_serving M at phase.Serving q q a (record a { is_open = false; at_rest = false }) s.sided (record s.sided { server = ends s.sided.server c.args.how }) past (ended_by c.args.how) c.requires.serving refl refl refl refl refl
           (λ d now h n. server_ends M q a s.sided c.args.how at.cut d c.requires.open h) s.holds));
     }
+
+pub end_server-requires-clause-placed : goal.end_server-requires-clause-placed
+end_server-requires-clause-placed g c = is_somewhere (g.S.Sides.placed c.args.self.now.sides) (g.S.Sides.answer c.args.self.now.sides) c.args.self.now.at.phase c.args.self.now.at.cut c.requires.placed
+
+pub returns-clause-placed : goal.returns-clause-placed
+returns-clause-placed g c = stay_placed (g.S.Sides.placed c.args.self.now.sides) (g.S.Sides.placed c.end_server.new.self) (g.S.Sides.answer c.args.self.now.sides) (g.S.Sides.answer c.end_server.new.self) c.args.self.now.at.phase c.args.self.now.at.cut c.end_server.ensures.placed (ap (λ (a : AnswerSeen). a.answered) c.end_server.ensures.answer) c.requires.placed

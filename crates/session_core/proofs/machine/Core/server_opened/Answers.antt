@@ -4,6 +4,7 @@ use Rattle.session_core.specs.Sided.{Sided}
 use Rattle.session_core.specs.declared.Phase.TheVariants as phase
 use Rattle.session_core.proofs.Events.{holds_at}
 use Rattle.session_core.proofs.Opening.{connected_so, connects_now, opened_server, refused_server}
+use Rattle.session_core.proofs.Placing.{placed_in, serves_uncut}
 use Rattle.session_core.proofs.machine.Core.server_opened.Goals as goal
 
 pub returns-then-yes-clause-leads : goal.returns-then-yes-clause-leads
@@ -18,7 +19,7 @@ returns-then-yes-clause-leads g c = λ cfg past s.
       sided = p;
       stand = c.open_server.ensures.leads cfg s.sided s.stand;
       holds = connected_so M _ _ _ _ past c.args.yes true c.if-yes.true (holds_at M (record at { phase = phase.Serving }) q (g.S.Sides.request c.open_server.new.self) b b _ _ c.open_server.ensures.request refl
-          (connects_now M at phase.Serving q a b s.sided p past (connected true) c.requires refl refl refl c.open_server.ensures.window
+          (connects_now M at phase.Serving q a b s.sided p past (connected true) c.requires.phase refl refl refl c.open_server.ensures.window
           (λ h. opened_server M q a b s.sided at.cut c.open_server.ensures.open (c.open_server.ensures.answers cfg s.sided s.stand h.2) h) s.holds));
     }
 
@@ -31,6 +32,15 @@ returns-else-yes-clause-leads g c = λ cfg past s.
     record {
       sided = s.sided;
       stand = s.stand;
-      holds = connected_so M _ _ _ _ past c.args.yes false c.if-yes.false (connects_now M at phase.Unserved q a a s.sided s.sided past (connected false) c.requires refl refl refl refl
+      holds = connected_so M _ _ _ _ past c.args.yes false c.if-yes.false (connects_now M at phase.Unserved q a a s.sided s.sided past (connected false) c.requires.phase refl refl refl refl
           (λ h. refused_server M q a s.sided at.cut h) s.holds);
     }
+
+pub open_server-requires : goal.open_server-requires
+open_server-requires g c = record { placed = (placed_in (g.S.Sides.placed c.args.self.now.sides) (g.S.Sides.answer c.args.self.now.sides) c.args.self.now.at.phase phase.Opening c.args.self.now.at.cut c.requires.phase c.requires.placed).0 }
+
+pub returns-then-yes-clause-placed : goal.returns-then-yes-clause-placed
+returns-then-yes-clause-placed g c = serves_uncut (g.S.Sides.placed c.open_server.new.self) c.args.self.now.at.cut (placed_in (g.S.Sides.placed c.args.self.now.sides) (g.S.Sides.answer c.args.self.now.sides) c.args.self.now.at.phase phase.Opening c.args.self.now.at.cut c.requires.phase c.requires.placed).1 c.open_server.ensures.placed
+
+pub returns-else-yes-clause-placed : goal.returns-else-yes-clause-placed
+returns-else-yes-clause-placed g c = (placed_in (g.S.Sides.placed c.args.self.now.sides) (g.S.Sides.answer c.args.self.now.sides) c.args.self.now.at.phase phase.Opening c.args.self.now.at.cut c.requires.phase c.requires.placed).0

@@ -1,7 +1,9 @@
-use Rattle.std.proofs.Common.{false, take, drop, refl}
+use Rattle.std.proofs.Common.{false, take, drop, refl, ap}
 use Rattle.session_core.specs.History.{taking}
 use Rattle.session_core.specs.declared.Phase.TheVariants as phase
 use Rattle.session_core.proofs.Events.{holds_at, holds_in, while_serving, server_takes}
+use Rattle.session_core.proofs.Placing.{is_somewhere, stay_placed}
+use Rattle.session_core.specs.Sided.{AnswerSeen}
 use Rattle.session_core.proofs.machine.Core.server_took.Goals as goal
 
 pub returns-clause-leads : goal.returns-clause-leads
@@ -17,3 +19,9 @@ returns-clause-leads g c = λ cfg past s.
           (while_serving M at phase.Serving q (record q { window = drop c.args.n q.window; at_rest = false }) a a s.sided s.sided past (taking (take c.args.n q.window)) c.requires.serving refl refl refl refl refl
           (λ d now h n. server_takes M q a s.sided c.args.n at.cut d h) s.holds));
     }
+
+pub server_took-requires-clause-placed : goal.server_took-requires-clause-placed
+server_took-requires-clause-placed g c = is_somewhere (g.S.Sides.placed c.args.self.now.sides) (g.S.Sides.answer c.args.self.now.sides) c.args.self.now.at.phase c.args.self.now.at.cut c.requires.placed
+
+pub returns-clause-placed : goal.returns-clause-placed
+returns-clause-placed g c = stay_placed (g.S.Sides.placed c.args.self.now.sides) (g.S.Sides.placed c.server_took.new.self) (g.S.Sides.answer c.args.self.now.sides) (g.S.Sides.answer c.server_took.new.self) c.args.self.now.at.phase c.args.self.now.at.cut c.server_took.ensures.placed (ap (λ (a : AnswerSeen). a.answered) c.server_took.ensures.answer) c.requires.placed

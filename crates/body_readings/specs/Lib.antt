@@ -1,0 +1,1 @@
+pub use Rattle.h1_body.specs.BodyOf
