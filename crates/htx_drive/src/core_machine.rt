@@ -93,5 +93,5 @@ impl<S: Sides> Machine for Core<S> {
 
     ghost over_is_the_session = { λ cfg core past how s over. core_over (S.meaning cfg) S.request S.answer (S.stands cfg) core.sides core.at past how s over };
 
-    ghost taken_is_a_front = { λ cfg core past s. core_front (S.meaning cfg) (S.total cfg) S.request S.answer (S.stands cfg) core.sides core.at past s };
+    ghost taken_is_a_front = { λ cfg core past s. core_front (S.meaning cfg) (S.total cfg core.sides s.sided s.stand) S.request S.answer (S.stands cfg) core.sides core.at past s };
 }

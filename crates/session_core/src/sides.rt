@@ -38,9 +38,6 @@ pub trait Sides {
 
     ghost meaning: { Self.Settings → Meaning };
 
-    /// No stream of a client is without a reading, and a head is at least one byte.
-    ghost total: { (cfg : Self.Settings) → IsTotal (meaning cfg) };
-
     /// The rules hold patterns, so matching takes memory.
     ghost needs: { Self.Settings → Bool };
 
@@ -49,6 +46,9 @@ pub trait Sides {
     ghost answer: { Self → AnswerSeen };
 
     ghost stands: { (cfg : Self.Settings) → Self → Sided (meaning cfg) → Type 0 };
+
+    /// Where they stand for a past, no stream of a client is without a reading, and a head is at least one byte.
+    ghost total: { (cfg : Self.Settings) (sides : Self) (p : Sided (meaning cfg)) → stands cfg sides p → IsTotal (meaning cfg) };
 
     /// They are sound, and stand at this place of the exchange in hand.
     ghost placed: { Self → Place → Type 0 };
