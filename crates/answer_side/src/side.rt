@@ -71,6 +71,7 @@ impl AnswerSide {
         ensures place { IfOk result (λ side. place_of side ≡ place.Idle) }
         ensures sound { IfOk result IsSoundSide }
         ensures size { IfOk result (λ side. size_of side ≡ limits.bufsize) }
+        ensures window { IfOk result (λ side. (seen side).window ≡ []) }
     {
         let lane = ResponseLane::new(alloc, limits, window, filters)?;
         Ok(AnswerSide {
