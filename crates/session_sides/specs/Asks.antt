@@ -28,15 +28,15 @@ use Rattle.proxy_meaning.specs.Product.{meaning_of}
 use Rattle.request_side.specs.declared.kept.Kept.{Kept}
 use Rattle.request_side.specs.Kept.{IsKept}
 use Rattle.request_side.specs.Reads.{HasHead, HeadRead, Holds}
-use Rattle.request_side.specs.Seen as request
+use Rattle.request_side.specs.Seen as requests
 use Rattle.request_side.specs.Seen.{list_of}
 use Rattle.request_side.specs.Edits.{framing_of, declared_of}
 use Rattle.request_side.specs.declared.place.Place.TheVariants as asked
-use Rattle.answer_side.specs.Seen as answer
+use Rattle.answer_side.specs.Seen as answers
 use Rattle.answer_side.specs.Stands.{AnswerStands}
 use Rattle.answer_side.specs.declared.place.Place.TheVariants as answered
 use Rattle.answer_side.specs.declared.side.AnswerSide.{AnswerSide}
-use Rattle.session_sides.specs.Joined.{IsSoundPair, Placed, DirectionsStand, settings_of, request_of, answer_of}
+use Rattle.session_sides.specs.Joined.{IsSoundPair, IsAt, DirectionsStand, settings_of, request_of, answer_of}
 use Rattle.session_sides.specs.declared.directions.Directions.{Directions}
 
 -- ---- what is said
@@ -73,8 +73,8 @@ method_at blocks = method_by (request_in blocks)
 -- nothing is read and nothing goes out; nothing is said
 pub record IsSilent (d : Directions) : Type 0 where
   pub sound : IsSoundPair d
-  pub idle : request.place_of d.request ≡ asked.Idle
-  pub silent : answer.place_of d.answer ≡ answered.Idle
+  pub idle : requests.place_of d.request ≡ asked.Idle
+  pub silent : answers.place_of d.answer ≡ answered.Idle
 
 -- and a head stands in the array
 pub record HasRead (d : Directions) : Type 0 where
@@ -107,7 +107,7 @@ pub record Ruled (cfg : Config) (d : Directions) (p : Sided (meaning_of cfg)) (r
 pub record SeesAlike (old new : Directions) : Type 0 where
   pub is_open : (request_of new).is_open ≡ (request_of old).is_open
   pub window : (request_of new).window ≡ (request_of old).window
-  pub input : request.input_size_of new.request ≡ request.input_size_of old.request
+  pub input : requests.input_size_of new.request ≡ requests.input_size_of old.request
   pub answer : answer_of new ≡ answer_of old
 
 -- The rules ran on the head that came, and came to this verdict: where they pass a head stands in the array, where they reply a reply
@@ -125,7 +125,7 @@ pub record RefusesSo (old new : Directions) (code : ℕ) (no_body : Bool) : Type
   pub request : new.request ≡ old.request
   pub config : settings_of new ≡ settings_of old
   pub says : SaysRefusal (settings_of old) old.answer new.answer code old.method.bytes old.rules.vars no_body
-  pub place : answer.place_of new.answer ≡ answered.Saying
+  pub place : answers.place_of new.answer ≡ answered.Saying
   pub sound : IsSoundPair new
   pub window : (answer_of new).window ≡ (answer_of old).window
   pub starts : (answer_of new).answered ≡ false
@@ -142,10 +142,10 @@ UsesLess unread before asks.Send = ⊤
 -- what is made of a head on which the rules came to this verdict
 pub record AsksOn (old new : Directions) (kept : Kept) (verdict : Verdict) (asks : Asked) : Type 0 where
   pub leads : (cfg : Config) (p : Sided (meaning_of cfg)) (received : Received) → Ruled cfg old p received kept verdict → AsksTo (meaning_of cfg) (DirectionsStand cfg new) (request_of new) p asks
-  pub placed : Placed new (place_behind asks)
+  pub placed : IsAt new (place_behind asks)
   pub is_open : (request_of new).is_open ≡ (request_of old).is_open
   pub window : (request_of new).window ≡ (request_of old).window
-  pub less : (before : ℕ) → request.input_size_of old.request < before → UsesLess (request_of new).unread before asks
+  pub less : (before : ℕ) → requests.input_size_of old.request < before → UsesLess (request_of new).unread before asks
   pub answer : (answer_of new).window ≡ (answer_of old).window
   pub starts : (answer_of new).answered ≡ false
   pub heard : (answer_of new).heard ≡ false

@@ -10,11 +10,11 @@ use Rattle.session_core.specs.Consequences.{IsTotal}
 use Rattle.session_core.specs.Place.{Place}
 use Rattle.session_core.specs.Place as at
 use Rattle.session_core.specs.Sided.{Sided, RequestSeen, AnswerSeen, asker_in}
-use Rattle.request_side.specs.Seen as request
+use Rattle.request_side.specs.Seen as requests
 use Rattle.request_side.specs.Stands.{IsSound, RequestStands}
 use Rattle.request_side.specs.declared.place.Place.{Place as Asked}
 use Rattle.request_side.specs.declared.place.Place.TheVariants as asked
-use Rattle.answer_side.specs.Seen as answer
+use Rattle.answer_side.specs.Seen as answers
 use Rattle.answer_side.specs.Stands.{IsSoundSide, AnswerStands, is_serving}
 use Rattle.answer_side.specs.declared.place.Place.{Place as Answered}
 use Rattle.answer_side.specs.declared.place.Place.TheVariants as answered
@@ -23,10 +23,10 @@ use Rattle.session_sides.specs.declared.directions.Directions.{Directions}
 -- ---- what a core sees of them
 
 abbrev pub request_of : Directions → RequestSeen
-request_of d = request.seen d.request
+request_of d = requests.seen d.request
 
 abbrev pub answer_of : Directions → AnswerSeen
-answer_of d = answer.seen d.answer
+answer_of d = answers.seen d.answer
 
 -- the configuration of their rules
 abbrev pub settings_of : Directions → Config
@@ -39,8 +39,8 @@ pub record IsSoundPair (d : Directions) : Type 0 where
   pub request : IsSound d.request
   pub answer : IsSoundSide d.answer
   pub rules : IsReady d.rules
-  pub request_limits : request.limits_of d.request ≡ (settings_of d).limits
-  pub answer_size : answer.size_of d.answer ≡ (settings_of d).limits.bufsize
+  pub request_limits : requests.limits_of d.request ≡ (settings_of d).limits
+  pub answer_size : answers.size_of d.answer ≡ (settings_of d).limits.bufsize
   pub method : d.method.cap ≡ (settings_of d).limits.bufsize
 
 -- where each of them stands, by the place of both
@@ -53,9 +53,9 @@ StandAt at.Replies r a = (r ≡ asked.Replied) × (a ≡ answered.Saying)
 StandAt at.Ends r a = (r ≡ asked.Idle) × (a ≡ answered.Idle)
 
 -- they are sound, and stand at this place
-pub record Placed (d : Directions) (at : Place) : Type 0 where
+pub record IsAt (d : Directions) (at : Place) : Type 0 where
   pub sound : IsSoundPair d
-  pub stand : StandAt at (request.place_of d.request) (answer.place_of d.answer)
+  pub stand : StandAt at (requests.place_of d.request) (answers.place_of d.answer)
 
 -- ---- for a past
 
@@ -85,5 +85,14 @@ pub record DirectionsStand (cfg : Config) (d : Directions) (p : Sided (meaning_o
   pub total : IsTotal (meaning_of cfg)
   pub request : RequestStands cfg d.request p.vars p.came p.asking p.to_server p.reply
   pub answer : AnswerStands cfg d.answer p.asking p.server p.to_client p.now p.saying
-  pub vars : Holds (request.place_of d.request) (answer.place_of d.answer) d.rules.vars p.vars p.asking.vars p.now
-  pub method : KeepsMethod (request.place_of d.request) d.method.bytes (asker_in p.asking).method
+  pub vars : Holds (requests.place_of d.request) (answers.place_of d.answer) d.rules.vars p.vars p.asking.vars p.now
+  pub method : KeepsMethod (requests.place_of d.request) d.method.bytes (asker_in p.asking).method
+
+-- they stand for some past
+abbrev pub HasPast : Directions → Type 0
+HasPast d = (cfg : Config) × (p : Sided (meaning_of cfg)) × DirectionsStand cfg d p
+
+-- they are sound, stand at this place, and stand for some past
+pub record Placed (d : Directions) (at : Place) : Type 0 where
+  pub is_at : IsAt d at
+  pub past : HasPast d

@@ -62,14 +62,17 @@ fn keep_method(method: &mut Buf, msg: &Arena)
 {
     method.clear();
     let _room = msg.room();
-    if let Some(line) = request_parts(msg) {
-        let _fits = method.push(line.a);
+    match request_parts(msg) {
+        Some(line) => {
+            let _fits = method.push(line.a);
+        }
+        None => {}
     }
 }
 
 /// What an answer has to know of the request.
 fn asker_of(kept: &Kept) -> Asker
-    ensures { (result.head_asked ≡ kept.now.head_asked) }
+    ensures { (result.head_asked ≡ kept.now.head_asked) × (result.is_http_11 ≡ kept.now.is_http_11) × (result.keep ≡ kept.now.keep) }
 {
     Asker {
         head_asked: kept.head_asked,
@@ -80,6 +83,7 @@ fn asker_of(kept: &Kept) -> Asker
 
 impl<'c> Directions<'c> {
     /// Reads the next request, runs its rules and finishes it.
+    #[tactic(none)]
     pub(crate) fn ask_next(&mut self) -> Result<Asked, OutOfMemory>
         requires { Placed self.old at.Reads }
         ensures leads { IfOk result (λ asked. (cfg : Config) (p : Sided (meaning_of cfg)) → DirectionsStand cfg self.old p → AsksTo (meaning_of cfg) (DirectionsStand cfg self.new) (request_of self.new) p asked) }
@@ -106,6 +110,7 @@ impl<'c> Directions<'c> {
     }
 
     /// What is kept of the head as it was received.
+    #[tactic(none)]
     fn keep_head(&mut self) -> Kept
         ensures kept { (received : Received) → Holds self.old.request received → IsRequestLine received.head.line → IsKept received result }
         ensures same { self.new ≡ self.old }
@@ -116,6 +121,7 @@ impl<'c> Directions<'c> {
     }
 
     /// Runs the rules of requests on the head that was read, and keeps its method as they leave it.
+    #[tactic(none)]
     fn run_rules(&mut self) -> Result<Verdict, OutOfMemory>
         requires read { HasRead self.old }
         requires head { IsHead (list_of self.old.request) }
@@ -131,6 +137,7 @@ impl<'c> Directions<'c> {
     }
 
     /// What the verdict of the rules asks for.
+    #[tactic(none)]
     fn decide(&mut self, kept: Kept, verdict: Verdict) -> Result<Asked, OutOfMemory>
         requires read { HasRead self.old }
         requires passes { verdict ≡ verdicts.Pass → IsHead (list_of self.old.request) }
@@ -147,6 +154,7 @@ impl<'c> Directions<'c> {
     }
 
     /// The head goes to a server, where its length is within the limits and it fits as it is finished.
+    #[tactic(none)]
     fn forward(&mut self, kept: Kept) -> Result<Asked, OutOfMemory>
         requires read { HasRead self.old }
         requires head { IsHead (list_of self.old.request) }
@@ -171,6 +179,7 @@ impl<'c> Directions<'c> {
     }
 
     /// The length that the head declared passes a limit.
+    #[tactic(none)]
     fn declares_too_much(&self) -> bool
         ensures { result ≡ declares_too_much (meaning_of (settings_of self.now)).request_filters (declared_of self.now.request) }
     {
@@ -181,6 +190,7 @@ impl<'c> Directions<'c> {
     }
 
     /// No server is asked, and this refusal is said.
+    #[tactic(none)]
     fn refuse_asked(&mut self, code: u16, no_body: bool) -> Result<Asked, OutOfMemory>
         requires { IsSilent self.old }
         ensures refuses { IfOk result (λ asked. (asked ≡ Asked.Refuse) × RefusesSo self.old self.new code no_body) }
@@ -197,6 +207,7 @@ impl<'c> Directions<'c> {
     }
 
     /// The rules reply, with no server.
+    #[tactic(none)]
     fn reply_asked(&mut self, kept: Kept) -> Result<Asked, OutOfMemory>
         requires read { HasRead self.old }
         requires reply { HasReply self.old.rules.said.blocks }

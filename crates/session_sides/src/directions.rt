@@ -21,6 +21,8 @@ pub struct Directions<'c> {
     pub(crate) method: Buf,
 }
 
+ghost use Rattle.px_sample.specs.Variables.{no_variables};
+ghost use Rattle.session_rules.specs.Ruling.{IsReady};
 ghost use Rattle.session_core.specs.Place as at;
 ghost use Rattle.session_core.specs.Sided.{Sided};
 ghost use Rattle.session_core.specs.Leads.{IsFresh};
@@ -42,11 +44,35 @@ impl<'c> Directions<'c> {
         ensures settings { IfOk result (λ d. settings_of d ≡ config.now) }
     {
         total();
+        let request =
+            RequestSide::new(alloc, config.limits, window, config.req_filters.as_slice())?;
+        let answer = AnswerSide::new(alloc, config.limits, window, config.res_filters.as_slice())?;
+        let directions = Directions::join(alloc, config, request, answer)?;
+        Ok(directions)
+    }
+
+    /// Both directions with the rules of a session that begins.
+    fn join(
+        alloc: Global,
+        config: &'c Config,
+        request: RequestSide,
+        answer: AnswerSide,
+    ) -> Result<Directions<'c>, OutOfMemory>
+        requires { IsValid config.now }
+        ensures request { IfOk result (λ d. d.request ≡ request) }
+        ensures answer { IfOk result (λ d. d.answer ≡ answer) }
+        ensures ready { IfOk result (λ d. IsReady d.rules) }
+        ensures settings { IfOk result (λ d. settings_of d ≡ config.now) }
+        ensures vars { IfOk result (λ d. d.rules.vars ≡ no_variables) }
+        ensures method { IfOk result (λ d. d.method.cap ≡ config.now.limits.bufsize) }
+    {
+        let method = Buf::new(alloc, config.limits.bufsize)?;
+        let rules = SessionRules::new(alloc, config)?;
         Ok(Directions {
-            request: RequestSide::new(alloc, config.limits, window, config.req_filters.as_slice())?,
-            answer: AnswerSide::new(alloc, config.limits, window, config.res_filters.as_slice())?,
-            rules: SessionRules::new(alloc, config)?,
-            method: Buf::new(alloc, config.limits.bufsize)?,
+            request,
+            answer,
+            rules,
+            method,
         })
     }
 }

@@ -148,7 +148,8 @@ impl<'c> Sides for Directions<'c> {
         answer_side::laws::answers();
         answer_side::laws::comes_before();
         self.answer
-            .step_answer(&mut self.rules, self.method.bytes())
+            .step_answer(&mut self.rules, self.method.bytes())?;
+        Ok(())
     }
 
     fn refuse(&mut self, code: u16) -> Result<(), OutOfMemory> {
@@ -159,7 +160,8 @@ impl<'c> Sides for Directions<'c> {
             self.method.bytes(),
             code,
             no_body,
-        )
+        )?;
+        Ok(())
     }
 
     fn turn(&mut self, code: u16) {

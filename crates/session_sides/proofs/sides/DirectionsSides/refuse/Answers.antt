@@ -1,0 +1,29 @@
+use Rattle.std.proofs.Common.{◌≡◌, Bool, subst, ℕ, List}
+use Rattle.session_sides.specs.Asks.{SaysRefusal}
+use Rattle.session_rules.specs.Ruling.{config_of}
+use Rattle.session_sides.proofs.Serving.{refuses, sound_both}
+use Rattle.session_sides.proofs.sides.DirectionsSides.refuse.Goals as goal
+
+pub returns-clause-placed : goal.returns-clause-placed
+returns-clause-placed c =
+    let d = c.args.self.now in
+    let a = c.refuse.new.answer in
+    let rules = c.refuse.new.rules in
+    let e = c.in_ok-refuse.ensures in
+    let x = c.requires in
+    let p = x.past.1 in
+    let says = subst (λ (m : List ℕ). SaysRefusal (config_of d.rules) d.answer a c.args.code m d.rules.vars c.asks_head-no_body.result) c.bytes.ensures.bytes e.says in
+    let r = refuses x.past.0 d a rules p c.args.code c.asks_head-no_body.result x.is_at.stand.0 x.is_at.stand.1 e.config e.place c.asks_head-no_body.ensures x.past.2 says in
+    record {
+      is_at = record { sound = sound_both d a rules e.sound e.size e.ready e.config x.is_at.sound; stand = e.place };
+      past = (x.past.0, record p { saying = r.text }, r.stands);
+    }
+
+pub returns-clause-leads : goal.returns-clause-leads
+returns-clause-leads c = λ cfg p s.
+    let d = c.args.self.now in
+    let a = c.refuse.new.answer in
+    let e = c.in_ok-refuse.ensures in
+    let x = c.requires in
+    let says = subst (λ (m : List ℕ). SaysRefusal (config_of d.rules) d.answer a c.args.code m d.rules.vars c.asks_head-no_body.result) c.bytes.ensures.bytes e.says in
+    refuses cfg d a c.refuse.new.rules p c.args.code c.asks_head-no_body.result x.is_at.stand.0 x.is_at.stand.1 e.config e.place c.asks_head-no_body.ensures s says
