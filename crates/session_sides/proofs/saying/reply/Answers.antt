@@ -20,7 +20,7 @@ returns-clause-says c = λ m listed is.
     let method = c.args.method.now in
     let kept = c.in_ok-kept.kept in
     let sent = reply_sent (meaning_of cfg) m method (answering rules.vars) c.args.keep in
-    let x = reply_said cfg (config_of mid) m method rules.vars mid.vars c.args.keep kept c.say_reply-kept.new.self.said.blocks c.say_reply-kept.new.self.vars c.begin_answer.ensures.config c.begin_answer.ensures.vars
+    let x = reply_said cfg (config_of mid) m method rules.vars mid.vars c.args.keep kept c.say_reply.new.self.said.blocks c.say_reply.new.self.vars c.begin_answer.ensures.config c.begin_answer.ensures.vars
         (c.in_ok-kept.ensures.says m (record { blocks = ap (λ (a : Contents). a.blocks) c.begin_answer.ensures.said ∙ is; none = listed.trailers })) in
     let sent_listed = c.lists.ensures.sent cfg m method (answering rules.vars) c.args.keep listed in
     record {
@@ -31,4 +31,4 @@ returns-clause-says c = λ m listed is.
     }
 
 pub returns-clause-ready : goal.returns-clause-ready
-returns-clause-ready c = ready_saying c.say_reply-kept.new.self c.begin_saying.new.list c.begin_saying.ensures.list_size c.say_reply-kept.ensures.ready
+returns-clause-ready c = ready_saying c.say_reply.new.self c.begin_saying.new.list c.begin_saying.ensures.list_size c.say_reply.ensures.ready

@@ -10,7 +10,7 @@ returns-clause-placed c =
     let a = c.open_server.new.self in
     let rules = c.begin_answer.new.self in
     let e = c.open_server.ensures in
-    let x = c.requires in
+    let x = c.requires.placed in
     let p = x.past.1 in
     let s = x.past.2 in
     let sends = x.is_at.stand.0 in
@@ -27,12 +27,12 @@ returns-clause-placed c =
 pub returns-clause-leads : goal.returns-clause-leads
 returns-clause-leads c = λ cfg p s.
     let e = c.open_server.ensures in
-    let stand = c.requires.is_at.stand in
+    let stand = c.requires.placed.is_at.stand in
     opens cfg c.args.self.now c.open_server.new.self c.begin_answer.new.self p stand.0 stand.1 (e.place stand.1) c.begin_answer.ensures.config c.begin_answer.ensures.vars s
         (e.leads cfg p.asking p.server p.to_client p.now p.saying s.answer stand.1)
 
 pub returns-clause-answers : goal.returns-clause-answers
 returns-clause-answers c = λ cfg p s none.
     let e = c.open_server.ensures in
-    let idle = c.requires.is_at.stand.1 in
+    let idle = c.requires.placed.is_at.stand.1 in
     c.answers.ensures cfg c.open_server.new.self (record p { server = no_stream }) (e.leads cfg p.asking p.server p.to_client p.now p.saying s.answer idle) (ap is_serving (e.place idle))

@@ -10,7 +10,7 @@ returns-clause-placed c =
     let a = c.refuse.new.answer in
     let rules = c.refuse.new.rules in
     let e = c.in_ok-refuse.ensures in
-    let x = c.requires in
+    let x = c.requires.placed in
     let p = x.past.1 in
     let says = subst (λ (m : List ℕ). SaysRefusal (config_of d.rules) d.answer a c.args.code m d.rules.vars c.asks_head-no_body.result) c.bytes.ensures.bytes e.says in
     let r = refuses x.past.0 d a rules p c.args.code c.asks_head-no_body.result x.is_at.stand.0 x.is_at.stand.1 e.config e.place c.asks_head-no_body.ensures x.past.2 says in
@@ -24,6 +24,6 @@ returns-clause-leads c = λ cfg p s.
     let d = c.args.self.now in
     let a = c.refuse.new.answer in
     let e = c.in_ok-refuse.ensures in
-    let x = c.requires in
+    let x = c.requires.placed in
     let says = subst (λ (m : List ℕ). SaysRefusal (config_of d.rules) d.answer a c.args.code m d.rules.vars c.asks_head-no_body.result) c.bytes.ensures.bytes e.says in
     refuses cfg d a c.refuse.new.rules p c.args.code c.asks_head-no_body.result x.is_at.stand.0 x.is_at.stand.1 e.config e.place c.asks_head-no_body.ensures s says

@@ -24,8 +24,8 @@ returns-clause-leads c = λ cfg p s.
     let d = c.args.self.now in
     let a = c.say.new.self in
     let e = c.say.ensures in
-    let x = c.requires.2 in
-    let is = says_at c.requires.0 (requests.place_of d.request) (place_of d.answer) c.requires.1 x.is_at.stand in
+    let x = c.requires.placed.2 in
+    let is = says_at c.requires.placed.0 (requests.place_of d.request) (place_of d.answer) c.requires.placed.1 x.is_at.stand in
     let m = e.leads cfg p.asking p.server p.to_client p.now p.saying s.answer is in
     record {
       put = m.put;
@@ -39,7 +39,7 @@ returns-clause-leads c = λ cfg p s.
 pub returns-clause-waits : goal.returns-clause-waits
 returns-clause-waits c =
     let d = c.args.self.now in
-    let x = c.requires.2 in
+    let x = c.requires.placed.2 in
     let p = x.past.1 in
-    let is = says_at c.requires.0 (requests.place_of d.request) (place_of d.answer) c.requires.1 x.is_at.stand in
+    let is = says_at c.requires.placed.0 (requests.place_of d.request) (place_of d.answer) c.requires.placed.1 x.is_at.stand in
     (c.say.ensures.leads x.past.0 p.asking p.server p.to_client p.now p.saying x.past.2.answer is).waits

@@ -8,7 +8,7 @@ returns-clause-placed c =
     let a = c.step_answer.new.self in
     let rules = c.step_answer.new.rules in
     let e = c.in_ok-step_answer.ensures in
-    let x = c.requires in
+    let x = c.requires.placed in
     let p = x.past.1 in
     let s = x.past.2 in
     let sends = x.is_at.stand.0 in
@@ -27,7 +27,7 @@ returns-clause-leads c = λ cfg p s was.
     let a = c.step_answer.new.self in
     let rules = c.step_answer.new.rules in
     let e = c.in_ok-step_answer.ensures in
-    let x = c.requires in
+    let x = c.requires.placed in
     let sends = x.is_at.stand.0 in
     let m = e.leads cfg p.asking p.server p.to_client p.now p.saying s.answer (runs_for cfg d c.bytes.result.now p c.bytes.ensures.bytes sends s) (vars_for cfg d p sends x.is_at.stand.1 s) in
     let q = record p { to_client = p.to_client ++ m.put; now = m.behind } in
@@ -46,7 +46,7 @@ pub returns-clause-waits : goal.returns-clause-waits
 returns-clause-waits c =
     let d = c.args.self.now in
     let e = c.in_ok-step_answer.ensures in
-    let x = c.requires in
+    let x = c.requires.placed in
     let p = x.past.1 in
     let s = x.past.2 in
     let sends = x.is_at.stand.0 in

@@ -26,7 +26,7 @@ returns-clause-leads c = λ cfg p s was.
     record {
       put = e.puts.put;
       stands = stands_request cfg d r p p.came (p.to_server ++ e.puts.put) e.place s stands;
-      requests = requests_on cfg d.request r p e.puts.put c.requires.1.is_at.sound.request e.sound e.place e.keeps.dropped e.puts.window
+      requests = requests_on cfg d.request r p e.puts.put c.requires.placed.1.is_at.sound.request e.sound e.place e.keeps.dropped e.puts.window
           (λ sends. c.requests.ensures cfg r p.vars p.came p.asking (p.to_server ++ e.puts.put) p.reply sends stands) was (sends_or_not (place_of r));
       window = e.puts.window;
     }
