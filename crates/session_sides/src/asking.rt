@@ -83,7 +83,6 @@ fn asker_of(kept: &Kept) -> Asker
 
 impl<'c> Directions<'c> {
     /// Reads the next request, runs its rules and finishes it.
-    #[tactic(none)]
     pub(crate) fn ask_next(&mut self) -> Result<Asked, OutOfMemory>
         requires { Placed self.old at.Reads }
         ensures leads { IfOk result (λ asked. (cfg : Config) (p : Sided (meaning_of cfg)) → DirectionsStand cfg self.old p → AsksTo (meaning_of cfg) (DirectionsStand cfg self.new) (request_of self.new) p asked) }
@@ -110,7 +109,6 @@ impl<'c> Directions<'c> {
     }
 
     /// What is kept of the head as it was received.
-    #[tactic(none)]
     fn keep_head(&mut self) -> Kept
         ensures kept { (received : Received) → Holds self.old.request received → IsRequestLine received.head.line → IsKept received result }
         ensures same { self.new ≡ self.old }
@@ -121,7 +119,6 @@ impl<'c> Directions<'c> {
     }
 
     /// Runs the rules of requests on the head that was read, and keeps its method as they leave it.
-    #[tactic(none)]
     fn run_rules(&mut self) -> Result<Verdict, OutOfMemory>
         requires read { HasRead self.old }
         requires head { IsHead (list_of self.old.request) }
@@ -137,7 +134,6 @@ impl<'c> Directions<'c> {
     }
 
     /// What the verdict of the rules asks for.
-    #[tactic(none)]
     fn decide(&mut self, kept: Kept, verdict: Verdict) -> Result<Asked, OutOfMemory>
         requires read { HasRead self.old }
         requires passes { verdict ≡ verdicts.Pass → IsHead (list_of self.old.request) }
@@ -154,7 +150,6 @@ impl<'c> Directions<'c> {
     }
 
     /// The head goes to a server, where its length is within the limits and it fits as it is finished.
-    #[tactic(none)]
     fn forward(&mut self, kept: Kept) -> Result<Asked, OutOfMemory>
         requires read { HasRead self.old }
         requires head { IsHead (list_of self.old.request) }
@@ -179,7 +174,6 @@ impl<'c> Directions<'c> {
     }
 
     /// The length that the head declared passes a limit.
-    #[tactic(none)]
     fn declares_too_much(&self) -> bool
         ensures { result ≡ declares_too_much (meaning_of (settings_of self.now)).request_filters (declared_of self.now.request) }
     {
@@ -190,7 +184,6 @@ impl<'c> Directions<'c> {
     }
 
     /// No server is asked, and this refusal is said.
-    #[tactic(none)]
     fn refuse_asked(&mut self, code: u16, no_body: bool) -> Result<Asked, OutOfMemory>
         requires { IsSilent self.old }
         ensures refuses { IfOk result (λ asked. (asked ≡ Asked.Refuse) × RefusesSo self.old self.new code no_body) }
@@ -207,7 +200,6 @@ impl<'c> Directions<'c> {
     }
 
     /// The rules reply, with no server.
-    #[tactic(none)]
     fn reply_asked(&mut self, kept: Kept) -> Result<Asked, OutOfMemory>
         requires read { HasRead self.old }
         requires reply { HasReply self.old.rules.said.blocks }
