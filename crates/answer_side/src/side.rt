@@ -6,7 +6,7 @@ ghost use Rattle.px_sample.specs.Variables.{Variables};
 ghost use Rattle.http_rules.specs.declared.config.Config.{Config};
 ghost use Rattle.session_core.specs.History.{Coming, gains, ends, no_stream};
 ghost use Rattle.session_core.specs.Sided.{Asking, asker_in};
-ghost use Rattle.answer_side.specs.Seen.{seen, place_of, asker_of};
+ghost use Rattle.answer_side.specs.Seen.{seen, place_of, asker_of, size_of};
 ghost use Rattle.answer_side.specs.Stands.{AnswerStands, IsSoundSide, IsAsker};
 ghost use Rattle.answer_side.specs.declared.place.Place.TheVariants as place;
 
@@ -70,6 +70,8 @@ impl AnswerSide {
         ensures nobody { IfOk result (λ side. ((asker_of side).head_asked ≡ false) × ((asker_of side).is_http_11 ≡ false) × ((asker_of side).keep ≡ false)) }
         ensures place { IfOk result (λ side. place_of side ≡ place.Idle) }
         ensures sound { IfOk result IsSoundSide }
+        ensures size { IfOk result (λ side. size_of side ≡ limits.bufsize) }
+        ensures window { IfOk result (λ side. (seen side).window ≡ []) }
     {
         let lane = ResponseLane::new(alloc, limits, window, filters)?;
         Ok(AnswerSide {
@@ -92,6 +94,7 @@ impl AnswerSide {
         ensures seen { (room : ℕ) × (seen self.new ≡ record (seen self.old) { room = room; at_rest = false }) }
         ensures place { place_of self.new ≡ place_of self.old }
         ensures sound { IsSoundSide self.new }
+        ensures size { size_of self.new ≡ size_of self.old }
     {
         self.lane.take(bytes);
         self.at_rest = false;
@@ -106,6 +109,7 @@ impl AnswerSide {
         ensures seen { seen self.new ≡ record (seen self.old) { is_open = false; at_rest = false } }
         ensures place { place_of self.new ≡ place_of self.old }
         ensures sound { IsSoundSide self.new }
+        ensures size { size_of self.new ≡ size_of self.old }
     {
         self.lane.end(how);
         self.open = false;
@@ -121,6 +125,7 @@ impl AnswerSide {
         ensures seen { seen self.new ≡ record (seen self.old) { window = drop n (seen self.old).window; at_rest = false } }
         ensures place { place_of self.new ≡ place_of self.old }
         ensures sound { IsSoundSide self.new }
+        ensures size { size_of self.new ≡ size_of self.old }
     {
         self.lane.took(n);
         self.at_rest = false;
@@ -134,6 +139,7 @@ impl AnswerSide {
         ensures seen { seen self.new ≡ seen self.old }
         ensures place { place_of self.new ≡ place_of self.old }
         ensures sound { IsSoundSide self.new }
+        ensures size { size_of self.new ≡ size_of self.old }
     {
         self.asker = asker;
     }
@@ -149,6 +155,7 @@ impl AnswerSide {
         ensures heard { place_of self.old ≡ place.Idle → (seen self.new).heard ≡ false }
         ensures window { (seen self.new).window ≡ (seen self.old).window }
         ensures sound { IsSoundSide self.new }
+        ensures size { size_of self.new ≡ size_of self.old }
     {
         match self.place {
             Place::Idle => self.begin_heads(),
@@ -168,6 +175,7 @@ impl AnswerSide {
         ensures heard { (seen self.new).heard ≡ false }
         ensures window { (seen self.new).window ≡ (seen self.old).window }
         ensures sound { IsSoundSide self.new }
+        ensures size { size_of self.new ≡ size_of self.old }
     {
         self.lane.restart();
         self.place = Place::Heads;
@@ -184,6 +192,7 @@ impl AnswerSide {
         ensures place { (seen self.old).answered ≡ true → place_of self.new ≡ place.Idle }
         ensures window { (seen self.new).window ≡ (seen self.old).window }
         ensures sound { IsSoundSide self.new }
+        ensures size { size_of self.new ≡ size_of self.old }
     {
         if is_done(self.lane.stage()) {
             self.end_exchange();
@@ -199,6 +208,7 @@ impl AnswerSide {
         ensures place { place_of self.new ≡ place.Idle }
         ensures window { (seen self.new).window ≡ (seen self.old).window }
         ensures sound { IsSoundSide self.new }
+        ensures size { size_of self.new ≡ size_of self.old }
     {
         self.lane.next();
         self.place = Place::Idle;

@@ -3,9 +3,9 @@ ghost use Rattle.std.specs.Prelude.{◌≡◌, ◌≤◌, ◌<◌, length, true}
 
 use crate::Machine;
 use px_link::{Ending, OutOfMemory};
-use session_core::{Core, Sides, Wants};
+use session_core::{Core, Wants, Works};
 
-impl<S: Sides> Machine for Core<S> {
+impl<S: Works> Machine for Core<S> {
     type Settings = S::Settings;
 
     ghost use Rattle.session_core.specs.Leads.{Stands};
@@ -104,5 +104,5 @@ impl<S: Sides> Machine for Core<S> {
 
     ghost over_is_the_session = { λ cfg core past how s over. core_over (S.meaning cfg) S.request S.answer (S.stands cfg) core.sides core.at past how s over };
 
-    ghost taken_is_a_front = { λ cfg core past s. core_front (S.meaning cfg) (S.total cfg) S.request S.answer (S.stands cfg) core.sides core.at past s };
+    ghost taken_is_a_front = { λ cfg core past s. core_front (S.meaning cfg) (S.total cfg core.sides s.sided s.stand) S.request S.answer (S.stands cfg) core.sides core.at past s };
 }

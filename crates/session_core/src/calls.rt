@@ -7,10 +7,10 @@ ghost use Rattle.session_core.specs.Place.{IsPlaced};
 
 use crate::Phase;
 use crate::machine::Core;
-use crate::sides::Sides;
+use crate::sides::Works;
 use http_model::Ending;
 
-impl<S: Sides> Core<S> {
+impl<S: Works> Core<S> {
     /// The client gives these bytes.
     pub fn from_client(&mut self, bytes: &[u8])
         requires open { IsTrue (S.request self.old.sides).is_open }

@@ -11,34 +11,34 @@ ghost use Rattle.session_core.specs.Leads.{Stands, Leads, Sees};
 ghost use Rattle.session_core.specs.declared.machine.At.{At};
 ghost use Rattle.session_core.specs.declared.Phase.TheVariants as phase;
 
-use crate::Sides;
+use crate::Works;
 
 /// Where a session is over, what was taken is its session, whatever the open streams go on to give.
-pub fn over_is_the_session<S: Sides>()
+pub fn over_is_the_session<S: Works>()
     ensures { (cfg : S.Settings) (sides : S) (at : At) (past : Past) (how : End) → Stands (S.meaning cfg) S.request S.answer (S.stands cfg) sides at past
         → (wants_of (S.request sides) (S.answer sides) at).over ≡ Some how → IsFinal (S.meaning cfg) past (out_of_past past past.taken at.exchanges how) }
 {}
 
 /// At every moment it is not so that what was put out is no front of a session of the streams so far.
-pub fn put_out_is_a_front<S: Sides>()
+pub fn put_out_is_a_front<S: Works>()
     ensures { (cfg : S.Settings) (sides : S) (at : At) (past : Past) → Stands (S.meaning cfg) S.request S.answer (S.stands cfg) sides at past
         → Perhaps (IsFront (S.meaning cfg) past (S.answer sides).window (S.request sides).window (S.answer sides).begun) }
 {}
 
 /// The same of what was taken, the windows left out.
-pub fn taken_is_a_front<S: Sides>()
+pub fn taken_is_a_front<S: Works>()
     ensures { (cfg : S.Settings) (sides : S) (at : At) (past : Past) → Stands (S.meaning cfg) S.request S.answer (S.stands cfg) sides at past
         → Perhaps (IsFront (S.meaning cfg) past [] [] (S.answer sides).begun) }
 {}
 
 /// A call that leads from a core to another does so for whole histories.
-pub fn calls_lead_histories<S: Sides>()
+pub fn calls_lead_histories<S: Works>()
     ensures { (cfg : S.Settings) (old new : S) (old_at new_at : At) (h : List Event) (e : Event) → Leads S.meaning S.request S.answer S.stands old old_at new new_at e
         → Stands (S.meaning cfg) S.request S.answer (S.stands cfg) old old_at (past_of h) → Stands (S.meaning cfg) S.request S.answer (S.stands cfg) new new_at (past_of (h ++ e ∷ [])) }
 {}
 
 /// What a core sees of its history: how a request was met as cut, and whether the client's stream goes on.
-pub fn sees_its_history<S: Sides>()
+pub fn sees_its_history<S: Works>()
     ensures { (cfg : S.Settings) (sides : S) (at : At) (past : Past) → Stands (S.meaning cfg) S.request S.answer (S.stands cfg) sides at past → Sees (S.request sides) at past }
 {}
 
@@ -53,19 +53,19 @@ pub fn over_is_alone()
 {}
 
 /// What wants say of the history.
-pub fn wants_say<S: Sides>()
+pub fn wants_say<S: Works>()
     ensures { (cfg : S.Settings) (sides : S) (at : At) (past : Past) → Stands (S.meaning cfg) S.request S.answer (S.stands cfg) sides at past
         → WantsSay (wants_of (S.request sides) (S.answer sides) at) past }
 {}
 
 /// What `begun` says of the bytes put out, while a server's answer goes out.
-pub fn begun_says<S: Sides>()
+pub fn begun_says<S: Works>()
     ensures { (cfg : S.Settings) (sides : S) (at : At) (past : Past) → Stands (S.meaning cfg) S.request S.answer (S.stands cfg) sides at past
         → at.phase ≡ phase.Serving → is_turned at.cut ≡ false → BegunSays (S.meaning cfg) past (S.answer sides).window (S.answer sides).begun }
 {}
 
 /// While a server is to be opened, the finished list of the request in hand stands in the array.
-pub fn request_is_held<S: Sides>()
+pub fn request_is_held<S: Works>()
     ensures { (cfg : S.Settings) (sides : S) (at : At) (past : Past) → Stands (S.meaning cfg) S.request S.answer (S.stands cfg) sides at past
         → at.phase ≡ phase.Opening → IsAskedFor (S.meaning cfg) (S.request sides) past }
 {}

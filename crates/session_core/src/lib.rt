@@ -11,7 +11,7 @@ mod work;
 
 pub use http_model::{Close, End, Ending, OutOfMemory};
 pub use machine::{At, Core, Wants};
-pub use sides::{Asked, Sides};
+pub use sides::{Asked, Lends, Peers, Shows, Sides, Works};
 
 /// How the source of a request stands.
 #[derive(Clone, Copy, Debug, PartialEq, Eq)]

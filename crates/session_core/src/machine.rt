@@ -7,7 +7,7 @@ ghost use Rattle.session_core.specs.Place.{IsPlaced};
 ghost use Rattle.session_core.specs.Leads.{Stands, IsFresh};
 
 use crate::Phase;
-use crate::sides::Sides;
+use crate::sides::Works;
 use http_model::{Close, End};
 
 /// Where a core stands beside its directions.
@@ -43,7 +43,7 @@ pub struct Core<S> {
     pub lost: bool,
 }
 
-impl<S: Sides> Core<S> {
+impl<S: Works> Core<S> {
     ghost use Rattle.std.specs.Borrow.{sem};
     ghost use Rattle.session_core.specs.Lending.{LendsText};
     ghost use Rattle.session_core.specs.contracts.machine.Core.{the_row};

@@ -8,11 +8,11 @@ ghost use Rattle.session_core.specs.Leads.{Stands, Keeps, Follows};
 ghost use Rattle.session_core.specs.Place.{IsPlaced, IsSomewhere};
 
 use crate::machine::{At, Core};
-use crate::sides::{Asked, Sides};
+use crate::sides::{Asked, Works};
 use crate::{Phase, Told};
 use http_model::{End, OutOfMemory};
 
-impl<S: Sides> Core<S> {
+impl<S: Works> Core<S> {
     /// Where the exchange in hand has ended, what follows it.
     pub(crate) fn end_exchange(&mut self)
         requires placed { IsPlaced (S.placed self.old.sides) (S.answer self.old.sides) self.old.at.phase self.old.at.cut }

@@ -5,11 +5,11 @@ ghost use Rattle.session_core.specs.Waits.{wants_of, is_turned, is_empty, is_ser
 ghost use Rattle.session_core.specs.Place.{IsPlaced, IsSomewhere};
 
 use crate::machine::{Core, Wants};
-use crate::sides::Sides;
+use crate::sides::Works;
 use crate::{Phase, Source, Told};
 use http_model::{Close, End};
 
-impl<S: Sides> Core<S> {
+impl<S: Works> Core<S> {
     /// Both directions of the open server have ended.
     fn has_ended(&self) -> bool
         requires placed { IsSomewhere (S.placed self.now.sides) }

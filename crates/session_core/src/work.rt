@@ -7,11 +7,11 @@ ghost use Rattle.session_core.specs.Leads.{Stands, Leads, Keeps, IsNote, Meets};
 ghost use Rattle.session_core.specs.Place.{IsPlaced, IsSomewhere};
 
 use crate::machine::Core;
-use crate::sides::Sides;
+use crate::sides::Works;
 use crate::{Phase, Source};
 use http_model::OutOfMemory;
 
-impl<S: Sides> Core<S> {
+impl<S: Works> Core<S> {
     /// Does all that can be done without another event.
     pub fn work(&mut self) -> Result<(), OutOfMemory>
         requires placed { IsPlaced (S.placed self.old.sides) (S.answer self.old.sides) self.old.at.phase self.old.at.cut }

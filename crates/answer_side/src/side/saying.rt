@@ -30,6 +30,7 @@ impl AnswerSide {
         ensures window { (seen self.new).window ≡ (seen self.old).window }
         ensures list_size { list.new.size ≡ list.old.size }
         ensures sound { IsSoundSide self.new }
+        ensures size { size_of self.new ≡ size_of self.old }
     {
         match self.place {
             Place::Idle => {
@@ -54,6 +55,7 @@ impl AnswerSide {
         ensures open { (seen self.new).is_open ≡ (seen self.old).is_open }
         ensures list_size { list.new.size ≡ list.old.size }
         ensures sound { IsSoundSide self.new }
+        ensures size { size_of self.new ≡ size_of self.old }
     {
         answer_promise();
         if self.lane.begun() {
@@ -72,6 +74,7 @@ impl AnswerSide {
         ensures place { place_of self.new ≡ place_of self.old }
         ensures open { (seen self.new).is_open ≡ (seen self.old).is_open }
         ensures sound { IsSoundSide self.new }
+        ensures size { size_of self.new ≡ size_of self.old }
     {
         match self.place {
             Place::Saying => self.say_on(),
@@ -88,6 +91,7 @@ impl AnswerSide {
         ensures place { place_of self.new ≡ place_of self.old }
         ensures open { (seen self.new).is_open ≡ (seen self.old).is_open }
         ensures sound { IsSoundSide self.new }
+        ensures size { size_of self.new ≡ size_of self.old }
     {
         answer_promise();
         if is_done(self.lane.stage()) {
