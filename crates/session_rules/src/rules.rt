@@ -26,7 +26,6 @@ pub struct SessionRules<'c> {
     pub said: Arena,
     alloc: Global,
     config: &'c Config,
-    searchers: Searchers<'c>,
     scratch: Scratch,
 }
 
@@ -57,7 +56,6 @@ impl<'c> SessionRules<'c> {
             said: Arena::new(alloc, config.limits.bufsize)?,
             alloc,
             config,
-            searchers: Searchers::new(alloc),
             scratch: Scratch::new(alloc, config.limits.bufsize)?,
         })
     }
@@ -102,9 +100,10 @@ impl<'c> SessionRules<'c> {
     {
         self.said.clear();
         let config = self.config;
+        let mut searchers = Searchers::new(self.alloc);
         run_request(
             self.alloc,
-            &mut self.searchers,
+            &mut searchers,
             &config.request,
             msg,
             &mut self.vars,
@@ -126,9 +125,10 @@ impl<'c> SessionRules<'c> {
     {
         self.said.clear();
         let config = self.config;
+        let mut searchers = Searchers::new(self.alloc);
         run_response(
             self.alloc,
-            &mut self.searchers,
+            &mut searchers,
             &config.response,
             method,
             msg,
@@ -152,9 +152,10 @@ impl<'c> SessionRules<'c> {
     {
         body_stays();
         let config = self.config;
+        let mut searchers = Searchers::new(self.alloc);
         let verdict = run_after(
             self.alloc,
-            &mut self.searchers,
+            &mut searchers,
             &config.after,
             method,
             msg,
@@ -175,9 +176,10 @@ impl<'c> SessionRules<'c> {
     {
         body_stays();
         let config = self.config;
+        let mut searchers = Searchers::new(self.alloc);
         let verdict = run_after(
             self.alloc,
-            &mut self.searchers,
+            &mut searchers,
             &config.after,
             method,
             &mut self.said,
