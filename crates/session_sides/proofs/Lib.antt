@@ -1,0 +1,15 @@
+pub mod AskLemmas
+pub mod Asked
+pub mod Finished
+pub mod Forwarding
+pub mod Fresh
+pub mod Joining
+pub mod Judged
+pub mod Methods
+pub mod Refusing
+pub mod Replying
+pub mod SayLemmas
+pub mod Sending
+pub mod Serving
+pub mod Stepping
+pub mod Verdicts

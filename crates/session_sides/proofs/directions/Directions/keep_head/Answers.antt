@@ -1,0 +1,15 @@
+use Rattle.std.proofs.Common.{sym, ap, ◌∙◌}
+use Rattle.httparse.specs.Grammar.{print_version}
+use Rattle.htx_arena.specs.Contents.{Contents}
+use Rattle.request_side.specs.Edits.{with_head}
+use Rattle.session_sides.proofs.directions.Directions.keep_head.Goals as goal
+
+pub returns-clause-kept : goal.returns-clause-kept
+returns-clause-kept c = λ received holds line.
+    c.kept_of.ensures received line.method line.target (print_version line.minor) line.is (sym (c.framing-framing.ensures ∙ holds.framing)) (sym (c.close-close.ensures ∙ holds.close))
+    (ap (λ (x : Contents). x.blocks) c.head.ensures.value ∙ holds.blocks)
+
+pub returns-clause-same : goal.returns-clause-same
+returns-clause-same c =
+    let d = c.args.self.now in
+    ap (λ (x : Contents). record d { request = with_head d.request x }) c.head.ensures.value

@@ -1,0 +1,14 @@
+use Rattle.session_core.specs.History.{gains}
+use Rattle.session_sides.proofs.Joining.{request_goes, request_placed}
+use Rattle.session_sides.proofs.sides.DirectionsPeers.take_client.Goals as goal
+
+pub returns-clause-placed : goal.returns-clause-placed
+returns-clause-placed c =
+    let e = c.take_client.ensures in
+    request_placed c.args.self.now c.take_client.new.self (λ came. gains came c.args.bytes.now) (λ put. put) e.leads e.place e.sound e.limits
+
+pub returns-clause-leads : goal.returns-clause-leads
+returns-clause-leads c = request_goes c.args.self.now c.take_client.new.self (λ came. gains came c.args.bytes.now) (λ put. put) c.take_client.ensures.leads c.take_client.ensures.place
+
+pub take_client-requires-clause-sound : goal.take_client-requires-clause-sound
+take_client-requires-clause-sound c = c.requires.placed.1.is_at.sound.request

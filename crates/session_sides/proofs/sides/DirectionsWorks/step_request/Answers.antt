@@ -1,0 +1,38 @@
+use Rattle.std.proofs.Common.{◌≡◌, List, ℕ, ◌++◌}
+use Rattle.request_side.specs.Seen.{place_of}
+use Rattle.session_sides.proofs.Joining.{at_request, stands_request}
+use Rattle.session_sides.proofs.Stepping.{requests_on, sends_or_not}
+use Rattle.session_sides.proofs.sides.DirectionsWorks.step_request.Goals as goal
+
+pub returns-clause-placed : goal.returns-clause-placed
+returns-clause-placed c = λ at x.
+    let d = c.args.self.now in
+    let r = c.step_request.new.self in
+    let e = c.step_request.ensures in
+    let p = x.past.1 in
+    let s = x.past.2 in
+    record {
+      is_at = at_request d r at e.sound e.limits e.place x.is_at;
+      past = (
+        x.past.0,
+        record p { to_server = p.to_server ++ e.puts.put },
+        stands_request x.past.0 d r p p.came (p.to_server ++ e.puts.put) e.place s (e.puts.stands x.past.0 p.vars p.came p.asking p.to_server p.reply s.request),
+      );
+    }
+
+pub returns-clause-leads : goal.returns-clause-leads
+returns-clause-leads c = λ cfg p s was.
+    let d = c.args.self.now in
+    let r = c.step_request.new.self in
+    let e = c.step_request.ensures in
+    let stands = e.puts.stands cfg p.vars p.came p.asking p.to_server p.reply s.request in
+    record {
+      put = e.puts.put;
+      stands = stands_request cfg d r p p.came (p.to_server ++ e.puts.put) e.place s stands;
+      requests = requests_on cfg d.request r p e.puts.put c.requires.placed.1.is_at.sound.request e.sound e.place e.keeps.dropped e.puts.window
+          (λ sends. c.requests.ensures cfg r p.vars p.came p.asking (p.to_server ++ e.puts.put) p.reply sends stands) was (sends_or_not (place_of r));
+      window = e.puts.window;
+    }
+
+pub step_request-requires : goal.step_request-requires
+step_request-requires c = c.requires.placed.1.is_at.sound.request

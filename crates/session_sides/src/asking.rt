@@ -1,0 +1,281 @@
+//! What the client's next request asks for: its head is read, the rules run on it, and it is finished for its server.
+ghost use Rattle.std.specs.Prelude.{◌≡◌, ◌≤◌, ◌&&◌, [], false, OnOk, IfOk, IsOk};
+ghost use Rattle.http_model.specs.Finish as finish;
+ghost use Rattle.http_model.specs.Reading.{Received};
+ghost use Rattle.http_rules.specs.declared.config.Config.{Config};
+ghost use Rattle.http_rules.specs.declared.verdict.Verdict.TheVariants as verdicts;
+ghost use Rattle.session_model.specs.Meaning.{declares_too_much};
+ghost use Rattle.session_rules.specs.Ruling.{holds_pattern, HasReply};
+ghost use Rattle.session_core.specs.Sided.{Sided};
+ghost use Rattle.session_core.specs.Leads.{AsksTo, AskKeeps};
+ghost use Rattle.session_core.specs.Place as at;
+ghost use Rattle.session_core.specs.Place.{place_behind};
+ghost use Rattle.proxy_meaning.specs.Product.{meaning_of, replaces};
+ghost use Rattle.request_side.specs.Edits.{framing_of, declared_of};
+ghost use Rattle.http_rules.specs.Run.{IsHead};
+ghost use Rattle.h1_head.specs.Lines.{IsRequestLine};
+ghost use Rattle.request_side.specs.Reads.{Holds};
+ghost use Rattle.request_side.specs.Kept.{IsKept};
+ghost use Rattle.request_side.specs.Seen.{list_of};
+ghost use Rattle.session_sides.specs.Asks.{IsSilent, HasRead, RulesRan, RefusesSo, Finishes, SendsSo, AsksOn, AsksBehind, AsksSo, asker_for, method_at};
+ghost use Rattle.session_sides.specs.Joined.{Placed, DirectionsStand, settings_of, request_of, answer_of};
+
+use crate::directions::Directions;
+use crate::saying::{refuse, reply};
+use answer_side::Asker;
+use header_ops::laws::edits_of_heads;
+use http_model::{Framing, OutOfMemory};
+use http_rules::{Verdict, body_stays, replies_are_plain};
+use htx_arena::{Arena, Full};
+use htx_view::request_parts;
+use lane::LaneHead;
+use proxy_meaning::{passes_limit, replaces};
+use px_reply::finish_request;
+use px_sample::Buf;
+use request_side::laws::{edited, requests};
+use request_side::{Kept, kept_of};
+use session_core::Asked;
+
+/// The framing in which the body of a request is sent: where a filter replaces bytes, no length is known before its end.
+fn request_framing(replaces: bool, framing: Framing) -> Framing
+    ensures { result ≡ finish.request_framing replaces framing }
+{
+    match framing {
+        Framing::Length(n) => {
+            if replaces {
+                Framing::Chunked
+            } else {
+                Framing::Length(n)
+            }
+        }
+        Framing::Absent => Framing::Absent,
+        Framing::Chunked => Framing::Chunked,
+        Framing::ToClose => Framing::ToClose,
+    }
+}
+
+/// Keeps the method of the head that stands in an array.
+fn keep_method(method: &mut Buf, msg: &Arena)
+    requires { msg.now.size ≤ method.old.cap }
+    ensures kept { method.new.bytes ≡ method_at msg.now.blocks }
+    ensures cap { method.new.cap ≡ method.old.cap }
+{
+    method.clear();
+    let _room = msg.room();
+    match request_parts(msg) {
+        Some(line) => {
+            let _fits = method.push(line.a);
+        }
+        None => {}
+    }
+}
+
+/// What an answer has to know of the request.
+fn asker_of(kept: &Kept) -> Asker
+    ensures { result ≡ asker_for kept.now }
+{
+    Asker {
+        head_asked: kept.head_asked,
+        is_http_11: kept.is_http_11,
+        keep: kept.keep,
+    }
+}
+
+/// Whether the connection may be kept behind a reply: no body follows the request.
+fn may_keep(kept: &Kept) -> bool
+    ensures { result ≡ (kept.now.keep && kept.now.is_bodiless) }
+{
+    kept.keep && kept.is_bodiless
+}
+
+impl<'c> Directions<'c> {
+    /// Reads the next request, runs its rules and finishes it.
+    pub(crate) fn ask_next(&mut self) -> Result<Asked, OutOfMemory>
+        requires { Placed self.old at.Reads }
+        ensures leads { IfOk result (λ asked. (cfg : Config) (p : Sided (meaning_of cfg)) → DirectionsStand cfg self.old p → AsksTo (meaning_of cfg) (DirectionsStand cfg self.new) (request_of self.new) p asked) }
+        ensures placed { IfOk result (λ asked. Placed self.new (place_behind asked)) }
+        ensures request { IfOk result (AskKeeps (request_of self.old) (request_of self.new)) }
+        ensures window { OnOk result ((answer_of self.new).window ≡ (answer_of self.old).window) }
+        ensures starts { OnOk result ((answer_of self.new).answered ≡ false) }
+        ensures heard { OnOk result ((answer_of self.new).heard ≡ false) }
+        ensures succeeds { holds_pattern (settings_of self.old) ≡ false → IsOk result }
+    {
+        self.ask_one()
+    }
+
+    /// The same; what it comes to is one fact here.
+    fn ask_one(&mut self) -> Result<Asked, OutOfMemory>
+        requires { Placed self.old at.Reads }
+        ensures so { IfOk result (AsksSo self.old self.new) }
+        ensures succeeds { holds_pattern (settings_of self.old) ≡ false → IsOk result }
+    {
+        match self.request.read_head() {
+            LaneHead::More => Ok(Asked::More),
+            LaneHead::Nothing => Ok(Asked::Nothing),
+            LaneHead::Refuse(code) => self.refuse_head(code),
+            LaneHead::Head => self.ask_behind(),
+        }
+    }
+
+    /// The client is refused before any rule: no head was read, so there is no method.
+    fn refuse_head(&mut self, code: u16) -> Result<Asked, OutOfMemory>
+        requires { IsSilent self.old }
+        ensures refuses { IfOk result (λ asked. (asked ≡ Asked.Refuse) × RefusesSo self.old self.new code [] false) }
+        ensures succeeds { holds_pattern (settings_of self.old) ≡ false → IsOk result }
+    {
+        self.method.clear();
+        self.refuse_asked(code, false)
+    }
+
+    /// Runs the rules on the head that came, and does what they ask for.
+    fn ask_behind(&mut self) -> Result<Asked, OutOfMemory>
+        requires read { HasRead self.old }
+        requires head { IsHead (list_of self.old.request) }
+        ensures asks { IfOk result (AsksBehind self.old self.new) }
+        ensures succeeds { holds_pattern (settings_of self.old) ≡ false → IsOk result }
+    {
+        let kept = self.keep_head();
+        let verdict = self.run_rules()?;
+        self.decide(kept, verdict)
+    }
+
+    /// What is kept of the head as it was received.
+    fn keep_head(&mut self) -> Kept
+        ensures kept { (received : Received) → Holds self.old.request received → IsRequestLine received.head.line → IsKept received result }
+        ensures same { self.new ≡ self.old }
+    {
+        let framing = self.request.framing();
+        let close = self.request.close();
+        kept_of(self.request.head(), framing, close)
+    }
+
+    /// Runs the rules of requests on the head that was read, and keeps its method as they leave it.
+    fn run_rules(&mut self) -> Result<Verdict, OutOfMemory>
+        requires read { HasRead self.old }
+        requires head { IsHead (list_of self.old.request) }
+        ensures ran { IfOk result (RulesRan self.old self.new) }
+        ensures succeeds { holds_pattern (settings_of self.old) ≡ false → IsOk result }
+    {
+        edited();
+        body_stays();
+        replies_are_plain();
+        let verdict = self.rules.on_request(self.request.head())?;
+        keep_method(&mut self.method, self.request.head());
+        Ok(verdict)
+    }
+
+    /// What the verdict of the rules asks for.
+    fn decide(&mut self, kept: Kept, verdict: Verdict) -> Result<Asked, OutOfMemory>
+        requires read { HasRead self.old }
+        requires passes { verdict ≡ verdicts.Pass → IsHead (list_of self.old.request) }
+        requires replies { verdict ≡ verdicts.Reply → HasReply self.old.rules.said.blocks }
+        ensures asks { IfOk result (AsksOn self.old self.new kept verdict) }
+        ensures succeeds { holds_pattern (settings_of self.old) ≡ false → IsOk result }
+    {
+        match verdict {
+            Verdict::Pass => self.forward(kept),
+            Verdict::Deny(code) => self.refuse_asked(code, kept.head_asked),
+            Verdict::Fail(_) => self.refuse_asked(500, kept.head_asked),
+            Verdict::Reply => self.reply_asked(kept),
+        }
+    }
+
+    /// The head goes to a server, where its length is within the limits and it fits as it is finished.
+    fn forward(&mut self, kept: Kept) -> Result<Asked, OutOfMemory>
+        requires read { HasRead self.old }
+        requires head { IsHead (list_of self.old.request) }
+        ensures asks { IfOk result (AsksOn self.old self.new kept verdicts.Pass) }
+        ensures succeeds { holds_pattern (settings_of self.old) ≡ false → IsOk result }
+    {
+        body_stays();
+        if self.declares_too_much() {
+            return self.refuse_asked(413, kept.head_asked);
+        }
+        let framing = self.sent_framing();
+        if self.finish(framing) {
+            self.send_on(framing, kept);
+            Ok(Asked::Send)
+        } else {
+            self.refuse_asked(500, kept.head_asked)
+        }
+    }
+
+    /// The framing in which the body of the request is sent.
+    fn sent_framing(&self) -> Framing
+        ensures { result ≡ finish.request_framing (replaces (settings_of self.now).req_filters) (framing_of self.now.request) }
+    {
+        let replaces = replaces(&self.rules.config().req_filters);
+        request_framing(replaces, self.request.framing())
+    }
+
+    /// Finishes the head for its server: false where it would not fit, and then nothing changes.
+    fn finish(&mut self, framing: Framing) -> bool
+        requires read { HasRead self.old }
+        requires head { IsHead (list_of self.old.request) }
+        ensures { Finishes self.old self.new framing result }
+    {
+        edited();
+        edits_of_heads();
+        match finish_request(self.request.head(), framing) {
+            Ok(()) => true,
+            Err(Full) => false,
+        }
+    }
+
+    /// The finished head goes out, and the body behind it in this framing.
+    fn send_on(&mut self, framing: Framing, kept: Kept)
+        requires read { HasRead self.old }
+        requires head { IsHead (list_of self.old.request) }
+        ensures { SendsSo self.old self.new framing kept }
+    {
+        requests();
+        self.answer.begin(asker_of(&kept));
+        self.request.send(framing, kept.awaits);
+    }
+
+    /// The length that the head declared passes a limit.
+    fn declares_too_much(&self) -> bool
+        ensures { result ≡ declares_too_much (meaning_of (settings_of self.now)).request_filters (declared_of self.now.request) }
+    {
+        match self.request.declared() {
+            Some(length) => passes_limit(&self.rules.config().req_filters, length),
+            None => false,
+        }
+    }
+
+    /// No server is asked, and this refusal is said.
+    fn refuse_asked(&mut self, code: u16, no_body: bool) -> Result<Asked, OutOfMemory>
+        requires { IsSilent self.old }
+        ensures refuses { IfOk result (λ asked. (asked ≡ Asked.Refuse) × RefusesSo self.old self.new code self.old.method.bytes no_body) }
+        ensures succeeds { holds_pattern (settings_of self.old) ≡ false → IsOk result }
+    {
+        refuse(
+            &mut self.answer,
+            &mut self.rules,
+            self.method.bytes(),
+            code,
+            no_body,
+        )?;
+        Ok(Asked::Refuse)
+    }
+
+    /// The rules reply, with no server.
+    fn reply_asked(&mut self, kept: Kept) -> Result<Asked, OutOfMemory>
+        requires read { HasRead self.old }
+        requires reply { HasReply self.old.rules.said.blocks }
+        ensures asks { IfOk result (AsksOn self.old self.new kept verdicts.Reply) }
+        ensures succeeds { holds_pattern (settings_of self.old) ≡ false → IsOk result }
+    {
+        replies_are_plain();
+        let keep = may_keep(&kept);
+        let going = reply(
+            &mut self.answer,
+            &mut self.rules,
+            self.method.bytes(),
+            kept.head_asked,
+            keep,
+        )?;
+        self.request.reply();
+        Ok(Asked::Reply(going))
+    }
+}

@@ -1,0 +1,107 @@
+//! Both directions of a session, and the rules between them.
+ghost use Rattle.std.specs.Prelude.{◌≡◌, ◌≤◌, ℕ, List, [], true, false, IfOk};
+ghost use Rattle.http_rules.specs.Valid.{IsValid};
+
+use answer_side::AnswerSide;
+use http_model::OutOfMemory;
+use http_rules::Config;
+use px_sample::Buf;
+use request_side::RequestSide;
+use request_side::laws::total;
+use session_rules::SessionRules;
+use std::alloc::Global;
+
+/// Both directions of a session, and the rules between them.
+#[derive(Drop)]
+pub struct Directions<'c> {
+    pub(crate) request: RequestSide,
+    pub(crate) answer: AnswerSide,
+    pub(crate) rules: SessionRules<'c>,
+    /// The method of the request in hand, as its rules left it (RFC 9110 section 9). Where no head was read it is empty.
+    pub(crate) method: Buf,
+}
+
+ghost use Rattle.px_sample.specs.Variables.{no_variables};
+ghost use Rattle.session_rules.specs.Ruling.{IsReady};
+ghost use Rattle.session_core.specs.Place as at;
+ghost use Rattle.session_core.specs.Sided.{Sided};
+ghost use Rattle.session_core.specs.Leads.{IsFresh};
+ghost use Rattle.proxy_meaning.specs.Product.{meaning_of};
+ghost use Rattle.session_sides.specs.Joined.{DirectionsStand, Placed, request_of, answer_of, settings_of};
+
+impl<'c> Directions<'c> {
+    /// Directions to which nothing has happened. Their arrays and input windows have `tune.bufsize` bytes, their output windows
+    /// `window`. Beside rules with patterns, this call alone takes memory.
+    pub fn new(
+        alloc: Global,
+        config: &'c Config,
+        window: u32,
+    ) -> Result<Directions<'c>, OutOfMemory>
+        requires valid { IsValid config.now }
+        requires window { 64 ≤ window }
+        ensures stands { IfOk result (λ d. (p : Sided (meaning_of config.now)) × DirectionsStand config.now d p × IsFresh (meaning_of config.now) (request_of d) (answer_of d) p) }
+        ensures placed { IfOk result (λ d. Placed d at.Reads) }
+        ensures settings { IfOk result (λ d. settings_of d ≡ config.now) }
+    {
+        total();
+        let request = RequestSide::new(
+            alloc,
+            config.limits,
+            window,
+            config.req_filters.as_slice(),
+        )?;
+        let answer = match AnswerSide::new(
+            alloc,
+            config.limits,
+            window,
+            config.res_filters.as_slice(),
+        ) {
+            Ok(answer) => answer,
+            Err(fault) => {
+                drop(request);
+                return Err(fault);
+            }
+        };
+        let directions = Directions::join(alloc, config, request, answer)?;
+        Ok(directions)
+    }
+
+    /// Both directions with the rules of a session that begins.
+    fn join(
+        alloc: Global,
+        config: &'c Config,
+        request: RequestSide,
+        answer: AnswerSide,
+    ) -> Result<Directions<'c>, OutOfMemory>
+        requires { IsValid config.now }
+        ensures request { IfOk result (λ d. d.request ≡ request) }
+        ensures answer { IfOk result (λ d. d.answer ≡ answer) }
+        ensures ready { IfOk result (λ d. IsReady d.rules) }
+        ensures settings { IfOk result (λ d. settings_of d ≡ config.now) }
+        ensures vars { IfOk result (λ d. d.rules.vars ≡ no_variables) }
+        ensures method { IfOk result (λ d. d.method.cap ≡ config.now.limits.bufsize) }
+    {
+        let method = match Buf::new(alloc, config.limits.bufsize) {
+            Ok(method) => method,
+            Err(fault) => {
+                drop(request);
+                drop(answer);
+                return Err(fault);
+            }
+        };
+        let rules = match SessionRules::new(alloc, config) {
+            Ok(rules) => rules,
+            Err(fault) => {
+                drop(request);
+                drop(answer);
+                return Err(fault);
+            }
+        };
+        Ok(Directions {
+            request,
+            answer,
+            rules,
+            method,
+        })
+    }
+}
