@@ -1,0 +1,8 @@
+pub mod Dials
+pub mod Fresh
+pub mod Lasts
+pub mod Nets
+pub mod Reported
+pub mod Stops
+pub mod Streams
+pub mod Whole

@@ -1,0 +1,6 @@
+pub mod Memory
+pub mod Nets
+pub mod Outcome
+pub mod Replayed
+pub mod Seen
+pub mod Written

@@ -1,0 +1,55 @@
+-- What the sessions of a record come to.
+use Rattle.std.specs.Prelude.{◌≡◌, ◌↔◌, ℕ, ◌<◌, ◌≤◌, List, [], ◌∷◌, length, take, Bool, true, false, Option, Some, None, ⊤}
+use Rattle.std.specs.List.{AllZip}
+use Rattle.session_model.specs.Meaning.{Meaning}
+use Rattle.session_model.specs.Stream.{Stream, Server, NotThere, Open, Sent, Takes}
+use Rattle.session_model.specs.Session.{Out, Session}
+use Rattle.rec_format.specs.Entries.{ServerEntry}
+use Rattle.rec_format.specs.Recorded.{Visit}
+
+-- How a server of a record takes what it is sent. Without a number it never stops; with one it stopped only behind so many bytes,
+-- and took no more.
+abbrev pub TakesSo : Option ℕ → (stopped : Bool) → (taken : List ℕ) → Type 0
+TakesSo None stopped taken = stopped ≡ false
+TakesSo (Some n) true taken = length taken ≡ n
+TakesSo (Some n) false taken = length taken ≤ n
+
+-- Of any text of which a server took so much: where a server has a number, it got just the first so many bytes, and it stopped
+-- exactly where the text is longer.
+abbrev pub StopsSo : Option ℕ → (stopped : Bool) → (taken : List ℕ) → Type 0
+StopsSo None stopped taken = ⊤
+StopsSo (Some n) stopped taken =
+    (text : List ℕ) → Takes stopped text taken → (taken ≡ take n text) × (stopped ≡ true ↔ n < length text)
+
+-- a server of a record: it gave its own stream, and took and stopped as the record says
+pub record ServesAs (entry : ServerEntry) (stream : Stream) (stopped : Bool) (taken : List ℕ) : Type 0 where
+  pub own : stream ≡ entry.stream
+  pub takes : TakesSo entry.takes stopped taken
+  pub stops : StopsSo entry.takes stopped taken
+
+-- what a connect found, and what it was sent, is this entry of a record: a refused one, or a server with its own stream
+abbrev pub IsFound : Option ServerEntry → Server → Option Sent → Type 0
+IsFound None NotThere None = ⊤
+IsFound (Some entry) (Open stream stopped) (Some sent) = ServesAs entry stream stopped sent.bytes
+IsFound None NotThere (Some sent) = ⊥
+IsFound None (Open stream stopped) sent = ⊥
+IsFound (Some entry) NotThere sent = ⊥
+IsFound (Some entry) (Open stream stopped) None = ⊥
+
+-- The connects found the entries of a record in their order, as far as there were connects; one past the last entry was refused.
+abbrev pub Finds : List (Option ServerEntry) → List Server → List (Option Sent) → Type 0
+Finds entries [] [] = ⊤
+Finds [] (server ∷ servers) (sent ∷ others) = IsFound None server sent × Finds [] servers others
+Finds (entry ∷ entries) (server ∷ servers) (sent ∷ others) = IsFound entry server sent × Finds entries servers others
+Finds entries [] (sent ∷ others) = ⊥
+Finds entries (server ∷ servers) [] = ⊥
+
+-- The outcome is that of a session of the connection's client with the servers that its connects found.
+pub record Replays (M : Meaning) (visit : Visit) (out : Out) : Type 0 where
+  pub servers : List Server
+  pub found : Finds visit.servers servers out.servers
+  pub session : Session M visit.client servers out
+
+-- each connection has such an outcome, in their order
+abbrev pub ReplaysAll : Meaning → List Visit → List Out → Type 0
+ReplaysAll M visits outs = AllZip (Replays M) visits outs
