@@ -25,14 +25,19 @@ pub trait Opens<C: Machine> {
 /// Sessions of the driver, with the servers at one address.
 #[derive(Drop)]
 pub struct Driven<'a, C, O> {
-    opener: O,
-    to: &'a Address,
+    /// Makes the core of each session.
+    pub opener: O,
+    /// Where the servers are.
+    pub to: &'a Address,
     core: PhantomData<C>,
 }
 
 impl<'a, C: Machine, O: Opens<C>> Driven<'a, C, O> {
     /// Sessions over cores of this opener.
-    pub fn new(opener: O, to: &'a Address) -> Self {
+    pub fn new(opener: O, to: &'a Address) -> Self
+        ensures opener { result.opener ≡ opener }
+        ensures to { result.to.now ≡ to.now }
+    {
         Driven {
             opener,
             to,
