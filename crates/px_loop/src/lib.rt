@@ -6,5 +6,5 @@ mod texts;
 mod visits;
 
 pub use play::{PlayFault, expect, send};
-pub use texts::{ANSWER, CONFIGURATION, FORWARDED, REDIRECT, REDIRECTED, REQUEST, RESPONSE};
+pub use texts::{ANSWER, FORWARDED, REDIRECT, REDIRECTED, REQUEST, RESPONSE, RULES};
 pub use visits::{connect_patiently, forwarded, redirected};

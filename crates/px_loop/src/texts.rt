@@ -1,8 +1,8 @@
 //! What client and origin send, and what they have to get.
 
-/// The configuration of the proxy between them.
-pub const CONFIGURATION: &[u8] =
-    b"listen p\n  bind 127.0.0.1:8080\n  server s 127.0.0.1:8081\n  http-request redirect scheme https if { query b }\n  http-request set-header x-a 1\n";
+/// The rules of the proxy between them, as lines of its configuration behind those of its addresses.
+pub const RULES: &str =
+    "  http-request redirect scheme https if { query b }\n  http-request set-header x-a 1\n";
 
 /// What the first client sends, what the origin gets for it, what it sends then, and what the client gets.
 pub const REQUEST: &[u8] = b"GET /a HTTP/1.1\r\nHost: h\r\n\r\n";

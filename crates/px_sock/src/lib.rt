@@ -1,12 +1,16 @@
-//! Links and a net over the sockets of the system. They meet the traits of `px_link` with their counts, and tell no bytes: no
-//! contract can say what a socket gives.
+//! The real objects of the program: links and a net over the sockets of the system, files on disk, and standard output. They meet the
+//! traits of `px_link` with their counts, and tell no bytes: no contract can say what a socket or a file gives.
 #![tactic(auto)]
 
 mod addresses;
 mod faults;
 mod linger;
+mod real_files;
 mod real_link;
 mod real_net;
+mod real_sink;
 
+pub use real_files::RealFiles;
 pub use real_link::RealLink;
 pub use real_net::RealNet;
+pub use real_sink::RealSink;
