@@ -1,0 +1,93 @@
+//! What makes the cores of a configuration.
+ghost use Rattle.std.specs.Prelude.{◌≡◌, ◌≤◌, IfOk, false};
+ghost use Rattle.http_rules.specs.Valid.{IsValid};
+ghost use Rattle.proxy_meaning.specs.Product.{meaning_of};
+ghost use Rattle.session_core.specs.History.{nothing_yet};
+ghost use Rattle.session_core.specs.Leads.{Stands};
+ghost use Rattle.session_core.specs.Place.{IsPlaced};
+ghost use Rattle.session_core.specs.Waits.{is_serving};
+ghost use Rattle.session_sides.specs.Joined.{DirectionsStand, Placed, request_of, answer_of};
+
+use http_model::OutOfMemory;
+use http_rules::Config;
+use replay_run::Cores;
+use serve_run::Opens;
+use session_core::Core;
+use session_sides::Directions;
+use std::alloc::Global;
+use std::marker::Model;
+
+/// The core of a session under a configuration.
+pub(crate) type ConfigCore<'c> = Core<Directions<'c>>;
+
+/// A core to which nothing has happened, with output windows of this size.
+fn open_core<'c>(
+    alloc: Global,
+    config: &'c Config,
+    window: u32,
+) -> Result<ConfigCore<'c>, OutOfMemory>
+    requires valid { IsValid config.now }
+    requires window { 64 ≤ window }
+    ensures stands { IfOk result (λ core. Stands (meaning_of config.now) request_of answer_of (DirectionsStand config.now) core.sides core.at nothing_yet) }
+    ensures placed { IfOk result (λ core. IsPlaced (Placed core.sides) (answer_of core.sides) core.at.phase core.at.cut) }
+    ensures idle { IfOk result (λ core. is_serving core.at.phase ≡ false) }
+{
+    let directions = Directions::new(alloc, config, window)?;
+    Ok(Core::new(directions))
+}
+
+/// Makes the cores of the sessions of a record.
+#[derive(Drop)]
+pub(crate) struct RecordCores<'c> {
+    pub(crate) config: &'c Config,
+    /// How many bytes an output window has.
+    pub(crate) window: u32,
+}
+
+impl<'c> Cores<ConfigCore<'c>> for RecordCores<'c> {
+    ghost use Rattle.proxy_sessions.specs.Ready.{IsReady};
+
+    ghost settings = { λ cores. cores.config.now };
+
+    ghost ready = { λ cores. IsReady cores.config.now cores.window };
+
+    fn bufsize(&self) -> u32 {
+        self.config.limits.bufsize
+    }
+
+    fn core(&self, alloc: Global) -> Result<ConfigCore<'c>, OutOfMemory> {
+        open_core(alloc, self.config, self.window)
+    }
+
+    ghost some_room = { λ cores ready. ready.some_room };
+
+    ghost is_bounded = { λ cores ready. ready.bounded };
+
+    ghost is_total = { λ cores ready. ready.total };
+}
+
+/// Makes the cores of the sessions of clients.
+#[derive(Drop)]
+pub(crate) struct ClientCores<'c> {
+    pub(crate) alloc: Global,
+    pub(crate) config: &'c Config,
+}
+
+impl<'c> Model for ClientCores<'c> {
+    ghost use Rattle.http_rules.specs.declared.config.Config.{Config};
+    ghost use Rattle.http_rules.specs.Valid.{IsValid};
+
+    ghost Value = { Config };
+
+    ghost view = { λ cores. cores.config.now };
+
+    ghost invariant = { λ cores. IsValid cores.config.now };
+}
+
+impl<'c> Opens<ConfigCore<'c>> for ClientCores<'c> {
+    ghost settings = { λ cores. cores };
+
+    fn open(&mut self) -> Result<ConfigCore<'c>, OutOfMemory> {
+        open_core(self.alloc, self.config, self.config.limits.bufsize)
+    }
+}

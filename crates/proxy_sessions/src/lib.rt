@@ -1,0 +1,10 @@
+//! The sessions of a configuration: those of a record, a generated one, and those of clients that connect, each over a core of its own.
+#![tactic(auto)]
+
+mod cores;
+mod records;
+mod serving;
+
+pub use records::{drill_lines, replay_report, session_report};
+pub use serve_run::ServeFault;
+pub use serving::serve_clients;

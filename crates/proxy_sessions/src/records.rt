@@ -1,0 +1,75 @@
+//! The sessions of a record, and a generated one.
+ghost use Rattle.std.specs.Prelude.{◌≡◌, ◌≤◌, length, vec_len, IfOk};
+ghost use Rattle.http_rules.specs.Valid.{IsValid};
+ghost use Rattle.proxy_meaning.specs.Product.{meaning_of};
+ghost use Rattle.rec_format.specs.Read as read;
+ghost use Rattle.rec_format.specs.ReportParts.{out_of};
+ghost use Rattle.rec_format.specs.Reports.{Reportable};
+ghost use Rattle.replay_run.specs.Replayed.{Replays};
+ghost use Rattle.replay_run.specs.Written.{IsReplayOf, IsDrillOf};
+
+use crate::cores::RecordCores;
+use http_model::OutOfMemory;
+use http_rules::Config;
+use px_link::{Bytes, Turn};
+use rec_format::{Connection, Record, Report};
+use replay_run::{drill_text, replay_connection, replay_text};
+use request_side::laws::total;
+use session_bounds::bounded;
+use std::alloc::Global;
+
+/// The report of a record, in its format: the sessions of its connections are run one after another. Want of memory is the only error.
+pub fn replay_report(
+    alloc: Global,
+    config: &Config,
+    recorded: &Record,
+) -> Result<Bytes, OutOfMemory>
+    requires valid { IsValid config.now }
+    requires reportable { Reportable recorded.now.version (vec_len recorded.now.conns) }
+    ensures { IfOk result (IsReplayOf (meaning_of config.now) (read.meaning_of recorded.now)) }
+{
+    bounded();
+    total();
+    let cores = RecordCores {
+        config,
+        window: config.limits.bufsize,
+    };
+    replay_text(alloc, &cores, &config.server, recorded)
+}
+
+/// What the session of one connection comes to with output windows of this size and these turns. Want of memory is the only error.
+pub fn session_report(
+    alloc: Global,
+    config: &Config,
+    window: u32,
+    conn: &Connection,
+    turns: Vec<Turn>,
+) -> Result<Report, OutOfMemory>
+    requires valid { IsValid config.now }
+    requires window { 64 ≤ window }
+    ensures { IfOk result (λ report. Replays (meaning_of config.now) (read.visit conn.now) (out_of report)) }
+{
+    bounded();
+    total();
+    let cores = RecordCores { config, window };
+    replay_connection(alloc, &cores, &config.server, conn, turns)
+}
+
+/// The four lines of the generated session of a seed and a number of exchanges. Want of memory is the only error.
+pub fn drill_lines(
+    alloc: Global,
+    config: &Config,
+    seed: u32,
+    exchanges: u32,
+) -> Result<Bytes, OutOfMemory>
+    requires valid { IsValid config.now }
+    ensures { IfOk result (IsDrillOf (meaning_of config.now) seed exchanges) }
+{
+    bounded();
+    total();
+    let cores = RecordCores {
+        config,
+        window: config.limits.bufsize,
+    };
+    drill_text(alloc, &cores, &config.server, seed, exchanges)
+}

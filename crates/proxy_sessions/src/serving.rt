@@ -1,0 +1,96 @@
+//! Clients that connect, and their sessions.
+ghost use Rattle.std.specs.Prelude.{◌≡◌, ◌⊎◌, ◌∷◌, ◌++◌, [], List, Option, Some, IsErrOf, IsOkUnless, OnOk, OnErr};
+ghost use Rattle.http_rules.specs.Valid.{IsValid};
+ghost use Rattle.htx_drive.specs.Dialled.{Dialled};
+ghost use Rattle.px_link.specs.Net.{Coming, Kept, address_of};
+ghost use Rattle.px_link.specs.Told.{Rose};
+ghost use Rattle.proxy_meaning.specs.Product.{meaning_of};
+ghost use Rattle.proxy_sessions.specs.Connections.{ServesClient};
+ghost use Rattle.serve_run.specs.Lines.{net_line};
+ghost use Rattle.serve_run.specs.Served.{Breaks, NetFails, ServedAll, ServedOne};
+ghost use Rattle.serve_run.specs.Told.{Visited};
+
+use crate::cores::{ClientCores, ConfigCore};
+use http_rules::Config;
+use htx_drive::laws::ran_is_the_session;
+use px_link::{Net, Sink};
+use serve_run::{Driven, Ran, ServeFault, SessionFault, Sessions, serve};
+use std::alloc::Global;
+use std::marker::Model;
+
+/// Sessions of one configuration.
+#[derive(Drop)]
+struct ConfigSessions<'c> {
+    alloc: Global,
+    config: &'c Config,
+}
+
+impl<'c> Model for ConfigSessions<'c> {
+    ghost use Rattle.http_rules.specs.declared.config.Config.{Config};
+    ghost use Rattle.http_rules.specs.Valid.{IsValid};
+
+    ghost Value = { Config };
+
+    ghost view = { λ s. s.config.now };
+
+    ghost invariant = { λ s. IsValid s.config.now };
+}
+
+impl<'c, N: Net> Sessions<N> for ConfigSessions<'c> {
+    ghost use Rattle.px_link.specs.Net.{address_of};
+    ghost use Rattle.proxy_meaning.specs.Product.{meaning_of};
+    ghost use Rattle.proxy_sessions.specs.Connections.{ServesClient};
+
+    type Settings = Config;
+
+    ghost settings = { λ s. s };
+
+    ghost to = { λ cfg. address_of cfg.server };
+
+    ghost session = { λ cfg first client first_net net result. ServesClient (meaning_of cfg) N.Link.seen N.Link.wrote (address_of cfg.server) first client (N.seen first_net) (N.seen net) result };
+
+    fn run(&mut self, client: &mut N::Link, net: &mut N) -> Result<Ran, SessionFault> {
+        ran_is_the_session::<ConfigCore<'c>, N::Link, N>();
+        let cores = ClientCores {
+            alloc: self.alloc,
+            config: self.config,
+        };
+        let mut driven: Driven<'_, ConfigCore<'c>, ClientCores<'c>> = Driven::new(
+            cores,
+            &self.config.server,
+        );
+        driven.run(client, net)
+    }
+}
+
+/// Listens where the configuration says, serves so many clients one after another, and writes a line for each once its session is over.
+pub fn serve_clients<N: Net, K: Sink>(
+    alloc: Global,
+    config: &Config,
+    count: u32,
+    net: &mut N,
+    out: &mut K,
+) -> Result<(), ServeFault>
+    requires valid { IsValid config.now }
+    ensures good { OnOk result (ServedAll N.seen (ServedOne N.Link.seen N.Link.wrote N.seen
+        (λ first client first_net net result. ServesClient (meaning_of config.now) N.Link.seen N.Link.wrote (address_of config.now.server) first client (N.seen first_net) (N.seen net) result) (address_of config.now.server))
+        (address_of config.now.bind) count net.old net.new (K.written out.old) (K.written out.new)) }
+    ensures told { (coming : List Coming) (answers : List (Option Coming)) (kept : List Kept)
+        → (N.seen net.old).accepts ≡ Some coming → (N.seen net.old).answers ≡ Some answers → (N.seen net.old).kept ≡ Some kept
+        → OnOk result (Visited (N.seen net.new) coming kept count) }
+    ensures net { IsErrOf result ServeFault.Net → NetFails N.seen (ServedOne N.Link.seen N.Link.wrote N.seen
+        (λ first client first_net net result. ServesClient (meaning_of config.now) N.Link.seen N.Link.wrote (address_of config.now.server) first client (N.seen first_net) (N.seen net) result) (address_of config.now.server))
+        (address_of config.now.bind) count net_line net.old net.new (K.written out.old) (K.written out.new) }
+    ensures output { IsErrOf result ServeFault.Output → Rose (K.faults out.old) (K.faults out.new) }
+    ensures front { OnErr result (Breaks N.seen (ServedOne N.Link.seen N.Link.wrote N.seen
+        (λ first client first_net net result. ServesClient (meaning_of config.now) N.Link.seen N.Link.wrote (address_of config.now.server) first client (N.seen first_net) (N.seen net) result) (address_of config.now.server))
+        (address_of config.now.bind) count net.old net.new (K.written out.old) (K.written out.new)) }
+    ensures binds { OnOk result ((N.seen net.new).bound ≡ (N.seen net.old).bound ++ address_of config.now.bind ∷ []) }
+    ensures bound { ((N.seen net.new).bound ≡ (N.seen net.old).bound) ⊎ ((N.seen net.new).bound ≡ (N.seen net.old).bound ++ address_of config.now.bind ∷ []) }
+    ensures dialled { Dialled (N.seen net.old).dialled (N.seen net.new).dialled (address_of config.now.server) }
+    ensures lent { (N.seen net.new).lent ≡ (N.seen net.old).lent }
+    ensures complete { (Rose (N.seen net.old).bind_faults (N.seen net.new).bind_faults → ⊥) → (Rose (K.faults out.old) (K.faults out.new) → ⊥) → IsOkUnless result ServeFault.OutOfMemory }
+{
+    let mut sessions = ConfigSessions { alloc, config };
+    serve(alloc, &config.bind, count, &mut sessions, net, out)
+}
