@@ -1,11 +1,10 @@
-//! The program: hands the words of the command line, files on disk and standard output to the one call of `proxy_call`.
+//! The program: hands the words of the command line, files on disk, a net over sockets and standard output to the one call of
+//! `proxy_call`.
 #![tactic(auto)]
 
-mod edges;
-
-use edges::{DiskFiles, Output};
 use proxy_call::htx_proxy;
 use px_pattern::RealPatterns;
+use px_sock::{RealFiles, RealNet, RealSink};
 use std::alloc::AllocError;
 use std::env::Env;
 use std::process::ExitCode;
@@ -22,9 +21,17 @@ fn words_of<R: Env + AllocGlobal>(rt: &R) -> io::Result<Vec<String>> {
 
 fn main(rt: HostRuntime) -> io::Result<ExitCode> {
     let words = words_of(&rt)?;
-    let mut files = DiskFiles::new(rt.alloc(), &rt);
-    let mut out = Output::new(&rt);
+    let mut files = RealFiles::new(rt.alloc(), &rt);
+    let mut net = RealNet::new(rt.alloc(), &rt);
+    let mut out = RealSink::new(&rt);
     let mut pats = RealPatterns::new();
-    let status = htx_proxy(rt.alloc(), &words, &mut files, &mut out, &mut pats);
+    let status = htx_proxy(
+        rt.alloc(),
+        &words,
+        &mut files,
+        &mut net,
+        &mut out,
+        &mut pats,
+    );
     Ok(ExitCode::from(status as u8))
 }

@@ -1,20 +1,22 @@
 -- What a step that stops says of the whole command.
-use Rattle.std.proofs.Common.{◌≡◌, ℕ, ◌<◌, ◌≤◌, List, ◌⊎◌, inl, inr, refl, sym, ◌∙◌, subst, arith}
+use Rattle.std.proofs.Common.{◌≡◌, ℕ, ◌≤◌, List, inl, inr, sym, subst, arith}
 use Rattle.std.specs.Prelude.{Option, Result, Ok, Err, IfErr, IsErrAnd}
 use Rattle.px_link.specs.Told.{NamedBytes, Reads, Rose}
 use Rattle.http_rules.specs.declared.config.Config.{Config}
 use Rattle.cfg_parse.specs.Whole.{Loads}
 use Rattle.cfg_parse.specs.declared.fault.CfgFault.{CfgFault}
 use Rattle.cfg_parse.specs.declared.fault.CfgFault.TheVariants as configurations
-use Rattle.forward_core.specs.declared.exchange.ExchangeFault.{ExchangeFault}
-use Rattle.forward_core.specs.declared.exchange.ExchangeFault.TheVariants as exchanges
-use Rattle.px_command.specs.Command.{IsReplay, NamesConfig}
-use Rattle.proxy_call.specs.Answers.{DecidesBy, IsAccepted, UnbuiltBy}
-use Rattle.proxy_call.specs.Replay.{IfTold, Builder, Configured}
-use Rattle.proxy_call.specs.Stops.{Answers, ReadStops, StopsBy, stop_of_configuration, stop_of_exchange}
+use Rattle.rec_format.specs.declared.record.RecFault.{RecFault}
+use Rattle.rec_format.specs.declared.record.RecFault.TheVariants as records
+use Rattle.rec_format.specs.Parts.{Refuses}
+use Rattle.rec_format.specs.Recorded.{record_of}
+use Rattle.px_command.specs.Command.{NamesConfig}
+use Rattle.proxy_call.specs.Answers.{DecidesBy, DecidesRecord, IsAccepted}
+use Rattle.proxy_call.specs.Files.{IfTold, Configured}
+use Rattle.proxy_call.specs.Stops.{Input, Answers, ReadStops, StopsBy, stop_of_configuration, stop_of_record}
 use Rattle.proxy_call.specs.declared.stop.Stop.{Stop}
 use Rattle.proxy_call.specs.declared.stop.Stop.TheVariants as stops
-use Rattle.proxy_call.proofs.Told.{refused, weaker}
+use Rattle.proxy_call.proofs.Told.{recorded, refused, weaker}
 
 -- a count that rose before or after rose in all
 pub rose_before : (a b d : ℕ) → Rose a b → b ≤ d → Rose a d
@@ -31,35 +33,36 @@ pub passed_on : {T : Type 0} (r : Result T Stop) (s : Stop) (P : Stop → Type 0
 passed_on (Ok x) s P is p = absurd is
 passed_on (Err y) s P is p = subst P (sym is) p
 
-pub answers_err : (words : List (List ℕ)) (files : Option (List NamedBytes)) (builder : Builder) (last : List ℕ) (before now : ℕ) (r : Result (List ℕ) Stop) (s : Stop) → IsErrAnd r (λ (y : Stop). y ≡ s)
-    → StopsBy words files builder last before now s → Answers words files builder last before now r
-answers_err words files builder last before now (Ok x) s is p = absurd is
-answers_err words files builder last before now (Err y) s is p = subst (StopsBy words files builder last before now) (sym is) p
+pub answers_err : (input : Input) (r : Result (List ℕ) Stop) (s : Stop) → IsErrAnd r (λ (y : Stop). y ≡ s) → StopsBy input s → Answers input r
+answers_err input (Ok x) s is p = absurd is
+answers_err input (Err y) s is p = subst (StopsBy input) (sym is) p
 
 -- ---- why a step stops
 
 -- a read that stops, of a file whose read decides
-pub read_stops : (words : List (List ℕ)) (files : Option (List NamedBytes)) (builder : Builder) (name last : List ℕ) (from before now : ℕ) (s : Stop) → (Rose from now → Rose before now) → DecidesBy words files name
-    → ReadStops name last from now s → StopsBy words files builder last before now s
-read_stops words files builder name last from before now (stops.Usage text) rose decides given = absurd given
-read_stops words files builder name last from before now (stops.Refused line kind) rose decides given = absurd given
-read_stops words files builder name last from before now (stops.File failed) rose decides given =
-    (rose given.0, given.1, subst (DecidesBy words files) (sym given.2) decides)
-read_stops words files builder name last from before now stops.Output rose decides given = absurd given
-read_stops words files builder name last from before now stops.Unbuilt rose decides given = absurd given
-read_stops words files builder name last from before now stops.OutOfMemory rose decides given = tt
+pub read_stops : (input : Input) (name : List ℕ) (from : ℕ) (s : Stop) → (Rose from input.reads_now → Rose input.reads input.reads_now) → DecidesBy input.words input.files name
+    → ReadStops name input.last from input.reads_now s → StopsBy input s
+read_stops input name from (stops.Usage text) rose decides given = absurd given
+read_stops input name from (stops.Refused line kind) rose decides given = absurd given
+read_stops input name from (stops.Record place kind) rose decides given = absurd given
+read_stops input name from (stops.File failed) rose decides given =
+    (rose given.0, given.1, subst (DecidesBy input.words input.files) (sym given.2) decides)
+read_stops input name from stops.Output rose decides given = absurd given
+read_stops input name from stops.Net rose decides given = absurd given
+read_stops input name from stops.OutOfMemory rose decides given = tt
 
 -- a configuration that is refused
-pub load_stops : (words : List (List ℕ)) (files : Option (List NamedBytes)) (builder : Builder) (name last bytes : List ℕ) (before now : ℕ) (fault : CfgFault) → NamesConfig words name → Reads files name 1048577 bytes
-    → Loads bytes builder.before builder.now builder.kept (Err fault) → StopsBy words files builder last before now (stop_of_configuration fault)
-load_stops words files builder name last bytes before now (configurations.Refused line kind) named read loads = (name, named, refused files builder name bytes line kind read loads)
-load_stops words files builder name last bytes before now configurations.OutOfMemory named read loads = tt
+pub load_stops : (input : Input) (name bytes : List ℕ) (fault : CfgFault) → NamesConfig input.words name → Reads input.files name 1048577 bytes
+    → Loads bytes input.builder.before input.builder.now input.builder.kept (Err fault) → StopsBy input (stop_of_configuration fault)
+load_stops input name bytes (configurations.Refused line kind) named read loads = (name, named, refused input.files input.builder name bytes line kind read loads)
+load_stops input name bytes configurations.OutOfMemory named read loads = tt
 
--- an exchange that isn't served
-pub exchange_stops : (words : List (List ℕ)) (files : Option (List NamedBytes)) (builder : Builder) (last : List ℕ) (before now : ℕ) (fault : ExchangeFault) → (fault ≡ exchanges.Unbuilt → UnbuiltBy words files)
-    → StopsBy words files builder last before now (stop_of_exchange fault)
-exchange_stops words files builder last before now exchanges.Unbuilt unbuilt = unbuilt refl
-exchange_stops words files builder last before now exchanges.OutOfMemory unbuilt = tt
+-- a record that is refused
+pub record_stops : (input : Input) (name bytes : List ℕ) (fault : RecFault) → DecidesRecord input.words input.files name → Reads input.files name 67108865 bytes
+    → Refuses (record_of bytes) fault → StopsBy input (stop_of_record fault)
+record_stops input name bytes (records.Refused place kind) decides read refuses =
+    (name, decides, recorded input.files name bytes (Err (record { place = place; kind = kind })) read refuses)
+record_stops input name bytes records.OutOfMemory decides read refuses = tt
 
 -- a configuration that is accepted is one
 pub accepted : (files : Option (List NamedBytes)) (cfg_name : List ℕ) (cfg : Config) → IfTold files (λ fs. Configured fs cfg_name (Ok cfg)) → IsAccepted files cfg_name

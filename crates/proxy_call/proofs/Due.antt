@@ -1,51 +1,19 @@
--- What words and files call for is not unbuilt: nothing but a fault or memory is in the way.
-use Rattle.std.proofs.Common.{◌≡◌, ℕ, List, [], ◌∷◌, ◌⊎◌, inl, inr, refl, sym, ◌∙◌, ap, subst, codes}
+-- What words and files call for is one status, and what the call gives is that one, or a fault or want of memory is in the way.
+use Rattle.std.proofs.Common.{◌≡◌, ℕ, List, ◌⊎◌, inl, inr, refl, subst}
 use Rattle.std.specs.Prelude.{Option, Some, None, Result, Ok, Err}
 use Rattle.px_link.specs.Told.{NamedBytes, Rose, content_of}
 use Rattle.http_rules.specs.declared.config.Config.{Config}
 use Rattle.cfg_parse.specs.Whole.{config_of, Refusal}
-use Rattle.px_command.specs.Command.{IsCheck, IsReplay, IsLater, NamesConfig}
-use Rattle.proxy_call.specs.Answers.{IsDue, UnbuiltBy}
-use Rattle.proxy_call.specs.Replay.{Builder, Configured, Holds, Say, NoRecord, NoService}
-use Rattle.proxy_call.specs.Stops.{Breaks, status_of}
+use Rattle.cfg_parse.specs.declared.fault.CfgKind.{CfgKind}
+use Rattle.rec_format.specs.Recorded as records
+use Rattle.rec_format.specs.Recorded.{Recorded, record_of}
+use Rattle.px_command.specs.Command.{IsCheck, IsCheckRecord, IsReplay, IsServe, IsUsage, NamesConfig}
+use Rattle.proxy_call.specs.Answers.{DecidesRecord, IsDue, IsGood, IsRefused}
+use Rattle.proxy_call.specs.Files.{Builder, Configured, Holds, IfTold, RecordIs}
 use Rattle.proxy_call.specs.declared.status.Status.{Status}
-use Rattle.proxy_call.specs.declared.status.Status.TheVariants.{Good, Usage, FileFault, OutFault, OutOfMemory, Unbuilt}
+use Rattle.proxy_call.specs.declared.status.Status.TheVariants.{Good, Usage, FileFault, OutFault, NetFault, OutOfMemory}
 use Rattle.proxy_call.specs.declared.status.Status.TheVariants as ended
-use Rattle.proxy_call.specs.declared.stop.Stop.{Stop}
-use Rattle.proxy_call.specs.declared.stop.Stop.TheVariants as stops
-
--- ---- lists of words are told apart
-
-later_not_check : (words : List (List ℕ)) (cfg : List ℕ) → IsCheck words cfg → IsLater words → ⊥
-later_not_check [] cfg is later = later
-later_not_check (a ∷ []) cfg is later = later
-later_not_check (a ∷ b ∷ []) cfg is later = later
-later_not_check (a ∷ b ∷ d ∷ words) cfg is later = is
-
-replay_or_later : (a : List ℕ) → a ≡ codes "replay" → (a ≡ codes "serve") ⊎ (a ≡ codes "drill") → ⊥
-replay_or_later a is (inl serve) = cc
-replay_or_later a is (inr drill) = cc
-
-later_not_replay : (words : List (List ℕ)) (cfg rec : List ℕ) → IsReplay words cfg rec → IsLater words → ⊥
-later_not_replay [] cfg rec is later = later
-later_not_replay (a ∷ []) cfg rec is later = later
-later_not_replay (a ∷ b ∷ []) cfg rec is later = later
-later_not_replay (a ∷ b ∷ d ∷ []) cfg rec is (inl serve) = replay_or_later a is.0 (inl serve.0)
-later_not_replay (a ∷ b ∷ d ∷ []) cfg rec is (inr drill) = replay_or_later a is.0 (inr drill.0)
-later_not_replay (a ∷ b ∷ d ∷ e ∷ words) cfg rec is later = is
-
-replay_not_check : (words : List (List ℕ)) (cfg rec name : List ℕ) → IsReplay words cfg rec → IsCheck words name → ⊥
-replay_not_check [] cfg rec name is check = check
-replay_not_check (a ∷ []) cfg rec name is check = check
-replay_not_check (a ∷ b ∷ []) cfg rec name is check = is
-replay_not_check (a ∷ b ∷ d ∷ words) cfg rec name is check = check
-
-same_files : (words : List (List ℕ)) (cfg rec first second : List ℕ) → IsReplay words cfg rec → IsReplay words first second → (cfg ≡ first) × (rec ≡ second)
-same_files [] cfg rec first second is other = absurd is
-same_files (a ∷ []) cfg rec first second is other = absurd is
-same_files (a ∷ b ∷ []) cfg rec first second is other = absurd is
-same_files (a ∷ b ∷ d ∷ []) cfg rec first second is other = (sym is.1 ∙ other.1, sym is.2 ∙ other.2)
-same_files (a ∷ b ∷ d ∷ e ∷ words) cfg rec first second is other = absurd is
+use Rattle.proxy_call.proofs.Words.{record_or_config, fileless_or_config, fileless_or_record, check_or_record, serve_or_record, same_config_name, same_record_name}
 
 -- ---- a file has one content
 
@@ -58,52 +26,138 @@ both_hold files name P Q p q = (q.0, subst P (some_is p.0 q.0 (content_of files 
 ok_or_err : (r : Result Config Refusal) (cfg : Config) (refusal : Refusal) → r ≡ Ok cfg → r ≡ Err refusal → ⊥
 ok_or_err r cfg refusal p q = cc
 
-accepted_or_refused : (files : List NamedBytes) (name : List ℕ) (cfg : Config) (refusal : Refusal) → Configured files name (Ok cfg) → Configured files name (Err refusal) → ⊥
-accepted_or_refused files name cfg refusal ok err =
-    let both = both_hold files name (λ t. config_of t None ≡ Ok cfg) (λ t. config_of t None ≡ Err refusal) ok err in
+accepted_or_refused : (files : List NamedBytes) (name other : List ℕ) (cfg : Config) (refusal : Refusal) → name ≡ other → Configured files name (Ok cfg) → Configured files other (Err refusal) → ⊥
+accepted_or_refused files name other cfg refusal same ok err =
+    let both = both_hold files other (λ t. config_of t None ≡ Ok cfg) (λ t. config_of t None ≡ Err refusal) (subst (λ (n : List ℕ). Configured files n (Ok cfg)) same ok) err in
     ok_or_err (config_of both.0 None) cfg refusal both.1 both.2
 
--- ---- what is due is not unbuilt
+read_or_not : (r : Result Recorded records.Refusal) (found : Recorded) (refusal : records.Refusal) → r ≡ Ok found → r ≡ Err refusal → ⊥
+read_or_not r found refusal p q = cc
 
-said_or_not : (files : List NamedBytes) (cfg_name rec_name : List ℕ) → (cfg : Config) × (client : List ℕ) × (body : List ℕ) × Say files cfg_name rec_name cfg client body
-    × (NoService files cfg_name rec_name → ⊥) → NoRecord files cfg_name rec_name ⊎ NoService files cfg_name rec_name → ⊥
-said_or_not files cfg_name rec_name due (inl none) =
-    let both = both_hold files rec_name _ _ due.3.recorded none.1 in both.2 due.1 due.2 both.1
-said_or_not files cfg_name rec_name due (inr unserved) = due.4 unserved
+record_or_refused : (files : List NamedBytes) (name other : List ℕ) (found : Recorded) (refusal : records.Refusal) → name ≡ other → RecordIs files name (Ok found) → RecordIs files other (Err refusal) → ⊥
+record_or_refused files name other found refusal same ok err =
+    let both = both_hold files other (λ t. record_of t ≡ Ok found) (λ t. record_of t ≡ Err refusal) (subst (λ (n : List ℕ). RecordIs files n (Ok found)) same ok) err in
+    read_or_not (record_of both.0) found refusal both.1 both.2
 
-names_accepted : (files : List NamedBytes) (cfg_name rec_name : List ℕ) → NoRecord files cfg_name rec_name ⊎ NoService files cfg_name rec_name → (cfg : Config) × Configured files cfg_name (Ok cfg)
-names_accepted files cfg_name rec_name (inl none) = none.0
-names_accepted files cfg_name rec_name (inr unserved) = (unserved.0, unserved.3.configuration)
+-- ---- words and files call for one status
 
-unbuilt_not_due : (words : List (List ℕ)) (files : List NamedBytes) (status : Status) → IsDue words files status → UnbuiltBy words (Some files) → ⊥
-unbuilt_not_due words files Good (inl check) (inl later) = later_not_check words check.0 check.1 later
-unbuilt_not_due words files Good (inl check) (inr unbuilt) = replay_not_check words unbuilt.0 unbuilt.1 check.0 unbuilt.2 check.1
-unbuilt_not_due words files Good (inr replay) (inl later) = later_not_replay words replay.0 replay.1 replay.2 later
-unbuilt_not_due words files Good (inr replay) (inr unbuilt) =
-    let same = same_files words unbuilt.0 unbuilt.1 replay.0 replay.1 unbuilt.2 replay.2 in
-    said_or_not files replay.0 replay.1 (replay.3, replay.4, replay.5, replay.6, replay.7)
-    (subst (λ (n : List ℕ). NoRecord files replay.0 n ⊎ NoService files replay.0 n) same.1
-    (subst (λ (n : List ℕ). NoRecord files n unbuilt.1 ⊎ NoService files n unbuilt.1) same.0 unbuilt.3))
-unbuilt_not_due words files Usage usage (inl later) = usage.later later
-unbuilt_not_due words files Usage usage (inr unbuilt) = usage.replay unbuilt.0 unbuilt.1 unbuilt.2
-unbuilt_not_due words files ended.Config (name, inl check, line, kind, refused) (inl later) = later_not_check words name check later
-unbuilt_not_due words files ended.Config (name, inl check, line, kind, refused) (inr unbuilt) = replay_not_check words unbuilt.0 unbuilt.1 name unbuilt.2 check
-unbuilt_not_due words files ended.Config (name, inr replay, line, kind, refused) (inl later) = later_not_replay words name replay.0 replay.1 later
-unbuilt_not_due words files ended.Config (name, inr replay, line, kind, refused) (inr unbuilt) =
-    let same = same_files words unbuilt.0 unbuilt.1 name replay.0 unbuilt.2 replay.1 in
-    let accepted = names_accepted files unbuilt.0 unbuilt.1 unbuilt.3 in
-    accepted_or_refused files name accepted.0 (line, kind) (subst (λ (n : List ℕ). Configured files n (Ok accepted.0)) same.0 accepted.1) refused
-unbuilt_not_due words files FileFault due unbuilt = due
-unbuilt_not_due words files OutFault due unbuilt = due
-unbuilt_not_due words files OutOfMemory due unbuilt = due
-unbuilt_not_due words files Unbuilt due unbuilt = due
+abbrev NamesRecord : List (List ℕ) → List ℕ → Type 0
+NamesRecord words rec = IsCheckRecord words rec ⊎ ((cfg : List ℕ) × IsReplay words cfg rec)
 
--- where the program stops without an answer, and no write failed, memory ran out
-pub breaks_due : (words : List (List ℕ)) (files : Option (List NamedBytes)) (told : List NamedBytes) (builder : Builder) (last : List ℕ) (before now : ℕ) (old new : Option (List ℕ)) (s : Stop) (status : Status)
-    → files ≡ Some told → IsDue words told status → (Rose before now → ⊥) → Breaks words files builder last before now old new s → (status_of s ≡ status) ⊎ (status_of s ≡ OutOfMemory)
-breaks_due words files told builder last before now old new (stops.Usage text) status is due never broke = absurd broke
-breaks_due words files told builder last before now old new (stops.Refused line kind) status is due never broke = absurd broke
-breaks_due words files told builder last before now old new (stops.File name) status is due never broke = absurd broke
-breaks_due words files told builder last before now old new stops.Output status is due never broke = absurd (never broke.0)
-breaks_due words files told builder last before now old new stops.Unbuilt status is due never broke = absurd (unbuilt_not_due words told status due (subst (UnbuiltBy words) is broke.0))
-breaks_due words files told builder last before now old new stops.OutOfMemory status is due never broke = inr refl
+record_named : (words : List (List ℕ)) (files : List NamedBytes) (rec : List ℕ) → IsCheckRecord words rec ⊎ ((cfg_name : List ℕ) × IsReplay words cfg_name rec × (cfg : Config) × Configured files cfg_name (Ok cfg)) → NamesRecord words rec
+record_named words files rec (inl is) = inl is
+record_named words files rec (inr (cfg_name, is, cfg, ok)) = inr (cfg_name, is)
+
+config_named : (words : List (List ℕ)) (name : List ℕ) → IsCheck words name ⊎ ((connections : ℕ) × IsServe words name connections) → NamesConfig words name
+config_named words name (inl check) = inl check
+config_named words name (inr serve) = inr (inr serve)
+
+good_or_usage : (words : List (List ℕ)) (files : List NamedBytes) → IsDue words files Good → IsUsage words → ⊥
+good_or_usage words files (inl (name, inl check, cfg, ok)) usage = usage.check name check
+good_or_usage words files (inl (name, inr (count, serve), cfg, ok)) usage = usage.serve name count serve
+good_or_usage words files (inr (inl (rec, is, r, ok))) usage = usage.check_record rec is
+good_or_usage words files (inr (inr (inl (cfg, rec, is, c, r, say)))) usage = usage.replay cfg rec is
+good_or_usage words files (inr (inr (inr (inl (seed, exchanges, is))))) usage = usage.drill seed exchanges is
+good_or_usage words files (inr (inr (inr (inr (inl help))))) usage = usage.help help
+good_or_usage words files (inr (inr (inr (inr (inr version))))) usage = usage.version version
+
+config_or_usage : (words : List (List ℕ)) (files : List NamedBytes) → IsDue words files ended.Config → IsUsage words → ⊥
+config_or_usage words files (name, inl check, line, kind, refused) usage = usage.check name check
+config_or_usage words files (name, inr (inl (rec, is)), line, kind, refused) usage = usage.replay name rec is
+config_or_usage words files (name, inr (inr (count, is)), line, kind, refused) usage = usage.serve name count is
+
+record_or_usage : (words : List (List ℕ)) (files : List NamedBytes) → IsDue words files ended.Record → IsUsage words → ⊥
+record_or_usage words files (rec, place, kind, refused, inl is) usage = usage.check_record rec is
+record_or_usage words files (rec, place, kind, refused, inr (cfg, is, c, ok)) usage = usage.replay cfg rec is
+
+good_or_config : (words : List (List ℕ)) (files : List NamedBytes) → IsDue words files Good → IsDue words files ended.Config → ⊥
+good_or_config words files (inl (name, how, cfg, ok)) (other, named, line, kind, refused) =
+    accepted_or_refused files name other cfg (line, kind) (same_config_name words name other (config_named words name how) named) ok refused
+good_or_config words files (inr (inl (rec, is, r, ok))) (other, named, line, kind, refused) = record_or_config words rec other is named
+good_or_config words files (inr (inr (inl (name, rec, is, cfg, r, say)))) (other, named, line, kind, refused) =
+    accepted_or_refused files name other cfg (line, kind) (same_config_name words name other (inr (inl (rec, is))) named) say.configuration refused
+good_or_config words files (inr (inr (inr none))) (other, named, line, kind, refused) = fileless_or_config words other none named
+
+good_or_record : (words : List (List ℕ)) (files : List NamedBytes) → IsDue words files Good → IsDue words files ended.Record → ⊥
+good_or_record words files (inl (name, inl check, cfg, ok)) (rec, place, kind, refused, how) = check_or_record words name rec check (record_named words files rec how)
+good_or_record words files (inl (name, inr (count, serve), cfg, ok)) (rec, place, kind, refused, how) = serve_or_record words name rec count serve (record_named words files rec how)
+good_or_record words files (inr (inl (name, is, r, ok))) (rec, place, kind, refused, how) =
+    record_or_refused files name rec r (record { place = place; kind = kind }) (same_record_name words name rec (inl is) (record_named words files rec how)) ok refused
+good_or_record words files (inr (inr (inl (cfg_name, name, is, cfg, r, say)))) (rec, place, kind, refused, how) =
+    record_or_refused files name rec r (record { place = place; kind = kind }) (same_record_name words name rec (inr (cfg_name, is)) (record_named words files rec how)) say.accepted refused
+good_or_record words files (inr (inr (inr none))) (rec, place, kind, refused, how) = fileless_or_record words rec none (record_named words files rec how)
+
+config_or_record : (words : List (List ℕ)) (files : List NamedBytes) → IsDue words files ended.Config → IsDue words files ended.Record → ⊥
+config_or_record words files (name, named, line, kind, refused) (rec, place, what, err, inl is) = record_or_config words rec name is named
+config_or_record words files (name, named, line, kind, refused) (rec, place, what, err, inr (cfg_name, is, cfg, ok)) =
+    accepted_or_refused files cfg_name name cfg (line, kind) (same_config_name words cfg_name name (inr (inl (rec, is))) named) ok refused
+
+pub due_once : (words : List (List ℕ)) (files : List NamedBytes) (a b : Status) → IsDue words files a → IsDue words files b → a ≡ b
+due_once words files Good Good p q = refl
+due_once words files Good Usage p q = absurd (good_or_usage words files p q)
+due_once words files Good ended.Config p q = absurd (good_or_config words files p q)
+due_once words files Good ended.Record p q = absurd (good_or_record words files p q)
+due_once words files Usage Good p q = absurd (good_or_usage words files q p)
+due_once words files Usage Usage p q = refl
+due_once words files Usage ended.Config p q = absurd (config_or_usage words files q p)
+due_once words files Usage ended.Record p q = absurd (record_or_usage words files q p)
+due_once words files ended.Config Good p q = absurd (good_or_config words files q p)
+due_once words files ended.Config Usage p q = absurd (config_or_usage words files p q)
+due_once words files ended.Config ended.Config p q = refl
+due_once words files ended.Config ended.Record p q = absurd (config_or_record words files p q)
+due_once words files ended.Record Good p q = absurd (good_or_record words files q p)
+due_once words files ended.Record Usage p q = absurd (record_or_usage words files p q)
+due_once words files ended.Record ended.Config p q = absurd (config_or_record words files q p)
+due_once words files ended.Record ended.Record p q = refl
+due_once words files FileFault b p q = absurd p
+due_once words files OutFault b p q = absurd p
+due_once words files NetFault b p q = absurd p
+due_once words files OutOfMemory b p q = absurd p
+due_once words files Good FileFault p q = absurd q
+due_once words files Good OutFault p q = absurd q
+due_once words files Good NetFault p q = absurd q
+due_once words files Good OutOfMemory p q = absurd q
+due_once words files Usage FileFault p q = absurd q
+due_once words files Usage OutFault p q = absurd q
+due_once words files Usage NetFault p q = absurd q
+due_once words files Usage OutOfMemory p q = absurd q
+due_once words files ended.Config FileFault p q = absurd q
+due_once words files ended.Config OutFault p q = absurd q
+due_once words files ended.Config NetFault p q = absurd q
+due_once words files ended.Config OutOfMemory p q = absurd q
+due_once words files ended.Record FileFault p q = absurd q
+due_once words files ended.Record OutFault p q = absurd q
+due_once words files ended.Record NetFault p q = absurd q
+due_once words files ended.Record OutOfMemory p q = absurd q
+
+-- ---- what is written is what is due
+
+pub of_told : (files : Option (List NamedBytes)) (fs : List NamedBytes) (P : List NamedBytes → Type 0) → files ≡ Some fs → IfTold files P → P fs
+of_told files fs P is told = subst (λ (f : Option (List NamedBytes)). IfTold f P) is told
+
+pub good_due : (words : List (List ℕ)) (files : Option (List NamedBytes)) (fs : List NamedBytes) (text : List ℕ) → files ≡ Some fs → IsGood words files text → IsDue words fs Good
+good_due words files fs text told (inl (name, is, (cfg, ok, line))) = inl (name, inl is, cfg, of_told files fs _ told ok)
+good_due words files fs text told (inr (inl (rec, is, (r, ok, wrote)))) = inr (inl (rec, is, r, of_told files fs _ told ok))
+good_due words files fs text told (inr (inr (inl (name, rec, is, (cfg, r, say, wrote))))) = inr (inr (inl (name, rec, is, cfg, r, of_told files fs _ told say)))
+good_due words files fs text told (inr (inr (inr (inl (seed, exchanges, is, wrote))))) = inr (inr (inr (inl (seed, exchanges, is))))
+good_due words files fs text told (inr (inr (inr (inr texts)))) = inr (inr (inr (inr texts)))
+
+unbuilt : (fs : List NamedBytes) (builder : Builder) (name : List ℕ) (line : ℕ) (kind : CfgKind) → (Rose builder.before builder.now → ⊥) → IsRefused (Some fs) builder name line kind → Configured fs name (Err (line, kind))
+unbuilt fs builder name line kind never (None, (text, content, (refuses, builds))) = (text, content, refuses)
+unbuilt fs builder name line kind never (Some number, (text, content, (refuses, builds))) = absurd (never builds.0)
+
+pub refused_due : (words : List (List ℕ)) (files : Option (List NamedBytes)) (fs : List NamedBytes) (builder : Builder) (name : List ℕ) (line : ℕ) (kind : CfgKind) → files ≡ Some fs → (Rose builder.before builder.now → ⊥)
+    → NamesConfig words name → IsRefused files builder name line kind → IsDue words fs ended.Config
+refused_due words files fs builder name line kind told never named refused =
+    (name, named, line, kind, unbuilt fs builder name line kind never (subst (λ (f : Option (List NamedBytes)). IsRefused f builder name line kind) told refused))
+
+decided : (words : List (List ℕ)) (files : Option (List NamedBytes)) (fs : List NamedBytes) (rec : List ℕ) → files ≡ Some fs → DecidesRecord words files rec
+    → IsCheckRecord words rec ⊎ ((cfg_name : List ℕ) × IsReplay words cfg_name rec × (cfg : Config) × Configured fs cfg_name (Ok cfg))
+decided words files fs rec told (inl is) = inl is
+decided words files fs rec told (inr (cfg_name, is, accepted)) =
+    let said = of_told files fs (λ f. (cfg : Config) × Configured f cfg_name (Ok cfg)) told accepted in inr (cfg_name, is, said.0, said.1)
+
+pub record_due : (words : List (List ℕ)) (files : Option (List NamedBytes)) (fs : List NamedBytes) (rec : List ℕ) (refusal : records.Refusal) → files ≡ Some fs → DecidesRecord words files rec
+    → IfTold files (λ f. RecordIs f rec (Err refusal)) → IsDue words fs ended.Record
+record_due words files fs rec refusal told decides refused =
+    (rec, refusal.place, refusal.kind, of_told files fs _ told refused, decided words files fs rec told decides)

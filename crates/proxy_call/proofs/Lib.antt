@@ -1,4 +1,8 @@
 pub mod Causes
+pub mod Drill
 pub mod Due
-pub mod Reported
+pub mod Endings
+pub mod Stopped
 pub mod Told
+pub mod Words
+pub mod Writing

@@ -1,13 +1,20 @@
 -- What a command is answered: which text is written with which status, by the words and the files.
-use Rattle.std.specs.Prelude.{◌≡◌, ℕ, ◌+◌, List, ◌++◌, ◌⊎◌, length, Option, Ok, Err}
+use Rattle.std.specs.Prelude.{◌≡◌, ℕ, ◌+◌, List, ◌⊎◌, length, Option, None, Ok, Err}
 use Rattle.px_link.specs.Told.{NamedBytes, GainsFront}
 use Rattle.http_rules.specs.declared.config.Config.{Config}
+use Rattle.cfg_parse.specs.Whole.{config_of}
 use Rattle.cfg_parse.specs.declared.fault.CfgKind.{CfgKind}
-use Rattle.px_command.specs.Command.{IsCheck, IsReplay, IsLater, IsHelp, IsVersion, IsUsage, NamesConfig}
-use Rattle.proxy_call.specs.Lines.{accepted_line, refused_line, file_line}
-use Rattle.proxy_call.specs.Replay.{IfTold, Builder, Configured, Refuses, Say, IsReportOf, NoService, FilesUnbuilt}
+use Rattle.drill_session.specs.Drill.{configuration}
+use Rattle.proxy_meaning.specs.Product.{meaning_of}
+use Rattle.px_command.specs.Command.{IsCheck, IsCheckRecord, IsReplay, IsServe, IsDrill, IsHelp, IsVersion, IsUsage, NamesConfig}
+use Rattle.rec_format.specs.declared.record.RecKind.{RecKind}
+use Rattle.rec_format.specs.Recorded.{Recorded}
+use Rattle.rec_format.specs.Written.{written}
+use Rattle.replay_run.specs.Written.{IsReplayOf, IsDrillOf}
+use Rattle.proxy_call.specs.Lines.{accepted_line, refused_line, record_line, file_line}
+use Rattle.proxy_call.specs.Files.{IfTold, Builder, Configured, RecordIs, Refuses, Say}
 use Rattle.proxy_call.specs.declared.status.Status.{Status}
-use Rattle.proxy_call.specs.declared.status.Status.TheVariants.{Good, Usage, FileFault, OutFault, OutOfMemory, Unbuilt}
+use Rattle.proxy_call.specs.declared.status.Status.TheVariants.{Good, Usage, FileFault, OutFault, NetFault, OutOfMemory}
 use Rattle.proxy_call.specs.declared.status.Status.TheVariants as ended
 
 -- the file's text is accepted as a configuration, where files are told
@@ -28,50 +35,81 @@ abbrev pub IsRefusedOf : Option (List NamedBytes) → Builder → (cfg_name text
 IsRefusedOf files builder cfg_name text =
     (line : ℕ) × (kind : CfgKind) × IsRefused files builder cfg_name line kind × (text ≡ refused_line line kind)
 
--- The name is that of a file whose read decides: the configuration's, which is read first, or the record's, which is read
--- only where the configuration is accepted.
-abbrev pub DecidesBy : List (List ℕ) → Option (List NamedBytes) → (name : List ℕ) → Type 0
-DecidesBy words files name =
-    NamesConfig words name ⊎ ((cfg_name : List ℕ) × IsReplay words cfg_name name × IsAccepted files cfg_name)
+-- the text is the record of the file in the second format
+abbrev pub IsRewritten : Option (List NamedBytes) → (rec_name text : List ℕ) → Type 0
+IsRewritten files rec_name text = (r : Recorded) × IfTold files (λ fs. RecordIs fs rec_name (Ok r)) × (text ≡ written r)
 
--- The text is what the words ask for: the line of `check`, the report of `replay`, or a text of help, which tests show.
+-- the text is the line of a record that is refused
+abbrev pub IsRecordRefusedOf : Option (List NamedBytes) → (rec_name text : List ℕ) → Type 0
+IsRecordRefusedOf files rec_name text =
+    (place : ℕ) × (kind : RecKind) × IfTold files (λ fs. RecordIs fs rec_name (Err (record { place = place; kind = kind }))) × (text ≡ record_line place kind)
+
+-- the text is the report of the record in its format, by what the configuration makes of its connections
+abbrev pub IsReportOf : Option (List NamedBytes) → (cfg_name rec_name text : List ℕ) → Type 0
+IsReportOf files cfg_name rec_name text =
+    (cfg : Config) × (rec : Recorded) × IfTold files (λ fs. Say fs cfg_name rec_name cfg rec) × IsReplayOf (meaning_of cfg) rec text
+
+-- the text is the lines of the generated session, by what its own configuration makes of it
+abbrev pub IsDrilled : (seed exchanges : ℕ) → (text : List ℕ) → Type 0
+IsDrilled seed exchanges text = (cfg : Config) × (config_of configuration None ≡ Ok cfg) × IsDrillOf (meaning_of cfg) seed exchanges text
+
+-- The name is that of the record: `check --record` reads it at once, and `replay` only where the configuration is accepted.
+abbrev pub DecidesRecord : List (List ℕ) → Option (List NamedBytes) → (name : List ℕ) → Type 0
+DecidesRecord words files name =
+    IsCheckRecord words name ⊎ ((cfg_name : List ℕ) × IsReplay words cfg_name name × IsAccepted files cfg_name)
+
+-- the name is that of a file whose read decides: the configuration's, which is read first, or the record's
+abbrev pub DecidesBy : List (List ℕ) → Option (List NamedBytes) → (name : List ℕ) → Type 0
+DecidesBy words files name = NamesConfig words name ⊎ DecidesRecord words files name
+
+-- the words are `serve`
+abbrev pub NamesServe : List (List ℕ) → Type 0
+NamesServe words = (cfg_name : List ℕ) × (connections : ℕ) × IsServe words cfg_name connections
+
+-- The text is what the words ask for: the line of `check`, the record of `check --record`, the report of `replay`, the lines of
+-- `drill`, or a text of help, which tests show. What `serve` writes is said with what it does.
 abbrev pub IsGood : List (List ℕ) → Option (List NamedBytes) → (text : List ℕ) → Type 0
 IsGood words files text =
     ((cfg_name : List ℕ) × IsCheck words cfg_name × IsCheckOf files cfg_name text)
+    ⊎ (((rec_name : List ℕ) × IsCheckRecord words rec_name × IsRewritten files rec_name text)
     ⊎ (((cfg_name : List ℕ) × (rec_name : List ℕ) × IsReplay words cfg_name rec_name × IsReportOf files cfg_name rec_name text)
-    ⊎ (IsHelp words ⊎ IsVersion words))
+    ⊎ (((seed : ℕ) × (exchanges : ℕ) × IsDrill words seed exchanges × IsDrilled seed exchanges text)
+    ⊎ (IsHelp words ⊎ IsVersion words))))
 
 -- The text is what is written with this status, where the last failed read was of this name. A usage text is shown by tests.
 abbrev pub IsAnswer : List (List ℕ) → Option (List NamedBytes) → Builder → (last : List ℕ) → Status → (text : List ℕ) → Type 0
 IsAnswer words files builder last Good text = IsGood words files text
 IsAnswer words files builder last Usage text = IsUsage words
 IsAnswer words files builder last ended.Config text = (cfg_name : List ℕ) × NamesConfig words cfg_name × IsRefusedOf files builder cfg_name text
+IsAnswer words files builder last ended.Record text = (rec_name : List ℕ) × DecidesRecord words files rec_name × IsRecordRefusedOf files rec_name text
 IsAnswer words files builder last FileFault text = DecidesBy words files last × (text ≡ file_line last)
 IsAnswer words files builder last OutFault text = ⊥
+IsAnswer words files builder last NetFault text = ⊥
 IsAnswer words files builder last OutOfMemory text = ⊥
-IsAnswer words files builder last Unbuilt text = ⊥
 
 -- a front of what some status writes was written
 abbrev pub WritesFront : List (List ℕ) → Option (List NamedBytes) → Builder → (last : List ℕ) → (old new : Option (List ℕ)) → Type 0
 WritesFront words files builder last old new =
     (status : Status) × (text : List ℕ) × IsAnswer words files builder last status text × GainsFront old new text
 
--- what isn't built yet: `serve` and `drill`, or what the files of `replay` say
-abbrev pub UnbuiltBy : List (List ℕ) → Option (List NamedBytes) → Type 0
-UnbuiltBy words files =
-    IsLater words
-    ⊎ ((cfg_name : List ℕ) × (rec_name : List ℕ) × IsReplay words cfg_name rec_name × FilesUnbuilt files cfg_name rec_name)
+-- the words ask for what no file says: a generated session, or a text of help
+abbrev pub AsksNoFile : List (List ℕ) → Type 0
+AsksNoFile words = ((seed : ℕ) × (exchanges : ℕ) × IsDrill words seed exchanges) ⊎ (IsHelp words ⊎ IsVersion words)
 
 -- The words and the files, where they are told, call for this status: nothing but a fault or memory is in the way.
 abbrev pub IsDue : List (List ℕ) → List NamedBytes → Status → Type 0
 IsDue words files Good =
-    ((cfg_name : List ℕ) × IsCheck words cfg_name × (cfg : Config) × Configured files cfg_name (Ok cfg))
-    ⊎ ((cfg_name : List ℕ) × (rec_name : List ℕ) × IsReplay words cfg_name rec_name
-    × (cfg : Config) × (client : List ℕ) × (body : List ℕ) × Say files cfg_name rec_name cfg client body × (NoService files cfg_name rec_name → ⊥))
+    ((cfg_name : List ℕ) × (IsCheck words cfg_name ⊎ ((connections : ℕ) × IsServe words cfg_name connections)) × (cfg : Config) × Configured files cfg_name (Ok cfg))
+    ⊎ (((rec_name : List ℕ) × IsCheckRecord words rec_name × (r : Recorded) × RecordIs files rec_name (Ok r))
+    ⊎ (((cfg_name : List ℕ) × (rec_name : List ℕ) × IsReplay words cfg_name rec_name × (cfg : Config) × (r : Recorded) × Say files cfg_name rec_name cfg r)
+    ⊎ AsksNoFile words))
 IsDue words files Usage = IsUsage words
 IsDue words files ended.Config =
     (cfg_name : List ℕ) × NamesConfig words cfg_name × (line : ℕ) × (kind : CfgKind) × Configured files cfg_name (Err (line, kind))
+IsDue words files ended.Record =
+    (rec_name : List ℕ) × (place : ℕ) × (kind : RecKind) × RecordIs files rec_name (Err (record { place = place; kind = kind }))
+    × (IsCheckRecord words rec_name ⊎ ((cfg_name : List ℕ) × IsReplay words cfg_name rec_name × (cfg : Config) × Configured files cfg_name (Ok cfg)))
 IsDue words files FileFault = ⊥
 IsDue words files OutFault = ⊥
+IsDue words files NetFault = ⊥
 IsDue words files OutOfMemory = ⊥
-IsDue words files Unbuilt = ⊥

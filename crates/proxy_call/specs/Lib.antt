@@ -1,4 +1,6 @@
 pub mod Answers
+pub mod Ends
+pub mod Files
 pub mod Lines
-pub mod Replay
+pub mod Serving
 pub mod Stops

@@ -1,15 +1,17 @@
--- Why a command stops, by its words and files, and what the steps of the program give.
-use Rattle.std.specs.Prelude.{◌≡◌, ℕ, List, ◌⊎◌, Option, Result, Ok, Err}
-use Rattle.px_link.specs.Told.{NamedBytes, Gains, Rose}
+-- Why a command stops, and what the steps of the program give.
+use Rattle.std.specs.Prelude.{◌≡◌, ℕ, List, ⊤, Option, Result, Ok, Err}
+use Rattle.px_link.specs.Told.{NamedBytes, Rose}
 use Rattle.px_link.specs.declared.fault.Fault.{Fault}
 use Rattle.px_link.specs.declared.fault.Fault.TheVariants as links
 use Rattle.cfg_parse.specs.declared.fault.CfgFault.{CfgFault}
 use Rattle.cfg_parse.specs.declared.fault.CfgFault.TheVariants as configurations
-use Rattle.forward_core.specs.declared.exchange.ExchangeFault.{ExchangeFault}
-use Rattle.forward_core.specs.declared.exchange.ExchangeFault.TheVariants as exchanges
 use Rattle.px_command.specs.Command.{IsUsage, NamesConfig}
-use Rattle.proxy_call.specs.Answers.{DecidesBy, IsAnswer, IsGood, IsRefused, UnbuiltBy, WritesFront}
-use Rattle.proxy_call.specs.Replay.{Builder}
+use Rattle.rec_format.specs.declared.record.RecFault.{RecFault}
+use Rattle.rec_format.specs.declared.record.RecFault.TheVariants as records
+use Rattle.serve_run.specs.declared.outcome.ServeFault.{ServeFault}
+use Rattle.serve_run.specs.declared.outcome.ServeFault.TheVariants as serving
+use Rattle.proxy_call.specs.Answers.{DecidesBy, DecidesRecord, IsAnswer, IsGood, IsRefused}
+use Rattle.proxy_call.specs.Files.{IfTold, Builder, RecordIs}
 use Rattle.proxy_call.specs.declared.status.Status.{Status}
 use Rattle.proxy_call.specs.declared.status.Status.TheVariants as ended
 use Rattle.proxy_call.specs.declared.reply.Reply.{Reply}
@@ -26,9 +28,14 @@ abbrev pub stop_of_configuration : CfgFault → Stop
 stop_of_configuration (configurations.Refused line kind) = stops.Refused line kind
 stop_of_configuration configurations.OutOfMemory = stops.OutOfMemory
 
-abbrev pub stop_of_exchange : ExchangeFault → Stop
-stop_of_exchange exchanges.Unbuilt = stops.Unbuilt
-stop_of_exchange exchanges.OutOfMemory = stops.OutOfMemory
+abbrev pub stop_of_record : RecFault → Stop
+stop_of_record (records.Refused place kind) = stops.Record place kind
+stop_of_record records.OutOfMemory = stops.OutOfMemory
+
+abbrev pub stop_of_serving : ServeFault → Stop
+stop_of_serving serving.Net = stops.Net
+stop_of_serving serving.Output = stops.Output
+stop_of_serving serving.OutOfMemory = stops.OutOfMemory
 
 -- ---- what a stop means
 
@@ -36,60 +43,70 @@ stop_of_exchange exchanges.OutOfMemory = stops.OutOfMemory
 abbrev pub status_of : Stop → Status
 status_of (stops.Usage text) = ended.Usage
 status_of (stops.Refused line kind) = ended.Config
+status_of (stops.Record place kind) = ended.Record
 status_of (stops.File name) = ended.FileFault
 status_of stops.Output = ended.OutFault
-status_of stops.Unbuilt = ended.Unbuilt
+status_of stops.Net = ended.NetFault
 status_of stops.OutOfMemory = ended.OutOfMemory
 
--- The words and the files make a command stop so, where the last failed read was of this name, and the count of failed reads
--- went from one number to the other.
-abbrev pub StopsBy : List (List ℕ) → Option (List NamedBytes) → Builder → (last : List ℕ) → (before now : ℕ) → Stop → Type 0
-StopsBy words files builder last before now (stops.Usage text) = IsUsage words
-StopsBy words files builder last before now (stops.Refused line kind) = (cfg_name : List ℕ) × NamesConfig words cfg_name × IsRefused files builder cfg_name line kind
-StopsBy words files builder last before now (stops.File name) = Rose before now × (last ≡ name.now) × DecidesBy words files name.now
-StopsBy words files builder last before now stops.Output = ⊥
-StopsBy words files builder last before now stops.Unbuilt = UnbuiltBy words files
-StopsBy words files builder last before now stops.OutOfMemory = Unit {0}
+-- What a command was given: its words, the files, the builder, the name of the last failed read, and the count of failed reads before
+-- and now.
+pub record Input : Type 0 where
+  pub words : List (List ℕ)
+  pub files : Option (List NamedBytes)
+  pub builder : Builder
+  pub last : List ℕ
+  pub reads : ℕ
+  pub reads_now : ℕ
+
+abbrev pub given : List (List ℕ) → Option (List NamedBytes) → Builder → (last : List ℕ) → (reads reads_now : ℕ) → Input
+given words files builder last reads reads_now = record {
+  words = words;
+  files = files;
+  builder = builder;
+  last = last;
+  reads = reads;
+  reads_now = reads_now;
+}
+
+-- The words and the files make a command stop so, before anything is written.
+abbrev pub StopsBy : Input → Stop → Type 0
+StopsBy input (stops.Usage text) = IsUsage input.words
+StopsBy input (stops.Refused line kind) = (cfg_name : List ℕ) × NamesConfig input.words cfg_name × IsRefused input.files input.builder cfg_name line kind
+StopsBy input (stops.Record place kind) =
+    (rec_name : List ℕ) × DecidesRecord input.words input.files rec_name × IfTold input.files (λ fs. RecordIs fs rec_name (Err (record { place = place; kind = kind })))
+StopsBy input (stops.File name) = Rose input.reads input.reads_now × (input.last ≡ name.now) × DecidesBy input.words input.files name.now
+StopsBy input stops.Output = ⊥
+StopsBy input stops.Net = ⊥
+StopsBy input stops.OutOfMemory = ⊤
 
 -- a read of this name stops so
 abbrev pub ReadStops : (name last : List ℕ) → (before now : ℕ) → Stop → Type 0
 ReadStops name last before now (stops.Usage text) = ⊥
 ReadStops name last before now (stops.Refused line kind) = ⊥
+ReadStops name last before now (stops.Record place kind) = ⊥
 ReadStops name last before now (stops.File failed) = Rose before now × (last ≡ failed.now) × (failed.now ≡ name)
 ReadStops name last before now stops.Output = ⊥
-ReadStops name last before now stops.Unbuilt = ⊥
-ReadStops name last before now stops.OutOfMemory = Unit {0}
+ReadStops name last before now stops.Net = ⊥
+ReadStops name last before now stops.OutOfMemory = ⊤
 
--- a command gives what its words and files ask for
-abbrev pub Answers : List (List ℕ) → Option (List NamedBytes) → Builder → (last : List ℕ) → (before now : ℕ) → Result (List ℕ) Stop → Type 0
-Answers words files builder last before now (Ok text) = IsGood words files text
-Answers words files builder last before now (Err stop) = StopsBy words files builder last before now stop
+-- a command makes the text that its words and files ask for, or stops
+abbrev pub Answers : Input → Result (List ℕ) Stop → Type 0
+Answers input (Ok text) = IsGood input.words input.files text
+Answers input (Err stop) = StopsBy input stop
 
--- nothing is to be written for a stop
-abbrev pub IsSilent : List (List ℕ) → Option (List NamedBytes) → Stop → Type 0
-IsSilent words files (stops.Usage text) = ⊥
-IsSilent words files (stops.Refused line kind) = ⊥
-IsSilent words files (stops.File name) = ⊥
-IsSilent words files stops.Output = ⊥
-IsSilent words files stops.Unbuilt = UnbuiltBy words files
-IsSilent words files stops.OutOfMemory = Unit {0}
+-- nothing is written for a stop
+abbrev pub IsSilent : Stop → Type 0
+IsSilent (stops.Usage text) = ⊥
+IsSilent (stops.Refused line kind) = ⊥
+IsSilent (stops.Record place kind) = ⊥
+IsSilent (stops.File name) = ⊥
+IsSilent stops.Output = ⊤
+IsSilent stops.Net = ⊤
+IsSilent stops.OutOfMemory = ⊤
 
--- a reply is written as an answer, with its cause in the count where it tells a fault, or nothing is to be written
-abbrev pub Replies : List (List ℕ) → Option (List NamedBytes) → Builder → (last : List ℕ) → (before now : ℕ) → Result Reply Stop → Type 0
-Replies words files builder last before now (Ok reply) = IsAnswer words files builder last reply.status reply.text × (reply.status ≡ ended.FileFault → Rose before now)
-Replies words files builder last before now (Err stop) = IsSilent words files stop
-
--- what was written when the program stops without an answer, where the count of failed writes went from one number to the other
-abbrev pub Breaks : List (List ℕ) → Option (List NamedBytes) → Builder → (last : List ℕ) → (before now : ℕ) → (old new : Option (List ℕ)) → Stop → Type 0
-Breaks words files builder last before now old new (stops.Usage text) = ⊥
-Breaks words files builder last before now old new (stops.Refused line kind) = ⊥
-Breaks words files builder last before now old new (stops.File name) = ⊥
-Breaks words files builder last before now old new stops.Output = Rose before now × WritesFront words files builder last old new
-Breaks words files builder last before now old new stops.Unbuilt = UnbuiltBy words files × (new ≡ old)
-Breaks words files builder last before now old new stops.OutOfMemory = (new ≡ old) ⊎ WritesFront words files builder last old new
-
--- the program has written an answer, or stops without one
-abbrev pub Ends : List (List ℕ) → Option (List NamedBytes) → Builder → (last : List ℕ) → (reads reads_now writes writes_now : ℕ) → (old new : Option (List ℕ)) → Result Status Stop → Type 0
-Ends words files builder last reads reads_now writes writes_now old new (Ok status) =
-    ((text : List ℕ) × IsAnswer words files builder last status text × Gains old new text) × (status ≡ ended.FileFault → Rose reads reads_now)
-Ends words files builder last reads reads_now writes writes_now old new (Err stop) = Breaks words files builder last writes writes_now old new stop
+-- a reply is written as an answer, with its cause in the count where it tells a fault, or memory ran out
+abbrev pub Replies : Input → Result Reply Stop → Type 0
+Replies input (Ok reply) =
+    IsAnswer input.words input.files input.builder input.last reply.status reply.text × (reply.status ≡ ended.FileFault → Rose input.reads input.reads_now)
+Replies input (Err stop) = stop ≡ stops.OutOfMemory

@@ -1,19 +1,20 @@
-//! What the words and the files come to. The first step that is refused decides: words, configuration file,
-//! configuration, record file, record, session.
-ghost use Rattle.std.specs.Prelude.{◌≡◌, ◌≤◌, ℕ, List, map, string_bytes, IfOk, IfErr};
-ghost use Rattle.px_link.specs.Told.{Reads};
+//! The texts that commands make of their files. The first step that is refused decides: configuration file, configuration, record
+//! file, record, session.
+ghost use Rattle.std.specs.Prelude.{◌≡◌, ◌≤◌, ℕ, List, Option, Ok, IfOk, IfErr};
+ghost use Rattle.px_link.specs.Told.{NamedBytes, Reads};
 ghost use Rattle.http_rules.specs.Valid.{IsValid};
-ghost use Rattle.px_command.specs.Command.{IsCheck, IsReplay, NamesConfig};
-ghost use Rattle.proxy_call.specs.Replay.{IfTold, Configured, told_by};
-ghost use Rattle.proxy_call.specs.Stops.{Answers, ReadStops, StopsBy};
+ghost use Rattle.px_command.specs.Command.{IsCheck, IsCheckRecord, IsReplay, IsDrill, NamesConfig};
+ghost use Rattle.proxy_call.specs.Files.{IfTold, Builder, Configured, told_by};
+ghost use Rattle.proxy_call.specs.Stops.{Answers, ReadStops, StopsBy, given};
 
 use crate::lines::accepted_line;
-use crate::report::report_by;
 use crate::stop::Stop;
 use cfg_parse::{Config, MAX_TEXT, load};
-use px_command::{Asked, asked_by, help_text, version_text};
+use proxy_sessions::{drill_lines, replay_report};
 use px_link::{Bytes, Fault, Files};
 use px_pattern::Patterns;
+use rec_format::laws::reportable;
+use rec_format::{read_record, write_record};
 use std::alloc::Global;
 
 /// The most bytes of a record.
@@ -39,7 +40,7 @@ fn read<'a, F: Files>(
 }
 
 /// The configuration that a file says.
-fn configuration<'a, F: Files, P: Patterns>(
+pub fn configuration<'a, F: Files, P: Patterns>(
     alloc: Global,
     files: &mut F,
     name: &'a str,
@@ -48,7 +49,7 @@ fn configuration<'a, F: Files, P: Patterns>(
     ensures accepted { IfOk result (λ cfg. IfTold (F.files files.old) (λ fs. Configured fs name.now (Ok cfg))) }
     ensures valid { IfOk result IsValid }
     ensures stop { (words : List (List ℕ)) → NamesConfig words name.now
-        → IfErr result (StopsBy words (F.files files.old) (told_by (P.refusals pats.old) (P.refusals pats.new) (P.last_refused pats.new)) (F.last_failed files.new) (F.faults files.old) (F.faults files.new)) }
+        → IfErr result (StopsBy (given words (F.files files.old) (told_by (P.refusals pats.old) (P.refusals pats.new) (P.last_refused pats.new)) (F.last_failed files.new) (F.faults files.old) (F.faults files.new))) }
     ensures grows { F.faults files.old ≤ F.faults files.new }
     ensures files { F.files files.new ≡ F.files files.old }
 {
@@ -58,22 +59,36 @@ fn configuration<'a, F: Files, P: Patterns>(
 }
 
 /// The line of `check CFG` for an accepted configuration.
-fn check<'a, F: Files, P: Patterns>(
+pub fn check<'a, F: Files, P: Patterns>(
     alloc: Global,
     files: &mut F,
     name: &'a str,
     pats: &mut P,
 ) -> Result<Bytes, Stop<'a>>
     ensures { (words : List (List ℕ)) → IsCheck words name.now
-        → Answers words (F.files files.old) (told_by (P.refusals pats.old) (P.refusals pats.new) (P.last_refused pats.new)) (F.last_failed files.new) (F.faults files.old) (F.faults files.new) result }
+        → Answers (given words (F.files files.old) (told_by (P.refusals pats.old) (P.refusals pats.new) (P.last_refused pats.new)) (F.last_failed files.new) (F.faults files.old) (F.faults files.new)) result }
 {
     let cfg = configuration(alloc, files, name, pats)?;
     let answers = cfg.answer_rule_count();
     Ok(accepted_line(alloc, cfg.request.len(), answers, cfg.filter_count())?)
 }
 
+/// The record of `check --record REC`, in the second format.
+pub fn check_record<'a, F: Files>(
+    alloc: Global,
+    files: &mut F,
+    name: &'a str,
+) -> Result<Bytes, Stop<'a>>
+    ensures { (words : List (List ℕ)) (builder : Builder) → IsCheckRecord words name.now
+        → Answers (given words (F.files files.old) builder (F.last_failed files.new) (F.faults files.old) (F.faults files.new)) result }
+{
+    let text = read(alloc, files, name, MAX_RECORD + 1)?;
+    let record = read_record(alloc, text.as_slice())?;
+    Ok(write_record(alloc, &record)?)
+}
+
 /// The report of `replay CFG REC`.
-fn replay<'a, F: Files, P: Patterns>(
+pub fn replay<'a, F: Files, P: Patterns>(
     alloc: Global,
     files: &mut F,
     cfg_name: &'a str,
@@ -81,28 +96,25 @@ fn replay<'a, F: Files, P: Patterns>(
     pats: &mut P,
 ) -> Result<Bytes, Stop<'a>>
     ensures { (words : List (List ℕ)) → IsReplay words cfg_name.now rec_name.now
-        → Answers words (F.files files.old) (told_by (P.refusals pats.old) (P.refusals pats.new) (P.last_refused pats.new)) (F.last_failed files.new) (F.faults files.old) (F.faults files.new) result }
+        → Answers (given words (F.files files.old) (told_by (P.refusals pats.old) (P.refusals pats.new) (P.last_refused pats.new)) (F.last_failed files.new) (F.faults files.old) (F.faults files.new)) result }
 {
     let cfg = configuration(alloc, files, cfg_name, pats)?;
     let text = read(alloc, files, rec_name, MAX_RECORD + 1)?;
-    Ok(report_by(alloc, &cfg, text.as_slice())?)
+    let record = read_record(alloc, text.as_slice())?;
+    reportable();
+    Ok(replay_report(alloc, &cfg, &record)?)
 }
 
-/// What the words ask for.
-pub fn answer<'a, F: Files, P: Patterns>(
+/// The lines of `drill SEED COUNT`. The configuration of generated sessions is accepted, so only memory can be in the way.
+pub fn drill<'a, P: Patterns>(
     alloc: Global,
-    words: &'a [String],
-    files: &mut F,
+    seed: u32,
+    exchanges: u32,
     pats: &mut P,
 ) -> Result<Bytes, Stop<'a>>
-    ensures { Answers (map string_bytes words.now) (F.files files.old) (told_by (P.refusals pats.old) (P.refusals pats.new) (P.last_refused pats.new)) (F.last_failed files.new) (F.faults files.old) (F.faults files.new) result }
+    ensures { (words : List (List ℕ)) (files : Option (List NamedBytes)) (builder : Builder) (last : List ℕ) (reads reads_now : ℕ) → IsDrill words seed exchanges
+        → Answers (given words files builder last reads reads_now) result }
 {
-    match asked_by(alloc, words)? {
-        Asked::Check { cfg } => check(alloc, files, cfg, pats),
-        Asked::Replay { cfg, rec } => replay(alloc, files, cfg, rec, pats),
-        Asked::Later => Err(Stop::Unbuilt),
-        Asked::Help => Ok(help_text(alloc)?),
-        Asked::Version => Ok(version_text(alloc)?),
-        Asked::Usage { text } => Err(Stop::Usage { text }),
-    }
+    let cfg = load(alloc, drill_session::configuration(), pats)?;
+    Ok(drill_lines(alloc, &cfg, seed, exchanges)?)
 }

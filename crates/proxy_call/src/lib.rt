@@ -1,10 +1,11 @@
-//! The program's one call: words, files and an output go in; what was written and the status come out.
+//! The program's one call: words, files, a net and an output go in; what was written and the status come out.
 #![tactic(auto)]
 
 mod answer;
 mod lines;
 mod reply;
-mod report;
+mod run;
+mod serving;
 mod status;
 mod stop;
 mod top;

@@ -1,10 +1,11 @@
 //! The lines that the program writes itself.
 ghost use Rattle.std.specs.Prelude.{◌≡◌, IfOk, codes};
-ghost use Rattle.proxy_call.specs.Lines.{kind_name, accepted_line, refused_line, file_line};
+ghost use Rattle.proxy_call.specs.Lines.{kind_name, record_kind_name, accepted_line, refused_line, record_line, file_line};
 
 use cfg_parse::CfgKind;
 use http_model::OutOfMemory;
 use px_link::Bytes;
+use rec_format::RecKind;
 use std::alloc::Global;
 
 fn kind_name(kind: CfgKind) -> &'static str
@@ -21,6 +22,19 @@ fn kind_name(kind: CfgKind) -> &'static str
         CfgKind::FramingName => "FramingName",
         CfgKind::Limit => "Limit",
         CfgKind::Missing => "Missing",
+    }
+}
+
+fn record_kind_name(kind: RecKind) -> &'static str
+    ensures { result.now ≡ record_kind_name kind }
+{
+    match kind {
+        RecKind::Header => "Header",
+        RecKind::Length => "Length",
+        RecKind::Turn => "Turn",
+        RecKind::Rest => "Rest",
+        RecKind::Limit => "Limit",
+        RecKind::Count => "Count",
     }
 }
 
@@ -53,6 +67,19 @@ pub fn refused_line(alloc: Global, line: u32, kind: CfgKind) -> Result<Bytes, Ou
     text.push(line.to_string(alloc)?.as_bytes())?;
     text.push(b": ")?;
     text.push(kind_name(kind).as_bytes())?;
+    text.push(b"\n")?;
+    Ok(text)
+}
+
+/// A record is refused at this byte.
+#[tactic(auto, unfolding(crate::specs::Lines::record_line))]
+pub fn record_line(alloc: Global, place: u32, kind: RecKind) -> Result<Bytes, OutOfMemory>
+    ensures { IfOk result (λ text. text ≡ record_line place kind) }
+{
+    let mut text = Bytes::copy(alloc, b"record: byte ")?;
+    text.push(place.to_string(alloc)?.as_bytes())?;
+    text.push(b": ")?;
+    text.push(record_kind_name(kind).as_bytes())?;
     text.push(b"\n")?;
     Ok(text)
 }

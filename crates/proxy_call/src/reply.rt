@@ -1,15 +1,12 @@
-//! What is written, and the status with it.
-ghost use Rattle.std.specs.Prelude.{◌≡◌, ℕ, List, Option, map, string_bytes};
-ghost use Rattle.px_link.specs.Told.{NamedBytes};
-ghost use Rattle.proxy_call.specs.Replay.{Builder, told_by};
-ghost use Rattle.proxy_call.specs.Stops.{Replies, StopsBy};
+//! What is written where a command stops, and the status with it.
+ghost use Rattle.std.specs.Prelude.{◌≡◌, ℕ, Err};
+ghost use Rattle.proxy_call.specs.Ends.{Says, Tells, put};
+ghost use Rattle.proxy_call.specs.Stops.{Input, IsSilent, Replies, StopsBy, status_of};
 
-use crate::answer::answer;
-use crate::lines::{file_line, refused_line};
+use crate::lines::{file_line, record_line, refused_line};
 use crate::status::Status;
 use crate::stop::Stop;
-use px_link::{Bytes, Files};
-use px_pattern::Patterns;
+use px_link::{Bytes, Sink};
 use std::alloc::Global;
 
 /// What is to be written with a status.
@@ -20,9 +17,9 @@ pub struct Reply {
 }
 
 /// What is written for a stop, or the stop itself where nothing is.
-fn told<'a>(alloc: Global, stop: Stop<'a>) -> Result<Reply, Stop<'a>>
-    ensures { (words : List (List ℕ)) (files : Option (List NamedBytes)) (builder : Builder) (last : List ℕ) (before now : ℕ)
-        → StopsBy words files builder last before now stop.entry → Replies words files builder last before now result }
+fn reply_to<'a>(alloc: Global, stop: Stop<'a>) -> Result<Reply, Stop<'a>>
+    ensures told { (input : Input) → StopsBy input stop.entry → Replies input result }
+    ensures silent { IsSilent stop.entry → result ≡ Err stop.entry }
 {
     match stop {
         Stop::Usage { text } => Ok(Reply {
@@ -33,30 +30,39 @@ fn told<'a>(alloc: Global, stop: Stop<'a>) -> Result<Reply, Stop<'a>>
             status: Status::Config,
             text: refused_line(alloc, line, kind)?,
         }),
+        Stop::Record { place, kind } => Ok(Reply {
+            status: Status::Record,
+            text: record_line(alloc, place, kind)?,
+        }),
         Stop::File { name } => Ok(Reply {
             status: Status::FileFault,
             text: file_line(alloc, name)?,
         }),
         Stop::Output => Err(Stop::Output),
-        Stop::Unbuilt => Err(Stop::Unbuilt),
+        Stop::Net => Err(Stop::Net),
         Stop::OutOfMemory => Err(Stop::OutOfMemory),
     }
 }
 
-/// What the words are answered.
-pub fn reply_to<'a, F: Files, P: Patterns>(
-    alloc: Global,
-    words: &'a [String],
-    files: &mut F,
-    pats: &mut P,
-) -> Result<Reply, Stop<'a>>
-    ensures { Replies (map string_bytes words.now) (F.files files.old) (told_by (P.refusals pats.old) (P.refusals pats.new) (P.last_refused pats.new)) (F.last_failed files.new) (F.faults files.old) (F.faults files.new) result }
+/// Writes what is told of a stop, where there is something to tell.
+fn say<'a, K: Sink>(alloc: Global, stop: Stop<'a>, out: &mut K) -> Result<Status, Stop<'a>>
+    ensures told { (input : Input) → StopsBy input stop.entry
+        → Says input (put (K.faults out.old) (K.faults out.new) (K.written out.old) (K.written out.new)) result }
+    ensures silent { IsSilent stop.entry → (result ≡ Err stop.entry) × (out.new ≡ out.old) }
 {
-    match answer(alloc, words, files, pats) {
-        Ok(text) => Ok(Reply {
-            status: Status::Good,
-            text,
-        }),
-        Err(stop) => told(alloc, stop),
+    let reply = reply_to(alloc, stop)?;
+    out.write_all(reply.text.as_slice())?;
+    Ok(reply.status)
+}
+
+/// Writes what is told of a stop, and gives the status that the program ends with.
+pub fn end<'a, K: Sink>(alloc: Global, stop: Stop<'a>, out: &mut K) -> Status
+    ensures told { (input : Input) → StopsBy input stop.entry
+        → Tells input (put (K.faults out.old) (K.faults out.new) (K.written out.old) (K.written out.new)) result }
+    ensures silent { IsSilent stop.entry → (result ≡ status_of stop.entry) × (out.new ≡ out.old) }
+{
+    match say(alloc, stop, out) {
+        Ok(status) => status,
+        Err(stop) => stop.status(),
     }
 }

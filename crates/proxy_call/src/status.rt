@@ -9,11 +9,14 @@ pub enum Status {
     Usage = 1,
     /// The configuration is refused.
     Config = 2,
+    /// The record is refused.
+    Record = 3,
     /// A file could not be read.
     FileFault = 4,
     /// The output could not be written.
     OutFault = 5,
+    /// A bind or an accept failed.
+    NetFault = 6,
+    /// The machine has no memory left.
     OutOfMemory = 7,
-    /// The command, or what its files say, isn't built yet. Nothing is written.
-    Unbuilt = 8,
 }

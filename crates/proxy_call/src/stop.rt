@@ -4,9 +4,10 @@ ghost use Rattle.proxy_call.specs.Stops.{status_of};
 
 use crate::status::Status;
 use cfg_parse::{CfgFault, CfgKind};
-use forward_core::ExchangeFault;
 use http_model::OutOfMemory;
+use proxy_sessions::ServeFault;
 use px_link::{Bytes, Fault};
+use rec_format::{RecFault, RecKind};
 
 /// Why a command stops.
 #[derive(Drop)]
@@ -15,12 +16,15 @@ pub enum Stop<'a> {
     Usage { text: Bytes },
     /// The configuration is refused at this line.
     Refused { line: u32, kind: CfgKind },
+    /// The record is refused at this byte.
+    Record { place: u32, kind: RecKind },
     /// The file of this name could not be read.
     File { name: &'a str },
     /// The output could not be written.
     Output,
-    /// The command, or what its files say, isn't built yet.
-    Unbuilt,
+    /// A bind or an accept failed.
+    Net,
+    /// The machine has no memory left.
     OutOfMemory,
 }
 
@@ -32,9 +36,10 @@ impl<'a> Stop<'a> {
         match self {
             Stop::Usage { .. } => Status::Usage,
             Stop::Refused { .. } => Status::Config,
+            Stop::Record { .. } => Status::Record,
             Stop::File { .. } => Status::FileFault,
             Stop::Output => Status::OutFault,
-            Stop::Unbuilt => Status::Unbuilt,
+            Stop::Net => Status::NetFault,
             Stop::OutOfMemory => Status::OutOfMemory,
         }
     }
@@ -80,16 +85,31 @@ impl<'a> From<CfgFault> for Stop<'a> {
     }
 }
 
-impl<'a> From<ExchangeFault> for Stop<'a> {
+impl<'a> From<RecFault> for Stop<'a> {
     ghost use Rattle.std.specs.Prelude.{◌≡◌};
-    ghost use Rattle.proxy_call.specs.Stops.{stop_of_exchange};
+    ghost use Rattle.proxy_call.specs.Stops.{stop_of_record};
 
-    ghost from_gives = { λ fault stop. stop ≡ stop_of_exchange fault };
+    ghost from_gives = { λ fault stop. stop ≡ stop_of_record fault };
 
-    fn from(fault: ExchangeFault) -> Self {
+    fn from(fault: RecFault) -> Self {
         match fault {
-            ExchangeFault::Unbuilt => Stop::Unbuilt,
-            ExchangeFault::OutOfMemory => Stop::OutOfMemory,
+            RecFault::Refused { place, kind } => Stop::Record { place, kind },
+            RecFault::OutOfMemory => Stop::OutOfMemory,
+        }
+    }
+}
+
+impl<'a> From<ServeFault> for Stop<'a> {
+    ghost use Rattle.std.specs.Prelude.{◌≡◌};
+    ghost use Rattle.proxy_call.specs.Stops.{stop_of_serving};
+
+    ghost from_gives = { λ fault stop. stop ≡ stop_of_serving fault };
+
+    fn from(fault: ServeFault) -> Self {
+        match fault {
+            ServeFault::Net => Stop::Net,
+            ServeFault::Output => Stop::Output,
+            ServeFault::OutOfMemory => Stop::OutOfMemory,
         }
     }
 }

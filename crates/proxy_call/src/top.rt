@@ -1,47 +1,47 @@
 //! The program's one call.
-ghost use Rattle.std.specs.Prelude.{◌≡◌, ◌⊎◌, ℕ, List, map, string_bytes, Some};
+ghost use Rattle.std.specs.Prelude.{◌≡◌, ◌⊎◌, ◌∷◌, ◌++◌, [], ℕ, List, Option, map, string_bytes, Some};
+ghost use Rattle.px_link.specs.Net.{Coming, Kept, address_of, with_address};
 ghost use Rattle.px_link.specs.Told.{NamedBytes, Rose, Gains};
-ghost use Rattle.px_command.specs.Command.{IsUsage, NamesConfig};
+ghost use Rattle.px_command.specs.Command.{IsServe, IsUsage, NamesConfig};
+ghost use Rattle.serve_run.specs.Lines.{net_line};
+ghost use Rattle.serve_run.specs.Served.{Breaks, NetFails, ServedAll};
+ghost use Rattle.serve_run.specs.Told.{Visited};
 ghost use Rattle.proxy_call.specs.Lines.{file_line};
-ghost use Rattle.proxy_call.specs.Answers.{IsGood, IsRefusedOf, DecidesBy, WritesFront, UnbuiltBy, IsDue};
-ghost use Rattle.proxy_call.specs.Replay.{told_by};
-ghost use Rattle.proxy_call.specs.Stops.{Ends};
+ghost use Rattle.proxy_call.specs.Answers.{IsGood, IsRefusedOf, IsRecordRefusedOf, DecidesRecord, DecidesBy, NamesServe, WritesFront, IsDue};
+ghost use Rattle.proxy_call.specs.Files.{told_by};
+ghost use Rattle.proxy_call.specs.Serving.{GainsBind, ServedBy, Serving};
 
-use crate::reply::reply_to;
+use crate::reply::end;
+use crate::run::run;
 use crate::status::Status;
-use crate::stop::Stop;
-use px_link::{Files, Sink};
+use px_link::{Files, Net, Sink};
 use px_pattern::Patterns;
 use std::alloc::Global;
 
-/// Runs the command, and writes what it came to.
-fn run<'a, F: Files, K: Sink, P: Patterns>(
-    alloc: Global,
-    words: &'a [String],
-    files: &mut F,
-    out: &mut K,
-    pats: &mut P,
-) -> Result<Status, Stop<'a>>
-    ensures { Ends (map string_bytes words.now) (F.files files.old) (told_by (P.refusals pats.old) (P.refusals pats.new) (P.last_refused pats.new)) (F.last_failed files.new)
-        (F.faults files.old) (F.faults files.new) (K.faults out.old) (K.faults out.new) (K.written out.old) (K.written out.new) result }
-{
-    let reply = reply_to(alloc, words, files, pats)?;
-    out.write_all(reply.text.as_slice())?;
-    Ok(reply.status)
-}
-
-/// The program: reads the words, runs the command that they name, and writes what it came to. `pats` builds the patterns of a
-/// configuration.
-pub fn htx_proxy<F: Files, K: Sink, P: Patterns>(
+/// The program: reads the words, runs the command that they name, and writes what it came to. Only `serve` makes calls on the net.
+/// `pats` builds the patterns of a configuration.
+pub fn htx_proxy<F: Files, N: Net, K: Sink, P: Patterns>(
     alloc: Global,
     words: &[String],
     files: &mut F,
+    net: &mut N,
     out: &mut K,
     pats: &mut P,
 ) -> Status
-    // Good has written what the words ask for, and nothing else.
-    ensures good { result ≡ Status.Good → (text : List ℕ) × IsGood (map string_bytes words.now) (F.files files.old) text
-        × Gains (K.written out.old) (K.written out.new) text }
+    // Good has written what the words ask for, and nothing else. What `serve` did follows.
+    ensures good { result ≡ Status.Good → NamesServe (map string_bytes words.now)
+        ⊎ ((text : List ℕ) × IsGood (map string_bytes words.now) (F.files files.old) text × Gains (K.written out.old) (K.written out.new) text) }
+
+    // Good of `serve`: the net was bound, so many connections were served by the configuration, one after another, and their lines
+    // were written and nothing else.
+    ensures served { result ≡ Status.Good → NamesServe (map string_bytes words.now) → Serving (map string_bytes words.now) (F.files files.old)
+        (λ cfg count. ServedAll N.seen (ServedBy N.Link.seen N.Link.wrote N.seen cfg) (address_of cfg.bind) count net.old net.new (K.written out.old) (K.written out.new)) }
+
+    // Where the net tells its links, so many were accepted, in order, and each connection's servers and then its client were kept.
+    ensures told { (cfg_name : List ℕ) (count : ℕ) → IsServe (map string_bytes words.now) cfg_name count → result ≡ Status.Good
+        → (coming : List Coming) (answers : List (Option Coming)) (kept : List Kept)
+        → (N.seen net.old).accepts ≡ Some coming → (N.seen net.old).answers ≡ Some answers → (N.seen net.old).kept ≡ Some kept
+        → Visited (N.seen net.new) coming kept count }
 
     // Usage comes only for words that are no command, and has written a usage text.
     ensures usage { result ≡ Status.Usage → IsUsage (map string_bytes words.now)
@@ -52,6 +52,10 @@ pub fn htx_proxy<F: Files, K: Sink, P: Patterns>(
     ensures config { result ≡ Status.Config → (name : List ℕ) × NamesConfig (map string_bytes words.now) name
         × (text : List ℕ) × IsRefusedOf (F.files files.old) (told_by (P.refusals pats.old) (P.refusals pats.new) (P.last_refused pats.new)) name text × Gains (K.written out.old) (K.written out.new) text }
 
+    // Record comes only where the record is refused, and has written the first byte of the line and what must stand there.
+    ensures record_refused { result ≡ Status.Record → (name : List ℕ) × DecidesRecord (map string_bytes words.now) (F.files files.old) name
+        × (text : List ℕ) × IsRecordRefusedOf (F.files files.old) name text × Gains (K.written out.old) (K.written out.new) text }
+
     // A fault has its cause in the object that was handed in. The file is the one that decides: the record's only where the
     // configuration is accepted.
     ensures file_fault { result ≡ Status.FileFault → Rose (F.faults files.old) (F.faults files.new) }
@@ -59,27 +63,47 @@ pub fn htx_proxy<F: Files, K: Sink, P: Patterns>(
     ensures file_line { result ≡ Status.FileFault → Gains (K.written out.old) (K.written out.new) (file_line (F.last_failed files.new)) }
     ensures out_fault { result ≡ Status.OutFault → Rose (K.faults out.old) (K.faults out.new) }
 
+    // NetFault comes only in `serve`: a bind or an accept failed, and its count rose. The lines of exactly the connections before it
+    // and then `net` were written.
+    ensures net_fault { result ≡ Status.NetFault → Serving (map string_bytes words.now) (F.files files.old)
+        (λ cfg count. NetFails N.seen (ServedBy N.Link.seen N.Link.wrote N.seen cfg) (address_of cfg.bind) count net_line net.old net.new (K.written out.old) (K.written out.new)) }
+
     // With a fault of the output a front of what another status would have written was written.
     ensures front { result ≡ Status.OutFault
-        → WritesFront (map string_bytes words.now) (F.files files.old) (told_by (P.refusals pats.old) (P.refusals pats.new) (P.last_refused pats.new)) (F.last_failed files.new) (K.written out.old) (K.written out.new) }
+        → WritesFront (map string_bytes words.now) (F.files files.old) (told_by (P.refusals pats.old) (P.refusals pats.new) (P.last_refused pats.new)) (F.last_failed files.new) (K.written out.old) (K.written out.new)
+        ⊎ Serving (map string_bytes words.now) (F.files files.old)
+        (λ cfg count. Breaks N.seen (ServedBy N.Link.seen N.Link.wrote N.seen cfg) (address_of cfg.bind) count net.old net.new (K.written out.old) (K.written out.new)) }
 
     // Where memory ran out, nothing or such a front was written.
     ensures memory { result ≡ Status.OutOfMemory → (K.written out.new ≡ K.written out.old)
-        ⊎ WritesFront (map string_bytes words.now) (F.files files.old) (told_by (P.refusals pats.old) (P.refusals pats.new) (P.last_refused pats.new)) (F.last_failed files.new) (K.written out.old) (K.written out.new) }
+        ⊎ (WritesFront (map string_bytes words.now) (F.files files.old) (told_by (P.refusals pats.old) (P.refusals pats.new) (P.last_refused pats.new)) (F.last_failed files.new) (K.written out.old) (K.written out.new)
+        ⊎ Serving (map string_bytes words.now) (F.files files.old)
+        (λ cfg count. Breaks N.seen (ServedBy N.Link.seen N.Link.wrote N.seen cfg) (address_of cfg.bind) count net.old net.new (K.written out.old) (K.written out.new))) }
 
-    // What isn't built yet is one of the cases that are named, and nothing is written.
-    ensures unbuilt { result ≡ Status.Unbuilt → UnbuiltBy (map string_bytes words.now) (F.files files.old) }
-    ensures silent { result ≡ Status.Unbuilt → K.written out.new ≡ K.written out.old }
+    // The net gains at most the configuration's address among those of binds, and has it where `serve` answers Good.
+    ensures binds { result ≡ Status.Good → NamesServe (map string_bytes words.now) → Serving (map string_bytes words.now) (F.files files.old)
+        (λ cfg count. GainsBind (N.seen net.old) (N.seen net.new) cfg) }
+    ensures bound { ((N.seen net.new).bound ≡ (N.seen net.old).bound)
+        ⊎ Serving (map string_bytes words.now) (F.files files.old) (λ cfg count. GainsBind (N.seen net.old) (N.seen net.new) cfg) }
+
+    // It gains at most the configuration's server among those of connects, and has back each link that it lent.
+    ensures dialled { ((N.seen net.new).dialled ≡ (N.seen net.old).dialled)
+        ⊎ Serving (map string_bytes words.now) (F.files files.old) (λ cfg count. (N.seen net.new).dialled ≡ with_address (N.seen net.old).dialled (address_of cfg.server)) }
+    ensures lent { (N.seen net.new).lent ≡ (N.seen net.old).lent }
+
+    // Words other than those of `serve` leave the net as it was.
+    ensures untouched { (NamesServe (map string_bytes words.now) → ⊥) → net.new ≡ net.old }
 
     // Where nothing failed, only memory is in the way of the status that words and files call for.
     ensures complete { (fs : List NamedBytes) → F.files files.old ≡ Some fs
         → (status : Status) → IsDue (map string_bytes words.now) fs status
         → (Rose (F.faults files.old) (F.faults files.new) → ⊥) → (Rose (K.faults out.old) (K.faults out.new) → ⊥)
         → (Rose (P.refusals pats.old) (P.refusals pats.new) → ⊥)
+        → (NamesServe (map string_bytes words.now) → Rose (N.seen net.old).bind_faults (N.seen net.new).bind_faults → ⊥)
         → (result ≡ status) ⊎ (result ≡ Status.OutOfMemory) }
 {
-    match run(alloc, words, files, out, pats) {
-        Ok(status) => status,
-        Err(stop) => stop.status(),
+    match run(alloc, words, files, net, out, pats) {
+        Ok(()) => Status::Good,
+        Err(stop) => end(alloc, stop, out),
     }
 }

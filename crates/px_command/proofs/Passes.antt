@@ -1,15 +1,14 @@
 -- What `clap` makes of the lists that the program takes: it finds no fault in them.
-use Rattle.std.proofs.Common.{◌≡◌, ◌≢◌, ◌==◌, ◌⊎◌, inl, inr, ℕ, List, [], ◌∷◌, true, false, refl, sym, ap, ◌∙◌, subst, codes}
+use Rattle.std.proofs.Common.{◌≡◌, ◌≢◌, ◌==◌, ℕ, List, [], ◌∷◌, true, false, refl, sym, ap, ◌∙◌, subst, codes, inl, inr}
 use Rattle.std.proofs.lemmas.Bool.{ne_eqb}
 use Rattle.clap.specs.Words.{App, HasKind, IsAmong, is_simple_and_free, Text, fault_of, kind_of}
 use Rattle.clap.specs.declared.error.Error.{Error}
 use Rattle.clap.specs.declared.error.kind.ErrorKind.{ErrorKind}
 use Rattle.clap.specs.declared.error.kind.ErrorKind.TheVariants.{DisplayHelp, DisplayVersion, OutOfMemory}
 use Rattle.clap.proofs.OnLiterals.{clap_on_literals}
-use Rattle.px_command.specs.Command.{IsFileWord, IsCheck, IsReplay, IsLater, IsHelp, IsVersion, IsUsage}
-use Rattle.px_command.specs.Later.{IsServe, IsDrill}
+use Rattle.px_command.specs.Command.{IsFileWord, IsCheck, IsCheckRecord, IsReplay, IsServe, IsDrill, IsHelp, IsVersion, IsUsage}
 use Rattle.px_command.specs.Parser.{IsRefused, IsTaken, parser}
-use Rattle.px_command.proofs.Accepted.{check_is, replay_is, later_is, number_word}
+use Rattle.px_command.proofs.Accepted.{number_word}
 
 -- ---- by computing, with words of which no dash stands in front
 
@@ -17,6 +16,10 @@ module _ (x : ℕ) (a : List ℕ) (dash : (x == 45) ≡ false) where
   check_passes : fault_of parser (codes "check" ∷ (x ∷ a) ∷ []) ≡ []
   unfolding clap_on_literals
   check_passes = simp dash refl
+
+  check_record_passes : fault_of parser (codes "check" ∷ codes "--record" ∷ (x ∷ a) ∷ []) ≡ []
+  unfolding clap_on_literals
+  check_record_passes = simp dash refl
 
   module _ (y : ℕ) (b : List ℕ) (other : (y == 45) ≡ false) where
     replay_passes : fault_of parser (codes "replay" ∷ (x ∷ a) ∷ (y ∷ b) ∷ []) ≡ []
@@ -44,9 +47,9 @@ version_fault = refl
 not_dash : (x : ℕ) → x ≢ 45 → (x == 45) ≡ false
 not_dash x differs = ne_eqb x 45 differs
 
-one_passes : (a : Text) → IsFileWord a → fault_of parser (codes "check" ∷ a ∷ []) ≡ []
+one_passes : (a : Text) → IsFileWord a → (fault_of parser (codes "check" ∷ a ∷ []) ≡ []) × (fault_of parser (codes "check" ∷ codes "--record" ∷ a ∷ []) ≡ [])
 one_passes [] file = absurd file
-one_passes (x ∷ a) file = check_passes x a (not_dash x file)
+one_passes (x ∷ a) file = let p : (x == 45) ≡ false = not_dash x file in (check_passes x a p, check_record_passes x a p)
 
 two_pass : (a b : Text) → IsFileWord a → IsFileWord b → (fault_of parser (codes "replay" ∷ a ∷ b ∷ []) ≡ [])
     × (fault_of parser (codes "serve" ∷ a ∷ b ∷ []) ≡ []) × (fault_of parser (codes "drill" ∷ a ∷ b ∷ []) ≡ [])
@@ -57,15 +60,20 @@ two_pass (x ∷ a) (y ∷ b) file other =
     let q : (y == 45) ≡ false = not_dash y other in (replay_passes x a p y b q, serve_passes x a p y b q, drill_passes x a p y b q)
 
 passes_check : (ws : List Text) (cfg : Text) → IsCheck ws cfg → fault_of parser ws ≡ []
-passes_check ws cfg is = let list = check_is ws cfg is in ap (fault_of parser) list.0 ∙ one_passes cfg list.1
+passes_check ws cfg is = ap (fault_of parser) is.0 ∙ (one_passes cfg is.1).0
+
+passes_check_record : (ws : List Text) (rec : Text) → IsCheckRecord ws rec → fault_of parser ws ≡ []
+passes_check_record ws rec is = ap (fault_of parser) is.0 ∙ (one_passes rec is.1).1
 
 passes_replay : (ws : List Text) (cfg rec : Text) → IsReplay ws cfg rec → fault_of parser ws ≡ []
-passes_replay ws cfg rec is = let list = replay_is ws cfg rec is in ap (fault_of parser) list.0 ∙ (two_pass cfg rec list.1 list.2).0
+passes_replay ws cfg rec is = ap (fault_of parser) is.0 ∙ (two_pass cfg rec is.1 is.2).0
 
-passes_later : (ws : List Text) → IsServe ws ⊎ IsDrill ws → fault_of parser ws ≡ []
-passes_later ws (inl is) = ap (fault_of parser) is.2 ∙ (two_pass is.0 is.1 is.3 (number_word 1 1000000 is.1 is.4)).1
-passes_later ws (inr is) =
-    ap (fault_of parser) is.2 ∙ (two_pass is.0 is.1 (number_word 0 2147483647 is.0 is.3) (number_word 0 4000 is.1 is.4)).2
+passes_serve : (ws : List Text) (cfg : Text) (connections : ℕ) → IsServe ws cfg connections → fault_of parser ws ≡ []
+passes_serve ws cfg connections is = ap (fault_of parser) is.1 ∙ (two_pass cfg is.0 is.2 (number_word 1 1000000 is.0 connections is.3)).1
+
+passes_drill : (ws : List Text) (seed exchanges : ℕ) → IsDrill ws seed exchanges → fault_of parser ws ≡ []
+passes_drill ws seed exchanges is =
+    ap (fault_of parser) is.2 ∙ (two_pass is.0 is.1 (number_word 0 2147483647 is.0 seed is.3) (number_word 0 4000 is.1 exchanges is.4)).2
 
 -- ---- from a parse
 
@@ -84,8 +92,10 @@ pub refused_usage : (ws : List Text) (e : Error) → IsRefused ws e → (kind_of
 refused_usage ws e refused other help version =
     record {
       check = λ cfg is. only_memory ws e refused other (passes_check ws cfg is);
+      check_record = λ rec is. only_memory ws e refused other (passes_check_record ws rec is);
       replay = λ cfg rec is. only_memory ws e refused other (passes_replay ws cfg rec is);
-      later = λ is. only_memory ws e refused other (passes_later ws (later_is ws is));
+      serve = λ cfg connections is. only_memory ws e refused other (passes_serve ws cfg connections is);
+      drill = λ seed exchanges is. only_memory ws e refused other (passes_drill ws seed exchanges is);
       help = help;
       version = version;
     }
@@ -95,12 +105,16 @@ is_empty [] = Unit {0}
 is_empty (k ∷ kinds) = ⊥
 
 -- words that `clap` took ask for no text
-pub taken_usage : (ws : List Text) → IsTaken ws → ((cfg : Text) → IsCheck ws cfg → ⊥) → ((cfg rec : Text) → IsReplay ws cfg rec → ⊥) → (IsLater ws → ⊥) → IsUsage ws
-taken_usage ws taken check replay later =
+pub taken_usage : (ws : List Text) → IsTaken ws → ((cfg : Text) → IsCheck ws cfg → ⊥) → ((rec : Text) → IsCheckRecord ws rec → ⊥)
+    → ((cfg rec : Text) → IsReplay ws cfg rec → ⊥) → ((cfg : Text) (connections : ℕ) → IsServe ws cfg connections → ⊥)
+    → ((seed exchanges : ℕ) → IsDrill ws seed exchanges → ⊥) → IsUsage ws
+taken_usage ws taken check check_record replay serve drill =
     record {
       check = check;
+      check_record = check_record;
       replay = replay;
-      later = later;
+      serve = serve;
+      drill = drill;
       help = λ is. subst is_empty (sym taken ∙ ap (fault_of parser) is ∙ help_fault) tt;
       version = λ is. subst is_empty (sym taken ∙ ap (fault_of parser) is ∙ version_fault) tt;
     }

@@ -7,36 +7,31 @@ abbrev pub IsFileWord : List ℕ → Type 0
 IsFileWord [] = ⊥
 IsFileWord (b ∷ bytes) = b ≢ 45
 
--- a number of 1 to 10 decimal digits within bounds
-abbrev pub IsNumber : (least most : ℕ) → List ℕ → Type 0
-IsNumber least most word = (n : ℕ) × (decimal_of 10 word ≡ Some n) × (least ≤ n) × (n ≤ most)
+-- the word has 1 to 10 decimal digits, which are this number, within bounds
+abbrev pub IsNumber : (least most : ℕ) → (word : List ℕ) → (n : ℕ) → Type 0
+IsNumber least most word n = (decimal_of 10 word ≡ Some n) × (least ≤ n) × (n ≤ most)
 
 -- the words are `check CFG`
 abbrev pub IsCheck : List (List ℕ) → (cfg : List ℕ) → Type 0
-IsCheck [] cfg = ⊥
-IsCheck (command ∷ []) cfg = ⊥
-IsCheck (command ∷ first ∷ []) cfg = (command ≡ codes "check") × (first ≡ cfg) × IsFileWord cfg
-IsCheck (command ∷ first ∷ other ∷ words) cfg = ⊥
+IsCheck words cfg = (words ≡ codes "check" ∷ cfg ∷ []) × IsFileWord cfg
+
+-- the words are `check --record REC`
+abbrev pub IsCheckRecord : List (List ℕ) → (rec : List ℕ) → Type 0
+IsCheckRecord words rec = (words ≡ codes "check" ∷ codes "--record" ∷ rec ∷ []) × IsFileWord rec
 
 -- the words are `replay CFG REC`
 abbrev pub IsReplay : List (List ℕ) → (cfg rec : List ℕ) → Type 0
-IsReplay [] cfg rec = ⊥
-IsReplay (command ∷ []) cfg rec = ⊥
-IsReplay (command ∷ first ∷ []) cfg rec = ⊥
-IsReplay (command ∷ first ∷ second ∷ []) cfg rec =
-    (command ≡ codes "replay") × (first ≡ cfg) × (second ≡ rec) × IsFileWord cfg × IsFileWord rec
-IsReplay (command ∷ first ∷ second ∷ other ∷ words) cfg rec = ⊥
+IsReplay words cfg rec = (words ≡ codes "replay" ∷ cfg ∷ rec ∷ []) × IsFileWord cfg × IsFileWord rec
 
--- the words are `serve CFG COUNT`, with 1 to 1000000 connections, or `drill SEED COUNT`, with a seed of 0 to 2147483647 and
--- a count of 0 to 4000
-abbrev pub IsLater : List (List ℕ) → Type 0
-IsLater [] = ⊥
-IsLater (command ∷ []) = ⊥
-IsLater (command ∷ first ∷ []) = ⊥
-IsLater (command ∷ first ∷ second ∷ []) =
-    ((command ≡ codes "serve") × IsFileWord first × IsNumber 1 1000000 second)
-    ⊎ ((command ≡ codes "drill") × IsNumber 0 2147483647 first × IsNumber 0 4000 second)
-IsLater (command ∷ first ∷ second ∷ other ∷ words) = ⊥
+-- the words are `serve CFG COUNT`, with 1 to 1000000 connections
+abbrev pub IsServe : List (List ℕ) → (cfg : List ℕ) → (connections : ℕ) → Type 0
+IsServe words cfg connections =
+    (count : List ℕ) × (words ≡ codes "serve" ∷ cfg ∷ count ∷ []) × IsFileWord cfg × IsNumber 1 1000000 count connections
+
+-- the words are `drill SEED COUNT`, with a seed of 0 to 2147483647 and 0 to 4000 exchanges
+abbrev pub IsDrill : List (List ℕ) → (seed exchanges : ℕ) → Type 0
+IsDrill words seed exchanges =
+    (first : List ℕ) × (second : List ℕ) × (words ≡ codes "drill" ∷ first ∷ second ∷ []) × IsNumber 0 2147483647 first seed × IsNumber 0 4000 second exchanges
 
 -- the words are `--help`
 abbrev pub IsHelp : List (List ℕ) → Type 0
@@ -49,11 +44,13 @@ IsVersion words = words ≡ codes "--version" ∷ []
 -- the words are none of the lists that the program takes
 pub record IsUsage (words : List (List ℕ)) : Type 0 where
   pub check : (cfg : List ℕ) → IsCheck words cfg → ⊥
+  pub check_record : (rec : List ℕ) → IsCheckRecord words rec → ⊥
   pub replay : (cfg rec : List ℕ) → IsReplay words cfg rec → ⊥
-  pub later : IsLater words → ⊥
+  pub serve : (cfg : List ℕ) (connections : ℕ) → IsServe words cfg connections → ⊥
+  pub drill : (seed exchanges : ℕ) → IsDrill words seed exchanges → ⊥
   pub help : IsHelp words → ⊥
   pub version : IsVersion words → ⊥
 
 -- the configuration of a command is in the file of this name
 abbrev pub NamesConfig : List (List ℕ) → List ℕ → Type 0
-NamesConfig words cfg = IsCheck words cfg ⊎ ((rec : List ℕ) × IsReplay words cfg rec)
+NamesConfig words cfg = IsCheck words cfg ⊎ (((rec : List ℕ) × IsReplay words cfg rec) ⊎ ((connections : ℕ) × IsServe words cfg connections))

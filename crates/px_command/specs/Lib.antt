@@ -1,4 +1,3 @@
 pub mod Asked
 pub mod Command
-pub mod Later
 pub mod Parser

@@ -3,7 +3,7 @@ ghost use Rattle.std.specs.Prelude.{IfOk, map, string_bytes};
 ghost use Rattle.px_command.specs.Asked.{IsAsked};
 ghost use Rattle.px_command.specs.Parser.{IsTaken, IsRefused};
 
-use crate::lists::{check_file, is_later, replay_files};
+use crate::lists::{check_file, check_record_file, drill_numbers, replay_files, serve_words};
 use crate::parser::command;
 use crate::texts::{error_text, unlisted_text};
 use crate::words::is_alone;
@@ -18,10 +18,14 @@ use std::alloc::Global;
 pub enum Asked<'a> {
     /// `check CFG`.
     Check { cfg: &'a str },
+    /// `check --record REC`.
+    CheckRecord { rec: &'a str },
     /// `replay CFG REC`.
     Replay { cfg: &'a str, rec: &'a str },
-    /// `serve CFG COUNT` or `drill SEED COUNT`, which aren't built yet.
-    Later,
+    /// `serve CFG COUNT`.
+    Serve { cfg: &'a str, connections: u32 },
+    /// `drill SEED COUNT`.
+    Drill { seed: u32, exchanges: u32 },
     /// `--help`.
     Help,
     /// `--version`.
@@ -38,11 +42,17 @@ fn taken<'a>(alloc: Global, words: &'a [String]) -> Result<Asked<'a>, OutOfMemor
     if let Some(cfg) = check_file(words) {
         return Ok(Asked::Check { cfg });
     }
+    if let Some(rec) = check_record_file(words) {
+        return Ok(Asked::CheckRecord { rec });
+    }
     if let Some((cfg, rec)) = replay_files(words) {
         return Ok(Asked::Replay { cfg, rec });
     }
-    if is_later(words) {
-        return Ok(Asked::Later);
+    if let Some((cfg, connections)) = serve_words(words) {
+        return Ok(Asked::Serve { cfg, connections });
+    }
+    if let Some((seed, exchanges)) = drill_numbers(words) {
+        return Ok(Asked::Drill { seed, exchanges });
     }
     let text = unlisted_text(alloc)?;
     Ok(Asked::Usage { text })

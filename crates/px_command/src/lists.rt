@@ -1,9 +1,8 @@
 //! The lists of words that name a command.
-ghost use Rattle.std.specs.Prelude.{◌↔◌, ℕ, List, map, IsTrue, IfSome, IfNone, string_bytes};
-ghost use Rattle.px_command.specs.Command.{IsCheck, IsReplay, IsLater};
-ghost use Rattle.px_command.specs.Later.{IsServe, IsDrill};
+ghost use Rattle.std.specs.Prelude.{ℕ, List, map, IfSome, IfNone, string_bytes};
+ghost use Rattle.px_command.specs.Command.{IsCheck, IsCheckRecord, IsReplay, IsServe, IsDrill};
 
-use crate::words::{is_file_word, is_number, one_behind, two_behind};
+use crate::words::{is_file_word, number, one_behind, two_behind};
 
 /// The file of `check CFG`.
 pub fn check_file<'a>(words: &'a [String]) -> Option<&'a str>
@@ -15,6 +14,21 @@ pub fn check_file<'a>(words: &'a [String]) -> Option<&'a str>
         return None;
     }
     Some(cfg)
+}
+
+/// The file of `check --record REC`.
+pub fn check_record_file<'a>(words: &'a [String]) -> Option<&'a str>
+    ensures some { IfSome result (λ rec. IsCheckRecord (map string_bytes words.now) rec.now) }
+    ensures none { IfNone result ((rec : List ℕ) → IsCheckRecord (map string_bytes words.now) rec → ⊥) }
+{
+    let (flag, rec) = two_behind(words, "check")?;
+    if flag != "--record" {
+        return None;
+    }
+    if !is_file_word(rec) {
+        return None;
+    }
+    Some(rec)
 }
 
 /// The two files of `replay CFG REC`.
@@ -29,29 +43,26 @@ pub fn replay_files<'a>(words: &'a [String]) -> Option<(&'a str, &'a str)>
     Some((cfg, rec))
 }
 
-/// Whether the words are `serve CFG COUNT`.
-fn is_serve(words: &[String]) -> bool
-    ensures { IsTrue result ↔ IsServe (map string_bytes words.now) }
+/// The file and the number of connections of `serve CFG COUNT`.
+pub fn serve_words<'a>(words: &'a [String]) -> Option<(&'a str, u32)>
+    ensures some { IfSome result (λ told. IsServe (map string_bytes words.now) told.0.now told.1) }
+    ensures none { IfNone result ((cfg : List ℕ) (connections : ℕ) → IsServe (map string_bytes words.now) cfg connections → ⊥) }
 {
-    match two_behind(words, "serve") {
-        Some((cfg, count)) => is_file_word(cfg) && is_number(count, 1, 1000000),
-        None => false,
+    let (cfg, count) = two_behind(words, "serve")?;
+    if !is_file_word(cfg) {
+        return None;
     }
+    let connections = number(count, 1, 1000000)?;
+    Some((cfg, connections))
 }
 
-/// Whether the words are `drill SEED COUNT`.
-fn is_drill(words: &[String]) -> bool
-    ensures { IsTrue result ↔ IsDrill (map string_bytes words.now) }
+/// The seed and the number of exchanges of `drill SEED COUNT`.
+pub fn drill_numbers(words: &[String]) -> Option<(u32, u32)>
+    ensures some { IfSome result (λ told. IsDrill (map string_bytes words.now) told.0 told.1) }
+    ensures none { IfNone result ((seed exchanges : ℕ) → IsDrill (map string_bytes words.now) seed exchanges → ⊥) }
 {
-    match two_behind(words, "drill") {
-        Some((seed, count)) => is_number(seed, 0, 2147483647) && is_number(count, 0, 4000),
-        None => false,
-    }
-}
-
-/// Whether the words are `serve CFG COUNT` or `drill SEED COUNT`.
-pub fn is_later(words: &[String]) -> bool
-    ensures { IsTrue result ↔ IsLater (map string_bytes words.now) }
-{
-    is_serve(words) || is_drill(words)
+    let (first, second) = two_behind(words, "drill")?;
+    let seed = number(first, 0, 2147483647)?;
+    let exchanges = number(second, 0, 4000)?;
+    Some((seed, exchanges))
 }

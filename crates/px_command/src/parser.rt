@@ -2,7 +2,7 @@
 ghost use Rattle.std.specs.Prelude.{◌≡◌, ℕ, List, IfOk, false, codes};
 ghost use Rattle.clap.specs.Words.{app_of, rule_of, with_rule};
 ghost use Rattle.clap.specs.declared.builder.command.Command.TheViews.{out-Command};
-ghost use Rattle.px_command.specs.Parser.{word_rule, flag_rule, no_flag, one_word, two_words, top_level, parser};
+ghost use Rattle.px_command.specs.Parser.{word_rule, flag_rule, no_flag, one_word, two_words, check_shape, top_level, parser};
 
 use clap::{Arg, ArgAction, Command};
 use std::alloc::{AllocError, Global};
@@ -23,7 +23,7 @@ fn cfg_word<'a>(alloc: Global) -> Arg<'a>
     word(alloc, "CFG", "The file of the configuration")
 }
 
-/// A flag that asks for a text.
+/// A flag.
 fn flag<'a>(alloc: Global, name: &'a str, action: ArgAction, help: &'a str) -> Arg<'a>
     ensures rule { rule_of result ≡ flag_rule name.now action }
     ensures local { result.global ≡ false }
@@ -69,17 +69,24 @@ fn two_words<'a>(
     one_word(alloc, name, about, first)?.arg(second)
 }
 
-/// `check CFG`.
+/// `check CFG` and `check --record REC`.
 pub fn check_command<'a>(alloc: Global) -> Result<Command<'a>, AllocError>
-    ensures app { IfOk result (λ c. app_of c ≡ one_word (codes "check") (codes "CFG")) }
+    ensures app { IfOk result (λ c. app_of c ≡ check_shape) }
     ensures local { IfOk result (λ c. (out-Command c).has_globals ≡ false) }
 {
-    one_word(
-        alloc,
-        "check",
-        "Reads a configuration, and says how many rules it has or what is wrong in which line",
-        cfg_word(alloc),
-    )
+    plain_command(alloc, "check")
+        .about("Reads a configuration or a record, and says what it is or where it is refused")
+        .arg(flag(
+            alloc,
+            "record",
+            ArgAction::SetTrue,
+            "The file is a record; writes it in the second format",
+        ))?
+        .arg(word(
+            alloc,
+            "FILE",
+            "The file of the configuration, or of the record behind --record",
+        ))
 }
 
 /// `replay CFG REC`.
@@ -104,7 +111,7 @@ pub fn serve_command<'a>(alloc: Global) -> Result<Command<'a>, AllocError>
     two_words(
         alloc,
         "serve",
-        "Serves connections (not built yet)",
+        "Serves connections, one after another, and writes a line for each",
         cfg_word(alloc),
         word(alloc, "COUNT", "How many connections, 1 to 1000000"),
     )
@@ -118,9 +125,9 @@ pub fn drill_command<'a>(alloc: Global) -> Result<Command<'a>, AllocError>
     two_words(
         alloc,
         "drill",
-        "Runs generated sessions (not built yet)",
+        "Runs a session of generated exchanges, and writes what was sent",
         word(alloc, "SEED", "Where generating begins, 0 to 2147483647"),
-        word(alloc, "COUNT", "How many sessions, 0 to 4000"),
+        word(alloc, "COUNT", "How many exchanges, 0 to 4000"),
     )
 }
 

@@ -6,33 +6,93 @@ use http_model::OutOfMemory;
 use px_link::Bytes;
 use std::alloc::Global;
 
+/// What help says behind `check`.
+const CHECK: &[u8] = b"
+Examples:
+  htx_proxy check site.cfg           writes `config ok: request rules 1, response rules 0, filters 0`
+  htx_proxy check --record site.rec  writes the record that site.rec holds, in its second format
+
+Refused in this order: the words (1), the file of the configuration (4), the configuration (2), the output (5); with
+--record the words (1), the file of the record (4), the record (3), the output (5).
+";
+
+/// What help says behind `replay`.
+const REPLAY: &[u8] = b"
+Example:
+  htx_proxy replay site.cfg site.rec  writes a report that begins with `PXREP 1`
+
+Refused in this order: the words (1), the file of the configuration (4), the configuration (2), the file of the record (4),
+the record (3), the output (5).
+";
+
+/// What help says behind `serve`.
+const SERVE: &[u8] = b"
+Example:
+  htx_proxy serve site.cfg 100  serves 100 connections, one after another, and writes a line for each once it is over
+
+Refused in this order: the words (1), the file of the configuration (4), the configuration (2); then a bind or an accept that
+fails (6), and the output (5).
+";
+
+/// What help says behind `drill`.
+const DRILL: &[u8] = b"
+Example:
+  htx_proxy drill 1 1  writes `exchanges 1`, `server bytes 1258`, `client bytes 14709` and `end done`
+
+Refused in this order: the words (1), the output (5).
+";
+
 /// What help says behind the commands.
 const REST: &[u8] = b"
-CFG and REC are names of files that do not begin with a dash. All that is written goes to standard output.
+FILE, CFG and REC are names of files that are not empty and do not begin with a dash. Numbers have 1 to 10 digits. All that is
+written goes to standard output.
 
 Status:
   0  the command did what it was asked to
   1  the words are no command
   2  the configuration is refused: `config: line L: KIND`
+  3  the record is refused: `record: byte P: KIND`
   4  a file could not be read: `file: NAME`
   5  the output could not be written
+  6  a bind or an accept failed: `net`
   7  there is no memory left
-  8  not built yet; nothing is written
+
+Byte P is the first one of the refused line, counted from 0. KIND tells what must stand there:
+  Header  `PXREC 1` or `PXREC 2`, as the first line
+  Count   in `PXREC 2`: `connections COUNT`, as the second line, from 1 on, and then so many clients
+  Length  `client LEN END`, `server LEN END TAKES` or `server refused`, where END is `closed` or `broke` and TAKES is `all`
+          or a number; behind a LEN so many bytes and a line feed
+  Turn    `turns COUNT`, and then so many lines `c N`, `C N`, `s N` or `S N`, with N from 1 to 262144; in `PXREC 2` the
+          number of the connection and a blank stand in front
+  Rest    `end`, as the last line, and nothing behind it
+  Limit   no more than 1024 connections, 65536 servers, 1000000 turns and 67108864 bytes
+Lines end with a line feed, and numbers have no zeros in front.
 ";
 
-/// Puts the help of one command behind the others.
-fn push_help(text: &mut Bytes, mut command: Command<'_>, name: &str) -> Result<(), OutOfMemory> {
+/// Puts the help of one command behind the others, and what is said of it behind that.
+fn push_help(
+    text: &mut Bytes,
+    mut command: Command<'_>,
+    name: &str,
+    rest: &[u8],
+) -> Result<(), OutOfMemory> {
     text.push(b"\n")?;
-    text.push(command.bin_name(name)?.render_help()?.as_bytes())
+    text.push(command.bin_name(name)?.render_help()?.as_bytes())?;
+    text.push(rest)
 }
 
 /// The text of `--help`.
 pub fn help_text(alloc: Global) -> Result<Bytes, OutOfMemory> {
     let mut text = Bytes::copy(alloc, command(alloc)?.render_help()?.as_bytes())?;
-    push_help(&mut text, check_command(alloc)?, "htx_proxy check")?;
-    push_help(&mut text, replay_command(alloc)?, "htx_proxy replay")?;
-    push_help(&mut text, serve_command(alloc)?, "htx_proxy serve")?;
-    push_help(&mut text, drill_command(alloc)?, "htx_proxy drill")?;
+    push_help(&mut text, check_command(alloc)?, "htx_proxy check", CHECK)?;
+    push_help(
+        &mut text,
+        replay_command(alloc)?,
+        "htx_proxy replay",
+        REPLAY,
+    )?;
+    push_help(&mut text, serve_command(alloc)?, "htx_proxy serve", SERVE)?;
+    push_help(&mut text, drill_command(alloc)?, "htx_proxy drill", DRILL)?;
     text.push(REST)?;
     Ok(text)
 }
@@ -80,6 +140,6 @@ pub fn error_text(alloc: Global, error: &Error) -> Result<Bytes, OutOfMemory> {
 pub fn unlisted_text(alloc: Global) -> Result<Bytes, OutOfMemory> {
     reason_and_help(
         alloc,
-        "a word is empty or out of bounds, or `--` is among the words",
+        "a word is empty, out of bounds or out of place, or `--` is among the words",
     )
 }

@@ -12,14 +12,16 @@ pub fn is_file_word(word: &str) -> bool
     !bytes.is_empty() && bytes[0] != b'-'
 }
 
-/// Whether a word is a number of 1 to 10 decimal digits within bounds.
-pub fn is_number(word: &str, least: u64, most: u64) -> bool
-    ensures { IsTrue result ↔ IsNumber least most word.now }
+/// The number within bounds that a word of 1 to 10 decimal digits is.
+pub fn number(word: &str, least: u32, most: u32) -> Option<u32>
+    ensures some { IfSome result (IsNumber least most word.now) }
+    ensures none { IfNone result ((n : ℕ) → IsNumber least most word.now n → ⊥) }
 {
-    match read_decimal(word.as_bytes(), 10) {
-        Some(number) => least <= number && number <= most,
-        None => false,
+    let number = read_decimal(word.as_bytes(), 10)?;
+    if number < u64::from(least) || u64::from(most) < number {
+        return None;
     }
+    Some(number as u32)
 }
 
 /// Whether the words are this one alone.

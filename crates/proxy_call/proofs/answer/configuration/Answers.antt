@@ -2,8 +2,8 @@ use Rattle.std.proofs.Common.{ℕ, List, sym, subst}
 use Rattle.std.specs.Prelude.{Option, Ok}
 use Rattle.px_link.specs.Told.{NamedBytes, Reads}
 use Rattle.cfg_parse.specs.declared.fault.CfgFault.{CfgFault}
-use Rattle.proxy_call.specs.Replay.{Builder, told_by}
-use Rattle.proxy_call.specs.Stops.{StopsBy, stop_of_configuration}
+use Rattle.proxy_call.specs.Files.{Builder, told_by}
+use Rattle.proxy_call.specs.Stops.{Input, StopsBy, given, stop_of_configuration}
 use Rattle.proxy_call.proofs.Causes.{load_stops, passed_on}
 use Rattle.proxy_call.proofs.Told.{accepted_text, configured}
 use Rattle.proxy_call.proofs.answer.configuration.Goals as goal
@@ -13,14 +13,12 @@ returns-in_err-cfg-clause-stop g c =
     let told : Option (List NamedBytes) = g.F.Files.files c.args.files.now in
     let text : List ℕ = c.as_slice.result.now in
     let read : Reads told c.args.name.now 1048577 text = subst (λ (t : List ℕ). Reads told c.args.name.now 1048577 t) (sym c.as_slice.ensures) c.in_ok-text.ensures.bytes in
-    let last : List ℕ = g.F.Files.last_failed c.read.new.files in
-    let before : ℕ = g.F.Files.faults c.args.files.now in
-    let now : ℕ = g.F.Files.faults c.read.new.files in
     let builder : Builder = told_by (g.P.Patterns.refusals c.args.pats.now) (g.P.Patterns.refusals c.load.new.pats) (g.P.Patterns.last_refused c.load.new.pats) in
     let fault : CfgFault = c.in_err-cfg.field-0.0 in
     λ words named.
-    passed_on c.from_residual-in_err-cfg.result (stop_of_configuration fault) (StopsBy words told builder last before now) c.from_residual-in_err-cfg.ensures.1
-    (load_stops words told builder c.args.name.now last text before now fault named read c.in_err-cfg.ensures.loads)
+    let input : Input = given words told builder (g.F.Files.last_failed c.read.new.files) (g.F.Files.faults c.args.files.now) (g.F.Files.faults c.read.new.files) in
+    passed_on c.from_residual-in_err-cfg.result (stop_of_configuration fault) (StopsBy input) c.from_residual-in_err-cfg.ensures.1
+    (load_stops input c.args.name.now text fault named read c.in_err-cfg.ensures.loads)
 
 pub returns-clause-accepted : goal.returns-clause-accepted
 returns-clause-accepted g c =

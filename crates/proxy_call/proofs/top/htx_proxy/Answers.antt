@@ -1,14 +1,83 @@
-use Rattle.std.proofs.Common.{◌≡◌, ◌⊎◌, ap, map, subst, sym}
-use Rattle.std.specs.Prelude.{string_bytes}
-use Rattle.proxy_call.specs.Replay.{told_by}
-use Rattle.proxy_call.specs.declared.status.Status.{Status}
-use Rattle.proxy_call.specs.declared.status.Status.TheVariants.{OutOfMemory}
-use Rattle.proxy_call.proofs.Due.{breaks_due}
+use Rattle.std.proofs.Common.{ℕ, List, ◌≡◌, ap, map}
+use Rattle.std.specs.Prelude.{Option, Result, string_bytes}
+use Rattle.http_rules.specs.declared.config.Config.{Config}
+use Rattle.serve_run.specs.declared.outcome.ServeFault.{ServeFault}
+use Rattle.proxy_call.specs.Ends.{Output, put}
+use Rattle.proxy_call.specs.Files.{told_by}
+use Rattle.proxy_call.specs.Serving.{Serves}
+use Rattle.proxy_call.specs.Stops.{Input, given}
+use Rattle.proxy_call.specs.declared.status.Status.TheVariants as ended
+use Rattle.proxy_call.proofs.Endings as clause
+use Rattle.proxy_call.proofs.Endings.{EndedBy}
+use Rattle.proxy_call.proofs.Stopped.{ended_err, ended_ok}
 use Rattle.proxy_call.proofs.top.htx_proxy.Goals as goal
 
-pub returns-in-Err-clause-complete : goal.returns-in-Err-clause-complete
-returns-in-Err-clause-complete g c =
-    λ told is status due reads writes builds.
-    subst (λ (s : Status). (s ≡ status) ⊎ (s ≡ OutOfMemory)) (sym c.status.ensures)
-    (breaks_due (map string_bytes c.args.words.now) (g.F.Files.files c.args.files.now) told (told_by (g.P.Patterns.refusals c.args.pats.now) (g.P.Patterns.refusals c.run.new.pats) (g.P.Patterns.last_refused c.run.new.pats)) (g.F.Files.last_failed c.run.new.files)
-    (g.K.Sink.faults c.args.out.now) (g.K.Sink.faults c.run.new.out) (g.K.Sink.written c.args.out.now) (g.K.Sink.written c.run.new.out) c.in-Err.stop status is due writes c.in-Err.ensures)
+pub returns-in-Ok : goal.returns-in-Ok
+returns-in-Ok g c =
+    let input : Input =
+    given (map string_bytes c.args.words.now) (g.F.Files.files c.args.files.now) (told_by (g.P.Patterns.refusals c.args.pats.now) (g.P.Patterns.refusals c.run.new.pats) (g.P.Patterns.last_refused c.run.new.pats))
+    (g.F.Files.last_failed c.run.new.files) (g.F.Files.faults c.args.files.now) (g.F.Files.faults c.run.new.files) in
+    let writes : ℕ = g.K.Sink.faults c.args.out.now in
+    let old : Option (List ℕ) = g.K.Sink.written c.args.out.now in
+    let Does : ℕ → Option (List ℕ) → Config → ℕ → Result (Unit {0}) ServeFault → Type 0 =
+    λ now new. Serves g.N.Link.Link.seen g.N.Link.Link.wrote g.N.Net.seen c.args.net.now c.run.new.net writes now old new in
+    let output : Output = put writes (g.K.Sink.faults c.run.new.out) old (g.K.Sink.written c.run.new.out) in
+    let end : EndedBy g.N.Link.Link.seen g.N.Link.Link.wrote g.N.Net.seen c.args.net.now c.run.new.net input output ended.Good =
+    ended_ok input output (c.run.new.net ≡ c.args.net.now) (Does output.writes_now output.new) c.in-Ok.ensures in
+    record {
+      good = clause.good g.N.Link.Link.seen g.N.Link.Link.wrote g.N.Net.seen c.args.net.now c.run.new.net input output ended.Good end;
+      served = clause.served g.N.Link.Link.seen g.N.Link.Link.wrote g.N.Net.seen c.args.net.now c.run.new.net input output ended.Good end;
+      told = clause.told g.N.Link.Link.seen g.N.Link.Link.wrote g.N.Net.seen c.args.net.now c.run.new.net input output ended.Good end;
+      usage = clause.usage g.N.Link.Link.seen g.N.Link.Link.wrote g.N.Net.seen c.args.net.now c.run.new.net input output ended.Good end;
+      config = clause.config g.N.Link.Link.seen g.N.Link.Link.wrote g.N.Net.seen c.args.net.now c.run.new.net input output ended.Good end;
+      record_refused = clause.record_refused g.N.Link.Link.seen g.N.Link.Link.wrote g.N.Net.seen c.args.net.now c.run.new.net input output ended.Good end;
+      file_fault = clause.file_fault g.N.Link.Link.seen g.N.Link.Link.wrote g.N.Net.seen c.args.net.now c.run.new.net input output ended.Good end;
+      file_name = clause.file_name g.N.Link.Link.seen g.N.Link.Link.wrote g.N.Net.seen c.args.net.now c.run.new.net input output ended.Good end;
+      file_line = clause.file_told g.N.Link.Link.seen g.N.Link.Link.wrote g.N.Net.seen c.args.net.now c.run.new.net input output ended.Good end;
+      out_fault = clause.out_fault g.N.Link.Link.seen g.N.Link.Link.wrote g.N.Net.seen c.args.net.now c.run.new.net input output ended.Good end;
+      net_fault = clause.net_fault g.N.Link.Link.seen g.N.Link.Link.wrote g.N.Net.seen c.args.net.now c.run.new.net input output ended.Good end;
+      front = clause.front g.N.Link.Link.seen g.N.Link.Link.wrote g.N.Net.seen c.args.net.now c.run.new.net input output ended.Good end;
+      memory = clause.memory g.N.Link.Link.seen g.N.Link.Link.wrote g.N.Net.seen c.args.net.now c.run.new.net input output ended.Good end;
+      binds = clause.binds g.N.Link.Link.seen g.N.Link.Link.wrote g.N.Net.seen c.args.net.now c.run.new.net input output ended.Good end;
+      bound = clause.bound g.N.Link.Link.seen g.N.Link.Link.wrote g.N.Net.seen c.args.net.now c.run.new.net input output ended.Good end;
+      dialled = clause.dialled g.N.Link.Link.seen g.N.Link.Link.wrote g.N.Net.seen c.args.net.now c.run.new.net input output ended.Good end;
+      lent = clause.lent g.N.Link.Link.seen g.N.Link.Link.wrote g.N.Net.seen c.args.net.now c.run.new.net input output ended.Good end;
+      untouched = clause.untouched g.N.Link.Link.seen g.N.Link.Link.wrote g.N.Net.seen c.args.net.now c.run.new.net input output ended.Good end;
+      complete = clause.complete g.N.Link.Link.seen g.N.Link.Link.wrote g.N.Net.seen c.args.net.now c.run.new.net input output ended.Good end;
+    }
+
+pub returns-in-Err : goal.returns-in-Err
+returns-in-Err g c =
+    let input : Input =
+    given (map string_bytes c.args.words.now) (g.F.Files.files c.args.files.now) (told_by (g.P.Patterns.refusals c.args.pats.now) (g.P.Patterns.refusals c.run.new.pats) (g.P.Patterns.last_refused c.run.new.pats))
+    (g.F.Files.last_failed c.run.new.files) (g.F.Files.faults c.args.files.now) (g.F.Files.faults c.run.new.files) in
+    let writes : ℕ = g.K.Sink.faults c.args.out.now in
+    let old : Option (List ℕ) = g.K.Sink.written c.args.out.now in
+    let Does : ℕ → Option (List ℕ) → Config → ℕ → Result (Unit {0}) ServeFault → Type 0 =
+    λ now new. Serves g.N.Link.Link.seen g.N.Link.Link.wrote g.N.Net.seen c.args.net.now c.run.new.net writes now old new in
+    let output : Output = put writes (g.K.Sink.faults c.end.new.out) old (g.K.Sink.written c.end.new.out) in
+    let end : EndedBy g.N.Link.Link.seen g.N.Link.Link.wrote g.N.Net.seen c.args.net.now c.run.new.net input output c.end.result =
+    ended_err input writes (g.K.Sink.faults c.run.new.out) output.writes_now old (g.K.Sink.written c.run.new.out) output.new (c.run.new.net ≡ c.args.net.now) Does c.in-Err.stop c.end.result c.in-Err.ensures
+    (c.end.ensures.told input) (λ silent.
+    let s = c.end.ensures.silent silent in (s.0, ap g.K.Sink.faults s.1, ap g.K.Sink.written s.1)) in
+    record {
+      good = clause.good g.N.Link.Link.seen g.N.Link.Link.wrote g.N.Net.seen c.args.net.now c.run.new.net input output c.end.result end;
+      served = clause.served g.N.Link.Link.seen g.N.Link.Link.wrote g.N.Net.seen c.args.net.now c.run.new.net input output c.end.result end;
+      told = clause.told g.N.Link.Link.seen g.N.Link.Link.wrote g.N.Net.seen c.args.net.now c.run.new.net input output c.end.result end;
+      usage = clause.usage g.N.Link.Link.seen g.N.Link.Link.wrote g.N.Net.seen c.args.net.now c.run.new.net input output c.end.result end;
+      config = clause.config g.N.Link.Link.seen g.N.Link.Link.wrote g.N.Net.seen c.args.net.now c.run.new.net input output c.end.result end;
+      record_refused = clause.record_refused g.N.Link.Link.seen g.N.Link.Link.wrote g.N.Net.seen c.args.net.now c.run.new.net input output c.end.result end;
+      file_fault = clause.file_fault g.N.Link.Link.seen g.N.Link.Link.wrote g.N.Net.seen c.args.net.now c.run.new.net input output c.end.result end;
+      file_name = clause.file_name g.N.Link.Link.seen g.N.Link.Link.wrote g.N.Net.seen c.args.net.now c.run.new.net input output c.end.result end;
+      file_line = clause.file_told g.N.Link.Link.seen g.N.Link.Link.wrote g.N.Net.seen c.args.net.now c.run.new.net input output c.end.result end;
+      out_fault = clause.out_fault g.N.Link.Link.seen g.N.Link.Link.wrote g.N.Net.seen c.args.net.now c.run.new.net input output c.end.result end;
+      net_fault = clause.net_fault g.N.Link.Link.seen g.N.Link.Link.wrote g.N.Net.seen c.args.net.now c.run.new.net input output c.end.result end;
+      front = clause.front g.N.Link.Link.seen g.N.Link.Link.wrote g.N.Net.seen c.args.net.now c.run.new.net input output c.end.result end;
+      memory = clause.memory g.N.Link.Link.seen g.N.Link.Link.wrote g.N.Net.seen c.args.net.now c.run.new.net input output c.end.result end;
+      binds = clause.binds g.N.Link.Link.seen g.N.Link.Link.wrote g.N.Net.seen c.args.net.now c.run.new.net input output c.end.result end;
+      bound = clause.bound g.N.Link.Link.seen g.N.Link.Link.wrote g.N.Net.seen c.args.net.now c.run.new.net input output c.end.result end;
+      dialled = clause.dialled g.N.Link.Link.seen g.N.Link.Link.wrote g.N.Net.seen c.args.net.now c.run.new.net input output c.end.result end;
+      lent = clause.lent g.N.Link.Link.seen g.N.Link.Link.wrote g.N.Net.seen c.args.net.now c.run.new.net input output c.end.result end;
+      untouched = clause.untouched g.N.Link.Link.seen g.N.Link.Link.wrote g.N.Net.seen c.args.net.now c.run.new.net input output c.end.result end;
+      complete = clause.complete g.N.Link.Link.seen g.N.Link.Link.wrote g.N.Net.seen c.args.net.now c.run.new.net input output c.end.result end;
+    }

@@ -2,14 +2,14 @@ use Rattle.std.proofs.Common.{◌≡◌, ◌∙◌, ap, ap₂, codes}
 use Rattle.std.proofs.lemmas.Result.{IfOk-weaker}
 use Rattle.clap.specs.Words.{App, app_of, with_rule, with_subcommand}
 use Rattle.clap.specs.declared.builder.action.ArgAction.TheVariants.{Help, Version}
-use Rattle.px_command.specs.Parser.{flag_rule, one_word, top_level, two_words}
+use Rattle.px_command.specs.Parser.{check_shape, flag_rule, top_level, two_words}
 use Rattle.px_command.proofs.parser.command.Goals as goal
 
 abbrev flags : App
 flags = with_rule (with_rule top_level (flag_rule (codes "help") Help)) (flag_rule (codes "version") Version)
 
 abbrev with_check : App
-with_check = with_subcommand flags (one_word (codes "check") (codes "CFG")).top
+with_check = with_subcommand flags check_shape.top
 
 abbrev with_replay : App
 with_replay = with_subcommand with_check (two_words (codes "replay") (codes "CFG") (codes "REC")).top

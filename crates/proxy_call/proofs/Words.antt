@@ -1,0 +1,134 @@
+-- Lists of words are told apart, and say the names of their files.
+use Rattle.std.proofs.Common.{◌≡◌, ℕ, ◌+◌, ◌*◌, ◌==◌, ◌||◌, Bool, true, false, List, [], ◌∷◌, ◌⊎◌, inl, inr, ap, sym, ◌∙◌, length, get_or}
+use Rattle.std.specs.Prelude.{Option, Some}
+use Rattle.px_bytes.specs.Numbers.{decimal_of}
+use Rattle.px_link.specs.Told.{NamedBytes}
+use Rattle.px_command.specs.Command.{IsCheck, IsCheckRecord, IsReplay, IsServe, IsDrill, IsHelp, IsVersion, NamesConfig}
+use Rattle.proxy_call.specs.Answers.{AsksNoFile, IsGood, NamesServe}
+
+-- how many words stand behind the first, and its third letter
+abbrev key : List (List ℕ) → ℕ
+key [] = 0
+key (first ∷ rest) = 1000 * length rest + get_or first 2 0
+
+abbrev second : List (List ℕ) → List ℕ
+second [] = []
+second (a ∷ []) = []
+second (a ∷ b ∷ rest) = b
+
+abbrev third : List (List ℕ) → List ℕ
+third [] = []
+third (a ∷ []) = []
+third (a ∷ b ∷ []) = []
+third (a ∷ b ∷ d ∷ rest) = d
+
+check_key : (words : List (List ℕ)) (cfg : List ℕ) → IsCheck words cfg → key words ≡ 1101
+check_key words cfg is = ap key is.0
+
+record_key : (words : List (List ℕ)) (rec : List ℕ) → IsCheckRecord words rec → key words ≡ 2101
+record_key words rec is = ap key is.0
+
+replay_key : (words : List (List ℕ)) (cfg rec : List ℕ) → IsReplay words cfg rec → key words ≡ 2112
+replay_key words cfg rec is = ap key is.0
+
+serve_key : (words : List (List ℕ)) (cfg : List ℕ) (count : ℕ) → IsServe words cfg count → key words ≡ 2114
+serve_key words cfg count is = ap key is.1
+
+drill_key : (words : List (List ℕ)) (seed exchanges : ℕ) → IsDrill words seed exchanges → key words ≡ 2105
+drill_key words seed exchanges is = ap key is.2
+
+help_key : (words : List (List ℕ)) → IsHelp words → key words ≡ 104
+help_key words is = ap key is
+
+version_key : (words : List (List ℕ)) → IsVersion words → key words ≡ 118
+version_key words is = ap key is
+
+-- ---- which words name a configuration
+
+abbrev has_config : ℕ → Bool
+has_config k = k == 1101 || (k == 2112 || k == 2114)
+
+no_bool : (b : Bool) → b ≡ true → b ≡ false → ⊥
+no_bool b p q = cc
+
+config_there : (words : List (List ℕ)) (cfg : List ℕ) → NamesConfig words cfg → has_config (key words) ≡ true
+config_there words cfg (inl check) = ap has_config (check_key words cfg check)
+config_there words cfg (inr (inl replay)) = ap has_config (replay_key words cfg replay.0 replay.1)
+config_there words cfg (inr (inr serve)) = ap has_config (serve_key words cfg serve.0 serve.1)
+
+fileless_key : (words : List (List ℕ)) → AsksNoFile words → has_config (key words) ≡ false
+fileless_key words (inl drill) = ap has_config (drill_key words drill.0 drill.1 drill.2)
+fileless_key words (inr (inl help)) = ap has_config (help_key words help)
+fileless_key words (inr (inr version)) = ap has_config (version_key words version)
+
+pub record_or_config : (words : List (List ℕ)) (rec cfg : List ℕ) → IsCheckRecord words rec → NamesConfig words cfg → ⊥
+record_or_config words rec cfg is named = no_bool (has_config (key words)) (config_there words cfg named) (ap has_config (record_key words rec is))
+
+pub fileless_or_config : (words : List (List ℕ)) (cfg : List ℕ) → AsksNoFile words → NamesConfig words cfg → ⊥
+fileless_or_config words cfg is named = no_bool (has_config (key words)) (config_there words cfg named) (fileless_key words is)
+
+-- ---- which words name a record
+
+abbrev has_record : ℕ → Bool
+has_record k = k == 2101 || k == 2112
+
+record_there : (words : List (List ℕ)) (rec : List ℕ) → IsCheckRecord words rec ⊎ ((cfg : List ℕ) × IsReplay words cfg rec) → has_record (key words) ≡ true
+record_there words rec (inl is) = ap has_record (record_key words rec is)
+record_there words rec (inr replay) = ap has_record (replay_key words replay.0 rec replay.1)
+
+fileless_no_record : (words : List (List ℕ)) → AsksNoFile words → has_record (key words) ≡ false
+fileless_no_record words (inl drill) = ap has_record (drill_key words drill.0 drill.1 drill.2)
+fileless_no_record words (inr (inl help)) = ap has_record (help_key words help)
+fileless_no_record words (inr (inr version)) = ap has_record (version_key words version)
+
+pub fileless_or_record : (words : List (List ℕ)) (rec : List ℕ) → AsksNoFile words → IsCheckRecord words rec ⊎ ((cfg : List ℕ) × IsReplay words cfg rec) → ⊥
+fileless_or_record words rec is named = no_bool (has_record (key words)) (record_there words rec named) (fileless_no_record words is)
+
+pub check_or_record : (words : List (List ℕ)) (cfg rec : List ℕ) → IsCheck words cfg → IsCheckRecord words rec ⊎ ((c : List ℕ) × IsReplay words c rec) → ⊥
+check_or_record words cfg rec is named = no_bool (has_record (key words)) (record_there words rec named) (ap has_record (check_key words cfg is))
+
+pub serve_or_record : (words : List (List ℕ)) (cfg rec : List ℕ) (count : ℕ) → IsServe words cfg count → IsCheckRecord words rec ⊎ ((c : List ℕ) × IsReplay words c rec) → ⊥
+serve_or_record words cfg rec count is named = no_bool (has_record (key words)) (record_there words rec named) (ap has_record (serve_key words cfg count is))
+
+-- ---- which words are `serve`
+
+abbrev is_serve : ℕ → Bool
+is_serve k = k == 2114
+
+good_key : (words : List (List ℕ)) (text : List ℕ) (files : Option (List NamedBytes)) → IsGood words files text → is_serve (key words) ≡ false
+good_key words text files (inl (cfg, is, made)) = ap is_serve (check_key words cfg is)
+good_key words text files (inr (inl (rec, is, made))) = ap is_serve (record_key words rec is)
+good_key words text files (inr (inr (inl (cfg, rec, is, made)))) = ap is_serve (replay_key words cfg rec is)
+good_key words text files (inr (inr (inr (inl (seed, exchanges, is, made))))) = ap is_serve (drill_key words seed exchanges is)
+good_key words text files (inr (inr (inr (inr (inl help))))) = ap is_serve (help_key words help)
+good_key words text files (inr (inr (inr (inr (inr version))))) = ap is_serve (version_key words version)
+
+pub good_or_serve : (words : List (List ℕ)) (text : List ℕ) (files : Option (List NamedBytes)) → IsGood words files text → NamesServe words → ⊥
+good_or_serve words text files good (cfg, count, is) = no_bool (is_serve (key words)) (ap is_serve (serve_key words cfg count is)) (good_key words text files good)
+
+-- ---- the names of files
+
+config_second : (words : List (List ℕ)) (cfg : List ℕ) → NamesConfig words cfg → second words ≡ cfg
+config_second words cfg (inl check) = ap second check.0
+config_second words cfg (inr (inl (rec, is))) = ap second is.0
+config_second words cfg (inr (inr (count, is))) = ap second is.1
+
+pub same_config_name : (words : List (List ℕ)) (a b : List ℕ) → NamesConfig words a → NamesConfig words b → a ≡ b
+same_config_name words a b p q = let x = config_second words a p in let y = config_second words b q in cc
+
+record_third : (words : List (List ℕ)) (rec : List ℕ) → IsCheckRecord words rec ⊎ ((cfg : List ℕ) × IsReplay words cfg rec) → third words ≡ rec
+record_third words rec (inl is) = ap third is.0
+record_third words rec (inr (cfg, is)) = ap third is.0
+
+pub same_record_name : (words : List (List ℕ)) (a b : List ℕ) → IsCheckRecord words a ⊎ ((cfg : List ℕ) × IsReplay words cfg a) → IsCheckRecord words b ⊎ ((cfg : List ℕ) × IsReplay words cfg b) → a ≡ b
+same_record_name words a b p q = let x = record_third words a p in let y = record_third words b q in cc
+
+same_number : (a b w : List ℕ) (count n : ℕ) → w ≡ a → w ≡ b → decimal_of 10 a ≡ Some count → decimal_of 10 b ≡ Some n → count ≡ n
+same_number a b w count n p q c d = let e : decimal_of 10 a ≡ decimal_of 10 b = ap (decimal_of 10) (sym p ∙ q) in cc
+
+-- the number of connections is what the words say
+pub same_count : (words : List (List ℕ)) (cfg other : List ℕ) (count n : ℕ) → IsServe words cfg count → IsServe words other n → count ≡ n
+same_count words cfg other count n p q =
+    let first : third words ≡ p.0 = ap third p.1 in
+    let second_count : third words ≡ q.0 = ap third q.1 in
+    same_number p.0 q.0 (third words) count n first second_count p.3.0 q.3.0

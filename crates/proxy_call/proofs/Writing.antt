@@ -1,0 +1,69 @@
+-- What writing a text comes to, and what a step that stops says of what was written.
+use Rattle.std.proofs.Common.{◌≡◌, ℕ, List, inl, inr, refl, sym, subst}
+use Rattle.std.specs.Prelude.{Option, Result, Ok, Err, IsErrAnd}
+use Rattle.px_link.specs.Told.{Counts, Gains, GainsFront}
+use Rattle.px_link.specs.declared.fault.Fault.{Fault}
+use Rattle.px_link.specs.declared.fault.Fault.TheVariants as faults
+use Rattle.http_rules.specs.declared.config.Config.{Config}
+use Rattle.serve_run.specs.declared.outcome.ServeFault.{ServeFault}
+use Rattle.proxy_call.specs.Answers.{IsAnswer, IsGood}
+use Rattle.proxy_call.specs.Ends.{Answered, Output, Ran, Says, Writes, put}
+use Rattle.proxy_call.specs.Stops.{Input, Replies, StopsBy, stop_of_output}
+use Rattle.proxy_call.specs.declared.reply.Reply.{Reply}
+use Rattle.proxy_call.specs.declared.status.Status.{Status}
+use Rattle.proxy_call.specs.declared.status.Status.TheVariants as ended
+use Rattle.proxy_call.specs.declared.stop.Stop.{Stop}
+use Rattle.proxy_call.specs.declared.stop.Stop.TheVariants as stops
+
+-- ---- what a `?` passes on
+
+pub writes_err : (input : Input) (output : Output) (r : Result (Unit {0}) Stop) (s : Stop) → IsErrAnd r (λ (y : Stop). y ≡ s) → Writes input output (Err s) → Writes input output r
+writes_err input output (Ok done) s is p = absurd is
+writes_err input output (Err y) s is p = subst (λ (t : Stop). Writes input output (Err t)) (sym is) p
+
+pub says_err : (input : Input) (output : Output) (r : Result Status Stop) (s : Stop) → IsErrAnd r (λ (y : Stop). y ≡ s) → Says input output (Err s) → Says input output r
+says_err input output (Ok status) s is p = absurd is
+says_err input output (Err y) s is p = subst (λ (t : Stop). Says input output (Err t)) (sym is) p
+
+pub ran_err : (input : Input) (output : Output) (quiet : Type 0) (Serves : Config → ℕ → Result (Unit {0}) ServeFault → Type 0) (r : Result (Unit {0}) Stop) (s : Stop) → IsErrAnd r (λ (y : Stop). y ≡ s)
+    → Ran input output quiet Serves (Err s) → Ran input output quiet Serves r
+ran_err input output quiet Serves (Ok done) s is p = absurd is
+ran_err input output quiet Serves (Err y) s is p = subst (λ (t : Stop). Ran input output quiet Serves (Err t)) (sym is) p
+
+-- ---- a text
+
+-- the text that the words ask for couldn't be written
+pub write_stops : (input : Input) (writes now : ℕ) (old new : Option (List ℕ)) (text piece : List ℕ) (fault : Fault) → piece ≡ text → IsGood input.words input.files text
+    → GainsFront old new piece → Counts {T = Unit {0}} writes now (Err fault) → Writes input (put writes now old new) (Err (stop_of_output fault))
+write_stops input writes now old new text piece faults.Failed same good front count =
+    (count.failed refl, (ended.Good, piece, subst (λ (t : List ℕ). IsGood input.words input.files t) (sym same) good, front))
+write_stops input writes now old new text piece faults.OutOfMemory same good front count =
+    inr (ended.Good, piece, subst (λ (t : List ℕ). IsGood input.words input.files t) (sym same) good, front)
+
+-- the text of a stop was written
+pub say_ok : (input : Input) (output : Output) (reply : Reply) (piece : List ℕ) → piece ≡ reply.text → Replies input (Ok reply) → Gains output.old output.new piece → Answered input output reply.status
+say_ok input output reply piece same replies gains =
+    record { text = reply.text; answer = replies.0; gains = subst (λ (t : List ℕ). Gains output.old output.new t) same gains; cause = replies.1 }
+
+-- it couldn't be
+pub say_stops : (input : Input) (writes now : ℕ) (old new : Option (List ℕ)) (reply : Reply) (piece : List ℕ) (fault : Fault) → piece ≡ reply.text → Replies input (Ok reply)
+    → GainsFront old new piece → Counts {T = Unit {0}} writes now (Err fault) → Says input (put writes now old new) (Err (stop_of_output fault))
+say_stops input writes now old new reply piece faults.Failed same replies front count =
+    (count.failed refl, (reply.status, piece, subst (λ (t : List ℕ). IsAnswer input.words input.files input.builder input.last reply.status t) (sym same) replies.0, front))
+say_stops input writes now old new reply piece faults.OutOfMemory same replies front count =
+    inr (reply.status, piece, subst (λ (t : List ℕ). IsAnswer input.words input.files input.builder input.last reply.status t) (sym same) replies.0, front)
+
+-- there was no memory for it
+pub say_nothing : (input : Input) (writes : ℕ) (old : Option (List ℕ)) (s : Stop) → s ≡ stops.OutOfMemory → Says input (put writes writes old old) (Err s)
+say_nothing input writes old s is = subst (λ (t : Stop). Says input (put writes writes old old) (Err t)) (sym is) (inl refl)
+
+-- ---- a stop before anything is written
+
+pub stops_early : (input : Input) (writes : ℕ) (old : Option (List ℕ)) (s : Stop) → StopsBy input s → Writes input (put writes writes old old) (Err s)
+stops_early input writes old (stops.Usage text) given = (given, record { written = refl; writes = refl })
+stops_early input writes old (stops.Refused line kind) given = (given, record { written = refl; writes = refl })
+stops_early input writes old (stops.Record place kind) given = (given, record { written = refl; writes = refl })
+stops_early input writes old (stops.File name) given = (given, record { written = refl; writes = refl })
+stops_early input writes old stops.Output given = absurd given
+stops_early input writes old stops.Net given = absurd given
+stops_early input writes old stops.OutOfMemory given = inl refl

@@ -1,0 +1,61 @@
+use Rattle.std.proofs.Common.{ℕ, List, map, inl, inr, refl, subst}
+use Rattle.std.specs.Prelude.{string_bytes}
+use Rattle.px_command.specs.Asked.{IsAsked}
+use Rattle.px_command.specs.Command.{IsCheck, IsCheckRecord, IsReplay, IsServe, IsDrill, IsHelp, IsVersion}
+use Rattle.proxy_call.specs.Files.{Builder, told_by}
+use Rattle.proxy_call.specs.Stops.{Input, given}
+use Rattle.proxy_call.proofs.run.run.Goals as goal
+
+pub returns-in-Check : goal.returns-in-Check
+returns-in-Check g c =
+    let words : List (List ℕ) = map string_bytes c.args.words.now in
+    let is : IsCheck words c.in-Check.cfg.now = subst (IsAsked words) c.in-Check.is c.in_ok-cfg.ensures in
+    let builder : Builder = told_by (g.P.Patterns.refusals c.args.pats.now) (g.P.Patterns.refusals c.check.new.pats) (g.P.Patterns.last_refused c.check.new.pats) in
+    let input : Input = given words (g.F.Files.files c.args.files.now) builder (g.F.Files.last_failed c.check.new.files) (g.F.Files.faults c.args.files.now) (g.F.Files.faults c.check.new.files) in
+    inl (c.write.ensures input (c.check.ensures words is), refl)
+
+pub returns-in-CheckRecord : goal.returns-in-CheckRecord
+returns-in-CheckRecord g c =
+    let words : List (List ℕ) = map string_bytes c.args.words.now in
+    let is : IsCheckRecord words c.in-CheckRecord.rec.now = subst (IsAsked words) c.in-CheckRecord.is c.in_ok-cfg.ensures in
+    let builder : Builder = told_by (g.P.Patterns.refusals c.args.pats.now) (g.P.Patterns.refusals c.args.pats.now) (g.P.Patterns.last_refused c.args.pats.now) in
+    let input : Input = given words (g.F.Files.files c.args.files.now) builder (g.F.Files.last_failed c.check_record.new.files) (g.F.Files.faults c.args.files.now) (g.F.Files.faults c.check_record.new.files) in
+    inl (c.write-in-CheckRecord.ensures input (c.check_record.ensures words builder is), refl)
+
+pub returns-in-Replay : goal.returns-in-Replay
+returns-in-Replay g c =
+    let words : List (List ℕ) = map string_bytes c.args.words.now in
+    let is : IsReplay words c.in-Replay.cfg.now c.in-Replay.rec.now = subst (IsAsked words) c.in-Replay.is c.in_ok-cfg.ensures in
+    let builder : Builder = told_by (g.P.Patterns.refusals c.args.pats.now) (g.P.Patterns.refusals c.replay.new.pats) (g.P.Patterns.last_refused c.replay.new.pats) in
+    let input : Input = given words (g.F.Files.files c.args.files.now) builder (g.F.Files.last_failed c.replay.new.files) (g.F.Files.faults c.args.files.now) (g.F.Files.faults c.replay.new.files) in
+    inl (c.write-in-Replay.ensures input (c.replay.ensures words is), refl)
+
+pub returns-in-Serve : goal.returns-in-Serve
+returns-in-Serve g c =
+    let words : List (List ℕ) = map string_bytes c.args.words.now in
+    let is : IsServe words c.in-Serve.cfg.now c.in-Serve.connections = subst (IsAsked words) c.in-Serve.is c.in_ok-cfg.ensures in
+    c.serve.ensures words is
+
+pub returns-in-Drill : goal.returns-in-Drill
+returns-in-Drill g c =
+    let words : List (List ℕ) = map string_bytes c.args.words.now in
+    let is : IsDrill words c.in-Drill.seed c.in-Drill.exchanges = subst (IsAsked words) c.in-Drill.is c.in_ok-cfg.ensures in
+    let builder : Builder = told_by (g.P.Patterns.refusals c.args.pats.now) (g.P.Patterns.refusals c.drill.new.pats) (g.P.Patterns.last_refused c.drill.new.pats) in
+    let input : Input = given words (g.F.Files.files c.args.files.now) builder (g.F.Files.last_failed c.args.files.now) (g.F.Files.faults c.args.files.now) (g.F.Files.faults c.args.files.now) in
+    inl (c.write-in-Drill.ensures input (c.drill.ensures words input.files builder input.last input.reads input.reads_now is), refl)
+
+pub returns-in_ok-help_text-in-Help : goal.returns-in_ok-help_text-in-Help
+returns-in_ok-help_text-in-Help g c =
+    let words : List (List ℕ) = map string_bytes c.args.words.now in
+    let is : IsHelp words = subst (IsAsked words) c.in-Help.is c.in_ok-cfg.ensures in
+    let builder : Builder = told_by (g.P.Patterns.refusals c.args.pats.now) (g.P.Patterns.refusals c.args.pats.now) (g.P.Patterns.last_refused c.args.pats.now) in
+    let input : Input = given words (g.F.Files.files c.args.files.now) builder (g.F.Files.last_failed c.args.files.now) (g.F.Files.faults c.args.files.now) (g.F.Files.faults c.args.files.now) in
+    inl (c.write-in-Help.ensures input (inr (inr (inr (inr (inl is))))), refl)
+
+pub returns-in_ok-version_text-in-Version : goal.returns-in_ok-version_text-in-Version
+returns-in_ok-version_text-in-Version g c =
+    let words : List (List ℕ) = map string_bytes c.args.words.now in
+    let is : IsVersion words = subst (IsAsked words) c.in-Version.is c.in_ok-cfg.ensures in
+    let builder : Builder = told_by (g.P.Patterns.refusals c.args.pats.now) (g.P.Patterns.refusals c.args.pats.now) (g.P.Patterns.last_refused c.args.pats.now) in
+    let input : Input = given words (g.F.Files.files c.args.files.now) builder (g.F.Files.last_failed c.args.files.now) (g.F.Files.faults c.args.files.now) (g.F.Files.faults c.args.files.now) in
+    inl (c.write-in-Version.ensures input (inr (inr (inr (inr (inr is))))), refl)

@@ -1,0 +1,48 @@
+//! The command that the words name, and what it writes.
+ghost use Rattle.std.specs.Prelude.{◌≡◌, map, string_bytes};
+ghost use Rattle.proxy_call.specs.Ends.{Ran, Writes, put};
+ghost use Rattle.proxy_call.specs.Files.{told_by};
+ghost use Rattle.proxy_call.specs.Serving.{Serves};
+ghost use Rattle.proxy_call.specs.Stops.{Answers, Input, given};
+
+use crate::answer::{check, check_record, drill, replay};
+use crate::serving::serve;
+use crate::stop::Stop;
+use px_command::{Asked, asked_by, help_text, version_text};
+use px_link::{Bytes, Files, Net, Sink};
+use px_pattern::Patterns;
+use std::alloc::Global;
+
+/// Writes what a command made.
+fn write<'a, K: Sink>(made: Result<Bytes, Stop<'a>>, out: &mut K) -> Result<(), Stop<'a>>
+    ensures { (input : Input) → Answers input made.entry → Writes input (put (K.faults out.old) (K.faults out.new) (K.written out.old) (K.written out.new)) result }
+{
+    let text = made?;
+    out.write_all(text.as_slice())?;
+    Ok(())
+}
+
+/// Runs the command that the words name.
+pub fn run<'a, F: Files, N: Net, K: Sink, P: Patterns>(
+    alloc: Global,
+    words: &'a [String],
+    files: &mut F,
+    net: &mut N,
+    out: &mut K,
+    pats: &mut P,
+) -> Result<(), Stop<'a>>
+    ensures { Ran (given (map string_bytes words.now) (F.files files.old) (told_by (P.refusals pats.old) (P.refusals pats.new) (P.last_refused pats.new)) (F.last_failed files.new) (F.faults files.old) (F.faults files.new))
+        (put (K.faults out.old) (K.faults out.new) (K.written out.old) (K.written out.new)) (net.new ≡ net.old)
+        (Serves N.Link.seen N.Link.wrote N.seen net.old net.new (K.faults out.old) (K.faults out.new) (K.written out.old) (K.written out.new)) result }
+{
+    match asked_by(alloc, words)? {
+        Asked::Check { cfg } => write(check(alloc, files, cfg, pats), out),
+        Asked::CheckRecord { rec } => write(check_record(alloc, files, rec), out),
+        Asked::Replay { cfg, rec } => write(replay(alloc, files, cfg, rec, pats), out),
+        Asked::Serve { cfg, connections } => serve(alloc, files, cfg, connections, net, out, pats),
+        Asked::Drill { seed, exchanges } => write(drill(alloc, seed, exchanges, pats), out),
+        Asked::Help => write(Ok(help_text(alloc)?), out),
+        Asked::Version => write(Ok(version_text(alloc)?), out),
+        Asked::Usage { text } => Err(Stop::Usage { text }),
+    }
+}
