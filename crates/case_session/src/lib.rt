@@ -2,6 +2,8 @@
 #![tactic(auto)]
 
 mod facts;
+mod served;
 mod sessions;
+mod windows;
 
 pub use sessions::{made, session_made};

@@ -1,9 +1,11 @@
 //! Sessions: rows of the program's words over the files `c` and `r`, and files of a configuration and a record with
 //! what must be written. Each goes through the program's one call.
 use crate::facts::facts_of;
+use crate::served::served;
+use crate::windows::windows_made;
 use case_rows::{Answers, Call, Fault, Row, decoded, words_of};
 use proxy_call::{Status, htx_proxy};
-use px_link::{MemFiles, MemSink};
+use px_link::{MemFiles, MemNet, MemSink};
 use px_pattern::RealPatterns;
 use std::alloc::Global;
 
@@ -14,7 +16,8 @@ struct Reply {
     out: MemSink,
 }
 
-/// What the program does with words over the files `c` and `r`. Its output fails at the writes of these numbers.
+/// What the program does with words over the files `c` and `r`, and a net to which no client comes. Its output fails at the writes
+/// of these numbers.
 fn reply_to(
     alloc: Global,
     words: &str,
@@ -26,10 +29,11 @@ fn reply_to(
     let mut files = MemFiles::new(alloc);
     files.add("c", cfg)?;
     files.add("r", rec)?;
+    let mut net = MemNet::new(alloc, Vec::new(alloc), Vec::new(alloc))?;
     let mut out = MemSink::new(alloc);
     out.fail_at(failing);
     let mut pats = RealPatterns::new();
-    let status = htx_proxy(alloc, &words, &mut files, &mut out, &mut pats);
+    let status = htx_proxy(alloc, &words, &mut files, &mut net, &mut out, &mut pats);
     Ok(Reply { status, out })
 }
 
@@ -73,6 +77,7 @@ pub fn made(alloc: Global, kind: &str, row: Row<'_>) -> Option<Result<Vec<u8>, F
     match kind {
         "replies" => Some(replied(alloc, row, Vec::new(alloc))),
         "failed_outputs" => Some(replied_failing(alloc, row)),
+        "served" => Some(served(alloc, row)),
         _ => None,
     }
 }
@@ -85,10 +90,15 @@ fn replied_failing(alloc: Global, row: Row<'_>) -> Result<Vec<u8>, Fault> {
 }
 
 /// What a session of files comes to, as a file of this ending tells it: `report` the exact report, `expected` facts of
-/// it, `check` the line of `check`.
+/// it, `record` the line of a refused record, `check` the line of `check`, `rewritten` what `check --record` writes,
+/// `windows` whether it is so at windows of other sizes.
 pub fn session_made(alloc: Global, ending: &str, cfg: &[u8], rec: &[u8]) -> Result<Vec<u8>, Fault> {
+    if ending == "windows" {
+        return windows_made(alloc, cfg, rec);
+    }
     let words = match ending {
         "check" => "check;c;",
+        "rewritten" => "check;--record;r;",
         _ => "replay;c;r;",
     };
     let reply = reply_to(alloc, words, cfg, rec, Vec::new(alloc))?;

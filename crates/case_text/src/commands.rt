@@ -18,13 +18,28 @@ fn say_asked(alloc: Global, asked: &Asked<'_>, answers: &mut Answers) -> Result<
             answers.say(b"check ");
             answers.bracket(cfg.as_bytes());
         }
+        Asked::CheckRecord { rec } => {
+            answers.say(b"check --record ");
+            answers.bracket(rec.as_bytes());
+        }
         Asked::Replay { cfg, rec } => {
             answers.say(b"replay ");
             answers.bracket(cfg.as_bytes());
             answers.more(b" ");
             answers.bracket(rec.as_bytes());
         }
-        Asked::Later => answers.say(b"later"),
+        Asked::Serve { cfg, connections } => {
+            answers.say(b"serve ");
+            answers.bracket(cfg.as_bytes());
+            answers.more(b" ");
+            answers.more_count(u64::from(*connections));
+        }
+        Asked::Drill { seed, exchanges } => {
+            answers.say(b"drill ");
+            answers.more_count(u64::from(*seed));
+            answers.more(b" ");
+            answers.more_count(u64::from(*exchanges));
+        }
         Asked::Help => answers.say(b"help"),
         Asked::Version => answers.say(b"version"),
         Asked::Usage { text } => say_usage(alloc, text.as_slice(), answers)?,
