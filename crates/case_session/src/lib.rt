@@ -2,8 +2,6 @@
 #![tactic(auto)]
 
 mod facts;
-mod served;
 mod sessions;
-mod windows;
 
 pub use sessions::{made, session_made};

@@ -1,8 +1,6 @@
 //! Sessions: rows of the program's words over the files `c` and `r`, and files of a configuration and a record with
 //! what must be written. Each goes through the program's one call.
 use crate::facts::facts_of;
-use crate::served::served;
-use crate::windows::windows_made;
 use case_rows::{Answers, Call, Fault, Row, decoded, words_of};
 use proxy_call::{Status, htx_proxy};
 use px_link::{MemFiles, MemNet, MemSink};
@@ -77,7 +75,6 @@ pub fn made(alloc: Global, kind: &str, row: Row<'_>) -> Option<Result<Vec<u8>, F
     match kind {
         "replies" => Some(replied(alloc, row, Vec::new(alloc))),
         "failed_outputs" => Some(replied_failing(alloc, row)),
-        "served" => Some(served(alloc, row)),
         _ => None,
     }
 }
@@ -90,12 +87,8 @@ fn replied_failing(alloc: Global, row: Row<'_>) -> Result<Vec<u8>, Fault> {
 }
 
 /// What a session of files comes to, as a file of this ending tells it: `report` the exact report, `expected` facts of
-/// it, `record` the line of a refused record, `check` the line of `check`, `rewritten` what `check --record` writes,
-/// `windows` whether it is so at windows of other sizes.
+/// it, `record` the line of a refused record, `check` the line of `check`, `rewritten` what `check --record` writes.
 pub fn session_made(alloc: Global, ending: &str, cfg: &[u8], rec: &[u8]) -> Result<Vec<u8>, Fault> {
-    if ending == "windows" {
-        return windows_made(alloc, cfg, rec);
-    }
     let words = match ending {
         "check" => "check;c;",
         "rewritten" => "check;--record;r;",
