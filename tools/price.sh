@@ -1,7 +1,8 @@
 #!/usr/bin/env bash
 # price.sh [PROGRAM]: the instructions that `serve` takes for a request, by valgrind's callgrind: a browser's request with eight rules, answers of 2 and of
 # 204800 bytes, one request a connection and 100 requests on one. Each figure is the difference of two runs, so that what a start costs
-# isn't in it. PROGRAM is the built program, as `rt ci` leaves it. With a second word, the twenty dearest functions of each case go to the folder that it names.
+# isn't in it. A last column has the same exchanges of one connection by `replay`, whose links are in memory: what is left is the core, and what a record
+# and a report cost. PROGRAM is the built program, as `rt ci` leaves it. With a second word, the twenty dearest functions of each case go to the folder that it names.
 set -u
 here="$(cd "$(dirname "$0")/.." && pwd)"
 program="$(realpath "${1:-$here/crates/htx_proxy/out/htx_proxy}")"
@@ -62,6 +63,33 @@ def read_answer(link, size):
         if not piece: raise SystemExit("price: the answer broke off")
         body += len(piece)
 
+def counted(words, out):
+    done = subprocess.run(["valgrind", "--tool=callgrind", f"--callgrind-out-file={out}", program] + words,
+                          stdout=subprocess.DEVNULL, stderr=subprocess.PIPE)
+    said = done.stderr.decode()
+    if done.returncode != 0:
+        raise SystemExit(f"price: the program ended with {done.returncode}\n{said}")
+    return int(re.search(r"Collected : (\d+)", said).group(1))
+
+def in_memory(exchanges, size, name):
+    client, server = REQUEST * exchanges, answer(size)
+    with open(f"{work}/m.cfg", "w") as f:
+        f.write(f"listen p\n  bind 127.0.0.1:8080\n  server s 127.0.0.1:8081\n{RULES}")
+    with open(f"{work}/m.rec", "wb") as f:
+        f.write(b"PXREC 1\nclient %d closed\n" % len(client) + client + b"\n")
+        for _ in range(exchanges):
+            f.write(b"server %d closed all\n" % len(server) + server + b"\n")
+        f.write(b"turns 0\nend\n")
+    total = counted(["replay", f"{work}/m.cfg", f"{work}/m.rec"], f"{work}/{name}.out")
+    keep(name)
+    return total
+
+def keep(name):
+    if kept:
+        os.makedirs(kept, exist_ok=True)
+        text = subprocess.run(["callgrind_annotate", f"{work}/{name}.out"], capture_output=True, text=True).stdout
+        open(f"{kept}/{name}.txt", "w").write("\n".join(text.split("\n")[:60]) + "\n")
+
 def run(connections, requests, size, name):
     front, back = free_port(), free_port()
     with open(f"{work}/p.cfg", "w") as f:
@@ -89,15 +117,13 @@ def run(connections, requests, size, name):
     if proxy.returncode != 0:
         raise SystemExit(f"price: the program ended with {proxy.returncode}\n{said}")
     total = int(re.search(r"Collected : (\d+)", said).group(1))
-    if kept:
-        os.makedirs(kept, exist_ok=True)
-        text = subprocess.run(["callgrind_annotate", out], capture_output=True, text=True).stdout
-        open(f"{kept}/{name}.txt", "w").write("\n".join(text.split("\n")[:60]) + "\n")
+    keep(name)
     return total
 
-print("answer     a connection each     100 on one connection")
+print("answer     a connection each     100 on one connection     in memory")
 for size in (2, 204800):
     few, many = run(2, 1, size, f"few-{size}"), run(12, 1, size, f"many-{size}")
     one, hundred = run(1, 1, size, f"one-{size}"), run(1, 101, size, f"hundred-{size}")
-    print(f"{size:6} {(many - few) // 10:20,} {(hundred - one) // 100:24,}")
+    short, long = in_memory(10, size, f"short-{size}"), in_memory(110, size, f"long-{size}")
+    print(f"{size:6} {(many - few) // 10:20,} {(hundred - one) // 100:24,} {(long - short) // 100:15,}")
 PY
