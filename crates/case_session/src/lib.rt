@@ -2,6 +2,9 @@
 #![tactic(auto)]
 
 mod facts;
+mod records;
 mod sessions;
 
+pub use facts::facts_of;
+pub use records::record_in;
 pub use sessions::{made, session_made};

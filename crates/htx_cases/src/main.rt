@@ -4,6 +4,7 @@
 
 use case_rows::{Fault, Row, Score, decoded};
 use case_session::session_made;
+use case_windows::windows_made;
 use std::alloc::{AllocError, Global};
 use std::env::Env;
 use std::rt::Files;
@@ -48,11 +49,19 @@ fn made_of_rules(alloc: Global, kind: &str, row: Row<'_>) -> Option<Result<Vec<u
     }
 }
 
-/// What a row of conditions, of rules or of the program comes to.
+/// What a row of the program comes to.
 fn made_of_program(alloc: Global, kind: &str, row: Row<'_>) -> Option<Result<Vec<u8>, Fault>> {
+    match case_session::made(alloc, kind, row) {
+        Some(made) => Some(made),
+        None => case_served::made(alloc, kind, row),
+    }
+}
+
+/// What a row of conditions, of rules or of the program comes to.
+fn made_of_runs(alloc: Global, kind: &str, row: Row<'_>) -> Option<Result<Vec<u8>, Fault>> {
     match made_of_rules(alloc, kind, row) {
         Some(made) => Some(made),
-        None => case_session::made(alloc, kind, row),
+        None => made_of_program(alloc, kind, row),
     }
 }
 
@@ -68,7 +77,7 @@ fn made_of_texts(alloc: Global, kind: &str, row: Row<'_>) -> Option<Result<Vec<u
 fn made_of_wholes(alloc: Global, kind: &str, row: Row<'_>) -> Option<Result<Vec<u8>, Fault>> {
     match made_of_texts(alloc, kind, row) {
         Some(made) => Some(made),
-        None => made_of_program(alloc, kind, row),
+        None => made_of_runs(alloc, kind, row),
     }
 }
 
@@ -122,6 +131,14 @@ fn bytes_in<R: Files + AllocGlobal>(
     fs::read(rt, path.as_str())
 }
 
+/// What a session of files comes to, as the file of this ending tells it.
+fn made_of_files(alloc: Global, ending: &str, cfg: &[u8], rec: &[u8]) -> Result<Vec<u8>, Fault> {
+    match ending {
+        "windows" => windows_made(alloc, cfg, rec),
+        _ => session_made(alloc, ending, cfg, rec),
+    }
+}
+
 /// Runs the session of which a file NAME.report, NAME.expected or NAME.check says what must be written. NAME.cfg stands
 /// beside it, and so does NAME.rec where there is a record.
 fn run_session<R: Files + Print + AllocGlobal>(
@@ -142,7 +159,7 @@ fn run_session<R: Files + Print + AllocGlobal>(
         "check" => Vec::new(rt.alloc()),
         _ => bytes_in(rt, place, base, "rec")?,
     };
-    let made = session_made(rt.alloc(), ending, &cfg, &rec);
+    let made = made_of_files(rt.alloc(), ending, &cfg, &rec);
     score.note(rt, "sessions", name, &expected, &made)
 }
 

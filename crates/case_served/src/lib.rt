@@ -1,0 +1,8 @@
+//! Rows of clients that `serve` serves over links and a net in memory, one call of which may fail.
+#![tactic(auto)]
+
+mod failing;
+mod links;
+mod served;
+
+pub use served::made;
