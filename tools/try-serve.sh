@@ -35,12 +35,12 @@ end_all() {
 }
 trap end_all EXIT
 
-# ports that nobody listens at now
+# ports that nobody listens at now, below those that the system gives to clients
 listens() { grep -qi "^ *[0-9]*: [0-9A-F]*:$(printf '%04X' "$1") 00000000:0000 0A" /proc/net/tcp; }
 free_port() {
   local port
   while :; do
-    port=$((20000 + RANDOM % 20000))
+    port=$((20000 + RANDOM % 12000))
     listens "$port" || { echo "$port"; return; }
   done
 }
@@ -162,26 +162,38 @@ one "POST of 1 MB by chunks" "$(kept "$work/heads")"
 serve 1; fetch "$url/large" -o "$work/got"
 one "download of 1 MB" "$(cmp "$work/got" "$work/www/large" 2>&1)"
 
-serve 1; upload -H 'Expect: 100-continue' --expect100-timeout 10
-one "Expect: 100-continue" "$(grep -q '^HTTP/1.1 100' "$work/heads" || echo 'no 100 came '; kept "$work/heads")"
+# a request with an `expect` field and one of HTTP/1.0 aren't kept: their answers say so, and the session is over with `closed`
+closes() { grep -qi '^connection: close' "$work/heads" || echo 'no connection: close came '; }
 
-serve 1; fetch -0 "$url/small" -o "$work/got"
-one "HTTP/1.0" "$(cmp "$work/got" "$work/www/small" 2>&1)"
+serve 1; upload -H 'Expect: 100-continue' --expect100-timeout 10
+finish "Expect: 100-continue" "$(grep -q '^HTTP/1.1 100' "$work/heads" || echo 'no 100 came '; closes; kept "$work/heads")" 'end closed exchanges 1'
+
+serve 1; fetch -0 "$url/small" -o "$work/got" -D "$work/heads"
+finish "HTTP/1.0" "$(closes; cmp "$work/got" "$work/www/small" 2>&1)" 'end closed exchanges 1'
 
 serve 1; fetch "$url/small?[1-100]" -o /dev/null -w '%{num_connects} %{http_code}\n' >"$work/got"
 finish "100 requests on one connection" "$(awk '{ made += $1; if ($2 == 200) good++ } END { if (made != 1 || good != 100) printf "connections %d, answers 200 %d ", made, good }' "$work/got")" 'end done exchanges 100'
 
-half() { # sends the head and a part of a body, and closes; with the word reset it resets
+half() { # sends the head and a part of a body, and closes; with the word reset it resets, with the word end it sends its end and prints what comes
   python3 - "$front" "$1" <<'PY'
 import socket, struct, sys
 peer = socket.create_connection(("127.0.0.1", int(sys.argv[1])))
 peer.sendall(b"POST /upload HTTP/1.1\r\nHost: h\r\nContent-Length: 1000\r\n\r\nonly this")
 if sys.argv[2] == "reset":
     peer.setsockopt(socket.SOL_SOCKET, socket.SO_LINGER, struct.pack("ii", 1, 0))
+if sys.argv[2] == "end":
+    peer.shutdown(socket.SHUT_WR)
+    peer.settimeout(20)
+    while more := peer.recv(4096):
+        sys.stdout.buffer.write(more)
 peer.close()
 PY
 }
-over='(end (closed|cut) exchanges 1|client write fault)'
+# a client that is gone may be found out when the refusal is written to it
+over='(end closed exchanges 1|client write fault)'
+
+serve 1; half end >"$work/got"
+finish "a client that sends its end in mid-body" "$(head -1 "$work/got" | grep -q '^HTTP/1.1 400 ' || echo "the answer is $(head -c 100 "$work/got") ")" 'end closed exchanges 1'
 
 serve 2; half close; fetch "$url/small" -o "$work/got"
 finish "a client that closes in mid-body, and the next one" "$(cmp "$work/got" "$work/www/small" 2>&1)" "$over" 'end done exchanges 1'
