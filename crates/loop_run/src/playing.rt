@@ -1,5 +1,5 @@
 //! The clients and the origin, played against a process that serves.
-ghost use Rattle.std.specs.Prelude.{◌<◌, IfOk};
+ghost use Rattle.std.specs.Prelude.{◌≡◌, ◌<◌, IfOk};
 
 use crate::ports::{Ports, loopback};
 use proxy_call::Status;
@@ -19,13 +19,22 @@ const TRIES: u32 = 6000;
 
 const PAUSE_MILLIS: u64 = 5;
 
+/// Whom a client's request comes to.
+#[derive(Clone, Copy)]
+enum Visit {
+    /// The origin, which answers it through the program.
+    Origin,
+    /// The program, which answers it itself.
+    Program,
+}
+
 /// Why the visits stopped.
 #[derive(Clone, Copy, Debug)]
 enum Stop {
     /// The origin's port is taken.
     Taken,
     /// A visit stopped.
-    Visit(PlayFault),
+    Stopped(PlayFault),
     /// What a visit came to could not be written.
     Output,
 }
@@ -35,7 +44,7 @@ impl Stop {
     fn status(self) -> ExitCode {
         match self {
             Stop::Taken => ExitCode::from(Status::NetFault as u8),
-            Stop::Visit(_) => ExitCode::FAILURE,
+            Stop::Stopped(_) => ExitCode::FAILURE,
             Stop::Output => ExitCode::FAILURE,
         }
     }
@@ -43,13 +52,13 @@ impl Stop {
 
 impl From<PlayFault> for Stop {
     fn from(fault: PlayFault) -> Self {
-        Stop::Visit(fault)
+        Stop::Stopped(fault)
     }
 }
 
 impl From<OutOfMemory> for Stop {
     fn from(_: OutOfMemory) -> Self {
-        Stop::Visit(PlayFault::OutOfMemory)
+        Stop::Stopped(PlayFault::OutOfMemory)
     }
 }
 
@@ -71,33 +80,25 @@ fn connect<C: Clock, N: Net>(
     Err(PlayFault::Broken)
 }
 
-/// The first client's visit, which reaches the origin.
-fn visit_origin<C: Clock, N: Net>(
-    clock: &C,
-    net: &mut N,
-    program: &Address,
-) -> Result<(), PlayFault> {
-    let mut client = match connect(clock, net, program) {
-        Ok(client) => client,
-        Err(fault) => return Err(fault),
-    };
-    let went = forwarded(&mut client, net);
-    client.close(Close::Clean);
-    net.keep(client);
-    went
+/// What a client does once it is connected.
+fn meet<N: Net>(visit: Visit, client: &mut N::Link, net: &mut N) -> Result<(), PlayFault>
+    ensures { (N.seen net.new).lent ≡ (N.seen net.old).lent }
+{
+    match visit {
+        Visit::Origin => forwarded(client, net),
+        Visit::Program => redirected(client),
+    }
 }
 
-/// The second client's visit, which the program answers itself.
-fn visit_program<C: Clock, N: Net>(
+/// One client's visit to the program.
+fn make<C: Clock, N: Net>(
+    visit: Visit,
     clock: &C,
     net: &mut N,
     program: &Address,
 ) -> Result<(), PlayFault> {
-    let mut client = match connect(clock, net, program) {
-        Ok(client) => client,
-        Err(fault) => return Err(fault),
-    };
-    let went = redirected(&mut client);
+    let mut client = connect(clock, net, program)?;
+    let went = meet(visit, &mut client, net);
     client.close(Close::Clean);
     net.keep(client);
     went
@@ -108,7 +109,7 @@ fn listen<N: Net>(net: &mut N, at: &Address) -> Result<(), Stop> {
     match net.bind(at) {
         Ok(()) => Ok(()),
         Err(Fault::Failed) => Err(Stop::Taken),
-        Err(Fault::OutOfMemory) => Err(Stop::Visit(PlayFault::OutOfMemory)),
+        Err(Fault::OutOfMemory) => Err(Stop::Stopped(PlayFault::OutOfMemory)),
     }
 }
 
@@ -126,10 +127,11 @@ fn visits<R: net::Net + Clock + Print + AllocGlobal>(rt: &R, ports: Ports) -> Re
     let origin = loopback(rt.alloc(), ports.back)?;
     let mut net = RealNet::new(rt.alloc(), rt);
     listen(&mut net, &origin)?;
-    visit_origin(rt, &mut net, &program)?;
-    say(rt)?;
-    visit_program(rt, &mut net, &program)?;
-    say(rt)
+    for visit in [Visit::Origin, Visit::Program] {
+        make(visit, rt, &mut net, &program)?;
+        say(rt)?;
+    }
+    Ok(())
 }
 
 /// Makes the visits, and writes `ok` for each that went as it has to.
