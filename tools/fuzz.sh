@@ -2,7 +2,7 @@
 # fuzz.sh [PROGRAM [SECONDS [SEED]]]: sessions at random through `check`, `check --record` and `replay`: the named ones of htx_cases with bytes, lines and
 # streams changed, and others made of pieces. Each answer has to be one that the product names; a record has to be read, or refused, as a reader in Python does;
 # a refused configuration or record has to be refused alike by `replay`; each report has to be well formed: what servers and the client were sent is read back,
-# and goes with the ends, the cut and the closes; and the same session under other turns, or beside itself as a second connection, has to give the same report
+# goes with the ends, the cut and the closes, and under filters alone is what a model in Python makes of the session; and the same session under other turns, or beside itself as a second connection, has to give the same report
 # but for the free parts: cuts into chunks, interim heads in front of a refusal, whether a cut was met before the answer had begun, how much a server took that
 # stopped. What isn't so is kept in a folder that the last line names, and the status is 1. It is no part of the gate.
 set -u

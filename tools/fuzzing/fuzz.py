@@ -1,9 +1,10 @@
 """fuzz.py PROGRAM FOLDER SECONDS SEED: see fuzz.sh."""
 import collections, glob, os, re, shutil, subprocess, sys, tempfile, time
 
+import model
 import pieces
 from records import Refused, read_record, write_record
-from sent import alike, facts, sound
+from sent import alike, facts, meant, sound
 
 program, sessions, seconds, seed = sys.argv[1], sys.argv[2], float(sys.argv[3]), int(sys.argv[4])
 pieces.draw.seed(seed)
@@ -40,7 +41,11 @@ def trial(cfg, rec):
     version, conns, turns = record
     if replayed[0] != 0: raise ValueError(f"status {replayed[0]} of replay")
     one = facts(replayed[1], conns)
-    for fact, conn in zip(one, conns): sound(fact, conn)
+    try: config = model.config_of(cfg)
+    except (model.Unsaid, ValueError, IndexError, KeyError): config = None
+    for fact, conn in zip(one, conns):
+        why = meant(fact, conn, config) if config else sound(fact, conn) and None
+        if why: lay("other", replayed[1]); raise ValueError(f"the model: {why}")
     again = run("replay", c, lay("r", write_record(version, conns, pieces.some_turns(len(conns)))))
     twice = run("replay", c, lay("r", write_record(2, conns + conns, []))) if len(conns) <= 512 else (0, b"")
     if again[0] or twice[0]: raise ValueError("replay of other turns, or twice")
@@ -52,7 +57,7 @@ def trial(cfg, rec):
     for a, b, conn in zip(one, both, conns):
         why = alike(a, b, conn)
         if why: lay("other", twice[1]); raise ValueError(f"without turns: {why}")
-    return "sessions compared"
+    return "sessions compared with the model" if config else "sessions compared with themselves"
 
 
 bases = [(open(f, "rb").read(), open(f[:-4] + ".rec", "rb").read()) for f in sorted(glob.glob(sessions + "/*.cfg")) if os.path.exists(f[:-4] + ".rec")]

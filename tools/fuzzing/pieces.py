@@ -41,13 +41,13 @@ def change_lines(text, others):
 
 
 def some_body():
-    return bytes(draw.choice(b"aabbxy") for _ in range(draw.choice([0, 1, 2, 3, 5, 8, 40, 300])))
+    return bytes(draw.choice(b"aabbxy") for _ in range(draw.choice([0, 1, 2, 3, 5, 8, 40, 300, 1500, 5000])))
 
 
 def some_chunks(body):
     out, at = b"", 0
     while at < len(body):
-        size = draw.choice([1, 2, 3, 16, 100]); piece = body[at:at + size]; at += size
+        size = draw.choice([1, 2, 3, 16, 100, 1000]); piece = body[at:at + size]; at += size
         out += b"%s%s\r\n%s\r\n" % (draw.choice([b"%x", b"%X", b"0%x"]) % len(piece), draw.choice([b"", b"", b"", b";e=1", b" ", b" ;"]), piece)
     return out + draw.choice([b"0\r\n\r\n"] * 5 + [b"0\r\nT: v\r\n\r\n", b"0;x\r\nHost: h\r\nA: 1\r\n\r\n", b"0\r\n", b"", b"0\r\nbad\r\n\r\n", b"g\r\n"])
 
@@ -64,16 +64,21 @@ def framed(head):
 FIELDS = [b"X-A: 1, \"2,3\"", b"Cookie: a=1, b=2, a=3", b"Connection: close", b"Connection: keep-alive, x-a", b"Expect: 100-continue", b"TE: trailers", b"Upgrade: x", b"Host: k", b"Accept: */*", b"X-L: " + b"l" * 200]
 
 
+def some_long():
+    """At times a field that brings a head near the limits of a small buffer."""
+    return [b"X-M: " + b"m" * draw.randint(600, 1000)] if draw.random() < 0.1 else []
+
+
 def some_request():
     head = b"%s %s HTTP/1.%d\r\n" % (draw.choice([b"GET", b"GET", b"POST", b"POST", b"HEAD", b"PUT", b"CONNECT", b"OPTIONS"]),
                                     draw.choice([b"/a", b"/a?b=1", b"/b/ab?x", b"*", b"http://h/p?q", b"/old/x", b"/d", b"/r", b"/"]), draw.choice([1] * 9 + [0]))
-    fields = ([b"Host: h"] if draw.random() < 0.95 else []) + draw.sample(FIELDS, draw.choice([0, 0, 1, 2]))
+    fields = ([b"Host: h"] if draw.random() < 0.95 else []) + draw.sample(FIELDS, draw.choice([0, 0, 1, 2])) + some_long()
     return draw.choice([b""] * 8 + [b"\r\n", b"\n"]) + framed(head + b"".join(f + b"\r\n" for f in fields))
 
 
 def some_answer():
     head = b"HTTP/1.%d %d %s\r\n" % (draw.choice([1, 1, 1, 0]), draw.choice([200] * 5 + [204, 304, 404, 500, 101, 999, 201]), draw.choice([b"OK", b"", b"Not here"]))
-    fields = draw.sample([b"Server: x", b"Content-Type: text/html", b"Connection: close", b"Connection: server", b"Keep-Alive: 1", b"X-S: \t s "], draw.choice([0, 1, 2]))
+    fields = draw.sample([b"Server: x", b"Content-Type: text/html", b"Connection: close", b"Connection: server", b"Keep-Alive: 1", b"X-S: \t s "], draw.choice([0, 1, 2])) + some_long()
     return b"".join(draw.choice([b"HTTP/1.1 100 Continue\r\n\r\n", b"HTTP/1.1 103 Early Hints\r\nLink: l\r\n\r\n"]) for _ in range(draw.choice([0, 0, 0, 1, 2]))) + framed(head + b"".join(f + b"\r\n" for f in fields))
 
 
@@ -90,6 +95,13 @@ def some_connection():
 def some_turns(conns):
     most = draw.choice([1, 1, 4096])
     return [(draw.randint(1, conns), draw.choice([b"c", b"C", b"s", b"S"]), draw.choice([1, 2, 7, 64, most])) for _ in range(draw.choice([1, 40, 200, 900]))]
+
+
+def some_filters():
+    """A configuration of filters alone, which the model knows."""
+    kinds = [b"body-limit %s 4", b"body-limit %s 40", b"body-deny %s b", b"body-deny %s yy", b"body-replace %s ab X", b"body-replace %s a xx", b"body-replace %s aa b"]
+    lines = [b"listen p", b"  bind 127.0.0.1:8080", b"  server s 127.0.0.1:8081"] + [b"  filter " + draw.choice(kinds) % draw.choice([b"req", b"res"]) for _ in range(draw.choice([0, 0, 1, 2, 3]))]
+    return b"\n".join(lines + ([b"global", b"tune.bufsize 1024", b"tune.maxrewrite %d" % draw.choice([0, 256, 512])] if draw.random() < 0.5 else [])) + b"\n"
 
 
 def some_config():
@@ -117,7 +129,7 @@ def some_session(bases):
     cfg, rec = draw.choice(bases); kind = draw.random()
     if kind < 0.4:
         conns = [some_connection() for _ in range(draw.choice([1, 1, 1, 2]))]
-        rec = write_record(2 if len(conns) > 1 else draw.choice([1, 2]), conns, []); cfg = some_config() if draw.random() < 0.8 else cfg
+        rec = write_record(2 if len(conns) > 1 else draw.choice([1, 2]), conns, []); cfg = draw.choice([some_config, some_filters, some_filters, lambda: cfg])()
     elif kind < 0.6: rec = draw.choice([change, lambda text: change_lines(text, PIECES)])(rec)
     elif kind < 0.9: rec = changed_record(rec)
     else: rec = draw.choice(bases)[1]

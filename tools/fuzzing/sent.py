@@ -1,6 +1,7 @@
 """What a report tells, read back: its form, what servers and the client were sent, and whether two reports of a session differ in the free parts alone."""
 import re
 
+import model
 from records import NUMBER
 
 FIELD = re.compile(rb"([!#$%&'*+.^_`|~0-9a-z-]+): ((?:[^\x00-\x08\x0a-\x1f\x7f]*))\r\n")
@@ -174,3 +175,20 @@ def alike(one, two, conn):
     last, other = answers[-1], more[-1]
     if bits[0] == b"before" and last[0][:len(other[0])] != other[0][:len(last[0])]: return "interim heads"
     return None if (last if bits[0] != b"before" else last[1:]) == (other if bits[0] != b"before" else other[1:]) else "the last answer"
+
+
+def meant(fact, conn, config):
+    """Where a report of a connection isn't what the model says, why."""
+    (exchanges, end, cut, client, servers), (sent, answers) = fact, sound(fact, conn)
+    wanted = model.session(config, conn, cut)
+    if (exchanges, end) != wanted[:2]: return f"exchanges and end, where the model has {wanted[:2]}"
+    if len(servers) != len(wanted[2]): return "the number of servers"
+    for server, got, want in zip(servers, sent, wanted[2]):
+        if got is None or want is None:
+            if got != want: return "a refused server"
+        elif server[1] != want[3] or not same_request(got, want[:3]): return f"a server's text, where the model has {want}"
+    if len(answers) != len(wanted[3]): return "the number of answers"
+    for i, ((interim, *answer), (others, wants)) in enumerate(zip(answers, wanted[3])):
+        before = cut == b"before" and i == len(answers) - 1
+        if tuple(answer) != tuple(wants) or interim != (others[:len(interim)] if before else others): return f"answer {i + 1}, where the model has {others, wants}"
+    return None
