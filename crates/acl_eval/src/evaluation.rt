@@ -10,10 +10,10 @@ use px_sample::{Buf, Env, OutOfMemory};
 use std::alloc::Global;
 
 /// Whether some sample of the test matches some value.
-fn test_holds<'c, E: Env>(
+fn test_holds<E: Env>(
     alloc: Global,
-    searchers: &mut Searchers<'c>,
-    test: &'c Test,
+    searchers: &mut Searchers,
+    test: &Test,
     env: &E,
     buf: &mut Buf,
     spare: &mut Buf,
@@ -38,10 +38,10 @@ fn test_holds<'c, E: Env>(
 }
 
 /// Whether one of the tests holds.
-fn some_test_holds<'c, E: Env>(
+fn some_test_holds<E: Env>(
     alloc: Global,
-    searchers: &mut Searchers<'c>,
-    tests: &'c TestList,
+    searchers: &mut Searchers,
+    tests: &TestList,
     env: &E,
     buf: &mut Buf,
     spare: &mut Buf,
@@ -61,10 +61,10 @@ fn some_test_holds<'c, E: Env>(
 }
 
 /// Whether the term holds.
-fn term_holds<'c, E: Env>(
+fn term_holds<E: Env>(
     alloc: Global,
-    searchers: &mut Searchers<'c>,
-    term: &'c Term,
+    searchers: &mut Searchers,
+    term: &Term,
     env: &E,
     buf: &mut Buf,
     spare: &mut Buf,
@@ -87,10 +87,10 @@ fn turned(negated: bool, truth: bool) -> bool
 }
 
 /// Whether each term of the group holds.
-fn group_holds<'c, E: Env>(
+fn group_holds<E: Env>(
     alloc: Global,
-    searchers: &mut Searchers<'c>,
-    terms: &'c TermList,
+    searchers: &mut Searchers,
+    terms: &TermList,
     env: &E,
     buf: &mut Buf,
     spare: &mut Buf,
@@ -110,10 +110,10 @@ fn group_holds<'c, E: Env>(
 }
 
 /// Whether one of the groups has only terms that hold.
-fn some_group_holds<'c, E: Env>(
+fn some_group_holds<E: Env>(
     alloc: Global,
-    searchers: &mut Searchers<'c>,
-    groups: &'c GroupList,
+    searchers: &mut Searchers,
+    groups: &GroupList,
     env: &E,
     buf: &mut Buf,
     spare: &mut Buf,
@@ -134,10 +134,10 @@ fn some_group_holds<'c, E: Env>(
 
 /// Whether a condition holds. Samples are made in `buf`, and one of more bytes than `buf` holds is absent. `spare` has the
 /// size of `buf`; what the two hold afterwards is left open. Only a pattern takes memory.
-pub fn holds<'c, E: Env>(
+pub fn holds<E: Env>(
     alloc: Global,
-    searchers: &mut Searchers<'c>,
-    cond: &'c Cond,
+    searchers: &mut Searchers,
+    cond: &Cond,
     env: &E,
     buf: &mut Buf,
     spare: &mut Buf,

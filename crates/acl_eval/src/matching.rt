@@ -51,11 +51,11 @@ fn matches_length(how: Match, low: Option<i64>, high: Option<i64>, text: &[u8]) 
 }
 
 /// Whether a pattern matches somewhere in a text.
-fn matches_pattern<'c>(
+fn matches_pattern(
     alloc: Global,
-    searchers: &mut Searchers<'c>,
+    searchers: &mut Searchers,
     how: Match,
-    pat: &'c Pat,
+    pat: &Pat,
     text: &[u8],
 ) -> Result<bool, OutOfMemory>
     ensures { IfOk result (λ found. found ≡ pattern_matches how pat.now text.now) }
@@ -67,12 +67,12 @@ fn matches_pattern<'c>(
 }
 
 /// Whether a text matches a value.
-fn matches_text<'c>(
+fn matches_text(
     alloc: Global,
-    searchers: &mut Searchers<'c>,
+    searchers: &mut Searchers,
     how: Match,
     icase: bool,
-    value: &'c TestValue,
+    value: &TestValue,
     text: &[u8],
 ) -> Result<bool, OutOfMemory>
     ensures value { IfOk result (λ found. found ≡ text_matches how icase text.now value.now) }
@@ -86,10 +86,10 @@ fn matches_text<'c>(
 }
 
 /// Whether it matches one of the test's values.
-fn matches_a_text<'c>(
+fn matches_a_text(
     alloc: Global,
-    searchers: &mut Searchers<'c>,
-    test: &'c Test,
+    searchers: &mut Searchers,
+    test: &Test,
     text: &[u8],
 ) -> Result<bool, OutOfMemory>
     ensures value { IfOk result (λ found. found ≡ list_any (text_matches test.now.how test.now.icase text.now) test.now.values) }
@@ -111,10 +111,10 @@ fn matches_a_text<'c>(
 }
 
 /// Whether a sample matches the test. What `buf` holds afterwards is left open.
-pub fn matches_sample<'c>(
+pub fn matches_sample(
     alloc: Global,
-    searchers: &mut Searchers<'c>,
-    test: &'c Test,
+    searchers: &mut Searchers,
+    test: &Test,
     sample: Sample,
     buf: &mut Buf,
 ) -> Result<bool, OutOfMemory>

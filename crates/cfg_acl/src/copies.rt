@@ -55,7 +55,7 @@ fn copy_conv(alloc: Global, conv: &Conv) -> Result<Conv, OutOfMemory>
         Conv::Hex => Ok(Conv::Hex),
         Conv::UrlDec => Ok(Conv::UrlDec),
         Conv::Regsub(pat, template, which) => {
-            Ok(Conv::Regsub(pat.share()?, copy_text(alloc, template)?, *which))
+            Ok(Conv::Regsub(pat.share(), copy_text(alloc, template)?, *which))
         }
     }
 }
@@ -79,7 +79,7 @@ fn copy_value(alloc: Global, value: &TestValue) -> Result<TestValue, OutOfMemory
             high: *high,
         }),
         TestValue::Literal(text) => Ok(TestValue::Literal(copy_text(alloc, text)?)),
-        TestValue::Pattern(pat) => Ok(TestValue::Pattern(pat.share()?)),
+        TestValue::Pattern(pat) => Ok(TestValue::Pattern(pat.share())),
     }
 }
 

@@ -50,10 +50,10 @@ fn outcome_of(strict: bool, action: &Action, acted: Acted) -> Ruled
 }
 
 /// Whether the condition of a rule holds.
-fn runs<'c>(
+fn runs(
     alloc: Global,
-    searchers: &mut Searchers<'c>,
-    rule: &'c Rule,
+    searchers: &mut Searchers,
+    rule: &Rule,
     side: Side<'_>,
     msg: &Arena,
     vars: &Vars,
@@ -71,10 +71,10 @@ fn runs<'c>(
 }
 
 /// Runs one rule under a mode.
-fn run_rule<'c>(
+fn run_rule(
     alloc: Global,
-    searchers: &mut Searchers<'c>,
-    rule: &'c Rule,
+    searchers: &mut Searchers,
+    rule: &Rule,
     strict: bool,
     side: Side<'_>,
     msg: &mut Arena,
@@ -102,7 +102,7 @@ fn run_rule<'c>(
 /// Runs rules in their order. The first one that does not go on decides, or is to be answered by.
 fn run_rules<'c>(
     alloc: Global,
-    searchers: &mut Searchers<'c>,
+    searchers: &mut Searchers,
     rules: &'c Rules,
     side: Side<'_>,
     msg: &mut Arena,
@@ -142,10 +142,10 @@ fn verdict_by(step: Stepped) -> Verdict
 }
 
 /// Runs rules that may answer by themselves; a reply comes into its own array.
-fn run_all<'c>(
+fn run_all(
     alloc: Global,
-    searchers: &mut Searchers<'c>,
-    rules: &'c Rules,
+    searchers: &mut Searchers,
+    rules: &Rules,
     side: Side<'_>,
     msg: &mut Arena,
     vars: &mut Vars,
@@ -174,10 +174,10 @@ fn run_all<'c>(
 
 /// Runs the rules of requests on a head. Pass leaves the edited head; Reply leaves a reply in its own array, without a field that
 /// speaks of the connection; Fail leaves the head in front of the step that failed.
-pub fn run_request<'c>(
+pub fn run_request(
     alloc: Global,
-    searchers: &mut Searchers<'c>,
-    rules: &'c Rules,
+    searchers: &mut Searchers,
+    rules: &Rules,
     msg: &mut Arena,
     vars: &mut Vars,
     scratch: &mut Scratch,
@@ -207,10 +207,10 @@ pub fn run_request<'c>(
 }
 
 /// Runs the rules of responses on a head, which answers a request of this method. As `run_request`.
-pub fn run_response<'c>(
+pub fn run_response(
     alloc: Global,
-    searchers: &mut Searchers<'c>,
-    rules: &'c Rules,
+    searchers: &mut Searchers,
+    rules: &Rules,
     method: &[u8],
     msg: &mut Arena,
     vars: &mut Vars,
@@ -242,10 +242,10 @@ pub fn run_response<'c>(
 
 /// Runs the rules on what the client is sent: on a head, with a body or none behind it, that answers a request of this method, which is
 /// empty where no head was read. They neither reply nor deny.
-pub fn run_after<'c>(
+pub fn run_after(
     alloc: Global,
-    searchers: &mut Searchers<'c>,
-    rules: &'c Rules,
+    searchers: &mut Searchers,
+    rules: &Rules,
     method: &[u8],
     msg: &mut Arena,
     vars: &mut Vars,

@@ -25,10 +25,10 @@ fn put_sample(made: Sample, buf: &mut Buf, into: &mut Buf) -> bool
 }
 
 /// Puts the text of a part behind what `into` holds; false where it doesn't fit.
-fn put_part<'c, E: Env>(
+fn put_part<E: Env>(
     alloc: Global,
-    searchers: &mut Searchers<'c>,
-    part: &'c Part,
+    searchers: &mut Searchers,
+    part: &Part,
     env: &E,
     into: &mut Buf,
     buf: &mut Buf,
@@ -56,10 +56,10 @@ fn put_part<'c, E: Env>(
 /// holds, and then `into` is empty. Samples are made in `buf`, so one whose text is longer than `buf` holds adds
 /// nothing. `spare` has the size of `buf`; what these two hold afterwards is left open, and so is `into` after a
 /// want of memory.
-pub fn format<'c, E: Env>(
+pub fn format<E: Env>(
     alloc: Global,
-    searchers: &mut Searchers<'c>,
-    fmt: &'c Fmt,
+    searchers: &mut Searchers,
+    fmt: &Fmt,
     env: &E,
     into: &mut Buf,
     buf: &mut Buf,

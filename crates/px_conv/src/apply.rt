@@ -13,10 +13,10 @@ use std::alloc::Global;
 /// more bytes than the buffer holds is absent, and so is what is made of a sample that is absent or can't be cast.
 /// `spare` has the buffer's size; what it holds afterwards is left open. `regsub` alone takes memory, and where none
 /// is left, what the buffers hold is left open.
-pub fn convert<'c>(
+pub fn convert(
     alloc: Global,
-    searchers: &mut Searchers<'c>,
-    conv: &'c Conv,
+    searchers: &mut Searchers,
+    conv: &Conv,
     sample: Sample,
     buf: &mut Buf,
     spare: &mut Buf,

@@ -78,10 +78,10 @@ fn go_on<'a>(which: Matches, was_empty: bool, rest: &'a [u8], into: &mut Buf) ->
 }
 
 /// Replaces the first match in the text.
-fn replace_one<'a, 'c>(
+fn replace_one<'a>(
     alloc: Global,
-    searchers: &mut Searchers<'c>,
-    pat: &'c Pat,
+    searchers: &mut Searchers,
+    pat: &Pat,
     template: &[u8],
     which: Matches,
     text: &'a [u8],
@@ -103,10 +103,10 @@ fn replace_one<'a, 'c>(
 }
 
 /// Replaces the first match in the text, or all, behind what the buffer holds; false where the whole does not fit.
-fn replace<'c>(
+fn replace(
     alloc: Global,
-    searchers: &mut Searchers<'c>,
-    pat: &'c Pat,
+    searchers: &mut Searchers,
+    pat: &Pat,
     template: &[u8],
     which: Matches,
     text: &[u8],
@@ -127,10 +127,10 @@ fn replace<'c>(
 }
 
 /// The sample with the first match replaced by the template, or all matches.
-pub fn substitute<'c>(
+pub fn substitute(
     alloc: Global,
-    searchers: &mut Searchers<'c>,
-    pat: &'c Pat,
+    searchers: &mut Searchers,
+    pat: &Pat,
     template: &[u8],
     which: Matches,
     sample: Sample,

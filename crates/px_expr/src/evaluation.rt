@@ -11,10 +11,10 @@ use px_sample::{Buf, Env, OutOfMemory, Place, Sample};
 use std::alloc::Global;
 
 /// Puts a sample through converters, up to one that makes nothing of it.
-fn convert_all<'c>(
+fn convert_all(
     alloc: Global,
-    searchers: &mut Searchers<'c>,
-    convs: &'c ConvList,
+    searchers: &mut Searchers,
+    convs: &ConvList,
     first: Sample,
     buf: &mut Buf,
     spare: &mut Buf,
@@ -38,10 +38,10 @@ fn convert_all<'c>(
 /// The sample of an expression: the last of its fetch, put through the converters. Its bytes stand in `buf`, and a
 /// sample of more bytes than `buf` holds is absent. `spare` has the size of `buf`; what it holds afterwards is left
 /// open, and so is `buf` after a want of memory.
-pub fn eval<'c, E: Env>(
+pub fn eval<E: Env>(
     alloc: Global,
-    searchers: &mut Searchers<'c>,
-    expr: &'c Expr,
+    searchers: &mut Searchers,
+    expr: &Expr,
     env: &E,
     buf: &mut Buf,
     spare: &mut Buf,
@@ -58,10 +58,10 @@ pub fn eval<'c, E: Env>(
 
 /// The sample of this number, counted from 0, of those that a condition tries: each of the fetch, put through the
 /// converters. None past the last, and then `buf` is unchanged. Else as `eval`.
-pub fn eval_nth<'c, E: Env>(
+pub fn eval_nth<E: Env>(
     alloc: Global,
-    searchers: &mut Searchers<'c>,
-    expr: &'c Expr,
+    searchers: &mut Searchers,
+    expr: &Expr,
     nth: u32,
     env: &E,
     buf: &mut Buf,
@@ -83,10 +83,10 @@ pub fn eval_nth<'c, E: Env>(
 
 /// The sample at a place, put through the converters; the place moves on to the next one. None past the last. A condition tries
 /// the samples so, from `Env::start` on, and the walk goes over a message once. Else as `eval`.
-pub fn eval_next<'c, E: Env>(
+pub fn eval_next<E: Env>(
     alloc: Global,
-    searchers: &mut Searchers<'c>,
-    expr: &'c Expr,
+    searchers: &mut Searchers,
+    expr: &Expr,
     place: &mut Place,
     env: &E,
     buf: &mut Buf,

@@ -10,13 +10,13 @@ use htx_model::OutOfMemory;
 use regex::bytes::{Matcher, Regex};
 use std::alloc::Global;
 use std::marker::Model;
-use std::rc::Rc;
 
-/// A pattern that was built. It does not change, and may be shared. Contracts see its text and whether it ignores case.
-/// The number that its builder gave it says where a searcher for it is kept, and nothing else.
+/// A pattern that was built. It does not change, and may be shared. Contracts see its text and whether it ignores case. What was
+/// built lives as long as the program, so that what searches for it names no lifetime. The number that its builder gave it says
+/// where a searcher for it is kept, and nothing else.
 #[derive(Debug, Drop)]
 pub struct Pat {
-    regex: Rc<Regex>,
+    regex: &'static Regex,
     icase: bool,
     number: u32,
 }
@@ -35,12 +35,13 @@ impl Model for Pat {
 
 /// What searches for a pattern, text after text. To make one costs more than a search does.
 #[derive(Drop)]
-pub struct Searcher<'p> {
-    pat: &'p Pat,
-    matcher: Matcher<'p>,
+pub struct Searcher {
+    regex: &'static Regex,
+    icase: bool,
+    matcher: Matcher<'static>,
 }
 
-impl<'p> Model for Searcher<'p> {
+impl Model for Searcher {
     ghost use Rattle.px_pattern.specs.Pattern.{Pattern};
 
     ghost Value = { Pattern };
@@ -64,7 +65,7 @@ impl Pat {
         ensures value { IfOk result (λ pat. pat ≡ record { text = regex_source regex; icase = icase }) }
         ensures read { IfOk result IsPattern }
     {
-        let regex = Rc::new(alloc, regex)?;
+        let regex = Box::leak(Box::new(alloc, regex)?);
         Ok(Pat {
             regex,
             icase,
@@ -73,15 +74,14 @@ impl Pat {
     }
 
     /// The same pattern again, which is not built anew.
-    pub fn share(&self) -> Result<Pat, OutOfMemory>
-        ensures { IfOk result (λ pat. pat ≡ self.now) }
+    pub fn share(&self) -> Pat
+        ensures { result ≡ self.now }
     {
-        let regex = self.regex.clone()?;
-        Ok(Pat {
-            regex,
+        Pat {
+            regex: self.regex,
             icase: self.icase,
             number: self.number,
-        })
+        }
     }
 
     /// Its text.
@@ -104,11 +104,15 @@ impl Pat {
     }
 
     /// What searches for the pattern in several texts.
-    pub fn searcher(&self, alloc: Global) -> Result<Searcher<'_>, OutOfMemory>
+    pub fn searcher(&self, alloc: Global) -> Result<Searcher, OutOfMemory>
         ensures { IfOk result (λ searcher. searcher ≡ self.now) }
     {
         let matcher = self.regex.matcher(alloc)?;
-        Ok(Searcher { pat: self, matcher })
+        Ok(Searcher {
+            regex: self.regex,
+            icase: self.icase,
+            matcher,
+        })
     }
 
     /// The leftmost match in one text, with its groups; of several alternatives the first counts.
@@ -120,13 +124,12 @@ impl Pat {
     }
 }
 
-impl<'p> Searcher<'p> {
+impl Searcher {
     /// Whether it searches for this pattern, or for one with the same text and case.
     pub fn is_for(&self, pat: &Pat) -> bool
         ensures { IsTrue result → self.now ≡ pat.now }
     {
-        let own = self.pat;
-        own.ignores_case() == pat.ignores_case() && own.text() == pat.text()
+        self.icase == pat.icase && self.regex.as_str().as_bytes() == pat.text()
     }
 
     /// Whether the pattern matches somewhere in the text. It takes no memory that can be refused.

@@ -13,15 +13,15 @@ const MOST_KEPT: usize = 65536;
 
 /// Searchers for patterns, each made when its pattern is first searched for, and kept at the pattern's number.
 #[derive(Drop)]
-pub struct Searchers<'c> {
-    kept: Vec<Option<Box<Searcher<'c>>>>,
+pub struct Searchers {
+    kept: Vec<Option<Box<Searcher>>>,
 }
 
 /// Searches with the searcher of a place, which is made where there is none for the pattern.
-fn groups_at<'c>(
-    slot: &mut Option<Box<Searcher<'c>>>,
+fn groups_at(
+    slot: &mut Option<Box<Searcher>>,
     alloc: Global,
-    pat: &'c Pat,
+    pat: &Pat,
     text: &[u8],
 ) -> Result<Option<Groups>, OutOfMemory>
     ensures found { IfOk result (IsFoundBy (pattern_of pat.now) text.now) }
@@ -39,10 +39,10 @@ fn groups_at<'c>(
 }
 
 /// The same for whether there is a match.
-fn match_at<'c>(
-    slot: &mut Option<Box<Searcher<'c>>>,
+fn match_at(
+    slot: &mut Option<Box<Searcher>>,
     alloc: Global,
-    pat: &'c Pat,
+    pat: &Pat,
     text: &[u8],
 ) -> Result<bool, OutOfMemory>
     ensures found { IfOk result (λ found. found ≡ is_some (find (pattern_of pat.now) text.now 0)) }
@@ -58,9 +58,9 @@ fn match_at<'c>(
     Ok(found)
 }
 
-impl<'c> Searchers<'c> {
+impl Searchers {
     /// None yet.
-    pub fn new(alloc: Global) -> Searchers<'c> {
+    pub fn new(alloc: Global) -> Searchers {
         Searchers {
             kept: Vec::new(alloc),
         }
@@ -80,7 +80,7 @@ impl<'c> Searchers<'c> {
     pub fn find_groups(
         &mut self,
         alloc: Global,
-        pat: &'c Pat,
+        pat: &Pat,
         text: &[u8],
     ) -> Result<Option<Groups>, OutOfMemory>
         ensures found { IfOk result (IsFoundBy (pattern_of pat.now) text.now) }
@@ -97,12 +97,7 @@ impl<'c> Searchers<'c> {
     }
 
     /// Whether the pattern matches somewhere in the text.
-    pub fn is_match(
-        &mut self,
-        alloc: Global,
-        pat: &'c Pat,
-        text: &[u8],
-    ) -> Result<bool, OutOfMemory>
+    pub fn is_match(&mut self, alloc: Global, pat: &Pat, text: &[u8]) -> Result<bool, OutOfMemory>
         ensures found { IfOk result (λ found. found ≡ is_some (find (pattern_of pat.now) text.now 0)) }
     {
         let at = pat.number();

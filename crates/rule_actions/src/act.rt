@@ -50,10 +50,10 @@ fn done_by(step: Stepped) -> Acted
 
 /// Runs an action on a message, but for one that answers by itself: `run_reply` has these.
 #[tactic(auto, using(crate::proofs::Doing::one), unfolding(crate::specs::Acts::act, crate::specs::Steps::steps_of))]
-pub fn run_action<'c>(
+pub fn run_action(
     alloc: Global,
-    searchers: &mut Searchers<'c>,
-    action: &'c Action,
+    searchers: &mut Searchers,
+    action: &Action,
     side: Side<'_>,
     msg: &mut Arena,
     vars: &mut Vars,

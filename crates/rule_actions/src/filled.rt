@@ -45,11 +45,11 @@ fn put_groups(template: &[u8], groups: &Groups, text: &[u8], into: &mut Buf) -> 
 }
 
 /// Makes of a text in which the pattern matches the text of the format with the groups put in, in `scratch.made`.
-pub(crate) fn fill<'c>(
+pub(crate) fn fill(
     alloc: Global,
-    searchers: &mut Searchers<'c>,
-    pat: &'c Pat,
-    fmt: &'c Fmt,
+    searchers: &mut Searchers,
+    pat: &Pat,
+    fmt: &Fmt,
     text: &[u8],
     side: Side<'_>,
     msg: &Arena,

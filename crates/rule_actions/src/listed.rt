@@ -21,10 +21,10 @@ use px_sample::{Buf, OutOfMemory, Vars};
 use std::alloc::Global;
 
 /// Whether the pattern matches in one of the values.
-fn matches_one<'c>(
+fn matches_one(
     alloc: Global,
-    searchers: &mut Searchers<'c>,
-    pat: &'c Pat,
+    searchers: &mut Searchers,
+    pat: &Pat,
     field: &[u8],
 ) -> Result<bool, OutOfMemory>
     ensures { IfOk result (λ one. one ≡ list_any (matches pat.now) (values_of field.now)) }
@@ -39,10 +39,10 @@ fn matches_one<'c>(
 
 /// Puts what stands in front of a value, and the value, behind what the buffer holds, where the pattern matches the template
 /// with the groups in the value's place; false where it does not fit.
-fn put_value<'c>(
+fn put_value(
     alloc: Global,
-    searchers: &mut Searchers<'c>,
-    pat: &'c Pat,
+    searchers: &mut Searchers,
+    pat: &Pat,
     template: &[u8],
     front: &[u8],
     value: &[u8],
@@ -61,10 +61,10 @@ fn put_value<'c>(
 }
 
 /// Puts the field, with each value in which the pattern matches replaced, over what a buffer holds.
-fn put_values<'c>(
+fn put_values(
     alloc: Global,
-    searchers: &mut Searchers<'c>,
-    pat: &'c Pat,
+    searchers: &mut Searchers,
+    pat: &Pat,
     template: &[u8],
     field: &[u8],
     into: &mut Buf,
@@ -85,10 +85,10 @@ fn put_values<'c>(
 }
 
 /// The same for the step.
-fn fill_listed<'c>(
+fn fill_listed(
     alloc: Global,
-    searchers: &mut Searchers<'c>,
-    pat: &'c Pat,
+    searchers: &mut Searchers,
+    pat: &Pat,
     template: &[u8],
     field: &[u8],
     into: &mut Buf,
@@ -104,11 +104,11 @@ fn fill_listed<'c>(
 }
 
 /// Makes of a field in a value of which the pattern matches the field with each such value replaced, in `scratch.made`.
-pub(crate) fn fill_values<'c>(
+pub(crate) fn fill_values(
     alloc: Global,
-    searchers: &mut Searchers<'c>,
-    pat: &'c Pat,
-    fmt: &'c Fmt,
+    searchers: &mut Searchers,
+    pat: &Pat,
+    fmt: &Fmt,
     field: &[u8],
     side: Side<'_>,
     msg: &Arena,

@@ -24,11 +24,11 @@ use px_sample::{OutOfMemory, Vars};
 use std::alloc::Global;
 
 /// `add-header`.
-pub(crate) fn add_header<'c>(
+pub(crate) fn add_header(
     alloc: Global,
-    searchers: &mut Searchers<'c>,
+    searchers: &mut Searchers,
     name: &[u8],
-    fmt: &'c Fmt,
+    fmt: &Fmt,
     side: Side<'_>,
     msg: &mut Arena,
     vars: &Vars,
@@ -51,11 +51,11 @@ pub(crate) fn add_header<'c>(
 }
 
 /// `set-header`.
-pub(crate) fn set_header<'c>(
+pub(crate) fn set_header(
     alloc: Global,
-    searchers: &mut Searchers<'c>,
+    searchers: &mut Searchers,
     name: &[u8],
-    fmt: &'c Fmt,
+    fmt: &Fmt,
     side: Side<'_>,
     msg: &mut Arena,
     vars: &Vars,

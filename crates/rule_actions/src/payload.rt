@@ -65,10 +65,10 @@ pub(crate) fn length_by(status: u16, len: usize) -> Option<u64>
 }
 
 /// Makes the text of a payload's format in `text`; false where it is longer than the array.
-pub(crate) fn make_payload<'c>(
+pub(crate) fn make_payload(
     alloc: Global,
-    searchers: &mut Searchers<'c>,
-    payload: &'c Option<Payload>,
+    searchers: &mut Searchers,
+    payload: &Option<Payload>,
     side: Side<'_>,
     msg: &Arena,
     vars: &Vars,

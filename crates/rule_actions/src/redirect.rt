@@ -90,10 +90,10 @@ fn lead(
 }
 
 /// `redirect`. The reply is without a field that speaks of the connection, and one with `connection: close` would fit.
-pub(crate) fn redirect<'c>(
+pub(crate) fn redirect(
     alloc: Global,
-    searchers: &mut Searchers<'c>,
-    to: &'c RedirectTo,
+    searchers: &mut Searchers,
+    to: &RedirectTo,
     code: u16,
     drop_query: bool,
     append_slash: bool,

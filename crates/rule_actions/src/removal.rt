@@ -31,10 +31,10 @@ fn remove_meant(msg: &mut Arena, which: &NameMatch<'_>) -> Stepped
 }
 
 /// `del-header`.
-pub(crate) fn del_header<'c>(
+pub(crate) fn del_header(
     alloc: Global,
-    searchers: &mut Searchers<'c>,
-    by: &'c DelBy,
+    searchers: &mut Searchers,
+    by: &DelBy,
     msg: &mut Arena,
     scratch: &mut Scratch,
 ) -> Result<Stepped, OutOfMemory>

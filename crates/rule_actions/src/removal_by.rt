@@ -17,10 +17,10 @@ use px_sample::{Buf, OutOfMemory};
 use std::alloc::Global;
 
 /// Whether a field of this name goes.
-fn goes<'c>(
+fn goes(
     alloc: Global,
-    searchers: &mut Searchers<'c>,
-    pat: &'c Pat,
+    searchers: &mut Searchers,
+    pat: &Pat,
     name: &[u8],
     lower: &mut Buf,
 ) -> Result<bool, OutOfMemory>
@@ -34,10 +34,10 @@ fn goes<'c>(
 }
 
 /// Whether the block at an index is a field that goes.
-fn goes_at<'c>(
+fn goes_at(
     alloc: Global,
-    searchers: &mut Searchers<'c>,
-    pat: &'c Pat,
+    searchers: &mut Searchers,
+    pat: &Pat,
     msg: &Arena,
     at: u32,
     lower: &mut Buf,
@@ -55,10 +55,10 @@ fn goes_at<'c>(
 }
 
 /// Takes out the fields that go.
-fn remove_going<'c>(
+fn remove_going(
     alloc: Global,
-    searchers: &mut Searchers<'c>,
-    pat: &'c Pat,
+    searchers: &mut Searchers,
+    pat: &Pat,
     msg: &mut Arena,
     lower: &mut Buf,
 ) -> Result<(), OutOfMemory>
@@ -79,10 +79,10 @@ fn remove_going<'c>(
 }
 
 /// Removes the fields in whose names the pattern matches. Those that frame the message or speak of its connection stay.
-pub(crate) fn remove_matching<'c>(
+pub(crate) fn remove_matching(
     alloc: Global,
-    searchers: &mut Searchers<'c>,
-    pat: &'c Pat,
+    searchers: &mut Searchers,
+    pat: &Pat,
     msg: &mut Arena,
     lower: &mut Buf,
 ) -> Result<Stepped, OutOfMemory>

@@ -60,12 +60,12 @@ fn put_value(msg: &mut Arena, at: u32, text: &[u8]) -> Stepped
 }
 
 /// Makes another value of a field, in `scratch.made`.
-fn fill_field<'c>(
+fn fill_field(
     alloc: Global,
-    searchers: &mut Searchers<'c>,
+    searchers: &mut Searchers,
     extent: Extent,
-    pat: &'c Pat,
-    fmt: &'c Fmt,
+    pat: &Pat,
+    fmt: &Fmt,
     field: &[u8],
     side: Side<'_>,
     msg: &Arena,
@@ -84,12 +84,12 @@ fn fill_field<'c>(
 }
 
 /// The field in a block has another value, where the pattern matches.
-fn replace_field<'c>(
+fn replace_field(
     alloc: Global,
-    searchers: &mut Searchers<'c>,
+    searchers: &mut Searchers,
     extent: Extent,
-    pat: &'c Pat,
-    fmt: &'c Fmt,
+    pat: &Pat,
+    fmt: &Fmt,
     at: u32,
     side: Side<'_>,
     msg: &mut Arena,
@@ -116,13 +116,13 @@ fn replace_field<'c>(
 }
 
 /// The block's step: a field of the name has another value, where the pattern matches.
-fn replace_named<'c>(
+fn replace_named(
     alloc: Global,
-    searchers: &mut Searchers<'c>,
+    searchers: &mut Searchers,
     extent: Extent,
     name: &[u8],
-    pat: &'c Pat,
-    fmt: &'c Fmt,
+    pat: &Pat,
+    fmt: &Fmt,
     at: u32,
     side: Side<'_>,
     msg: &mut Arena,
@@ -146,13 +146,13 @@ fn replace_named<'c>(
 }
 
 /// Each field of the name in turn, up to a step that fails.
-pub(crate) fn replace_fields<'c>(
+pub(crate) fn replace_fields(
     alloc: Global,
-    searchers: &mut Searchers<'c>,
+    searchers: &mut Searchers,
     extent: Extent,
     name: &[u8],
-    pat: &'c Pat,
-    fmt: &'c Fmt,
+    pat: &Pat,
+    fmt: &Fmt,
     side: Side<'_>,
     msg: &mut Arena,
     vars: &Vars,

@@ -26,10 +26,10 @@ use rule_model::{Hdr, HdrList};
 use std::alloc::Global;
 
 /// Makes the text of a field in `made`; false where it is longer than the array, or may not stand in a field value.
-fn make_value<'c>(
+fn make_value(
     alloc: Global,
-    searchers: &mut Searchers<'c>,
-    hdr: &'c Hdr,
+    searchers: &mut Searchers,
+    hdr: &Hdr,
     side: Side<'_>,
     msg: &Arena,
     vars: &Vars,
@@ -84,10 +84,10 @@ fn step_by(fits: bool) -> Stepped
 }
 
 /// Puts fields behind the head of a reply, if it fits. Each text is made, so that one which is not good is told before the room is.
-pub(crate) fn put_fields<'c>(
+pub(crate) fn put_fields(
     alloc: Global,
-    searchers: &mut Searchers<'c>,
-    hdrs: &'c HdrList,
+    searchers: &mut Searchers,
+    hdrs: &HdrList,
     side: Side<'_>,
     msg: &Arena,
     vars: &Vars,

@@ -31,10 +31,10 @@ pub fn answers(action: &Action) -> bool
 
 /// Runs an action that answers: its reply stands in an array of its own, which was empty, without a field that speaks of the
 /// connection. After a failure that array is empty again. The message stays.
-pub fn run_reply<'c>(
+pub fn run_reply(
     alloc: Global,
-    searchers: &mut Searchers<'c>,
-    action: &'c Action,
+    searchers: &mut Searchers,
+    action: &Action,
     side: Side<'_>,
     msg: &Arena,
     vars: &Vars,

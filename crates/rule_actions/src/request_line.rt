@@ -22,10 +22,10 @@ use rule_model::Action;
 use std::alloc::Global;
 
 /// `set-method`.
-pub(crate) fn set_method<'c>(
+pub(crate) fn set_method(
     alloc: Global,
-    searchers: &mut Searchers<'c>,
-    fmt: &'c Fmt,
+    searchers: &mut Searchers,
+    fmt: &Fmt,
     side: Side<'_>,
     msg: &mut Arena,
     vars: &Vars,
@@ -52,11 +52,11 @@ pub(crate) fn set_method<'c>(
 }
 
 /// `set-path`, `set-pathq` and `set-uri`.
-pub(crate) fn set_part<'c>(
+pub(crate) fn set_part(
     alloc: Global,
-    searchers: &mut Searchers<'c>,
+    searchers: &mut Searchers,
     part: TargetPart,
-    fmt: &'c Fmt,
+    fmt: &Fmt,
     side: Side<'_>,
     msg: &mut Arena,
     vars: &Vars,
@@ -83,10 +83,10 @@ pub(crate) fn set_part<'c>(
 }
 
 /// `set-query`.
-pub(crate) fn set_query<'c>(
+pub(crate) fn set_query(
     alloc: Global,
-    searchers: &mut Searchers<'c>,
-    fmt: &'c Fmt,
+    searchers: &mut Searchers,
+    fmt: &Fmt,
     side: Side<'_>,
     msg: &mut Arena,
     vars: &Vars,
@@ -114,10 +114,10 @@ pub(crate) fn set_query<'c>(
 
 /// Runs an action on a request line; any other does nothing here.
 #[tactic(auto, unfolding(crate::specs::Steps::line_step))]
-pub(crate) fn run_line<'c>(
+pub(crate) fn run_line(
     alloc: Global,
-    searchers: &mut Searchers<'c>,
-    action: &'c Action,
+    searchers: &mut Searchers,
+    action: &Action,
     side: Side<'_>,
     msg: &mut Arena,
     vars: &Vars,

@@ -41,12 +41,12 @@ fn put_made(part: TargetPart, msg: &mut Arena, scratch: &mut Scratch) -> Stepped
 }
 
 /// A part of the target in which the pattern matches becomes the text, with the groups put in.
-pub(crate) fn replace_part<'c>(
+pub(crate) fn replace_part(
     alloc: Global,
-    searchers: &mut Searchers<'c>,
+    searchers: &mut Searchers,
     part: TargetPart,
-    pat: &'c Pat,
-    fmt: &'c Fmt,
+    pat: &Pat,
+    fmt: &Fmt,
     side: Side<'_>,
     msg: &mut Arena,
     vars: &Vars,

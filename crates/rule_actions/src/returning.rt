@@ -58,14 +58,14 @@ fn end(body: &[u8], reply: &mut Arena) -> Stepped
 }
 
 /// The reply of a payload whose text is held, or some of its blocks where it fails. The text of each field is made, and tested before the room is.
-fn write_parts<'c>(
+fn write_parts(
     alloc: Global,
-    searchers: &mut Searchers<'c>,
+    searchers: &mut Searchers,
     status: u16,
     content_type: Option<&[u8]>,
     payload: &Option<Payload>,
     text: &Buf,
-    hdrs: &'c HdrList,
+    hdrs: &HdrList,
     side: Side<'_>,
     msg: &Arena,
     vars: &Vars,
@@ -99,13 +99,13 @@ fn write_parts<'c>(
 }
 
 /// The reply, or some of its blocks where it fails. Each text is made once, and tested before the room is.
-fn write_reply<'c>(
+fn write_reply(
     alloc: Global,
-    searchers: &mut Searchers<'c>,
+    searchers: &mut Searchers,
     status: u16,
     content_type: &Option<Text>,
-    payload: &'c Option<Payload>,
-    hdrs: &'c HdrList,
+    payload: &Option<Payload>,
+    hdrs: &HdrList,
     side: Side<'_>,
     msg: &Arena,
     vars: &Vars,
@@ -171,13 +171,13 @@ fn whole(step: Stepped, reply: &mut Arena) -> Stepped
 }
 
 /// `return`. The reply is without a field that speaks of the connection, and one with `connection: close` would fit.
-pub(crate) fn return_reply<'c>(
+pub(crate) fn return_reply(
     alloc: Global,
-    searchers: &mut Searchers<'c>,
+    searchers: &mut Searchers,
     status: u16,
     content_type: &Option<Text>,
-    payload: &'c Option<Payload>,
-    hdrs: &'c HdrList,
+    payload: &Option<Payload>,
+    hdrs: &HdrList,
     side: Side<'_>,
     msg: &Arena,
     vars: &Vars,

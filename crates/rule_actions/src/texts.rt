@@ -18,10 +18,10 @@ use px_sample::{Buf, OutOfMemory, Sample, Vars};
 use std::alloc::Global;
 
 /// Writes the text of a format into a buffer of the array's size; false where it is longer.
-pub(crate) fn write_into<'c>(
+pub(crate) fn write_into(
     alloc: Global,
-    searchers: &mut Searchers<'c>,
-    fmt: &'c Fmt,
+    searchers: &mut Searchers,
+    fmt: &Fmt,
     side: Side<'_>,
     msg: &Arena,
     vars: &Vars,
@@ -51,10 +51,10 @@ pub(crate) fn write_into<'c>(
 }
 
 /// Writes the text of a format into `scratch.text`; false where it is longer than the array.
-pub(crate) fn write_text<'c>(
+pub(crate) fn write_text(
     alloc: Global,
-    searchers: &mut Searchers<'c>,
-    fmt: &'c Fmt,
+    searchers: &mut Searchers,
+    fmt: &Fmt,
     side: Side<'_>,
     msg: &Arena,
     vars: &Vars,
@@ -75,10 +75,10 @@ pub(crate) fn write_text<'c>(
 }
 
 /// The sample of an expression; its bytes stand in `scratch.buf`.
-pub(crate) fn sample_of<'c>(
+pub(crate) fn sample_of(
     alloc: Global,
-    searchers: &mut Searchers<'c>,
-    expr: &'c Expr,
+    searchers: &mut Searchers,
+    expr: &Expr,
     side: Side<'_>,
     msg: &Arena,
     vars: &Vars,
@@ -100,10 +100,10 @@ pub(crate) fn sample_of<'c>(
 }
 
 /// Whether a condition holds.
-pub fn is_met<'c>(
+pub fn is_met(
     alloc: Global,
-    searchers: &mut Searchers<'c>,
-    cond: &'c Cond,
+    searchers: &mut Searchers,
+    cond: &Cond,
     side: Side<'_>,
     msg: &Arena,
     vars: &Vars,

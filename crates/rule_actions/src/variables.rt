@@ -18,12 +18,12 @@ use px_sample::{OutOfMemory, Scope, Vars};
 use std::alloc::Global;
 
 /// `set-var`.
-pub(crate) fn set_var<'c>(
+pub(crate) fn set_var(
     alloc: Global,
-    searchers: &mut Searchers<'c>,
+    searchers: &mut Searchers,
     scope: Scope,
     name: &[u8],
-    expr: &'c Expr,
+    expr: &Expr,
     side: Side<'_>,
     msg: &Arena,
     vars: &mut Vars,

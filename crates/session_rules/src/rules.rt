@@ -26,6 +26,7 @@ pub struct SessionRules<'c> {
     pub said: Arena,
     alloc: Global,
     config: &'c Config,
+    searchers: Searchers,
     scratch: Scratch,
 }
 
@@ -56,6 +57,7 @@ impl<'c> SessionRules<'c> {
             said: Arena::new(alloc, config.limits.bufsize)?,
             alloc,
             config,
+            searchers: Searchers::new(alloc),
             scratch: Scratch::new(alloc, config.limits.bufsize)?,
         })
     }
@@ -100,10 +102,9 @@ impl<'c> SessionRules<'c> {
     {
         self.said.clear();
         let config = self.config;
-        let mut searchers = Searchers::new(self.alloc);
         run_request(
             self.alloc,
-            &mut searchers,
+            &mut self.searchers,
             &config.request,
             msg,
             &mut self.vars,
@@ -125,10 +126,9 @@ impl<'c> SessionRules<'c> {
     {
         self.said.clear();
         let config = self.config;
-        let mut searchers = Searchers::new(self.alloc);
         run_response(
             self.alloc,
-            &mut searchers,
+            &mut self.searchers,
             &config.response,
             method,
             msg,
@@ -152,10 +152,9 @@ impl<'c> SessionRules<'c> {
     {
         body_stays();
         let config = self.config;
-        let mut searchers = Searchers::new(self.alloc);
         let verdict = run_after(
             self.alloc,
-            &mut searchers,
+            &mut self.searchers,
             &config.after,
             method,
             msg,
@@ -176,10 +175,9 @@ impl<'c> SessionRules<'c> {
     {
         body_stays();
         let config = self.config;
-        let mut searchers = Searchers::new(self.alloc);
         let verdict = run_after(
             self.alloc,
-            &mut searchers,
+            &mut self.searchers,
             &config.after,
             method,
             &mut self.said,
