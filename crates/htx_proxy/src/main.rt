@@ -2,7 +2,7 @@
 //! `proxy_call`.
 #![tactic(auto)]
 
-use proxy_call::htx_proxy;
+use proxy_call::{Status, htx_proxy};
 use px_pattern::RealPatterns;
 use px_sock::{RealFiles, RealNet, RealSink};
 use std::alloc::AllocError;
@@ -20,7 +20,13 @@ fn words_of<R: Env + AllocGlobal>(rt: &R) -> io::Result<Vec<String>> {
 }
 
 fn main(rt: HostRuntime) -> io::Result<ExitCode> {
-    let words = words_of(&rt)?;
+    let words = match words_of(&rt) {
+        Ok(words) => words,
+        Err(fault) if fault.kind() == io::ErrorKind::OutOfMemory => {
+            return Ok(ExitCode::from(Status::OutOfMemory as u8));
+        }
+        Err(fault) => return Err(fault),
+    };
     let mut files = RealFiles::new(rt.alloc(), &rt);
     let mut net = RealNet::new(rt.alloc(), &rt);
     let mut out = RealSink::new(&rt);
