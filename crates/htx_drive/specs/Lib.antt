@@ -6,5 +6,4 @@ pub mod Ran
 pub mod Budget
 pub mod Headline
 pub mod Acts
-pub mod Turned
 pub mod Cores
