@@ -209,6 +209,9 @@ configure 1
 serve 1; fetch "$url/any" -o /dev/null -w '%{http_code}' >"$work/got"
 finish "a server that isn't there" "$([ "$(cat "$work/got")" = 503 ] || echo "the answer is $(cat "$work/got") ")" 'end closed exchanges 1'
 
+serve 1; fetch "$url/any" --data-binary "@$work/piece" -H 'Expect:' -o /dev/null -w '%{http_code}' >"$work/got"; left=$?
+finish "a refusal to a client that sends 1 MB" "$([ "$left $(cat "$work/got")" = "0 503" ] || echo "curl ended with $left, the answer is $(cat "$work/got") ")" 'end closed exchanges 1'
+
 printf 'listen p\n  bind 127.0.0.1:%s\n  server s 127.0.0.1:%s\n' "$origin" "$sink" >"$work/proxy.cfg"
 "$program" serve "$work/proxy.cfg" 1 >"$work/lines" 2>/dev/null; status=$?
 says "an address that is taken" "$([ "$status" = 6 ] && [ "$(cat "$work/lines")" = net ] || echo "status $status, lines $(tr '\n' '/' <"$work/lines")")"
