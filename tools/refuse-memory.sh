@@ -183,16 +183,17 @@ def refuse_each(name, words, beside=None):
     global wrong
     status, whole, said, calls = run(words, 0, beside=beside)
     if said: print(f"{name}: with all memory, standard error: {said[:200]!r}"); wrong += 1
-    came, odd = collections.Counter(), []
+    came, odd = collections.Counter(), collections.defaultdict(list)
     for rest in (False, True):
         for number in range(1, calls + 1):
             got, out, said, _ = run(words, number, rest, beside)
             if (got, out, said) == (status, whole, b""): came["the whole answer"] += 1
             elif got == 7 and whole.startswith(out) and not said: came["want of memory"] += 1
-            else: odd.append(f"{number}{' and on' if rest else ''}: status {got}, {len(out)} bytes{'' if whole.startswith(out) else ', no front of the answer'}, {said[:80]!r}")
-    print(f"{name}: status {status}, allocations 1 to {calls}, each alone and with all that follow: " + ", ".join(f"{what} {n} times" for what, n in came.items()) + f", wrong {len(odd)}", flush=True)
-    for it in odd: print(f"  {it}")
-    wrong += len(odd)
+            else: odd[f"status {got}, {len(out)} bytes{'' if whole.startswith(out) else ', no front of the answer'}, {said[:80]!r}"].append(f"{number}{' and on' if rest else ''}")
+    wrongs = sum(map(len, odd.values()))
+    print(f"{name}: status {status}, allocations 1 to {calls}, each alone and with all that follow: " + ", ".join(f"{what} {n} times" for what, n in came.items()) + f", wrong {wrongs}", flush=True)
+    for what, numbers in odd.items(): print(f"  {', '.join(numbers[:20])}: {what}")
+    wrong += wrongs
 
 
 refuse_each("check", ["check", "all.cfg"])
