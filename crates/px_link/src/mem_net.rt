@@ -9,13 +9,14 @@ ghost use Rattle.px_link.specs.MemNet.{net_of, fails_next, fails_accept, fails_c
 
 use crate::{Address, Bytes, Fault, MemLink, Net, OutOfMemory, calls};
 use std::alloc::Global;
+use std::collections::VecDeque;
 use std::marker::Model;
 
 /// A net in memory.
 #[derive(Drop)]
 pub struct MemNet {
-    accepts: Vec<MemLink>,
-    servers: Vec<Option<MemLink>>,
+    accepts: VecDeque<MemLink>,
+    servers: VecDeque<Option<MemLink>>,
     kept: Vec<MemLink>,
     bound: Vec<Address>,
     dialled: Vec<Address>,
@@ -29,6 +30,7 @@ pub struct MemNet {
 
 impl Model for MemNet {
     ghost use Rattle.std.specs.Prelude.{◌≡◌, ◌+◌, ◌≤◌, true, vec_len, vec_capacity};
+    ghost use Rattle.std.specs.VecDeque.{deque_len};
     ghost use Rattle.std.specs.List.{list_all};
     ghost use Rattle.px_link.specs.Addresses.{addresses_of};
     ghost use Rattle.px_link.specs.MemLink.{is_unused, is_unused_or_none};
@@ -50,7 +52,7 @@ impl Model for MemNet {
       connect_faults = n.connect_faults;
     } };
 
-    ghost invariant = { λ n. (vec_len n.kept + n.lent + vec_len n.accepts + vec_len n.servers ≤ vec_capacity n.kept)
+    ghost invariant = { λ n. (vec_len n.kept + n.lent + deque_len n.accepts + deque_len n.servers ≤ vec_capacity n.kept)
         × (list_all is_unused n.accepts.items ≡ true)
         × (list_all is_unused_or_none n.servers.items ≡ true) };
 }
@@ -83,8 +85,8 @@ impl MemNet {
             return Err(OutOfMemory);
         };
         Ok(MemNet {
-            accepts,
-            servers,
+            accepts: VecDeque::from(accepts),
+            servers: VecDeque::from(servers),
             kept: Vec::with_capacity(alloc, count)?,
             bound: Vec::new(alloc),
             dialled: Vec::new(alloc),
@@ -213,15 +215,20 @@ impl Net for MemNet {
         ensures connects { self.new.connects ≡ self.old.connects }
     {
         self.calls = self.calls.saturating_add(1);
-        if calls::is_among(&self.failing, self.calls)
-            || self.accepts.is_empty()
-            || self.lent == u64::MAX
-        {
+        if calls::is_among(&self.failing, self.calls) || self.lent == u64::MAX {
             self.bind_faults = self.bind_faults.saturating_add(1);
             return Err(Fault::Failed);
         }
-        self.lent += 1;
-        Ok(self.accepts.remove(0))
+        match self.accepts.pop_front() {
+            Some(link) => {
+                self.lent += 1;
+                Ok(link)
+            }
+            None => {
+                self.bind_faults = self.bind_faults.saturating_add(1);
+                Err(Fault::Failed)
+            }
+        }
     }
 
     /// A connect whose number is listed fails, as does one to a refused server or past the last one, and no other.
@@ -244,19 +251,16 @@ impl Net for MemNet {
         if note(&mut self.dialled, to).is_err() {
             return Err(Fault::OutOfMemory);
         }
-        if calls::is_among(&self.failing, self.calls)
-            || self.servers.is_empty()
-            || self.lent == u64::MAX
-        {
+        if calls::is_among(&self.failing, self.calls) || self.lent == u64::MAX {
             self.connect_faults = self.connect_faults.saturating_add(1);
             return Err(Fault::Failed);
         }
-        match self.servers.remove(0) {
-            Some(link) => {
+        match self.servers.pop_front() {
+            Some(Some(link)) => {
                 self.lent += 1;
                 Ok(link)
             }
-            None => {
+            Some(None) | None => {
                 self.connect_faults = self.connect_faults.saturating_add(1);
                 Err(Fault::Failed)
             }
