@@ -68,6 +68,32 @@ impl Array {
         ensures addrs { self.new.addrs ≡ (extended self.old at (slice_index self.old.addrs at + payload_len (block_at self.old.blocks at)) (length piece.now)).addrs }
         ensures front { self.new.front ≡ (extended self.old at (slice_index self.old.addrs at + payload_len (block_at self.old.blocks at)) (length piece.now)).front }
     {
+        self.look_behind(at);
+        self.extend_within(at, piece);
+    }
+
+    /// Keeps the least address behind `front` where a payload that ends there asks for it, so that it isn't looked for again
+    /// where the payload is placed anew.
+    fn look_behind(&mut self, at: u32)
+        requires { at < length self.old.blocks }
+        ensures { self.new ≡ self.old }
+    {
+        if scan::end_at(&self.space, self.count, at) == self.ends.front {
+            self.ends.low = scan::low_of(&self.space, self.count, self.ends);
+        }
+    }
+
+    /// Puts more bytes behind those of data: where it stands, or placed anew.
+    fn extend_within(&mut self, at: u32, piece: &[u8])
+        requires within { at < length self.old.blocks }
+        requires data { kind_of (block_at self.old.blocks at) ≡ Data }
+        requires some { 0 < length piece.now }
+        requires fits { load self.old.blocks + length piece.now ≤ self.old.size }
+        ensures blocks { self.new.blocks ≡ slice_set self.old.blocks at (DataBlock (value_of (block_at self.old.blocks at) ++ piece.now)) }
+        ensures size { self.new.size ≡ self.old.size }
+        ensures addrs { self.new.addrs ≡ (extended self.old at (slice_index self.old.addrs at + payload_len (block_at self.old.blocks at)) (length piece.now)).addrs }
+        ensures front { self.new.front ≡ (extended self.old at (slice_index self.old.addrs at + payload_len (block_at self.old.blocks at)) (length piece.now)).front }
+    {
         let old = self.info(at);
         let len = piece.len() as u32;
         let info = Info(old.0 + len);

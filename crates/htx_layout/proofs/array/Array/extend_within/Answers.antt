@@ -7,7 +7,7 @@ use Rattle.htx_layout.proofs.WholeLemmas.{at}
 use Rattle.htx_layout.proofs.CodeLemmas.{described_len}
 use Rattle.htx_layout.proofs.PlaceLemmas.{more_small, stays_seen}
 use Rattle.htx_layout.proofs.ReplaceLemmas.{data_more}
-use Rattle.htx_layout.proofs.array.Array.extend.Goals as goal
+use Rattle.htx_layout.proofs.array.Array.extend_within.Goals as goal
 
 pub overflow_cast-len : goal.overflow_cast-len
 overflow_cast-len c = omega (arith, more_small c.self.inside c.args.self.now c.args.at (length c.args.piece.now) c.self.invariant c.self.view_is c.requires.within c.requires.fits)
