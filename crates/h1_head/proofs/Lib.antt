@@ -20,4 +20,5 @@ pub mod Trimmed
 pub mod Soundness
 pub mod Judging
 pub mod Parsed
+pub mod Places
 pub mod Plainly

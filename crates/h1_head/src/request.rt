@@ -8,12 +8,16 @@ ghost use Rattle.h1_head.specs.Request.{RequestOf};
 ghost use Rattle.h1_head.specs.Stream.{behind};
 ghost use Rattle.h1_head.specs.Rows.{request_code, decision};
 ghost use Rattle.h1_head.specs.Spans.{span_parts, AreSpansGood};
+ghost use Rattle.h1_head.specs.Numbers.{most_fields};
+ghost use Rattle.httparse.specs.Grammar.{HasNoRequest};
+ghost use Rattle.httparse.specs.Outcome.{IfComplete, OnPartial};
+ghost use Rattle.httparse.specs.Spans.{IsRequestWithin, IsRequestOf, RequestOverflows};
 ghost use Rattle.h1_head.specs.Decides.{OnEachStream, MayWait, RefusesFor, WhereLong, IsTooLong};
 
 use crate::lines::empty_lines;
 use crate::received::push_head;
 use crate::survey::survey_fields;
-use crate::text::{Kept, MAX_FIELDS, Wait, is_lone_cr, wait_for};
+use crate::text::{FEW_FIELDS, Kept, MAX_FIELDS, Wait, is_lone_cr, wait_for, wants_places};
 use crate::{HeadRead, HeadWhy};
 use http_model::{Framing, Limits};
 use httparse::spans::{EMPTY_HEADER_SPAN, HeaderSpan, RequestSpans, parse_request};
@@ -63,8 +67,20 @@ fn receive(
     })
 }
 
-/// Reads the head at the front of a text that has no empty line in front.
-fn read_text(text: &[u8], whole: bool, limits: Limits, to: &mut Arena) -> HeadRead
+/// What a parse says of a text that has no empty line in front. The parse had places enough, or the text has too many fields.
+fn judge(
+    text: &[u8],
+    parsed: httparse::Result<RequestSpans>,
+    places: &[HeaderSpan],
+    whole: bool,
+    limits: Limits,
+    to: &mut Arena,
+) -> HeadRead
+    requires within { IfComplete parsed (IsRequestWithin text.now places.now) }
+    requires complete { IfComplete parsed (IsRequestOf text.now places.now) }
+    requires partial { OnPartial parsed (HasNoRequest text.now) }
+    requires overflows { OnErr parsed (RequestOverflows most_fields text.now) }
+    requires places { length places.now ≤ most_fields }
     requires reserve { limits.maxrewrite ≤ limits.bufsize }
     requires text { length text.now ≤ limits.bufsize }
     requires alone { behind text.now ≡ text.now }
@@ -81,10 +97,9 @@ fn read_text(text: &[u8], whole: bool, limits: Limits, to: &mut Arena) -> HeadRe
     ensures unkept { UnlessHead result (to.new.blocks ≡ []) }
     ensures size { to.new.size ≡ to.old.size }
 {
-    let mut spans = [EMPTY_HEADER_SPAN; MAX_FIELDS];
-    match parse_request(text, &mut spans) {
+    match parsed {
         Ok(Status::Complete(head)) => {
-            match receive(text, &head, &spans[..head.headers], limits, to) {
+            match receive(text, &head, &places[..head.headers], limits, to) {
                 Ok(kept) => HeadRead::Head {
                     used: head.len,
                     framing: kept.framing,
@@ -102,6 +117,35 @@ fn read_text(text: &[u8], whole: bool, limits: Limits, to: &mut Arena) -> HeadRe
         Err(Error::TooManyHeaders) => refuse(HeadWhy::Long),
         Err(_) => refuse(HeadWhy::Grammar),
     }
+}
+
+/// Reads the head at the front of a text that has no empty line in front. Few places are cleared for its fields; all that a head
+/// may have only where it has more.
+fn read_text(text: &[u8], whole: bool, limits: Limits, to: &mut Arena) -> HeadRead
+    requires reserve { limits.maxrewrite ≤ limits.bufsize }
+    requires text { length text.now ≤ limits.bufsize }
+    requires alone { behind text.now ≡ text.now }
+    requires some { text.now ≢ [] }
+    requires begun { text.now ≢ 13 ∷ [] }
+    requires empty { to.old.blocks ≡ [] }
+    requires size { to.old.size ≡ limits.bufsize }
+    ensures skip { IfMore result (λ skip. skip ≡ 0) }
+    ensures waits { IfMore result (λ _. MayWait request_heads limits whole text.now) }
+    ensures head { IfHead result (Keeps request_heads limits whole text.now to.new.blocks) }
+    ensures code { IfRefuse result (λ code why. code ≡ request_code why) }
+    ensures why { IfRefuse result (λ _ why. RefusesFor request_heads limits whole text.now why) }
+    ensures long { IfRefuse result (λ _ why. WhereLong why (IsTooLong request_heads limits whole text.now)) }
+    ensures unkept { UnlessHead result (to.new.blocks ≡ []) }
+    ensures size { to.new.size ≡ to.old.size }
+{
+    let mut few = [EMPTY_HEADER_SPAN; FEW_FIELDS];
+    let parsed = parse_request(text, &mut few);
+    if wants_places(&parsed) {
+        let mut places = [EMPTY_HEADER_SPAN; MAX_FIELDS];
+        let parsed = parse_request(text, &mut places);
+        return judge(text, parsed, &places, whole, limits, to);
+    }
+    judge(text, parsed, &few, whole, limits, to)
 }
 
 /// Reads the head of a request at the front of the window, behind its empty lines (RFC 9112 sections 2.2 and 3).

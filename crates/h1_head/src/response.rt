@@ -10,12 +10,16 @@ ghost use Rattle.h1_head.specs.Rows.{response_code, response_decision, has_no_co
 ghost use Rattle.h1_head.specs.Survey.{declared_by};
 ghost use Rattle.http_model.specs.declared.Framing.TheVariants as framing;
 ghost use Rattle.h1_head.specs.Spans.{response_span_parts, AreResponseSpansGood};
+ghost use Rattle.h1_head.specs.Numbers.{most_fields};
+ghost use Rattle.httparse.specs.Grammar.{HasNoResponse};
+ghost use Rattle.httparse.specs.Outcome.{IfComplete, OnPartial};
+ghost use Rattle.httparse.specs.Spans.{IsResponseWithin, IsResponseOf, ResponseOverflows};
 ghost use Rattle.h1_head.specs.Decides.{OnEachStream, MayWait, RefusesFor, WhereLong, IsTooLong};
 
 use crate::lines::empty_lines;
 use crate::received::push_response_head;
 use crate::survey::{Survey, survey_fields};
-use crate::text::{Kept, MAX_FIELDS, Wait, is_lone_cr, wait_for};
+use crate::text::{FEW_FIELDS, Kept, MAX_FIELDS, Wait, is_lone_cr, wait_for, wants_places};
 use crate::{HeadRead, HeadWhy};
 use http_model::{Framing, Limits};
 use httparse::spans::{EMPTY_HEADER_SPAN, HeaderSpan, ResponseSpans, parse_response};
@@ -76,8 +80,21 @@ fn receive(
     })
 }
 
-/// Reads the head at the front of a text that has no empty line in front.
-fn read_text(text: &[u8], whole: bool, head_asked: bool, limits: Limits, to: &mut Arena) -> HeadRead
+/// What a parse says of a text that has no empty line in front. The parse had places enough, or the text has too many fields.
+fn judge(
+    text: &[u8],
+    parsed: httparse::Result<ResponseSpans>,
+    places: &[HeaderSpan],
+    whole: bool,
+    head_asked: bool,
+    limits: Limits,
+    to: &mut Arena,
+) -> HeadRead
+    requires within { IfComplete parsed (IsResponseWithin text.now places.now) }
+    requires complete { IfComplete parsed (IsResponseOf text.now places.now) }
+    requires partial { OnPartial parsed (HasNoResponse text.now) }
+    requires overflows { OnErr parsed (ResponseOverflows most_fields text.now) }
+    requires places { length places.now ≤ most_fields }
     requires reserve { limits.maxrewrite ≤ limits.bufsize }
     requires text { length text.now ≤ limits.bufsize }
     requires alone { behind text.now ≡ text.now }
@@ -94,13 +111,12 @@ fn read_text(text: &[u8], whole: bool, head_asked: bool, limits: Limits, to: &mu
     ensures unkept { UnlessHead result (to.new.blocks ≡ []) }
     ensures size { to.new.size ≡ to.old.size }
 {
-    let mut spans = [EMPTY_HEADER_SPAN; MAX_FIELDS];
-    match parse_response(text, &mut spans) {
+    match parsed {
         Ok(Status::Complete(head)) => {
             if head.code < 100 {
                 return refuse(HeadWhy::Grammar);
             }
-            match receive(text, &head, &spans[..head.headers], head_asked, limits, to) {
+            match receive(text, &head, &places[..head.headers], head_asked, limits, to) {
                 Ok(kept) => HeadRead::Head {
                     used: head.len,
                     framing: kept.framing,
@@ -118,6 +134,35 @@ fn read_text(text: &[u8], whole: bool, head_asked: bool, limits: Limits, to: &mu
         Err(Error::TooManyHeaders) => refuse(HeadWhy::Long),
         Err(_) => refuse(HeadWhy::Grammar),
     }
+}
+
+/// Reads the head at the front of a text that has no empty line in front. Few places are cleared for its fields; all that a head
+/// may have only where it has more.
+fn read_text(text: &[u8], whole: bool, head_asked: bool, limits: Limits, to: &mut Arena) -> HeadRead
+    requires reserve { limits.maxrewrite ≤ limits.bufsize }
+    requires text { length text.now ≤ limits.bufsize }
+    requires alone { behind text.now ≡ text.now }
+    requires some { text.now ≢ [] }
+    requires begun { text.now ≢ 13 ∷ [] }
+    requires empty { to.old.blocks ≡ [] }
+    requires size { to.old.size ≡ limits.bufsize }
+    ensures skip { IfMore result (λ skip. skip ≡ 0) }
+    ensures waits { IfMore result (λ _. MayWait (response_heads head_asked) limits whole text.now) }
+    ensures head { IfHead result (Keeps (response_heads head_asked) limits whole text.now to.new.blocks) }
+    ensures code { IfRefuse result (λ code why. code ≡ response_code why) }
+    ensures why { IfRefuse result (λ _ why. RefusesFor (response_heads head_asked) limits whole text.now why) }
+    ensures long { IfRefuse result (λ _ why. WhereLong why (IsTooLong (response_heads head_asked) limits whole text.now)) }
+    ensures unkept { UnlessHead result (to.new.blocks ≡ []) }
+    ensures size { to.new.size ≡ to.old.size }
+{
+    let mut few = [EMPTY_HEADER_SPAN; FEW_FIELDS];
+    let parsed = parse_response(text, &mut few);
+    if wants_places(&parsed) {
+        let mut places = [EMPTY_HEADER_SPAN; MAX_FIELDS];
+        let parsed = parse_response(text, &mut places);
+        return judge(text, parsed, &places, whole, head_asked, limits, to);
+    }
+    judge(text, parsed, &few, whole, head_asked, limits, to)
 }
 
 /// Reads the head of a response at the front of the window, behind its empty lines (RFC 9112 sections 2.2 and 4).

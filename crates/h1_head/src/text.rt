@@ -1,13 +1,18 @@
 //! What is alike in reading the heads of requests and of responses.
-ghost use Rattle.std.specs.Prelude.{◌≡◌, ◌≤◌, ◌<◌, ◌⊎◌, ◌∷◌, [], ◌↔◌, length, true, false, IsTrue, count_by};
+ghost use Rattle.std.specs.Prelude.{◌≡◌, ◌≤◌, ◌<◌, ◌⊎◌, ◌∷◌, [], ◌↔◌, length, true, false, IsTrue, Err, count_by};
+ghost use Rattle.httparse.specs.declared.Error.TheVariants.{TooManyHeaders};
 ghost use Rattle.h1_head.specs.Decides.{is_line_feed};
 ghost use Rattle.h1_head.specs.Waiting.{WaitTells};
 
 use crate::lines::line_feeds;
 use http_model::{Framing, Limits};
+use httparse::Error;
 
 /// The most fields of a head.
 pub const MAX_FIELDS: usize = 256;
+
+/// As many fields as most heads have. A list of places for the fields of a head is cleared before a parse, 32 bytes a place.
+pub const FEW_FIELDS: usize = 32;
 
 /// The most lines of a head: with the most fields it has a start line and an empty line.
 pub const MAX_LINES: usize = MAX_FIELDS + 2;
@@ -52,4 +57,14 @@ pub fn is_lone_cr(text: &[u8]) -> bool
     ensures { IsTrue result ↔ (text.now ≡ 13 ∷ []) }
 {
     text == b"\r".as_slice()
+}
+
+/// Whether a parse had too few places for the fields.
+pub fn wants_places<T>(parsed: &httparse::Result<T>) -> bool
+    ensures { IsTrue result ↔ (parsed.now ≡ Err TooManyHeaders) }
+{
+    match parsed {
+        Ok(_) => false,
+        Err(error) => *error == Error::TooManyHeaders,
+    }
 }

@@ -1,4 +1,4 @@
-use Rattle.std.proofs.Common.{◌≡◌, Bool, false, sym, subst}
+use Rattle.std.proofs.Common.{Bool, false, sym, subst}
 use Rattle.h1_head.specs.Sides.{kind_of}
 use Rattle.h1_head.specs.Decides.{MayWait}
 use Rattle.h1_head.proofs.EachSide.{each_is_lawful}
