@@ -15,6 +15,11 @@ stand_last S past before c f e s =
     let P : List Connect → Type 0 = λ cs. S (record past { connects = cs }) in
     subst P (ap (at_last f) e ∙ at_last_of f before c) s
 
+-- as a past
+pub last_is : (past : Past) (before : List Connect) (c : Connect) (f : Connect → Connect) → past.connects ≡ before ++ c ∷ []
+    → record past { connects = at_last f past.connects } ≡ record past { connects = before ++ f c ∷ [] }
+last_is past before c f e = ap (λ (cs : List Connect). record past { connects = cs }) (ap (at_last f) e ∙ at_last_of f before c)
+
 pub more_stream : (c : Connect) (s : Coming) → size_of c.stream < size_of s → moved_by c < moved_by (record c { stream = s })
 more_stream c s h = omega arith
 

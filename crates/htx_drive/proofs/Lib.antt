@@ -8,4 +8,6 @@ pub mod Dialling
 pub mod Handing
 pub mod Last
 pub mod Writing
+pub mod Turning
+pub mod Stepping
 pub mod Requests

@@ -2,22 +2,35 @@
 use Rattle.std.proofs.Common.{◌≡◌, ℕ, ◌+◌, ◌<◌, ◌≤◌, inl, List, [], Bool, false, Option, Some, None, sym, ap, subst, ◌∙◌, refl, arith}
 use Rattle.std.proofs.lemmas.List.{append-nil}
 use Rattle.http_model.specs.declared.Close.{Close}
-use Rattle.session_core.specs.History.{Past, Connect, after, Work}
+use Rattle.session_core.specs.History.{Past, Connect, Event, after, Work}
 use Rattle.px_link.specs.Link.{Seen, closed_by}
 use Rattle.px_link.specs.Net.{Place, NetSeen}
 use Rattle.htx_drive.specs.Came.{Put}
+use Rattle.htx_drive.specs.Turned.{Makes}
+use Rattle.htx_drive.specs.declared.act.Act.{Act}
 use Rattle.htx_drive.specs.Driven.{Idle, ClientMoves, IdleGoes, moved, client_moved}
 use Rattle.htx_drive.specs.Dialled.{Dials, Goes}
 use Rattle.htx_drive.proofs.Refusals.{counts_none}
 use Rattle.htx_drive.proofs.Writing.{put_still}
 
-pub idle_moves : {L : Type 0} (T : Past → Type 0) (seen : L → Seen) (wrote : L → List ℕ → Type 0) (first client : L) (past : Past) → ClientMoves T seen wrote first client past → IdleGoes T seen wrote first client false past 1 0
-idle_moves T seen wrote first client past m =
+pub idle_moves : {L : Type 0} (T U : Past → Type 0) (did : Act) (seen : L → Seen) (wrote : L → List ℕ → Type 0) (first client : L) (past : Past) → ClientMoves did T seen wrote first client past
+    → ((now : Past) (event : Event) → Makes did event → after past event ≡ now → T now → U now) → IdleGoes U seen wrote first client false past 1 0
+idle_moves T U did seen wrote first client past m w =
     let more : client_moved past.client past.taken < client_moved m.came m.taken = m.more in
-    record { now = record past { client = m.came; taken = m.taken }; idle = m.idle; connects = refl; more = omega arith }
+    record {
+      now = record past { client = m.came; taken = m.taken };
+      idle = record { stand = w _ m.event m.makes m.is m.idle.stand; came = m.idle.came; put = m.idle.put; closed = m.idle.closed };
+      connects = refl;
+      more = omega arith;
+    }
 
-pub idle_stays : {L : Type 0} (T : Past → Type 0) (seen : L → Seen) (wrote : L → List ℕ → Type 0) (first client : L) (failed : Bool) (past : Past) → Idle T seen wrote first client failed past → IdleGoes T seen wrote first client failed past 0 0
-idle_stays T seen wrote first client failed past m = record { now = past; idle = m; connects = refl; more = omega arith }
+pub idle_stays : {L : Type 0} (T U : Past → Type 0) (seen : L → Seen) (wrote : L → List ℕ → Type 0) (first client : L) (failed : Bool) (past : Past) → Idle T seen wrote first client failed past → (T past → U past) → IdleGoes U seen wrote first client failed past 0 0
+idle_stays T U seen wrote first client failed past m w =
+    record { now = past; idle = record { stand = w m.stand; came = m.came; put = m.put; closed = m.closed }; connects = refl; more = omega arith }
+
+-- the same past, of which something else is said
+pub idle_as : {L : Type 0} (S T : Past → Type 0) (seen : L → Seen) (wrote : L → List ℕ → Type 0) (first client : L) (failed : Bool) (past : Past) → (S past → T past) → Idle S seen wrote first client failed past → Idle T seen wrote first client failed past
+idle_as S T seen wrote first client failed past w h = record { stand = w h.stand; came = h.came; put = h.put; closed = h.closed }
 
 pub idle_paid : {L : Type 0} (T : Past → Type 0) (seen : L → Seen) (wrote : L → List ℕ → Type 0) (first client : L) (failed : Bool) (past : Past) (paid had has : ℕ)
     → IdleGoes T seen wrote first client failed past paid 0 → had ≤ has + paid → IdleGoes T seen wrote first client failed past had has

@@ -4,6 +4,7 @@ use Rattle.std.proofs.lemmas.List.{length-take, length-take-le, take-take}
 use Rattle.px_link.specs.Link.{Seen, SameKind, Took, WriteFailed, Takes, WithinTakes, MayRefuse}
 use Rattle.px_link.specs.Told.{Rose}
 use Rattle.htx_drive.specs.Came.{Put, FailsSo}
+use Rattle.htx_drive.specs.Turned.{IsUpTo}
 
 pub fails_same : (first old new : Seen) (b : Bool) → new.write_faults ≡ old.write_faults → FailsSo first old b → FailsSo first new b
 fails_same first old new true e h = let P : ℕ → Type 0 = λ n. Rose first.write_faults n in subst P (sym e) h
@@ -47,6 +48,14 @@ put_more_at W V U first old new put window m n b e kind h t =
     let Q : Bool → Type 0 = λ b. Put W U first new (put ++ take n window) b in
     let R : List ℕ → Type 0 = λ l. Put W U first new (put ++ l) false in
     subst Q (sym e) (subst R (take_less n m window t.within) (put_more W V U first old new put (take m window) n kind (subst P e h) t))
+
+pub up_to_taken : (most m n : ℕ) (window : List ℕ) → 0 < n → n ≤ length (take m window) → m ≤ most → IsUpTo most (take n window)
+up_to_taken most m n window z h w =
+    let e : length (take m window) ≤ m = omega (arith, length-take m window) in
+    let f : length (take n window) ≤ n = omega (arith, length-take n window) in
+    let i : n ≤ length window = omega (arith, length-take m window) in
+    let g : length (take n window) ≡ n = length-take-le n window i in
+    (omega arith, omega arith)
 
 pub longer_at : (put window : List ℕ) (m n : ℕ) → 0 < n → n ≤ length (take m window) → length put < length (put ++ take n window)
 longer_at put window m n h w = let P : List ℕ → Type 0 = λ l. length put < length (put ++ l) in subst P (take_less n m window w) (longer put (take m window) n h w)

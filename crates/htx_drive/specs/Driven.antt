@@ -2,8 +2,11 @@
 use Rattle.std.specs.Prelude.{◌≡◌, ℕ, ◌+◌, ◌<◌, ◌≤◌, List, [], ◌∷◌, ◌++◌, length, sum_by, Bool, true, false, None, is_some, if◌then◌else◌, Result, Ok, Err}
 use Rattle.std.specs.List.{AllByRecursion}
 use Rattle.session_model.specs.Meaning.{Meaning}
-use Rattle.htx_drive.specs.Machine.{TookFront}
-use Rattle.session_core.specs.History.{Past, Coming, Connect}
+use Rattle.htx_drive.specs.Machine.{CoreSeen, TookFront}
+use Rattle.htx_drive.specs.Turned.{Makes, UpToAFault}
+use Rattle.htx_drive.specs.declared.act.Act.{Act}
+use Rattle.px_link.specs.declared.turns.Turn.{Turn}
+use Rattle.session_core.specs.History.{Past, Coming, Connect, Event, after}
 use Rattle.px_link.specs.Link.{Seen}
 use Rattle.htx_drive.specs.Came.{Came, Put, size_of}
 use Rattle.htx_drive.specs.declared.SessionFault.{SessionFault}
@@ -39,10 +42,13 @@ pub record Rests (S : Past → Type 0) (past : Past) : Type 0 where
   pub stand : S past
   pub over : AllByRecursion IsOver past.connects
 
--- the client gave or took something
-pub record ClientMoves {L : Type 0} (S : Past → Type 0) (seen : L → Seen) (wrote : L → List ℕ → Type 0) (first client : L) (past : Past) : Type 0 where
+-- the client gave or took something, as the act says
+pub record ClientMoves {L : Type 0} (did : Act) (S : Past → Type 0) (seen : L → Seen) (wrote : L → List ℕ → Type 0) (first client : L) (past : Past) : Type 0 where
   pub came : Coming
   pub taken : List ℕ
+  pub event : Event
+  pub makes : Makes did event
+  pub is : after past event ≡ record past { client = came; taken = taken }
   pub idle : Idle S seen wrote first client false (record past { client = came; taken = taken })
   pub more : client_moved past.client past.taken < client_moved came taken
 
@@ -62,9 +68,12 @@ pub record Linked {L : Type 0} (seen : L → Seen) (wrote : L → List ℕ → T
   pub put : Put (wrote first) (wrote link) (seen first) (seen link) c.taken c.stopped
   pub closed : (seen link).closed ≡ (seen first).closed
 
--- the server gave or took something, or stopped
-pub record ServerMoves {L : Type 0} (S : Past → Type 0) (seen : L → Seen) (wrote : L → List ℕ → Type 0) (first link : L) (before : List Connect) (past : Past) (c : Connect) : Type 0 where
+-- the server gave or took something, or stopped, as the act says
+pub record ServerMoves {L : Type 0} (did : Act) (S : Past → Type 0) (seen : L → Seen) (wrote : L → List ℕ → Type 0) (first link : L) (before : List Connect) (past : Past) (c : Connect) : Type 0 where
   pub next : Connect
+  pub event : Event
+  pub makes : Makes did event
+  pub is : after past event ≡ record past { connects = before ++ next ∷ [] }
   pub stand : S (record past { connects = before ++ next ∷ [] })
   pub linked : Linked seen wrote first link next
   pub more : moved_by c < moved_by next
@@ -84,10 +93,12 @@ pub record HandGoes {L : Type 0} (S : Past → Type 0) (seen : L → Seen) (wrot
 
 -- ---- results
 
--- what is left of a core behind a fault: what was taken is a front, and a core that isn't lost stands for its history
-pub record Left {C : Type 0} (M : Meaning) (stands : C → Past → Type 0) (core : C) (lost : Bool) (past : Past) : Type 0 where
+-- what is left of a core behind a fault: what was taken is a front, and a core that isn't lost stands for its history; up to the fault
+-- turns led to it
+pub record Left {C : Type 0} (M : Meaning) (stands : C → Past → Type 0) (seen : C → CoreSeen) (turns left : List Turn) (core : C) (past : Past) : Type 0 where
   pub front : TookFront M past
-  pub stand : lost ≡ false → stands core past
+  pub stand : (seen core).lost ≡ false → stands core past
+  pub turned : UpToAFault stands seen turns left past
 
 -- what a turn pays
 abbrev pub paid_by : Bool → ℕ

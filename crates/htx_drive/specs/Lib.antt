@@ -6,4 +6,5 @@ pub mod Ran
 pub mod Budget
 pub mod Headline
 pub mod Acts
+pub mod Turned
 pub mod Cores

@@ -3,6 +3,7 @@ ghost use Rattle.std.specs.Prelude.{◌≡◌, ◌<◌, true, false, OnOk, IsErr
 ghost use Rattle.session_core.specs.History.{Past};
 ghost use Rattle.px_link.specs.Link.{Writes};
 ghost use Rattle.htx_drive.specs.Driven.{Idle, ClientMoves, Ends};
+ghost use Rattle.htx_drive.specs.declared.act.Act.TheVariants as act;
 
 use crate::{Machine, SessionFault};
 use px_link::{Ending, Failed, Fault, Link};
@@ -16,7 +17,7 @@ pub(crate) fn read_client<C: Machine, L: Link>(core: &mut C, client: &mut L, mos
     requires most { 0 < most }
     requires sound { C.sound core.old }
     ensures sound { C.sound core.new }
-    ensures moves { (cfg : C.Settings) (first : L) (past : Past) → Idle (C.stands cfg core.old) L.seen L.wrote first client.old false past → ClientMoves (C.stands cfg core.new) L.seen L.wrote first client.new past }
+    ensures moves { (cfg : C.Settings) (first : L) (past : Past) → Idle (C.stands cfg core.old) L.seen L.wrote first client.old false past → ClientMoves (act.ClientRead most) (C.stands cfg core.new) L.seen L.wrote first client.new past }
     ensures serving { (C.seen core.new).serving ≡ (C.seen core.old).serving }
 {
     let mut into = [0; MOST];
@@ -57,7 +58,7 @@ pub(crate) fn write_client<C: Machine, L: Link>(
     requires sound { C.sound core.old }
     ensures sound { OnOk result (C.sound core.new) }
     ensures moves { (cfg : C.Settings) (first : L) (past : Past) → Idle (C.stands cfg core.old) L.seen L.wrote first client.old false past
-        → Ends result (λ _. ClientMoves (C.stands cfg core.new) L.seen L.wrote first client.new past) (λ failed. Idle (C.stands cfg core.new) L.seen L.wrote first client.new failed past) }
+        → Ends result (λ _. ClientMoves (act.ClientWrite most) (C.stands cfg core.new) L.seen L.wrote first client.new past) (λ failed. Idle (C.stands cfg core.new) L.seen L.wrote first client.new failed past) }
     ensures unspent { IsErrOf result SessionFault.Spent → ⊥ }
     ensures serving { (C.seen core.new).serving ≡ (C.seen core.old).serving }
 {

@@ -3,6 +3,7 @@ ghost use Rattle.std.specs.Prelude.{◌≡◌, ◌<◌, ◌++◌, ◌∷◌, [],
 ghost use Rattle.session_core.specs.History.{Past, Connect};
 ghost use Rattle.px_link.specs.Link.{Writes};
 ghost use Rattle.htx_drive.specs.Driven.{Linked, ServerMoves, Ends};
+ghost use Rattle.htx_drive.specs.declared.act.Act.TheVariants as act;
 
 use crate::client_side::MOST;
 use crate::{Machine, SessionFault};
@@ -15,7 +16,7 @@ pub(crate) fn read_server<C: Machine, L: Link>(core: &mut C, link: &mut L, most:
     requires sound { C.sound core.old }
     ensures sound { C.sound core.new }
     ensures moves { (cfg : C.Settings) (first : L) (before : List Connect) (past : Past) (c : Connect) → C.stands cfg core.old past → past.connects ≡ before ++ c ∷ [] → Linked L.seen L.wrote first link.old c
-        → ServerMoves (C.stands cfg core.new) L.seen L.wrote first link.new before past c }
+        → ServerMoves (act.ServerRead most) (C.stands cfg core.new) L.seen L.wrote first link.new before past c }
     ensures serving { (C.seen core.new).serving ≡ (C.seen core.old).serving }
 {
     let mut into = [0; MOST];
@@ -56,7 +57,7 @@ pub(crate) fn write_server<C: Machine, L: Link>(
     requires sound { C.sound core.old }
     ensures sound { OnOk result (C.sound core.new) }
     ensures moves { (cfg : C.Settings) (first : L) (before : List Connect) (past : Past) (c : Connect) → C.stands cfg core.old past → past.connects ≡ before ++ c ∷ [] → Linked L.seen L.wrote first link.old c
-        → Ends result (λ _. ServerMoves (C.stands cfg core.new) L.seen L.wrote first link.new before past c) (λ failed. (failed ≡ false) × C.stands cfg core.new past × Linked L.seen L.wrote first link.new c) }
+        → Ends result (λ _. ServerMoves (act.ServerWrite most) (C.stands cfg core.new) L.seen L.wrote first link.new before past c) (λ failed. (failed ≡ false) × C.stands cfg core.new past × Linked L.seen L.wrote first link.new c) }
     ensures unspent { IsErrOf result SessionFault.Spent → ⊥ }
     ensures serving { (C.seen core.new).serving ≡ (C.seen core.old).serving }
 {

@@ -1,11 +1,13 @@
 //! A whole session.
-ghost use Rattle.std.specs.Prelude.{◌≡◌, ◌<◌, ◌≤◌, ◌+◌, Some, true, false, length, OnOk, IfOk, IfErr, IsErrOf};
+ghost use Rattle.std.specs.Prelude.{◌≡◌, ◌<◌, ◌≤◌, ◌+◌, List, Some, true, false, length, OnOk, IfOk, IfErr, IsErrOf};
 ghost use Rattle.http_model.specs.declared.End.{End};
 ghost use Rattle.session_model.specs.Session.{close_of};
 ghost use Rattle.session_core.specs.History.{Past, nothing_yet};
 ghost use Rattle.px_link.specs.Net.{address_of};
 ghost use Rattle.htx_drive.specs.Acts.{moves_bytes};
+ghost use Rattle.px_link.specs.declared.turns.Turn.{Turn};
 ghost use Rattle.htx_drive.specs.Driven.{Idle, IdleGoes, Rests, Left, Ends, paid_by};
+ghost use Rattle.htx_drive.specs.Turned.{InTurns, UpToAFault, StandsIn, FailsIn};
 ghost use Rattle.htx_drive.specs.Dialled.{Goes, Dials};
 ghost use Rattle.htx_drive.specs.Ran.{RanSo, GaveUp};
 
@@ -28,8 +30,8 @@ fn client_turn<C: Machine, L: Link, T: Turns>(
     requires no_write { wants.now.server_write ≡ false }
     requires sound { C.sound core.old }
     ensures sound { OnOk result (C.sound core.new) }
-    ensures goes { (cfg : C.Settings) (first : L) (past : Past) → Idle (C.stands cfg core.old) L.seen L.wrote first client.old false past
-        → Ends result (λ moved. IdleGoes (C.stands cfg core.new) L.seen L.wrote first client.new false past (paid_by moved) 0) (λ failed. IdleGoes (C.stands cfg core.new) L.seen L.wrote first client.new failed past 0 0) }
+    ensures goes { (cfg : C.Settings) (all : List Turn) (first : L) (past : Past) → Idle (StandsIn (C.stands cfg) C.seen all (T.left turns.old) core.old) L.seen L.wrote first client.old false past
+        → Ends result (λ moved. IdleGoes (StandsIn (C.stands cfg) C.seen all (T.left turns.new) core.new) L.seen L.wrote first client.new false past (paid_by moved) 0) (λ failed. IdleGoes (FailsIn (C.stands cfg) C.seen all (T.left turns.new) core.new) L.seen L.wrote first client.new failed past 0 0) }
     ensures serving { (C.seen core.new).serving ≡ (C.seen core.old).serving }
     ensures fewer { length (T.left turns.new) ≤ length (T.left turns.old) }
     ensures less { IfOk result (λ moved. moved ≡ false → length (T.left turns.new) < length (T.left turns.old)) }
@@ -66,8 +68,8 @@ fn idle_turn<C: Machine, L: Link, T: Turns>(
     requires left { 0 < left.old }
     requires sound { C.sound core.old }
     ensures sound { OnOk result (C.sound core.new) }
-    ensures goes { (cfg : C.Settings) (first : L) (past : Past) → Idle (C.stands cfg core.old) L.seen L.wrote first client.old false past
-        → Ends result (λ _. IdleGoes (C.stands cfg core.new) L.seen L.wrote first client.new false past left.old left.new) (λ failed. IdleGoes (C.stands cfg core.new) L.seen L.wrote first client.new failed past left.old left.new) }
+    ensures goes { (cfg : C.Settings) (all : List Turn) (first : L) (past : Past) → Idle (StandsIn (C.stands cfg) C.seen all (T.left turns.old) core.old) L.seen L.wrote first client.old false past
+        → Ends result (λ _. IdleGoes (StandsIn (C.stands cfg) C.seen all (T.left turns.new) core.new) L.seen L.wrote first client.new false past left.old left.new) (λ failed. IdleGoes (FailsIn (C.stands cfg) C.seen all (T.left turns.new) core.new) L.seen L.wrote first client.new failed past left.old left.new) }
     ensures serving { (C.seen core.new).serving ≡ (C.seen core.old).serving }
     ensures less { OnOk result (left.new + length (T.left turns.new) < left.old + length (T.left turns.old)) }
     ensures unspent { IsErrOf result SessionFault.Spent → ⊥ }
@@ -98,8 +100,8 @@ fn step<C: Machine, L: Link, N: Net<Link = L>, T: Turns>(
     requires left { 0 < left.old }
     requires sound { C.sound core.old }
     ensures sound { OnOk result (C.sound core.new) }
-    ensures goes { (cfg : C.Settings) (first : L) (first_net : N) (past : Past) → Idle (Rests (C.stands cfg core.old)) L.seen L.wrote first client.old false past → Dials (address_of to.now) (N.seen first_net) (N.seen net.old) past.connects
-        → Ends result (λ _. Goes (Rests (C.stands cfg core.new)) L.seen L.wrote first client.new false (address_of to.now) (N.seen first_net) (N.seen net.new) past left.old left.new) (λ failed. Goes (Left (C.meaning cfg) (C.stands cfg) core.new (C.seen core.new).lost) L.seen L.wrote first client.new failed (address_of to.now) (N.seen first_net) (N.seen net.new) past left.old left.new) }
+    ensures goes { (cfg : C.Settings) (all : List Turn) (first : L) (first_net : N) (past : Past) → Idle (Rests (StandsIn (C.stands cfg) C.seen all (T.left turns.old) core.old)) L.seen L.wrote first client.old false past → Dials (address_of to.now) (N.seen first_net) (N.seen net.old) past.connects
+        → Ends result (λ _. Goes (Rests (StandsIn (C.stands cfg) C.seen all (T.left turns.new) core.new)) L.seen L.wrote first client.new false (address_of to.now) (N.seen first_net) (N.seen net.new) past left.old left.new) (λ failed. Goes (Left (C.meaning cfg) (C.stands cfg) C.seen all (T.left turns.new) core.new) L.seen L.wrote first client.new failed (address_of to.now) (N.seen first_net) (N.seen net.new) past left.old left.new) }
     ensures serving { OnOk result ((C.seen core.new).serving ≡ false) }
     ensures less { OnOk result (left.new + length (T.left turns.new) < left.old + length (T.left turns.old)) }
     ensures spent { IsErrOf result SessionFault.Spent → left.new ≡ 0 }
@@ -123,8 +125,8 @@ fn exchanges<C: Machine, L: Link, N: Net<Link = L>, T: Turns>(
     requires serving { (C.seen core.old).serving ≡ false }
     requires sound { C.sound core.old }
     ensures sound { OnOk result (C.sound core.new) }
-    ensures goes { (cfg : C.Settings) (first : L) (first_net : N) (past : Past) → Idle (Rests (C.stands cfg core.old)) L.seen L.wrote first client.old false past → Dials (address_of to.now) (N.seen first_net) (N.seen net.old) past.connects
-        → Ends result (λ _. Goes (Rests (C.stands cfg core.new)) L.seen L.wrote first client.new false (address_of to.now) (N.seen first_net) (N.seen net.new) past left.old left.new) (λ failed. Goes (Left (C.meaning cfg) (C.stands cfg) core.new (C.seen core.new).lost) L.seen L.wrote first client.new failed (address_of to.now) (N.seen first_net) (N.seen net.new) past left.old left.new) }
+    ensures goes { (cfg : C.Settings) (all : List Turn) (first : L) (first_net : N) (past : Past) → Idle (Rests (StandsIn (C.stands cfg) C.seen all (T.left turns.old) core.old)) L.seen L.wrote first client.old false past → Dials (address_of to.now) (N.seen first_net) (N.seen net.old) past.connects
+        → Ends result (λ _. Goes (Rests (StandsIn (C.stands cfg) C.seen all (T.left turns.new) core.new)) L.seen L.wrote first client.new false (address_of to.now) (N.seen first_net) (N.seen net.new) past left.old left.new) (λ failed. Goes (Left (C.meaning cfg) (C.stands cfg) C.seen all (T.left turns.new) core.new) L.seen L.wrote first client.new failed (address_of to.now) (N.seen first_net) (N.seen net.new) past left.old left.new) }
     ensures over { IfOk result (λ how. (C.seen core.new).wants.over ≡ Some how) }
     ensures spent { IsErrOf result SessionFault.Spent → left.new ≡ 0 }
 {
@@ -176,6 +178,10 @@ pub fn run_session<C: Machine, L: Link, N: Net<Link = L>, T: Turns>(
     requires sound { C.sound core.old }
     ensures ran { (cfg : C.Settings) → C.stands cfg core.old nothing_yet → IfOk result (λ ran. RanSo (C.meaning cfg) (C.stands cfg core.new) L.seen L.wrote client.old client.new (address_of to.now) (N.seen net.old) (N.seen net.new) ran) }
     ensures gave_up { (cfg : C.Settings) → C.stands cfg core.old nothing_yet → IfErr result (λ fault. GaveUp (C.meaning cfg) (C.stands cfg) core.new (C.seen core.new).lost L.seen L.wrote client.old client.new (address_of to.now) (N.seen net.old) (N.seen net.new) budget fault) }
+    ensures in_turns { (cfg : C.Settings) → C.stands cfg core.old nothing_yet → IfOk result (λ ran. (so : RanSo (C.meaning cfg) (C.stands cfg core.new) L.seen L.wrote client.old client.new (address_of to.now) (N.seen net.old) (N.seen net.new) ran)
+        × InTurns (C.stands cfg) C.seen (T.left turns.old) (T.left turns.new) so.past) }
+    ensures up_to_a_fault { (cfg : C.Settings) → C.stands cfg core.old nothing_yet → IfErr result (λ fault. (so : GaveUp (C.meaning cfg) (C.stands cfg) core.new (C.seen core.new).lost L.seen L.wrote client.old client.new (address_of to.now) (N.seen net.old) (N.seen net.new) budget fault)
+        × UpToAFault (C.stands cfg) C.seen (T.left turns.old) (T.left turns.new) so.past) }
 {
     let mut left = budget;
     match exchanges(core, to, client, net, turns, &mut left) {

@@ -1,7 +1,8 @@
-use Rattle.std.proofs.Common.{◌<◌, length, arith, ◌∙◌}
+use Rattle.std.proofs.Common.{ℕ, ◌<◌, ◌≤◌, length, refl, arith, ◌∙◌}
+use Rattle.std.proofs.lemmas.List.{length-take}
 use Rattle.http_model.specs.declared.Ending.TheVariants.{Closed, Broke}
-use Rattle.session_core.specs.History.{gains, ends}
-use Rattle.htx_drive.proofs.Reading.{came_gains, came_closes, came_breaks, in_front, size-front, size-ends, more_left}
+use Rattle.session_core.specs.History.{gains, ends, FromClient, ClientEnded}
+use Rattle.htx_drive.proofs.Reading.{came_gains, came_closes, came_breaks, in_front, up_to_front, size-front, size-ends, more_left}
 use Rattle.htx_drive.proofs.Writing.{put_still}
 use Rattle.htx_drive.proofs.client_side.read_client.Goals as goal
 
@@ -13,6 +14,9 @@ returns-then-given-eq0-clause-moves g c = λ cfg first past h.
     record {
       came = ends past.client Closed;
       taken = past.taken;
+      event = ClientEnded Closed;
+      makes = tt;
+      is = refl;
       idle = record {
         stand = c.client_ended.ensures.leads cfg past h.stand;
         came = came_closes _ _ _ past.client _ _ c.if-given-eq0.true is h.came r;
@@ -27,9 +31,13 @@ returns-else-given-eq0-clause-moves g c = λ cfg first past h.
     let r = c.in-Ok.ensures.reads in
     let is = (g.met.C.Machine.wants_say cfg c.args.core.now past h.stand).client_read c.requires.wanted in
     let some : 0 < c.in-Ok.given = omega arith in
+    let within : length c.read.new.into ≤ c.args.most = omega (arith, length-take {A = ℕ}) in
     record {
       came = gains past.client _;
       taken = past.taken;
+      event = FromClient _;
+      makes = up_to_front c.args.most c.in-Ok.given c.read.new.into _ some r.within within;
+      is = refl;
       idle = record {
         stand = c.from_client.ensures.leads cfg past h.stand;
         came = came_gains _ _ _ past.client c.read.new.into _ _ is (in_front _ c.read.new.into _ r.within) h.came r;
@@ -47,6 +55,9 @@ returns-in-Err-clause-moves g c = λ cfg first past h.
     record {
       came = ends past.client Broke;
       taken = past.taken;
+      event = ClientEnded Broke;
+      makes = tt;
+      is = refl;
       idle = record {
         stand = c.client_ended-in-Err.ensures.leads cfg past h.stand;
         came = came_breaks _ _ _ past.client is h.came r;

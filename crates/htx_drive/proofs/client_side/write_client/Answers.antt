@@ -2,7 +2,7 @@ use Rattle.std.proofs.Common.{◌<◌, ◌++◌, length, take, false, refl, sym,
 use Rattle.session_core.specs.History.{ClientTook}
 use Rattle.htx_drive.specs.Machine.{Leads}
 use Rattle.htx_drive.proofs.Reading.{came_same}
-use Rattle.htx_drive.proofs.Writing.{put_fails, put_more_at, longer_at}
+use Rattle.htx_drive.proofs.Writing.{put_fails, put_more_at, longer_at, up_to_taken}
 use Rattle.htx_drive.proofs.client_side.write_client.Goals as goal
 
 pub returns-in-Ok-clause-moves : goal.returns-in-Ok-clause-moves
@@ -16,6 +16,9 @@ returns-in-Ok-clause-moves g c = λ cfg first past h.
     record {
       came = past.client;
       taken = past.taken ++ bytes;
+      event = ClientTook bytes;
+      makes = up_to_taken c.args.most w.0 c.in-Ok.taken window t.some t.within w.1;
+      is = refl;
       idle = record {
         stand = leads cfg past h.stand;
         came = came_same _ _ _ past.client h.came t.input;

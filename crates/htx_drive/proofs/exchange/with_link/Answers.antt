@@ -1,6 +1,7 @@
 use Rattle.std.proofs.Common.{◌≡◌, ◌++◌, ◌∷◌, [], Some, true, refl, ap, arith, sym}
-use Rattle.session_core.specs.History.{connected, closing_by, close_by}
+use Rattle.session_core.specs.History.{connected, closing_by, close_by, ServerOpened, ServerClosed}
 use Rattle.htx_drive.specs.Dialled.{closed_how}
+use Rattle.htx_drive.specs.Turned.{StandsIn, takes_none}
 use Rattle.http_model.specs.declared.Close.TheVariants.{Failed}
 use Rattle.htx_drive.proofs.Last.{stand_last}
 use Rattle.htx_drive.proofs.Resting.{over_more}
@@ -8,14 +9,14 @@ use Rattle.htx_drive.proofs.Dialling.{linked_fresh, returned, moved_opened, move
 use Rattle.htx_drive.proofs.exchange.with_link.Goals as goal
 
 pub returns-in-Ok-clause-goes : goal.returns-in-Ok-clause-goes
-returns-in-Ok-clause-goes g c = λ cfg first past h.
-    let done = c.in-Ok.ensures.goes cfg first c.args.lent past.connects (record past { connects = past.connects ++ connected true ∷ [] }) (connected true) (record {
-      idle = record { stand = c.server_opened.ensures.leads cfg past h.stand.stand; came = h.came; put = h.put; closed = h.closed };
+returns-in-Ok-clause-goes g c = λ cfg all first past h.
+    let done = c.in-Ok.ensures.goes cfg all first c.args.lent past.connects (record past { connects = past.connects ++ connected true ∷ [] }) (connected true) (record {
+      idle = record { stand = record { stand = c.server_opened.ensures.leads cfg past h.stand.stand.stand; turned = takes_none _ past (ServerOpened true) refl h.stand.stand.turned }; came = h.came; put = h.put; closed = h.closed };
       connects = refl;
       linked = linked_fresh g.L.Link.seen g.L.Link.wrote c.args.lent;
     }) in
     let hand = done.hand in
-    let how : c.in-Ok.how ≡ close_by done.now.note = (g.met.C.Machine.wants_say cfg c.serve.new.core done.now hand.idle.stand).server_close c.in-Ok.how c.in-Ok.ensures.how in
+    let how : c.in-Ok.how ≡ close_by done.now.note = (g.met.C.Machine.wants_say cfg c.serve.new.core done.now hand.idle.stand.stand).server_close c.in-Ok.how c.in-Ok.ensures.how in
     let opened = moved_opened past true in
     let shut = moved_closed past.connects done.now done.c (close_by done.now.note) hand.connects hand.linked.unclosed in
     let more = done.more in
@@ -24,7 +25,8 @@ returns-in-Ok-clause-goes g c = λ cfg first past h.
       c = closing_by done.now.note done.c;
       idle = record {
         stand = record {
-          stand = stand_last (g.C.Machine.stands cfg c.server_closed.new.self) done.now past.connects done.c (closing_by done.now.note) hand.connects (c.server_closed.ensures.leads cfg done.now hand.idle.stand);
+          stand = stand_last (StandsIn (g.C.Machine.stands cfg) g.C.Machine.seen all (g.T.Turns.left c.serve.new.turns) c.server_closed.new.self) done.now past.connects done.c (closing_by done.now.note) hand.connects
+              (record { stand = c.server_closed.ensures.leads cfg done.now hand.idle.stand.stand; turned = takes_none _ done.now ServerClosed refl hand.idle.stand.turned });
           over = over_more past.connects (closing_by done.now.note done.c) h.stand.over (λ there. refl);
         };
         came = hand.idle.came;
@@ -38,9 +40,9 @@ returns-in-Ok-clause-goes g c = λ cfg first past h.
     }
 
 pub returns-in-Err-clause-goes : goal.returns-in-Err-clause-goes
-returns-in-Err-clause-goes g c = λ cfg first past h.
-    let done = c.in-Err.ensures.goes cfg first c.args.lent past.connects (record past { connects = past.connects ++ connected true ∷ [] }) (connected true) (record {
-      idle = record { stand = c.server_opened.ensures.leads cfg past h.stand.stand; came = h.came; put = h.put; closed = h.closed };
+returns-in-Err-clause-goes g c = λ cfg all first past h.
+    let done = c.in-Err.ensures.goes cfg all first c.args.lent past.connects (record past { connects = past.connects ++ connected true ∷ [] }) (connected true) (record {
+      idle = record { stand = record { stand = c.server_opened.ensures.leads cfg past h.stand.stand.stand; turned = takes_none _ past (ServerOpened true) refl h.stand.stand.turned }; came = h.came; put = h.put; closed = h.closed };
       connects = refl;
       linked = linked_fresh g.L.Link.seen g.L.Link.wrote c.args.lent;
     }) in

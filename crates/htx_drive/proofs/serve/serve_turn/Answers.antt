@@ -1,26 +1,32 @@
-use Rattle.htx_drive.proofs.Handing.{client_in_hand, client_fails, server_in_hand, server_fails}
+use Rattle.std.proofs.Common.{refl}
+use Rattle.htx_drive.proofs.Turning.{taken_of}
+use Rattle.htx_drive.proofs.Stepping.{client_turn_in_hand, client_fault_in_hand, server_turn_in_hand, server_fault_in_hand, rest_in_hand}
 use Rattle.htx_drive.proofs.serve.serve_turn.Goals as goal
 
+pub returns-in-Nothing-clause-goes : goal.returns-in-Nothing-clause-goes
+returns-in-Nothing-clause-goes g c = λ cfg all first first_link before past k h.
+    rest_in_hand (g.C.Machine.stands cfg) g.C.Machine.seen all _ _ _ _ _ _ (taken_of _ _ _ _ _ _ _ c.next-turn.ensures.first c.next-turn.ensures.rest c.requires.wants c.in-Nothing.ensures.is c.requires.some) refl first _ first_link _ before past k h
+
 pub returns-in-ClientRead-clause-goes : goal.returns-in-ClientRead-clause-goes
-returns-in-ClientRead-clause-goes g c = λ cfg first first_link before past k h.
-    client_in_hand _ _ _ _ first _ _ first_link _ before past k h (c.read_client.ensures.moves cfg first past h.idle)
+returns-in-ClientRead-clause-goes g c = λ cfg all first first_link before past k h.
+    client_turn_in_hand (g.C.Machine.stands cfg) g.C.Machine.seen all _ _ _ _ _ _ _ (taken_of _ _ _ _ _ _ _ c.next-turn.ensures.first c.next-turn.ensures.rest c.requires.wants c.in-ClientRead.ensures.is c.requires.some) first _ _ first_link _ before past k h (c.read_client.ensures.moves cfg first past)
 
 pub returns-in-Ok-clause-goes : goal.returns-in-Ok-clause-goes
-returns-in-Ok-clause-goes g c = λ cfg first first_link before past k h.
-    client_in_hand _ _ _ _ first _ _ first_link _ before past k h (c.in-Ok.ensures.moves cfg first past h.idle)
+returns-in-Ok-clause-goes g c = λ cfg all first first_link before past k h.
+    client_turn_in_hand (g.C.Machine.stands cfg) g.C.Machine.seen all _ _ _ _ _ _ _ (taken_of _ _ _ _ _ _ _ c.next-turn.ensures.first c.next-turn.ensures.rest c.requires.wants c.in-ClientWrite.ensures.is c.requires.some) first _ _ first_link _ before past k h (c.in-Ok.ensures.moves cfg first past)
 
 pub returns-in-Err-clause-goes : goal.returns-in-Err-clause-goes
-returns-in-Err-clause-goes g c = λ cfg first first_link before past k h.
-    client_fails _ _ _ _ first _ _ first_link _ _ before past k h (c.in-Err.ensures.moves cfg first past h.idle)
+returns-in-Err-clause-goes g c = λ cfg all first first_link before past k h.
+    client_fault_in_hand (g.C.Machine.stands cfg) g.C.Machine.seen all _ _ _ _ _ _ _ (taken_of _ _ _ _ _ _ _ c.next-turn.ensures.first c.next-turn.ensures.rest c.requires.wants c.in-ClientWrite.ensures.is c.requires.some) first _ _ first_link _ _ before past k h (c.in-Err.ensures.moves cfg first past)
 
 pub returns-in-ServerRead-clause-goes : goal.returns-in-ServerRead-clause-goes
-returns-in-ServerRead-clause-goes g c = λ cfg first first_link before past k h.
-    server_in_hand _ _ _ _ first _ first_link _ _ before past k h (c.read_server.ensures.moves cfg first_link before past k h.idle.stand h.connects h.linked)
+returns-in-ServerRead-clause-goes g c = λ cfg all first first_link before past k h.
+    server_turn_in_hand (g.C.Machine.stands cfg) g.C.Machine.seen all _ _ _ _ _ _ _ (taken_of _ _ _ _ _ _ _ c.next-turn.ensures.first c.next-turn.ensures.rest c.requires.wants c.in-ServerRead.ensures.is c.requires.some) first _ first_link _ _ before past k h (c.read_server.ensures.moves cfg first_link before past k)
 
 pub returns-in-Ok-write_server-clause-goes : goal.returns-in-Ok-write_server-clause-goes
-returns-in-Ok-write_server-clause-goes g c = λ cfg first first_link before past k h.
-    server_in_hand _ _ _ _ first _ first_link _ _ before past k h (c.in-Ok-write_server.ensures.moves cfg first_link before past k h.idle.stand h.connects h.linked)
+returns-in-Ok-write_server-clause-goes g c = λ cfg all first first_link before past k h.
+    server_turn_in_hand (g.C.Machine.stands cfg) g.C.Machine.seen all _ _ _ _ _ _ _ (taken_of _ _ _ _ _ _ _ c.next-turn.ensures.first c.next-turn.ensures.rest c.requires.wants c.in-ServerWrite.ensures.is c.requires.some) first _ first_link _ _ before past k h (c.in-Ok-write_server.ensures.moves cfg first_link before past k)
 
 pub returns-in-Err-write_server-clause-goes : goal.returns-in-Err-write_server-clause-goes
-returns-in-Err-write_server-clause-goes g c = λ cfg first first_link before past k h.
-    server_fails _ _ _ _ first _ first_link _ _ _ before past k h (c.in-Err-write_server.ensures.moves cfg first_link before past k h.idle.stand h.connects h.linked)
+returns-in-Err-write_server-clause-goes g c = λ cfg all first first_link before past k h.
+    server_fault_in_hand (g.C.Machine.stands cfg) g.C.Machine.seen all _ _ _ _ _ _ _ (taken_of _ _ _ _ _ _ _ c.next-turn.ensures.first c.next-turn.ensures.rest c.requires.wants c.in-ServerWrite.ensures.is c.requires.some) first _ first_link _ _ _ before past k h (c.in-Err-write_server.ensures.moves cfg first_link before past k)

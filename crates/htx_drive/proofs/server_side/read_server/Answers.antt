@@ -1,9 +1,10 @@
-use Rattle.std.proofs.Common.{◌<◌, arith, ◌∙◌}
+use Rattle.std.proofs.Common.{ℕ, ◌<◌, ◌≤◌, length, arith, ◌∙◌}
+use Rattle.std.proofs.lemmas.List.{length-take}
 use Rattle.http_model.specs.declared.Ending.TheVariants.{Closed, Broke}
-use Rattle.session_core.specs.History.{gains, ends, given_by, ended_by}
-use Rattle.htx_drive.proofs.Reading.{came_gains, came_closes, came_breaks, in_front, size-front, size-ends}
+use Rattle.session_core.specs.History.{gains, ends, given_by, ended_by, FromServer, ServerEnded}
+use Rattle.htx_drive.proofs.Reading.{came_gains, came_closes, came_breaks, in_front, up_to_front, size-front, size-ends}
 use Rattle.htx_drive.proofs.Writing.{put_still}
-use Rattle.htx_drive.proofs.Last.{stand_last, more_stream}
+use Rattle.htx_drive.proofs.Last.{stand_last, last_is, more_stream}
 use Rattle.htx_drive.proofs.server_side.read_server.Goals as goal
 
 pub returns-then-given-eq0-clause-moves : goal.returns-then-given-eq0-clause-moves
@@ -12,6 +13,9 @@ returns-then-given-eq0-clause-moves g c = λ cfg first before past k s e h.
     let is = (g.met.C.Machine.wants_say cfg c.args.core.now past s).server_read before k e c.requires.wanted in
     record {
       next = ended_by Closed k;
+      event = ServerEnded Closed;
+      makes = tt;
+      is = last_is past before k (ended_by Closed) e;
       stand = stand_last (g.C.Machine.stands cfg c.server_ended.new.self) past before k (ended_by Closed) e (c.server_ended.ensures.leads cfg past s);
       linked = record {
         there = h.there;
@@ -28,8 +32,12 @@ returns-else-given-eq0-clause-moves g c = λ cfg first before past k s e h.
     let r = c.in-Ok.ensures.reads in
     let is = (g.met.C.Machine.wants_say cfg c.args.core.now past s).server_read before k e c.requires.wanted in
     let some : 0 < c.in-Ok.given = omega arith in
+    let within : length c.read.new.into ≤ c.args.most = omega (arith, length-take {A = ℕ}) in
     record {
       next = given_by _ k;
+      event = FromServer _;
+      makes = up_to_front c.args.most c.in-Ok.given c.read.new.into _ some r.within within;
+      is = last_is past before k (given_by _) e;
       stand = stand_last (g.C.Machine.stands cfg c.from_server.new.self) past before k (given_by _) e (c.from_server.ensures.leads cfg past s);
       linked = record {
         there = h.there;
@@ -47,6 +55,9 @@ returns-in-Err-clause-moves g c = λ cfg first before past k s e h.
     let is = (g.met.C.Machine.wants_say cfg c.args.core.now past s).server_read before k e c.requires.wanted in
     record {
       next = ended_by Broke k;
+      event = ServerEnded Broke;
+      makes = tt;
+      is = last_is past before k (ended_by Broke) e;
       stand = stand_last (g.C.Machine.stands cfg c.server_ended-in-Err.new.self) past before k (ended_by Broke) e (c.server_ended-in-Err.ensures.leads cfg past s);
       linked = record {
         there = h.there;

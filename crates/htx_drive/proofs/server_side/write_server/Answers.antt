@@ -1,9 +1,9 @@
 use Rattle.std.proofs.Common.{take, ◌∙◌, sym, subst}
-use Rattle.session_core.specs.History.{taking, stopping, ServerTook}
+use Rattle.session_core.specs.History.{taking, stopping, ServerTook, ServerStopped}
 use Rattle.htx_drive.specs.Machine.{Leads}
 use Rattle.htx_drive.proofs.Reading.{came_same}
-use Rattle.htx_drive.proofs.Writing.{put_more_at, put_fails_at, longer_at}
-use Rattle.htx_drive.proofs.Last.{stand_last, more_taken, more_stopped}
+use Rattle.htx_drive.proofs.Writing.{put_more_at, put_fails_at, longer_at, up_to_taken}
+use Rattle.htx_drive.proofs.Last.{stand_last, last_is, more_taken, more_stopped}
 use Rattle.htx_drive.proofs.server_side.write_server.Goals as goal
 
 pub returns-in-Ok-clause-moves : goal.returns-in-Ok-clause-moves
@@ -16,6 +16,9 @@ returns-in-Ok-clause-moves g c = λ cfg first before past k s e h.
     let leads = subst (λ core. Leads g.C.Machine.stands core c.server_took.new.self (ServerTook (take c.in-Ok.taken (g.C.Machine.seen core).to_server))) c.offer_server.ensures.same c.server_took.ensures.leads in
     record {
       next = taking bytes k;
+      event = ServerTook bytes;
+      makes = up_to_taken c.args.most w.0 c.in-Ok.taken window.to_server t.some t.within w.1;
+      is = last_is past before k (taking bytes) e;
       stand = stand_last (g.C.Machine.stands cfg c.server_took.new.self) past before k (taking bytes) e (leads cfg past s);
       linked = record {
         there = h.there;
@@ -33,6 +36,9 @@ returns-in-Err-Failed-clause-moves g c = λ cfg first before past k s e h.
     let is = (g.met.C.Machine.wants_say cfg c.args.core.now past s).server_write before k e c.requires.wanted in
     record {
       next = stopping k;
+      event = ServerStopped;
+      makes = tt;
+      is = last_is past before k stopping e;
       stand = stand_last (g.C.Machine.stands cfg c.server_stopped.new.self) past before k stopping e (c.server_stopped.ensures.leads cfg past (subst (λ core. g.C.Machine.stands cfg core past) (sym c.offer_server.ensures.same) s));
       linked = record {
         there = h.there;

@@ -3,22 +3,23 @@ use Rattle.session_core.specs.History.{nothing_yet}
 use Rattle.session_core.specs.Consequences.{IsFinal, out_of_past}
 use Rattle.px_link.specs.Net.{address_of}
 use Rattle.htx_drive.specs.Driven.{moved, failed_by}
-use Rattle.htx_drive.proofs.Dialling.{came_fresh, put_fresh, came_shut}
+use Rattle.htx_drive.proofs.Dialling.{came_shut}
+use Rattle.htx_drive.proofs.Turning.{begins}
 use Rattle.htx_drive.proofs.Running.{dials_fresh, put_shut, shut_closed, all_spent}
 use Rattle.htx_drive.proofs.session.run_session.Goals as goal
 
 pub returns-in-Ok-clause-ran : goal.returns-in-Ok-clause-ran
 returns-in-Ok-clause-ran g c = λ cfg s.
     let client = c.args.client.now in
-    let goes = c.in-Ok.ensures.goes cfg client c.args.net.now nothing_yet (record { stand = record { stand = s; over = tt }; came = came_fresh (g.L.Link.seen client); put = put_fresh (g.L.Link.wrote client) (g.L.Link.seen client); closed = refl }) (dials_fresh (address_of c.args.to.now) (g.N.Net.seen c.args.net.now)) in
+    let goes = c.in-Ok.ensures.goes cfg (g.T.Turns.left c.args.turns.now) client c.args.net.now nothing_yet (begins (g.C.Machine.stands cfg) g.C.Machine.seen (g.T.Turns.left c.args.turns.now) c.args.core.now g.L.Link.seen g.L.Link.wrote client s) (dials_fresh (address_of c.args.to.now) (g.N.Net.seen c.args.net.now)) in
     let P : ℕ → Type 0 = λ n. IsFinal (g.C.Machine.meaning cfg) goes.now (out_of_past goes.now goes.now.taken n c.in-Ok.end) in
     let idle = goes.idle in
     record {
       past = goes.now;
-      stand = idle.stand.stand;
+      stand = idle.stand.stand.stand;
       over = idle.stand.over;
-      session = subst P (sym c.exchanges-in-Ok.ensures) (g.met.C.Machine.over_is_the_session cfg c.exchanges.new.core goes.now c.in-Ok.end idle.stand.stand c.in-Ok.ensures.over);
-      bit = c.cut.ensures ∙ g.met.C.Machine.cut_is_noted cfg c.exchanges.new.core goes.now idle.stand.stand;
+      session = subst P (sym c.exchanges-in-Ok.ensures) (g.met.C.Machine.over_is_the_session cfg c.exchanges.new.core goes.now c.in-Ok.end idle.stand.stand.stand c.in-Ok.ensures.over);
+      bit = c.cut.ensures ∙ g.met.C.Machine.cut_is_noted cfg c.exchanges.new.core goes.now idle.stand.stand.stand;
       came = came_shut (g.L.Link.seen client) (g.L.Link.seen c.exchanges.new.client) (g.L.Link.seen c.close.new.self) _ goes.now.client c.close.ensures.seen idle.came;
       put = put_shut _ _ _ (g.L.Link.seen client) (g.L.Link.seen c.exchanges.new.client) (g.L.Link.seen c.close.new.self) _ goes.now.taken false c.close.ensures.seen c.close.ensures.wrote idle.put;
       closed = shut_closed (g.L.Link.seen client) (g.L.Link.seen c.exchanges.new.client) (g.L.Link.seen c.close.new.self) _ _ c.close.ensures.seen idle.closed c.close_of.ensures;
@@ -28,7 +29,7 @@ returns-in-Ok-clause-ran g c = λ cfg s.
 pub returns-in-Err-clause-gave_up : goal.returns-in-Err-clause-gave_up
 returns-in-Err-clause-gave_up g c = λ cfg s.
     let client = c.args.client.now in
-    let goes = c.in-Err.ensures.goes cfg client c.args.net.now nothing_yet (record { stand = record { stand = s; over = tt }; came = came_fresh (g.L.Link.seen client); put = put_fresh (g.L.Link.wrote client) (g.L.Link.seen client); closed = refl }) (dials_fresh (address_of c.args.to.now) (g.N.Net.seen c.args.net.now)) in
+    let goes = c.in-Err.ensures.goes cfg (g.T.Turns.left c.args.turns.now) client c.args.net.now nothing_yet (begins (g.C.Machine.stands cfg) g.C.Machine.seen (g.T.Turns.left c.args.turns.now) c.args.core.now g.L.Link.seen g.L.Link.wrote client s) (dials_fresh (address_of c.args.to.now) (g.N.Net.seen c.args.net.now)) in
     let more : moved nothing_yet + c.args.budget ≤ moved goes.now + c.exchanges.new.left = goes.more in
     let idle = goes.idle in
     record {
@@ -41,3 +42,18 @@ returns-in-Err-clause-gave_up g c = λ cfg s.
       dials = goes.dials;
       spent = λ e. all_spent c.args.budget (moved goes.now) c.exchanges.new.left more (c.in-Err.ensures.spent (ap (λ f. Err f) e));
     }
+
+-- the turns led to that past
+pub returns-in-Ok-clause-in_turns : goal.returns-in-Ok-clause-in_turns
+unfolding returns-in-Ok-clause-ran
+returns-in-Ok-clause-in_turns g c = λ cfg s.
+    let client = c.args.client.now in
+    let goes = c.in-Ok.ensures.goes cfg (g.T.Turns.left c.args.turns.now) client c.args.net.now nothing_yet (begins (g.C.Machine.stands cfg) g.C.Machine.seen (g.T.Turns.left c.args.turns.now) c.args.core.now g.L.Link.seen g.L.Link.wrote client s) (dials_fresh (address_of c.args.to.now) (g.N.Net.seen c.args.net.now)) in
+    (returns-in-Ok-clause-ran g c cfg s, goes.idle.stand.stand.turned)
+
+pub returns-in-Err-clause-up_to_a_fault : goal.returns-in-Err-clause-up_to_a_fault
+unfolding returns-in-Err-clause-gave_up
+returns-in-Err-clause-up_to_a_fault g c = λ cfg s.
+    let client = c.args.client.now in
+    let goes = c.in-Err.ensures.goes cfg (g.T.Turns.left c.args.turns.now) client c.args.net.now nothing_yet (begins (g.C.Machine.stands cfg) g.C.Machine.seen (g.T.Turns.left c.args.turns.now) c.args.core.now g.L.Link.seen g.L.Link.wrote client s) (dials_fresh (address_of c.args.to.now) (g.N.Net.seen c.args.net.now)) in
+    (returns-in-Err-clause-gave_up g c cfg s, goes.idle.stand.turned)

@@ -1,0 +1,57 @@
+-- What a list of turns makes of a session: each turn moves at most its number of bytes.
+use Rattle.std.specs.Prelude.{◌≡◌, ℕ, ◌<◌, ◌≤◌, ◌⊎◌, List, length, Bool, true, false, ⊤}
+use Rattle.px_link.specs.declared.turns.Turn.{Turn}
+use Rattle.px_link.specs.Turns.{first_of, rest_of}
+use Rattle.session_core.specs.History.{Event, FromClient, ClientEnded, ClientTook, ServerOpened, FromServer, ServerEnded, ServerTook, ServerStopped, ServerClosed, Work, Past, nothing_yet, after}
+use Rattle.htx_drive.specs.Acts.{act_of, is_nothing, moves_bytes}
+use Rattle.htx_drive.specs.Machine.{CoreSeen}
+use Rattle.htx_drive.specs.declared.act.Act.{Act}
+use Rattle.htx_drive.specs.declared.act.Act.TheVariants as act
+
+-- at least a byte, and at most so many
+abbrev pub IsUpTo : ℕ → List ℕ → Type 0
+IsUpTo most bytes = (0 < length bytes) × (length bytes ≤ most)
+
+-- What an act makes of a history: bytes, no more than its number, or an ending, or a stop.
+abbrev pub Makes : Act → Event → Type 0
+Makes (act.ClientRead most) (FromClient bytes) = IsUpTo most bytes
+Makes (act.ClientRead most) (ClientEnded how) = ⊤
+Makes (act.ClientWrite most) (ClientTook bytes) = IsUpTo most bytes
+Makes (act.ServerRead most) (FromServer bytes) = IsUpTo most bytes
+Makes (act.ServerRead most) (ServerEnded how) = ⊤
+Makes (act.ServerWrite most) (ServerTook bytes) = IsUpTo most bytes
+Makes (act.ServerWrite most) ServerStopped = ⊤
+Makes _ _ = ⊥
+
+-- what takes no turn: the core works, a server is opened or refused, its link is closed
+abbrev pub takes_no_turn : Event → Bool
+takes_no_turn (ServerOpened _) = true
+takes_no_turn ServerClosed = true
+takes_no_turn (Work _) = true
+takes_no_turn _ = false
+
+-- These turns led to this past, one after another, and those are left. Each is taken where a core that stands for the past so far wants bytes
+-- to be moved, and does what that core's wants make of it (`act_of`): it moves something, no more than its number of bytes, or it moves nothing where
+-- it is to do nothing. Behind the list each takes the first want that stands.
+pub data InTurns {C : Type 0} (stands : C → Past → Type 0) (seen : C → CoreSeen) (turns : List Turn) : List Turn → Past → Type 0 where
+  starts : InTurns stands seen turns turns nothing_yet
+  takes_none : (left : List Turn) (past : Past) (event : Event) → takes_no_turn event ≡ true → InTurns stands seen turns left past → InTurns stands seen turns left (after past event)
+  rests : (left : List Turn) (past : Past) (core : C) → stands core past → moves_bytes (seen core).wants ≡ true → is_nothing (act_of (first_of left) (seen core).wants) ≡ true
+      → InTurns stands seen turns left past → InTurns stands seen turns (rest_of left) past
+  moves : (left : List Turn) (past : Past) (core : C) (event : Event) → stands core past → moves_bytes (seen core).wants ≡ true → Makes (act_of (first_of left) (seen core).wants) event
+      → InTurns stands seen turns left past → InTurns stands seen turns (rest_of left) (after past event)
+
+-- the same, where the last turn may have failed, and then moved nothing
+abbrev pub UpToAFault : {C : Type 0} (stands : C → Past → Type 0) (seen : C → CoreSeen) (turns left : List Turn) → Past → Type 0
+UpToAFault stands seen turns left past =
+    InTurns stands seen turns left past ⊎ ((before : List Turn) × (left ≡ rest_of before) × InTurns stands seen turns before past)
+
+-- a core stands for the past, and turns led to it
+pub record StandsIn {C : Type 0} (stands : C → Past → Type 0) (seen : C → CoreSeen) (turns left : List Turn) (core : C) (past : Past) : Type 0 where
+  pub stand : stands core past
+  pub turned : InTurns stands seen turns left past
+
+-- the same up to a fault
+pub record FailsIn {C : Type 0} (stands : C → Past → Type 0) (seen : C → CoreSeen) (turns left : List Turn) (core : C) (past : Past) : Type 0 where
+  pub stand : stands core past
+  pub turned : UpToAFault stands seen turns left past
