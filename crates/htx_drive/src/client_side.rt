@@ -5,14 +5,17 @@ ghost use Rattle.px_link.specs.Link.{Writes};
 ghost use Rattle.htx_drive.specs.Driven.{Idle, ClientMoves, Ends};
 ghost use Rattle.htx_drive.specs.declared.act.Act.TheVariants as act;
 
+use crate::resources::MOST;
 use crate::{Machine, SessionFault};
 use px_link::{Ending, Failed, Fault, Link};
 
-/// The most that one read asks for.
-pub(crate) const MOST: usize = 4096;
-
-/// One read of the client's link, whose end and whose failure are endings.
-pub(crate) fn read_client<C: Machine, L: Link>(core: &mut C, client: &mut L, most: u32)
+/// One read of the client's link into this buffer, whose end and whose failure are endings.
+pub(crate) fn read_client<C: Machine, L: Link>(
+    core: &mut C,
+    client: &mut L,
+    buffer: &mut [u8; MOST],
+    most: u32,
+)
     requires wanted { (C.seen core.old).wants.client_read ≡ true }
     requires most { 0 < most }
     requires sound { C.sound core.old }
@@ -20,14 +23,13 @@ pub(crate) fn read_client<C: Machine, L: Link>(core: &mut C, client: &mut L, mos
     ensures moves { (cfg : C.Settings) (first : L) (past : Past) → Idle (C.stands cfg core.old) L.seen L.wrote first client.old false past → ClientMoves (act.ClientRead most) (C.stands cfg core.new) L.seen L.wrote first client.new past }
     ensures serving { (C.seen core.new).serving ≡ (C.seen core.old).serving }
 {
-    let mut into = [0; MOST];
     let n = MOST.min(core.client_room()).min(most as usize);
-    match client.read(&mut into[..n]) {
+    match client.read(&mut buffer[..n]) {
         Ok(given) => {
             if given == 0 {
                 core.client_ended(Ending::Closed);
             } else {
-                core.from_client(&into[..given]);
+                core.from_client(&buffer[..given]);
             }
         }
         Err(Failed) => core.client_ended(Ending::Broke),

@@ -7,6 +7,7 @@ ghost use Rattle.htx_drive.specs.Driven.{Idle, Rests, Left, Ends};
 ghost use Rattle.htx_drive.specs.Turned.{StandsIn};
 ghost use Rattle.htx_drive.specs.Dialled.{Served, Goes, Dials};
 
+use crate::resources::Resources;
 use crate::serve::serve;
 use crate::{Machine, SessionFault};
 use px_link::{Address, Close, Fault, Link, Net, Turns};
@@ -18,24 +19,24 @@ fn with_link<C: Machine, L: Link, N: Net<Link = L>, T: Turns>(
     lent: L,
     net: &mut N,
     turns: &mut T,
-    left: &mut u64,
+    resources: &mut Resources,
 ) -> Result<(), SessionFault>
     requires wanted { (C.seen core.old).wants.server_open ≡ true }
-    requires some { 0 < left.old }
+    requires some { 0 < resources.old.left }
     requires lent { 0 < (N.seen net.old).lent }
     requires sound { C.sound core.old }
     ensures sound { OnOk result (C.sound core.new) }
     ensures goes { (cfg : C.Settings) (all : List Turn) (first : L) (past : Past) → Idle (Rests (StandsIn (C.stands cfg) C.seen all (T.left turns.old) core.old)) L.seen L.wrote first client.old false past
-        → Ends result (λ _. Served (Rests (StandsIn (C.stands cfg) C.seen all (T.left turns.new) core.new)) L.seen L.wrote first client.new false lent (N.seen net.old) (N.seen net.new) past left.old left.new) (λ failed. Served (Left (C.meaning cfg) (C.stands cfg) C.seen all (T.left turns.new) core.new) L.seen L.wrote first client.new failed lent (N.seen net.old) (N.seen net.new) past left.old left.new) }
+        → Ends result (λ _. Served (Rests (StandsIn (C.stands cfg) C.seen all (T.left turns.new) core.new)) L.seen L.wrote first client.new false lent (N.seen net.old) (N.seen net.new) past resources.old.left resources.new.left) (λ failed. Served (Left (C.meaning cfg) (C.stands cfg) C.seen all (T.left turns.new) core.new) L.seen L.wrote first client.new failed lent (N.seen net.old) (N.seen net.new) past resources.old.left resources.new.left) }
     ensures serving { OnOk result ((C.seen core.new).serving ≡ false) }
     ensures fewer { length (T.left turns.new) ≤ length (T.left turns.old) }
-    ensures spends { left.new < left.old }
-    ensures spent { IsErrOf result SessionFault.Spent → left.new ≡ 0 }
+    ensures spends { resources.new.left < resources.old.left }
+    ensures spent { IsErrOf result SessionFault.Spent → resources.new.left ≡ 0 }
 {
     let mut link = lent;
     core.server_opened(true);
-    *left -= 1;
-    match serve(core, client, &mut link, turns, left) {
+    resources.left -= 1;
+    match serve(core, client, &mut link, turns, resources) {
         Ok(how) => {
             link.close(how);
             core.server_closed();
@@ -57,25 +58,25 @@ pub(crate) fn exchange<C: Machine, L: Link, N: Net<Link = L>, T: Turns>(
     client: &mut L,
     net: &mut N,
     turns: &mut T,
-    left: &mut u64,
+    resources: &mut Resources,
 ) -> Result<(), SessionFault>
     requires wanted { (C.seen core.old).wants.server_open ≡ true }
-    requires some { 0 < left.old }
+    requires some { 0 < resources.old.left }
     requires sound { C.sound core.old }
     ensures sound { OnOk result (C.sound core.new) }
     ensures goes { (cfg : C.Settings) (all : List Turn) (first : L) (first_net : N) (past : Past) → Idle (Rests (StandsIn (C.stands cfg) C.seen all (T.left turns.old) core.old)) L.seen L.wrote first client.old false past → Dials (address_of to.now) (N.seen first_net) (N.seen net.old) past.connects
-        → Ends result (λ _. Goes (Rests (StandsIn (C.stands cfg) C.seen all (T.left turns.new) core.new)) L.seen L.wrote first client.new false (address_of to.now) (N.seen first_net) (N.seen net.new) past left.old left.new) (λ failed. Goes (Left (C.meaning cfg) (C.stands cfg) C.seen all (T.left turns.new) core.new) L.seen L.wrote first client.new failed (address_of to.now) (N.seen first_net) (N.seen net.new) past left.old left.new) }
+        → Ends result (λ _. Goes (Rests (StandsIn (C.stands cfg) C.seen all (T.left turns.new) core.new)) L.seen L.wrote first client.new false (address_of to.now) (N.seen first_net) (N.seen net.new) past resources.old.left resources.new.left) (λ failed. Goes (Left (C.meaning cfg) (C.stands cfg) C.seen all (T.left turns.new) core.new) L.seen L.wrote first client.new failed (address_of to.now) (N.seen first_net) (N.seen net.new) past resources.old.left resources.new.left) }
     ensures serving { OnOk result ((C.seen core.new).serving ≡ false) }
     ensures fewer { length (T.left turns.new) ≤ length (T.left turns.old) }
-    ensures spends { left.new ≤ left.old }
-    ensures less { OnOk result (left.new < left.old) }
-    ensures spent { IsErrOf result SessionFault.Spent → left.new ≡ 0 }
+    ensures spends { resources.new.left ≤ resources.old.left }
+    ensures less { OnOk result (resources.new.left < resources.old.left) }
+    ensures spent { IsErrOf result SessionFault.Spent → resources.new.left ≡ 0 }
 {
     match net.connect(to) {
-        Ok(link) => with_link(core, client, link, net, turns, left),
+        Ok(link) => with_link(core, client, link, net, turns, resources),
         Err(Fault::Failed) => {
             core.server_opened(false);
-            *left -= 1;
+            resources.left -= 1;
             Ok(())
         }
         Err(Fault::OutOfMemory) => Err(SessionFault::OutOfMemory),

@@ -7,6 +7,7 @@ mod core_machine;
 mod exchange;
 pub mod laws;
 mod machine;
+mod resources;
 mod serve;
 mod server_side;
 mod session;

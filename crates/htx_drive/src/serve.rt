@@ -8,6 +8,7 @@ ghost use Rattle.htx_drive.specs.Acts.{moves_bytes};
 
 use crate::act::{Act, next_act};
 use crate::client_side::{read_client, write_client};
+use crate::resources::{MOST, Resources};
 use crate::server_side::{read_server, write_server};
 use crate::{Machine, SessionFault, Wants};
 use px_link::{Close, Link, OutOfMemory, Turns};
@@ -18,6 +19,7 @@ fn serve_turn<C: Machine, L: Link, T: Turns>(
     client: &mut L,
     link: &mut L,
     turns: &mut T,
+    buffer: &mut [u8; MOST],
     wants: &Wants,
 ) -> Result<bool, SessionFault>
     requires wants { wants.now ≡ (C.seen core.old).wants }
@@ -35,7 +37,7 @@ fn serve_turn<C: Machine, L: Link, T: Turns>(
     match next_act(turn, wants) {
         Act::Nothing => Ok(false),
         Act::ClientRead(most) => {
-            read_client(core, client, most);
+            read_client(core, client, buffer, most);
             Ok(true)
         }
         Act::ClientWrite(most) => {
@@ -45,7 +47,7 @@ fn serve_turn<C: Machine, L: Link, T: Turns>(
             }
         }
         Act::ServerRead(most) => {
-            read_server(core, link, most);
+            read_server(core, link, buffer, most);
             Ok(true)
         }
         Act::ServerWrite(most) => {
@@ -63,17 +65,17 @@ pub(crate) fn serve<C: Machine, L: Link, T: Turns>(
     client: &mut L,
     link: &mut L,
     turns: &mut T,
-    left: &mut u64,
+    resources: &mut Resources,
 ) -> Result<Close, SessionFault>
     requires serving { (C.seen core.old).serving ≡ true }
     requires sound { C.sound core.old }
     ensures sound { OnOk result (C.sound core.new) }
     ensures goes { (cfg : C.Settings) (all : List Turn) (first first_link : L) (before : List Connect) (past : Past) (c : Connect) → Hand (StandsIn (C.stands cfg) C.seen all (T.left turns.old) core.old) L.seen L.wrote first client.old first_link link.old false before past c
-        → Ends result (λ _. HandGoes (StandsIn (C.stands cfg) C.seen all (T.left turns.new) core.new) L.seen L.wrote first client.new first_link link.new false before past left.old left.new) (λ failed. HandGoes (Left (C.meaning cfg) (C.stands cfg) C.seen all (T.left turns.new) core.new) L.seen L.wrote first client.new first_link link.new failed before past left.old left.new) }
+        → Ends result (λ _. HandGoes (StandsIn (C.stands cfg) C.seen all (T.left turns.new) core.new) L.seen L.wrote first client.new first_link link.new false before past resources.old.left resources.new.left) (λ failed. HandGoes (Left (C.meaning cfg) (C.stands cfg) C.seen all (T.left turns.new) core.new) L.seen L.wrote first client.new first_link link.new failed before past resources.old.left resources.new.left) }
     ensures how { IfOk result (λ how. (C.seen core.new).wants.server_close ≡ Some how) }
     ensures fewer { length (T.left turns.new) ≤ length (T.left turns.old) }
-    ensures spends { left.new ≤ left.old }
-    ensures spent { IsErrOf result SessionFault.Spent → left.new ≡ 0 }
+    ensures spends { resources.new.left ≤ resources.old.left }
+    ensures spent { IsErrOf result SessionFault.Spent → resources.new.left ≡ 0 }
 {
     'turns: loop {
         match core.work() {
@@ -84,11 +86,11 @@ pub(crate) fn serve<C: Machine, L: Link, T: Turns>(
         if let Some(how) = wants.server_close {
             return Ok(how);
         }
-        if *left == 0 {
+        if resources.left == 0 {
             return Err(SessionFault::Spent);
         }
-        match serve_turn(core, client, link, turns, &wants) {
-            Ok(true) => *left -= 1,
+        match serve_turn(core, client, link, turns, &mut resources.buffer, &wants) {
+            Ok(true) => resources.left -= 1,
             Ok(false) => {}
             Err(fault) => return Err(fault),
         }

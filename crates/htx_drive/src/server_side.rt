@@ -5,12 +5,17 @@ ghost use Rattle.px_link.specs.Link.{Writes};
 ghost use Rattle.htx_drive.specs.Driven.{Linked, ServerMoves, Ends};
 ghost use Rattle.htx_drive.specs.declared.act.Act.TheVariants as act;
 
-use crate::client_side::MOST;
+use crate::resources::MOST;
 use crate::{Machine, SessionFault};
 use px_link::{Ending, Failed, Fault, Link};
 
-/// One read of the server's link, whose end and whose failure are endings.
-pub(crate) fn read_server<C: Machine, L: Link>(core: &mut C, link: &mut L, most: u32)
+/// One read of the server's link into this buffer, whose end and whose failure are endings.
+pub(crate) fn read_server<C: Machine, L: Link>(
+    core: &mut C,
+    link: &mut L,
+    buffer: &mut [u8; MOST],
+    most: u32,
+)
     requires wanted { (C.seen core.old).wants.server_read ≡ true }
     requires most { 0 < most }
     requires sound { C.sound core.old }
@@ -19,14 +24,13 @@ pub(crate) fn read_server<C: Machine, L: Link>(core: &mut C, link: &mut L, most:
         → ServerMoves (act.ServerRead most) (C.stands cfg core.new) L.seen L.wrote first link.new before past c }
     ensures serving { (C.seen core.new).serving ≡ (C.seen core.old).serving }
 {
-    let mut into = [0; MOST];
     let n = MOST.min(core.server_room()).min(most as usize);
-    match link.read(&mut into[..n]) {
+    match link.read(&mut buffer[..n]) {
         Ok(given) => {
             if given == 0 {
                 core.server_ended(Ending::Closed);
             } else {
-                core.from_server(&into[..given]);
+                core.from_server(&buffer[..given]);
             }
         }
         Err(Failed) => core.server_ended(Ending::Broke),

@@ -14,6 +14,7 @@ ghost use Rattle.htx_drive.specs.Ran.{RanSo, GaveUp};
 use crate::act::{Act, next_act};
 use crate::client_side::{read_client, write_client};
 use crate::exchange::exchange;
+use crate::resources::{MOST, Resources};
 use crate::{Machine, Ran, SessionFault, Wants};
 use px_link::{Address, Close, End, Link, Net, OutOfMemory, Turns};
 
@@ -22,6 +23,7 @@ fn client_turn<C: Machine, L: Link, T: Turns>(
     core: &mut C,
     client: &mut L,
     turns: &mut T,
+    buffer: &mut [u8; MOST],
     wants: &Wants,
 ) -> Result<bool, SessionFault>
     requires wants { wants.now ≡ (C.seen core.old).wants }
@@ -41,7 +43,7 @@ fn client_turn<C: Machine, L: Link, T: Turns>(
     match next_act(turn, wants) {
         Act::Nothing => Ok(false),
         Act::ClientRead(most) => {
-            read_client(core, client, most);
+            read_client(core, client, buffer, most);
             Ok(true)
         }
         Act::ClientWrite(most) => match write_client(core, client, most) {
@@ -58,25 +60,25 @@ fn idle_turn<C: Machine, L: Link, T: Turns>(
     core: &mut C,
     client: &mut L,
     turns: &mut T,
-    left: &mut u64,
+    resources: &mut Resources,
     wants: &Wants,
 ) -> Result<(), SessionFault>
     requires wants { wants.now ≡ (C.seen core.old).wants }
     requires some { moves_bytes wants.now ≡ true }
     requires no_read { wants.now.server_read ≡ false }
     requires no_write { wants.now.server_write ≡ false }
-    requires left { 0 < left.old }
+    requires left { 0 < resources.old.left }
     requires sound { C.sound core.old }
     ensures sound { OnOk result (C.sound core.new) }
     ensures goes { (cfg : C.Settings) (all : List Turn) (first : L) (past : Past) → Idle (StandsIn (C.stands cfg) C.seen all (T.left turns.old) core.old) L.seen L.wrote first client.old false past
-        → Ends result (λ _. IdleGoes (StandsIn (C.stands cfg) C.seen all (T.left turns.new) core.new) L.seen L.wrote first client.new false past left.old left.new) (λ failed. IdleGoes (FailsIn (C.stands cfg) C.seen all (T.left turns.new) core.new) L.seen L.wrote first client.new failed past left.old left.new) }
+        → Ends result (λ _. IdleGoes (StandsIn (C.stands cfg) C.seen all (T.left turns.new) core.new) L.seen L.wrote first client.new false past resources.old.left resources.new.left) (λ failed. IdleGoes (FailsIn (C.stands cfg) C.seen all (T.left turns.new) core.new) L.seen L.wrote first client.new failed past resources.old.left resources.new.left) }
     ensures serving { (C.seen core.new).serving ≡ (C.seen core.old).serving }
-    ensures less { OnOk result (left.new + length (T.left turns.new) < left.old + length (T.left turns.old)) }
+    ensures less { OnOk result (resources.new.left + length (T.left turns.new) < resources.old.left + length (T.left turns.old)) }
     ensures unspent { IsErrOf result SessionFault.Spent → ⊥ }
 {
-    match client_turn(core, client, turns, wants) {
+    match client_turn(core, client, turns, &mut resources.buffer, wants) {
         Ok(true) => {
-            *left -= 1;
+            resources.left -= 1;
             Ok(())
         }
         Ok(false) => Ok(()),
@@ -91,25 +93,25 @@ fn step<C: Machine, L: Link, N: Net<Link = L>, T: Turns>(
     client: &mut L,
     net: &mut N,
     turns: &mut T,
-    left: &mut u64,
+    resources: &mut Resources,
     wants: &Wants,
 ) -> Result<(), SessionFault>
     requires wants { wants.now ≡ (C.seen core.old).wants }
     requires idle { (C.seen core.old).serving ≡ false }
     requires some { wants.now.server_open ≡ false → moves_bytes wants.now ≡ true }
-    requires left { 0 < left.old }
+    requires left { 0 < resources.old.left }
     requires sound { C.sound core.old }
     ensures sound { OnOk result (C.sound core.new) }
     ensures goes { (cfg : C.Settings) (all : List Turn) (first : L) (first_net : N) (past : Past) → Idle (Rests (StandsIn (C.stands cfg) C.seen all (T.left turns.old) core.old)) L.seen L.wrote first client.old false past → Dials (address_of to.now) (N.seen first_net) (N.seen net.old) past.connects
-        → Ends result (λ _. Goes (Rests (StandsIn (C.stands cfg) C.seen all (T.left turns.new) core.new)) L.seen L.wrote first client.new false (address_of to.now) (N.seen first_net) (N.seen net.new) past left.old left.new) (λ failed. Goes (Left (C.meaning cfg) (C.stands cfg) C.seen all (T.left turns.new) core.new) L.seen L.wrote first client.new failed (address_of to.now) (N.seen first_net) (N.seen net.new) past left.old left.new) }
+        → Ends result (λ _. Goes (Rests (StandsIn (C.stands cfg) C.seen all (T.left turns.new) core.new)) L.seen L.wrote first client.new false (address_of to.now) (N.seen first_net) (N.seen net.new) past resources.old.left resources.new.left) (λ failed. Goes (Left (C.meaning cfg) (C.stands cfg) C.seen all (T.left turns.new) core.new) L.seen L.wrote first client.new failed (address_of to.now) (N.seen first_net) (N.seen net.new) past resources.old.left resources.new.left) }
     ensures serving { OnOk result ((C.seen core.new).serving ≡ false) }
-    ensures less { OnOk result (left.new + length (T.left turns.new) < left.old + length (T.left turns.old)) }
-    ensures spent { IsErrOf result SessionFault.Spent → left.new ≡ 0 }
+    ensures less { OnOk result (resources.new.left + length (T.left turns.new) < resources.old.left + length (T.left turns.old)) }
+    ensures spent { IsErrOf result SessionFault.Spent → resources.new.left ≡ 0 }
 {
     if wants.server_open {
-        exchange(core, to, client, net, turns, left)
+        exchange(core, to, client, net, turns, resources)
     } else {
-        idle_turn(core, client, turns, left, wants)
+        idle_turn(core, client, turns, resources, wants)
     }
 }
 
@@ -120,15 +122,15 @@ fn exchanges<C: Machine, L: Link, N: Net<Link = L>, T: Turns>(
     client: &mut L,
     net: &mut N,
     turns: &mut T,
-    left: &mut u64,
+    resources: &mut Resources,
 ) -> Result<End, SessionFault>
     requires serving { (C.seen core.old).serving ≡ false }
     requires sound { C.sound core.old }
     ensures sound { OnOk result (C.sound core.new) }
     ensures goes { (cfg : C.Settings) (all : List Turn) (first : L) (first_net : N) (past : Past) → Idle (Rests (StandsIn (C.stands cfg) C.seen all (T.left turns.old) core.old)) L.seen L.wrote first client.old false past → Dials (address_of to.now) (N.seen first_net) (N.seen net.old) past.connects
-        → Ends result (λ _. Goes (Rests (StandsIn (C.stands cfg) C.seen all (T.left turns.new) core.new)) L.seen L.wrote first client.new false (address_of to.now) (N.seen first_net) (N.seen net.new) past left.old left.new) (λ failed. Goes (Left (C.meaning cfg) (C.stands cfg) C.seen all (T.left turns.new) core.new) L.seen L.wrote first client.new failed (address_of to.now) (N.seen first_net) (N.seen net.new) past left.old left.new) }
+        → Ends result (λ _. Goes (Rests (StandsIn (C.stands cfg) C.seen all (T.left turns.new) core.new)) L.seen L.wrote first client.new false (address_of to.now) (N.seen first_net) (N.seen net.new) past resources.old.left resources.new.left) (λ failed. Goes (Left (C.meaning cfg) (C.stands cfg) C.seen all (T.left turns.new) core.new) L.seen L.wrote first client.new failed (address_of to.now) (N.seen first_net) (N.seen net.new) past resources.old.left resources.new.left) }
     ensures over { IfOk result (λ how. (C.seen core.new).wants.over ≡ Some how) }
-    ensures spent { IsErrOf result SessionFault.Spent → left.new ≡ 0 }
+    ensures spent { IsErrOf result SessionFault.Spent → resources.new.left ≡ 0 }
 {
     'steps: loop {
         match core.work() {
@@ -139,10 +141,10 @@ fn exchanges<C: Machine, L: Link, N: Net<Link = L>, T: Turns>(
         if let Some(how) = wants.over {
             return Ok(how);
         }
-        if *left == 0 {
+        if resources.left == 0 {
             return Err(SessionFault::Spent);
         }
-        match step(core, to, client, net, turns, left, &wants) {
+        match step(core, to, client, net, turns, resources, &wants) {
             Ok(()) => {}
             Err(fault) => return Err(fault),
         }
@@ -183,8 +185,11 @@ pub fn run_session<C: Machine, L: Link, N: Net<Link = L>, T: Turns>(
     ensures up_to_a_fault { (cfg : C.Settings) → C.stands cfg core.old nothing_yet → IfErr result (λ fault. (so : GaveUp (C.meaning cfg) (C.stands cfg) core.new (C.seen core.new).lost L.seen L.wrote client.old client.new (address_of to.now) (N.seen net.old) (N.seen net.new) budget fault)
         × UpToAFault (C.stands cfg) C.seen (T.left turns.old) (T.left turns.new) so.past) }
 {
-    let mut left = budget;
-    match exchanges(core, to, client, net, turns, &mut left) {
+    let mut resources = Resources {
+        left: budget,
+        buffer: [0; MOST],
+    };
+    match exchanges(core, to, client, net, turns, &mut resources) {
         Ok(end) => {
             client.close(close_of(end));
             Ok(Ran {

@@ -24,7 +24,7 @@ pub returns-in-Err-serve_turn-clause-goes : goal.returns-in-Err-serve_turn-claus
 returns-in-Err-serve_turn-clause-goes g c = λ cfg all first first_link before past k h.
     let n = c.in-Ok.ensures.leads in
     let on = hand_works _ _ _ _ first _ first_link _ before past _ _ n.0 (works_in (g.C.Machine.stands cfg) g.C.Machine.seen all _ c.turns.core c.work.new.self n.0 (n.1 cfg)) (c.turns.invariant.goes cfg all first first_link before past k h) in
-    let done = goes_on _ _ _ _ first _ _ first_link _ _ _ before past _ _ 0 c.turns.left on (λ p k h. c.in-Err-serve_turn.ensures.goes cfg all first first_link before p k h) (omega arith) in
+    let done = goes_on _ _ _ _ first _ _ first_link _ _ _ before past _ _ 0 c.turns.resources.left on (λ p k h. c.in-Err-serve_turn.ensures.goes cfg all first first_link before p k h) (omega arith) in
     hand_as _ _ _ _ first _ first_link _ _ before past _ _ (left_failing (g.C.Machine.meaning cfg) (g.C.Machine.stands cfg) g.C.Machine.seen all _ c.serve_turn.new.core (λ p s. (_, g.met.C.Machine.taken_is_a_front cfg c.serve_turn.new.core p s))) done
 
 pub turns-preserved-in-Ok-true : goal.turns-preserved-in-Ok-true

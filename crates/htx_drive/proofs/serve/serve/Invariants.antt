@@ -10,12 +10,12 @@ invariant-turns g l =
     record {
       goes : (cfg : g.row.C-Settings.Denot) (all : List Turn) (first first_link : g.row.L.Denot) (before : List Connect) (past : Past) (c : Connect)
           → Hand (StandsIn (g.C.Machine.stands cfg) g.C.Machine.seen all (g.T.Turns.left l.initial.turns) l.initial.core) g.L.Link.seen g.L.Link.wrote first l.initial.client first_link l.initial.link false before past c
-          → HandGoes (StandsIn (g.C.Machine.stands cfg) g.C.Machine.seen all (g.T.Turns.left l.turns) l.core) g.L.Link.seen g.L.Link.wrote first l.client first_link l.link false before past l.initial.left l.left;
+          → HandGoes (StandsIn (g.C.Machine.stands cfg) g.C.Machine.seen all (g.T.Turns.left l.turns) l.core) g.L.Link.seen g.L.Link.wrote first l.client first_link l.link false before past l.initial.resources.left l.resources.left;
       sound : g.C.Machine.sound l.core;
       serving : (g.C.Machine.seen l.core).serving ≡ true;
       fewer : length (g.T.Turns.left l.turns) ≤ length (g.T.Turns.left l.initial.turns);
-      spends : l.left ≤ l.initial.left;
+      spends : l.resources.left ≤ l.initial.resources.left;
     }
 
 abbrev pub decreases-turns : goal.decreases-turns
-decreases-turns g l = l.left + length (g.T.Turns.left l.turns)
+decreases-turns g l = l.resources.left + length (g.T.Turns.left l.turns)

@@ -30,7 +30,7 @@ pub returns-in-Err-clause-gave_up : goal.returns-in-Err-clause-gave_up
 returns-in-Err-clause-gave_up g c = λ cfg s.
     let client = c.args.client.now in
     let goes = c.in-Err.ensures.goes cfg (g.T.Turns.left c.args.turns.now) client c.args.net.now nothing_yet (begins (g.C.Machine.stands cfg) g.C.Machine.seen (g.T.Turns.left c.args.turns.now) c.args.core.now g.L.Link.seen g.L.Link.wrote client s) (dials_fresh (address_of c.args.to.now) (g.N.Net.seen c.args.net.now)) in
-    let more : moved nothing_yet + c.args.budget ≤ moved goes.now + c.exchanges.new.left = goes.more in
+    let more : moved nothing_yet + c.args.budget ≤ moved goes.now + c.exchanges.new.resources.left = goes.more in
     let idle = goes.idle in
     record {
       past = goes.now;
@@ -40,7 +40,7 @@ returns-in-Err-clause-gave_up g c = λ cfg s.
       put = put_shut _ _ _ (g.L.Link.seen client) (g.L.Link.seen c.exchanges.new.client) (g.L.Link.seen c.close-in-Err.new.self) _ goes.now.taken (failed_by c.in-Err.fault) c.close-in-Err.ensures.seen c.close-in-Err.ensures.wrote idle.put;
       closed = shut_closed (g.L.Link.seen client) (g.L.Link.seen c.exchanges.new.client) (g.L.Link.seen c.close-in-Err.new.self) _ _ c.close-in-Err.ensures.seen idle.closed refl;
       dials = goes.dials;
-      spent = λ e. all_spent c.args.budget (moved goes.now) c.exchanges.new.left more (c.in-Err.ensures.spent (ap (λ f. Err f) e));
+      spent = λ e. all_spent c.args.budget (moved goes.now) c.exchanges.new.resources.left more (c.in-Err.ensures.spent (ap (λ f. Err f) e));
     }
 
 -- the turns led to that past
