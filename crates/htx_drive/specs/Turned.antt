@@ -12,7 +12,7 @@ use Rattle.htx_drive.specs.declared.act.Act.TheVariants as act
 abbrev pub IsUpTo : ℕ → List ℕ → Type 0
 IsUpTo most bytes = (0 < length bytes) × (length bytes ≤ most)
 
--- What an act makes of a history: bytes, no more than its number, or an ending, or a stop.
+-- What an act may add to a history: bytes that come or are taken, at least one and no more than its number; or a stream ends, or a server stops.
 abbrev pub Makes : Act → Event → Type 0
 Makes (act.ClientRead most) (FromClient bytes) = IsUpTo most bytes
 Makes (act.ClientRead most) (ClientEnded how) = ⊤
