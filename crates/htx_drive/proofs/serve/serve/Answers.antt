@@ -14,8 +14,8 @@ returns-in-Some-clause-goes g c = λ cfg all first first_link before past k h.
     let n = c.in-Ok.ensures.leads in
     hand_works _ _ _ _ first _ first_link _ before past _ _ n.0 (works_in (g.C.Machine.stands cfg) g.C.Machine.seen all _ c.turns.core c.work.new.self n.0 (n.1 cfg)) (c.turns.invariant.goes cfg all first first_link before past k h)
 
-pub returns-then-left-eq0-clause-goes : goal.returns-then-left-eq0-clause-goes
-returns-then-left-eq0-clause-goes g c = λ cfg all first first_link before past k h.
+pub returns-then-resources-eq0-clause-goes : goal.returns-then-resources-eq0-clause-goes
+returns-then-resources-eq0-clause-goes g c = λ cfg all first first_link before past k h.
     let n = c.in-Ok.ensures.leads in
     let on = hand_works _ _ _ _ first _ first_link _ before past _ _ n.0 (works_in (g.C.Machine.stands cfg) g.C.Machine.seen all _ c.turns.core c.work.new.self n.0 (n.1 cfg)) (c.turns.invariant.goes cfg all first first_link before past k h) in
     hand_as _ _ _ _ first _ first_link _ _ before past _ _ (left_in (g.C.Machine.meaning cfg) (g.C.Machine.stands cfg) g.C.Machine.seen all _ c.work.new.self (λ p s. (_, g.met.C.Machine.taken_is_a_front cfg c.work.new.self p s))) on

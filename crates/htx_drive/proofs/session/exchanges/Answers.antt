@@ -17,8 +17,8 @@ returns-in-Some-clause-goes g c = λ cfg all first first_net past h d.
     let n = c.in-Ok.ensures.leads in
     goes_works _ _ _ _ first _ (address_of c.args.to.now) _ _ past _ _ n.0 (rests_works _ _ n.0 (works_in (g.C.Machine.stands cfg) g.C.Machine.seen all _ c.steps.core c.work.new.self n.0 (n.1 cfg))) (c.steps.invariant.goes cfg all first first_net past h d)
 
-pub returns-then-left-eq0-clause-goes : goal.returns-then-left-eq0-clause-goes
-returns-then-left-eq0-clause-goes g c = λ cfg all first first_net past h d.
+pub returns-then-resources-eq0-clause-goes : goal.returns-then-resources-eq0-clause-goes
+returns-then-resources-eq0-clause-goes g c = λ cfg all first first_net past h d.
     let n = c.in-Ok.ensures.leads in
     let on = goes_works _ _ _ _ first _ (address_of c.args.to.now) _ _ past _ _ n.0 (rests_works _ _ n.0 (works_in (g.C.Machine.stands cfg) g.C.Machine.seen all _ c.steps.core c.work.new.self n.0 (n.1 cfg))) (c.steps.invariant.goes cfg all first first_net past h d) in
     goes_as _ _ _ _ first _ _ (address_of c.args.to.now) _ _ past _ _ (λ p (s : Rests (StandsIn (g.C.Machine.stands cfg) g.C.Machine.seen all (g.T.Turns.left c.steps.turns) c.work.new.self) p). record { front = ((g.C.Machine.seen c.work.new.self).begun, g.met.C.Machine.taken_is_a_front cfg c.work.new.self p s.stand.stand); stand = λ e. s.stand.stand; turned = inl s.stand.turned }) on
