@@ -119,6 +119,8 @@ GROWTH = [
     ("turns of all connections", "connections, 900 turns each", 32, lambda n: of_turns(n, 900 * n)),
     ("body by its length", "bytes", 4 << 20, lambda n: one(b"", by_length(b"x" * n))),
     ("body in chunks of a byte", "bytes", 50000, lambda n: one(b"", CHUNKED + b"1\r\nx\r\n" * n + b"0\r\n\r\n")),
+    ("body in chunks of 4096 bytes", "bytes", 4 << 20, lambda n: one(b"", CHUNKED + (b"1000\r\n" + b"x" * 4096 + b"\r\n") * (n // 4096) + b"0\r\n\r\n")),
+    ("fields received, transferred and written", "fields", 100, lambda n: one(LARGE, GET[:-2] + b"X: 1234567890123456789012345678901234567890\r\n" * n + b"\r\n")),
     ("answer's body", "bytes", 4 << 20, lambda n: session(B, GET, [ANSWER(n)], [], 1, len(ANSWER(n)))),
     ("answer's body, taken byte by byte", "bytes", 50000, lambda n: session(B, GET, [ANSWER(n)], [b"c 28", b"S 47"] + [b"s 1", b"C 1"] * n, 1, len(ANSWER(n)))),
     ("exchanges on a connection", "exchanges", 1000, lambda n: session(B, GET * n, [OK] * n, [], n, 40 * n)),
