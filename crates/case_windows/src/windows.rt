@@ -1,4 +1,4 @@
-//! Sessions at output windows of two sizes, with all bytes at once and with one byte a turn.
+//! Sessions at output windows of several sizes, with all bytes at once and with one and seven bytes a turn.
 ghost use Rattle.std.specs.Prelude.{◌≤◌, IfOk};
 ghost use Rattle.http_rules.specs.Valid.{IsValid};
 
@@ -12,17 +12,60 @@ use px_pattern::RealPatterns;
 use rec_format::{Connection, write_report};
 use std::alloc::Global;
 
-/// How many times each peer gives and takes one byte.
+/// How many times each peer gives and takes a piece.
 const ROUNDS: u32 = 3000;
 
-/// Turns of one byte, each peer in its turn.
-fn one_byte_turns(alloc: Global) -> Result<Vec<Turn>, Fault> {
+/// A size of the output windows.
+#[derive(Clone, Copy)]
+enum Window {
+    Bytes64,
+    Bytes65,
+    Bytes100,
+    Bytes16384,
+}
+
+impl Window {
+    fn bytes(self) -> u32
+        ensures { 64 ≤ result }
+    {
+        match self {
+            Window::Bytes64 => 64,
+            Window::Bytes65 => 65,
+            Window::Bytes100 => 100,
+            Window::Bytes16384 => 16384,
+        }
+    }
+}
+
+/// A size of the output windows, the most bytes of a turn, all where there is none, and how the line begins that tells of them.
+#[derive(Clone, Copy)]
+struct Place<'a> {
+    name: &'a [u8],
+    window: Window,
+    piece: Option<u32>,
+}
+
+impl<'a> Place<'a> {
+    fn new(name: &'a [u8], window: Window, piece: Option<u32>) -> Self {
+        Place {
+            name,
+            window,
+            piece,
+        }
+    }
+}
+
+/// Turns of so many bytes, each peer in its turn; no turns where all bytes move at once.
+fn turns_of(alloc: Global, piece: Option<u32>) -> Result<Vec<Turn>, Fault> {
     let mut turns = Vec::new(alloc);
+    let Some(piece) = piece else {
+        return Ok(turns);
+    };
     for _ in 0..ROUNDS {
-        turns.push(Turn::ClientGives(1))?;
-        turns.push(Turn::ServerTakes(1))?;
-        turns.push(Turn::ServerGives(1))?;
-        turns.push(Turn::ClientTakes(1))?;
+        turns.push(Turn::ClientGives(piece))?;
+        turns.push(Turn::ServerTakes(piece))?;
+        turns.push(Turn::ServerGives(piece))?;
+        turns.push(Turn::ClientTakes(piece))?;
     }
     Ok(turns)
 }
@@ -54,46 +97,50 @@ fn facts_at(
     facts_of(alloc, write_report(alloc, &report)?.as_slice())
 }
 
-/// Says whether facts are those that are wanted, and else what they are.
-fn compare(wanted: &[u8], facts: &[u8], answers: &mut Answers) {
-    if facts == wanted {
-        answers.more(b"same\n");
+/// Says of a window and a piece whether the facts are those that are wanted, and else what they are.
+fn compare(
+    alloc: Global,
+    config: &Config,
+    place: &Place<'_>,
+    conn: &Connection,
+    wanted: &[u8],
+    answers: &mut Answers,
+) -> Result<(), Fault>
+    requires valid { IsValid config.now }
+{
+    let turns = turns_of(alloc, place.piece)?;
+    let facts = facts_at(alloc, config, place.window.bytes(), conn, turns)?;
+    answers.more(place.name);
+    if facts.as_slice() == wanted {
+        answers.more(b": same\n");
     } else {
-        answers.more(facts);
+        answers.more(b": ");
+        answers.more(&facts);
     }
+    Ok(())
 }
 
-/// What the first connection of a record comes to at windows of 64 and of 16384 bytes, with all bytes at once and with one byte a
-/// turn: `same` where its facts are those at a window of as many bytes as a buffer has.
+/// What the first connection of a record comes to at windows of 64, 65, 100 and 16384 bytes, with all bytes at once and with one or
+/// seven bytes a turn: `same` where its facts are those at a window of as many bytes as a buffer has.
 pub fn windows_made(alloc: Global, cfg: &[u8], rec: &[u8]) -> Result<Vec<u8>, Fault> {
     let config = config_in(alloc, cfg)?;
     let record = record_in(alloc, rec)?;
     let conn = record.conns.first().ok_or(Fault::Malformed)?;
     let wanted = facts_at(alloc, &config, 262144, conn, Vec::new(alloc))?;
     let mut answers = Answers::new(alloc);
-    answers.more(b"64, all: ");
-    compare(
-        &wanted,
-        &facts_at(alloc, &config, 64, conn, Vec::new(alloc))?,
-        &mut answers,
-    );
-    answers.more(b"64, one: ");
-    compare(
-        &wanted,
-        &facts_at(alloc, &config, 64, conn, one_byte_turns(alloc)?)?,
-        &mut answers,
-    );
-    answers.more(b"16384, all: ");
-    compare(
-        &wanted,
-        &facts_at(alloc, &config, 16384, conn, Vec::new(alloc))?,
-        &mut answers,
-    );
-    answers.more(b"16384, one: ");
-    compare(
-        &wanted,
-        &facts_at(alloc, &config, 16384, conn, one_byte_turns(alloc)?)?,
-        &mut answers,
-    );
+    let places = [
+        Place::new(b"64, all", Window::Bytes64, None),
+        Place::new(b"64, one", Window::Bytes64, Some(1)),
+        Place::new(b"64, seven", Window::Bytes64, Some(7)),
+        Place::new(b"65, one", Window::Bytes65, Some(1)),
+        Place::new(b"65, seven", Window::Bytes65, Some(7)),
+        Place::new(b"100, all", Window::Bytes100, None),
+        Place::new(b"100, one", Window::Bytes100, Some(1)),
+        Place::new(b"16384, all", Window::Bytes16384, None),
+        Place::new(b"16384, one", Window::Bytes16384, Some(1)),
+    ];
+    for place in &places {
+        compare(alloc, &config, place, conn, &wanted, &mut answers)?;
+    }
     answers.into_text()
 }
