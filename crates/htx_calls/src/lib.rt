@@ -10,4 +10,6 @@ mod fetches;
 #[cfg(test)]
 mod links;
 #[cfg(test)]
+mod raw_request;
+#[cfg(test)]
 mod records;
