@@ -7,7 +7,7 @@ use Rattle.px_link.specs.Link.{Seen, SameKind, Gave, ReadFailed, SameInput}
 use Rattle.px_link.specs.Told.{Rose}
 use Rattle.session_core.specs.History.{Coming, gains, ends}
 use Rattle.htx_drive.specs.Came.{EndsSo, Came, size_of}
-use Rattle.htx_drive.specs.Turned.{IsUpTo}
+use Rattle.htx_drive.specs.Turned.{IsRead, most_read}
 
 pub at_some : {A : Type 0} (o : Option A) (x : A) (P : A → Type 0) → o ≡ Some x → IfSome o P → P x
 at_some o x P e h = let Q : Option _ → Type 0 = λ o. IfSome o P in subst Q e h
@@ -123,10 +123,10 @@ pub size-front : (came : Coming) (n : ℕ) (buf tail : List ℕ) → 0 < n → n
 size-front came n buf tail z h =
     size-gains came (take n (buf ++ tail)) (let e : length (take n (buf ++ tail)) ≡ n = ap length (in_front n buf tail h) ∙ length-take-le n buf h in omega arith)
 
-pub up_to_front : (most n : ℕ) (buf tail : List ℕ) → 0 < n → n ≤ length buf → length buf ≤ most → IsUpTo most (take n (buf ++ tail))
-up_to_front most n buf tail z h w =
+pub read_front : (most n : ℕ) (buf tail : List ℕ) → 0 < n → n ≤ length buf → length buf ≤ most → length buf ≤ most_read → IsRead most (take n (buf ++ tail))
+read_front most n buf tail z h w m =
     let e : length (take n (buf ++ tail)) ≡ n = ap length (in_front n buf tail h) ∙ length-take-le n buf h in
-    (omega arith, omega arith)
+    ((omega arith, omega arith), omega arith)
 
 pub more_left : (a b n : ℕ) → a < b → a + n < b + n
 more_left a b n h = omega arith

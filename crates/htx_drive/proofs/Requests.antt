@@ -1,5 +1,5 @@
 -- A stream asks for no more exchanges than it has bytes, and one more.
-use Rattle.std.proofs.Common.{◌≡◌, ℕ, ◌+◌, ◌*◌, ◌<◌, ◌≤◌, List, [], ◌∷◌, Bool, true, false, Option, Some, None, length, sym, ap, subst, refl, arith, length-append}
+use Rattle.std.proofs.Common.{◌≡◌, ℕ, ◌+◌, ◌<◌, ◌≤◌, List, [], ◌∷◌, Bool, true, false, Option, Some, None, length, sym, ap, subst, refl, arith, length-append}
 use Rattle.std.specs.Prelude.{⊤}
 use Rattle.http_model.specs.declared.End.{End}
 use Rattle.http_model.specs.declared.End.TheVariants as end
@@ -8,7 +8,7 @@ use Rattle.http_model.specs.Head.{Head}
 use Rattle.http_model.specs.Reading.{Received, BodyReading, HeadReading}
 use Rattle.http_model.specs.Reading as reading
 use Rattle.session_model.specs.Stream.{Stream, Server, NotThere, Open}
-use Rattle.session_model.specs.Env.{Env, Verdict, Pass, Reply, Deny, Fail, request_env, method_of}
+use Rattle.session_model.specs.Env.{Verdict, Pass, Reply, Deny, Fail, request_env, method_of}
 use Rattle.session_model.specs.Meaning.{Meaning, declares_too_much, is_head_request}
 use Rattle.session_model.specs.Asking.{Asked, Nothing, Refused, Replied, Sends, Request, request_by, asked_by, asked_of, forwards, request_fits}
 use Rattle.session_model.specs.Answering.{Final, Refuses, Replies, Answers, Plain}

@@ -1,5 +1,5 @@
 -- Pasts all of whose connects are over.
-use Rattle.std.proofs.Common.{◌≡◌, ℕ, List, [], ◌∷◌, ◌++◌, Bool, false, true, Option, Some, None, sym, subst, refl}
+use Rattle.std.proofs.Common.{ℕ, List, [], ◌∷◌, ◌++◌, Bool, Option, Some, None, sym, subst}
 use Rattle.std.specs.List.{AllByRecursion}
 use Rattle.session_core.specs.History.{Past, Connect, after, Work}
 use Rattle.px_link.specs.Link.{Seen}

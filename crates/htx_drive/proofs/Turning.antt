@@ -1,15 +1,15 @@
 -- How a turn leads on.
-use Rattle.std.proofs.Common.{◌≡◌, ℕ, Bool, true, false, Option, List, sym, ap, subst, ◌∙◌, refl, inl, inr}
+use Rattle.std.proofs.Common.{◌≡◌, ℕ, Bool, true, false, Option, None, List, sym, ap, subst, ◌∙◌, refl}
 use Rattle.px_link.specs.declared.turns.Turn.{Turn}
 use Rattle.px_link.specs.Link.{Seen}
 use Rattle.px_link.specs.Turns.{first_of, rest_of}
 use Rattle.session_core.specs.History.{Event, Work, Past, after, nothing_yet}
 use Rattle.session_core.specs.declared.machine.Wants.{Wants}
-use Rattle.htx_drive.specs.Acts.{act_of, is_nothing, moves_bytes}
+use Rattle.htx_drive.specs.Acts.{act_of, is_nothing, is_write, moves_bytes, TakesTurn}
 use Rattle.session_model.specs.Meaning.{Meaning}
 use Rattle.htx_drive.specs.Driven.{Idle, Rests, Left}
 use Rattle.htx_drive.specs.Machine.{CoreSeen, TookFront}
-use Rattle.htx_drive.specs.Turned.{Makes, InTurns, StandsIn, FailsIn, starts, takes_none, rests, moves}
+use Rattle.htx_drive.specs.Turned.{Makes, InTurns, StandsIn, WorkedIn, FailsIn, starts, takes_none, rests, moves, none_failed, last_failed}
 use Rattle.htx_drive.specs.declared.act.Act.{Act}
 use Rattle.htx_drive.proofs.Dialling.{came_fresh, put_fresh}
 
@@ -21,54 +21,59 @@ pub record Taken {C : Type 0} (seen : C → CoreSeen) (left new : List Turn) (co
   pub rest : new ≡ rest_of left
   pub is_seen : wants ≡ (seen core).wants
   pub is : did ≡ act_of turn wants
-  pub some : moves_bytes wants ≡ true
+  pub takes : TakesTurn wants
 
 pub taken_of : {C : Type 0} (seen : C → CoreSeen) (left new : List Turn) (core : C) (did : Act) (turn : Option Turn) (wants : Wants)
-    → turn ≡ first_of left → new ≡ rest_of left → wants ≡ (seen core).wants → did ≡ act_of turn wants → moves_bytes wants ≡ true → Taken seen left new core did
-taken_of seen left new core did turn wants first rest is_seen is some = record { turn = turn; wants = wants; first = first; rest = rest; is_seen = is_seen; is = is; some = some }
+    → turn ≡ first_of left → new ≡ rest_of left → wants ≡ (seen core).wants → did ≡ act_of turn wants → TakesTurn wants → Taken seen left new core did
+taken_of seen left new core did turn wants first rest is_seen is takes = record { turn = turn; wants = wants; first = first; rest = rest; is_seen = is_seen; is = is; takes = takes }
+
+-- what a turn's conditions say of its wants
+pub takes_turn : (wants : Wants) → moves_bytes wants ≡ true → wants.server_open ≡ false → wants.server_close ≡ None → wants.over ≡ None → TakesTurn wants
+takes_turn wants some no_open no_close going = record { some = some; no_open = no_open; no_close = no_close; going = going }
 
 does : {C : Type 0} (seen : C → CoreSeen) (left new : List Turn) (core : C) (did : Act) (t : Taken seen left new core did) → did ≡ act_of (first_of left) (seen core).wants
 does seen left new core did t = t.is ∙ ap (λ o. act_of o t.wants) t.first ∙ ap (λ w. act_of (first_of left) w) t.is_seen
 
-wanted : {C : Type 0} (seen : C → CoreSeen) (left new : List Turn) (core : C) (did : Act) (t : Taken seen left new core did) → moves_bytes (seen core).wants ≡ true
-wanted seen left new core did t = sym (ap moves_bytes t.is_seen) ∙ t.some
+wanted : {C : Type 0} (seen : C → CoreSeen) (left new : List Turn) (core : C) (did : Act) (t : Taken seen left new core did) → TakesTurn (seen core).wants
+wanted seen left new core did t = subst TakesTurn t.is_seen t.takes
 
 -- it moved something
-pub turn_moves : {C : Type 0} (stands : C → Past → Type 0) (seen : C → CoreSeen) (all left new : List Turn) (old core : C) (did : Act) (past : Past) → Taken seen left new old did → StandsIn stands seen all left old past
+pub turn_moves : {C : Type 0} (stands : C → Past → Type 0) (seen : C → CoreSeen) (all left new : List Turn) (old core : C) (did : Act) (past : Past) → Taken seen left new old did → WorkedIn stands seen all left old past
     → (now : Past) (event : Event) → Makes did event → after past event ≡ now → stands core now → StandsIn stands seen all new core now
 turn_moves stands seen all left new old core did past t s now event m e k =
     let P : Act → Type 0 = λ a. Makes a event in
-    let Q : Past → Type 0 = λ p. InTurns stands seen all (rest_of left) p in
-    let R : List Turn → Type 0 = λ l. InTurns stands seen all l now in
-    record { stand = k; turned = subst R (sym t.rest) (subst Q e (moves left past old event s.stand (wanted seen left new old did t) (subst P (does seen left new old did t) m) s.turned)) }
+    let Q : Past → Type 0 = λ p. InTurns stands seen all false (rest_of left) p in
+    let R : List Turn → Type 0 = λ l. InTurns stands seen all false l now in
+    record { stand = k; worked = false; turned = subst R (sym t.rest) (subst Q e (moves left past old event s.stand (wanted seen left new old did t) (subst P (does seen left new old did t) m) s.turned)) }
 
 -- it moved nothing, as it was to
 pub turn_rests : {C : Type 0} (stands : C → Past → Type 0) (seen : C → CoreSeen) (all left new : List Turn) (core : C) (did : Act) (past : Past) → Taken seen left new core did → is_nothing did ≡ true
-    → StandsIn stands seen all left core past → StandsIn stands seen all new core past
+    → WorkedIn stands seen all left core past → StandsIn stands seen all new core past
 turn_rests stands seen all left new core did past t z s =
-    let R : List Turn → Type 0 = λ l. InTurns stands seen all l past in
-    record { stand = s.stand; turned = subst R (sym t.rest) (rests left past core s.stand (wanted seen left new core did t) (sym (ap is_nothing (does seen left new core did t)) ∙ z) s.turned) }
+    let R : List Turn → Type 0 = λ l. InTurns stands seen all true l past in
+    record { stand = s.stand; worked = true; turned = subst R (sym t.rest) (rests left past core s.stand (wanted seen left new core did t) (sym (ap is_nothing (does seen left new core did t)) ∙ z) s.turned) }
 
--- it failed
-pub turn_fails : {C : Type 0} (stands : C → Past → Type 0) (seen : C → CoreSeen) (all left new : List Turn) (old core : C) (past : Past) → new ≡ rest_of left → StandsIn stands seen all left old past
-    → stands core past → FailsIn stands seen all new core past
-turn_fails stands seen all left new old core past r s k = record { stand = k; turned = inr (left, r, s.turned) }
+-- it was a write, and failed
+pub turn_fails : {C : Type 0} (stands : C → Past → Type 0) (seen : C → CoreSeen) (all left new : List Turn) (old core : C) (did : Act) (past : Past) → Taken seen left new old did → is_write did ≡ true
+    → WorkedIn stands seen all left old past → stands core past → FailsIn stands seen all new core past
+turn_fails stands seen all left new old core did past t z s k =
+    record { stand = k; turned = last_failed left old t.rest s.stand (wanted seen left new old did t) (sym (ap is_write (does seen left new old did t)) ∙ z) s.turned }
 
 -- work takes no turn
 pub works_in : {C : Type 0} (stands : C → Past → Type 0) (seen : C → CoreSeen) (all left : List Turn) (old core : C) (note : Option Bool)
-    → ((p : Past) → stands old p → stands core (after p (Work note))) → (p : Past) → StandsIn stands seen all left old p → StandsIn stands seen all left core (after p (Work note))
-works_in stands seen all left old core note leads p s = record { stand = leads p s.stand; turned = takes_none left p (Work note) refl s.turned }
+    → ((p : Past) → stands old p → stands core (after p (Work note))) → (p : Past) → StandsIn stands seen all left old p → WorkedIn stands seen all left core (after p (Work note))
+works_in stands seen all left old core note leads p s = record { stand = leads p s.stand; turned = takes_none s.worked left p (Work note) refl s.turned }
 
 -- nothing has happened yet
 pub begins : {C L : Type 0} (stands : C → Past → Type 0) (sees : C → CoreSeen) (all : List Turn) (core : C) (seen : L → Seen) (wrote : L → List ℕ → Type 0) (client : L) → stands core nothing_yet
     → Idle (Rests (StandsIn stands sees all all core)) seen wrote client client false nothing_yet
 begins stands sees all core seen wrote client s =
-    record { stand = record { stand = record { stand = s; turned = starts }; over = tt }; came = came_fresh (seen client); put = put_fresh (wrote client) (seen client); closed = refl }
+    record { stand = record { stand = record { stand = s; worked = false; turned = starts }; over = tt }; came = came_fresh (seen client); put = put_fresh (wrote client) (seen client); closed = refl }
 
 -- what is left of a core that stands for the past
 pub left_in : {C : Type 0} (M : Meaning) (stands : C → Past → Type 0) (seen : C → CoreSeen) (all left : List Turn) (core : C) → ((p : Past) → stands core p → TookFront M p)
-    → (p : Past) → StandsIn stands seen all left core p → Left M stands seen all left core p
-left_in M stands seen all left core front p s = record { front = front p s.stand; stand = λ e. s.stand; turned = inl s.turned }
+    → (p : Past) → WorkedIn stands seen all left core p → Left M stands seen all left core p
+left_in M stands seen all left core front p s = record { front = front p s.stand; stand = λ e. s.stand; turned = none_failed true s.turned }
 
 pub left_failing : {C : Type 0} (M : Meaning) (stands : C → Past → Type 0) (seen : C → CoreSeen) (all left : List Turn) (core : C) → ((p : Past) → stands core p → TookFront M p)
     → (p : Past) → FailsIn stands seen all left core p → Left M stands seen all left core p

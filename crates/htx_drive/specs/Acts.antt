@@ -47,6 +47,20 @@ IsWanted wants (act.ServerWrite most) = (wants.server_write ≡ true) × (0 < mo
 abbrev pub moves_bytes : Wants → Bool
 moves_bytes wants = wants.client_read || wants.client_write || wants.server_read || wants.server_write
 
+-- where the driver takes a turn: bytes may be moved, nothing is to be opened or closed, and the session isn't over
+pub record TakesTurn (wants : Wants) : Type 0 where
+  pub some : moves_bytes wants ≡ true
+  pub no_open : wants.server_open ≡ false
+  pub no_close : wants.server_close ≡ None
+  pub going : wants.over ≡ None
+
+abbrev pub is_write : Act → Bool
+is_write act.Nothing = false
+is_write (act.ClientRead most) = false
+is_write (act.ClientWrite most) = true
+is_write (act.ServerRead most) = false
+is_write (act.ServerWrite most) = true
+
 abbrev pub is_nothing : Act → Bool
 is_nothing act.Nothing = true
 is_nothing (act.ClientRead most) = false

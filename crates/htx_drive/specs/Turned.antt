@@ -1,9 +1,9 @@
 -- What a list of turns makes of a session: each turn moves at most its number of bytes.
-use Rattle.std.specs.Prelude.{◌≡◌, ℕ, ◌<◌, ◌≤◌, ◌⊎◌, List, length, Bool, true, false, ⊤}
+use Rattle.std.specs.Prelude.{◌≡◌, ℕ, ◌<◌, ◌≤◌, List, length, Bool, true, false, ⊤}
 use Rattle.px_link.specs.declared.turns.Turn.{Turn}
 use Rattle.px_link.specs.Turns.{first_of, rest_of}
 use Rattle.session_core.specs.History.{Event, FromClient, ClientEnded, ClientTook, ServerOpened, FromServer, ServerEnded, ServerTook, ServerStopped, ServerClosed, Work, Past, nothing_yet, after}
-use Rattle.htx_drive.specs.Acts.{act_of, is_nothing, moves_bytes}
+use Rattle.htx_drive.specs.Acts.{act_of, is_nothing, is_write, TakesTurn}
 use Rattle.htx_drive.specs.Machine.{CoreSeen}
 use Rattle.htx_drive.specs.declared.act.Act.{Act}
 use Rattle.htx_drive.specs.declared.act.Act.TheVariants as act
@@ -12,12 +12,21 @@ use Rattle.htx_drive.specs.declared.act.Act.TheVariants as act
 abbrev pub IsUpTo : ℕ → List ℕ → Type 0
 IsUpTo most bytes = (0 < length bytes) × (length bytes ≤ most)
 
--- What an act may add to a history: bytes that come or are taken, at least one and no more than its number; or a stream ends, or a server stops.
+-- the most bytes that one read asks for
+abbrev pub most_read : ℕ
+most_read = 4096
+
+-- what one read brings
+abbrev pub IsRead : ℕ → List ℕ → Type 0
+IsRead most bytes = IsUpTo most bytes × (length bytes ≤ most_read)
+
+-- What an act may add to a history: bytes that come or are taken, at least one and no more than its number, nor than a read asks for; or a stream
+-- ends, or a server stops.
 abbrev pub Makes : Act → Event → Type 0
-Makes (act.ClientRead most) (FromClient bytes) = IsUpTo most bytes
+Makes (act.ClientRead most) (FromClient bytes) = IsRead most bytes
 Makes (act.ClientRead most) (ClientEnded how) = ⊤
 Makes (act.ClientWrite most) (ClientTook bytes) = IsUpTo most bytes
-Makes (act.ServerRead most) (FromServer bytes) = IsUpTo most bytes
+Makes (act.ServerRead most) (FromServer bytes) = IsRead most bytes
 Makes (act.ServerRead most) (ServerEnded how) = ⊤
 Makes (act.ServerWrite most) (ServerTook bytes) = IsUpTo most bytes
 Makes (act.ServerWrite most) ServerStopped = ⊤
@@ -30,26 +39,39 @@ takes_no_turn ServerClosed = true
 takes_no_turn (Work _) = true
 takes_no_turn _ = false
 
--- These turns led to this past, one after another, and those are left. Each is taken where a core that stands for the past so far wants bytes
--- to be moved, and does what that core's wants make of it (`act_of`): it moves something, no more than its number of bytes, or it moves nothing where
--- it is to do nothing. Behind the list each takes the first want that stands.
-pub data InTurns {C : Type 0} (stands : C → Past → Type 0) (seen : C → CoreSeen) (turns : List Turn) : List Turn → Past → Type 0 where
-  starts : InTurns stands seen turns turns nothing_yet
-  takes_none : (left : List Turn) (past : Past) (event : Event) → takes_no_turn event ≡ true → InTurns stands seen turns left past → InTurns stands seen turns left (after past event)
-  rests : (left : List Turn) (past : Past) (core : C) → stands core past → moves_bytes (seen core).wants ≡ true → is_nothing (act_of (first_of left) (seen core).wants) ≡ true
-      → InTurns stands seen turns left past → InTurns stands seen turns (rest_of left) past
-  moves : (left : List Turn) (past : Past) (core : C) (event : Event) → stands core past → moves_bytes (seen core).wants ≡ true → Makes (act_of (first_of left) (seen core).wants) event
-      → InTurns stands seen turns left past → InTurns stands seen turns (rest_of left) (after past event)
+abbrev pub is_work : Event → Bool
+is_work (Work _) = true
+is_work _ = false
 
--- the same, where the last turn may have failed, and then moved nothing
-abbrev pub UpToAFault : {C : Type 0} (stands : C → Past → Type 0) (seen : C → CoreSeen) (turns left : List Turn) → Past → Type 0
-UpToAFault stands seen turns left past =
-    InTurns stands seen turns left past ⊎ ((before : List Turn) × (left ≡ rest_of before) × InTurns stands seen turns before past)
+-- These turns led to this past, one after another, and those are left; `worked` where the core has worked behind the last event. Each is taken where
+-- a core that stands for the past so far has worked, wants bytes to be moved and nothing to be opened or closed. It does what that core's wants make of
+-- it (`act_of`): it moves something, no more than its number of bytes and for a read no more than 4096, or it moves nothing where it is to do
+-- nothing. Behind the list each takes the first want that stands.
+pub data InTurns {C : Type 0} (stands : C → Past → Type 0) (seen : C → CoreSeen) (turns : List Turn) : (worked : Bool) → List Turn → Past → Type 0 where
+  starts : InTurns stands seen turns false turns nothing_yet
+  takes_none : (worked : Bool) (left : List Turn) (past : Past) (event : Event) → takes_no_turn event ≡ true → InTurns stands seen turns worked left past
+      → InTurns stands seen turns (is_work event) left (after past event)
+  rests : (left : List Turn) (past : Past) (core : C) → stands core past → TakesTurn (seen core).wants → is_nothing (act_of (first_of left) (seen core).wants) ≡ true
+      → InTurns stands seen turns true left past → InTurns stands seen turns true (rest_of left) past
+  moves : (left : List Turn) (past : Past) (core : C) (event : Event) → stands core past → TakesTurn (seen core).wants → Makes (act_of (first_of left) (seen core).wants) event
+      → InTurns stands seen turns true left past → InTurns stands seen turns false (rest_of left) (after past event)
+
+-- The same, where the last turn may have failed: it was a write, and moved nothing.
+pub data UpToAFault {C : Type 0} (stands : C → Past → Type 0) (seen : C → CoreSeen) (turns left : List Turn) (past : Past) : Type 0 where
+  none_failed : (worked : Bool) → InTurns stands seen turns worked left past → UpToAFault stands seen turns left past
+  last_failed : (before : List Turn) (core : C) → left ≡ rest_of before → stands core past → TakesTurn (seen core).wants → is_write (act_of (first_of before) (seen core).wants) ≡ true
+      → InTurns stands seen turns true before past → UpToAFault stands seen turns left past
 
 -- a core stands for the past, and turns led to it
 pub record StandsIn {C : Type 0} (stands : C → Past → Type 0) (seen : C → CoreSeen) (turns left : List Turn) (core : C) (past : Past) : Type 0 where
   pub stand : stands core past
-  pub turned : InTurns stands seen turns left past
+  pub worked : Bool
+  pub turned : InTurns stands seen turns worked left past
+
+-- the same of a core that has worked
+pub record WorkedIn {C : Type 0} (stands : C → Past → Type 0) (seen : C → CoreSeen) (turns left : List Turn) (core : C) (past : Past) : Type 0 where
+  pub stand : stands core past
+  pub turned : InTurns stands seen turns true left past
 
 -- the same up to a fault
 pub record FailsIn {C : Type 0} (stands : C → Past → Type 0) (seen : C → CoreSeen) (turns left : List Turn) (core : C) (past : Past) : Type 0 where

@@ -1,5 +1,5 @@
 //! The core of a session, whatever its two directions, as a driver's machine.
-ghost use Rattle.std.specs.Prelude.{◌≡◌, ◌≤◌, ◌<◌, length, true};
+ghost use Rattle.std.specs.Prelude.{◌<◌};
 
 use crate::Machine;
 use px_link::{Ending, OutOfMemory};

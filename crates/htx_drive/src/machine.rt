@@ -1,5 +1,5 @@
 //! A core, as its driver sees it: calls, wants and laws.
-ghost use Rattle.std.specs.Prelude.{◌≡◌, ◌≤◌, ◌<◌, ◌∷◌, ◌++◌, [], ℕ, List, Option, Some, None, Bool, true, false, length, take, OnOk, IsErr, ◌↔◌};
+ghost use Rattle.std.specs.Prelude.{◌≡◌, ◌≤◌, ◌<◌, [], ℕ, List, Option, Some, Bool, true, false, length, take, OnOk, IsErr, ◌↔◌};
 ghost use Rattle.http_model.specs.declared.Close.{Close};
 ghost use Rattle.http_model.specs.declared.End.{End};
 ghost use Rattle.session_model.specs.Meaning.{Meaning};

@@ -1,10 +1,10 @@
-use Rattle.std.proofs.Common.{◌++◌, ◌∷◌, [], false, refl, inl, arith}
+use Rattle.std.proofs.Common.{◌++◌, ◌∷◌, [], false, true, refl, arith}
 use Rattle.session_core.specs.History.{connected, ServerOpened}
 use Rattle.px_link.specs.Net.{address_of}
 use Rattle.std.proofs.lemmas.Bool.{false≢true}
 use Rattle.htx_drive.proofs.Resting.{over_more}
 use Rattle.htx_drive.proofs.Dialling.{ends_as, served_goes, dials_refused, dials_memory, moved_opened}
-use Rattle.htx_drive.specs.Turned.{takes_none}
+use Rattle.htx_drive.specs.Turned.{takes_none, none_failed}
 use Rattle.htx_drive.proofs.exchange.exchange.Goals as goal
 
 pub returns-in-Ok-clause-goes : goal.returns-in-Ok-clause-goes
@@ -20,7 +20,7 @@ returns-in-Err-Failed-clause-goes g c = λ cfg all first first_net past h d.
     let opened = moved_opened past false in
     record {
       now = record past { connects = past.connects ++ connected false ∷ [] };
-      idle = record { stand = record { stand = record { stand = c.server_opened.ensures.leads cfg past h.stand.stand.stand; turned = takes_none _ past (ServerOpened false) refl h.stand.stand.turned }; over = over_more past.connects (connected false) h.stand.over (λ there. absurd (false≢true there)) }; came = h.came; put = h.put; closed = h.closed };
+      idle = record { stand = record { stand = record { stand = c.server_opened.ensures.leads cfg past h.stand.stand.stand; worked = false; turned = takes_none true _ past (ServerOpened false) refl h.stand.stand.turned }; over = over_more past.connects (connected false) h.stand.over (λ there. absurd (false≢true there)) }; came = h.came; put = h.put; closed = h.closed };
       dials = dials_refused (address_of c.args.to.now) _ _ _ past.connects d r;
       more = omega arith;
     }
@@ -30,7 +30,7 @@ returns-in-Err-OutOfMemory-clause-goes g c = λ cfg all first first_net past h d
     let r = rw c.in-Err-OutOfMemory.field-0-is at c.in-Err-OutOfMemory.ensures.connects in
     record {
       now = past;
-      idle = record { stand = record { front = ((g.C.Machine.seen c.args.core.now).begun, g.met.C.Machine.taken_is_a_front cfg c.args.core.now past h.stand.stand.stand); stand = λ e. h.stand.stand.stand; turned = inl h.stand.stand.turned }; came = h.came; put = h.put; closed = h.closed };
+      idle = record { stand = record { front = ((g.C.Machine.seen c.args.core.now).begun, g.met.C.Machine.taken_is_a_front cfg c.args.core.now past h.stand.stand.stand); stand = λ e. h.stand.stand.stand; turned = none_failed true h.stand.stand.turned }; came = h.came; put = h.put; closed = h.closed };
       dials = dials_memory (address_of c.args.to.now) _ _ _ past.connects d r;
       more = omega arith;
     }

@@ -1,13 +1,13 @@
-use Rattle.std.proofs.Common.{◌≡◌, refl, arith, ap, inl, ◌∙◌}
+use Rattle.std.proofs.Common.{◌≡◌, refl, arith, ap, ◌∙◌}
 use Rattle.htx_drive.specs.Driven.{paid_by}
 use Rattle.htx_drive.proofs.Handing.{hand_as, hand_works, goes_on, no_both}
-use Rattle.htx_drive.specs.Turned.{StandsIn}
+use Rattle.htx_drive.specs.Turned.{StandsIn, none_failed}
 use Rattle.htx_drive.proofs.Turning.{works_in, left_in, left_failing}
 use Rattle.htx_drive.proofs.serve.serve.Goals as goal
 
 pub returns-in-Err-clause-goes : goal.returns-in-Err-clause-goes
 returns-in-Err-clause-goes g c = λ cfg all first first_link before past k h.
-    hand_as _ _ _ _ first _ first_link _ _ before past _ _ (λ p (s : StandsIn (g.C.Machine.stands cfg) g.C.Machine.seen all (g.T.Turns.left c.turns.turns) c.turns.core p). record { front = ((g.C.Machine.seen c.turns.core).begun, g.met.C.Machine.taken_is_a_front cfg c.turns.core p s.stand); stand = λ e. absurd (no_both _ (c.in-Err.ensures.lost.0 refl) e); turned = inl s.turned }) (c.turns.invariant.goes cfg all first first_link before past k h)
+    hand_as _ _ _ _ first _ first_link _ _ before past _ _ (λ p (s : StandsIn (g.C.Machine.stands cfg) g.C.Machine.seen all (g.T.Turns.left c.turns.turns) c.turns.core p). record { front = ((g.C.Machine.seen c.turns.core).begun, g.met.C.Machine.taken_is_a_front cfg c.turns.core p s.stand); stand = λ e. absurd (no_both _ (c.in-Err.ensures.lost.0 refl) e); turned = none_failed s.worked s.turned }) (c.turns.invariant.goes cfg all first first_link before past k h)
 
 pub returns-in-Some-clause-goes : goal.returns-in-Some-clause-goes
 returns-in-Some-clause-goes g c = λ cfg all first first_link before past k h.

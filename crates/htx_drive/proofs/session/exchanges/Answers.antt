@@ -1,7 +1,7 @@
-use Rattle.std.proofs.Common.{refl, inl}
+use Rattle.std.proofs.Common.{refl, true}
 use Rattle.px_link.specs.Net.{address_of}
 use Rattle.htx_drive.specs.Driven.{Rests}
-use Rattle.htx_drive.specs.Turned.{StandsIn}
+use Rattle.htx_drive.specs.Turned.{StandsIn, WorkedIn, none_failed}
 use Rattle.htx_drive.proofs.Turning.{works_in}
 use Rattle.htx_drive.proofs.Handing.{no_both}
 use Rattle.htx_drive.proofs.Resting.{rests_works}
@@ -10,7 +10,7 @@ use Rattle.htx_drive.proofs.session.exchanges.Goals as goal
 
 pub returns-in-Err-clause-goes : goal.returns-in-Err-clause-goes
 returns-in-Err-clause-goes g c = λ cfg all first first_net past h d.
-    goes_as _ _ _ _ first _ _ (address_of c.args.to.now) _ _ past _ _ (λ p (s : Rests (StandsIn (g.C.Machine.stands cfg) g.C.Machine.seen all (g.T.Turns.left c.steps.turns) c.steps.core) p). record { front = ((g.C.Machine.seen c.steps.core).begun, g.met.C.Machine.taken_is_a_front cfg c.steps.core p s.stand.stand); stand = λ e. absurd (no_both _ (c.in-Err.ensures.lost.0 refl) e); turned = inl s.stand.turned }) (c.steps.invariant.goes cfg all first first_net past h d)
+    goes_as _ _ _ _ first _ _ (address_of c.args.to.now) _ _ past _ _ (λ p (s : Rests (StandsIn (g.C.Machine.stands cfg) g.C.Machine.seen all (g.T.Turns.left c.steps.turns) c.steps.core) p). record { front = ((g.C.Machine.seen c.steps.core).begun, g.met.C.Machine.taken_is_a_front cfg c.steps.core p s.stand.stand); stand = λ e. absurd (no_both _ (c.in-Err.ensures.lost.0 refl) e); turned = none_failed s.stand.worked s.stand.turned }) (c.steps.invariant.goes cfg all first first_net past h d)
 
 pub returns-in-Some-clause-goes : goal.returns-in-Some-clause-goes
 returns-in-Some-clause-goes g c = λ cfg all first first_net past h d.
@@ -21,7 +21,7 @@ pub returns-then-resources-eq0-clause-goes : goal.returns-then-resources-eq0-cla
 returns-then-resources-eq0-clause-goes g c = λ cfg all first first_net past h d.
     let n = c.in-Ok.ensures.leads in
     let on = goes_works _ _ _ _ first _ (address_of c.args.to.now) _ _ past _ _ n.0 (rests_works _ _ n.0 (works_in (g.C.Machine.stands cfg) g.C.Machine.seen all _ c.steps.core c.work.new.self n.0 (n.1 cfg))) (c.steps.invariant.goes cfg all first first_net past h d) in
-    goes_as _ _ _ _ first _ _ (address_of c.args.to.now) _ _ past _ _ (λ p (s : Rests (StandsIn (g.C.Machine.stands cfg) g.C.Machine.seen all (g.T.Turns.left c.steps.turns) c.work.new.self) p). record { front = ((g.C.Machine.seen c.work.new.self).begun, g.met.C.Machine.taken_is_a_front cfg c.work.new.self p s.stand.stand); stand = λ e. s.stand.stand; turned = inl s.stand.turned }) on
+    goes_as _ _ _ _ first _ _ (address_of c.args.to.now) _ _ past _ _ (λ p (s : Rests (WorkedIn (g.C.Machine.stands cfg) g.C.Machine.seen all (g.T.Turns.left c.steps.turns) c.work.new.self) p). record { front = ((g.C.Machine.seen c.work.new.self).begun, g.met.C.Machine.taken_is_a_front cfg c.work.new.self p s.stand.stand); stand = λ e. s.stand.stand; turned = none_failed true s.stand.turned }) on
 
 pub returns-in-Err-step-clause-goes : goal.returns-in-Err-step-clause-goes
 returns-in-Err-step-clause-goes g c = λ cfg all first first_net past h d.
