@@ -1,3 +1,4 @@
 pub mod Lines
+pub mod FirstLines
 pub mod Sections
 pub mod Places

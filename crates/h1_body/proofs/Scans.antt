@@ -1,13 +1,13 @@
 -- The front of a trailer section goes on byte by byte, and may become one.
-use Rattle.std.proofs.Common.{◌≡◌, ℕ, ◌+◌, ◌<◌, ◌≤◌, Bool, true, false, cond, List, [], ◌∷◌, ◌++◌, length, take, drop, refl, sym, ap, ◌∙◌, subst, arith, append_assoc, length-append, get_or, if◌then◌else◌}
+use Rattle.std.proofs.Common.{◌≡◌, ℕ, ◌+◌, ◌<◌, Bool, true, false, List, [], ◌∷◌, ◌++◌, length, take, refl, sym, ap, ◌∙◌, subst, arith, append_assoc, length-append, get_or, if◌then◌else◌}
 use Rattle.std.specs.Prelude.{All, IsTrue, ◌&&◌, count_by, Some, None}
-use Rattle.std.specs.List.{flat_map, list_all}
+use Rattle.std.specs.List.{flat_map}
 use Rattle.std.proofs.lemmas.Grind.{flat_map-append}
 use Rattle.std.proofs.lemmas.List.{append-nil, take-append-le, take_all, take_more}
 use Rattle.std.proofs.lemmas.List.Sums.{sum_by-cons}
 use Rattle.std.proofs.lemmas.List.Elements.{All-cons, All-nil, All-push}
 use Rattle.httparse.specs.Grammar as grammar
-use Rattle.httparse.specs.Grammar.{IsField, IsToken, AllPass, is_token_byte, is_value_byte, print_field, print_section, LineEnd, crlf, lf, ReadsSection, HasNoSection, MayBecomeSection}
+use Rattle.httparse.specs.Grammar.{IsField, IsToken, AllPass, is_token_byte, is_value_byte, print_field, print_section, LineEnd, crlf, lf, ReadsSection, HasNoSection}
 use Rattle.httparse.proofs.GrammarLemmas.{section_unique, ReadsSection-append}
 use Rattle.px_bytes.specs.Tokens as tokens
 use Rattle.http_model.specs.declared.Framing.{Framing}
@@ -22,7 +22,7 @@ use Rattle.h1_body.specs.Section.{MayComeSection}
 use Rattle.h1_body.specs.declared.scan.SectionPlace.{SectionPlace}
 use Rattle.h1_body.specs.declared.scan.SectionPlace.TheVariants as place
 use Rattle.h1_body.specs.declared.scan.SectionScan.{SectionScan}
-use Rattle.h1_body.specs.Scan.{IsBegunField, EndsAt, IsFront, IsScanned}
+use Rattle.h1_body.specs.Scan.{EndsAt, IsFront, IsScanned}
 
 -- ---- one byte more
 

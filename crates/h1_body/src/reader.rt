@@ -1,5 +1,5 @@
 //! The reader of a body.
-ghost use Rattle.std.specs.Prelude.{◌≡◌, ◌≤◌, ◌<◌, ◌+◌, ◌++◌, [], length, take, drop, true, false, IsTrue, Some, List, ℕ, IfSome};
+ghost use Rattle.std.specs.Prelude.{◌≡◌, ◌≤◌, ◌<◌, ◌+◌, ◌++◌, [], length, take, drop, true, false, Some, List, ℕ, IfSome};
 ghost use Rattle.httparse.specs.Grammar as grammar;
 ghost use Rattle.http_model.specs.declared.Framing.{Framing};
 ghost use Rattle.http_model.specs.declared.Limits.{Limits};

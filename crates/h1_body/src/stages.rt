@@ -1,5 +1,5 @@
 //! What each stage of a reader makes of a window.
-ghost use Rattle.std.specs.Prelude.{◌≡◌, ◌≤◌, ◌<◌, ◌+◌, ◌⊎◌, [], length, take, List, ℕ};
+ghost use Rattle.std.specs.Prelude.{◌≡◌, ◌≤◌, ◌<◌, ◌⊎◌, [], ℕ};
 ghost use Rattle.h1_body.specs.declared.stages.Stage.TheVariants as stage;
 ghost use Rattle.h1_body.specs.Stands.{Feeds, WaitsAt};
 

@@ -9,7 +9,7 @@ use Rattle.std.proofs.lemmas.List.Elements.{All-nil, All-cons, All-map, All-filt
 use Rattle.std.proofs.lemmas.List.Sums.{length-filter, count_by-le-length}
 use Rattle.std.proofs.lemmas.Str.Ascii.{lowercase-lowercase}
 use Rattle.httparse.specs.Grammar as grammar
-use Rattle.httparse.specs.Grammar.{RequestHead, IsField, print_version, is_value_byte}
+use Rattle.httparse.specs.Grammar.{RequestHead, IsField, is_value_byte}
 use Rattle.httparse.specs.Spans.{name_and_value}
 use Rattle.htx_model.specs.Blocks.{load}
 use Rattle.http_model.specs.declared.Limits.{Limits}

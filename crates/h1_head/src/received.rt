@@ -47,15 +47,19 @@ fn is_kept(text: &[u8], fields: &[HeaderSpan], removes: bool, field: &HeaderSpan
     !has_option(text, fields, name) || is_lasting(class_of(name))
 }
 
-/// Adds a field behind the others, with its name in lower case.
-fn push_field(name: &[u8], value: &[u8], to: &mut Arena) -> Result<(), Full>
+/// Adds a field behind the others, with its name in lower case, which is made in the buffer.
+fn push_field(
+    buffer: &mut [u8; MAX_NAME],
+    name: &[u8],
+    value: &[u8],
+    to: &mut Arena,
+) -> Result<(), Full>
     requires named { 1 ≤ length name.now }
     requires short { length name.now ≤ most_name }
     ensures ok { OnOk result (to.new.blocks ≡ to.old.blocks ++ header_block (folded (name.now, value.now)) ∷ []) }
     ensures full { OnErr result (to.old.size < load (to.old.blocks ++ header_block (folded (name.now, value.now)) ∷ [])) }
     ensures size { to.new.size ≡ to.old.size }
 {
-    let mut buffer = [0; MAX_NAME];
     let lower = &mut buffer[..name.len()];
     lower.copy_from_slice(name);
     fold(lower);
@@ -77,9 +81,10 @@ fn push_fields(
     ensures full { OnErr result (to.old.size < load (to.old.blocks ++ received_fields (map (header_bytes text.now) fields.now))) }
     ensures size { to.new.size ≡ to.old.size }
 {
+    let mut buffer = [0; MAX_NAME];
     for field in fields {
         if is_kept(text, fields, removes, field) {
-            push_field(field.name.of(text), field.value.of(text), to)?;
+            push_field(&mut buffer, field.name.of(text), field.value.of(text), to)?;
         }
     }
     Ok(())

@@ -1,5 +1,5 @@
 //! What a window says of the response head that a stream begins with.
-ghost use Rattle.std.specs.Prelude.{◌≡◌, ◌≢◌, ◌≤◌, ◌<◌, ◌+◌, ◌++◌, ◌∷◌, [], ◌↔◌, length, drop, Err, IsTrue, IfOk, IfErr, OnErr, ◌||◌, if◌then◌else◌};
+ghost use Rattle.std.specs.Prelude.{◌≡◌, ◌≢◌, ◌≤◌, ◌<◌, ◌+◌, ◌++◌, ◌∷◌, [], length, drop, Err, IfOk, IfErr, OnErr, ◌||◌, if◌then◌else◌};
 ghost use Rattle.http_model.specs.Reading.{Refused};
 ghost use Rattle.http_model.specs.Sizes.{least_size, most_size, least_head};
 ghost use Rattle.h1_head.specs.Answers.{IfMore, IfHead, IfRefuse, UnlessHead, Keeps, IsKept};

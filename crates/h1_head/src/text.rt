@@ -1,7 +1,6 @@
 //! What is alike in reading the heads of requests and of responses.
-ghost use Rattle.std.specs.Prelude.{◌≡◌, ◌≤◌, ◌<◌, ◌⊎◌, ◌∷◌, [], ◌↔◌, length, true, false, IsTrue, Err, count_by};
+ghost use Rattle.std.specs.Prelude.{◌≡◌, ◌<◌, ◌∷◌, [], ◌↔◌, false, IsTrue, Err};
 ghost use Rattle.httparse.specs.declared.Error.TheVariants.{TooManyHeaders};
-ghost use Rattle.h1_head.specs.Decides.{is_line_feed};
 ghost use Rattle.h1_head.specs.Waiting.{WaitTells};
 
 use crate::lines::line_feeds;

@@ -6,7 +6,7 @@ use Rattle.std.specs.Str.Parse.{digits_value}
 use Rattle.std.proofs.lemmas.List.{length-take, length-drop, reverse-reverse}
 use Rattle.std.proofs.lemmas.List.Elements.{All-cons, All-nil, All-head, All-tail}
 use Rattle.httparse.specs.Grammar as grammar
-use Rattle.httparse.specs.Grammar.{skip_ows, trim_ows, is_value_byte, crlf, print_field, print_section, print_version, print_end, print_reason, IsField, RequestHead, ResponseHead, print_request, print_response, ReadsRequest, ReadsResponse}
+use Rattle.httparse.specs.Grammar.{skip_ows, trim_ows, is_value_byte, crlf, print_field, print_section, print_version, print_reason, IsField, RequestHead, ResponseHead, print_request, print_response}
 use Rattle.httparse.specs.Spans.{name_and_value}
 use Rattle.httparse.proofs.GrammarLemmas.{print_request-append, print_response-append}
 use Rattle.http_model.specs.Head.{Field, StartLine, RequestLine, StatusLine, Head}
