@@ -1,5 +1,5 @@
 -- A head that stands in an array.
-use Rattle.std.proofs.Common.{◌≡◌, List, ℕ, [], Bool, Option, sym, ◌∙◌}
+use Rattle.std.proofs.Common.{List, ℕ, [], Bool, Option, sym, ◌∙◌}
 use Rattle.std.proofs.lemmas.List.{append-nil}
 use Rattle.htx_model.specs.Block.{Block}
 use Rattle.http_model.specs.Head.{head_blocks}

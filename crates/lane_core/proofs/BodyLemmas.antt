@@ -4,7 +4,7 @@ use Rattle.std.specs.Prelude.{Option, Some, None}
 use Rattle.std.specs.List.{fold}
 use Rattle.std.proofs.lemmas.List.{append-nil, length-append, nil_from_length}
 use Rattle.httparse.specs.Grammar as grammar
-use Rattle.httparse.specs.Grammar.{print_section, HasNoSection, ReadsSection}
+use Rattle.httparse.specs.Grammar.{HasNoSection, ReadsSection}
 use Rattle.httparse.proofs.GrammarLemmas.{ReadsSection-append, section_unique}
 use Rattle.http_model.specs.declared.Limits.{Limits}
 use Rattle.http_model.specs.declared.Framing.{Framing}

@@ -20,7 +20,7 @@ use Rattle.lane_core.specs.Pulled.{IsWaiting}
 use Rattle.lane_core.specs.Carried.{Carries}
 use Rattle.lane_core.specs.Filtering.{HasPassed, AreThese, SieveFits, SieveRests, EndsAt, GoesOnBy}
 use Rattle.lane_core.specs.Holding.{Holds, MeetsEnd, HoldsSo, HoldsNext, HoldsBy}
-use Rattle.lane_core.specs.Sends.{Past, Sends, SourceIs, RestsFor, put_out, reads_left, end_left}
+use Rattle.lane_core.specs.Sends.{Past, Sends, SourceIs, RestsFor, put_out, end_left}
 use Rattle.lane_core.specs.Sends as sends
 use Rattle.lane_core.specs.declared.stage.Source.{Source}
 use Rattle.lane_core.specs.declared.stage.Source.TheVariants as source

@@ -12,4 +12,5 @@ pub mod HeadLemmas
 pub mod BodyLemmas
 pub mod PassLemmas
 pub mod PromiseLemmas
+pub mod RestLemmas
 pub mod ShowLemmas

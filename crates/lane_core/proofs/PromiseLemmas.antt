@@ -1,6 +1,6 @@
 -- What a lane that sends a message says of the bytes that came.
-use Rattle.std.proofs.Common.{◌≡◌, ℕ, ◌⊎◌, inl, inr, List, [], ◌++◌, Bool, true, false, refl, sym, ap, ◌∙◌, subst, append_assoc}
-use Rattle.std.specs.Prelude.{Option, Some, None, map}
+use Rattle.std.proofs.Common.{◌≡◌, ℕ, inl, inr, List, [], ◌++◌, Bool, true, false, refl, sym, ap, ◌∙◌, subst, append_assoc}
+use Rattle.std.specs.Prelude.{Option, Some, map}
 use Rattle.std.proofs.lemmas.List.{append-nil}
 use Rattle.htx_model.specs.Block.{Block}
 use Rattle.htx_model.specs.Blocks.{flow, append_data}
@@ -10,17 +10,11 @@ use Rattle.http_model.specs.declared.Ending.{Ending}
 use Rattle.http_model.specs.declared.Ending.TheVariants as ending
 use Rattle.h1_body.specs.BodyOf.{BodyRead, Reads, More, IsBodyOf}
 use Rattle.h1_body.specs.Section.{HasTrailers}
-use Rattle.h1_body.specs.Stands.{state_of}
-use Rattle.h1_body.specs.declared.reader.BodyState.TheVariants as body_state
 use Rattle.h1_body.proofs.Told.{one_reading, closed_whole}
 use Rattle.body_filter.specs.declared.filter_spec.FilterSpec.{FilterSpec}
 use Rattle.body_filter.specs.declared.filter_spec.FedState.{FedState}
 use Rattle.body_filter.specs.declared.filter_spec.FedState.TheVariants as state
 use Rattle.body_filter.specs.Filter.{Filtered, filtered}
-use Rattle.body_sieve.specs.Sieved.{SievedAt}
-use Rattle.body_sieve.specs.declared.sieve.BodyEnd.{BodyEnd}
-use Rattle.body_sieve.specs.declared.sieve.BodyEnd.TheVariants as body_end
-use Rattle.body_sieve.specs.declared.sieve.Sieve.{Sieve}
 use Rattle.h1_write.specs.declared.writer.Stage.{Stage}
 use Rattle.h1_write.specs.declared.writer.Stage.TheVariants as at
 use Rattle.h1_write.specs.declared.writer.Writer.{Writer}
@@ -29,18 +23,16 @@ use Rattle.http_model.specs.Head.{front_blocks, message_blocks, ended_trailers, 
 use Rattle.h1_write.proofs.Told.{front_told, cut_front_told, whole_told, cut_told}
 use Rattle.lane_core.specs.Sent.{Sent, Finish, Cut, Ends, SpellsAs, IsFrontOf, message_of}
 use Rattle.lane_core.specs.Carried.{Carried, CarriesFront, Carries, EndIsOut}
-use Rattle.lane_core.specs.Pulled.{IsWaiting}
-use Rattle.lane_core.specs.Sends.{Past, Sends, Stands, SourceIs, IsAllOut, IsAtRest, RestsFor, IsOver, Waits, put_out}
-use Rattle.lane_core.specs.Filtering.{HasPassed, SieveRests, IsWholeAt, IsCutAt, CutBy, Broken, RefusedNow, RefusedAtEnd}
-use Rattle.lane_core.specs.Promise.{Promise, BodyTaken, HasBody, OnEachBody, GoesOnWith, body_in, body_sent, sent_so_far, filter_of, finish_of, ends_as, IsCut, IsCutWith, ShowsNoCut, InSection}
+use Rattle.lane_core.specs.Sends.{Past, Sends, Stands, SourceIs, IsAllOut, put_out}
+use Rattle.lane_core.specs.Filtering.{IsWholeAt, IsCutAt, CutBy, Broken, RefusedNow, RefusedAtEnd}
+use Rattle.lane_core.specs.Promise.{Promise, BodyTaken, HasBody, OnEachBody, GoesOnWith, body_in, body_sent, filter_of, finish_of, ends_as, IsCut, IsCutWith}
 use Rattle.lane_core.specs.declared.stage.Source.{Source}
 use Rattle.lane_core.specs.declared.stage.Source.TheVariants as source
 use Rattle.lane_core.specs.declared.lane.Lane.{Lane}
 use Rattle.htx_model.proofs.Flows.{flow-front}
 use Rattle.lane_core.proofs.FlowLemmas.{front_flow, front_more, front_ended}
 use Rattle.lane_core.proofs.ReadLemmas.{no_trailers}
-use Rattle.lane_core.proofs.BodyLemmas.{grows, whole_stays, bad_stays, waiting_body, waiting_cut, waiting_open}
-use Rattle.lane_core.proofs.SendLemmas.{plain_settled}
+use Rattle.lane_core.proofs.BodyLemmas.{grows, whole_stays, bad_stays, waiting_body, waiting_cut}
 use Rattle.lane_core.proofs.SiftLemmas.{some_trailers}
 use Rattle.lane_core.proofs.PassLemmas.{Passes, Came, GoesOn, CutHere, WholeHere, came_by}
 
@@ -86,7 +78,7 @@ nothing_left : (w : Writer) (s : Sent) (put : List ℕ) (left msg all : List Blo
 nothing_left w s put left msg all c none empty = ap flow (sym (append-nil c.taken)) ∙ ap flow ((λ i. c.taken ++ (sym none i ++ sym empty i))) ∙ c.flows
 
 -- all of the message that is cut
-spelled_cut : (w : Writer) (s : Sent) (found put : List ℕ) (left msg : List Block) → CarriesFront w s found put left msg → left ≡ [] → msg ≡ [] → IsEven w → SpellsAs s found Cut put
+pub spelled_cut : (w : Writer) (s : Sent) (found put : List ℕ) (left msg : List Block) → CarriesFront w s found put left msg → left ≡ [] → msg ≡ [] → IsEven w → SpellsAs s found Cut put
 spelled_cut w s found put left msg c none empty even =
     (c.1.text, c.1.put_is, cut_told s.framing s.no_body c.1.taken left c.1.text w (message_of s found []) c.1.has even (not_done w.stage c.0) refl (nothing_left w s put left msg (front_blocks s.head found) c.1 none empty))
 
@@ -231,7 +223,7 @@ cut_source l p s code (RefusedAtEnd (inl at) whole) more ending g read x =
 source_is : (l : Lane) (p : Past) (s : Sends l p) (src : Source) → l.source ≡ src → SourceIs src l.sieve p.filters l.reader l.ended l.input.items s.section s.found s.passed
 source_is l p s src e = subst (λ (x : Source). SourceIs x l.sieve p.filters l.reader l.ended l.input.items s.section s.found s.passed) e s.source
 
-text_is : (l : Lane) (p : Past) (s : Sends l p) (src : Source) → l.source ≡ src → l.dropped ≡ false → Carries src l.writer p.sent (p.sent.given ++ s.passed) s.section (put_out l p) l.out.blocks l.msg.blocks
+pub text_is : (l : Lane) (p : Past) (s : Sends l p) (src : Source) → l.source ≡ src → l.dropped ≡ false → Carries src l.writer p.sent (p.sent.given ++ s.passed) s.section (put_out l p) l.out.blocks l.msg.blocks
 text_is l p s src e d = subst (λ (x : Source). Carries x l.writer p.sent (p.sent.given ++ s.passed) s.section (put_out l p) l.out.blocks l.msg.blocks) e (s.text d)
 
 -- while it goes on
@@ -334,57 +326,3 @@ has_body l p st e =
     let is = source_is l p s source.Whole e in
     let some = some_trailers l.limits p.reads s.used s.found s.section l.input.items l.reader l.ended s.has_read is.0 in
     whole_read l p s some.0 is.0 some.1
-
--- ---- at rest
-
--- all that came passed, but what the filters keep back
-settled_by : (sieve : Option Sieve) (filters : List FilterSpec) (found passed : List ℕ) → SieveRests sieve → HasPassed sieve filters found passed → filtered filters false found ≡ record { output = passed; state = state.Going }
-settled_by None filters found passed rests h = plain_settled None refl filters found passed h
-settled_by (Some sieve) filters found passed rests h =
-    let u : SievedAt body_end.Open filters found passed sieve.chain sieve.held.items = subst (λ (e : BodyEnd). SievedAt e filters found passed sieve.chain sieve.held.items) rests.0.end h in
-    let all : found ≡ u.used = u.found_is ∙ ap (λ (b : List ℕ). u.used ++ b) rests.0.held ∙ append-nil u.used in
-    ap (filtered filters false) all ∙ rests.1 filters u.used passed u.has
-
--- what is known of the bytes taken where the lane waits
-record AtRest (l : Lane) (p : Past) (s : Sends l p) (read : BodyRead) : Type 0 where
-  pub body : body_in read ≡ s.found
-  pub open_ : (read ≡ More s.found) ⊎ InSection l
-  pub passed : filtered p.filters false (body_in read) ≡ record { output = s.passed; state = state.Going }
-
-taken_here : (l : Lane) (p : Past) (s : Sends l p) (read : BodyRead) → BodyTaken l p [] l.ended read → IsBodyOf l.limits p.reads (s.used ++ l.input.items) l.ended read
-taken_here l p s read x = subst (λ (bytes : List ℕ). IsBodyOf l.limits p.reads bytes l.ended read) (append-nil p.bytes ∙ s.bytes) x
-
-at_rest : (l : Lane) (p : Past) (s : Sends l p) → l.ended ≡ None → IsWaiting l.reader l.input.items → state_of l.reader ≡ body_state.More → SieveRests l.sieve → (read : BodyRead) → BodyTaken l p [] l.ended read → AtRest l p s read
-at_rest l p s ended waits more still read x =
-    let here : IsBodyOf l.limits p.reads (s.used ++ l.input.items) None read = subst (λ (end : Option Ending). IsBodyOf l.limits p.reads (s.used ++ l.input.items) end read) ended (taken_here l p s read x) in
-    let body = waiting_body l.limits p.reads s.used s.found s.section l.input.items l.reader None read s.has_read more waits here in
-    record {
-      body = body;
-      open_ = waiting_open l.limits p.reads s.used s.found s.section l.input.items l.reader read s.has_read more waits here;
-      passed = ap (filtered p.filters false) body ∙ settled_by l.sieve p.filters s.found s.passed still s.has_passed;
-    }
-
-pub nothing_held_back : (l : Lane) (p : Past) → Stands l p → l.dropped ≡ false → l.source ≡ source.Going → IsAtRest l → (read : BodyRead) → BodyTaken l p [] l.ended read → SpellsAs p.sent (sent_so_far p read) Cut (put_out l p)
-nothing_held_back l p st d e rest read x = by rest.for
-  where
-    by : RestsFor l → SpellsAs p.sent (sent_so_far p read) Cut (put_out l p)
-    by (IsOver over) = absurd (over e)
-    by (Waits going ended waits more still) =
-        let s = st.sends in
-        let r = at_rest l p s ended waits more still read x in
-        subst (λ (b : List ℕ). SpellsAs p.sent b Cut (put_out l p)) (ap (λ (f : Filtered). p.sent.given ++ f.output) (sym r.passed))
-        (spelled_cut l.writer p.sent (p.sent.given ++ s.passed) (put_out l p) l.out.blocks l.msg.blocks (text_is l p s source.Going e d) rest.out rest.msg rest.rests)
-
-pub no_cut_shown : (l : Lane) (p : Past) → Stands l p → l.source ≡ source.Going → RestsFor l → ShowsNoCut l p
-no_cut_shown l p st e (IsOver over) = absurd (over e)
-no_cut_shown l p st e (Waits going ended waits more still) =
-    let s = st.sends in
-    record {
-      ended = ended;
-      still = λ read x. (let r = at_rest l p s ended waits more still read x in either read s.found r.body r.open_);
-      accepted = λ read x. ap (λ (f : Filtered). f.state) (at_rest l p s ended waits more still read x).passed;
-    }
-  where
-    either : (read : BodyRead) (found : List ℕ) → body_in read ≡ found → (read ≡ More found) ⊎ InSection l → (read ≡ More (body_in read)) ⊎ InSection l
-    either read found body (inl is) = inl (is ∙ ap More (sym body))
-    either read found body (inr section) = inr section

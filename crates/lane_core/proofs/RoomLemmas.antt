@@ -7,7 +7,7 @@ use Rattle.std.proofs.lemmas.List.{length-append, length-map, length-reverse, ap
 use Rattle.std.proofs.lemmas.List.Sums.{sum_by-cons, sum_by-append}
 use Rattle.std.specs.Char.{to_ascii_lowercase}
 use Rattle.httparse.specs.Grammar as grammar
-use Rattle.httparse.specs.Grammar.{LineEnd, crlf, lf, print_end, print_field, print_section, field_value, trim_ows, skip_ows, is_ows}
+use Rattle.httparse.specs.Grammar.{LineEnd, crlf, lf, print_end, print_field, print_section, trim_ows, skip_ows, is_ows}
 use Rattle.httparse.specs.Spans.{name_and_value}
 use Rattle.http_model.specs.declared.Limits.{Limits}
 use Rattle.http_model.specs.Head.{Field, trailer_block, ended_trailers}

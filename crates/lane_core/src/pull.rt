@@ -1,5 +1,5 @@
 //! The next part of a body, from a text into the array.
-ghost use Rattle.std.specs.Prelude.{◌≡◌, ◌≤◌, [], length, take, drop};
+ghost use Rattle.std.specs.Prelude.{◌≡◌, ◌≤◌, [], length, drop};
 ghost use Rattle.h1_body.specs.Scan.{IsScanned};
 ghost use Rattle.lane_core.specs.Pulled.{Pulls};
 

@@ -1,5 +1,5 @@
 //! The lines that the program writes itself.
-ghost use Rattle.std.specs.Prelude.{◌≡◌, IfOk, codes};
+ghost use Rattle.std.specs.Prelude.{◌≡◌, IfOk};
 ghost use Rattle.proxy_call.specs.Lines.{kind_name, record_kind_name, accepted_line, refused_line, record_line, file_line};
 
 use cfg_parse::CfgKind;

@@ -1,5 +1,5 @@
 //! What is written where a command stops, and the status with it.
-ghost use Rattle.std.specs.Prelude.{◌≡◌, ℕ, Err};
+ghost use Rattle.std.specs.Prelude.{◌≡◌, Err};
 ghost use Rattle.proxy_call.specs.Ends.{Says, Tells, put};
 ghost use Rattle.proxy_call.specs.Stops.{Input, IsSilent, Replies, StopsBy, status_of};
 

@@ -1,5 +1,5 @@
 //! `serve`: clients of a configuration in a file.
-ghost use Rattle.std.specs.Prelude.{◌≡◌, ℕ, List, map, string_bytes};
+ghost use Rattle.std.specs.Prelude.{◌≡◌, ℕ, List};
 ghost use Rattle.px_command.specs.Command.{IsServe};
 ghost use Rattle.proxy_call.specs.Ends.{Ran, put};
 ghost use Rattle.proxy_call.specs.Files.{told_by};

@@ -1,5 +1,5 @@
 //! The program's one call.
-ghost use Rattle.std.specs.Prelude.{◌≡◌, ◌⊎◌, ◌∷◌, ◌++◌, [], ℕ, List, Option, map, string_bytes, Some};
+ghost use Rattle.std.specs.Prelude.{◌≡◌, ◌⊎◌, ℕ, List, Option, map, string_bytes, Some};
 ghost use Rattle.px_link.specs.Net.{Coming, Kept, address_of, with_address};
 ghost use Rattle.px_link.specs.Told.{NamedBytes, Rose, Gains};
 ghost use Rattle.px_command.specs.Command.{IsServe, IsUsage, NamesConfig};

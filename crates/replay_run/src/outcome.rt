@@ -1,5 +1,5 @@
 //! The report of a session that was run over links and a net in memory.
-ghost use Rattle.std.specs.Prelude.{◌≡◌, ◌++◌, map, Some, IfOk, OnOk};
+ghost use Rattle.std.specs.Prelude.{◌≡◌, map, Some, IfOk};
 ghost use Rattle.px_link.specs.MemLink.{MemLinkSeen};
 ghost use Rattle.rec_format.specs.ReportParts.{out_of, sent_of, servers_of};
 ghost use Rattle.replay_run.specs.Outcome.{sent_on, servers_sent, outcome};

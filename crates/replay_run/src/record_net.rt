@@ -1,5 +1,4 @@
 //! The net of a connection of a record, which tells how many connects were refused.
-ghost use Rattle.std.specs.Prelude.{◌≡◌};
 
 use htx_drive::{Address, Fault, Net};
 use px_link::{MemLink, MemNet};

@@ -1,5 +1,5 @@
 //! What is written of the sessions of a record, and of a generated session.
-ghost use Rattle.std.specs.Prelude.{◌≡◌, List, length, vec_len, IfOk};
+ghost use Rattle.std.specs.Prelude.{vec_len, IfOk};
 ghost use Rattle.rec_format.specs.Read.{meaning_of};
 ghost use Rattle.rec_format.specs.Reports.{Reportable};
 ghost use Rattle.replay_run.specs.Written.{IsReplayOf, IsDrillOf};

@@ -1,4 +1,4 @@
-use Rattle.lane_core.proofs.PromiseLemmas as lemmas
+use Rattle.lane_core.proofs.RestLemmas as lemmas
 use Rattle.lane_core.proofs.laws.no_cut_shown.Goals as goal
 
 pub returns : goal.returns

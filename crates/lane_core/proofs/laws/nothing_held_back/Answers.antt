@@ -1,4 +1,4 @@
-use Rattle.lane_core.proofs.PromiseLemmas as lemmas
+use Rattle.lane_core.proofs.RestLemmas as lemmas
 use Rattle.lane_core.proofs.laws.nothing_held_back.Goals as goal
 
 pub returns : goal.returns
