@@ -137,11 +137,11 @@ impl Sieve {
         ensures size { IfOk result (IsSieve size) }
     {
         Ok(Sieve {
-            chain: Chain::open(alloc, filters)?,
+            given: vec![in alloc; 0; size as usize - 8]?,
             held: Window::new(alloc, size)?,
             section: Window::new(alloc, size)?,
             end: BodyEnd::Open,
-            given: vec![in alloc; 0; size as usize - 8]?,
+            chain: Chain::open(alloc, filters)?,
         })
     }
 

@@ -48,32 +48,63 @@ fn number_conv(name: &str, number: i64) -> Option<Conv> {
     }
 }
 
+/// Which matches are replaced: each where the third argument is `g`.
+fn matches_of(alloc: Global, call: &Call<'_>) -> Result<Matches, Fault> {
+    match call.text(alloc, 2)?.as_slice() {
+        b"g" => Ok(Matches::All),
+        _ => Ok(Matches::First),
+    }
+}
+
 /// The converter of a pattern, a template and `g` where each match is replaced.
 fn regsub_of(alloc: Global, call: &Call<'_>) -> Result<Conv, Fault> {
     let pat = pattern_of(alloc, &call.text(alloc, 0)?)?;
     let template = text_of(alloc, call, 1)?;
-    let which = match call.text(alloc, 2)?.as_slice() {
-        b"g" => Matches::All,
-        _ => Matches::First,
-    };
+    let which = matches_of(alloc, call)?;
     Ok(Conv::Regsub(pat, template, which))
+}
+
+/// The converter of where bytes begin, and how many they are.
+fn bytes_of(call: &Call<'_>) -> Result<Conv, Fault> {
+    let from = call.number(0)?;
+    let count = call.some_number(1)?;
+    Ok(Conv::Bytes(from, count))
+}
+
+/// The arguments of a converter that cuts a text: which piece, the bytes between pieces, and how many pieces.
+fn pieces_of(alloc: Global, call: &Call<'_>) -> Result<(i64, Text, i64), Fault> {
+    let at = call.number(0)?;
+    let between = text_of(alloc, call, 1)?;
+    let count = call.some_number(2)?.unwrap_or(1);
+    Ok((at, between, count))
+}
+
+/// The converter of pieces that may be empty.
+fn field_of(alloc: Global, call: &Call<'_>) -> Result<Conv, Fault> {
+    let (at, between, count) = pieces_of(alloc, call)?;
+    Ok(Conv::Field(at, between, count))
+}
+
+/// The converter of pieces that aren't empty.
+fn word_of(alloc: Global, call: &Call<'_>) -> Result<Conv, Fault> {
+    let (at, between, count) = pieces_of(alloc, call)?;
+    Ok(Conv::Word(at, between, count))
+}
+
+/// The converter of a text for true and one for false.
+fn iif_of(alloc: Global, call: &Call<'_>) -> Result<Conv, Fault> {
+    let yes = text_of(alloc, call, 0)?;
+    let no = text_of(alloc, call, 1)?;
+    Ok(Conv::Iif(yes, no))
 }
 
 /// The converters with several arguments.
 fn text_conv(alloc: Global, call: &Call<'_>) -> Result<Conv, Fault> {
     match call.name() {
-        "bytes" => Ok(Conv::Bytes(call.number(0)?, call.some_number(1)?)),
-        "field" => Ok(Conv::Field(
-            call.number(0)?,
-            text_of(alloc, call, 1)?,
-            call.some_number(2)?.unwrap_or(1),
-        )),
-        "word" => Ok(Conv::Word(
-            call.number(0)?,
-            text_of(alloc, call, 1)?,
-            call.some_number(2)?.unwrap_or(1),
-        )),
-        "iif" => Ok(Conv::Iif(text_of(alloc, call, 0)?, text_of(alloc, call, 1)?)),
+        "bytes" => bytes_of(call),
+        "field" => field_of(alloc, call),
+        "word" => word_of(alloc, call),
+        "iif" => iif_of(alloc, call),
         "regsub" => regsub_of(alloc, call),
         _ => Err(Fault::Malformed),
     }
@@ -98,13 +129,29 @@ pub fn conv_of(alloc: Global, call: &Call<'_>) -> Result<Conv, Fault> {
     }
 }
 
+/// The fetch of a text.
+fn str_fetch(alloc: Global, call: &Call<'_>) -> Result<Fetch, Fault> {
+    Ok(Fetch::Str(text_of(alloc, call, 0)?))
+}
+
+/// The fetch of a truth.
+fn bool_fetch(alloc: Global, call: &Call<'_>) -> Result<Fetch, Fault> {
+    let truth = call.text(alloc, 0)?;
+    Ok(Fetch::Bool(truth.as_slice() == b"true".as_slice()))
+}
+
+/// The fetch of a number.
+fn int_fetch(call: &Call<'_>) -> Result<Fetch, Fault> {
+    Ok(Fetch::Int(call.number(0)?))
+}
+
 /// The fetch that a call names.
 pub fn fetch_of(alloc: Global, call: &Call<'_>) -> Result<Fetch, Fault> {
     match call.name() {
         "path" => Ok(Fetch::Path),
-        "str" => Ok(Fetch::Str(text_of(alloc, call, 0)?)),
-        "int" => Ok(Fetch::Int(call.number(0)?)),
-        "bool" => Ok(Fetch::Bool(call.text(alloc, 0)?.as_slice() == b"true".as_slice())),
+        "str" => str_fetch(alloc, call),
+        "int" => int_fetch(call),
+        "bool" => bool_fetch(alloc, call),
         "always_true" => Ok(Fetch::AlwaysTrue),
         "always_false" => Ok(Fetch::AlwaysFalse),
         _ => Err(Fault::Malformed),

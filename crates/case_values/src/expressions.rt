@@ -12,9 +12,8 @@ use std::alloc::Global;
 /// The most converters of a row.
 const MOST: usize = 1000;
 
-/// The converters that a text says.
-fn convs_of(alloc: Global, text: &[u8]) -> Result<ConvList, Fault> {
-    let mut convs = ConvList::new(alloc);
+/// Puts the converters that a text says behind a list.
+fn push_convs(alloc: Global, text: &[u8], convs: &mut ConvList) -> Result<(), Fault> {
     let mut rest = text;
     for _ in 0..MOST {
         if rest.is_empty() || convs.len() == u32::MAX {
@@ -24,6 +23,13 @@ fn convs_of(alloc: Global, text: &[u8]) -> Result<ConvList, Fault> {
         convs.push(conv_of(alloc, &call)?)?;
         rest = behind;
     }
+    Ok(())
+}
+
+/// The converters that a text says.
+fn convs_of(alloc: Global, text: &[u8]) -> Result<ConvList, Fault> {
+    let mut convs = ConvList::new(alloc);
+    push_convs(alloc, text, &mut convs)?;
     Ok(convs)
 }
 
@@ -49,6 +55,15 @@ fn size_of(text: &str) -> Result<u32, Fault>
 /// A buffer of the size that a text says.
 pub fn buffer_of(alloc: Global, text: &str) -> Result<Buf, Fault> {
     Ok(Buf::new(alloc, size_of(text)?)?)
+}
+
+/// Which samples of its expression a row asks for.
+#[derive(Drop)]
+enum Which {
+    /// The one that the expression has as a whole.
+    One,
+    /// Each, one after another.
+    Each,
 }
 
 /// What a row asks for.
@@ -101,15 +116,6 @@ fn say_eval(
     Ok(())
 }
 
-/// The sample of a row.
-pub fn one_sample(alloc: Global, row: Row<'_>) -> Result<Vec<u8>, Fault> {
-    let question = question_of(alloc, row)?;
-    let given = given_list(alloc, &question.held)?;
-    let mut answers = Answers::new(alloc);
-    say_eval(alloc, &question, &MemEnv { given: &given }, &mut answers)?;
-    answers.into_text()
-}
-
 /// Says the nth sample of an expression. Whether there is one.
 fn say_nth(
     alloc: Global,
@@ -129,30 +135,75 @@ fn say_nth(
         env,
         &mut buf,
         &mut spare,
-    )? {
-        Some(sample) => {
+    ) {
+        Ok(Some(sample)) => {
             say_sample(sample, &buf, answers);
             Ok(true)
         }
-        None => Ok(false),
+        Ok(None) => Ok(false),
+        Err(_) => Err(Fault::OutOfMemory),
     }
+}
+
+/// Says the first nine samples of an expression, as far as they are there.
+fn say_each(
+    alloc: Global,
+    question: &Question,
+    env: &MemEnv<'_>,
+    answers: &mut Answers,
+) -> Result<(), Fault> {
+    for nth in 0..9u32 {
+        if !say_nth(alloc, question, nth, env, answers)? {
+            break;
+        }
+    }
+    Ok(())
+}
+
+/// Says the samples of a question.
+fn say_which(
+    alloc: Global,
+    question: &Question,
+    which: Which,
+    env: &MemEnv<'_>,
+    answers: &mut Answers,
+) -> Result<(), Fault> {
+    match which {
+        Which::One => say_eval(alloc, question, env, answers),
+        Which::Each => say_each(alloc, question, env, answers),
+    }
+}
+
+/// The samples of a question, with what it gives.
+fn told(
+    alloc: Global,
+    question: &Question,
+    which: Which,
+    env: &MemEnv<'_>,
+) -> Result<Vec<u8>, Fault> {
+    let mut answers = Answers::new(alloc);
+    say_which(alloc, question, which, env, &mut answers)?;
+    answers.into_text()
+}
+
+/// The samples of a question.
+fn answered(alloc: Global, question: &Question, which: Which) -> Result<Vec<u8>, Fault> {
+    let given = given_list(alloc, &question.held)?;
+    told(alloc, question, which, &MemEnv { given: &given })
+}
+
+/// The samples of a row that it asks for.
+fn sampled(alloc: Global, row: Row<'_>, which: Which) -> Result<Vec<u8>, Fault> {
+    let question = question_of(alloc, row)?;
+    answered(alloc, &question, which)
+}
+
+/// The sample of a row.
+pub fn one_sample(alloc: Global, row: Row<'_>) -> Result<Vec<u8>, Fault> {
+    sampled(alloc, row, Which::One)
 }
 
 /// The samples of a row.
 pub fn each_sample(alloc: Global, row: Row<'_>) -> Result<Vec<u8>, Fault> {
-    let question = question_of(alloc, row)?;
-    let given = given_list(alloc, &question.held)?;
-    let mut answers = Answers::new(alloc);
-    for nth in 0..9u32 {
-        if !say_nth(
-            alloc,
-            &question,
-            nth,
-            &MemEnv { given: &given },
-            &mut answers,
-        )? {
-            break;
-        }
-    }
-    answers.into_text()
+    sampled(alloc, row, Which::Each)
 }

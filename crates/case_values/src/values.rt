@@ -75,13 +75,24 @@ fn step_buffer(step: &Step<'_>, buf: &mut Buf, answers: &mut Answers) -> Result<
     Ok(())
 }
 
+/// Takes steps with a buffer, with semicolons between them.
+fn steps_buffer(
+    alloc: Global,
+    steps: &str,
+    buf: &mut Buf,
+    answers: &mut Answers,
+) -> Result<(), Fault> {
+    for step in steps.split(';') {
+        step_buffer(&Step::read(alloc, step)?, buf, answers)?;
+    }
+    Ok(())
+}
+
 /// NAME, how many bytes the buffer may hold, steps, and what they say.
 pub fn buffered(alloc: Global, row: Row<'_>) -> Result<Vec<u8>, Fault> {
     let mut buf = buffer_of(alloc, row.field(1))?;
     let mut answers = Answers::new(alloc);
-    for step in row.field(2).split(';') {
-        step_buffer(&Step::read(alloc, step)?, &mut buf, &mut answers)?;
-    }
+    steps_buffer(alloc, row.field(2), &mut buf, &mut answers)?;
     answers.into_text()
 }
 
@@ -137,12 +148,23 @@ fn step_vars(
     Ok(())
 }
 
+/// Takes steps with variables, with semicolons between them.
+fn steps_vars(
+    alloc: Global,
+    steps: &str,
+    vars: &mut Vars,
+    answers: &mut Answers,
+) -> Result<(), Fault> {
+    for step in steps.split(';') {
+        step_vars(alloc, &Step::read(alloc, step)?, vars, answers)?;
+    }
+    Ok(())
+}
+
 /// NAME, steps (`set SCOPE NAME SAMPLE`, `get SCOPE NAME SIZE`, `unset SCOPE NAME`, `clear SCOPE`), and what they say.
 pub fn variables(alloc: Global, row: Row<'_>) -> Result<Vec<u8>, Fault> {
     let mut vars = Vars::new(alloc)?;
     let mut answers = Answers::new(alloc);
-    for step in row.field(1).split(';') {
-        step_vars(alloc, &Step::read(alloc, step)?, &mut vars, &mut answers)?;
-    }
+    steps_vars(alloc, row.field(1), &mut vars, &mut answers)?;
     answers.into_text()
 }

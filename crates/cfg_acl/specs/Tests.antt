@@ -97,14 +97,20 @@ without_suffix (Some how) name = stem name
 abbrev pub fetch_form : Form → Form
 fetch_form form = record { name = without_suffix (match_in form.name) form.name; args = form.args; rest = form.rest }
 
+-- the converters up to the end of a text
+unfoldable pub convs_to_end : List ℕ → TextReading (List Conv)
+convs_to_end text = do
+  convs ← convs_at text
+  end ← plain (ended convs.1)
+  plain (Ok convs.0)
+
 -- an expression, or one whose fetch has a match behind its name; of a direction where one is given
 unfoldable pub criterion_of : Option Side → List ℕ → TextReading Criterion
 criterion_of place word = do
   form ← plain (expected (form_in word))
   source ← plain (placed_source place (fetch_form form))
-  convs ← convs_at source.1
-  end ← plain (ended convs.1)
-  plain (Ok (record { written = record { source = source.0; convs = convs.0 }; how = match_in form.name }))
+  convs ← convs_to_end source.1
+  plain (Ok (record { written = record { source = source.0; convs = convs }; how = match_in form.name }))
 
 -- ---- values
 
@@ -146,12 +152,17 @@ first_of_two (Some how) other = how
 abbrev pub chosen_match : Criterion → Flags → Match
 chosen_match criterion flags = first_of_two flags.how (first_of_two criterion.how (default_match criterion.written))
 
+-- what stands behind the criterion and the flags
+unfoldable pub flagged_test : Criterion → Flags → List (List ℕ) → TextReading WrittenTest
+flagged_test criterion flags others = do
+  tried ← values_of (chosen_match criterion flags) flags.icase others
+  plain (Ok (record { written = criterion.written; how = chosen_match criterion flags; icase = flags.icase; values = tried }))
+
 -- what stands behind the criterion
 unfoldable pub test_behind : Criterion → List (List ℕ) → TextReading WrittenTest
 test_behind criterion others = do
   flags ← plain (flags_from false no_flags others)
-  tried ← values_of (chosen_match criterion flags.0) flags.0.icase flags.1
-  plain (Ok (record { written = criterion.written; how = chosen_match criterion flags.0; icase = flags.0.icase; values = tried }))
+  flagged_test criterion flags.0 flags.1
 
 -- the criterion and the words behind it
 unfoldable pub test_of : Option Side → List ℕ → List (List ℕ) → TextReading WrittenTest

@@ -1,5 +1,5 @@
 //! Conditions: groups of terms behind `if` or `unless`.
-ghost use Rattle.std.specs.Prelude.{◌≡◌, ◌+◌, ◌<◌, ◌≤◌, length, IfOk};
+ghost use Rattle.std.specs.Prelude.{◌≡◌, ◌+◌, ◌<◌, ◌≤◌, ◌∷◌, [], length, IfOk};
 ghost use Rattle.cfg_expr.specs.Faults.{Gives, ReadsText};
 ghost use Rattle.cfg_acl.specs.Conditions.{is_or, is_open, braces, tests_at, negated_or_not, marked, term_at, with_group, with_word, groups_of, condition_of, rule_end};
 
@@ -7,9 +7,10 @@ use crate::copies::move_on;
 use crate::names::named_tests;
 use crate::test::read_test;
 use crate::{AclList, WordsLeft};
-use acl_eval::{Cond, GroupList, Term, TermList, TestList};
+use acl_eval::{Cond, GroupList, Term, TermList, Test, TestList};
 use cfg_expr::{Side, TextFault, TextKind};
 use px_pattern::Patterns;
+use px_sample::OutOfMemory;
 use std::alloc::Global;
 
 #[tactic(auto, unfolding(crate::specs::Conditions::is_or))]
@@ -26,6 +27,15 @@ fn is_open(word: &[u8]) -> bool
     word == b"{".as_slice()
 }
 
+/// A test alone.
+fn alone(alloc: Global, test: Test) -> Result<TestList, OutOfMemory>
+    ensures { IfOk result (λ tests. tests ≡ test ∷ []) }
+{
+    let mut tests = TestList::new(alloc);
+    tests.push(test)?;
+    Ok(tests)
+}
+
 /// The test in braces, and the words behind them.
 #[tactic(auto, unfolding(crate::specs::Conditions::braces))]
 fn read_braces<'w, P: Patterns>(
@@ -40,12 +50,13 @@ fn read_braces<'w, P: Patterns>(
     let (criterion, inside) = inside.word_or(TextKind::Acl)?;
     let written = read_test(alloc, Some(side), criterion, inside, pats)?;
     let test = move_on(side, written)?;
-    let Some(behind) = behind else {
-        return Err(TextFault::Refused(TextKind::Acl));
-    };
-    let mut tests = TestList::new(alloc);
-    tests.push(test)?;
-    Ok((tests, behind))
+    match behind {
+        Some(behind) => {
+            let tests = alone(alloc, test)?;
+            Ok((tests, behind))
+        }
+        None => Err(TextFault::Refused(TextKind::Acl)),
+    }
 }
 
 /// The tests of a name or of braces, and the words behind.

@@ -2,13 +2,13 @@
 ghost use Rattle.std.specs.Prelude.{◌≡◌, ◌-◌, length, take, drop};
 ghost use Rattle.cfg_expr.specs.Calls.{form_of};
 ghost use Rattle.cfg_expr.specs.Faults.{ReadsText};
-ghost use Rattle.cfg_acl.specs.Tests.{takes_suffix, suffix_match, match_in, fetch_form, criterion_of, fetch_match, source_match, conv_match, default_match};
+ghost use Rattle.cfg_acl.specs.Tests.{takes_suffix, suffix_match, match_in, fetch_form, convs_to_end, criterion_of, fetch_match, source_match, conv_match, default_match};
 
 use acl_eval::Match;
 use cfg_expr::{
     Call, Side, Source, TextFault, TextKind, Written, call_in, placed_source, read_convs,
 };
-use px_expr::Conv;
+use px_expr::{Conv, ConvList};
 use px_pattern::Patterns;
 use px_sample::Fetch;
 use std::alloc::Global;
@@ -76,6 +76,23 @@ fn fetch_form<'t>(call: Call<'t>) -> Call<'t>
     }
 }
 
+/// The converters up to the end of a text.
+#[tactic(auto, unfolding(crate::specs::Tests::convs_to_end))]
+fn convs_to_end<P: Patterns>(
+    alloc: Global,
+    text: &[u8],
+    pats: &mut P,
+) -> Result<ConvList, TextFault>
+    ensures { ReadsText (λ convs. convs) (convs_to_end text.now) (P.refusals pats.old) (P.refusals pats.new) (P.last_refused pats.new) result }
+{
+    let (convs, rest) = read_convs(alloc, text, pats)?;
+    if rest.is_empty() {
+        Ok(convs)
+    } else {
+        Err(TextFault::Refused(TextKind::Expr))
+    }
+}
+
 /// An expression of a direction, or of none yet, or one whose fetch has a match behind its name.
 #[tactic(auto, unfolding(crate::specs::Tests::criterion_of))]
 pub(crate) fn read_criterion<P: Patterns>(
@@ -89,13 +106,10 @@ pub(crate) fn read_criterion<P: Patterns>(
     let Some(call) = call_in(word) else {
         return Err(TextFault::Refused(TextKind::Expr));
     };
-    let (source, rest) = placed_source(alloc, place, fetch_form(call))?;
-    let (convs, rest) = read_convs(alloc, rest, pats)?;
-    if !rest.is_empty() {
-        return Err(TextFault::Refused(TextKind::Expr));
-    }
-    let written = Written { source, convs };
     let how = match_in(call.name);
+    let (source, rest) = placed_source(alloc, place, fetch_form(call))?;
+    let convs = convs_to_end(alloc, rest, pats)?;
+    let written = Written { source, convs };
     Ok(Criterion { written, how })
 }
 

@@ -1,7 +1,7 @@
 //! A test: CRITERION FLAGS VALUES.
 ghost use Rattle.std.specs.Prelude.{◌≡◌};
 ghost use Rattle.cfg_expr.specs.Faults.{ReadsText};
-ghost use Rattle.cfg_acl.specs.Tests.{first_of_two, chosen_match, test_behind, test_of};
+ghost use Rattle.cfg_acl.specs.Tests.{first_of_two, chosen_match, flagged_test, test_behind, test_of};
 
 use crate::criterion::{Criterion, default_match, read_criterion};
 use crate::flags::{Flags, NO_FLAGS, read_flags};
@@ -25,6 +25,28 @@ fn chosen_match(criterion: &Criterion, flags: Flags) -> Match
     }
 }
 
+/// What stands behind the criterion and the flags.
+#[tactic(auto, unfolding(crate::specs::Tests::flagged_test))]
+fn flagged_test<P: Patterns>(
+    alloc: Global,
+    criterion: Criterion,
+    flags: Flags,
+    words: WordsLeft<'_>,
+    pats: &mut P,
+) -> Result<WrittenTest, TextFault>
+    ensures { ReadsText (λ test. test) (flagged_test criterion flags words.entry) (P.refusals pats.old) (P.refusals pats.new) (P.last_refused pats.new) result }
+{
+    let how = chosen_match(&criterion, flags);
+    let icase = flags.icase;
+    let values = read_values(alloc, how, icase, words, pats)?;
+    Ok(WrittenTest {
+        written: criterion.written,
+        how,
+        icase,
+        values,
+    })
+}
+
 /// What stands behind the criterion.
 #[tactic(auto, unfolding(crate::specs::Tests::test_behind))]
 fn test_behind<P: Patterns>(
@@ -36,15 +58,7 @@ fn test_behind<P: Patterns>(
     ensures { ReadsText (λ test. test) (test_behind criterion words.entry) (P.refusals pats.old) (P.refusals pats.new) (P.last_refused pats.new) result }
 {
     let (flags, words) = read_flags(NO_FLAGS, words)?;
-    let how = chosen_match(&criterion, flags);
-    let icase = flags.icase;
-    let values = read_values(alloc, how, icase, words, pats)?;
-    Ok(WrittenTest {
-        written: criterion.written,
-        how,
-        icase,
-        values,
-    })
+    flagged_test(alloc, criterion, flags, words, pats)
 }
 
 /// The test of a criterion and the words behind it; of a direction, or of none yet.

@@ -145,22 +145,26 @@ unfoldable pub return_parts : Side → Words → RuleReading (ActionParts × Wor
 return_parts side words =
     return_options side (length words) returns.no_options words >>= λ found. plain (Ok (parts.Return found.0, found.1))
 
--- The action of a name and its own word, and what stands behind it. All others are on a request line.
+-- An action that no options make, and what stands behind it. All others are on a request line.
+abbrev pub whole_action : Direction → ActionName → (word : List ℕ) → Words → RuleReading Behind
+whole_action direction names.Allow word words = plain (Ok (actions.Allow, words))
+whole_action direction names.Deny word words = plain (denied direction words)
+whole_action direction names.AddHeader word words = field_at (side_of direction) names.AddHeader words
+whole_action direction names.SetHeader word words = field_at (side_of direction) names.SetHeader words
+whole_action direction names.DelHeader word words = field_at (side_of direction) names.DelHeader words
+whole_action direction names.ReplaceHeader word words = field_at (side_of direction) names.ReplaceHeader words
+whole_action direction names.ReplaceValue word words = field_at (side_of direction) names.ReplaceValue words
+whole_action direction names.SetStatus word words = plain (status_set words)
+whole_action direction names.SetVar word words = variable_set (side_of direction) word words
+whole_action direction names.UnsetVar word words = plain (variable_unset word words)
+whole_action direction names.StrictMode word words = plain (mode_set words)
+whole_action direction name word words = line_at (side_of direction) name words
+
+-- the action of a name and its own word, and what stands behind it
 unfoldable pub action_parts : Direction → ActionName → (word : List ℕ) → Words → RuleReading (ActionParts × Words)
-action_parts direction names.Allow word words = plain (Ok (parts.Whole actions.Allow, words))
-action_parts direction names.Deny word words = whole (plain (denied direction words))
-action_parts direction names.AddHeader word words = whole (field_at (side_of direction) names.AddHeader words)
-action_parts direction names.SetHeader word words = whole (field_at (side_of direction) names.SetHeader words)
-action_parts direction names.DelHeader word words = whole (field_at (side_of direction) names.DelHeader words)
-action_parts direction names.ReplaceHeader word words = whole (field_at (side_of direction) names.ReplaceHeader words)
-action_parts direction names.ReplaceValue word words = whole (field_at (side_of direction) names.ReplaceValue words)
-action_parts direction names.SetStatus word words = whole (plain (status_set words))
-action_parts direction names.SetVar word words = whole (variable_set (side_of direction) word words)
-action_parts direction names.UnsetVar word words = whole (plain (variable_unset word words))
-action_parts direction names.StrictMode word words = whole (plain (mode_set words))
 action_parts direction names.Redirect word words = redirect_parts (side_of direction) words
 action_parts direction names.Return word words = return_parts (side_of direction) words
-action_parts direction name word words = whole (line_at (side_of direction) name words)
+action_parts direction name word words = whole (whole_action direction name word words)
 
 -- The action that its parts make. What lacks in them counts as behind the last word of the line.
 abbrev pub made_of : ActionParts → Read Action

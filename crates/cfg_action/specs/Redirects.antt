@@ -50,13 +50,19 @@ abbrev pub as_redirect_code : Option ℕ → Read ℕ
 as_redirect_code None = Err Argument
 as_redirect_code (Some code) = if is_redirect_code code then Ok code else Err Argument
 
+-- the number behind `code`, and the words behind it
+unfoldable pub written_code : Words → Read (ℕ × Words)
+written_code others = do
+  word ← argument others
+  code ← as_redirect_code (decimal_of most_digits word.0)
+  Ok (code, word.1)
+
 -- `code` and its number
 unfoldable pub code_at : RedirectOptions → Words → Read (RedirectOptions × Words)
 code_at options others = do
   free ← may_stand (is_some options.code) true
-  word ← argument others
-  code ← as_redirect_code (decimal_of most_digits word.0)
-  Ok (record options { code = Some code }, word.1)
+  code ← written_code others
+  Ok (record options { code = Some code.0 }, code.1)
 
 abbrev pub with_drop_query : RedirectOptions → Read RedirectOptions
 with_drop_query options =

@@ -1,5 +1,6 @@
 -- The options of `return`, in any order, up to a word that is none.
 use Rattle.std.specs.Prelude.{ℕ, zero, suc, List, [], ◌∷◌, ◌++◌, Option, Some, None, Ok, Err}
+use Rattle.rule_model.specs.declared.reply.Hdr.{Hdr}
 use Rattle.rule_model.specs.declared.reply.Payload.TheVariants as payloads
 use Rattle.cfg_expr.specs.declared.side.Side.{Side}
 use Rattle.cfg_expr.specs.Reading.{Reading, plain, ◌>>=◌}
@@ -18,12 +19,18 @@ payload_format_at side options others = do
   fmt ← format_at side others
   plain (Ok (record options { payload = Some (payloads.Format fmt.0) }, fmt.1))
 
+-- the field behind `hdr`, and the words behind it
+unfoldable pub written_hdr : Side → Words → RuleReading (Hdr × Words)
+written_hdr side others = do
+  name ← plain (made_name_at others)
+  fmt ← format_at side name.1
+  plain (Ok (record { name = name.0; value = fmt.0 }, fmt.1))
+
 -- `hdr`: one more field
 unfoldable pub hdr_at : Side → ReturnOptions → Words → RuleReading (ReturnOptions × Words)
 hdr_at side options others = do
-  name ← plain (made_name_at others)
-  fmt ← format_at side name.1
-  plain (Ok (record options { hdrs = options.hdrs ++ (record { name = name.0; value = fmt.0 }) ∷ [] }, fmt.1))
+  hdr ← written_hdr side others
+  plain (Ok (record options { hdrs = options.hdrs ++ hdr.0 ∷ [] }, hdr.1))
 
 -- an option and the words behind it
 unfoldable pub return_option : Side → ReturnOptions → ReturnWord → Words → RuleReading (ReturnOptions × Words)

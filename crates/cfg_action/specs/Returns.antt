@@ -48,14 +48,20 @@ going_with has_payload status = if has_payload && is_bodiless status then Err Ar
 
 -- ---- one option
 
+-- the code behind `status`, and the words behind it
+unfoldable pub written_status : Words → Read (ℕ × Words)
+written_status others = do
+  word ← argument others
+  code ← code_of 200 599 word.0
+  Ok (code, word.1)
+
 -- `status` and its code
 unfoldable pub status_at : ReturnOptions → Words → Read (ReturnOptions × Words)
 status_at options others = do
   free ← once (is_some options.status)
-  word ← argument others
-  code ← code_of 200 599 word.0
-  status ← going_with (is_some options.payload) code
-  Ok (record options { status = Some status }, word.1)
+  code ← written_status others
+  status ← going_with (is_some options.payload) code.0
+  Ok (record options { status = Some status }, code.1)
 
 -- `content-type` and the type
 unfoldable pub content_type_at : ReturnOptions → Words → Read (ReturnOptions × Words)

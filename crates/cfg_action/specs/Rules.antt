@@ -1,15 +1,21 @@
 -- A rule: an action, and a condition or none.
-use Rattle.std.specs.Prelude.{ℕ, List, Ok}
+use Rattle.std.specs.Prelude.{ℕ, List, Option, Ok}
+use Rattle.acl_eval.specs.declared.condition.Cond.{Cond}
 use Rattle.rule_model.specs.declared.action.Direction.{Direction}
 use Rattle.rule_model.specs.declared.rule.Rule.{Rule}
 use Rattle.cfg_acl.specs.declared.written.AclLine.{AclLine}
 use Rattle.cfg_acl.specs.Conditions.{rule_end}
 use Rattle.cfg_expr.specs.Reading.{Reading, plain, ◌>>=◌}
+use Rattle.cfg_action.specs.declared.parts.ActionParts.{ActionParts}
 use Rattle.cfg_action.specs.Faults.{RuleReading, of_text, argument}
 use Rattle.rule_model.specs.Actions.{action_named}
 use Rattle.cfg_action.specs.Names.{placed, side_of}
 use Rattle.cfg_action.specs.Arguments.{Words}
 use Rattle.cfg_action.specs.Actions.{action_parts, made_of}
+
+-- the rule of what is known of its action, in which nothing may lack, and of its condition
+abbrev pub rule_made : ActionParts → Option Cond → RuleReading Rule
+rule_made parts cond = plain (made_of parts) >>= λ action. plain (Ok (record { action = action; cond = cond }))
 
 -- The rule that the words behind `http-request` and its like say, in a direction and below these `acl` lines: its action, the
 -- action's arguments, its condition; and last what still lacks of the action.
@@ -19,5 +25,4 @@ rule_of direction lines words = do
   name ← plain (placed direction (action_named word.0))
   parts ← action_parts direction name word.0 word.1
   cond ← of_text (rule_end (side_of direction) lines parts.1)
-  action ← plain (made_of parts.0)
-  plain (Ok (record { action = action; cond = cond }))
+  rule_made parts.0 cond

@@ -1,10 +1,9 @@
 //! One action and its arguments.
-ghost use Rattle.std.specs.Prelude.{◌≡◌, IfOk};
+ghost use Rattle.std.specs.Prelude.{IfOk};
 ghost use Rattle.rule_model.specs.declared.action.ActionName.TheVariants as names;
-ghost use Rattle.cfg_action.specs.declared.parts.ActionParts.TheVariants as parts;
 ghost use Rattle.cfg_action.specs.Faults.{ReadsRule};
 ghost use Rattle.cfg_action.specs.Good.{IsNamed, AreGoodParts};
-ghost use Rattle.cfg_action.specs.Actions.{variable_set, redirect_parts, return_parts, action_parts};
+ghost use Rattle.cfg_action.specs.Actions.{variable_set, redirect_parts, return_parts, whole_action, action_parts};
 
 use crate::arguments::{argument, variable_behind};
 use crate::fault::RuleFault;
@@ -82,13 +81,33 @@ fn return_parts<'w, P: Patterns>(
     Ok((ActionParts::Return(options), others))
 }
 
-/// A whole action, and the words behind it.
-fn whole<'w>(found: (Action, WordsLeft<'w>)) -> (ActionParts, WordsLeft<'w>)
-    ensures action { result.0 ≡ parts.Whole found.entry.0 }
-    ensures words { result.1 ≡ found.entry.1 }
+/// An action that no options make, and the words behind it.
+fn whole_action<'w, P: Patterns>(
+    alloc: Global,
+    direction: Direction,
+    name: ActionName,
+    word: &[u8],
+    words: WordsLeft<'w>,
+    pats: &mut P,
+) -> Result<(Action, WordsLeft<'w>), RuleFault>
+    ensures reads { ReadsRule (λ found. (found.0, found.1)) (whole_action direction name word.now words.entry) (P.refusals pats.old) (P.refusals pats.new) (P.last_refused pats.new) result }
+    ensures good { IfOk result (λ found. IsNamed name found.0) }
 {
-    let (action, others) = found;
-    (ActionParts::Whole(action), others)
+    let side = side_of(direction);
+    match name {
+        ActionName::Allow => Ok((Action::Allow, words)),
+        ActionName::Deny => denied(direction, words),
+        ActionName::SetStatus => status_set(alloc, words),
+        ActionName::SetVar => variable_set(alloc, side, word, words, pats),
+        ActionName::UnsetVar => variable_unset(alloc, word, words),
+        ActionName::StrictMode => mode_set(words),
+        ActionName::AddHeader
+        | ActionName::SetHeader
+        | ActionName::DelHeader
+        | ActionName::ReplaceHeader
+        | ActionName::ReplaceValue => field_at(alloc, side, name, words, pats),
+        _ => line_at(alloc, side, name, words, pats),
+    }
 }
 
 /// The action of a name and its own word, and what stands behind it.
@@ -104,21 +123,12 @@ pub fn action_parts<'w, P: Patterns>(
     ensures reads { ReadsRule (λ found. (found.0, found.1)) (action_parts direction name word.now words.entry) (P.refusals pats.old) (P.refusals pats.new) (P.last_refused pats.new) result }
     ensures good { IfOk result (λ found. AreGoodParts name found.0) }
 {
-    let side = side_of(direction);
     match name {
-        ActionName::Redirect => redirect_parts(alloc, side, words, pats),
-        ActionName::Return => return_parts(alloc, side, words, pats),
-        ActionName::Allow => Ok((ActionParts::Whole(Action::Allow), words)),
-        ActionName::Deny => Ok(whole(denied(direction, words)?)),
-        ActionName::SetStatus => Ok(whole(status_set(alloc, words)?)),
-        ActionName::SetVar => Ok(whole(variable_set(alloc, side, word, words, pats)?)),
-        ActionName::UnsetVar => Ok(whole(variable_unset(alloc, word, words)?)),
-        ActionName::StrictMode => Ok(whole(mode_set(words)?)),
-        ActionName::AddHeader
-        | ActionName::SetHeader
-        | ActionName::DelHeader
-        | ActionName::ReplaceHeader
-        | ActionName::ReplaceValue => Ok(whole(field_at(alloc, side, name, words, pats)?)),
-        _ => Ok(whole(line_at(alloc, side, name, words, pats)?)),
+        ActionName::Redirect => redirect_parts(alloc, side_of(direction), words, pats),
+        ActionName::Return => return_parts(alloc, side_of(direction), words, pats),
+        _ => {
+            let (action, others) = whole_action(alloc, direction, name, word, words, pats)?;
+            Ok((ActionParts::Whole(action), others))
+        }
     }
 }

@@ -4,6 +4,7 @@
 
 mod actions;
 mod arguments;
+mod codes;
 mod fault;
 mod fields;
 mod names;

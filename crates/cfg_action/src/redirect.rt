@@ -1,20 +1,18 @@
 //! The options of `redirect`, in any order.
 ghost use Rattle.std.specs.Prelude.{◌≡◌, ◌||◌, true, false, IfOk};
 ghost use Rattle.rule_model.specs.declared.action.ActionName.TheVariants as names;
-ghost use Rattle.px_bytes.specs.Numbers.{decimal_of};
-ghost use Rattle.rule_model.specs.Valid.{is_redirect_code, may_drop_query, may_append_slash};
+ghost use Rattle.rule_model.specs.Valid.{may_drop_query, may_append_slash};
 ghost use Rattle.rule_model.specs.declared.reply.RedirectTo.TheVariants.{Location, Prefix, Scheme};
 ghost use Rattle.cfg_action.specs.Faults.{Gives, ReadsRule};
-ghost use Rattle.cfg_action.specs.Arguments.{most_digits};
 ghost use Rattle.cfg_action.specs.Good.{IsNamed, AreRedirectOptions};
-ghost use Rattle.cfg_action.specs.Redirects.{redirect_word, may_come, may_stand, goes_with, as_redirect_code, code_at, with_drop_query, with_append_slash, redirect_of};
-ghost use Rattle.cfg_action.specs.RedirectOptions.{with_location, redirect_option, redirect_options};
+ghost use Rattle.cfg_action.specs.Redirects.{redirect_word, may_come, may_stand, goes_with, code_at, with_drop_query, with_append_slash, redirect_of};
+ghost use Rattle.cfg_action.specs.RedirectOptions.{with_location, alone, redirect_option, redirect_options};
 
-use crate::arguments::{MAX_DIGITS, argument, format_at};
+use crate::arguments::format_at;
+use crate::codes::written_code;
 use crate::fault::{RuleFault, RuleKind};
 use cfg_acl::WordsLeft;
 use cfg_expr::Side;
-use px_bytes::read_decimal;
 use px_pattern::Patterns;
 use rule_model::{Action, RedirectTo};
 use std::alloc::Global;
@@ -77,6 +75,13 @@ fn may_stand(stands: bool, goes: bool) -> Result<(), RuleFault>
     Ok(())
 }
 
+/// What a location clashes with stands there.
+fn clashes(options: &RedirectOptions) -> bool
+    ensures { result ≡ (options.now.drop_query || options.now.append_slash) }
+{
+    options.drop_query || options.append_slash
+}
+
 /// A location may still come, unless what stands there clashes with it.
 fn may_come(clashes: bool, options: &RedirectOptions) -> Result<(), RuleFault>
     ensures gives { Gives (λ nothing. nothing) result (may_come clashes options.now) }
@@ -110,24 +115,7 @@ fn may_append_slash(to: &Option<RedirectTo>) -> bool
     }
 }
 
-/// One of the codes of redirects.
-fn redirect_code(word: &[u8]) -> Result<u16, RuleFault>
-    ensures gives { Gives (λ code. code) result (as_redirect_code (decimal_of most_digits word.now)) }
-    ensures good { IfOk result (λ code. is_redirect_code code ≡ true) }
-{
-    match read_decimal(word, MAX_DIGITS) {
-        Some(code) => {
-            if code == 301 || code == 302 || code == 303 || code == 307 || code == 308 {
-                Ok(code as u16)
-            } else {
-                Err(RuleFault::Refused(RuleKind::Argument))
-            }
-        }
-        None => Err(RuleFault::Refused(RuleKind::Argument)),
-    }
-}
-
-/// `code` and its number.
+/// `code` and its number, which may stand once.
 #[tactic(auto, unfolding(crate::specs::Redirects::code_at))]
 fn code_at(
     mut options: RedirectOptions,
@@ -137,29 +125,35 @@ fn code_at(
     ensures good { AreRedirectOptions options → IfOk result (λ next. AreRedirectOptions next.0) }
 {
     may_stand(options.code.is_some(), true)?;
-    let (word, others) = argument(others)?;
-    options.code = Some(redirect_code(word)?);
+    let (code, others) = written_code(others)?;
+    options.code = Some(code);
     Ok((options, others))
 }
 
 /// `drop-query`.
-fn with_drop_query(mut options: RedirectOptions) -> Result<RedirectOptions, RuleFault>
-    ensures gives { Gives (λ next. next) result (with_drop_query options) }
-    ensures good { AreRedirectOptions options → IfOk result AreRedirectOptions }
+fn with_drop_query(
+    mut options: RedirectOptions,
+    others: WordsLeft<'_>,
+) -> Result<(RedirectOptions, WordsLeft<'_>), RuleFault>
+    ensures gives { Gives (λ next. (next.0, next.1)) result ((alone others.entry (with_drop_query options)).gives) }
+    ensures good { AreRedirectOptions options → IfOk result (λ next. AreRedirectOptions next.0) }
 {
     may_stand(options.drop_query, may_drop_query(&options.to))?;
     options.drop_query = true;
-    Ok(options)
+    Ok((options, others))
 }
 
 /// `append-slash`.
-fn with_append_slash(mut options: RedirectOptions) -> Result<RedirectOptions, RuleFault>
-    ensures gives { Gives (λ next. next) result (with_append_slash options) }
-    ensures good { AreRedirectOptions options → IfOk result AreRedirectOptions }
+fn with_append_slash(
+    mut options: RedirectOptions,
+    others: WordsLeft<'_>,
+) -> Result<(RedirectOptions, WordsLeft<'_>), RuleFault>
+    ensures gives { Gives (λ next. (next.0, next.1)) result ((alone others.entry (with_append_slash options)).gives) }
+    ensures good { AreRedirectOptions options → IfOk result (λ next. AreRedirectOptions next.0) }
 {
     may_stand(options.append_slash, may_append_slash(&options.to))?;
     options.append_slash = true;
-    Ok(options)
+    Ok((options, others))
 }
 
 /// `location` and its format.
@@ -167,16 +161,28 @@ fn with_append_slash(mut options: RedirectOptions) -> Result<RedirectOptions, Ru
 fn with_location<'w, P: Patterns>(
     alloc: Global,
     side: Side,
-    mut options: RedirectOptions,
+    options: RedirectOptions,
     others: WordsLeft<'w>,
     pats: &mut P,
 ) -> Result<(RedirectOptions, WordsLeft<'w>), RuleFault>
     ensures reads { ReadsRule (λ next. (next.0, next.1)) (with_location side Location (options.drop_query || options.append_slash) options others.entry) (P.refusals pats.old) (P.refusals pats.new) (P.last_refused pats.new) result }
     ensures good { AreRedirectOptions options → IfOk result (λ next. AreRedirectOptions next.0) }
 {
-    may_come(options.drop_query || options.append_slash, &options)?;
+    may_come(clashes(&options), &options)?;
+    let RedirectOptions {
+        to,
+        code,
+        drop_query,
+        append_slash,
+    } = options;
+    drop(to);
     let (fmt, others) = format_at(alloc, side, others, pats)?;
-    options.to = Some(RedirectTo::Location(fmt));
+    let options = RedirectOptions {
+        to: Some(RedirectTo::Location(fmt)),
+        code,
+        drop_query,
+        append_slash,
+    };
     Ok((options, others))
 }
 
@@ -185,7 +191,7 @@ fn with_location<'w, P: Patterns>(
 fn with_prefix<'w, P: Patterns>(
     alloc: Global,
     side: Side,
-    mut options: RedirectOptions,
+    options: RedirectOptions,
     others: WordsLeft<'w>,
     pats: &mut P,
 ) -> Result<(RedirectOptions, WordsLeft<'w>), RuleFault>
@@ -193,8 +199,20 @@ fn with_prefix<'w, P: Patterns>(
     ensures good { AreRedirectOptions options → IfOk result (λ next. AreRedirectOptions next.0) }
 {
     may_come(false, &options)?;
+    let RedirectOptions {
+        to,
+        code,
+        drop_query,
+        append_slash,
+    } = options;
+    drop(to);
     let (fmt, others) = format_at(alloc, side, others, pats)?;
-    options.to = Some(RedirectTo::Prefix(fmt));
+    let options = RedirectOptions {
+        to: Some(RedirectTo::Prefix(fmt)),
+        code,
+        drop_query,
+        append_slash,
+    };
     Ok((options, others))
 }
 
@@ -203,7 +221,7 @@ fn with_prefix<'w, P: Patterns>(
 fn with_scheme<'w, P: Patterns>(
     alloc: Global,
     side: Side,
-    mut options: RedirectOptions,
+    options: RedirectOptions,
     others: WordsLeft<'w>,
     pats: &mut P,
 ) -> Result<(RedirectOptions, WordsLeft<'w>), RuleFault>
@@ -211,8 +229,20 @@ fn with_scheme<'w, P: Patterns>(
     ensures good { AreRedirectOptions options → IfOk result (λ next. AreRedirectOptions next.0) }
 {
     may_come(options.append_slash, &options)?;
+    let RedirectOptions {
+        to,
+        code,
+        drop_query,
+        append_slash,
+    } = options;
+    drop(to);
     let (fmt, others) = format_at(alloc, side, others, pats)?;
-    options.to = Some(RedirectTo::Scheme(fmt));
+    let options = RedirectOptions {
+        to: Some(RedirectTo::Scheme(fmt)),
+        code,
+        drop_query,
+        append_slash,
+    };
     Ok((options, others))
 }
 
@@ -234,8 +264,8 @@ fn redirect_option<'w, P: Patterns>(
         RedirectWord::Prefix => with_prefix(alloc, side, options, others, pats),
         RedirectWord::Scheme => with_scheme(alloc, side, options, others, pats),
         RedirectWord::Code => code_at(options, others),
-        RedirectWord::DropQuery => Ok((with_drop_query(options)?, others)),
-        RedirectWord::AppendSlash => Ok((with_append_slash(options)?, others)),
+        RedirectWord::DropQuery => with_drop_query(options, others),
+        RedirectWord::AppendSlash => with_append_slash(options, others),
     }
 }
 

@@ -1,11 +1,11 @@
 //! The options of `return`, in any order.
 ghost use Rattle.std.specs.Prelude.{◌≡◌, ◌+◌, ◌<◌, ◌≤◌, ◌&&◌, false, length, IfOk};
 ghost use Rattle.rule_model.specs.declared.action.ActionName.TheVariants as names;
-ghost use Rattle.cfg_action.specs.Faults.{Gives, ReadsRule};
+ghost use Rattle.cfg_action.specs.Faults.{Gives, ReadsRule, argument};
 ghost use Rattle.cfg_action.specs.Good.{IsNamed, AreReturnOptions};
-ghost use Rattle.cfg_action.specs.Returns.{return_word, once, has_no_body, may_have_payload, going_with, status_at, content_type_at, literal_at, return_of};
-ghost use Rattle.cfg_action.specs.ReturnOptions.{payload_format_at, hdr_at, return_option, return_options};
-ghost use Rattle.rule_model.specs.Valid.{is_bodiless};
+ghost use Rattle.cfg_action.specs.Returns.{return_word, once, has_no_body, may_have_payload, going_with, written_status, status_at, content_type_at, literal_at, return_of};
+ghost use Rattle.cfg_action.specs.ReturnOptions.{payload_format_at, written_hdr, hdr_at, return_option, return_options};
+ghost use Rattle.rule_model.specs.Valid.{IsCode, IsMadeName, is_bodiless};
 
 use crate::arguments::{argument, code_of, format_at, made_name_at};
 use crate::fault::{RuleFault, RuleKind};
@@ -102,6 +102,26 @@ fn going_with(has_payload: bool, status: u16) -> Result<u16, RuleFault>
     Ok(status)
 }
 
+/// The code behind `status`, and the words behind it.
+#[tactic(auto, unfolding(crate::specs::Returns::written_status))]
+fn written_status(others: WordsLeft<'_>) -> Result<(u16, WordsLeft<'_>), RuleFault>
+    ensures gives { Gives (λ found. (found.0, found.1)) result (written_status others.entry) }
+    ensures good { IfOk result (λ found. IsCode 200 599 found.0) }
+{
+    let (word, others) = argument(others)?;
+    let code = code_of(200, 599, word)?;
+    Ok((code, others))
+}
+
+/// A text behind its name, and the words behind it.
+fn text_at(alloc: Global, others: WordsLeft<'_>) -> Result<(Text, WordsLeft<'_>), RuleFault>
+    ensures { Gives (λ taken. (taken.0, taken.1)) result (argument others.entry) }
+{
+    let (word, others) = argument(others)?;
+    let text = Text::copy(alloc, word)?;
+    Ok((text, others))
+}
+
 /// `status` and its code.
 #[tactic(auto, unfolding(crate::specs::Returns::status_at))]
 fn status_at(
@@ -113,8 +133,7 @@ fn status_at(
     ensures few { IfOk result (λ next. length next.0.hdrs ≤ length options.hdrs + 1) }
 {
     once(options.status.is_some())?;
-    let (word, others) = argument(others)?;
-    let code = code_of(200, 599, word)?;
+    let (code, others) = written_status(others)?;
     options.status = Some(going_with(options.payload.is_some(), code)?);
     Ok((options, others))
 }
@@ -131,8 +150,8 @@ fn content_type_at(
     ensures few { IfOk result (λ next. length next.0.hdrs ≤ length options.hdrs + 1) }
 {
     once(options.content_type.is_some())?;
-    let (word, others) = argument(others)?;
-    options.content_type = Some(Text::copy(alloc, word)?);
+    let (text, others) = text_at(alloc, others)?;
+    options.content_type = Some(text);
     Ok((options, others))
 }
 
@@ -148,8 +167,8 @@ fn literal_at(
     ensures few { IfOk result (λ next. length next.0.hdrs ≤ length options.hdrs + 1) }
 {
     may_have_payload(&options)?;
-    let (word, others) = argument(others)?;
-    options.payload = Some(Payload::Literal(Text::copy(alloc, word)?));
+    let (text, others) = text_at(alloc, others)?;
+    options.payload = Some(Payload::Literal(text));
     Ok((options, others))
 }
 
@@ -172,6 +191,22 @@ fn payload_format_at<'w, P: Patterns>(
     Ok((options, others))
 }
 
+/// The field behind `hdr`, and the words behind it.
+#[tactic(auto, unfolding(crate::specs::ReturnOptions::written_hdr))]
+fn written_hdr<'w, P: Patterns>(
+    alloc: Global,
+    side: Side,
+    others: WordsLeft<'w>,
+    pats: &mut P,
+) -> Result<(Hdr, WordsLeft<'w>), RuleFault>
+    ensures reads { ReadsRule (λ found. (found.0, found.1)) (written_hdr side others.entry) (P.refusals pats.old) (P.refusals pats.new) (P.last_refused pats.new) result }
+    ensures good { IfOk result (λ found. IsMadeName found.0.name) }
+{
+    let (name, others) = made_name_at(alloc, others)?;
+    let (value, others) = format_at(alloc, side, others, pats)?;
+    Ok((Hdr { name, value }, others))
+}
+
 /// `hdr`: one more field.
 #[tactic(auto, using(crate::proofs::GoodLemmas::replies), unfolding(crate::specs::ReturnOptions::hdr_at))]
 fn hdr_at<'w, P: Patterns>(
@@ -186,9 +221,8 @@ fn hdr_at<'w, P: Patterns>(
     ensures good { AreReturnOptions options → IfOk result (λ next. AreReturnOptions next.0) }
     ensures few { IfOk result (λ next. length next.0.hdrs ≤ length options.hdrs + 1) }
 {
-    let (name, others) = made_name_at(alloc, others)?;
-    let (value, others) = format_at(alloc, side, others, pats)?;
-    options.hdrs.push(Hdr { name, value })?;
+    let (hdr, others) = written_hdr(alloc, side, others, pats)?;
+    options.hdrs.push(hdr)?;
     Ok((options, others))
 }
 

@@ -1,19 +1,30 @@
 //! A rule: an action, and a condition or none.
 ghost use Rattle.std.specs.Prelude.{IfOk};
+ghost use Rattle.rule_model.specs.declared.action.ActionName.{ActionName};
 ghost use Rattle.rule_model.specs.Valid.{IsGoodRule};
-ghost use Rattle.cfg_action.specs.Faults.{ReadsRule};
-ghost use Rattle.cfg_action.specs.Rules.{rule_of};
+ghost use Rattle.cfg_action.specs.Faults.{Gives, ReadsRule};
+ghost use Rattle.cfg_action.specs.Good.{IsNamed, AreGoodParts};
+ghost use Rattle.cfg_action.specs.Rules.{rule_made, rule_of};
 
 use crate::actions::action_parts;
 use crate::arguments::argument;
 use crate::fault::RuleFault;
 use crate::names::{placed_action, side_of};
-use crate::parts::made_of;
+use crate::parts::{ActionParts, made_of};
 use crate::texts::condition;
-use cfg_acl::{AclList, WordsLeft};
+use cfg_acl::{AclList, Cond, WordsLeft};
 use px_pattern::Patterns;
 use rule_model::{Direction, Rule};
 use std::alloc::Global;
+
+/// The rule of what is known of its action, in which nothing may lack, and of its condition.
+fn rule_made(parts: ActionParts, cond: Option<Cond>) -> Result<Rule, RuleFault>
+    ensures gives { Gives (λ rule. rule) result ((rule_made parts cond).gives) }
+    ensures good { (name : ActionName) → AreGoodParts name parts → IfOk result (λ rule. IsNamed name rule.action) }
+{
+    let action = made_of(parts)?;
+    Ok(Rule { action, cond })
+}
 
 /// The rule that the words behind `http-request`, `http-response` or `http-after-response` say, below these `acl` lines.
 /// Refused with Keyword where the action is unknown or rules of the direction don't have it; with FramingName where it makes
@@ -33,7 +44,14 @@ pub fn read_rule<P: Patterns>(
     let (word, others) = argument(words)?;
     let name = placed_action(direction, word)?;
     let (parts, others) = action_parts(alloc, direction, name, word, others, pats)?;
-    let cond = condition(alloc, side_of(direction), lines, others, pats)?;
-    let action = made_of(parts)?;
-    Ok(Rule { action, cond })
+    match condition(alloc, side_of(direction), lines, others, pats) {
+        Ok(cond) => {
+            let rule = rule_made(parts, cond)?;
+            Ok(rule)
+        }
+        Err(fault) => {
+            drop(parts);
+            Err(fault)
+        }
+    }
 }

@@ -54,6 +54,7 @@ pub fn whole(draft: Draft) -> Result<Config, LineRefusal>
 {
     let limits = limits_of(&draft);
     if limits.maxrewrite > limits.bufsize.saturating_sub(MIN_HEAD) {
+        drop(draft);
         return Err(LineRefusal::Refused(CfgKind::Limit));
     }
     let Draft {

@@ -56,6 +56,7 @@ fn add_rule(draft: &mut Draft, direction: Direction, rule: Rule) -> Result<(), L
     ensures { Leaves result draft.new (rule_added draft.old direction rule) }
 {
     if !has_room(draft, direction, &rule.cond) {
+        drop(rule);
         return Err(LineRefusal::Refused(CfgKind::Limit));
     }
     draft.tests += tests_of(&rule.cond);

@@ -48,7 +48,9 @@ fn stands_at_the_least_window(alloc: Global, config: &Config) -> Result<bool, Ou
     requires valid { IsValid config.now }
 {
     let mut core = Core::new(Directions::new(alloc, config, 64)?);
-    stands_in_the_array(&mut core)
+    let stands = stands_in_the_array(&mut core);
+    drop(core);
+    stands
 }
 
 /// The same under the configuration.
@@ -56,7 +58,9 @@ fn stands(alloc: Global) -> bool {
     let Ok(config) = accepted(alloc) else {
         return false;
     };
-    stands_at_the_least_window(alloc, &config) == Ok(true)
+    let stands = stands_at_the_least_window(alloc, &config) == Ok(true);
+    drop(config);
+    stands
 }
 
 #[test]

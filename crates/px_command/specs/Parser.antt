@@ -40,10 +40,13 @@ top_level = on_top (λ s. record s {
   subcommand_required = true;
 }) (new_app (codes "htx_proxy"))
 
+-- the program's own level with its flags
+abbrev pub flags : App
+flags = with_rule (with_rule top_level (flag_rule (codes "help") Help)) (flag_rule (codes "version") Version)
+
 -- the flags and the commands of the program
 abbrev pub parser : App
 parser =
-    let flags = with_rule (with_rule top_level (flag_rule (codes "help") Help)) (flag_rule (codes "version") Version) in
     let check = with_subcommand flags check_shape.top in
     let replay = with_subcommand check (two_words (codes "replay") (codes "CFG") (codes "REC")).top in
     let serve = with_subcommand replay (two_words (codes "serve") (codes "CFG") (codes "COUNT")).top in

@@ -1,8 +1,9 @@
 //! The command line as `clap` reads it: the names of commands and their words, with what help says of them.
 ghost use Rattle.std.specs.Prelude.{◌≡◌, ℕ, List, IfOk, false, codes};
-ghost use Rattle.clap.specs.Words.{app_of, rule_of, with_rule};
+ghost use Rattle.clap.specs.Words.{App, app_of, rule_of, with_rule, with_subcommand};
+ghost use Rattle.clap.specs.declared.builder.action.ArgAction.TheVariants.{Help};
 ghost use Rattle.clap.specs.declared.builder.command.Command.TheViews.{out-Command};
-ghost use Rattle.px_command.specs.Parser.{word_rule, flag_rule, no_flag, one_word, two_words, check_shape, top_level, parser};
+ghost use Rattle.px_command.specs.Parser.{word_rule, flag_rule, no_flag, one_word, two_words, check_shape, top_level, flags, parser};
 
 use clap::{Arg, ArgAction, Command};
 use std::alloc::{AllocError, Global};
@@ -39,8 +40,8 @@ fn plain_command<'a>(alloc: Global, name: &'a str) -> Command<'a>
     Command::new(alloc, name).disable_help_flag(true)
 }
 
-/// A command without flags, with one word behind it.
-fn one_word<'a>(
+/// A command without flags, with this argument.
+fn one_argument<'a>(
     alloc: Global,
     name: &'a str,
     about: &'a str,
@@ -53,20 +54,20 @@ fn one_word<'a>(
     plain_command(alloc, name).about(about).arg(first)
 }
 
-/// A command without flags, with two words behind it.
-fn two_words<'a>(
+/// A command without flags, with this argument and a word that must be given behind it.
+fn word_behind<'a>(
     alloc: Global,
     name: &'a str,
     about: &'a str,
     first: Arg<'a>,
-    second: Arg<'a>,
+    second: &'a str,
+    help: &'a str,
 ) -> Result<Command<'a>, AllocError>
-    requires first { first.global ≡ false }
-    requires second { second.global ≡ false }
-    ensures app { IfOk result (λ c. app_of c ≡ with_rule (with_rule (no_flag name.now) (rule_of first.entry)) (rule_of second.entry)) }
+    requires { first.global ≡ false }
+    ensures app { IfOk result (λ c. app_of c ≡ with_rule (with_rule (no_flag name.now) (rule_of first.entry)) (word_rule second.now)) }
     ensures local { IfOk result (λ c. (out-Command c).has_globals ≡ false) }
 {
-    one_word(alloc, name, about, first)?.arg(second)
+    one_argument(alloc, name, about, first)?.arg(word(alloc, second, help))
 }
 
 /// `check CFG` and `check --record REC`.
@@ -74,19 +75,19 @@ pub fn check_command<'a>(alloc: Global) -> Result<Command<'a>, AllocError>
     ensures app { IfOk result (λ c. app_of c ≡ check_shape) }
     ensures local { IfOk result (λ c. (out-Command c).has_globals ≡ false) }
 {
-    plain_command(alloc, "check")
-        .about("Reads a configuration or a record, and says what it is or where it is refused")
-        .arg(flag(
+    word_behind(
+        alloc,
+        "check",
+        "Reads a configuration or a record, and says what it is or where it is refused",
+        flag(
             alloc,
             "record",
             ArgAction::SetTrue,
             "The file is a record; writes it in the second format",
-        ))?
-        .arg(word(
-            alloc,
-            "FILE",
-            "The file of the configuration, or of the record behind --record",
-        ))
+        ),
+        "FILE",
+        "The file of the configuration, or of the record behind --record",
+    )
 }
 
 /// `replay CFG REC`.
@@ -94,12 +95,13 @@ pub fn replay_command<'a>(alloc: Global) -> Result<Command<'a>, AllocError>
     ensures app { IfOk result (λ c. app_of c ≡ two_words (codes "replay") (codes "CFG") (codes "REC")) }
     ensures local { IfOk result (λ c. (out-Command c).has_globals ≡ false) }
 {
-    two_words(
+    word_behind(
         alloc,
         "replay",
         "Runs the session that a record holds, and writes the report of what was sent",
         cfg_word(alloc),
-        word(alloc, "REC", "The file of the record"),
+        "REC",
+        "The file of the record",
     )
 }
 
@@ -108,12 +110,13 @@ pub fn serve_command<'a>(alloc: Global) -> Result<Command<'a>, AllocError>
     ensures app { IfOk result (λ c. app_of c ≡ two_words (codes "serve") (codes "CFG") (codes "COUNT")) }
     ensures local { IfOk result (λ c. (out-Command c).has_globals ≡ false) }
 {
-    two_words(
+    word_behind(
         alloc,
         "serve",
         "Serves connections, one after another, and writes a line for each",
         cfg_word(alloc),
-        word(alloc, "COUNT", "How many connections, 1 to 1000000"),
+        "COUNT",
+        "How many connections, 1 to 1000000",
     )
 }
 
@@ -122,12 +125,13 @@ pub fn drill_command<'a>(alloc: Global) -> Result<Command<'a>, AllocError>
     ensures app { IfOk result (λ c. app_of c ≡ two_words (codes "drill") (codes "SEED") (codes "COUNT")) }
     ensures local { IfOk result (λ c. (out-Command c).has_globals ≡ false) }
 {
-    two_words(
+    word_behind(
         alloc,
         "drill",
         "Runs a session of generated exchanges, and writes what was sent",
         word(alloc, "SEED", "Where generating begins, 0 to 2147483647"),
-        word(alloc, "COUNT", "How many exchanges, 0 to 4000"),
+        "COUNT",
+        "How many exchanges, 0 to 4000",
     )
 }
 
@@ -146,25 +150,48 @@ fn top_command<'a>(alloc: Global) -> Command<'a>
         .subcommand_required(true)
 }
 
+/// The program's own level with the flag of help.
+fn with_help<'a>(alloc: Global) -> Result<Command<'a>, AllocError>
+    ensures app { IfOk result (λ c. app_of c ≡ with_rule top_level (flag_rule (codes "help") Help)) }
+{
+    top_command(alloc).arg(flag(
+        alloc,
+        "help",
+        ArgAction::Help,
+        "Writes this text; stands alone",
+    ))
+}
+
+/// The program's own level with its flags.
+fn with_flags<'a>(alloc: Global) -> Result<Command<'a>, AllocError>
+    ensures app { IfOk result (λ c. app_of c ≡ flags) }
+{
+    with_help(alloc)?.arg(flag(
+        alloc,
+        "version",
+        ArgAction::Version,
+        "Writes the version; stands alone",
+    ))
+}
+
+/// A level with one command more, where that could be made.
+fn with_command<'a>(
+    level: Command<'a>,
+    made: Result<Command<'a>, AllocError>,
+) -> Result<Command<'a>, AllocError>
+    requires { IfOk made (λ c. (out-Command c).has_globals ≡ false) }
+    ensures app { (shape : App) → IfOk made.entry (λ c. app_of c ≡ shape) → IfOk result (λ c. app_of c ≡ with_subcommand (app_of level.entry) shape.top) }
+{
+    level.subcommand(made?)
+}
+
 /// The program's flags and commands.
 pub fn command<'a>(alloc: Global) -> Result<Command<'a>, AllocError>
     ensures { IfOk result (λ c. app_of c ≡ parser) }
 {
-    top_command(alloc)
-        .arg(flag(
-            alloc,
-            "help",
-            ArgAction::Help,
-            "Writes this text; stands alone",
-        ))?
-        .arg(flag(
-            alloc,
-            "version",
-            ArgAction::Version,
-            "Writes the version; stands alone",
-        ))?
-        .subcommand(check_command(alloc)?)?
-        .subcommand(replay_command(alloc)?)?
-        .subcommand(serve_command(alloc)?)?
-        .subcommand(drill_command(alloc)?)
+    let flags = with_flags(alloc)?;
+    let check = with_command(flags, check_command(alloc))?;
+    let replay = with_command(check, replay_command(alloc))?;
+    let serve = with_command(replay, serve_command(alloc))?;
+    with_command(serve, drill_command(alloc))
 }

@@ -69,45 +69,70 @@ Byte P is the first one of the refused line, counted from 0. KIND tells what mus
 Lines end with a line feed, and numbers have no zeros in front.
 ";
 
+/// Puts the help of a command behind a text.
+fn push_rendered(text: &mut Bytes, command: &mut Command<'_>) -> Result<(), OutOfMemory> {
+    text.push(command.render_help()?.as_bytes())
+}
+
+/// Puts the help of a command behind a text, under this name.
+fn push_named(text: &mut Bytes, command: Command<'_>, name: &str) -> Result<(), OutOfMemory> {
+    push_rendered(text, &mut command.bin_name(name)?)
+}
+
 /// Puts the help of one command behind the others, and what is said of it behind that.
 fn push_help(
     text: &mut Bytes,
-    mut command: Command<'_>,
+    command: Command<'_>,
     name: &str,
     rest: &[u8],
 ) -> Result<(), OutOfMemory> {
     text.push(b"\n")?;
-    text.push(command.bin_name(name)?.render_help()?.as_bytes())?;
+    push_named(text, command, name)?;
     text.push(rest)
+}
+
+/// Puts the help of each command behind a text, and the rest of help behind that.
+fn push_commands(alloc: Global, text: &mut Bytes) -> Result<(), OutOfMemory> {
+    push_help(text, check_command(alloc)?, "htx_proxy check", CHECK)?;
+    push_help(text, replay_command(alloc)?, "htx_proxy replay", REPLAY)?;
+    push_help(text, serve_command(alloc)?, "htx_proxy serve", SERVE)?;
+    push_help(text, drill_command(alloc)?, "htx_proxy drill", DRILL)?;
+    text.push(REST)
+}
+
+/// The help of a command.
+fn rendered(alloc: Global, command: &mut Command<'_>) -> Result<Bytes, OutOfMemory> {
+    Bytes::copy(alloc, command.render_help()?.as_bytes())
 }
 
 /// The text of `--help`.
 pub fn help_text(alloc: Global) -> Result<Bytes, OutOfMemory> {
-    let mut text = Bytes::copy(alloc, command(alloc)?.render_help()?.as_bytes())?;
-    push_help(&mut text, check_command(alloc)?, "htx_proxy check", CHECK)?;
-    push_help(
-        &mut text,
-        replay_command(alloc)?,
-        "htx_proxy replay",
-        REPLAY,
-    )?;
-    push_help(&mut text, serve_command(alloc)?, "htx_proxy serve", SERVE)?;
-    push_help(&mut text, drill_command(alloc)?, "htx_proxy drill", DRILL)?;
-    text.push(REST)?;
+    let mut text = rendered(alloc, &mut command(alloc)?)?;
+    push_commands(alloc, &mut text)?;
     Ok(text)
+}
+
+/// The version of a command.
+fn version_of(alloc: Global, command: &Command<'_>) -> Result<Bytes, OutOfMemory> {
+    Bytes::copy(alloc, command.render_version()?.as_bytes())
 }
 
 /// The text of `--version`.
 pub fn version_text(alloc: Global) -> Result<Bytes, OutOfMemory> {
-    Bytes::copy(alloc, command(alloc)?.render_version()?.as_bytes())
+    version_of(alloc, &command(alloc)?)
+}
+
+/// Puts what is wrong behind a text, and the help behind that.
+fn push_reason(alloc: Global, reason: &str, text: &mut Bytes) -> Result<(), OutOfMemory> {
+    text.push(reason.as_bytes())?;
+    text.push(b"\n\n")?;
+    text.push(help_text(alloc)?.as_slice())
 }
 
 /// What is wrong, in front of the help.
 fn reason_and_help(alloc: Global, reason: &str) -> Result<Bytes, OutOfMemory> {
     let mut text = Bytes::copy(alloc, b"error: ")?;
-    text.push(reason.as_bytes())?;
-    text.push(b"\n\n")?;
-    text.push(help_text(alloc)?.as_slice())?;
+    push_reason(alloc, reason, &mut text)?;
     Ok(text)
 }
 
