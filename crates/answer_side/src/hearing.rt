@@ -1,5 +1,5 @@
 //! What reading heads of a server comes to, and what a head in an array says of itself.
-ghost use Rattle.std.specs.Prelude.{◌≡◌, ℕ, List, take, codes};
+ghost use Rattle.std.specs.Prelude.{◌≡◌, take, codes};
 ghost use Rattle.std.specs.Str.{bytes_eq};
 ghost use Rattle.http_model.specs.Head.{Head, head_blocks};
 ghost use Rattle.session_model.specs.Meaning.{is_interim};

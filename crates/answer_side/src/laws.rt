@@ -10,7 +10,6 @@ ghost use Rattle.http_rules.specs.declared.config.Config.{Config};
 ghost use Rattle.proxy_meaning.specs.Product.{meaning_of};
 ghost use Rattle.session_core.specs.Lanes.{IsTotalAnswers};
 ghost use Rattle.session_core.specs.Sided.{Sided, AnswersSo, IsBefore};
-ghost use Rattle.lane.specs.Answering.{has_begun};
 ghost use Rattle.answer_side.specs.Seen.{seen, place_of};
 ghost use Rattle.answer_side.specs.Stands.{AnswerStands, is_serving, list_text};
 ghost use Rattle.answer_side.specs.declared.side.AnswerSide.{AnswerSide};

@@ -1,5 +1,5 @@
 //! The direction in which a session answers its client.
-ghost use Rattle.std.specs.Prelude.{◌≡◌, ◌≤◌, ◌++◌, ◌+◌, ℕ, List, [], length, drop, true, false, IfOk};
+ghost use Rattle.std.specs.Prelude.{◌≡◌, ◌≤◌, ◌+◌, ℕ, List, [], length, drop, true, false, IfOk};
 ghost use Rattle.http_model.specs.Sizes.{least_size, most_size, least_head};
 ghost use Rattle.body_filter.specs.Valid.{AreFilters};
 ghost use Rattle.px_sample.specs.Variables.{Variables};
@@ -214,5 +214,24 @@ impl AnswerSide {
         self.place = Place::Idle;
         self.heard = false;
         self.at_rest = false;
+    }
+
+    /// As a new one, in the same memory, for the same configuration.
+    pub fn renew(&mut self)
+        requires sound { IsSoundSide self.old }
+        ensures stands { (cfg : Config) (asked : Asking Variables) (came : Coming) (sent : List ℕ) (before : Variables) (said : List ℕ) → AnswerStands cfg self.old asked came sent before said
+            → (asking : Asking Variables) (server : Coming) (now : Variables) (saying : List ℕ) → IsAsker (asker_of self.new) (asker_in asking) → AnswerStands cfg self.new asking server [] now saying }
+        ensures nobody { ((asker_of self.new).head_asked ≡ false) × ((asker_of self.new).is_http_11 ≡ false) × ((asker_of self.new).keep ≡ false) }
+        ensures place { place_of self.new ≡ place.Idle }
+        ensures sound { IsSoundSide self.new }
+        ensures size { size_of self.new ≡ size_of self.old }
+        ensures window { (seen self.new).window ≡ [] }
+    {
+        self.lane.renew();
+        self.asker = nobody();
+        self.place = Place::Idle;
+        self.open = true;
+        self.heard = false;
+        self.at_rest = true;
     }
 }

@@ -185,6 +185,7 @@ pub fn run_session<C: Machine, L: Link, N: Net<Link = L>, T: Turns>(
 ) -> Result<Ran, SessionFault>
     requires serving { (C.seen core.old).serving ≡ false }
     requires sound { C.sound core.old }
+    ensures sound { OnOk result (C.sound core.new) }
     ensures ran { (cfg : C.Settings) → C.stands cfg core.old nothing_yet → IfOk result (λ ran. RanSo (C.meaning cfg) (C.stands cfg core.new) L.seen L.wrote client.old client.new (address_of to.now) (N.seen net.old) (N.seen net.new) ran) }
     ensures gave_up { (cfg : C.Settings) → C.stands cfg core.old nothing_yet → IfErr result (λ fault. GaveUp (C.meaning cfg) (C.stands cfg) core.new (C.seen core.new).lost L.seen L.wrote client.old client.new (address_of to.now) (N.seen net.old) (N.seen net.new) budget fault) }
     ensures in_turns { (cfg : C.Settings) → C.stands cfg core.old nothing_yet → IfOk result (λ ran. (so : RanSo (C.meaning cfg) (C.stands cfg core.new) L.seen L.wrote client.old client.new (address_of to.now) (N.seen net.old) (N.seen net.new) ran)

@@ -275,4 +275,22 @@ impl ResponseLane {
         self.phase = Phase::Heads;
         self.begun = false;
     }
+
+    /// As a new one, in the same memory: what came is gone, and so is what waits to go. Bodies go through the same filters.
+    pub fn renew(&mut self)
+        requires sound { IsSoundAnswer self.old }
+        ensures fresh { (asked : Bool) → Answers self.new (fresh asked) }
+        ensures reading { stage_of self.new ≡ stage.Reading }
+        ensures open { IsOpen self.new }
+        ensures output { output_of self.new ≡ [] }
+        ensures begun { has_begun self.new ≡ false }
+        ensures limits { limits_of self.new ≡ limits_of self.old }
+        ensures filters { (filters : List FilterSpec) → HasFilters self.old filters → HasFilters self.new filters }
+        ensures sound { IsSoundAnswer self.new }
+    {
+        self.lane.new_stream();
+        self.lane.clear_output();
+        self.phase = Phase::Heads;
+        self.begun = false;
+    }
 }

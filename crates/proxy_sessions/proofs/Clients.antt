@@ -1,5 +1,5 @@
 -- What the driver did with a client is what its configuration makes of it.
-use Rattle.std.proofs.Common.{◌≡◌, ◌⊎◌, inl, inr, List, Option, Some, subst}
+use Rattle.std.proofs.Common.{◌≡◌, inl, inr, List, Option, Some, subst}
 use Rattle.std.specs.Prelude.{Result, Ok, Err, ℕ}
 use Rattle.http_model.specs.declared.Ending.{Ending}
 use Rattle.session_model.specs.Meaning.{Meaning}

@@ -1,5 +1,5 @@
 -- A core to which nothing has happened serves nobody.
-use Rattle.std.proofs.Common.{◌≡◌, ℕ, List, [], ◌∷◌, ◌++◌, Option, Bool, true, false, refl, sym, ◌∙◌, arith}
+use Rattle.std.proofs.Common.{◌≡◌, ℕ, List, [], ◌∷◌, ◌++◌, Option, Bool, false, refl, sym, ◌∙◌, arith}
 use Rattle.session_model.specs.Meaning.{Meaning}
 use Rattle.session_core.specs.History.{Connect, nothing_yet}
 use Rattle.session_core.specs.Sided.{Sided, RequestSeen, AnswerSeen}

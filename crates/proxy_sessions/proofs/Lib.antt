@@ -1,2 +1,3 @@
 mod Idle
 mod Clients
+mod Spare

@@ -2,11 +2,14 @@
 ghost use Rattle.std.specs.Prelude.{◌≡◌, ◌≤◌, IfOk, false};
 ghost use Rattle.http_rules.specs.Valid.{IsValid};
 ghost use Rattle.proxy_meaning.specs.Product.{meaning_of};
-ghost use Rattle.session_core.specs.History.{nothing_yet};
+ghost use Rattle.session_core.specs.History.{Past, nothing_yet};
 ghost use Rattle.session_core.specs.Leads.{Stands};
 ghost use Rattle.session_core.specs.Place.{IsPlaced};
+ghost use Rattle.session_core.specs.Place as place;
 ghost use Rattle.session_core.specs.Waits.{is_serving};
 ghost use Rattle.session_sides.specs.Joined.{DirectionsStand, Placed, request_of, answer_of};
+ghost use Rattle.http_rules.specs.declared.config.Config.{Config};
+ghost use Rattle.proxy_sessions.specs.Spare.{IsNew};
 
 use http_model::OutOfMemory;
 use http_rules::Config;
@@ -19,6 +22,16 @@ use std::marker::Model;
 
 /// The core of a session under a configuration.
 pub(crate) type ConfigCore<'c> = Core<Directions<'c>>;
+
+/// A core over directions to which nothing has happened.
+fn core_of<'c>(directions: Directions<'c>) -> ConfigCore<'c>
+    requires placed { Placed directions place.Reads }
+    ensures stands { (cfg : Config) → IsNew cfg directions.entry → Stands (meaning_of cfg) request_of answer_of (DirectionsStand cfg) result.sides result.at nothing_yet }
+    ensures placed { IsPlaced (Placed result.sides) (answer_of result.sides) result.at.phase result.at.cut }
+    ensures idle { (cfg : Config) → IsNew cfg directions.entry → is_serving result.at.phase ≡ false }
+{
+    Core::new(directions)
+}
 
 /// A core to which nothing has happened, with output windows of this size.
 fn open_core<'c>(
@@ -33,7 +46,18 @@ fn open_core<'c>(
     ensures idle { IfOk result (λ core. is_serving core.at.phase ≡ false) }
 {
     let directions = Directions::new(alloc, config, window)?;
-    Ok(Core::new(directions))
+    Ok(core_of(directions))
+}
+
+/// The directions of a core whose session is over, as new ones.
+fn renewed<'c>(core: ConfigCore<'c>) -> Directions<'c>
+    requires placed { IsPlaced (Placed core.sides) (answer_of core.sides) core.at.phase core.at.cut }
+    ensures placed { Placed result place.Reads }
+    ensures new { (cfg : Config) (past : Past) → Stands (meaning_of cfg) request_of answer_of (DirectionsStand cfg) core.entry.sides core.entry.at past → IsNew cfg result }
+{
+    let mut directions = core.sides;
+    directions.renew();
+    directions
 }
 
 /// Makes the cores of the sessions of a record.
@@ -66,28 +90,51 @@ impl<'c> Cores<ConfigCore<'c>> for RecordCores<'c> {
     ghost is_total = { λ cores ready. ready.total };
 }
 
-/// Makes the cores of the sessions of clients.
+/// Makes the cores of the sessions of clients. A session that came to its end leaves its memory to the next.
 #[derive(Drop)]
 pub(crate) struct ClientCores<'c> {
-    pub(crate) alloc: Global,
-    pub(crate) config: &'c Config,
+    alloc: Global,
+    config: &'c Config,
+    /// Directions to which nothing has happened, made of those of an earlier session.
+    spare: Option<Directions<'c>>,
 }
 
 impl<'c> Model for ClientCores<'c> {
     ghost use Rattle.http_rules.specs.declared.config.Config.{Config};
     ghost use Rattle.http_rules.specs.Valid.{IsValid};
+    ghost use Rattle.proxy_sessions.specs.Spare.{IsSpare};
 
     ghost Value = { Config };
 
     ghost view = { λ cores. cores.config.now };
 
-    ghost invariant = { λ cores. IsValid cores.config.now };
+    ghost invariant = { λ cores. IsValid cores.config.now × IsSpare cores.config.now cores.spare };
+}
+
+impl<'c> ClientCores<'c> {
+    pub(crate) fn new(alloc: Global, config: &'c Config) -> ClientCores<'c>
+        requires { IsValid config.now }
+        ensures { result ≡ config.now }
+    {
+        ClientCores {
+            alloc,
+            config,
+            spare: None,
+        }
+    }
 }
 
 impl<'c> Opens<ConfigCore<'c>> for ClientCores<'c> {
     ghost settings = { λ cores. cores };
 
     fn open(&mut self) -> Result<ConfigCore<'c>, OutOfMemory> {
-        open_core(self.alloc, self.config, self.config.limits.bufsize)
+        match self.spare.take() {
+            Some(directions) => Ok(core_of(directions)),
+            None => open_core(self.alloc, self.config, self.config.limits.bufsize),
+        }
+    }
+
+    fn keep(&mut self, core: ConfigCore<'c>) {
+        drop(self.spare.replace(renewed(core)));
     }
 }

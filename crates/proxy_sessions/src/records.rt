@@ -1,5 +1,5 @@
 //! The sessions of a record, and a generated one.
-ghost use Rattle.std.specs.Prelude.{◌≡◌, ◌≤◌, length, vec_len, IfOk};
+ghost use Rattle.std.specs.Prelude.{◌≤◌, vec_len, IfOk};
 ghost use Rattle.http_rules.specs.Valid.{IsValid};
 ghost use Rattle.proxy_meaning.specs.Product.{meaning_of};
 ghost use Rattle.rec_format.specs.Read as read;

@@ -18,22 +18,32 @@ use serve_run::{Driven, Ran, ServeFault, SessionFault, Sessions, serve};
 use std::alloc::Global;
 use std::marker::Model;
 
-/// Sessions of one configuration.
+/// Sessions of one configuration, one after another in the same memory.
 #[derive(Drop)]
 struct ConfigSessions<'c> {
-    alloc: Global,
-    config: &'c Config,
+    driven: Driven<'c, ConfigCore<'c>, ClientCores<'c>>,
 }
 
 impl<'c> Model for ConfigSessions<'c> {
+    ghost use Rattle.std.specs.Prelude.{◌≡◌};
     ghost use Rattle.http_rules.specs.declared.config.Config.{Config};
-    ghost use Rattle.http_rules.specs.Valid.{IsValid};
 
     ghost Value = { Config };
 
-    ghost view = { λ s. s.config.now };
+    ghost view = { λ s. s.driven.opener };
 
-    ghost invariant = { λ s. IsValid s.config.now };
+    ghost invariant = { λ s. s.driven.to.now ≡ s.driven.opener.server };
+}
+
+impl<'c> ConfigSessions<'c> {
+    fn new(alloc: Global, config: &'c Config) -> ConfigSessions<'c>
+        requires { IsValid config.now }
+        ensures { result ≡ config.now }
+    {
+        ConfigSessions {
+            driven: Driven::new(ClientCores::new(alloc, config), &config.server),
+        }
+    }
 }
 
 impl<'c, N: Net> Sessions<N> for ConfigSessions<'c> {
@@ -51,15 +61,7 @@ impl<'c, N: Net> Sessions<N> for ConfigSessions<'c> {
 
     fn run(&mut self, client: &mut N::Link, net: &mut N) -> Result<Ran, SessionFault> {
         ran_is_the_session::<ConfigCore<'c>, N::Link, N>();
-        let cores = ClientCores {
-            alloc: self.alloc,
-            config: self.config,
-        };
-        let mut driven: Driven<'_, ConfigCore<'c>, ClientCores<'c>> = Driven::new(
-            cores,
-            &self.config.server,
-        );
-        driven.run(client, net)
+        self.driven.run(client, net)
     }
 }
 
@@ -91,6 +93,8 @@ pub fn serve_clients<N: Net, K: Sink>(
     ensures lent { (N.seen net.new).lent ≡ (N.seen net.old).lent }
     ensures complete { (Rose (N.seen net.old).bind_faults (N.seen net.new).bind_faults → ⊥) → (Rose (K.faults out.old) (K.faults out.new) → ⊥) → IsOkUnless result ServeFault.OutOfMemory }
 {
-    let mut sessions = ConfigSessions { alloc, config };
-    serve(alloc, &config.bind, count, &mut sessions, net, out)
+    let mut sessions = ConfigSessions::new(alloc, config);
+    let served = serve(alloc, &config.bind, count, &mut sessions, net, out);
+    drop(sessions);
+    served
 }

@@ -11,7 +11,7 @@ use Rattle.session_model.specs.Meaning.{Meaning}
 use Rattle.session_model.specs.Asking.{Asks, Sends, asked_by}
 use Rattle.session_model.specs.Env.{request_env}
 use Rattle.session_core.specs.History.{Coming, Continues, IsPrefix}
-use Rattle.session_core.specs.Sided.{Asking, Reply, Perhaps, BodyGoes, RequestGoes, SourceIs, forwarded_to, request_to}
+use Rattle.session_core.specs.Sided.{Asking, Reply, BodyGoes, RequestGoes, SourceIs, forwarded_to, request_to}
 use Rattle.session_core.specs.declared.Source.TheVariants as source
 use Rattle.session_core.proofs.Heads.{HeadAsks, head_asks, sends_head}
 use Rattle.px_sample.specs.Variables.{Variables}
@@ -21,12 +21,12 @@ use Rattle.body_filter.specs.declared.filter_spec.FilterSpec.{FilterSpec}
 use Rattle.h1_body.specs.BodyOf.{BodyRead, Reads, IsBodyOf, BodyOf}
 use Rattle.lane_core.specs.Sent.{Sent, IsFrontOf, SpellsAs}
 use Rattle.lane_core.specs.Sends.{Past, put_out}
-use Rattle.lane_core.specs.Promise.{Promise, HasBody, BodyTaken, body_sent, finish_of, filter_of, IsCutWith, IsWholeWith}
+use Rattle.lane_core.specs.Promise.{Promise, BodyTaken, body_sent, finish_of, filter_of, IsCutWith, IsWholeWith}
 use Rattle.lane_core.specs.declared.stage.Stage.{Stage}
 use Rattle.lane_core.specs.declared.stage.Stage.TheVariants as stage
 use Rattle.lane_core.specs.declared.stage.Source.{Source as LaneSource}
 use Rattle.lane_core.specs.declared.stage.Source.TheVariants as came
-use Rattle.lane.specs.Asking.{stage_of, source_of, input_of, ended_of, output_of, is_dropping, limits_of}
+use Rattle.lane.specs.Asking.{stage_of, source_of, input_of, ended_of, is_dropping}
 use Rattle.lane.specs.Asking as asking
 use Rattle.lane.specs.declared.request_lane.RequestLane.{RequestLane}
 use Rattle.request_side.specs.Seen.{source_by, source_at, is_done, sent_at}

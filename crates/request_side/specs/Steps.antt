@@ -1,10 +1,8 @@
 -- What the calls of the request direction come to.
-use Rattle.std.specs.Prelude.{◌≡◌, ◌≢◌, ℕ, List, ◌++◌, true, false, not, ◌&&◌, None}
+use Rattle.std.specs.Prelude.{◌≡◌, ◌≢◌, ℕ, List, ◌++◌, not, ◌&&◌, None}
 use Rattle.session_model.specs.Stream.{Stream}
 use Rattle.session_core.specs.History.{Coming, Continues, prepend, prepended}
-use Rattle.session_core.specs.Sided.{Asking, Reply, Perhaps, RequestGoes, request_to}
-use Rattle.session_core.specs.declared.Source.{Source}
-use Rattle.session_core.specs.declared.Source.TheVariants as source
+use Rattle.session_core.specs.Sided.{Asking, Reply, RequestGoes, request_to}
 use Rattle.px_sample.specs.Variables.{Variables}
 use Rattle.http_rules.specs.declared.config.Config.{Config}
 use Rattle.proxy_meaning.specs.Product.{meaning_of}

@@ -1,12 +1,11 @@
 //! What is kept of a request's head as it was received, while rules edit the one that stands in the array.
-ghost use Rattle.std.specs.Prelude.{◌≡◌, ◌<◌, ℕ, List, length, codes, not, ◌&&◌};
+ghost use Rattle.std.specs.Prelude.{◌≡◌, ◌<◌, ℕ, List, length, ◌&&◌};
 ghost use Rattle.std.specs.List.{list_any};
-ghost use Rattle.http_model.specs.Head.{Field, head_blocks, RequestLine};
+ghost use Rattle.http_model.specs.Head.{head_blocks, RequestLine};
 ghost use Rattle.http_model.specs.Reading.{Received};
 ghost use Rattle.session_model.specs.Meaning.{is_bodiless};
 ghost use Rattle.htx_arena.specs.Blocks.{block_at};
 ghost use Rattle.htx_view.specs.Lines.{request_in};
-ghost use Rattle.header_ops.specs.Headers.{is_header_named};
 ghost use Rattle.request_side.specs.Kept.{is_head_line, is_11_line, is_expectation, IsKept};
 
 use header_ops::has_named;

@@ -1,5 +1,5 @@
 //! The request direction of a session, and its events and work.
-ghost use Rattle.std.specs.Prelude.{◌≡◌, ◌≢◌, ◌≤◌, ◌+◌, ℕ, List, [], ◌++◌, true, false, not, drop, length, IfOk};
+ghost use Rattle.std.specs.Prelude.{◌≡◌, ◌≢◌, ◌≤◌, ◌+◌, ℕ, List, [], ◌++◌, true, false, drop, length, IfOk};
 ghost use Rattle.http_model.specs.Head.{Head, head_blocks};
 ghost use Rattle.http_model.specs.Sizes.{least_size, most_size, least_head};
 ghost use Rattle.htx_model.specs.Block.{Block};
@@ -7,11 +7,10 @@ ghost use Rattle.body_filter.specs.Valid.{AreFilters};
 ghost use Rattle.px_sample.specs.Variables.{Variables};
 ghost use Rattle.http_rules.specs.declared.config.Config.{Config};
 ghost use Rattle.session_core.specs.History.{Coming, no_stream, gains, ends};
-ghost use Rattle.session_core.specs.Sided.{Asking, Reply, HoldsList};
+ghost use Rattle.session_core.specs.Sided.{Asking, Reply};
 ghost use Rattle.session_core.specs.Leads.{KeepsRequest};
-ghost use Rattle.session_core.specs.Waits.{is_empty};
 ghost use Rattle.session_core.specs.declared.Source.TheVariants as source;
-ghost use Rattle.lane.specs.Asking.{stage_of, array_of, blocks_of, framing_of, declared_of, close_of};
+ghost use Rattle.lane.specs.Asking.{stage_of, blocks_of};
 ghost use Rattle.lane_core.specs.declared.stage.Stage.TheVariants as stage;
 
 mod views;
@@ -37,7 +36,7 @@ pub struct RequestSide {
     at_rest: bool,
 }
 
-ghost use Rattle.request_side.specs.Seen.{seen, list_of, limits_of, input_size_of, place_of, is_open, room_of, window_of, source_by};
+ghost use Rattle.request_side.specs.Seen.{seen, list_of, limits_of, input_size_of, place_of, is_open, room_of, window_of};
 ghost use Rattle.request_side.specs.Stands.{IsSound, RequestStands, Leads};
 ghost use Rattle.request_side.specs.Steps.{Puts, ReadsNext};
 ghost use Rattle.request_side.specs.Reads.{HeadTells, UsesBytes, HasHead, SendsOn, RepliesTo};
@@ -249,5 +248,20 @@ impl RequestSide {
         }
         self.lane.next();
         self.place = Place::Reading;
+    }
+
+    /// As a new one, in the same memory, for the same configuration.
+    pub fn renew(&mut self)
+        requires { IsSound self.old }
+        ensures sound { IsSound self.new }
+        ensures limits { limits_of self.new ≡ limits_of self.old }
+        ensures stands { (cfg : Config) (before : Variables) (came : Coming) (asked : Asking Variables) (sent : List ℕ) (replied : Reply Variables) → RequestStands cfg self.old before came asked sent replied
+            → (vars : Variables) (asking : Asking Variables) (to_server : List ℕ) (reply : Reply Variables) → RequestStands cfg self.new vars no_stream asking to_server reply }
+        ensures fresh { (place_of self.new ≡ place.Reading) × (is_open self.new ≡ true) × (window_of self.new ≡ []) }
+    {
+        self.lane.renew();
+        self.place = Place::Reading;
+        self.awaits = false;
+        self.at_rest = false;
     }
 }

@@ -1,6 +1,6 @@
 //! Sessions that the driver runs, each over a core of its own.
-ghost use Rattle.std.specs.Prelude.{◌≡◌, ◌^◌, [], false, IfOk};
-ghost use Rattle.session_core.specs.History.{nothing_yet};
+ghost use Rattle.std.specs.Prelude.{◌≡◌, [], false, IfOk, OnOk};
+ghost use Rattle.session_core.specs.History.{Past, nothing_yet};
 ghost use Rattle.px_link.specs.Net.{address_of};
 ghost use Rattle.serve_run.specs.Drove.{Drove};
 
@@ -9,7 +9,7 @@ use htx_drive::{Machine, run_session};
 use px_link::{Address, Close, Link, Net, OutOfMemory, Turn, Turns};
 use std::marker::PhantomData;
 
-/// Makes a core for each connection.
+/// Makes a core for each connection, and takes it back where its session came to its end.
 pub trait Opens<C: Machine> {
     /// The configuration of the cores.
     ghost settings: { Self → C.Settings };
@@ -19,6 +19,12 @@ pub trait Opens<C: Machine> {
         ensures stands { IfOk result (λ core. C.stands (settings self.old) core nothing_yet) }
         ensures idle { IfOk result (λ core. (C.seen core).serving ≡ false) }
         ensures sound { IfOk result (λ core. C.sound core) }
+        ensures settings { settings self.new ≡ settings self.old };
+
+    /// Takes back a core whose session is over. The next one may have its memory, and nothing else of it.
+    fn keep(&mut self, core: C)
+        requires sound { C.sound core }
+        requires stands { (past : Past) × C.stands (settings self.old) core past }
         ensures settings { settings self.new ≡ settings self.old };
 }
 
@@ -62,19 +68,44 @@ impl Turns for NoTurns {
 }
 
 /// Runs the session of a core to which nothing has happened yet.
-fn drive<C: Machine + Drop, N: Net>(
+fn drive<C: Machine, N: Net>(
+    core: &mut C,
+    to: &Address,
+    client: &mut N::Link,
+    net: &mut N,
+) -> Result<Ran, SessionFault>
+    requires idle { (C.seen core.old).serving ≡ false }
+    requires sound { C.sound core.old }
+    ensures drove { (cfg : C.Settings) → C.stands cfg core.old nothing_yet
+        → Drove C.meaning C.stands C.seen N.Link.seen N.Link.wrote cfg (address_of to.now) client.old client.new (N.seen net.old) (N.seen net.new) result }
+    ensures sound { OnOk result (C.sound core.new) }
+    ensures stands { OnOk result ((cfg : C.Settings) → C.stands cfg core.old nothing_yet → (past : Past) × C.stands cfg core.new past) }
+{
+    run_session(core, to, client, net, &mut NoTurns, BUDGET)
+}
+
+/// The same, and gives the core back to its opener where the session came to its end.
+fn drive_and_keep<C: Machine + Drop, N: Net, O: Opens<C>>(
+    opener: &mut O,
     core: C,
     to: &Address,
     client: &mut N::Link,
     net: &mut N,
 ) -> Result<Ran, SessionFault>
+    requires stands { C.stands (O.settings opener.old) core nothing_yet }
     requires idle { (C.seen core).serving ≡ false }
     requires sound { C.sound core }
-    ensures { (cfg : C.Settings) → C.stands cfg core nothing_yet
-        → Drove C.meaning C.stands C.seen N.Link.seen N.Link.wrote cfg (address_of to.now) client.old client.new (N.seen net.old) (N.seen net.new) result }
+    ensures drove { Drove C.meaning C.stands C.seen N.Link.seen N.Link.wrote (O.settings opener.old) (address_of to.now) client.old client.new (N.seen net.old) (N.seen net.new) result }
+    ensures settings { O.settings opener.new ≡ O.settings opener.old }
 {
     let mut running = core;
-    run_session(&mut running, to, client, net, &mut NoTurns, BUDGET)
+    match drive(&mut running, to, client, net) {
+        Ok(ran) => {
+            opener.keep(running);
+            Ok(ran)
+        }
+        Err(fault) => Err(fault),
+    }
 }
 
 impl<'a, N: Net, C: Machine + Drop, O: Opens<C>> Sessions<N> for Driven<'a, C, O> {
@@ -89,7 +120,7 @@ impl<'a, N: Net, C: Machine + Drop, O: Opens<C>> Sessions<N> for Driven<'a, C, O
 
     fn run(&mut self, client: &mut N::Link, net: &mut N) -> Result<Ran, SessionFault> {
         match self.opener.open() {
-            Ok(core) => drive(core, self.to, client, net),
+            Ok(core) => drive_and_keep(&mut self.opener, core, self.to, client, net),
             Err(OutOfMemory) => {
                 client.close(Close::Failed);
                 Err(SessionFault::OutOfMemory)

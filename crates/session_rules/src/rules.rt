@@ -1,8 +1,8 @@
 //! The rules of a session on the heads of its messages, and the lives of its variables.
 ghost use Rattle.std.specs.Prelude.{◌≡◌, [], false, true, List, ℕ, IfOk, IsOk};
 ghost use Rattle.http_model.specs.Head.{Head, head_blocks, front_blocks};
-ghost use Rattle.session_model.specs.Env.{Env, request_env, response_env};
-ghost use Rattle.px_sample.specs.Variables.{Variables, no_variables};
+ghost use Rattle.session_model.specs.Env.{request_env, response_env};
+ghost use Rattle.px_sample.specs.Variables.{no_variables};
 ghost use Rattle.rule_actions.specs.declared.side.Side.TheVariants as sides;
 ghost use Rattle.http_rules.specs.Lives.{renewed, answering};
 ghost use Rattle.http_rules.specs.Run.{IsHead, Leaves};
@@ -15,6 +15,7 @@ use http_rules::{
     run_request, run_response,
 };
 use htx_arena::Arena;
+use px_sample::Scope;
 use std::alloc::Global;
 
 /// The rules of a configuration in one session.
@@ -60,6 +61,19 @@ impl<'c> SessionRules<'c> {
             searchers: Searchers::new(alloc),
             scratch: Scratch::new(alloc, config.limits.bufsize)?,
         })
+    }
+
+    /// As new ones, in the same memory and with the searchers that were made: no variable is set, nothing is said.
+    pub fn renew(&mut self)
+        requires ready { IsReady self.old }
+        ensures ready { IsReady self.new }
+        ensures config { config_of self.new ≡ config_of self.old }
+        ensures vars { self.new.vars ≡ no_variables }
+        ensures said { self.new.said.blocks ≡ [] }
+    {
+        self.begin_exchange();
+        self.vars.clear(Scope::Sess);
+        self.said.clear();
     }
 
     /// The configuration.

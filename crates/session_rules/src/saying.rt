@@ -1,5 +1,5 @@
 //! What a client is sent in place of a server's answer, behind the rules that run on all that it is sent.
-ghost use Rattle.std.specs.Prelude.{◌≡◌, [], false, true, IfOk, IsOk};
+ghost use Rattle.std.specs.Prelude.{◌≡◌, false, true, IfOk, IsOk};
 ghost use Rattle.http_model.specs.Head.{Message, message_blocks};
 ghost use Rattle.http_model.specs.Refusal.{refusal, closing};
 ghost use Rattle.session_model.specs.Amending.{refusal_sent, plain_refusal};

@@ -1,5 +1,5 @@
 -- Directions to which nothing has happened.
-use Rattle.std.proofs.Common.{◌≡◌, ℕ, List, [], Bool, true, false, None, refl, sym, ap, ◌∙◌, subst}
+use Rattle.std.proofs.Common.{◌≡◌, [], true, false, None, refl, sym, ap, ◌∙◌, subst}
 use Rattle.http_model.specs.Head.{Head, Message, RequestLine}
 use Rattle.http_model.specs.Reading.{Received}
 use Rattle.http_model.specs.declared.Framing.TheVariants.{Absent}
@@ -22,7 +22,7 @@ use Rattle.answer_side.specs.Seen as answers
 use Rattle.answer_side.specs.Stands.{IsSoundSide, AnswerStands, IsAsker}
 use Rattle.answer_side.specs.declared.place.Place.TheVariants as answered
 use Rattle.answer_side.specs.declared.asker.Asker.{Asker}
-use Rattle.session_sides.specs.Joined.{IsSoundPair, IsAt, Placed, Holds, KeepsMethod, DirectionsStand, settings_of, request_of, answer_of}
+use Rattle.session_sides.specs.Joined.{IsAt, Holds, KeepsMethod, DirectionsStand, settings_of, request_of, answer_of}
 use Rattle.session_sides.specs.declared.directions.Directions.{Directions}
 
 abbrev pub no_head : Head

@@ -1,5 +1,5 @@
 -- What keeps the two directions standing together where one of them goes on.
-use Rattle.std.proofs.Common.{◌≡◌, ℕ, List, [], ◌++◌, Bool, true, false, refl, sym, ap, ◌∙◌, subst}
+use Rattle.std.proofs.Common.{◌≡◌, ℕ, List, true, false, sym, ap, ◌∙◌, subst}
 use Rattle.px_sample.specs.Variables.{Variables}
 use Rattle.http_rules.specs.declared.config.Config.{Config}
 use Rattle.http_rules.specs.Lives.{answering}
@@ -20,7 +20,7 @@ use Rattle.answer_side.specs.Stepping.{VarsAt}
 use Rattle.answer_side.specs.declared.place.Place.{Place as Answered}
 use Rattle.answer_side.specs.declared.place.Place.TheVariants as answered
 use Rattle.answer_side.specs.declared.side.AnswerSide.{AnswerSide}
-use Rattle.session_sides.specs.Joined.{IsSoundPair, StandAt, IsAt, Placed, Holds, KeepsMethod, DirectionsStand, settings_of}
+use Rattle.session_sides.specs.Joined.{IsSoundPair, StandAt, IsAt, Placed, Holds, KeepsMethod, DirectionsStand}
 use Rattle.session_sides.specs.declared.directions.Directions.{Directions}
 
 -- ---- where they stand

@@ -8,8 +8,8 @@ use Rattle.px_sample.specs.Variables.{Variables}
 use Rattle.http_rules.specs.declared.config.Config.{Config}
 use Rattle.http_rules.specs.Lives.{answering}
 use Rattle.proxy_meaning.specs.Product.{meaning_of}
-use Rattle.session_model.specs.Amending.{refusal_sent, reply_sent, behind_reply}
-use Rattle.session_rules.specs.Ruling.{config_of, size_of, IsReady, IsReply, HasReply, SaysReply, kept_with}
+use Rattle.session_model.specs.Amending.{refusal_sent}
+use Rattle.session_rules.specs.Ruling.{config_of, size_of, IsReady, SaysReply, kept_with}
 use Rattle.session_rules.specs.declared.rules.SessionRules.{SessionRules}
 use Rattle.session_core.specs.Stands as core
 

@@ -1,5 +1,5 @@
 -- A server's answer, and what is said in its place.
-use Rattle.std.proofs.Common.{◌≡◌, ◌≢◌, ℕ, List, [], ◌++◌, Bool, true, false, refl, sym, ap, ◌∙◌, subst}
+use Rattle.std.proofs.Common.{◌≡◌, ◌≢◌, ℕ, List, [], ◌++◌, Bool, true, false, sym, ap, ◌∙◌, subst}
 use Rattle.px_sample.specs.Variables.{Variables}
 use Rattle.http_model.specs.Spelling.{Spells}
 use Rattle.http_rules.specs.declared.config.Config.{Config}
@@ -10,7 +10,7 @@ use Rattle.session_core.specs.History.{Coming, no_stream}
 use Rattle.session_core.specs.Leads.{Refuses, renewed_at}
 use Rattle.session_core.specs.Place.{Place, is_saying}
 use Rattle.session_core.specs.Place as at
-use Rattle.session_core.specs.Sided.{Sided, Asking, asker_in}
+use Rattle.session_core.specs.Sided.{Sided, asker_in}
 use Rattle.session_rules.specs.Ruling.{config_of, holds_pattern, IsReady}
 use Rattle.session_rules.specs.declared.rules.SessionRules.{SessionRules}
 use Rattle.lane_core.specs.declared.stage.Stage.{Stage}
@@ -29,7 +29,7 @@ use Rattle.answer_side.specs.declared.place.Place.{Place as Answered}
 use Rattle.answer_side.specs.declared.place.Place.TheVariants as answered
 use Rattle.answer_side.specs.declared.side.AnswerSide.{AnswerSide}
 use Rattle.session_sides.specs.Asks.{SaysRefusal}
-use Rattle.session_sides.specs.Joined.{IsSoundPair, StandAt, IsAt, Placed, Holds, KeepsMethod, DirectionsStand, settings_of}
+use Rattle.session_sides.specs.Joined.{IsSoundPair, StandAt, IsAt, Holds, KeepsMethod, DirectionsStand, settings_of}
 use Rattle.session_sides.specs.declared.directions.Directions.{Directions}
 use Rattle.session_sides.proofs.Joining.{sound_request, sound_answer, sound_rules, vars_at, held_at, held_sending, kept_sending}
 

@@ -6,7 +6,7 @@ use Rattle.proxy_meaning.specs.Product.{meaning_of}
 use Rattle.session_model.specs.Stream.{Stream}
 use Rattle.session_model.specs.Meaning.{Meaning}
 use Rattle.session_core.specs.History.{Coming, Continues}
-use Rattle.session_core.specs.Sided.{Sided, Asking, Reply, RequestSeen, RequestGoes, Requests, IfSettled, is_all}
+use Rattle.session_core.specs.Sided.{Sided, Asking, Reply, RequestGoes, Requests, IfSettled}
 use Rattle.session_core.specs.declared.Source.{Source}
 use Rattle.session_core.specs.declared.Source.TheVariants as source
 use Rattle.lane.specs.Asking.{stage_of, output_of, is_dropping}
@@ -17,7 +17,7 @@ use Rattle.lane_core.specs.declared.stage.Source.{Source as LaneSource}
 use Rattle.lane.specs.declared.request_lane.RequestLane.{RequestLane}
 use Rattle.request_side.specs.Seen as requests
 use Rattle.request_side.specs.Seen.{source_at, sent_at, window_of}
-use Rattle.request_side.specs.Stands.{IsSound, SoundAt, RequestStands, StandsAt, HasPut, Lacks}
+use Rattle.request_side.specs.Stands.{IsSound, SoundAt, RequestStands, StandsAt, HasPut}
 use Rattle.request_side.specs.Steps.{RequestsSo}
 use Rattle.request_side.specs.declared.place.Place.{Place as Asked}
 use Rattle.request_side.specs.declared.place.Place.TheVariants as asked

@@ -1,6 +1,5 @@
 -- What the two directions of a session stand for together, with the rules between them.
 use Rattle.std.specs.Prelude.{◌≡◌, ℕ, List, true, ⊤}
-use Rattle.http_model.specs.declared.Limits.{Limits}
 use Rattle.px_sample.specs.Variables.{Variables}
 use Rattle.http_rules.specs.declared.config.Config.{Config}
 use Rattle.http_rules.specs.Lives.{answering}

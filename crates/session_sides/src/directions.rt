@@ -1,5 +1,5 @@
 //! Both directions of a session, and the rules between them.
-ghost use Rattle.std.specs.Prelude.{◌≡◌, ◌≤◌, ℕ, List, [], true, false, IfOk};
+ghost use Rattle.std.specs.Prelude.{◌≡◌, ◌≤◌, IfOk};
 ghost use Rattle.http_rules.specs.Valid.{IsValid};
 
 use answer_side::AnswerSide;
@@ -24,6 +24,8 @@ pub struct Directions<'c> {
 ghost use Rattle.px_sample.specs.Variables.{no_variables};
 ghost use Rattle.session_rules.specs.Ruling.{IsReady};
 ghost use Rattle.session_core.specs.Place as at;
+ghost use Rattle.session_core.specs.Place.{IsSomewhere};
+ghost use Rattle.http_rules.specs.declared.config.Config.{Config};
 ghost use Rattle.session_core.specs.Sided.{Sided};
 ghost use Rattle.session_core.specs.Leads.{IsFresh};
 ghost use Rattle.proxy_meaning.specs.Product.{meaning_of};
@@ -64,6 +66,20 @@ impl<'c> Directions<'c> {
         };
         let directions = Directions::join(alloc, config, request, answer)?;
         Ok(directions)
+    }
+
+    /// As new ones, in the same memory, for the same configuration: nothing of what happened is left.
+    pub fn renew(&mut self)
+        requires placed { IsSomewhere (Placed self.old) }
+        ensures stands { (cfg : Config) (p : Sided (meaning_of cfg)) → DirectionsStand cfg self.old p
+            → (q : Sided (meaning_of cfg)) × DirectionsStand cfg self.new q × IsFresh (meaning_of cfg) (request_of self.new) (answer_of self.new) q }
+        ensures placed { Placed self.new at.Reads }
+        ensures settings { settings_of self.new ≡ settings_of self.old }
+    {
+        self.request.renew();
+        self.answer.renew();
+        self.rules.renew();
+        self.method.clear();
     }
 
     /// Both directions with the rules of a session that begins.

@@ -1,7 +1,7 @@
 //! What is said to a client for whose request no server is asked.
-ghost use Rattle.std.specs.Prelude.{◌≡◌, ◌≢◌, [], true, false, List, ℕ, OnOk, IfOk, IsOk};
+ghost use Rattle.std.specs.Prelude.{◌≡◌, false, OnOk, IfOk, IsOk};
 ghost use Rattle.http_model.specs.Head.{Message, message_blocks};
-ghost use Rattle.session_rules.specs.Ruling.{config_of, size_of, IsReady, IsReply, HasReply, holds_pattern};
+ghost use Rattle.session_rules.specs.Ruling.{config_of, size_of, IsReady, HasReply, holds_pattern};
 ghost use Rattle.answer_side.specs.Seen as answers;
 ghost use Rattle.answer_side.specs.Stands.{IsSoundSide};
 ghost use Rattle.answer_side.specs.Listed.{IsListed};

@@ -1,5 +1,5 @@
 //! Both directions as a core sees them.
-ghost use Rattle.std.specs.Prelude.{◌≡◌, ℕ, List};
+ghost use Rattle.std.specs.Prelude.{◌≡◌};
 
 use crate::directions::Directions;
 use crate::saying;

@@ -1,6 +1,5 @@
 //! What becomes of a server's final head: the rules run on it, its length is held against the limits, and it is finished.
-ghost use Rattle.std.specs.Prelude.{◌≡◌, ℕ, List, Bool, true, false, not, ◌&&◌, ◌||◌, if◌then◌else◌, None, nat_le, IsOk, IfOk, OnOk};
-ghost use Rattle.htx_model.specs.Blocks.{load};
+ghost use Rattle.std.specs.Prelude.{◌≡◌, ℕ, List, true, false, not, ◌&&◌, IsOk, IfOk, OnOk};
 ghost use Rattle.http_model.specs.Finish.{finish_response, response_framing};
 ghost use Rattle.http_model.specs.Head.{Head, head_blocks};
 ghost use Rattle.http_model.specs.Reading.{Received};
@@ -19,7 +18,7 @@ ghost use Rattle.session_model.specs.Answering.{response_declares_too_much, fini
 ghost use Rattle.session_core.specs.History.{Coming};
 ghost use Rattle.session_core.specs.Sided.{Asking, asker_in};
 ghost use Rattle.lane.specs.Answering.{blocks_of, framing_of, declared_of};
-ghost use Rattle.answer_side.specs.Seen.{size_of, asker_of};
+ghost use Rattle.answer_side.specs.Seen.{size_of};
 ghost use Rattle.answer_side.specs.Stands.{AnswerStands};
 ghost use Rattle.answer_side.specs.Stepping.{RunsFor};
 ghost use Rattle.answer_side.specs.Hearing.{IsBetween, HasHead, FinalHead};

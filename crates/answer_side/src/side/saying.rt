@@ -1,5 +1,5 @@
 //! Texts that no server answers.
-ghost use Rattle.std.specs.Prelude.{◌≡◌, ◌≢◌, ◌++◌, ℕ, List, [], true, false};
+ghost use Rattle.std.specs.Prelude.{◌≡◌, ℕ, List, true, false};
 ghost use Rattle.htx_model.specs.Blocks.{Fits};
 ghost use Rattle.http_model.specs.Head.{Head, front_blocks};
 ghost use Rattle.px_sample.specs.Variables.{Variables};

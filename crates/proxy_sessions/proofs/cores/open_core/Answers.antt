@@ -1,10 +1,14 @@
-use Rattle.proxy_meaning.specs.Product.{meaning_of}
-use Rattle.session_sides.specs.Joined.{request_of, answer_of}
-use Rattle.proxy_sessions.proofs.Idle.{idle_core}
+use Rattle.proxy_sessions.specs.Spare.{IsNew}
 use Rattle.proxy_sessions.proofs.cores.open_core.Goals as goal
+
+pub returns-clause-stands : goal.returns-clause-stands
+returns-clause-stands c =
+    let d = c.in_ok-directions.ensures in
+    let new : IsNew c.args.config.now c.in_ok-directions.directions = record { sided = d.stands.0; stand = d.stands.1; fresh = d.stands.2; placed = d.placed } in
+    c.core_of.ensures.stands c.args.config.now new
 
 pub returns-clause-idle : goal.returns-clause-idle
 returns-clause-idle c =
-    let fresh = c.in_ok-directions.ensures.stands in
-    let s = c.new-2.ensures.stands c.args.config.now fresh.0 fresh.1 fresh.2 in
-    idle_core (meaning_of c.args.config.now) c.new-2.result.at (request_of c.new-2.result.sides) (answer_of c.new-2.result.sides) s.sided s.holds
+    let d = c.in_ok-directions.ensures in
+    let new : IsNew c.args.config.now c.in_ok-directions.directions = record { sided = d.stands.0; stand = d.stands.1; fresh = d.stands.2; placed = d.placed } in
+    c.core_of.ensures.idle c.args.config.now new

@@ -1,4 +1,4 @@
-use Rattle.std.proofs.Common.{◌≡◌, ◌∙◌, false}
+use Rattle.std.proofs.Common.{◌∙◌, false}
 use Rattle.http_model.specs.Refusal.{refusal}
 use Rattle.http_rules.specs.Lives.{answering}
 use Rattle.proxy_meaning.specs.Product.{meaning_of}

@@ -1,5 +1,4 @@
-use Rattle.std.proofs.Common.{◌≡◌, ◌∙◌, ap, subst, sym, List}
-use Rattle.htx_model.specs.Block.{Block}
+use Rattle.std.proofs.Common.{◌∙◌, ap, subst, sym}
 use Rattle.htx_arena.specs.Contents.{Contents}
 use Rattle.http_rules.specs.Lives.{answering}
 use Rattle.proxy_meaning.specs.Product.{meaning_of}

@@ -1,4 +1,4 @@
-use Rattle.std.proofs.Common.{◌≡◌, refl, sym, []}
+use Rattle.std.proofs.Common.{refl, sym, []}
 use Rattle.px_sample.specs.Variables.{no_variables}
 use Rattle.session_core.specs.History.{no_stream}
 use Rattle.session_sides.proofs.Fresh.{no_past, no_asking, no_reply, fresh_new, fresh_at, fresh_is}

@@ -1,4 +1,3 @@
-use Rattle.std.proofs.Common.{◌≡◌, List, ℕ, ◌++◌}
 use Rattle.session_sides.proofs.Joining.{at_request, stands_request}
 use Rattle.session_sides.proofs.Stepping.{was_put}
 use Rattle.session_sides.proofs.sides.DirectionsPeers.drop_request.Goals as goal

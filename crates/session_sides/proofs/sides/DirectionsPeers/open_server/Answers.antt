@@ -1,4 +1,4 @@
-use Rattle.std.proofs.Common.{◌≡◌, true, ap, refl}
+use Rattle.std.proofs.Common.{ap}
 use Rattle.session_core.specs.History.{no_stream}
 use Rattle.answer_side.specs.Stands.{is_serving}
 use Rattle.session_sides.proofs.Serving.{opens, sound_both}

@@ -1,6 +1,6 @@
 use Rattle.std.proofs.lemmas.Bool.{false≢true}
 use Rattle.session_sides.proofs.Serving.{needs_of}
-use Rattle.std.proofs.Common.{◌≡◌, Bool, subst, ℕ, List}
+use Rattle.std.proofs.Common.{subst, ℕ, List}
 use Rattle.session_sides.specs.Asks.{SaysRefusal}
 use Rattle.session_rules.specs.Ruling.{config_of}
 use Rattle.session_sides.proofs.Serving.{refuses, sound_both}

@@ -1,4 +1,4 @@
-use Rattle.std.proofs.Common.{◌≡◌, List, ℕ, ◌++◌}
+use Rattle.std.proofs.Common.{◌++◌}
 use Rattle.answer_side.specs.Seen.{place_of}
 use Rattle.request_side.specs.Seen as requests
 use Rattle.session_sides.proofs.Joining.{at_answer, stands_answer}

@@ -1,4 +1,4 @@
-use Rattle.std.proofs.Common.{◌≡◌, List, ℕ, ◌++◌}
+use Rattle.std.proofs.Common.{◌++◌}
 use Rattle.request_side.specs.Seen.{place_of}
 use Rattle.session_sides.proofs.Joining.{at_request, stands_request}
 use Rattle.session_sides.proofs.Stepping.{requests_on, sends_or_not}

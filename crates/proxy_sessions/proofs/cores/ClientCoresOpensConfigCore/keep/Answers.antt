@@ -1,0 +1,14 @@
+use Rattle.std.proofs.Common.{sym, subst}
+use Rattle.std.specs.Prelude.{Option}
+use Rattle.http_rules.specs.declared.config.Config.{Config}
+use Rattle.session_sides.specs.declared.directions.Directions.{Directions}
+use Rattle.proxy_sessions.specs.Spare.{IsNew, IsSpare}
+use Rattle.proxy_sessions.proofs.cores.ClientCoresOpensConfigCore.keep.Goals as goal
+
+pub invariant_of-self : goal.invariant_of-self
+invariant_of-self c =
+    let cfg : Config = c.args.self.now in
+    let new : IsNew cfg c.renewed.result = c.renewed.ensures.new cfg c.requires.stands.0 c.requires.stands.1 in (
+      c.self.invariant.0,
+      subst (λ (s : Option Directions). IsSpare c.self.inside.config.now s) (sym c.replace.ensures.after) (subst (λ (x : Config). IsNew x c.renewed.result) (sym c.self.view_is) new),
+    )

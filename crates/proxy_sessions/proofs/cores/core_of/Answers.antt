@@ -1,0 +1,12 @@
+use Rattle.proxy_meaning.specs.Product.{meaning_of}
+use Rattle.session_sides.specs.Joined.{request_of, answer_of}
+use Rattle.proxy_sessions.proofs.Idle.{idle_core}
+use Rattle.proxy_sessions.proofs.cores.core_of.Goals as goal
+
+pub returns-clause-stands : goal.returns-clause-stands
+returns-clause-stands c = λ cfg h. c.new.ensures.stands cfg h.sided h.stand h.fresh
+
+pub returns-clause-idle : goal.returns-clause-idle
+returns-clause-idle c = λ cfg h.
+    let s = c.new.ensures.stands cfg h.sided h.stand h.fresh in
+    idle_core (meaning_of cfg) c.new.result.at (request_of c.new.result.sides) (answer_of c.new.result.sides) s.sided s.holds
