@@ -91,12 +91,12 @@ impl Lane {
             declared: None,
             close: false,
             reader: BodyReader::new(Framing::Absent, limits),
-            sieve: sieve_of(alloc, filters, limits.bufsize)?,
             writer: Writer::new(Framing::Absent, false),
             output: Window::new(alloc, window)?,
             stage: Stage::Reading,
             source: Source::Going,
             dropped: false,
+            sieve: sieve_of(alloc, filters, limits.bufsize)?,
         })
     }
 
