@@ -22,7 +22,7 @@ pub struct Call<'t> {
 }
 
 /// What stands behind an argument.
-#[derive(Clone, Copy, Debug)]
+#[derive(Clone, Copy)]
 enum Stop {
     Comma,
     End,
@@ -139,10 +139,12 @@ fn third<'t>(first: &'t [u8], second: &'t [u8], text: &'t [u8]) -> Option<(Args<
     ensures { option_map (λ found. (args_of found.0, found.1.now)) result
         ≡ option_map (λ others. put first.now (put second.now others)) (arguments 1 text.now) }
 {
-    let (arg, rest) = argument(text)?;
-    match stop_in(rest)? {
-        (Stop::End, rest) => Some((Args::Three(first, second, arg), rest)),
-        (Stop::Comma, _) => None,
+    let Some((arg, rest)) = argument(text) else {
+        return None;
+    };
+    match stop_in(rest) {
+        Some((Stop::End, rest)) => Some((Args::Three(first, second, arg), rest)),
+        Some((Stop::Comma, _)) | None => None,
     }
 }
 
@@ -151,10 +153,13 @@ fn second<'t>(first: &'t [u8], text: &'t [u8]) -> Option<(Args<'t>, &'t [u8])>
     ensures { option_map (λ found. (args_of found.0, found.1.now)) result
         ≡ option_map (put first.now) (arguments 2 text.now) }
 {
-    let (arg, rest) = argument(text)?;
-    match stop_in(rest)? {
-        (Stop::End, rest) => Some((Args::Two(first, arg), rest)),
-        (Stop::Comma, rest) => third(first, arg, rest),
+    let Some((arg, rest)) = argument(text) else {
+        return None;
+    };
+    match stop_in(rest) {
+        Some((Stop::End, rest)) => Some((Args::Two(first, arg), rest)),
+        Some((Stop::Comma, rest)) => third(first, arg, rest),
+        None => None,
     }
 }
 
@@ -162,10 +167,13 @@ fn second<'t>(first: &'t [u8], text: &'t [u8]) -> Option<(Args<'t>, &'t [u8])>
 fn arguments(text: &[u8]) -> Option<(Args<'_>, &[u8])>
     ensures { option_map (λ found. (args_of found.0, found.1.now)) result ≡ arguments 3 text.now }
 {
-    let (arg, rest) = argument(text)?;
-    match stop_in(rest)? {
-        (Stop::End, rest) => Some((Args::One(arg), rest)),
-        (Stop::Comma, rest) => second(arg, rest),
+    let Some((arg, rest)) = argument(text) else {
+        return None;
+    };
+    match stop_in(rest) {
+        Some((Stop::End, rest)) => Some((Args::One(arg), rest)),
+        Some((Stop::Comma, rest)) => second(arg, rest),
+        None => None,
     }
 }
 
@@ -189,7 +197,9 @@ pub fn call_in(text: &[u8]) -> Option<Call<'_>>
     let (name, behind) = text.split_at(at);
     match behind.split_first() {
         Some((b'(', inner)) => {
-            let (args, rest) = arguments(inner)?;
+            let Some((args, rest)) = arguments(inner) else {
+                return None;
+            };
             Some(Call { name, args, rest })
         }
         _ => Some(Call {

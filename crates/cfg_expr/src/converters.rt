@@ -8,7 +8,7 @@ ghost use Rattle.cfg_expr.specs.Exprs.{replaced, conv_of, conv_at, convs_at, goe
 
 use crate::numbers::{count, number};
 use crate::patterns::build;
-use crate::{Args, TextFault, TextKind, call_in};
+use crate::{Args, TextFault, TextKind, call_in, is_word};
 use px_conv::Matches;
 use px_expr::{Conv, ConvList, Text};
 use px_pattern::Patterns;
@@ -18,7 +18,7 @@ use std::alloc::Global;
 const MAX_CONVS: u32 = 16;
 
 /// The flags of `regsub`.
-#[derive(Clone, Copy, Debug)]
+#[derive(Clone, Copy)]
 struct Flags {
     /// `i`: case is ignored.
     icase: bool,
@@ -30,23 +30,23 @@ struct Flags {
 fn bare_conv(name: &[u8]) -> Option<Conv>
     ensures { result ≡ bare_conv name.now }
 {
-    if name == b"lower".as_slice() {
+    if is_word(name, b"lower") {
         Some(Conv::Lower)
-    } else if name == b"upper".as_slice() {
+    } else if is_word(name, b"upper") {
         Some(Conv::Upper)
-    } else if name == b"length".as_slice() {
+    } else if is_word(name, b"length") {
         Some(Conv::Length)
-    } else if name == b"neg".as_slice() {
+    } else if is_word(name, b"neg") {
         Some(Conv::Neg)
-    } else if name == b"not".as_slice() {
+    } else if is_word(name, b"not") {
         Some(Conv::Not)
-    } else if name == b"bool".as_slice() {
+    } else if is_word(name, b"bool") {
         Some(Conv::Bool)
-    } else if name == b"base64".as_slice() {
+    } else if is_word(name, b"base64") {
         Some(Conv::Base64)
-    } else if name == b"hex".as_slice() {
+    } else if is_word(name, b"hex") {
         Some(Conv::Hex)
-    } else if name == b"url_dec".as_slice() {
+    } else if is_word(name, b"url_dec") {
         Some(Conv::UrlDec)
     } else {
         None
@@ -57,17 +57,17 @@ fn bare_conv(name: &[u8]) -> Option<Conv>
 fn conv_with_one(name: &[u8], arg: &[u8]) -> Result<Conv, TextFault>
     ensures { Gives (λ conv. conv) result (conv_with_one name.now arg.now) }
 {
-    if name == b"bytes".as_slice() {
+    if is_word(name, b"bytes") {
         Ok(Conv::Bytes(count(arg)?, None))
-    } else if name == b"add".as_slice() {
+    } else if is_word(name, b"add") {
         Ok(Conv::Add(number(arg)?))
-    } else if name == b"sub".as_slice() {
+    } else if is_word(name, b"sub") {
         Ok(Conv::Sub(number(arg)?))
-    } else if name == b"mul".as_slice() {
+    } else if is_word(name, b"mul") {
         Ok(Conv::Mul(number(arg)?))
-    } else if name == b"div".as_slice() {
+    } else if is_word(name, b"div") {
         Ok(Conv::Div(number(arg)?))
-    } else if name == b"mod".as_slice() {
+    } else if is_word(name, b"mod") {
         Ok(Conv::Mod(number(arg)?))
     } else {
         Err(TextFault::Refused(TextKind::Expr))
@@ -78,14 +78,14 @@ fn conv_with_one(name: &[u8], arg: &[u8]) -> Result<Conv, TextFault>
 fn conv_with_two(alloc: Global, name: &[u8], first: &[u8], second: &[u8]) -> Result<Conv, TextFault>
     ensures { Gives (λ conv. conv) result (conv_with_two name.now first.now second.now) }
 {
-    if name == b"bytes".as_slice() {
+    if is_word(name, b"bytes") {
         let offset = count(first)?;
         Ok(Conv::Bytes(offset, Some(count(second)?)))
-    } else if name == b"field".as_slice() {
+    } else if is_word(name, b"field") {
         Ok(Conv::Field(number(first)?, Text::copy(alloc, second)?, 1))
-    } else if name == b"word".as_slice() {
+    } else if is_word(name, b"word") {
         Ok(Conv::Word(number(first)?, Text::copy(alloc, second)?, 1))
-    } else if name == b"iif".as_slice() {
+    } else if is_word(name, b"iif") {
         let chosen = Text::copy(alloc, first)?;
         Ok(Conv::Iif(chosen, Text::copy(alloc, second)?))
     } else {
@@ -103,11 +103,11 @@ fn conv_with_three(
 ) -> Result<Conv, TextFault>
     ensures { Gives (λ conv. conv) result (conv_with_three name.now first.now second.now third.now) }
 {
-    if name == b"field".as_slice() {
+    if is_word(name, b"field") {
         let index = number(first)?;
         let n = count(third)?;
         Ok(Conv::Field(index, Text::copy(alloc, second)?, n))
-    } else if name == b"word".as_slice() {
+    } else if is_word(name, b"word") {
         let index = number(first)?;
         let n = count(third)?;
         Ok(Conv::Word(index, Text::copy(alloc, second)?, n))
@@ -147,7 +147,7 @@ fn are_flags(text: &[u8]) -> bool
 fn has(text: &[u8], byte: u8) -> bool
     ensures { result ≡ list_any (λ b. b == byte) text.now }
 {
-    text.iter().any(|b| *b == byte)
+    text.contains(&byte)
 }
 
 /// The letters `g` and `i`.
@@ -168,7 +168,7 @@ fn flags_of(text: &[u8]) -> Result<Flags, TextFault>
 }
 
 /// A pattern, a template and flags as `regsub` has them.
-#[derive(Clone, Copy, Debug)]
+#[derive(Clone, Copy)]
 struct Replacing<'t> {
     text: &'t [u8],
     template: &'t [u8],
@@ -212,8 +212,13 @@ fn replaced<P: Patterns>(
     ensures { ReadsText (λ conv. conv) (replaced (replacing parts.now.text.now parts.now.template.now (record { icase = parts.now.flags.icase; which = parts.now.flags.which }))) (P.refusals pats.old) (P.refusals pats.new) (P.last_refused pats.new) result }
 {
     let template = Text::copy(alloc, parts.template)?;
-    let pat = build(alloc, parts.text, parts.flags.icase, pats)?;
-    Ok(Conv::Regsub(pat, template, parts.flags.which))
+    match build(alloc, parts.text, parts.flags.icase, pats) {
+        Ok(pat) => Ok(Conv::Regsub(pat, template, parts.flags.which)),
+        Err(fault) => {
+            drop(template);
+            Err(fault)
+        }
+    }
 }
 
 /// The converter of a name and its arguments.
@@ -226,7 +231,7 @@ fn conv_of<P: Patterns>(
 ) -> Result<Conv, TextFault>
     ensures { ReadsText (λ conv. conv) (conv_of name.now (args_of args.entry)) (P.refusals pats.old) (P.refusals pats.new) (P.last_refused pats.new) result }
 {
-    if name == b"regsub".as_slice() {
+    if is_word(name, b"regsub") {
         let parts = replacing_of(args)?;
         return replaced(alloc, &parts, pats);
     }
@@ -271,6 +276,7 @@ pub fn read_convs<'t, P: Patterns>(
     let mut rest = text;
     'each: while let Some(behind) = behind_comma(rest) {
         if convs.len() == MAX_CONVS {
+            drop(convs);
             return Err(TextFault::Refused(TextKind::Limit));
         }
         match conv_at(alloc, behind, pats) {
@@ -278,7 +284,10 @@ pub fn read_convs<'t, P: Patterns>(
                 convs.push(conv)?;
                 rest = after;
             }
-            Err(fault) => return Err(fault),
+            Err(fault) => {
+                drop(convs);
+                return Err(fault);
+            }
         }
     }
     Ok((convs, rest))

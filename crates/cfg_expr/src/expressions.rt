@@ -21,8 +21,13 @@ pub fn placed_source<'t>(
     ensures { Gives (λ found. (found.0, found.1.now)) result (placed_source place (form_of call.entry)) }
 {
     let source = read_source(alloc, call.name, call.args)?;
-    checked(place, &source)?;
-    Ok((source, call.rest))
+    match checked(place, &source) {
+        Ok(()) => Ok((source, call.rest)),
+        Err(fault) => {
+            drop(source);
+            Err(fault)
+        }
+    }
 }
 
 /// With the fetch that the source is in a direction.
@@ -51,8 +56,13 @@ pub fn read_written<'t, P: Patterns>(
         return Err(TextFault::Refused(TextKind::Expr));
     };
     let (source, rest) = placed_source(alloc, place, call)?;
-    let (convs, rest) = read_convs(alloc, rest, pats)?;
-    Ok((Written { source, convs }, rest))
+    match read_convs(alloc, rest, pats) {
+        Ok((convs, rest)) => Ok((Written { source, convs }, rest)),
+        Err(fault) => {
+            drop(source);
+            Err(fault)
+        }
+    }
 }
 
 /// An expression of a direction at the front of a text, and what is behind it.
@@ -85,6 +95,7 @@ pub fn read_expr<P: Patterns>(
     if rest.is_empty() {
         Ok(expr)
     } else {
+        drop(expr);
         Err(TextFault::Refused(TextKind::Expr))
     }
 }

@@ -7,12 +7,12 @@ ghost use Rattle.cfg_expr.specs.Fetches.{scope_of, is_variable_byte, is_variable
 
 use crate::call::{around, first_of};
 use crate::numbers::{field_name, number, occurrence, truth};
-use crate::{Args, Source, TextFault, TextKind};
+use crate::{Args, Source, TextFault, TextKind, is_word};
 use px_sample::{Fetch, Scope, Text};
 use std::alloc::Global;
 
 /// The fetches of a field, which may have an occurrence.
-#[derive(Clone, Copy, Debug, PartialEq, Eq)]
+#[derive(Clone, Copy)]
 enum FieldFetch {
     Hdr,
     ReqHdr,
@@ -25,13 +25,13 @@ enum FieldFetch {
 fn scope_of(text: &[u8]) -> Option<Scope>
     ensures { result ≡ scope_of text.now }
 {
-    if text == b"sess".as_slice() {
+    if is_word(text, b"sess") {
         Some(Scope::Sess)
-    } else if text == b"txn".as_slice() {
+    } else if is_word(text, b"txn") {
         Some(Scope::Txn)
-    } else if text == b"req".as_slice() {
+    } else if is_word(text, b"req") {
         Some(Scope::Req)
-    } else if text == b"res".as_slice() {
+    } else if is_word(text, b"res") {
         Some(Scope::Res)
     } else {
         None
@@ -80,27 +80,27 @@ pub fn variable_of(text: &[u8]) -> Option<(Scope, &[u8])>
 fn bare_fetch(name: &[u8]) -> Option<Fetch>
     ensures { result ≡ bare_fetch name.now }
 {
-    if name == b"path".as_slice() {
+    if is_word(name, b"path") {
         Some(Fetch::Path)
-    } else if name == b"query".as_slice() {
+    } else if is_word(name, b"query") {
         Some(Fetch::Query)
-    } else if name == b"pathq".as_slice() {
+    } else if is_word(name, b"pathq") {
         Some(Fetch::Pathq)
-    } else if name == b"url".as_slice() {
+    } else if is_word(name, b"url") {
         Some(Fetch::Url)
-    } else if name == b"base".as_slice() {
+    } else if is_word(name, b"base") {
         Some(Fetch::Base)
-    } else if name == b"method".as_slice() {
+    } else if is_word(name, b"method") {
         Some(Fetch::Method)
-    } else if name == b"req.ver".as_slice() {
+    } else if is_word(name, b"req.ver") {
         Some(Fetch::ReqVer)
-    } else if name == b"res.ver".as_slice() {
+    } else if is_word(name, b"res.ver") {
         Some(Fetch::ResVer)
-    } else if name == b"status".as_slice() {
+    } else if is_word(name, b"status") {
         Some(Fetch::Status)
-    } else if name == b"always_true".as_slice() {
+    } else if is_word(name, b"always_true") {
         Some(Fetch::AlwaysTrue)
-    } else if name == b"always_false".as_slice() {
+    } else if is_word(name, b"always_false") {
         Some(Fetch::AlwaysFalse)
     } else {
         None
@@ -111,15 +111,15 @@ fn bare_fetch(name: &[u8]) -> Option<Fetch>
 fn field_fetch(name: &[u8]) -> Option<FieldFetch>
     ensures { result ≡ field_fetch name.now }
 {
-    if name == b"hdr".as_slice() {
+    if is_word(name, b"hdr") {
         Some(FieldFetch::Hdr)
-    } else if name == b"req.hdr".as_slice() {
+    } else if is_word(name, b"req.hdr") {
         Some(FieldFetch::ReqHdr)
-    } else if name == b"res.hdr".as_slice() {
+    } else if is_word(name, b"res.hdr") {
         Some(FieldFetch::ResHdr)
-    } else if name == b"req.fhdr".as_slice() {
+    } else if is_word(name, b"req.fhdr") {
         Some(FieldFetch::ReqFhdr)
-    } else if name == b"res.fhdr".as_slice() {
+    } else if is_word(name, b"res.fhdr") {
         Some(FieldFetch::ResFhdr)
     } else {
         None
@@ -152,19 +152,19 @@ fn variable_fetch(alloc: Global, arg: &[u8]) -> Result<Fetch, TextFault>
 fn fetch_with(alloc: Global, name: &[u8], arg: &[u8]) -> Result<Fetch, TextFault>
     ensures { Gives (λ fetch. fetch) result (fetch_with name.now arg.now) }
 {
-    if name == b"req.hdr_cnt".as_slice() {
+    if is_word(name, b"req.hdr_cnt") {
         Ok(Fetch::ReqHdrCnt(field_name(alloc, arg)?))
-    } else if name == b"res.hdr_cnt".as_slice() {
+    } else if is_word(name, b"res.hdr_cnt") {
         Ok(Fetch::ResHdrCnt(field_name(alloc, arg)?))
-    } else if name == b"url_param".as_slice() {
+    } else if is_word(name, b"url_param") {
         Ok(Fetch::UrlParam(Text::copy(alloc, arg)?))
-    } else if name == b"str".as_slice() {
+    } else if is_word(name, b"str") {
         Ok(Fetch::Str(Text::copy(alloc, arg)?))
-    } else if name == b"int".as_slice() {
+    } else if is_word(name, b"int") {
         Ok(Fetch::Int(number(arg)?))
-    } else if name == b"bool".as_slice() {
+    } else if is_word(name, b"bool") {
         Ok(Fetch::Bool(truth(arg)?))
-    } else if name == b"var".as_slice() {
+    } else if is_word(name, b"var") {
         variable_fetch(alloc, arg)
     } else {
         Err(TextFault::Refused(TextKind::Expr))
@@ -198,8 +198,13 @@ fn source_at_occurrence(
         return Err(TextFault::Refused(TextKind::Expr));
     };
     let field = field_name(alloc, first)?;
-    let occurrence = occurrence(second)?;
-    Ok(field_source(which, field, Some(occurrence)))
+    match occurrence(second) {
+        Ok(occurrence) => Ok(field_source(which, field, Some(occurrence))),
+        Err(fault) => {
+            drop(field);
+            Err(fault)
+        }
+    }
 }
 
 /// The fetch of a name and its arguments. Which direction has it is asked by `checked` and `on_side`.

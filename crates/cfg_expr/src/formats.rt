@@ -60,7 +60,10 @@ fn sample_at<'t, P: Patterns>(
     let (expr, rest) = expr_at(alloc, side, text, pats)?;
     match rest.split_first() {
         Some((b']', rest)) => Ok((Part::Sample(expr), rest)),
-        _ => Err(TextFault::Refused(TextKind::Expr)),
+        _ => {
+            drop(expr);
+            Err(TextFault::Refused(TextKind::Expr))
+        }
     }
 }
 
@@ -93,6 +96,7 @@ fn part_at<'t, P: Patterns>(
     if !literal.as_slice().is_empty() {
         return Ok((Part::Literal(literal), rest));
     }
+    drop(literal);
     match rest.split_first() {
         Some((_, rest)) => percent_at(alloc, side, rest, pats),
         None => Err(TextFault::Refused(TextKind::Expr)),
@@ -112,6 +116,7 @@ fn read_parts<P: Patterns>(
     let mut rest = text;
     'each: while !rest.is_empty() {
         if parts.len() == MAX_PARTS {
+            drop(parts);
             return Err(TextFault::Refused(TextKind::Limit));
         }
         match part_at(alloc, side, rest, pats) {
@@ -119,7 +124,10 @@ fn read_parts<P: Patterns>(
                 parts.push(part)?;
                 rest = behind;
             }
-            Err(fault) => return Err(fault),
+            Err(fault) => {
+                drop(parts);
+                return Err(fault);
+            }
         }
     }
     Ok(parts)

@@ -12,6 +12,7 @@ mod numbers;
 mod patterns;
 mod side;
 mod source;
+mod word;
 
 pub use call::{Args, Call, around, call_in, first_of};
 pub use converters::read_convs;
@@ -22,3 +23,4 @@ pub use formats::read_format;
 pub use patterns::build;
 pub use side::{Side, checked, on_side};
 pub use source::{Source, Written};
+pub use word::is_word;

@@ -3,7 +3,7 @@ ghost use Rattle.std.specs.Prelude.{◌≡◌};
 ghost use Rattle.cfg_expr.specs.Faults.{Gives};
 ghost use Rattle.cfg_expr.specs.Fetches.{number, count, occurrence, field_name, truth};
 
-use crate::{TextFault, TextKind};
+use crate::{TextFault, TextKind, is_word};
 use px_bytes::is_token;
 use px_sample::{Text, number_of_bytes};
 use std::alloc::Global;
@@ -61,9 +61,9 @@ pub(crate) fn field_name(alloc: Global, text: &[u8]) -> Result<Text, TextFault>
 pub(crate) fn truth(text: &[u8]) -> Result<bool, TextFault>
     ensures { Gives (λ b. b) result (truth text.now) }
 {
-    if text == b"true".as_slice() || text == b"1".as_slice() {
+    if is_word(text, b"true") || is_word(text, b"1") {
         Ok(true)
-    } else if text == b"false".as_slice() || text == b"0".as_slice() {
+    } else if is_word(text, b"false") || is_word(text, b"0") {
         Ok(false)
     } else {
         Err(TextFault::Refused(TextKind::Expr))

@@ -69,6 +69,7 @@ pub fn on_side(side: Side, source: Source) -> Option<Fetch>
             if is_on(side, &fetch) {
                 Some(fetch)
             } else {
+                drop(fetch);
                 None
             }
         }
