@@ -139,12 +139,10 @@ fn third<'t>(first: &'t [u8], second: &'t [u8], text: &'t [u8]) -> Option<(Args<
     ensures { option_map (λ found. (args_of found.0, found.1.now)) result
         ≡ option_map (λ others. put first.now (put second.now others)) (arguments 1 text.now) }
 {
-    let Some((arg, rest)) = argument(text) else {
-        return None;
-    };
-    match stop_in(rest) {
-        Some((Stop::End, rest)) => Some((Args::Three(first, second, arg), rest)),
-        Some((Stop::Comma, _)) | None => None,
+    let (arg, rest) = argument(text)?;
+    match stop_in(rest)? {
+        (Stop::End, rest) => Some((Args::Three(first, second, arg), rest)),
+        (Stop::Comma, _) => None,
     }
 }
 
@@ -153,13 +151,10 @@ fn second<'t>(first: &'t [u8], text: &'t [u8]) -> Option<(Args<'t>, &'t [u8])>
     ensures { option_map (λ found. (args_of found.0, found.1.now)) result
         ≡ option_map (put first.now) (arguments 2 text.now) }
 {
-    let Some((arg, rest)) = argument(text) else {
-        return None;
-    };
-    match stop_in(rest) {
-        Some((Stop::End, rest)) => Some((Args::Two(first, arg), rest)),
-        Some((Stop::Comma, rest)) => third(first, arg, rest),
-        None => None,
+    let (arg, rest) = argument(text)?;
+    match stop_in(rest)? {
+        (Stop::End, rest) => Some((Args::Two(first, arg), rest)),
+        (Stop::Comma, rest) => third(first, arg, rest),
     }
 }
 
@@ -167,13 +162,10 @@ fn second<'t>(first: &'t [u8], text: &'t [u8]) -> Option<(Args<'t>, &'t [u8])>
 fn arguments(text: &[u8]) -> Option<(Args<'_>, &[u8])>
     ensures { option_map (λ found. (args_of found.0, found.1.now)) result ≡ arguments 3 text.now }
 {
-    let Some((arg, rest)) = argument(text) else {
-        return None;
-    };
-    match stop_in(rest) {
-        Some((Stop::End, rest)) => Some((Args::One(arg), rest)),
-        Some((Stop::Comma, rest)) => second(arg, rest),
-        None => None,
+    let (arg, rest) = argument(text)?;
+    match stop_in(rest)? {
+        (Stop::End, rest) => Some((Args::One(arg), rest)),
+        (Stop::Comma, rest) => second(arg, rest),
     }
 }
 
@@ -197,9 +189,7 @@ pub fn call_in(text: &[u8]) -> Option<Call<'_>>
     let (name, behind) = text.split_at(at);
     match behind.split_first() {
         Some((b'(', inner)) => {
-            let Some((args, rest)) = arguments(inner) else {
-                return None;
-            };
+            let (args, rest) = arguments(inner)?;
             Some(Call { name, args, rest })
         }
         _ => Some(Call {
