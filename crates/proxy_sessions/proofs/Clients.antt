@@ -1,5 +1,5 @@
 -- What the driver did with a client is what its configuration makes of it.
-use Rattle.std.proofs.Common.{◌≡◌, inl, inr, List, Option, Some, subst}
+use Rattle.std.proofs.Common.{◌≡◌, inl, inr, List, Option, Some}
 use Rattle.std.specs.Prelude.{Result, Ok, Err, ℕ}
 use Rattle.http_model.specs.declared.Ending.{Ending}
 use Rattle.session_model.specs.Meaning.{Meaning}
@@ -21,7 +21,7 @@ IsLaw {C} {L} M stands seen wrote to first client first_net net =
     → (seen first).to_come ≡ Some own → (seen first).ending ≡ Some ending → first_net.answers ≡ Some answers → first_net.kept ≡ Some kept
     → RanSo M (stands core) seen wrote first client to first_net net ran → IsSessionOf M seen wrote first client to first_net net ran own ending answers kept
 
-serves : {S C L : Type 0} (meaning : S → Meaning) (stands : S → C → Past → Type 0) (core_seen : C → CoreSeen) (seen : L → Seen) (wrote : L → List ℕ → Type 0) (cfg : S) (to : Place) (first client : L) (first_net net : NetSeen)
+pub serves : {S C L : Type 0} (meaning : S → Meaning) (stands : S → C → Past → Type 0) (core_seen : C → CoreSeen) (seen : L → Seen) (wrote : L → List ℕ → Type 0) (cfg : S) (to : Place) (first client : L) (first_net net : NetSeen)
     → IsLaw (meaning cfg) (stands cfg) seen wrote to first client first_net net → (result : Result Ran SessionFault)
     → Drove meaning stands core_seen seen wrote cfg to first client first_net net result → ServesClient (meaning cfg) seen wrote to first client first_net net result
 serves meaning stands core_seen seen wrote cfg to first client first_net net law (Ok ran) h =
@@ -30,11 +30,3 @@ serves meaning stands core_seen seen wrote cfg to first client first_net net law
     let g = h.1 in
     inl (record { past = g.past; front = g.front; came = g.came; put = g.put; closed = g.closed; dials = g.dials; spent = g.spent })
 serves meaning stands core_seen seen wrote cfg to first client first_net net law (Err fault) (inr h) = inr h
-
-pub serves_by : {S C L : Type 0} (meaning : S → Meaning) (stands : S → C → Past → Type 0) (core_seen : C → CoreSeen) (seen : L → Seen) (wrote : L → List ℕ → Type 0) (cfg cfg' : S) (to to' : Place) (first client : L) (first_net net : NetSeen)
-    → cfg' ≡ cfg → to' ≡ to → IsLaw (meaning cfg) (stands cfg) seen wrote to first client first_net net → (result : Result Ran SessionFault)
-    → Drove meaning stands core_seen seen wrote cfg' to' first client first_net net result → ServesClient (meaning cfg) seen wrote to first client first_net net result
-serves_by {S} meaning stands core_seen seen wrote cfg cfg' to to' first client first_net net same there law result h =
-    serves meaning stands core_seen seen wrote cfg to first client first_net net law result
-    (subst (λ (x : S). Drove meaning stands core_seen seen wrote x to first client first_net net result) same
-    (subst (λ (x : Place). Drove meaning stands core_seen seen wrote cfg' x first client first_net net result) there h))

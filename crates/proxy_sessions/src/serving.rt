@@ -13,37 +13,14 @@ ghost use Rattle.serve_run.specs.Told.{Visited};
 use crate::cores::{ClientCores, ConfigCore};
 use http_rules::Config;
 use htx_drive::laws::ran_is_the_session;
-use px_link::{Net, Sink};
+use px_link::{Address, Net, Sink};
 use serve_run::{Driven, Ran, ServeFault, SessionFault, Sessions, serve};
 use std::alloc::Global;
-use std::marker::Model;
 
-/// Sessions of one configuration, one after another in the same memory.
+/// Sessions of one configuration with the servers at one address, one after another in the same memory.
 #[derive(Drop)]
 struct ConfigSessions<'c> {
     driven: Driven<'c, ConfigCore<'c>, ClientCores<'c>>,
-}
-
-impl<'c> Model for ConfigSessions<'c> {
-    ghost use Rattle.std.specs.Prelude.{◌≡◌};
-    ghost use Rattle.http_rules.specs.declared.config.Config.{Config};
-
-    ghost Value = { Config };
-
-    ghost view = { λ s. s.driven.opener };
-
-    ghost invariant = { λ s. s.driven.to.now ≡ s.driven.opener.server };
-}
-
-impl<'c> ConfigSessions<'c> {
-    fn new(alloc: Global, config: &'c Config) -> ConfigSessions<'c>
-        requires { IsValid config.now }
-        ensures { result ≡ config.now }
-    {
-        ConfigSessions {
-            driven: Driven::new(ClientCores::new(alloc, config), &config.server),
-        }
-    }
 }
 
 impl<'c, N: Net> Sessions<N> for ConfigSessions<'c> {
@@ -51,13 +28,14 @@ impl<'c, N: Net> Sessions<N> for ConfigSessions<'c> {
     ghost use Rattle.proxy_meaning.specs.Product.{meaning_of};
     ghost use Rattle.proxy_sessions.specs.Connections.{ServesClient};
 
-    type Settings = Config;
+    type Settings = (Config, Address);
 
-    ghost settings = { λ s. s };
+    ghost settings = { λ s. (s.driven.opener, s.driven.to.now) };
 
-    ghost to = { λ cfg. address_of cfg.server };
+    ghost to = { λ settings. address_of settings.1 };
 
-    ghost session = { λ cfg first client first_net net result. ServesClient (meaning_of cfg) N.Link.seen N.Link.wrote (address_of cfg.server) first client (N.seen first_net) (N.seen net) result };
+    ghost session = { λ settings first client first_net net result.
+        ServesClient (meaning_of settings.0) N.Link.seen N.Link.wrote (address_of settings.1) first client (N.seen first_net) (N.seen net) result };
 
     fn run(&mut self, client: &mut N::Link, net: &mut N) -> Result<Ran, SessionFault> {
         ran_is_the_session::<ConfigCore<'c>, N::Link, N>();
@@ -93,7 +71,9 @@ pub fn serve_clients<N: Net, K: Sink>(
     ensures lent { (N.seen net.new).lent ≡ (N.seen net.old).lent }
     ensures complete { (Rose (N.seen net.old).bind_faults (N.seen net.new).bind_faults → ⊥) → (Rose (K.faults out.old) (K.faults out.new) → ⊥) → IsOkUnless result ServeFault.OutOfMemory }
 {
-    let mut sessions = ConfigSessions::new(alloc, config);
+    let mut sessions = ConfigSessions {
+        driven: Driven::new(ClientCores::new(alloc, config), &config.server),
+    };
     let served = serve(alloc, &config.bind, count, &mut sessions, net, out);
     drop(sessions);
     served
