@@ -1,7 +1,8 @@
 -- What `clap` makes of the lists that the program takes: it finds no fault in them.
 use Rattle.std.proofs.Common.{◌≡◌, ◌≢◌, ◌==◌, ℕ, List, [], ◌∷◌, true, false, refl, sym, ap, ◌∙◌, subst, codes, inl, inr}
 use Rattle.std.proofs.lemmas.Bool.{ne_eqb}
-use Rattle.clap.specs.Words.{App, HasKind, IsAmong, is_simple_and_free, Text, fault_of, kind_of}
+use Rattle.std.specs.Prelude.{Result, Ok, Err, IfOk, IfErr}
+use Rattle.clap.specs.Words.{App, FailsBy, HasKind, IsAmong, is_simple_and_free, Text, fault_of, kind_of}
 use Rattle.clap.specs.declared.error.Error.{Error}
 use Rattle.clap.specs.declared.error.kind.ErrorKind.{ErrorKind}
 use Rattle.clap.specs.declared.error.kind.ErrorKind.TheVariants.{DisplayHelp, DisplayVersion, OutOfMemory}
@@ -77,11 +78,19 @@ passes_drill ws seed exchanges is =
 
 -- ---- from a parse
 
-pub taken_by : (a : App) (ws : List Text) → a ≡ parser → (is_simple_and_free a ≡ true → fault_of a ws ≡ []) → IsTaken ws
+taken_by : (a : App) (ws : List Text) → a ≡ parser → (is_simple_and_free a ≡ true → fault_of a ws ≡ []) → IsTaken ws
 taken_by a ws is passes = subst (λ (b : App). is_simple_and_free b ≡ true → fault_of b ws ≡ []) is passes refl
 
-pub refused_by : (a : App) (ws : List Text) (e : Error) → a ≡ parser → (is_simple_and_free a ≡ true → HasKind (fault_of a ws) e) → IsRefused ws e
+refused_by : (a : App) (ws : List Text) (e : Error) → a ≡ parser → (is_simple_and_free a ≡ true → HasKind (fault_of a ws) e) → IsRefused ws e
 refused_by a ws e is fails = subst (λ (b : App). is_simple_and_free b ≡ true → HasKind (fault_of b ws) e) is fails refl
+
+pub all_taken : {T : Type 0} (a : App) (ws : List Text) (r : Result T Error) → a ≡ parser → (is_simple_and_free a ≡ true → FailsBy (fault_of a ws) r) → IfOk r (λ _. IsTaken ws)
+all_taken a ws (Ok m) is kinds = taken_by a ws is kinds
+all_taken a ws (Err e) is kinds = tt
+
+pub all_refused : {T : Type 0} (a : App) (ws : List Text) (r : Result T Error) → a ≡ parser → (is_simple_and_free a ≡ true → FailsBy (fault_of a ws) r) → IfErr r (IsRefused ws)
+all_refused a ws (Ok m) is kinds = tt
+all_refused a ws (Err e) is kinds = refused_by a ws e is kinds
 
 only_memory : (ws : List Text) (e : Error) → IsRefused ws e → (kind_of e ≡ OutOfMemory → ⊥) → fault_of parser ws ≡ [] → ⊥
 only_memory ws e (inl memory) other passes = other memory

@@ -1,5 +1,5 @@
 //! What the words ask for.
-ghost use Rattle.std.specs.Prelude.{IfOk, map, string_bytes};
+ghost use Rattle.std.specs.Prelude.{IfOk, IfErr, map, string_bytes};
 ghost use Rattle.px_command.specs.Asked.{IsAsked};
 ghost use Rattle.px_command.specs.Parser.{IsTaken, IsRefused};
 
@@ -7,8 +7,8 @@ use crate::lists::{check_file, check_record_file, drill_numbers, replay_files, s
 use crate::parser::command;
 use crate::texts::{error_text, unlisted_text};
 use crate::words::is_alone;
-use clap::Error;
 use clap::error::ErrorKind;
+use clap::{ArgMatches, Error};
 use http_model::OutOfMemory;
 use px_link::Bytes;
 use std::alloc::Global;
@@ -76,11 +76,22 @@ fn refused<'a>(alloc: Global, words: &[String], error: &Error) -> Result<Asked<'
     Ok(Asked::Usage { text })
 }
 
+/// The words as `clap` reads them, or why it refuses them.
+fn matches_of<'a>(alloc: Global, words: &'a [String]) -> Result<ArgMatches<'a>, Error>
+    ensures taken { IfOk result (λ _. IsTaken (map string_bytes words.now)) }
+    ensures refused { IfErr result (IsRefused (map string_bytes words.now)) }
+{
+    match command(alloc) {
+        Ok(command) => command.try_get_matches_from(words),
+        Err(fault) => Err(Error::from(fault)),
+    }
+}
+
 /// What words ask for: `clap` reads them, and then the lists of words decide.
 pub fn asked_by<'a>(alloc: Global, words: &'a [String]) -> Result<Asked<'a>, OutOfMemory>
     ensures { IfOk result (IsAsked (map string_bytes words.now)) }
 {
-    match command(alloc)?.try_get_matches_from(words) {
+    match matches_of(alloc, words) {
         Ok(_) => taken(alloc, words),
         Err(error) => refused(alloc, words, &error),
     }

@@ -140,11 +140,10 @@ fn top_command<'a>(alloc: Global) -> Command<'a>
     ensures app { app_of result ≡ top_level }
     ensures local { (out-Command result).has_globals ≡ false }
 {
-    Command::new(alloc, "htx_proxy")
+    plain_command(alloc, "htx_proxy")
         .version("0.1.0")
         .about("Rewrites HTTP exchanges by the rules of a configuration")
         .no_binary_name(true)
-        .disable_help_flag(true)
         .disable_help_subcommand(true)
         .disable_version_flag(true)
         .subcommand_required(true)
@@ -175,23 +174,46 @@ fn with_flags<'a>(alloc: Global) -> Result<Command<'a>, AllocError>
 }
 
 /// A level with one command more, where that could be made.
-fn with_command<'a>(
+fn level_with<'a>(
     level: Command<'a>,
     made: Result<Command<'a>, AllocError>,
 ) -> Result<Command<'a>, AllocError>
     requires { IfOk made (λ c. (out-Command c).has_globals ≡ false) }
-    ensures app { (shape : App) → IfOk made.entry (λ c. app_of c ≡ shape) → IfOk result (λ c. app_of c ≡ with_subcommand (app_of level.entry) shape.top) }
+    ensures app { (below : App) → IfOk made.entry (λ c. app_of c ≡ below) → IfOk result (λ c. app_of c ≡ with_subcommand (app_of level.entry) below.top) }
 {
-    level.subcommand(made?)
+    match made {
+        Ok(command) => level.subcommand(command),
+        Err(fault) => {
+            drop(level);
+            Err(fault)
+        }
+    }
+}
+
+/// A level with one command more, where both could be made.
+fn with_command<'a>(
+    level: Result<Command<'a>, AllocError>,
+    made: Result<Command<'a>, AllocError>,
+) -> Result<Command<'a>, AllocError>
+    requires { IfOk made (λ c. (out-Command c).has_globals ≡ false) }
+    ensures app { (above below : App) → IfOk level.entry (λ c. app_of c ≡ above) → IfOk made.entry (λ c. app_of c ≡ below)
+        → IfOk result (λ c. app_of c ≡ with_subcommand above below.top) }
+{
+    match level {
+        Ok(level) => level_with(level, made),
+        Err(fault) => {
+            drop(made);
+            Err(fault)
+        }
+    }
 }
 
 /// The program's flags and commands.
 pub fn command<'a>(alloc: Global) -> Result<Command<'a>, AllocError>
     ensures { IfOk result (λ c. app_of c ≡ parser) }
 {
-    let flags = with_flags(alloc)?;
-    let check = with_command(flags, check_command(alloc))?;
-    let replay = with_command(check, replay_command(alloc))?;
-    let serve = with_command(replay, serve_command(alloc))?;
+    let check = with_command(with_flags(alloc), check_command(alloc));
+    let replay = with_command(check, replay_command(alloc));
+    let serve = with_command(replay, serve_command(alloc));
     with_command(serve, drill_command(alloc))
 }

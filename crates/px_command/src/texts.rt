@@ -4,7 +4,7 @@ use clap::error::ErrorKind;
 use clap::{Command, Error};
 use http_model::OutOfMemory;
 use px_link::Bytes;
-use std::alloc::Global;
+use std::alloc::{AllocError, Global};
 
 /// What help says behind `check`.
 const CHECK: &[u8] = b"
@@ -74,29 +74,44 @@ fn push_rendered(text: &mut Bytes, command: &mut Command<'_>) -> Result<(), OutO
     text.push(command.render_help()?.as_bytes())
 }
 
-/// Puts the help of a command behind a text, under this name.
-fn push_named(text: &mut Bytes, command: Command<'_>, name: &str) -> Result<(), OutOfMemory> {
-    push_rendered(text, &mut command.bin_name(name)?)
+/// Puts the help of one command behind the others, and what is said of it behind that.
+fn push_below(text: &mut Bytes, command: &mut Command<'_>, rest: &[u8]) -> Result<(), OutOfMemory> {
+    text.push(b"\n")?;
+    push_rendered(text, command)?;
+    text.push(rest)
 }
 
-/// Puts the help of one command behind the others, and what is said of it behind that.
+/// A command under this name, where it could be made.
+fn named<'a>(made: Result<Command<'a>, AllocError>, name: &str) -> Result<Command<'a>, AllocError> {
+    match made {
+        Ok(command) => command.bin_name(name),
+        Err(fault) => Err(fault),
+    }
+}
+
+/// Puts the help of one command behind the others, under this name, and what is said of it behind that.
 fn push_help(
     text: &mut Bytes,
-    command: Command<'_>,
+    made: Result<Command<'_>, AllocError>,
     name: &str,
     rest: &[u8],
 ) -> Result<(), OutOfMemory> {
-    text.push(b"\n")?;
-    push_named(text, command, name)?;
-    text.push(rest)
+    match named(made, name) {
+        Ok(mut command) => {
+            let pushed = push_below(text, &mut command, rest);
+            drop(command);
+            pushed
+        }
+        Err(_) => Err(OutOfMemory),
+    }
 }
 
 /// Puts the help of each command behind a text, and the rest of help behind that.
 fn push_commands(alloc: Global, text: &mut Bytes) -> Result<(), OutOfMemory> {
-    push_help(text, check_command(alloc)?, "htx_proxy check", CHECK)?;
-    push_help(text, replay_command(alloc)?, "htx_proxy replay", REPLAY)?;
-    push_help(text, serve_command(alloc)?, "htx_proxy serve", SERVE)?;
-    push_help(text, drill_command(alloc)?, "htx_proxy drill", DRILL)?;
+    push_help(text, check_command(alloc), "htx_proxy check", CHECK)?;
+    push_help(text, replay_command(alloc), "htx_proxy replay", REPLAY)?;
+    push_help(text, serve_command(alloc), "htx_proxy serve", SERVE)?;
+    push_help(text, drill_command(alloc), "htx_proxy drill", DRILL)?;
     text.push(REST)
 }
 
@@ -105,9 +120,21 @@ fn rendered(alloc: Global, command: &mut Command<'_>) -> Result<Bytes, OutOfMemo
     Bytes::copy(alloc, command.render_help()?.as_bytes())
 }
 
+/// The help of the program's own level.
+fn top_help(alloc: Global) -> Result<Bytes, OutOfMemory> {
+    match command(alloc) {
+        Ok(mut command) => {
+            let text = rendered(alloc, &mut command);
+            drop(command);
+            text
+        }
+        Err(_) => Err(OutOfMemory),
+    }
+}
+
 /// The text of `--help`.
 pub fn help_text(alloc: Global) -> Result<Bytes, OutOfMemory> {
-    let mut text = rendered(alloc, &mut command(alloc)?)?;
+    let mut text = top_help(alloc)?;
     push_commands(alloc, &mut text)?;
     Ok(text)
 }
@@ -119,7 +146,14 @@ fn version_of(alloc: Global, command: &Command<'_>) -> Result<Bytes, OutOfMemory
 
 /// The text of `--version`.
 pub fn version_text(alloc: Global) -> Result<Bytes, OutOfMemory> {
-    version_of(alloc, &command(alloc)?)
+    match command(alloc) {
+        Ok(command) => {
+            let text = version_of(alloc, &command);
+            drop(command);
+            text
+        }
+        Err(_) => Err(OutOfMemory),
+    }
 }
 
 /// Puts what is wrong behind a text, and the help behind that.

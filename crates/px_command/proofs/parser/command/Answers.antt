@@ -18,10 +18,10 @@ with_drill level = with_subcommand level (two_words (codes "drill") (codes "SEED
 
 pub returns : goal.returns
 returns c =
-    let check : app_of c.in_ok-check.check ≡ with_check flags = c.in_ok-check.ensures.app check_shape c.check_command.ensures.app ∙ ap with_check c.in_ok-flags.ensures.app in
-    let replay : app_of c.in_ok-replay.replay ≡ with_replay (with_check flags) =
-    c.in_ok-replay.ensures.app (two_words (codes "replay") (codes "CFG") (codes "REC")) c.replay_command.ensures.app ∙ ap with_replay check in
-    let serve : app_of c.in_ok-serve.serve ≡ with_serve (with_replay (with_check flags)) =
-    c.in_ok-serve.ensures.app (two_words (codes "serve") (codes "CFG") (codes "COUNT")) c.serve_command.ensures.app ∙ ap with_serve replay in
-    IfOk-weaker c.with_command-4.result _ _ (λ r adds. adds ∙ ap with_drill serve)
-    (c.with_command-4.ensures.app (two_words (codes "drill") (codes "SEED") (codes "COUNT")) c.drill_command.ensures.app)
+    let replay_shape = two_words (codes "replay") (codes "CFG") (codes "REC") in
+    let serve_shape = two_words (codes "serve") (codes "CFG") (codes "COUNT") in
+    let drill_shape = two_words (codes "drill") (codes "SEED") (codes "COUNT") in
+    let check = c.with_command-check.ensures.app flags check_shape c.with_flags.ensures.app c.check_command.ensures.app in
+    let replay = c.with_command-replay.ensures.app (with_check flags) replay_shape check c.replay_command.ensures.app in
+    let serve = c.with_command-serve.ensures.app (with_replay (with_check flags)) serve_shape replay c.serve_command.ensures.app in
+    c.with_command.ensures.app (with_serve (with_replay (with_check flags))) drill_shape serve c.drill_command.ensures.app
