@@ -4,6 +4,7 @@ pub mod Places
 pub mod Lines
 pub mod Targets
 pub mod Doing
+pub mod Texted
 pub mod Replaced
 pub mod Groups
 pub mod Filling

@@ -1,5 +1,5 @@
 -- What `replace-header` and `replace-value` came to, by their steps.
-use Rattle.std.proofs.Common.{◌≡◌, ℕ, List, [], map, refl, sym, subst}
+use Rattle.std.proofs.Common.{◌≡◌, ℕ, List, map, sym, subst}
 use Rattle.http_model.specs.Block.{Block}
 use Rattle.px_pattern.specs.Pattern.{Pattern}
 use Rattle.px_sample.specs.Variables.{Variables}
@@ -8,30 +8,23 @@ use Rattle.rule_model.specs.declared.action.Action.{Action}
 use Rattle.rule_model.specs.declared.action.Action.TheVariants as actions
 use Rattle.rule_actions.specs.declared.side.Side.{Side}
 use Rattle.rule_actions.specs.declared.stepped.Stepped.{Stepped}
-use Rattle.rule_actions.specs.declared.act.Acted.{Acted}
 use Rattle.rule_actions.specs.declared.extent.Extent.TheVariants.{Whole, Values}
 use Rattle.rule_actions.specs.Given.{Env}
 use Rattle.rule_actions.specs.Replacing.{places, replace_in}
 use Rattle.rule_actions.specs.Steps.{steps_of}
-use Rattle.rule_actions.specs.Acts.{act, run_steps}
+use Rattle.rule_actions.specs.Acts.{run_steps}
 use Rattle.rule_actions.specs.Outcome.{Ran}
-use Rattle.rule_actions.specs.Does.{Does, acted_by}
-use Rattle.rule_actions.proofs.Doing.{several}
 
-pub whole : (side : Side) (env : Env) (size : ℕ) (name given : List ℕ) (pat : Pattern) (fmt : Fmt) (action : Action) (came : Stepped) (done : Acted) (blocks : List Block) (vars : Variables) → action ≡ actions.ReplaceHeader name pat fmt → done ≡ acted_by came
-    → given ≡ name → Ran side (run_steps (map (replace_in Whole size pat fmt) (places given env.head.fields 0)) env) came blocks vars → Does side env (act size action env) done blocks vars
-unfolding act steps_of
-whole side env size name given pat fmt action came done blocks vars is told same ran =
-    subst (λ (a : Action). Does side env (act size a env) done blocks vars) (sym is)
-    (subst (λ (d : Acted). Does side env (act size (actions.ReplaceHeader name pat fmt) env) d blocks vars) (sym told)
-    (several side env (run_steps (map (replace_in Whole size pat fmt) (places name env.head.fields 0)) env) came blocks vars
-    (subst (λ (n : List ℕ). Ran side (run_steps (map (replace_in Whole size pat fmt) (places n env.head.fields 0)) env) came blocks vars) same ran)))
+pub whole : (side : Side) (env : Env) (size : ℕ) (name given : List ℕ) (pat : Pattern) (fmt : Fmt) (action : Action) (came : Stepped) (blocks : List Block) (vars : Variables) → action ≡ actions.ReplaceHeader name pat fmt
+    → given ≡ name → Ran side (run_steps (map (replace_in Whole size pat fmt) (places given env.head.fields 0)) env) came blocks vars → Ran side (run_steps (steps_of size action env) env) came blocks vars
+unfolding steps_of
+whole side env size name given pat fmt action came blocks vars is same ran =
+    subst (λ (a : Action). Ran side (run_steps (steps_of size a env) env) came blocks vars) (sym is)
+    (subst (λ (n : List ℕ). Ran side (run_steps (map (replace_in Whole size pat fmt) (places n env.head.fields 0)) env) came blocks vars) same ran)
 
-pub values : (side : Side) (env : Env) (size : ℕ) (name given : List ℕ) (pat : Pattern) (fmt : Fmt) (action : Action) (came : Stepped) (done : Acted) (blocks : List Block) (vars : Variables) → action ≡ actions.ReplaceValue name pat fmt → done ≡ acted_by came
-    → given ≡ name → Ran side (run_steps (map (replace_in Values size pat fmt) (places given env.head.fields 0)) env) came blocks vars → Does side env (act size action env) done blocks vars
-unfolding act steps_of
-values side env size name given pat fmt action came done blocks vars is told same ran =
-    subst (λ (a : Action). Does side env (act size a env) done blocks vars) (sym is)
-    (subst (λ (d : Acted). Does side env (act size (actions.ReplaceValue name pat fmt) env) d blocks vars) (sym told)
-    (several side env (run_steps (map (replace_in Values size pat fmt) (places name env.head.fields 0)) env) came blocks vars
-    (subst (λ (n : List ℕ). Ran side (run_steps (map (replace_in Values size pat fmt) (places n env.head.fields 0)) env) came blocks vars) same ran)))
+pub values : (side : Side) (env : Env) (size : ℕ) (name given : List ℕ) (pat : Pattern) (fmt : Fmt) (action : Action) (came : Stepped) (blocks : List Block) (vars : Variables) → action ≡ actions.ReplaceValue name pat fmt
+    → given ≡ name → Ran side (run_steps (map (replace_in Values size pat fmt) (places given env.head.fields 0)) env) came blocks vars → Ran side (run_steps (steps_of size action env) env) came blocks vars
+unfolding steps_of
+values side env size name given pat fmt action came blocks vars is same ran =
+    subst (λ (a : Action). Ran side (run_steps (steps_of size a env) env) came blocks vars) (sym is)
+    (subst (λ (n : List ℕ). Ran side (run_steps (map (replace_in Values size pat fmt) (places n env.head.fields 0)) env) came blocks vars) same ran)

@@ -17,3 +17,4 @@ pub mod Going
 pub mod Does
 pub mod Answering
 pub mod Written
+pub mod TextEdits

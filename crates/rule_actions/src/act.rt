@@ -3,18 +3,21 @@ ghost use Rattle.std.specs.Prelude.{◌≡◌, false, true, IsOk, IfOk};
 ghost use Rattle.rule_model.specs.Valid.{IsGoodAction};
 ghost use Rattle.rule_model.specs.Actions.{action_holds_pattern};
 ghost use Rattle.rule_actions.specs.Given.{Env};
-ghost use Rattle.rule_actions.specs.Acts.{act};
+ghost use Rattle.rule_actions.specs.Acts.{act, run_steps};
+ghost use Rattle.rule_actions.specs.Steps.{steps_of};
 ghost use Rattle.rule_actions.specs.Answering.{answers};
-ghost use Rattle.rule_actions.specs.Outcome.{IsScratch, IsAt, IsFront};
+ghost use Rattle.rule_actions.specs.Outcome.{IsScratch, IsAt, Ran, IsFront};
 
 use crate::extent::Extent;
-use crate::making::{add_header, set_header, set_status};
+use crate::part::TargetPart;
 use crate::removal::del_header;
 use crate::replacing::replace_fields;
-use crate::request_line::run_line;
+use crate::retarget::replace_part;
 use crate::scratch::Scratch;
 use crate::side::Side;
+use crate::status::set_status;
 use crate::stepped::Stepped;
+use crate::text_edits::{format_of, run_text};
 use crate::variables::{set_var, unset_var};
 use http_model::Why;
 use htx_arena::Arena;
@@ -48,8 +51,69 @@ fn done_by(step: Stepped) -> Acted
     }
 }
 
+/// Runs the steps of an action in turn, up to one that fails. One that answers, decides or changes the mode has none.
+#[tactic(auto, using(crate::proofs::Doing::one), unfolding(crate::specs::Steps::steps_of, crate::specs::Steps::line_step))]
+fn run_steps(
+    alloc: Global,
+    searchers: &mut Searchers,
+    action: &Action,
+    side: Side<'_>,
+    msg: &mut Arena,
+    vars: &mut Vars,
+    scratch: &mut Scratch,
+) -> Result<Stepped, OutOfMemory>
+    requires scratch { IsScratch msg.old.size scratch.old }
+    requires front { IsFront msg.old.blocks }
+    requires valid { IsGoodAction action.now }
+    ensures ran { IfOk result (λ step. (env : Env) → IsAt side.entry env msg.old.blocks vars.old
+        → Ran side.entry (run_steps (steps_of msg.old.size action.now env) env) step msg.new.blocks vars.new) }
+    ensures succeeds { action_holds_pattern action.now ≡ false → IsOk result }
+    ensures size { msg.new.size ≡ msg.old.size }
+    ensures scratch { IsScratch msg.old.size scratch.new }
+{
+    if let Some(fmt) = format_of(action) {
+        return run_text(alloc, searchers, action, fmt, side, msg, vars, scratch);
+    }
+    match action {
+        Action::DelHeader(by) => del_header(alloc, searchers, by, msg, scratch),
+        Action::SetStatus(code, reason) => Ok(set_status(*code, reason, msg, scratch)),
+        Action::SetVar(scope, name, expr) => {
+            let name = name.as_slice();
+            set_var(
+                alloc, searchers, *scope, name, expr, side, msg, vars, scratch,
+            )
+        }
+        Action::UnsetVar(scope, name) => Ok(unset_var(*scope, name.as_slice(), vars)),
+        Action::ReplaceHeader(name, pat, fmt) => {
+            let (extent, name) = (Extent::Whole, name.as_slice());
+            replace_fields(
+                alloc, searchers, extent, name, pat, fmt, side, msg, vars, scratch,
+            )
+        }
+        Action::ReplaceValue(name, pat, fmt) => {
+            let (extent, name) = (Extent::Values, name.as_slice());
+            replace_fields(
+                alloc, searchers, extent, name, pat, fmt, side, msg, vars, scratch,
+            )
+        }
+        Action::ReplacePath(pat, fmt) => {
+            let part = TargetPart::Path;
+            replace_part(alloc, searchers, part, pat, fmt, side, msg, vars, scratch)
+        }
+        Action::ReplacePathq(pat, fmt) => {
+            let part = TargetPart::Pathq;
+            replace_part(alloc, searchers, part, pat, fmt, side, msg, vars, scratch)
+        }
+        Action::ReplaceUri(pat, fmt) => {
+            let part = TargetPart::Uri;
+            replace_part(alloc, searchers, part, pat, fmt, side, msg, vars, scratch)
+        }
+        _ => Ok(Stepped::Done),
+    }
+}
+
 /// Runs an action on a message, but for one that answers by itself: `run_reply` has these.
-#[tactic(auto, using(crate::proofs::Doing::one), unfolding(crate::specs::Acts::act, crate::specs::Steps::steps_of))]
+#[tactic(auto, using(crate::proofs::Doing::several), unfolding(crate::specs::Acts::act))]
 pub fn run_action(
     alloc: Global,
     searchers: &mut Searchers,
@@ -72,86 +136,9 @@ pub fn run_action(
     match action {
         Action::Allow => Ok(Acted::Stop),
         Action::Deny(code) => Ok(Acted::Deny(*code)),
-        Action::AddHeader(name, fmt) => {
-            let step = add_header(
-                alloc,
-                searchers,
-                name.as_slice(),
-                fmt,
-                side,
-                msg,
-                vars,
-                scratch,
-            )?;
-            Ok(done_by(step))
-        }
-        Action::SetHeader(name, fmt) => {
-            let step = set_header(
-                alloc,
-                searchers,
-                name.as_slice(),
-                fmt,
-                side,
-                msg,
-                vars,
-                scratch,
-            )?;
-            Ok(done_by(step))
-        }
-        Action::DelHeader(by) => {
-            let step = del_header(alloc, searchers, by, msg, scratch)?;
-            Ok(done_by(step))
-        }
-        Action::SetStatus(code, reason) => Ok(done_by(set_status(*code, reason, msg, scratch))),
-        Action::SetVar(scope, name, expr) => {
-            let step = set_var(
-                alloc,
-                searchers,
-                *scope,
-                name.as_slice(),
-                expr,
-                side,
-                msg,
-                vars,
-                scratch,
-            )?;
-            Ok(done_by(step))
-        }
-        Action::UnsetVar(scope, name) => Ok(done_by(unset_var(*scope, name.as_slice(), vars))),
-        Action::StrictMode(_) => Ok(Acted::Next),
-        Action::ReplaceHeader(name, pat, fmt) => {
-            let step = replace_fields(
-                alloc,
-                searchers,
-                Extent::Whole,
-                name.as_slice(),
-                pat,
-                fmt,
-                side,
-                msg,
-                vars,
-                scratch,
-            )?;
-            Ok(done_by(step))
-        }
-        Action::ReplaceValue(name, pat, fmt) => {
-            let step = replace_fields(
-                alloc,
-                searchers,
-                Extent::Values,
-                name.as_slice(),
-                pat,
-                fmt,
-                side,
-                msg,
-                vars,
-                scratch,
-            )?;
-            Ok(done_by(step))
-        }
         Action::Redirect { .. } | Action::Return { .. } => unreachable!(),
         _ => {
-            let step = run_line(alloc, searchers, action, side, msg, vars, scratch)?;
+            let step = run_steps(alloc, searchers, action, side, msg, vars, scratch)?;
             Ok(done_by(step))
         }
     }

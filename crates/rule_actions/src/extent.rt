@@ -1,6 +1,6 @@
 //! What of a field a pattern is searched for in.
 /// Where a pattern is searched for.
-#[derive(Clone, Copy, Debug, PartialEq, Eq)]
+#[derive(Clone, Copy)]
 pub(crate) enum Extent {
     /// In the whole field value.
     Whole,

@@ -18,7 +18,7 @@ use px_sample::{Buf, OutOfMemory, Vars};
 use std::alloc::Global;
 
 /// What came of a text.
-#[derive(Clone, Copy, Debug, PartialEq, Eq)]
+#[derive(Clone, Copy)]
 pub(crate) enum Filled {
     /// The pattern does not match, and nothing is made.
     Unmatched,

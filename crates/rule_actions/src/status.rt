@@ -4,14 +4,17 @@ ghost use Rattle.px_sample.specs.Variables.{Variables};
 ghost use Rattle.rule_actions.specs.declared.side.Side.{Side as On};
 ghost use Rattle.rule_actions.specs.Given.{Env};
 ghost use Rattle.rule_actions.specs.Lines as spec;
-ghost use Rattle.rule_actions.specs.Outcome.{IsAt, Came, IsFront};
+ghost use Rattle.rule_actions.specs.Outcome.{IsScratch, IsAt, Came, IsFront};
 
 use crate::fields::{are_value_bytes, hold, step_of};
+use crate::scratch::Scratch;
 use crate::stepped::Stepped;
 use http_model::Why;
 use htx_arena::Arena;
 use htx_view::response_parts;
 use px_bytes::write_decimal;
+use px_expr::Text;
+use px_reply::reason_of;
 use px_sample::Buf;
 
 /// Whether no body follows the head of this status.
@@ -41,4 +44,31 @@ pub(crate) fn put_status(msg: &mut Arena, code: u16, reason: &[u8], buf: &mut Bu
     let mut digits = [0; 20];
     let len = write_decimal(u64::from(code), &mut digits);
     step_of(msg.replace_line(0, buf.bytes(), &digits[..len], reason))
+}
+
+/// The reason that is given, or the table's.
+fn reason_by(code: u16, reason: &Option<Text>) -> &[u8]
+    ensures { result.now ≡ spec.reason_by code reason.now }
+{
+    match reason {
+        Some(reason) => reason.as_slice(),
+        None => reason_of(code),
+    }
+}
+
+/// `set-status`.
+pub(crate) fn set_status(
+    code: u16,
+    reason: &Option<Text>,
+    msg: &mut Arena,
+    scratch: &mut Scratch,
+) -> Stepped
+    requires scratch { IsScratch msg.old.size scratch.old }
+    requires front { IsFront msg.old.blocks }
+    ensures came { (side : On) (env : Env) (vars : Variables) → IsAt side env msg.old.blocks vars
+        → Came side env (spec.restated msg.old.size env code (spec.reason_by code reason.now)) result msg.new.blocks vars }
+    ensures size { msg.new.size ≡ msg.old.size }
+    ensures scratch { IsScratch msg.old.size scratch.new }
+{
+    put_status(msg, code, reason_by(code, reason), &mut scratch.buf)
 }
