@@ -24,7 +24,9 @@ pub fn replay_text<C: Machine + Drop, K: Cores<C>>(
     ensures { IfOk result (IsReplayOf (C.meaning (K.settings cores.now)) (meaning_of recorded.now)) }
 {
     let reports = replay(alloc, cores, to, recorded)?;
-    write_reports(alloc, recorded.version, &reports)
+    let text = write_reports(alloc, recorded.version, &reports);
+    drop(reports);
+    text
 }
 
 /// The lines of the generated session of a seed and a number of exchanges. Want of memory is the only error.
@@ -39,6 +41,10 @@ pub fn drill_text<C: Machine + Drop, K: Cores<C>>(
     ensures { IfOk result (IsDrillOf (C.meaning (K.settings cores.now)) seed exchanges) }
 {
     let conn = drill(alloc, seed, exchanges)?;
-    let report = replay_connection(alloc, cores, to, &conn, Vec::new(alloc))?;
-    write_lines(alloc, &report)
+    let replayed = replay_connection(alloc, cores, to, &conn, Vec::new(alloc));
+    drop(conn);
+    let report = replayed?;
+    let lines = write_lines(alloc, &report);
+    drop(report);
+    lines
 }
