@@ -16,7 +16,7 @@ pub enum Verdict {
 }
 
 /// What one rule came to.
-#[derive(Clone, Copy, Debug, PartialEq, Eq)]
+#[derive(Clone, Copy)]
 pub(crate) enum Ruled {
     /// The next one runs, under this mode.
     Goes(bool),
