@@ -54,12 +54,12 @@ impl<'c> SessionRules<'c> {
         ensures said { IfOk result (λ rules. rules.said.blocks ≡ []) }
     {
         Ok(SessionRules {
-            vars: Vars::new(alloc)?,
             said: Arena::new(alloc, config.limits.bufsize)?,
+            scratch: Scratch::new(alloc, config.limits.bufsize)?,
+            vars: Vars::new(alloc)?,
             alloc,
             config,
             searchers: Searchers::new(alloc),
-            scratch: Scratch::new(alloc, config.limits.bufsize)?,
         })
     }
 
