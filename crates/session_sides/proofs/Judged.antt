@@ -17,7 +17,7 @@ use Rattle.http_rules.specs.declared.verdict.Verdict.{Verdict}
 use Rattle.http_rules.specs.declared.verdict.Verdict.TheVariants as verdicts
 use Rattle.http_rules.specs.Rules.{Comes, rules_of}
 use Rattle.http_rules.specs.Run.{Leaves, IsHead}
-use Rattle.proxy_meaning.specs.Product.{meaning_of, replaces}
+use Rattle.proxy_meaning.specs.Product.{meaning_of, filters_of, replaces}
 use Rattle.session_model.specs.Env.{Pass, Reply, Deny, Fail, request_env, method_in}
 use Rattle.session_model.specs.Env as model
 use Rattle.session_model.specs.Meaning.{declares_too_much}
@@ -165,6 +165,16 @@ failed old new kept why read r =
     }
 
 -- ---- a head that they let pass
+
+-- the limits are those of the configuration that the rules give
+pub limit_of : (d : Directions) (cfg : Config) → cfg ≡ settings_of d
+    → declares_too_much (meaning_of (settings_of d)).request_filters (declared_of d.request) ≡ declares_too_much (filters_of cfg.req_filters) (declared_of d.request)
+limit_of d cfg is = ap (λ (x : Config). declares_too_much (filters_of x.req_filters) (declared_of d.request)) (sym is)
+
+-- and so is the framing
+pub framing_sent : (d : Directions) (cfg : Config) (framing : Framing) → cfg ≡ settings_of d → framing ≡ request_framing (replaces cfg.req_filters) (framing_of d.request)
+    → framing ≡ request_framing (replaces (settings_of d).req_filters) (framing_of d.request)
+framing_sent d cfg framing is h = subst (λ (x : Config). framing ≡ request_framing (replaces x.req_filters) (framing_of d.request)) is h
 
 pub too_long : (old new : Directions) (kept : Kept) → BodyStays → HasRead old → declares_too_much (meaning_of (settings_of old)).request_filters (declared_of old.request) ≡ true
     → RefusesSo old new 413 old.method.bytes kept.head_asked → AsksOn old new kept verdicts.Pass asks.Refuse

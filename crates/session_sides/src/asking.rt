@@ -1,16 +1,12 @@
 //! What the client's next request asks for: its head is read, the rules run on it, and it is finished for its server.
-ghost use Rattle.std.specs.Prelude.{◌≡◌, ◌≤◌, ◌&&◌, [], false, OnOk, IfOk, IsOk};
+ghost use Rattle.std.specs.Prelude.{◌≡◌, ◌≤◌, ◌&&◌, false, IfOk, IsOk};
 ghost use Rattle.http_model.specs.Finish as finish;
 ghost use Rattle.http_model.specs.Reading.{Received};
-ghost use Rattle.http_rules.specs.declared.config.Config.{Config};
 ghost use Rattle.http_rules.specs.declared.verdict.Verdict.TheVariants as verdicts;
 ghost use Rattle.session_model.specs.Meaning.{declares_too_much};
 ghost use Rattle.session_rules.specs.Ruling.{holds_pattern, HasReply};
-ghost use Rattle.session_core.specs.Sided.{Sided};
-ghost use Rattle.session_core.specs.Leads.{AsksTo, AskKeeps};
 ghost use Rattle.session_core.specs.Place as at;
-ghost use Rattle.session_core.specs.Place.{place_behind};
-ghost use Rattle.proxy_meaning.specs.Product.{meaning_of, replaces};
+ghost use Rattle.proxy_meaning.specs.Product.{filters_of, replaces};
 ghost use Rattle.request_side.specs.Edits.{framing_of, declared_of};
 ghost use Rattle.http_rules.specs.Run.{IsHead};
 ghost use Rattle.h1_head.specs.Lines.{IsRequestLine};
@@ -18,14 +14,14 @@ ghost use Rattle.request_side.specs.Reads.{Holds};
 ghost use Rattle.request_side.specs.Kept.{IsKept};
 ghost use Rattle.request_side.specs.Seen.{list_of};
 ghost use Rattle.session_sides.specs.Asks.{IsSilent, HasRead, RulesRan, RefusesSo, Finishes, SendsSo, AsksOn, AsksBehind, AsksSo, asker_for, method_at};
-ghost use Rattle.session_sides.specs.Joined.{Placed, DirectionsStand, settings_of, request_of, answer_of};
+ghost use Rattle.session_sides.specs.Joined.{Placed, settings_of};
 
 use crate::directions::Directions;
 use crate::saying::{refuse, reply};
 use answer_side::Asker;
 use header_ops::laws::edits_of_heads;
 use http_model::{Framing, OutOfMemory};
-use http_rules::{Verdict, body_stays, replies_are_plain};
+use http_rules::{Filters, Verdict, body_stays, replies_are_plain};
 use htx_arena::{Arena, Full};
 use htx_view::request_parts;
 use lane::LaneHead;
@@ -33,7 +29,7 @@ use proxy_meaning::{passes_limit, replaces};
 use px_reply::finish_request;
 use px_sample::Buf;
 use request_side::laws::{edited, requests};
-use request_side::{Kept, kept_of};
+use request_side::{Kept, RequestSide, kept_of};
 use session_core::Asked;
 
 /// The framing in which the body of a request is sent: where a filter replaces bytes, no length is known before its end.
@@ -88,23 +84,36 @@ fn may_keep(kept: &Kept) -> bool
     kept.keep && kept.is_bodiless
 }
 
+/// What is kept of the head that stands in the array, as it was received.
+fn keep_head(request: &mut RequestSide) -> Kept
+    ensures kept { (received : Received) → Holds request.old received → IsRequestLine received.head.line → IsKept received result }
+    ensures same { request.new ≡ request.old }
+{
+    let framing = request.framing();
+    let close = request.close();
+    kept_of(request.head(), framing, close)
+}
+
+/// The framing in which the body of the request is sent, behind these filters.
+fn sent_framing(request: &RequestSide, filters: &Filters) -> Framing
+    ensures { result ≡ finish.request_framing (replaces filters.now) (framing_of request.now) }
+{
+    request_framing(replaces(filters), request.framing())
+}
+
+/// The length that the head declared passes a limit of these filters.
+fn declares_too_much(request: &RequestSide, filters: &Filters) -> bool
+    ensures { result ≡ declares_too_much (filters_of filters.now) (declared_of request.now) }
+{
+    match request.declared() {
+        Some(length) => passes_limit(filters, length),
+        None => false,
+    }
+}
+
 impl<'c> Directions<'c> {
     /// Reads the next request, runs its rules and finishes it.
     pub(crate) fn ask_next(&mut self) -> Result<Asked, OutOfMemory>
-        requires { Placed self.old at.Reads }
-        ensures leads { IfOk result (λ asked. (cfg : Config) (p : Sided (meaning_of cfg)) → DirectionsStand cfg self.old p → AsksTo (meaning_of cfg) (DirectionsStand cfg self.new) (request_of self.new) p asked) }
-        ensures placed { IfOk result (λ asked. Placed self.new (place_behind asked)) }
-        ensures request { IfOk result (AskKeeps (request_of self.old) (request_of self.new)) }
-        ensures window { OnOk result ((answer_of self.new).window ≡ (answer_of self.old).window) }
-        ensures starts { OnOk result ((answer_of self.new).answered ≡ false) }
-        ensures heard { OnOk result ((answer_of self.new).heard ≡ false) }
-        ensures succeeds { holds_pattern (settings_of self.old) ≡ false → IsOk result }
-    {
-        self.ask_one()
-    }
-
-    /// The same; what it comes to is one fact here.
-    fn ask_one(&mut self) -> Result<Asked, OutOfMemory>
         requires { Placed self.old at.Reads }
         ensures so { IfOk result (AsksSo self.old self.new) }
         ensures succeeds { holds_pattern (settings_of self.old) ≡ false → IsOk result }
@@ -112,19 +121,13 @@ impl<'c> Directions<'c> {
         match self.request.read_head() {
             LaneHead::More => Ok(Asked::More),
             LaneHead::Nothing => Ok(Asked::Nothing),
-            LaneHead::Refuse(code) => self.refuse_head(code),
+            LaneHead::Refuse(code) => {
+                // no head was read, so there is no method
+                self.method.clear();
+                self.refuse_asked(code, false)
+            }
             LaneHead::Head => self.ask_behind(),
         }
-    }
-
-    /// The client is refused before any rule: no head was read, so there is no method.
-    fn refuse_head(&mut self, code: u16) -> Result<Asked, OutOfMemory>
-        requires { IsSilent self.old }
-        ensures refuses { IfOk result (λ asked. (asked ≡ Asked.Refuse) × RefusesSo self.old self.new code [] false) }
-        ensures succeeds { holds_pattern (settings_of self.old) ≡ false → IsOk result }
-    {
-        self.method.clear();
-        self.refuse_asked(code, false)
     }
 
     /// Runs the rules on the head that came, and does what they ask for.
@@ -134,19 +137,9 @@ impl<'c> Directions<'c> {
         ensures asks { IfOk result (AsksBehind self.old self.new) }
         ensures succeeds { holds_pattern (settings_of self.old) ≡ false → IsOk result }
     {
-        let kept = self.keep_head();
+        let kept = keep_head(&mut self.request);
         let verdict = self.run_rules()?;
         self.decide(kept, verdict)
-    }
-
-    /// What is kept of the head as it was received.
-    fn keep_head(&mut self) -> Kept
-        ensures kept { (received : Received) → Holds self.old.request received → IsRequestLine received.head.line → IsKept received result }
-        ensures same { self.new ≡ self.old }
-    {
-        let framing = self.request.framing();
-        let close = self.request.close();
-        kept_of(self.request.head(), framing, close)
     }
 
     /// Runs the rules of requests on the head that was read, and keeps its method as they leave it.
@@ -188,24 +181,17 @@ impl<'c> Directions<'c> {
         ensures succeeds { holds_pattern (settings_of self.old) ≡ false → IsOk result }
     {
         body_stays();
-        if self.declares_too_much() {
+        let filters = &self.rules.config().req_filters;
+        if declares_too_much(&self.request, filters) {
             return self.refuse_asked(413, kept.head_asked);
         }
-        let framing = self.sent_framing();
+        let framing = sent_framing(&self.request, filters);
         if self.finish(framing) {
             self.send_on(framing, kept);
             Ok(Asked::Send)
         } else {
             self.refuse_asked(500, kept.head_asked)
         }
-    }
-
-    /// The framing in which the body of the request is sent.
-    fn sent_framing(&self) -> Framing
-        ensures { result ≡ finish.request_framing (replaces (settings_of self.now).req_filters) (framing_of self.now.request) }
-    {
-        let replaces = replaces(&self.rules.config().req_filters);
-        request_framing(replaces, self.request.framing())
     }
 
     /// Finishes the head for its server: false where it would not fit, and then nothing changes.
@@ -231,16 +217,6 @@ impl<'c> Directions<'c> {
         requests();
         self.answer.begin(asker_of(&kept));
         self.request.send(framing, kept.awaits);
-    }
-
-    /// The length that the head declared passes a limit.
-    fn declares_too_much(&self) -> bool
-        ensures { result ≡ declares_too_much (meaning_of (settings_of self.now)).request_filters (declared_of self.now.request) }
-    {
-        match self.request.declared() {
-            Some(length) => passes_limit(&self.rules.config().req_filters, length),
-            None => false,
-        }
     }
 
     /// No server is asked, and this refusal is said.

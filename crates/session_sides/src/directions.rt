@@ -64,11 +64,11 @@ impl<'c> Directions<'c> {
                 return Err(fault);
             }
         };
-        let directions = Directions::join(alloc, config, request, answer)?;
-        Ok(directions)
+        Directions::join(alloc, config, request, answer)
     }
 
-    /// As new ones, in the same memory, for the same configuration: nothing of what happened is left.
+    /// As new ones, in the same memory, for the same configuration: by what they stand for nothing has happened yet. The memory
+    /// isn't overwritten.
     pub fn renew(&mut self)
         requires placed { IsSomewhere (Placed self.old) }
         ensures stands { (cfg : Config) (p : Sided (meaning_of cfg)) → DirectionsStand cfg self.old p

@@ -1,20 +1,49 @@
+use Rattle.std.proofs.Common.{sym, subst, false}
 use Rattle.std.proofs.lemmas.Result.{IfOk-weaker}
+use Rattle.session_core.specs.declared.sides.Asked.{Asked}
+use Rattle.session_sides.specs.Asks.{AsksSo}
+use Rattle.session_sides.proofs.Refusing.{silent_emptied, refuses_emptied}
+use Rattle.session_sides.proofs.Asked.{asks_more, asks_nothing, asks_refused, asks_head, still_behind, read_behind, head_behind}
 use Rattle.session_sides.proofs.directions.Directions.ask_next.Goals as goal
 
-pub returns-clause-leads : goal.returns-clause-leads
-returns-clause-leads c = IfOk-weaker c.ask_one.result _ _ (λ asked so. so.leads) c.ask_one.ensures.so
+pub returns-in-More-clause-so : goal.returns-in-More-clause-so
+returns-in-More-clause-so c =
+    let e = c.in-More.ensures in
+    asks_more c.args.self.now c.read_head.new.self c.requires e.sound e.limits e.open e.window e.tells
 
-pub returns-clause-placed : goal.returns-clause-placed
-returns-clause-placed c = IfOk-weaker c.ask_one.result _ _ (λ asked so. so.placed) c.ask_one.ensures.so
+pub returns-in-Nothing-clause-so : goal.returns-in-Nothing-clause-so
+returns-in-Nothing-clause-so c =
+    let e = c.in-Nothing.ensures in
+    asks_nothing c.args.self.now c.read_head.new.self c.requires e.sound e.limits e.open e.window e.tells
 
-pub returns-clause-request : goal.returns-clause-request
-returns-clause-request c = IfOk-weaker c.ask_one.result _ _ (λ asked so. so.request) c.ask_one.ensures.so
+pub refuse_asked-requires : goal.refuse_asked-requires
+refuse_asked-requires c =
+    let e = c.in-Refuse.ensures in
+    let d = c.args.self.now in
+    let r = c.read_head.new.self in
+    silent_emptied (record d { request = r }) c.clear.new.self c.clear.ensures.cap (still_behind d r c.requires e.sound e.limits e.tells.0)
 
-pub returns-clause-window : goal.returns-clause-window
-returns-clause-window c = IfOk-weaker c.ask_one.result _ _ (λ asked so. so.window) c.ask_one.ensures.so
+pub returns-in-Refuse-clause-so : goal.returns-in-Refuse-clause-so
+returns-in-Refuse-clause-so c =
+    let e = c.in-Refuse.ensures in
+    let d = c.args.self.now in
+    let r = c.read_head.new.self in
+    let new = c.refuse_asked.new.self in
+    let code = c.in-Refuse.code in
+    IfOk-weaker c.refuse_asked.result _ (λ asked. AsksSo d new asked)
+    (λ asked h. subst (λ (x : Asked). AsksSo d new x) (sym h.0)
+    (asks_refused d r new code c.requires e.open e.window e.tells e.uses (refuses_emptied (record d { request = r }) c.clear.new.self new code false c.clear.ensures.bytes h.1)))
+    c.refuse_asked.ensures.refuses
 
-pub returns-clause-starts : goal.returns-clause-starts
-returns-clause-starts c = IfOk-weaker c.ask_one.result _ _ (λ asked so. so.starts) c.ask_one.ensures.so
+pub ask_behind-requires-clause-read : goal.ask_behind-requires-clause-read
+ask_behind-requires-clause-read c =
+    let e = c.in-Head.ensures in
+    read_behind c.args.self.now c.read_head.new.self c.requires e.sound e.limits e.tells
 
-pub returns-clause-heard : goal.returns-clause-heard
-returns-clause-heard c = IfOk-weaker c.ask_one.result _ _ (λ asked so. so.heard) c.ask_one.ensures.so
+pub ask_behind-requires-clause-head : goal.ask_behind-requires-clause-head
+ask_behind-requires-clause-head c = head_behind c.args.self.now c.read_head.new.self c.in-Head.ensures.tells
+
+pub returns-in-Head-clause-so : goal.returns-in-Head-clause-so
+returns-in-Head-clause-so c =
+    let e = c.in-Head.ensures in
+    IfOk-weaker c.ask_behind.result _ _ (λ asked h. asks_head c.args.self.now c.read_head.new.self c.ask_behind.new.self asked c.requires e.open e.window e.tells e.uses h) c.ask_behind.ensures.asks

@@ -2,7 +2,7 @@ use Rattle.std.proofs.Common.{sym, ap, ◌∙◌}
 use Rattle.httparse.specs.Grammar.{print_version}
 use Rattle.htx_arena.specs.Contents.{Contents}
 use Rattle.request_side.specs.Edits.{with_head}
-use Rattle.session_sides.proofs.directions.Directions.keep_head.Goals as goal
+use Rattle.session_sides.proofs.asking.keep_head.Goals as goal
 
 pub returns-clause-kept : goal.returns-clause-kept
 returns-clause-kept c = λ received holds line.
@@ -10,6 +10,4 @@ returns-clause-kept c = λ received holds line.
     (ap (λ (x : Contents). x.blocks) c.head.ensures.value ∙ holds.blocks)
 
 pub returns-clause-same : goal.returns-clause-same
-returns-clause-same c =
-    let d = c.args.self.now in
-    ap (λ (x : Contents). record d { request = with_head d.request x }) c.head.ensures.value
+returns-clause-same c = ap (λ (x : Contents). with_head c.args.request.now x) c.head.ensures.value
