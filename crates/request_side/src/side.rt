@@ -129,8 +129,8 @@ impl RequestSide {
         ensures limits { limits_of self.new ≡ limits_of self.old }
     {
         promise();
-        self.lane.discard();
         self.at_rest = false;
+        self.lane.discard();
     }
 
     /// Reads, filters and puts out as much of the request as there is room for. The array on which rules run changes.
