@@ -13,7 +13,8 @@ use Rattle.http_rules.specs.declared.config.Config.{Config}
 use Rattle.header_ops.specs.Headers.{HasEnd}
 use Rattle.http_rules.specs.Run.{IsHead}
 use Rattle.session_core.specs.History.{Coming}
-use Rattle.session_core.specs.Sided.{Asking, Reply, asker_in}
+use Rattle.session_core.specs.Place as at
+use Rattle.session_core.specs.Sided.{Asking, Reply, RequestSeen, asker_in}
 use Rattle.session_core.specs.declared.Source.TheVariants as source
 use Rattle.lane.specs.Asking.{array_of}
 use Rattle.request_side.specs.declared.kept.Kept.{Kept}
@@ -30,8 +31,8 @@ use Rattle.answer_side.specs.Stands.{AnswerStands, IsAsker, IsSoundSide}
 use Rattle.answer_side.specs.declared.asker.Asker.{Asker}
 use Rattle.answer_side.specs.declared.place.Place.TheVariants as answered
 use Rattle.answer_side.specs.declared.side.AnswerSide.{AnswerSide}
-use Rattle.session_sides.specs.Joined.{settings_of}
-use Rattle.session_sides.specs.Asks.{HasRead, Finishes, SendsSo, asker_for, fits_in}
+use Rattle.session_sides.specs.Joined.{IsAt, settings_of, request_of, answer_of}
+use Rattle.session_sides.specs.Asks.{HasRead, FinishesHead, asker_for, fits_in}
 use Rattle.session_sides.specs.declared.directions.Directions.{Directions}
 use Rattle.session_sides.proofs.Joining.{sound_request, sound_answer}
 
@@ -61,42 +62,56 @@ fits_false : (weighs size : ℕ) → (weighs ≤ size → false ≡ true) → na
 fits_false weighs size never = grind (arith, nat_tests)
 
 -- it fits
-pub finishes : (laws : AreEdits) (d : Directions) (was msg : Contents) (framing : Framing) → HasRead d → was.blocks ≡ list_of d.request → was.size ≡ array_size_of d.request → msg.size ≡ was.size
+pub finishes : (laws : AreEdits) (r : RequestSide) (was msg : Contents) (framing : Framing) → requests.place_of r ≡ asked.Idle → HasHead r → was.blocks ≡ list_of r → was.size ≡ array_size_of r
+    → msg.size ≡ was.size
     → ((head : Head) → was.blocks ≡ head_blocks head → msg.blocks ≡ head_blocks (finish_request head framing))
     → ((head : Head) → was.blocks ≡ head_blocks head → (true ≡ true) ↔ (load (head_blocks (finish_request head framing)) ≤ was.size))
-    → Finishes d (record d { request = with_head d.request msg }) framing true
-finishes laws d was msg framing read blocks size same finished fits =
-    let e : Edits d.request (with_head d.request msg) = edits_head laws d msg read (same ∙ size) in
+    → FinishesHead r (with_head r msg) framing true
+finishes laws r was msg framing idle has blocks size same finished fits =
     record {
-      read = read_edited d (with_head d.request msg) read e;
-      answer = refl;
-      rules = refl;
-      method = refl;
-      edits = e;
-      fits_is = λ head is. subst (λ (n : ℕ). fits_in n head framing ≡ true) (size ∙ array_sized laws d read)
-          (fits_true (load (head_blocks (finish_request head framing))) was.size ((fits head (blocks ∙ is)).0 refl));
+      edits = laws.edits r msg (same ∙ size) idle has;
+      fits_is = λ head is. subst (λ (n : ℕ). fits_in n head framing ≡ true) (size ∙ laws.size r has) (fits_true (load (head_blocks (finish_request head framing))) was.size ((fits head (blocks ∙ is)).0 refl));
       finished = λ on head is. finished head (blocks ∙ is);
       same = λ (off : true ≡ false). absurd (cc off);
     }
 
 -- it doesn't
-pub finishes_not : (laws : AreEdits) (d : Directions) (was msg : Contents) (framing : Framing) → HasRead d → was ≡ array_of d.request.lane → msg ≡ was
+pub finishes_not : (laws : AreEdits) (r : RequestSide) (was msg : Contents) (framing : Framing) → requests.place_of r ≡ asked.Idle → HasHead r → was ≡ array_of r.lane → msg ≡ was
     → ((head : Head) → was.blocks ≡ head_blocks head → (false ≡ true) ↔ (load (head_blocks (finish_request head framing)) ≤ was.size))
-    → Finishes d (record d { request = with_head d.request msg }) framing false
-finishes_not laws d was msg framing read is same fits =
-    let blocks : was.blocks ≡ list_of d.request = ap (λ (x : Contents). x.blocks) is in
-    let size : was.size ≡ array_size_of d.request = ap (λ (x : Contents). x.size) is in
-    let e : Edits d.request (with_head d.request msg) = edits_head laws d msg read (ap (λ (x : Contents). x.size) same ∙ size) in
+    → FinishesHead r (with_head r msg) framing false
+finishes_not laws r was msg framing idle has is same fits =
+    let blocks : was.blocks ≡ list_of r = ap (λ (x : Contents). x.blocks) is in
+    let size : was.size ≡ array_size_of r = ap (λ (x : Contents). x.size) is in
     record {
-      read = read_edited d (with_head d.request msg) read e;
+      edits = laws.edits r msg (ap (λ (x : Contents). x.size) same ∙ size) idle has;
+      fits_is = λ head at. subst (λ (n : ℕ). fits_in n head framing ≡ false) (size ∙ laws.size r has)
+          (fits_false (load (head_blocks (finish_request head framing))) was.size (λ h. (fits head (blocks ∙ at)).1 h));
+      finished = λ (on : false ≡ true). absurd (cc on);
+      same = λ off. ap (λ (x : Contents). with_head r x) (same ∙ is);
+    }
+
+-- The same of the directions: what else they hold stays.
+pub record Finishes (old new : Directions) (framing : Framing) (fits : Bool) : Type 0 where
+  pub read : HasRead new
+  pub answer : new.answer ≡ old.answer
+  pub rules : new.rules ≡ old.rules
+  pub method : new.method ≡ old.method
+  pub edits : Edits old.request new.request
+  pub fits_is : (head : Head) → list_of old.request ≡ head_blocks head → fits_in (settings_of old).limits.bufsize head framing ≡ fits
+  pub finished : fits ≡ true → (head : Head) → list_of old.request ≡ head_blocks head → list_of new.request ≡ head_blocks (finish_request head framing)
+  pub same : fits ≡ false → new ≡ old
+
+pub finishes_for : (d : Directions) (r : RequestSide) (framing : Framing) (fits : Bool) → HasRead d → FinishesHead d.request r framing fits → Finishes d (record d { request = r }) framing fits
+finishes_for d r framing fits read f =
+    record {
+      read = read_edited d r read f.edits;
       answer = refl;
       rules = refl;
       method = refl;
-      edits = e;
-      fits_is = λ head at. subst (λ (n : ℕ). fits_in n head framing ≡ false) (size ∙ array_sized laws d read)
-          (fits_false (load (head_blocks (finish_request head framing))) was.size (λ h. (fits head (blocks ∙ at)).1 h));
-      finished = λ (on : false ≡ true). absurd (cc on);
-      same = λ off. ap (λ (x : Contents). record d { request = with_head d.request x }) (same ∙ is);
+      edits = f.edits;
+      fits_is = λ head is. subst (λ (l : Limits). fits_in l.bufsize head framing ≡ fits) read.still.sound.request_limits (f.fits_is head is);
+      finished = f.finished;
+      same = λ off. ap (λ (x : RequestSide). record d { request = x }) (f.same off);
     }
 
 -- the finished head stands there
@@ -124,6 +139,29 @@ pub record SendsRequest (old new : RequestSide) (framing : Framing) (waits : Boo
   pub list : list_of new ≡ list_of old
   pub seen : ((requests.seen new).source ≡ source.Going) × ((requests.seen new).sent ≡ false) × ((requests.seen new).dropped ≡ false) × ((requests.seen new).awaits ≡ waits)
   pub limits : requests.limits_of new ≡ requests.limits_of old
+
+-- what a core sees of a request that goes out, of which nothing was put out
+pub record Begins (q : RequestSeen) (waits : Bool) (blocks : List Block) : Type 0 where
+  pub going : q.source ≡ source.Going
+  pub sent : q.sent ≡ false
+  pub dropped : q.dropped ≡ false
+  pub awaits : q.awaits ≡ waits
+  pub list : q.list ≡ blocks
+
+-- the head in the array goes out, and the body behind it in this framing
+pub record SendsSo (old new : Directions) (framing : Framing) (kept : Kept) : Type 0 where
+  pub leads : SendsOn old.request new.request framing
+  pub goes : (cfg : Config) (vars : Variables) (came : Coming) (asking : Asking Variables) (reply : Reply Variables)
+      → RequestStands cfg new.request vars came asking [] reply → RequestsSo cfg new.request vars came asking []
+  pub knows : (cfg : Config) (was asking : Asking Variables) (server : Coming) (put : List ℕ) (now : Variables) (saying : List ℕ)
+      → AnswerStands cfg old.answer was server put now saying → IsAsker (asker_for kept) (asker_in asking) → AnswerStands cfg new.answer asking server put now saying
+  pub rules : new.rules ≡ old.rules
+  pub method : new.method ≡ old.method
+  pub placed : IsAt new at.Opens
+  pub is_open : (request_of new).is_open ≡ (request_of old).is_open
+  pub window : (request_of new).window ≡ (request_of old).window
+  pub begins : Begins (request_of new) kept.awaits (list_of old.request)
+  pub answer : answer_of new ≡ answer_of old
 
 -- what request_side says of a request that goes out
 abbrev pub AreRequests : Type 0

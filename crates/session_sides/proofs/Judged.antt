@@ -36,9 +36,9 @@ use Rattle.request_side.specs.Seen.{list_of}
 use Rattle.request_side.specs.Edits.{Edits, array_size_of, with_head, framing_of, declared_of}
 use Rattle.request_side.specs.declared.side.RequestSide.{RequestSide}
 use Rattle.session_sides.specs.Joined.{IsSoundPair, settings_of}
-use Rattle.session_sides.specs.Asks.{HasRead, Came, Ruled, RulesRan, RefusesSo, Finishes, SendsSo, AsksOn, AsksBehind, method_at}
+use Rattle.session_sides.specs.Asks.{HasRead, Came, Ruled, RulesRan, RefusesSo, AsksOn, AsksBehind, method_at}
 use Rattle.session_sides.specs.declared.directions.Directions.{Directions}
-use Rattle.session_sides.proofs.Finished.{AreEdits, edits_head, array_sized}
+use Rattle.session_sides.proofs.Finished.{AreEdits, Finishes, SendsSo, edits_head, array_sized}
 use Rattle.session_sides.proofs.Forwarding.{asks_long, asks_unfit}
 use Rattle.session_sides.proofs.Joining.{sound_request, sound_rules}
 use Rattle.session_sides.proofs.Methods.{head_alone}

@@ -39,8 +39,9 @@ use Rattle.answer_side.specs.declared.place.Place.{Place as Answered}
 use Rattle.answer_side.specs.declared.place.Place.TheVariants as answered
 use Rattle.answer_side.specs.declared.side.AnswerSide.{AnswerSide}
 use Rattle.session_sides.specs.Joined.{Holds, KeepsMethod, DirectionsStand, settings_of, request_of}
-use Rattle.session_sides.specs.Asks.{Ruled, Finishes, SendsSo, GoesOn, asker_for, fits_in}
+use Rattle.session_sides.specs.Asks.{Ruled, GoesOn, asker_for, fits_in}
 use Rattle.session_sides.specs.declared.directions.Directions.{Directions}
+use Rattle.session_sides.proofs.Finished.{Finishes, SendsSo}
 use Rattle.session_sides.proofs.AskLemmas.{asks_behind}
 use Rattle.session_sides.proofs.Forwarding.{asks_server}
 use Rattle.session_sides.proofs.Methods.{head_alone}

@@ -12,12 +12,10 @@ use Rattle.h1_head.specs.Lines.{IsRequestLine}
 use Rattle.session_model.specs.Env.{request_env}
 use Rattle.session_model.specs.Amending.{reply_sent, refusal_sent, behind_reply}
 use Rattle.session_core.specs.History.{Coming}
-use Rattle.session_core.specs.Sided.{Asking, Reply, RequestSeen, Sided, asker_in}
+use Rattle.session_core.specs.Sided.{Asking, Sided}
 use Rattle.session_core.specs.Stands.{kept_with}
 use Rattle.session_core.specs.Leads.{AsksTo, AskWaits, AskKeeps}
-use Rattle.session_core.specs.Place as at
 use Rattle.session_core.specs.Place.{place_behind}
-use Rattle.session_core.specs.declared.Source.TheVariants as source
 use Rattle.session_core.specs.declared.sides.Asked.{Asked}
 use Rattle.session_core.specs.declared.sides.Asked.TheVariants as asks
 use Rattle.session_core.specs.Consequences.{IsTotal}
@@ -32,15 +30,14 @@ use Rattle.session_rules.specs.Ruling.{HasReply}
 use Rattle.proxy_meaning.specs.Product.{meaning_of}
 use Rattle.request_side.specs.declared.kept.Kept.{Kept}
 use Rattle.request_side.specs.Kept.{IsKept}
-use Rattle.request_side.specs.Reads.{HasHead, HeadRead, Holds, SendsOn}
+use Rattle.request_side.specs.Reads.{HasHead, HeadRead, Holds}
 use Rattle.request_side.specs.Seen as requests
 use Rattle.request_side.specs.Seen.{list_of}
-use Rattle.request_side.specs.Stands.{RequestStands}
-use Rattle.request_side.specs.Steps.{RequestsSo}
 use Rattle.request_side.specs.Edits.{Edits, framing_of, declared_of}
 use Rattle.request_side.specs.declared.place.Place.TheVariants as asked
+use Rattle.request_side.specs.declared.side.RequestSide.{RequestSide}
 use Rattle.answer_side.specs.Seen as answers
-use Rattle.answer_side.specs.Stands.{AnswerStands, IsAsker}
+use Rattle.answer_side.specs.Stands.{AnswerStands}
 use Rattle.answer_side.specs.declared.place.Place.TheVariants as answered
 use Rattle.answer_side.specs.declared.asker.Asker.{Asker}
 use Rattle.answer_side.specs.declared.side.AnswerSide.{AnswerSide}
@@ -146,42 +143,15 @@ abbrev pub fits_in : (size : ℕ) → Head → Framing → Bool
 fits_in size head framing = nat_le (load (head_blocks (finish_request head framing))) size
 
 -- The head in the array is made the one that its server is sent, where it fits; else nothing changes.
-pub record Finishes (old new : Directions) (framing : Framing) (fits : Bool) : Type 0 where
-  pub read : HasRead new
-  pub answer : new.answer ≡ old.answer
-  pub rules : new.rules ≡ old.rules
-  pub method : new.method ≡ old.method
-  pub edits : Edits old.request new.request
-  pub fits_is : (head : Head) → list_of old.request ≡ head_blocks head → fits_in (settings_of old).limits.bufsize head framing ≡ fits
-  pub finished : fits ≡ true → (head : Head) → list_of old.request ≡ head_blocks head → list_of new.request ≡ head_blocks (finish_request head framing)
+pub record FinishesHead (old new : RequestSide) (framing : Framing) (fits : Bool) : Type 0 where
+  pub edits : Edits old new
+  pub fits_is : (head : Head) → list_of old ≡ head_blocks head → fits_in (requests.limits_of old).bufsize head framing ≡ fits
+  pub finished : fits ≡ true → (head : Head) → list_of old ≡ head_blocks head → list_of new ≡ head_blocks (finish_request head framing)
   pub same : fits ≡ false → new ≡ old
 
 -- what an answer has to know of a request of which this is kept
 abbrev pub asker_for : Kept → Asker
 asker_for kept = record { head_asked = kept.head_asked; is_http_11 = kept.is_http_11; keep = kept.keep }
-
--- what a core sees of a request that goes out, of which nothing was put out
-pub record Begins (q : RequestSeen) (waits : Bool) (blocks : List Block) : Type 0 where
-  pub going : q.source ≡ source.Going
-  pub sent : q.sent ≡ false
-  pub dropped : q.dropped ≡ false
-  pub awaits : q.awaits ≡ waits
-  pub list : q.list ≡ blocks
-
--- the head in the array goes out, and the body behind it in this framing
-pub record SendsSo (old new : Directions) (framing : Framing) (kept : Kept) : Type 0 where
-  pub leads : SendsOn old.request new.request framing
-  pub goes : (cfg : Config) (vars : Variables) (came : Coming) (asking : Asking Variables) (reply : Reply Variables)
-      → RequestStands cfg new.request vars came asking [] reply → RequestsSo cfg new.request vars came asking []
-  pub knows : (cfg : Config) (was asking : Asking Variables) (server : Coming) (put : List ℕ) (now : Variables) (saying : List ℕ)
-      → AnswerStands cfg old.answer was server put now saying → IsAsker (asker_for kept) (asker_in asking) → AnswerStands cfg new.answer asking server put now saying
-  pub rules : new.rules ≡ old.rules
-  pub method : new.method ≡ old.method
-  pub placed : IsAt new at.Opens
-  pub is_open : (request_of new).is_open ≡ (request_of old).is_open
-  pub window : (request_of new).window ≡ (request_of old).window
-  pub begins : Begins (request_of new) kept.awaits (list_of old.request)
-  pub answer : answer_of new ≡ answer_of old
 
 -- ---- what is made of it
 

@@ -10,10 +10,11 @@ ghost use Rattle.proxy_meaning.specs.Product.{filters_of, replaces};
 ghost use Rattle.request_side.specs.Edits.{framing_of, declared_of};
 ghost use Rattle.http_rules.specs.Run.{IsHead};
 ghost use Rattle.h1_head.specs.Lines.{IsRequestLine};
-ghost use Rattle.request_side.specs.Reads.{Holds};
+ghost use Rattle.request_side.specs.Reads.{Holds, HasHead};
 ghost use Rattle.request_side.specs.Kept.{IsKept};
-ghost use Rattle.request_side.specs.Seen.{list_of};
-ghost use Rattle.session_sides.specs.Asks.{IsSilent, HasRead, RulesRan, RefusesSo, Finishes, SendsSo, AsksOn, AsksBehind, AsksSo, asker_for, method_at};
+ghost use Rattle.request_side.specs.Seen.{list_of, place_of};
+ghost use Rattle.request_side.specs.declared.place.Place.TheVariants as place;
+ghost use Rattle.session_sides.specs.Asks.{IsSilent, HasRead, RulesRan, RefusesSo, FinishesHead, AsksOn, AsksBehind, AsksSo, asker_for, method_at};
 ghost use Rattle.session_sides.specs.Joined.{Placed, settings_of};
 
 use crate::directions::Directions;
@@ -111,6 +112,21 @@ fn declares_too_much(request: &RequestSide, filters: &Filters) -> bool
     }
 }
 
+/// Finishes the head for its server: false where it would not fit, and then nothing changes.
+fn finish_head(request: &mut RequestSide, framing: Framing) -> bool
+    requires idle { place_of request.old ≡ place.Idle }
+    requires has { HasHead request.old }
+    requires head { IsHead (list_of request.old) }
+    ensures { FinishesHead request.old request.new framing result }
+{
+    edited();
+    edits_of_heads();
+    match finish_request(request.head(), framing) {
+        Ok(()) => true,
+        Err(Full) => false,
+    }
+}
+
 impl<'c> Directions<'c> {
     /// Reads the next request, runs its rules and finishes it.
     pub(crate) fn ask_next(&mut self) -> Result<Asked, OutOfMemory>
@@ -139,7 +155,12 @@ impl<'c> Directions<'c> {
     {
         let kept = keep_head(&mut self.request);
         let verdict = self.run_rules()?;
-        self.decide(kept, verdict)
+        match verdict {
+            Verdict::Pass => self.forward(kept),
+            Verdict::Deny(code) => self.refuse_asked(code, kept.head_asked),
+            Verdict::Fail(_) => self.refuse_asked(500, kept.head_asked),
+            Verdict::Reply => self.reply_asked(kept),
+        }
     }
 
     /// Runs the rules of requests on the head that was read, and keeps its method as they leave it.
@@ -157,22 +178,6 @@ impl<'c> Directions<'c> {
         Ok(verdict)
     }
 
-    /// What the verdict of the rules asks for.
-    fn decide(&mut self, kept: Kept, verdict: Verdict) -> Result<Asked, OutOfMemory>
-        requires read { HasRead self.old }
-        requires passes { verdict ≡ verdicts.Pass → IsHead (list_of self.old.request) }
-        requires replies { verdict ≡ verdicts.Reply → HasReply self.old.rules.said.blocks }
-        ensures asks { IfOk result (AsksOn self.old self.new kept verdict) }
-        ensures succeeds { holds_pattern (settings_of self.old) ≡ false → IsOk result }
-    {
-        match verdict {
-            Verdict::Pass => self.forward(kept),
-            Verdict::Deny(code) => self.refuse_asked(code, kept.head_asked),
-            Verdict::Fail(_) => self.refuse_asked(500, kept.head_asked),
-            Verdict::Reply => self.reply_asked(kept),
-        }
-    }
-
     /// The head goes to a server, where its length is within the limits and it fits as it is finished.
     fn forward(&mut self, kept: Kept) -> Result<Asked, OutOfMemory>
         requires read { HasRead self.old }
@@ -181,42 +186,19 @@ impl<'c> Directions<'c> {
         ensures succeeds { holds_pattern (settings_of self.old) ≡ false → IsOk result }
     {
         body_stays();
+        requests();
         let filters = &self.rules.config().req_filters;
         if declares_too_much(&self.request, filters) {
             return self.refuse_asked(413, kept.head_asked);
         }
         let framing = sent_framing(&self.request, filters);
-        if self.finish(framing) {
-            self.send_on(framing, kept);
+        if finish_head(&mut self.request, framing) {
+            self.answer.begin(asker_of(&kept));
+            self.request.send(framing, kept.awaits);
             Ok(Asked::Send)
         } else {
             self.refuse_asked(500, kept.head_asked)
         }
-    }
-
-    /// Finishes the head for its server: false where it would not fit, and then nothing changes.
-    fn finish(&mut self, framing: Framing) -> bool
-        requires read { HasRead self.old }
-        requires head { IsHead (list_of self.old.request) }
-        ensures { Finishes self.old self.new framing result }
-    {
-        edited();
-        edits_of_heads();
-        match finish_request(self.request.head(), framing) {
-            Ok(()) => true,
-            Err(Full) => false,
-        }
-    }
-
-    /// The finished head goes out, and the body behind it in this framing.
-    fn send_on(&mut self, framing: Framing, kept: Kept)
-        requires read { HasRead self.old }
-        requires head { IsHead (list_of self.old.request) }
-        ensures { SendsSo self.old self.new framing kept }
-    {
-        requests();
-        self.answer.begin(asker_of(&kept));
-        self.request.send(framing, kept.awaits);
     }
 
     /// No server is asked, and this refusal is said.

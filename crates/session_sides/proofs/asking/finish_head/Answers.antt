@@ -1,7 +1,7 @@
 use Rattle.std.proofs.Common.{ap, ◌∙◌}
 use Rattle.htx_arena.specs.Contents.{Contents}
 use Rattle.session_sides.proofs.Finished.{finishes, finishes_not, has_end}
-use Rattle.session_sides.proofs.directions.Directions.finish.Goals as goal
+use Rattle.session_sides.proofs.asking.finish_head.Goals as goal
 
 pub finish_request-requires : goal.finish_request-requires
 finish_request-requires c =
@@ -10,10 +10,11 @@ finish_request-requires c =
 pub returns-in-Ok : goal.returns-in-Ok
 returns-in-Ok c =
     let e = c.in-Ok.ensures in
-    finishes (record { size = c.edited.ensures.size; edits = c.edited.ensures.edits }) c.args.self.now c.head.result.now c.finish_request.new.msg c.args.framing c.requires.read
+    finishes (record { size = c.edited.ensures.size; edits = c.edited.ensures.edits }) c.args.request.now c.head.result.now c.finish_request.new.msg c.args.framing c.requires.idle c.requires.has
     (ap (λ (x : Contents). x.blocks) c.head.ensures.value) (ap (λ (x : Contents). x.size) c.head.ensures.value) e.size e.ok e.fits
 
 pub returns-in-Err : goal.returns-in-Err
 returns-in-Err c =
     let e = c.in-Err.ensures in
-    finishes_not (record { size = c.edited.ensures.size; edits = c.edited.ensures.edits }) c.args.self.now c.head.result.now c.finish_request.new.msg c.args.framing c.requires.read c.head.ensures.value e.full e.fits
+    finishes_not (record { size = c.edited.ensures.size; edits = c.edited.ensures.edits }) c.args.request.now c.head.result.now c.finish_request.new.msg c.args.framing c.requires.idle c.requires.has
+    c.head.ensures.value e.full e.fits
