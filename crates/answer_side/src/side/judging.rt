@@ -55,33 +55,12 @@ impl AnswerSide {
         ensures ready { IsReady rules.new }
         ensures config { config_of rules.new ≡ config_of rules.old }
     {
-        let not_modified = self.is_not_modified();
-        self.judge_by(rules, method, not_modified)
-    }
-
-    /// The same, where it is known whether the status of the head is 304.
-    fn judge_by(
-        &mut self,
-        rules: &mut SessionRules<'_>,
-        method: &[u8],
-        not_modified: bool,
-    ) -> Result<(), OutOfMemory>
-        requires between { IsBetween self.old }
-        requires has { HasHead self.old }
-        requires ready { IsReady rules.old }
-        requires size { array_size rules.old ≡ size_of self.old }
-        ensures leads { OnOk result ((cfg : Config) (asking : Asking Variables) (server : Coming) (put saying : List ℕ) (received : Received) → FinalHead cfg self.old asking server put received → blocks_of self.old.lane ≡ head_blocks received.head
-            → RunsFor rules.old method.now cfg asking → rules.old.vars ≡ answering asking.vars → not_modified ≡ spec.is_not_modified received.head → Finds cfg self.new asking server put saying rules.new.vars) }
-        ensures goes_out { OnOk result (GoesOut self.old self.new) }
-        ensures succeeds { holds_pattern (config_of rules.old) ≡ false → IsOk result }
-        ensures ready { IsReady rules.new }
-        ensures config { config_of rules.new ≡ config_of rules.old }
-    {
         body_stays();
         replies_are_plain();
+        let not_modified = self.is_not_modified();
         let verdict = self.run_rules(rules, method)?;
         match verdict {
-            Verdict::Pass => self.limit(rules, method, not_modified),
+            Verdict::Pass => self.amend(rules, method, not_modified),
             Verdict::Deny(code) => self.refuse(rules, code, method),
             Verdict::Fail(_) => self.refuse(rules, 500, method),
             Verdict::Reply => self.reply(rules, method),
@@ -116,8 +95,16 @@ impl AnswerSide {
         rules.on_response(method, self.lane.head())
     }
 
-    /// A response that rules passed is refused where its declared length passes a limit.
-    fn limit(
+    /// Whether the declared length of a body passes a limit.
+    fn is_too_long(&self, filters: &Filters) -> bool
+        ensures { result ≡ (declares_too_much (filters_of filters.now) (declared_of self.now.lane) && not (is_bodiless (framing_of self.now.lane))) }
+    {
+        declares_too_much(filters, self.lane.declared(), self.lane.framing())
+    }
+
+    /// A response that rules passed is refused where its declared length passes a limit. Else the rules run on all that the client is
+    /// sent, and the head that they leave is finished.
+    fn amend(
         &mut self,
         rules: &mut SessionRules<'_>,
         method: &[u8],
@@ -137,34 +124,6 @@ impl AnswerSide {
         if self.is_too_long(&rules.config().res_filters) {
             return self.refuse(rules, 502, method);
         }
-        self.amend(rules, method, not_modified)
-    }
-
-    /// Whether the declared length of a body passes a limit.
-    fn is_too_long(&self, filters: &Filters) -> bool
-        ensures { result ≡ (declares_too_much (filters_of filters.now) (declared_of self.now.lane) && not (is_bodiless (framing_of self.now.lane))) }
-    {
-        declares_too_much(filters, self.lane.declared(), self.lane.framing())
-    }
-
-    /// Runs the rules on all that the client is sent, and finishes the head that they leave.
-    fn amend(
-        &mut self,
-        rules: &mut SessionRules<'_>,
-        method: &[u8],
-        not_modified: bool,
-    ) -> Result<(), OutOfMemory>
-        requires between { IsBetween self.old }
-        requires has { HasHead self.old }
-        requires ready { IsReady rules.old }
-        requires size { array_size rules.old ≡ size_of self.old }
-        ensures leads { OnOk result ((cfg : Config) (asking : Asking Variables) (server : Coming) (put saying : List ℕ) (received : Received) → FinalHead cfg self.old asking server put received → Passes cfg self.old asking received rules.old.vars
-            → RunsFor rules.old method.now cfg asking → not_modified ≡ spec.is_not_modified received.head → response_declares_too_much (meaning_of cfg) received ≡ false → Finds cfg self.new asking server put saying rules.new.vars) }
-        ensures goes_out { OnOk result (GoesOut self.old self.new) }
-        ensures succeeds { holds_pattern (config_of rules.old) ≡ false → IsOk result }
-        ensures ready { IsReady rules.new }
-        ensures config { config_of rules.new ≡ config_of rules.old }
-    {
         if self.run_after(rules, method)? {
             self.finish(rules, not_modified);
             return Ok(());

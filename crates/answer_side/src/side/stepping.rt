@@ -48,7 +48,7 @@ impl AnswerSide {
         Ok(())
     }
 
-    /// Where heads are read, reads them and begins what answers.
+    /// Where heads are read, reads them, and begins what answers once a final one came, or none is to be had.
     fn decide(&mut self, rules: &mut SessionRules<'_>, method: &[u8]) -> Result<(), OutOfMemory>
         requires sound { IsSoundSide self.old }
         requires serving { is_serving (place_of self.old) ≡ true }
@@ -61,33 +61,9 @@ impl AnswerSide {
         ensures ready { IsReady rules.new }
         ensures config { config_of rules.new ≡ config_of rules.old }
     {
-        if self.is_hearing() {
-            return self.find(rules, method);
+        if !self.is_hearing() {
+            return Ok(());
         }
-        Ok(())
-    }
-
-    /// Whether heads are read.
-    fn is_hearing(&self) -> bool
-        ensures heads { result ≡ true → place_of self.now ≡ place.Heads }
-        ensures rests { result ≡ false → place_of self.now ≢ place.Heads }
-    {
-        self.place == Place::Heads
-    }
-
-    /// Reads heads, and begins what answers once a final one came, or none is to be had.
-    fn find(&mut self, rules: &mut SessionRules<'_>, method: &[u8]) -> Result<(), OutOfMemory>
-        requires sound { IsSoundSide self.old }
-        requires heads { place_of self.old ≡ place.Heads }
-        requires ready { IsReady rules.old }
-        requires size { array_size rules.old ≡ size_of self.old }
-        ensures leads { OnOk result ((cfg : Config) (asking : Asking Variables) (server : Coming) (put : List ℕ) (now : Variables) (saying : List ℕ) → AnswerStands cfg self.old asking server put now saying
-            → RunsFor rules.old method.now cfg asking → VarsAt (place_of self.old) (answering asking.vars) now rules.old.vars → Decides cfg self.old self.new asking server put saying rules.new.vars) }
-        ensures keeps { OnOk result (KeepsOn self.old self.new) }
-        ensures succeeds { holds_pattern (config_of rules.old) ≡ false → IsOk result }
-        ensures ready { IsReady rules.new }
-        ensures config { config_of rules.new ≡ config_of rules.old }
-    {
         match self.hear() {
             Heard::More => {
                 self.at_rest = true;
@@ -97,5 +73,13 @@ impl AnswerSide {
             Heard::Final => self.judge(rules, method),
             Heard::Refused => self.refuse(rules, 502, method),
         }
+    }
+
+    /// Whether heads are read.
+    fn is_hearing(&self) -> bool
+        ensures heads { result ≡ true → place_of self.now ≡ place.Heads }
+        ensures rests { result ≡ false → place_of self.now ≢ place.Heads }
+    {
+        self.place == Place::Heads
     }
 }
