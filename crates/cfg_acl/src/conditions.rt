@@ -1,14 +1,14 @@
 //! Conditions: groups of terms behind `if` or `unless`.
-ghost use Rattle.std.specs.Prelude.{◌≡◌, ◌+◌, ◌<◌, ◌≤◌, ◌∷◌, [], length, IfOk};
+ghost use Rattle.std.specs.Prelude.{◌≡◌, ◌+◌, ◌<◌, ◌≤◌, ◌++◌, ◌∷◌, [], length, IfOk};
 ghost use Rattle.cfg_expr.specs.Faults.{Gives, ReadsText};
 ghost use Rattle.cfg_acl.specs.Conditions.{is_or, is_open, braces, tests_at, negated_or_not, marked, term_at, with_group, with_word, groups_of, condition_of, rule_end};
 
 use crate::copies::move_on;
-use crate::names::named_tests;
+use crate::names::{alone, named_tests};
 use crate::test::read_test;
 use crate::{AclList, WordsLeft};
-use acl_eval::{Cond, GroupList, Term, TermList, Test, TestList};
-use cfg_expr::{Side, TextFault, TextKind};
+use acl_eval::{Cond, GroupList, Term, TermList, TestList};
+use cfg_expr::{Side, TextFault, TextKind, is_word};
 use px_pattern::Patterns;
 use px_sample::OutOfMemory;
 use std::alloc::Global;
@@ -17,23 +17,14 @@ use std::alloc::Global;
 fn is_or(word: &[u8]) -> bool
     ensures { result ≡ is_or word.now }
 {
-    word == b"or".as_slice() || word == b"||".as_slice()
+    is_word(word, b"or") || is_word(word, b"||")
 }
 
 #[tactic(auto, unfolding(crate::specs::Conditions::is_open))]
 fn is_open(word: &[u8]) -> bool
     ensures { result ≡ is_open word.now }
 {
-    word == b"{".as_slice()
-}
-
-/// A test alone.
-fn alone(alloc: Global, test: Test) -> Result<TestList, OutOfMemory>
-    ensures { IfOk result (λ tests. tests ≡ test ∷ []) }
-{
-    let mut tests = TestList::new(alloc);
-    tests.push(test)?;
-    Ok(tests)
+    is_word(word, b"{")
 }
 
 /// The test in braces, and the words behind them.
@@ -55,7 +46,10 @@ fn read_braces<'w, P: Patterns>(
             let tests = alone(alloc, test)?;
             Ok((tests, behind))
         }
-        None => Err(TextFault::Refused(TextKind::Acl)),
+        None => {
+            drop(test);
+            Err(TextFault::Refused(TextKind::Acl))
+        }
     }
 }
 
@@ -145,10 +139,27 @@ impl Groups {
     {
         let Groups { mut whole, terms } = self;
         if terms.is_empty() {
+            drop(whole);
             return Err(TextFault::Refused(TextKind::Acl));
         }
         whole.push(terms)?;
         Ok(whole)
+    }
+
+    /// With one more term in the group that goes on.
+    fn with_term(self, term: Term) -> Result<Groups, OutOfMemory>
+        requires { length self.terms < 1000 }
+        ensures { IfOk result (λ groups. groups ≡ record { whole = self.whole; terms = self.terms ++ term ∷ [] }) }
+    {
+        let Groups { whole, mut terms } = self;
+        match terms.push(term) {
+            Ok(()) => Ok(Groups { whole, terms }),
+            Err(fault) => {
+                drop(whole);
+                drop(terms);
+                Err(fault)
+            }
+        }
     }
 }
 
@@ -172,10 +183,16 @@ fn with_word<'w, P: Patterns>(
         let terms = TermList::new(alloc);
         return Ok((Groups { whole, terms }, others));
     }
-    let (term, behind) = term_at(alloc, side, lines, word, others, pats)?;
-    let Groups { whole, mut terms } = so_far;
-    terms.push(term)?;
-    Ok((Groups { whole, terms }, behind))
+    match term_at(alloc, side, lines, word, others, pats) {
+        Ok((term, behind)) => {
+            let groups = so_far.with_term(term)?;
+            Ok((groups, behind))
+        }
+        Err(fault) => {
+            drop(so_far);
+            Err(fault)
+        }
+    }
 }
 
 /// Groups of terms, which `or` or `||` joins.
@@ -207,6 +224,7 @@ fn read_groups<P: Patterns>(
         }
     }
     if left.len() > 0 {
+        drop(groups);
         return Err(TextFault::Refused(TextKind::Acl));
     }
     groups.closed()
@@ -246,10 +264,10 @@ pub fn read_rule_end<P: Patterns>(
     let Some(word) = others.next() else {
         return Ok(None);
     };
-    if word == b"if".as_slice() {
+    if is_word(word, b"if") {
         return read_condition(alloc, side, lines, false, others, pats);
     }
-    if word == b"unless".as_slice() {
+    if is_word(word, b"unless") {
         return read_condition(alloc, side, lines, true, others, pats);
     }
     Err(TextFault::Refused(TextKind::Argument))

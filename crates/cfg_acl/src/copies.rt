@@ -5,7 +5,7 @@ ghost use Rattle.cfg_acl.specs.Lines.{test_on};
 
 use crate::WrittenTest;
 use acl_eval::{Test, TestValue, ValueList};
-use cfg_expr::{Side, Source, TextFault, TextKind, on_side};
+use cfg_expr::{Side, Source, TextFault, TextKind, Written, on_side};
 use px_conv::Conv;
 use px_expr::{ConvList, Expr};
 use px_sample::{OutOfMemory, Text};
@@ -26,6 +26,20 @@ fn copy_text(alloc: Global, text: &Text) -> Result<Text, OutOfMemory>
     Text::copy(alloc, text.as_slice())
 }
 
+/// Both texts of `iif`.
+fn copy_iif(alloc: Global, first: &Text, second: &Text) -> Result<Conv, OutOfMemory>
+    ensures { IfOk result (λ copied. copied ≡ Conv.Iif first.now second.now) }
+{
+    let first = copy_text(alloc, first)?;
+    match copy_text(alloc, second) {
+        Ok(second) => Ok(Conv::Iif(first, second)),
+        Err(fault) => {
+            drop(first);
+            Err(fault)
+        }
+    }
+}
+
 fn copy_conv(alloc: Global, conv: &Conv) -> Result<Conv, OutOfMemory>
     ensures { IfOk result (λ copied. copied ≡ conv.now) }
 {
@@ -40,9 +54,7 @@ fn copy_conv(alloc: Global, conv: &Conv) -> Result<Conv, OutOfMemory>
         Conv::Word(index, separators, count) => {
             Ok(Conv::Word(*index, copy_text(alloc, separators)?, *count))
         }
-        Conv::Iif(first, second) => {
-            Ok(Conv::Iif(copy_text(alloc, first)?, copy_text(alloc, second)?))
-        }
+        Conv::Iif(first, second) => copy_iif(alloc, first, second),
         Conv::Add(n) => Ok(Conv::Add(*n)),
         Conv::Sub(n) => Ok(Conv::Sub(*n)),
         Conv::Mul(n) => Ok(Conv::Mul(*n)),
@@ -93,22 +105,45 @@ fn copy_values(alloc: Global, values: &ValueList) -> Result<ValueList, OutOfMemo
     Ok(copied)
 }
 
+/// A copy of an expression.
+fn copy_written(alloc: Global, written: &Written) -> Result<Written, OutOfMemory>
+    ensures { IfOk result (λ copied. copied ≡ written.now) }
+{
+    let convs = copy_convs(alloc, &written.convs)?;
+    match copy_source(alloc, &written.source) {
+        Ok(source) => Ok(Written { source, convs }),
+        Err(fault) => {
+            drop(convs);
+            Err(fault)
+        }
+    }
+}
+
+/// A copy of a test.
+fn copy_test(alloc: Global, test: &WrittenTest) -> Result<WrittenTest, OutOfMemory>
+    ensures { IfOk result (λ copied. copied ≡ test.now) }
+{
+    let values = copy_values(alloc, &test.values)?;
+    match copy_written(alloc, &test.written) {
+        Ok(written) => Ok(WrittenTest {
+            written,
+            how: test.how,
+            icase: test.icase,
+            values,
+        }),
+        Err(fault) => {
+            drop(values);
+            Err(fault)
+        }
+    }
+}
+
 /// A copy of a test with the fetch that its source is in a direction.
 pub(crate) fn copy_on(alloc: Global, side: Side, written: &WrittenTest) -> Result<Test, TextFault>
     ensures { Gives (λ test. test) result (test_on side written.now) }
 {
-    let source = copy_source(alloc, &written.written.source)?;
-    let Some(fetch) = on_side(side, source) else {
-        return Err(TextFault::Refused(TextKind::Acl));
-    };
-    let convs = copy_convs(alloc, &written.written.convs)?;
-    let values = copy_values(alloc, &written.values)?;
-    Ok(Test {
-        expr: Expr { fetch, convs },
-        how: written.how,
-        icase: written.icase,
-        values,
-    })
+    let copied = copy_test(alloc, written)?;
+    move_on(side, copied)
 }
 
 /// The test itself with the fetch that its source is in a direction.
@@ -116,19 +151,22 @@ pub(crate) fn move_on(side: Side, written: WrittenTest) -> Result<Test, TextFaul
     ensures { Gives (λ test. test) result (test_on side written) }
 {
     let WrittenTest {
-        written,
+        written: Written { source, convs },
         how,
         icase,
         values,
     } = written;
-    let convs = written.convs;
-    match on_side(side, written.source) {
+    match on_side(side, source) {
         Some(fetch) => Ok(Test {
             expr: Expr { fetch, convs },
             how,
             icase,
             values,
         }),
-        None => Err(TextFault::Refused(TextKind::Acl)),
+        None => {
+            drop(convs);
+            drop(values);
+            Err(TextFault::Refused(TextKind::Acl))
+        }
     }
 }

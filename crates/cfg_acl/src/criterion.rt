@@ -6,7 +6,7 @@ ghost use Rattle.cfg_acl.specs.Tests.{takes_suffix, suffix_match, match_in, fetc
 
 use acl_eval::Match;
 use cfg_expr::{
-    Call, Side, Source, TextFault, TextKind, Written, call_in, placed_source, read_convs,
+    Call, Side, Source, TextFault, TextKind, Written, call_in, is_word, placed_source, read_convs,
 };
 use px_expr::{Conv, ConvList};
 use px_pattern::Patterns;
@@ -24,25 +24,25 @@ pub(crate) struct Criterion {
 fn takes_suffix(name: &[u8]) -> bool
     ensures { result ≡ takes_suffix name.now }
 {
-    name == b"path".as_slice()
-        || name == b"url".as_slice()
-        || name == b"base".as_slice()
-        || name == b"hdr".as_slice()
+    is_word(name, b"path")
+        || is_word(name, b"url")
+        || is_word(name, b"base")
+        || is_word(name, b"hdr")
 }
 
 #[tactic(auto, unfolding(crate::specs::Tests::suffix_match))]
 fn suffix_match(suffix: &[u8]) -> Option<Match>
     ensures { result ≡ suffix_match suffix.now }
 {
-    if suffix == b"_beg".as_slice() {
+    if is_word(suffix, b"_beg") {
         Some(Match::Beg)
-    } else if suffix == b"_end".as_slice() {
+    } else if is_word(suffix, b"_end") {
         Some(Match::End)
-    } else if suffix == b"_sub".as_slice() {
+    } else if is_word(suffix, b"_sub") {
         Some(Match::Sub)
-    } else if suffix == b"_reg".as_slice() {
+    } else if is_word(suffix, b"_reg") {
         Some(Match::Reg)
-    } else if suffix == b"_len".as_slice() {
+    } else if is_word(suffix, b"_len") {
         Some(Match::Len)
     } else {
         None
@@ -89,6 +89,7 @@ fn convs_to_end<P: Patterns>(
     if rest.is_empty() {
         Ok(convs)
     } else {
+        drop(convs);
         Err(TextFault::Refused(TextKind::Expr))
     }
 }
@@ -108,9 +109,16 @@ pub(crate) fn read_criterion<P: Patterns>(
     };
     let how = match_in(call.name);
     let (source, rest) = placed_source(alloc, place, fetch_form(call))?;
-    let convs = convs_to_end(alloc, rest, pats)?;
-    let written = Written { source, convs };
-    Ok(Criterion { written, how })
+    match convs_to_end(alloc, rest, pats) {
+        Ok(convs) => Ok(Criterion {
+            written: Written { source, convs },
+            how,
+        }),
+        Err(fault) => {
+            drop(source);
+            Err(fault)
+        }
+    }
 }
 
 /// The match of what a fetch gives.

@@ -5,10 +5,10 @@ ghost use Rattle.cfg_acl.specs.Flags.{match_of, flag_of, flags_from};
 
 use crate::WordsLeft;
 use acl_eval::Match;
-use cfg_expr::{TextFault, TextKind};
+use cfg_expr::{TextFault, TextKind, is_word};
 
 /// The flags so far: `NO_FLAGS` in front of the first.
-#[derive(Clone, Copy, Debug)]
+#[derive(Clone, Copy)]
 pub(crate) struct Flags {
     /// `-i`: case is ignored.
     pub(crate) icase: bool,
@@ -23,7 +23,7 @@ pub(crate) const NO_FLAGS: Flags = Flags {
 };
 
 /// What a word says where a flag may stand.
-#[derive(Clone, Copy, Debug)]
+#[derive(Clone, Copy)]
 enum Flag {
     IgnoreCase,
     Match,
@@ -37,23 +37,23 @@ enum Flag {
 fn match_of(word: &[u8]) -> Option<Match>
     ensures { result ≡ match_of word.now }
 {
-    if word == b"found".as_slice() {
+    if is_word(word, b"found") {
         Some(Match::Found)
-    } else if word == b"bool".as_slice() {
+    } else if is_word(word, b"bool") {
         Some(Match::Bool)
-    } else if word == b"int".as_slice() {
+    } else if is_word(word, b"int") {
         Some(Match::Int)
-    } else if word == b"len".as_slice() {
+    } else if is_word(word, b"len") {
         Some(Match::Len)
-    } else if word == b"str".as_slice() {
+    } else if is_word(word, b"str") {
         Some(Match::Str)
-    } else if word == b"beg".as_slice() {
+    } else if is_word(word, b"beg") {
         Some(Match::Beg)
-    } else if word == b"end".as_slice() {
+    } else if is_word(word, b"end") {
         Some(Match::End)
-    } else if word == b"sub".as_slice() {
+    } else if is_word(word, b"sub") {
         Some(Match::Sub)
-    } else if word == b"reg".as_slice() {
+    } else if is_word(word, b"reg") {
         Some(Match::Reg)
     } else {
         None
@@ -64,11 +64,11 @@ fn match_of(word: &[u8]) -> Option<Match>
 fn flag_of(word: &[u8]) -> Flag
     ensures { result ≡ flag_of word.now }
 {
-    if word == b"-i".as_slice() {
+    if is_word(word, b"-i") {
         Flag::IgnoreCase
-    } else if word == b"-m".as_slice() {
+    } else if is_word(word, b"-m") {
         Flag::Match
-    } else if word == b"--".as_slice() {
+    } else if is_word(word, b"--") {
         Flag::End
     } else if word.first() == Some(&b'-') {
         Flag::Unknown

@@ -38,6 +38,7 @@ fn push_line(lines: &mut AclList, line: AclLine) -> Result<(), TextFault>
 {
     let full = lines.len() >= MAX_LINES;
     if full || count_named(lines, line.name.as_slice()) >= MAX_LINES_OF_A_NAME {
+        drop(line);
         return Err(TextFault::Refused(TextKind::Limit));
     }
     lines.push(line)?;
@@ -56,9 +57,14 @@ fn read_line<P: Patterns>(
     let (name, words) = words.word_or(TextKind::Argument)?;
     check_name(name)?;
     let (criterion, words) = words.word_or(TextKind::Argument)?;
-    let test = read_test(alloc, None, criterion, words, pats)?;
     let name = Text::copy(alloc, name)?;
-    Ok(AclLine { name, test })
+    match read_test(alloc, None, criterion, words, pats) {
+        Ok(test) => Ok(AclLine { name, test }),
+        Err(fault) => {
+            drop(name);
+            Err(fault)
+        }
+    }
 }
 
 /// The words behind `acl`: one more line. Refused with Argument where the name is missing or malformed, or where the

@@ -1,19 +1,21 @@
 //! What a name of an `acl` line or of the predefined ones stands for.
-ghost use Rattle.std.specs.Prelude.{◌≡◌, ◌∷◌, [], Some, None, option_map, is_some, IfOk};
+ghost use Rattle.std.specs.Prelude.{◌≡◌, ◌∷◌, [], false, Some, None, option_map, is_some, IfOk};
 ghost use Rattle.std.specs.List.{list_all};
 ghost use Rattle.cfg_expr.specs.Faults.{Gives};
-ghost use Rattle.cfg_acl.specs.Lines.{is_name_byte, is_acl_name, is_predefined, declared_name, plain_test, predefined_of, predefined_test, is_of_requests, has_predefined, is_named, named_tests, tests_from};
+ghost use Rattle.cfg_acl.specs.Values.{literals};
+ghost use Rattle.cfg_acl.specs.Lines.{is_name_byte, is_acl_name, is_predefined, declared_name, plain_test, predefined_of, predefined_test, is_of_requests, has_predefined, is_named, named_tests, tests_by, tests_from};
 
 use crate::copies::copy_on;
+use crate::values::push_text;
 use crate::{AclLine, AclList};
-use acl_eval::{Match, Test, TestList, TestValue, ValueList};
-use cfg_expr::{Side, TextFault, TextKind};
+use acl_eval::{Match, Test, TestList, ValueList};
+use cfg_expr::{Side, TextFault, TextKind, is_word};
 use px_expr::{ConvList, Expr};
-use px_sample::{Fetch, OutOfMemory, Text};
+use px_sample::{Fetch, OutOfMemory};
 use std::alloc::Global;
 
 /// A predefined name.
-#[derive(Clone, Copy, Debug, PartialEq, Eq)]
+#[derive(Clone, Copy)]
 enum Predefined {
     True,
     False,
@@ -33,29 +35,29 @@ enum Predefined {
 fn predefined_of(name: &[u8]) -> Option<Predefined>
     ensures { result ≡ predefined_of name.now }
 {
-    if name == b"TRUE".as_slice() {
+    if is_word(name, b"TRUE") {
         Some(Predefined::True)
-    } else if name == b"FALSE".as_slice() {
+    } else if is_word(name, b"FALSE") {
         Some(Predefined::False)
-    } else if name == b"METH_GET".as_slice() {
+    } else if is_word(name, b"METH_GET") {
         Some(Predefined::MethGet)
-    } else if name == b"METH_HEAD".as_slice() {
+    } else if is_word(name, b"METH_HEAD") {
         Some(Predefined::MethHead)
-    } else if name == b"METH_POST".as_slice() {
+    } else if is_word(name, b"METH_POST") {
         Some(Predefined::MethPost)
-    } else if name == b"METH_PUT".as_slice() {
+    } else if is_word(name, b"METH_PUT") {
         Some(Predefined::MethPut)
-    } else if name == b"METH_DELETE".as_slice() {
+    } else if is_word(name, b"METH_DELETE") {
         Some(Predefined::MethDelete)
-    } else if name == b"METH_OPTIONS".as_slice() {
+    } else if is_word(name, b"METH_OPTIONS") {
         Some(Predefined::MethOptions)
-    } else if name == b"HTTP_1.0".as_slice() {
+    } else if is_word(name, b"HTTP_1.0") {
         Some(Predefined::Http10)
-    } else if name == b"HTTP_1.1".as_slice() {
+    } else if is_word(name, b"HTTP_1.1") {
         Some(Predefined::Http11)
-    } else if name == b"HTTP_URL_SLASH".as_slice() {
+    } else if is_word(name, b"HTTP_URL_SLASH") {
         Some(Predefined::HttpUrlSlash)
-    } else if name == b"HTTP_URL_STAR".as_slice() {
+    } else if is_word(name, b"HTTP_URL_STAR") {
         Some(Predefined::HttpUrlStar)
     } else {
         None
@@ -69,9 +71,9 @@ fn is_predefined(name: &[u8]) -> bool
     predefined_of(name).is_some()
 }
 
-/// A fetch without converters, tried against nothing yet.
-fn empty_test(alloc: Global, fetch: Fetch, how: Match) -> Test
-    ensures { result ≡ plain_test fetch how [] }
+/// A fetch without converters, tried against values.
+fn tried(alloc: Global, fetch: Fetch, how: Match, values: ValueList) -> Test
+    ensures { result ≡ record { expr = record { fetch = fetch; convs = [] }; how = how; icase = false; values = values } }
 {
     Test {
         expr: Expr {
@@ -80,18 +82,46 @@ fn empty_test(alloc: Global, fetch: Fetch, how: Match) -> Test
         },
         how,
         icase: false,
-        values: ValueList::new(alloc),
+        values,
     }
+}
+
+/// A fetch without converters, tried against nothing.
+fn empty_test(alloc: Global, fetch: Fetch, how: Match) -> Test
+    ensures { result ≡ plain_test fetch how [] }
+{
+    tried(alloc, fetch, how, ValueList::new(alloc))
+}
+
+/// One text.
+fn one_text(alloc: Global, text: &[u8]) -> Result<ValueList, OutOfMemory>
+    ensures { IfOk result (λ values. values ≡ literals (text.now ∷ [])) }
+{
+    let mut values = ValueList::new(alloc);
+    push_text(alloc, &mut values, text)?;
+    Ok(values)
+}
+
+/// Two texts.
+fn two_texts(alloc: Global, first: &[u8], second: &[u8]) -> Result<ValueList, OutOfMemory>
+    ensures { IfOk result (λ values. values ≡ literals (first.now ∷ second.now ∷ [])) }
+{
+    let mut values = one_text(alloc, first)?;
+    push_text(alloc, &mut values, second)?;
+    Ok(values)
 }
 
 /// A fetch without converters, tried against a text.
 fn text_test(alloc: Global, fetch: Fetch, how: Match, text: &[u8]) -> Result<Test, OutOfMemory>
     ensures { IfOk result (λ test. test ≡ plain_test fetch how (text.now ∷ [])) }
 {
-    let mut test = empty_test(alloc, fetch, how);
-    test.values
-        .push(TestValue::Literal(Text::copy(alloc, text)?))?;
-    Ok(test)
+    match one_text(alloc, text) {
+        Ok(values) => Ok(tried(alloc, fetch, how, values)),
+        Err(fault) => {
+            drop(fetch);
+            Err(fault)
+        }
+    }
 }
 
 /// The method is this one.
@@ -105,10 +135,8 @@ fn method_test(alloc: Global, method: &[u8]) -> Result<Test, OutOfMemory>
 fn methods_test(alloc: Global, first: &[u8], second: &[u8]) -> Result<Test, OutOfMemory>
     ensures { IfOk result (λ test. test ≡ plain_test Fetch.Method Match.Str (first.now ∷ second.now ∷ [])) }
 {
-    let mut test = method_test(alloc, first)?;
-    test.values
-        .push(TestValue::Literal(Text::copy(alloc, second)?))?;
-    Ok(test)
+    let values = two_texts(alloc, first, second)?;
+    Ok(tried(alloc, Fetch::Method, Match::Str, values))
 }
 
 /// What a predefined name stands for.
@@ -208,9 +236,39 @@ fn line_tests(
         }
         match copy_on(alloc, side, &line.test) {
             Ok(test) => tests.push(test)?,
-            Err(fault) => return Err(fault),
+            Err(fault) => {
+                drop(tests);
+                return Err(fault);
+            }
         }
     }
+    Ok(tests)
+}
+
+/// The tests of a name for which there is a line.
+fn declared_tests(
+    alloc: Global,
+    side: Side,
+    lines: &AclList,
+    name: &[u8],
+) -> Result<TestList, TextFault>
+    ensures { Gives (λ tests. tests) result (tests_by side lines.now name.now None) }
+{
+    let tests = line_tests(alloc, side, lines, name)?;
+    if tests.is_empty() {
+        drop(tests);
+        Err(TextFault::Refused(TextKind::Acl))
+    } else {
+        Ok(tests)
+    }
+}
+
+/// A test alone.
+pub(crate) fn alone(alloc: Global, test: Test) -> Result<TestList, OutOfMemory>
+    ensures { IfOk result (λ tests. tests ≡ test ∷ []) }
+{
+    let mut tests = TestList::new(alloc);
+    tests.push(test)?;
     Ok(tests)
 }
 
@@ -224,17 +282,11 @@ pub(crate) fn named_tests(
     ensures { Gives (λ tests. tests) result (named_tests side lines.now name.now) }
 {
     let Some(which) = predefined_of(name) else {
-        let tests = line_tests(alloc, side, lines, name)?;
-        return if tests.is_empty() {
-            Err(TextFault::Refused(TextKind::Acl))
-        } else {
-            Ok(tests)
-        };
+        return declared_tests(alloc, side, lines, name);
     };
     if !has_predefined(side, which) {
         return Err(TextFault::Refused(TextKind::Acl));
     }
-    let mut tests = TestList::new(alloc);
-    tests.push(predefined_test(alloc, which)?)?;
-    Ok(tests)
+    let test = predefined_test(alloc, which)?;
+    Ok(alone(alloc, test)?)
 }

@@ -38,13 +38,19 @@ fn flagged_test<P: Patterns>(
 {
     let how = chosen_match(&criterion, flags);
     let icase = flags.icase;
-    let values = read_values(alloc, how, icase, words, pats)?;
-    Ok(WrittenTest {
-        written: criterion.written,
-        how,
-        icase,
-        values,
-    })
+    let written = criterion.written;
+    match read_values(alloc, how, icase, words, pats) {
+        Ok(values) => Ok(WrittenTest {
+            written,
+            how,
+            icase,
+            values,
+        }),
+        Err(fault) => {
+            drop(written);
+            Err(fault)
+        }
+    }
 }
 
 /// What stands behind the criterion.
@@ -57,8 +63,13 @@ fn test_behind<P: Patterns>(
 ) -> Result<WrittenTest, TextFault>
     ensures { ReadsText (λ test. test) (test_behind criterion words.entry) (P.refusals pats.old) (P.refusals pats.new) (P.last_refused pats.new) result }
 {
-    let (flags, words) = read_flags(NO_FLAGS, words)?;
-    flagged_test(alloc, criterion, flags, words, pats)
+    match read_flags(NO_FLAGS, words) {
+        Ok((flags, words)) => flagged_test(alloc, criterion, flags, words, pats),
+        Err(fault) => {
+            drop(criterion);
+            Err(fault)
+        }
+    }
 }
 
 /// The test of a criterion and the words behind it; of a direction, or of none yet.

@@ -1,18 +1,18 @@
 //! The values of a test.
-ghost use Rattle.std.specs.Prelude.{◌≡◌, ◌+◌, ◌<◌, ◌≤◌, [], length, Some, None, Ok, IfOk};
+ghost use Rattle.std.specs.Prelude.{◌≡◌, ◌+◌, ◌<◌, ◌≤◌, ◌++◌, ◌∷◌, [], length, Some, None, Ok, IfOk};
 ghost use Rattle.cfg_expr.specs.Faults.{Gives, ReadsText};
 ghost use Rattle.cfg_acl.specs.Values.{operator_of, numbers_by, number, bound, range, number_value, with_word, no_ranges, ranges_from, literals};
 ghost use Rattle.cfg_acl.specs.Tests.{patterns_from, needs_none, some_values, values_of};
 
 use crate::WordsLeft;
 use acl_eval::{Match, TestValue, ValueList};
-use cfg_expr::{TextFault, TextKind, around, build, first_of};
+use cfg_expr::{TextFault, TextKind, around, build, first_of, is_word};
 use px_pattern::Patterns;
-use px_sample::{Text, number_of_bytes};
+use px_sample::{OutOfMemory, Text, number_of_bytes};
 use std::alloc::Global;
 
 /// What holds for the single numbers that follow.
-#[derive(Clone, Copy, Debug, PartialEq, Eq)]
+#[derive(Clone, Copy)]
 enum Operator {
     Eq,
     Ge,
@@ -25,15 +25,15 @@ enum Operator {
 fn operator_of(word: &[u8]) -> Option<Operator>
     ensures { result ≡ operator_of word.now }
 {
-    if word == b"eq".as_slice() {
+    if is_word(word, b"eq") {
         Some(Operator::Eq)
-    } else if word == b"ge".as_slice() {
+    } else if is_word(word, b"ge") {
         Some(Operator::Ge)
-    } else if word == b"gt".as_slice() {
+    } else if is_word(word, b"gt") {
         Some(Operator::Gt)
-    } else if word == b"le".as_slice() {
+    } else if is_word(word, b"le") {
         Some(Operator::Le)
-    } else if word == b"lt".as_slice() {
+    } else if is_word(word, b"lt") {
         Some(Operator::Lt)
     } else {
         None
@@ -171,6 +171,7 @@ impl Ranges {
         match operator_of(word) {
             Some(operator) => {
                 if lacking {
+                    drop(values);
                     return Err(TextFault::Refused(TextKind::Acl));
                 }
                 Ok(Ranges {
@@ -179,15 +180,20 @@ impl Ranges {
                     lacking: true,
                 })
             }
-            None => {
-                let (value, lacking) = number_value(operator, lacking, word)?;
-                values.push(value)?;
-                Ok(Ranges {
-                    values,
-                    operator,
-                    lacking,
-                })
-            }
+            None => match number_value(operator, lacking, word) {
+                Ok((value, lacking)) => {
+                    values.push(value)?;
+                    Ok(Ranges {
+                        values,
+                        operator,
+                        lacking,
+                    })
+                }
+                Err(fault) => {
+                    drop(values);
+                    Err(fault)
+                }
+            },
         }
     }
 }
@@ -209,9 +215,23 @@ fn read_ranges(alloc: Global, mut words: WordsLeft<'_>) -> Result<ValueList, Tex
         }
     }
     if ranges.lacking {
+        drop(ranges);
         return Err(TextFault::Refused(TextKind::Acl));
     }
     Ok(ranges.values)
+}
+
+/// One more value, which is a text.
+pub(crate) fn push_text(
+    alloc: Global,
+    values: &mut ValueList,
+    text: &[u8],
+) -> Result<(), OutOfMemory>
+    requires { length values.old < 4294967295 }
+    ensures { IfOk result (λ nothing. values.new ≡ values.old ++ literals (text.now ∷ [])) }
+{
+    let text = Text::copy(alloc, text)?;
+    values.push(TestValue::Literal(text))
 }
 
 /// Texts, as they stand.
@@ -221,7 +241,7 @@ fn read_literals(alloc: Global, mut words: WordsLeft<'_>) -> Result<ValueList, T
 {
     let mut values = ValueList::new(alloc);
     'each: while let Some(word) = words.next() {
-        values.push(TestValue::Literal(Text::copy(alloc, word)?))?;
+        push_text(alloc, &mut values, word)?;
     }
     Ok(values)
 }
@@ -240,7 +260,10 @@ fn read_patterns<P: Patterns>(
     'each: while let Some(word) = words.next() {
         match build(alloc, word, icase, pats) {
             Ok(pat) => values.push(TestValue::Pattern(pat))?,
-            Err(fault) => return Err(fault),
+            Err(fault) => {
+                drop(values);
+                return Err(fault);
+            }
         }
     }
     Ok(values)

@@ -3,7 +3,7 @@ ghost use Rattle.std.specs.Prelude.{◌≡◌, ◌≤◌, ◌<◌, ◌+◌, ◌�
 ghost use Rattle.cfg_expr.specs.Faults.{Gives};
 ghost use Rattle.cfg_acl.specs.Words.{is_close, up_to_close, word_or};
 
-use cfg_expr::{TextFault, TextKind};
+use cfg_expr::{TextFault, TextKind, is_word};
 use cfg_lex::Words;
 use std::marker::Model;
 
@@ -128,5 +128,5 @@ impl<'a> WordsLeft<'a> {
 fn is_close(word: &[u8]) -> bool
     ensures { result ≡ is_close word.now }
 {
-    word == b"}".as_slice()
+    is_word(word, b"}")
 }
