@@ -34,9 +34,20 @@ fn variable_set<'w, P: Patterns>(
     ensures good { IfOk result (λ found. IsNamed names.SetVar found.0) }
 {
     let (scope, name) = variable_behind(alloc, b"set-var(", word)?;
-    let (text, others) = argument(words)?;
-    let expr = expression(alloc, side, text, pats)?;
-    Ok((Action::SetVar(scope, name, expr), others))
+    let (text, others) = match argument(words) {
+        Ok(found) => found,
+        Err(fault) => {
+            drop(name);
+            return Err(fault);
+        }
+    };
+    match expression(alloc, side, text, pats) {
+        Ok(expr) => Ok((Action::SetVar(scope, name, expr), others)),
+        Err(fault) => {
+            drop(name);
+            Err(fault)
+        }
+    }
 }
 
 /// The options of `redirect`.

@@ -62,7 +62,7 @@ pub fn name_of(alloc: Global, word: &[u8]) -> Result<Text, RuleFault>
 fn is_among(name: &[u8], table: &[&'static [u8]]) -> bool
     ensures { result ≡ list_any (λ entry. bytes_eq entry.now name.now) table.now }
 {
-    table.iter().any(|entry| *entry == name)
+    table.contains(&name)
 }
 
 /// The name, which is in lower case, frames a message or speaks of its connection.
@@ -81,6 +81,7 @@ fn made_name(alloc: Global, word: &[u8]) -> Result<Text, RuleFault>
 {
     let name = name_of(alloc, word)?;
     if is_framing(name.as_slice()) {
+        drop(name);
         return Err(RuleFault::Refused(RuleKind::FramingName));
     }
     Ok(name)

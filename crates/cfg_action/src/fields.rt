@@ -1,5 +1,6 @@
 //! Actions on fields.
 ghost use Rattle.std.specs.Prelude.{◌≡◌, IfOk};
+ghost use Rattle.rule_model.specs.declared.action.Action.TheVariants as actions;
 ghost use Rattle.rule_model.specs.declared.action.ActionName.TheVariants as names;
 ghost use Rattle.rule_model.specs.Valid.{IsMadeName, IsGoodDel};
 ghost use Rattle.cfg_action.specs.Faults.{ReadsRule};
@@ -10,7 +11,7 @@ use crate::arguments::{argument, format_at, made_name_at, name_of, pattern_at};
 use crate::fault::{RuleFault, RuleKind};
 use crate::texts::pattern;
 use cfg_acl::WordsLeft;
-use cfg_expr::Side;
+use cfg_expr::{Side, is_word};
 use px_pattern::Patterns;
 use rule_model::{Action, ActionName, DelBy, Fmt, Pat, Text};
 use std::alloc::Global;
@@ -27,8 +28,13 @@ fn name_and_format<'w, P: Patterns>(
     ensures good { IfOk result (λ found. IsMadeName found.0) }
 {
     let (name, others) = made_name_at(alloc, words)?;
-    let (fmt, others) = format_at(alloc, side, others, pats)?;
-    Ok((name, fmt, others))
+    match format_at(alloc, side, others, pats) {
+        Ok((fmt, others)) => Ok((name, fmt, others)),
+        Err(fault) => {
+            drop(name);
+            Err(fault)
+        }
+    }
 }
 
 /// `RE FMT`, and the words behind them.
@@ -42,8 +48,13 @@ pub fn pattern_and_format<'w, P: Patterns>(
     ensures { ReadsRule (λ found. (found.0, found.1, found.2)) (pattern_and_format side words.entry) (P.refusals pats.old) (P.refusals pats.new) (P.last_refused pats.new) result }
 {
     let (pat, others) = pattern_at(alloc, words, pats)?;
-    let (fmt, others) = format_at(alloc, side, others, pats)?;
-    Ok((pat, fmt, others))
+    match format_at(alloc, side, others, pats) {
+        Ok((fmt, others)) => Ok((pat, fmt, others)),
+        Err(fault) => {
+            drop(pat);
+            Err(fault)
+        }
+    }
 }
 
 /// The names that `-m` and a word mean.
@@ -57,15 +68,15 @@ fn matched_by<P: Patterns>(
     ensures reads { ReadsRule (λ by. by) (matched_by word.now how.now) (P.refusals pats.old) (P.refusals pats.new) (P.last_refused pats.new) result }
     ensures good { IfOk result IsGoodDel }
 {
-    if how == b"str".as_slice() {
+    if is_word(how, b"str") {
         Ok(DelBy::Str(name_of(alloc, word)?))
-    } else if how == b"beg".as_slice() {
+    } else if is_word(how, b"beg") {
         Ok(DelBy::Beg(name_of(alloc, word)?))
-    } else if how == b"end".as_slice() {
+    } else if is_word(how, b"end") {
         Ok(DelBy::End(name_of(alloc, word)?))
-    } else if how == b"sub".as_slice() {
+    } else if is_word(how, b"sub") {
         Ok(DelBy::Sub(name_of(alloc, word)?))
-    } else if how == b"reg".as_slice() {
+    } else if is_word(how, b"reg") {
         Ok(DelBy::Reg(pattern(alloc, word, pats)?))
     } else {
         Err(RuleFault::Refused(RuleKind::Argument))
@@ -76,7 +87,7 @@ fn matched_by<P: Patterns>(
 fn is_match_flag(word: &[u8]) -> bool
     ensures { result ≡ is_match_flag word.now }
 {
-    word == b"-m".as_slice()
+    is_word(word, b"-m")
 }
 
 /// Behind `-m`.
@@ -136,6 +147,74 @@ fn field_deleted<'w, P: Patterns>(
     deleted_behind(alloc, word, others, pats)
 }
 
+/// `add-header`, of the words behind it.
+fn field_added<'w, P: Patterns>(
+    alloc: Global,
+    side: Side,
+    words: WordsLeft<'w>,
+    pats: &mut P,
+) -> Result<(Action, WordsLeft<'w>), RuleFault>
+    ensures reads { ReadsRule (λ found. (found.0, found.1)) (made_by actions.AddHeader side words.entry) (P.refusals pats.old) (P.refusals pats.new) (P.last_refused pats.new) result }
+    ensures good { IfOk result (λ found. IsNamed names.AddHeader found.0) }
+{
+    let (name, fmt, others) = name_and_format(alloc, side, words, pats)?;
+    Ok((Action::AddHeader(name, fmt), others))
+}
+
+/// `set-header`, of the words behind it.
+fn field_set<'w, P: Patterns>(
+    alloc: Global,
+    side: Side,
+    words: WordsLeft<'w>,
+    pats: &mut P,
+) -> Result<(Action, WordsLeft<'w>), RuleFault>
+    ensures reads { ReadsRule (λ found. (found.0, found.1)) (made_by actions.SetHeader side words.entry) (P.refusals pats.old) (P.refusals pats.new) (P.last_refused pats.new) result }
+    ensures good { IfOk result (λ found. IsNamed names.SetHeader found.0) }
+{
+    let (name, fmt, others) = name_and_format(alloc, side, words, pats)?;
+    Ok((Action::SetHeader(name, fmt), others))
+}
+
+/// `replace-header`, of the words behind it.
+fn field_replaced<'w, P: Patterns>(
+    alloc: Global,
+    side: Side,
+    words: WordsLeft<'w>,
+    pats: &mut P,
+) -> Result<(Action, WordsLeft<'w>), RuleFault>
+    ensures reads { ReadsRule (λ found. (found.0, found.1)) (replaced_by actions.ReplaceHeader side words.entry) (P.refusals pats.old) (P.refusals pats.new) (P.last_refused pats.new) result }
+    ensures good { IfOk result (λ found. IsNamed names.ReplaceHeader found.0) }
+{
+    let (name, others) = made_name_at(alloc, words)?;
+    match pattern_and_format(alloc, side, others, pats) {
+        Ok((pat, fmt, others)) => Ok((Action::ReplaceHeader(name, pat, fmt), others)),
+        Err(fault) => {
+            drop(name);
+            Err(fault)
+        }
+    }
+}
+
+/// `replace-value`, of the words behind it.
+fn value_replaced<'w, P: Patterns>(
+    alloc: Global,
+    side: Side,
+    words: WordsLeft<'w>,
+    pats: &mut P,
+) -> Result<(Action, WordsLeft<'w>), RuleFault>
+    ensures reads { ReadsRule (λ found. (found.0, found.1)) (replaced_by actions.ReplaceValue side words.entry) (P.refusals pats.old) (P.refusals pats.new) (P.last_refused pats.new) result }
+    ensures good { IfOk result (λ found. IsNamed names.ReplaceValue found.0) }
+{
+    let (name, others) = made_name_at(alloc, words)?;
+    match pattern_and_format(alloc, side, others, pats) {
+        Ok((pat, fmt, others)) => Ok((Action::ReplaceValue(name, pat, fmt), others)),
+        Err(fault) => {
+            drop(name);
+            Err(fault)
+        }
+    }
+}
+
 /// An action on fields, of the words behind it.
 #[tactic(auto, unfolding(crate::specs::Actions::field_at))]
 pub fn field_at<'w, P: Patterns>(
@@ -149,25 +228,11 @@ pub fn field_at<'w, P: Patterns>(
     ensures good { IfOk result (λ found. IsNamed name found.0) }
 {
     match name {
-        ActionName::AddHeader => {
-            let (name, fmt, others) = name_and_format(alloc, side, words, pats)?;
-            Ok((Action::AddHeader(name, fmt), others))
-        }
-        ActionName::SetHeader => {
-            let (name, fmt, others) = name_and_format(alloc, side, words, pats)?;
-            Ok((Action::SetHeader(name, fmt), others))
-        }
+        ActionName::AddHeader => field_added(alloc, side, words, pats),
+        ActionName::SetHeader => field_set(alloc, side, words, pats),
         ActionName::DelHeader => field_deleted(alloc, words, pats),
-        ActionName::ReplaceHeader => {
-            let (name, others) = made_name_at(alloc, words)?;
-            let (pat, fmt, others) = pattern_and_format(alloc, side, others, pats)?;
-            Ok((Action::ReplaceHeader(name, pat, fmt), others))
-        }
-        ActionName::ReplaceValue => {
-            let (name, others) = made_name_at(alloc, words)?;
-            let (pat, fmt, others) = pattern_and_format(alloc, side, others, pats)?;
-            Ok((Action::ReplaceValue(name, pat, fmt), others))
-        }
+        ActionName::ReplaceHeader => field_replaced(alloc, side, words, pats),
+        ActionName::ReplaceValue => value_replaced(alloc, side, words, pats),
         _ => Err(RuleFault::Refused(RuleKind::Keyword)),
     }
 }

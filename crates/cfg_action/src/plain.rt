@@ -9,6 +9,7 @@ ghost use Rattle.cfg_action.specs.Plain.{denial_of, is_status, denied_with, deni
 use crate::arguments::{argument, code_of, variable_behind};
 use crate::fault::{RuleFault, RuleKind};
 use cfg_acl::WordsLeft;
+use cfg_expr::is_word;
 use rule_model::{Action, Direction, Text};
 use std::alloc::Global;
 
@@ -27,7 +28,7 @@ fn denial_of(direction: Direction) -> u16
 fn is_status(word: &[u8]) -> bool
     ensures { result ≡ is_status word.now }
 {
-    word == b"status".as_slice() || word == b"deny_status".as_slice()
+    is_word(word, b"status") || is_word(word, b"deny_status")
 }
 
 /// The code behind the option.
@@ -75,7 +76,7 @@ fn with_body(status: u16) -> Result<u16, RuleFault>
 fn is_reason(word: &[u8]) -> bool
     ensures { result ≡ is_reason word.now }
 {
-    word == b"reason".as_slice()
+    is_word(word, b"reason")
 }
 
 /// The reason behind its option.
@@ -143,9 +144,9 @@ pub fn variable_unset<'w>(
 fn mode_of(word: &[u8]) -> Result<bool, RuleFault>
     ensures { Gives (λ on. on) result (mode_of word.now) }
 {
-    if word == b"on".as_slice() {
+    if is_word(word, b"on") {
         Ok(true)
-    } else if word == b"off".as_slice() {
+    } else if is_word(word, b"off") {
         Ok(false)
     } else {
         Err(RuleFault::Refused(RuleKind::Argument))

@@ -1,5 +1,5 @@
 //! The options of `redirect`, in any order.
-ghost use Rattle.std.specs.Prelude.{◌≡◌, ◌||◌, true, false, IfOk};
+ghost use Rattle.std.specs.Prelude.{◌≡◌, ◌||◌, Some, true, false, IfOk};
 ghost use Rattle.rule_model.specs.declared.action.ActionName.TheVariants as names;
 ghost use Rattle.rule_model.specs.Valid.{may_drop_query, may_append_slash};
 ghost use Rattle.rule_model.specs.declared.reply.RedirectTo.TheVariants.{Location, Prefix, Scheme};
@@ -12,7 +12,7 @@ use crate::arguments::format_at;
 use crate::codes::written_code;
 use crate::fault::{RuleFault, RuleKind};
 use cfg_acl::WordsLeft;
-use cfg_expr::Side;
+use cfg_expr::{Side, is_word};
 use px_pattern::Patterns;
 use rule_model::{Action, RedirectTo};
 use std::alloc::Global;
@@ -30,7 +30,7 @@ pub struct RedirectOptions {
 }
 
 /// The options by name.
-#[derive(Clone, Copy, Debug)]
+#[derive(Clone, Copy)]
 enum RedirectWord {
     Location,
     Prefix,
@@ -44,17 +44,17 @@ enum RedirectWord {
 fn redirect_word(word: &[u8]) -> Option<RedirectWord>
     ensures { result ≡ redirect_word word.now }
 {
-    if word == b"location".as_slice() {
+    if is_word(word, b"location") {
         Some(RedirectWord::Location)
-    } else if word == b"prefix".as_slice() {
+    } else if is_word(word, b"prefix") {
         Some(RedirectWord::Prefix)
-    } else if word == b"scheme".as_slice() {
+    } else if is_word(word, b"scheme") {
         Some(RedirectWord::Scheme)
-    } else if word == b"code".as_slice() {
+    } else if is_word(word, b"code") {
         Some(RedirectWord::Code)
-    } else if word == b"drop-query".as_slice() {
+    } else if is_word(word, b"drop-query") {
         Some(RedirectWord::DropQuery)
-    } else if word == b"append-slash".as_slice() {
+    } else if is_word(word, b"append-slash") {
         Some(RedirectWord::AppendSlash)
     } else {
         None
@@ -117,43 +117,50 @@ fn may_append_slash(to: &Option<RedirectTo>) -> bool
 
 /// `code` and its number, which may stand once.
 #[tactic(auto, unfolding(crate::specs::Redirects::code_at))]
-fn code_at(
-    mut options: RedirectOptions,
-    others: WordsLeft<'_>,
-) -> Result<(RedirectOptions, WordsLeft<'_>), RuleFault>
-    ensures gives { Gives (λ next. (next.0, next.1)) result (code_at options others.entry) }
-    ensures good { AreRedirectOptions options → IfOk result (λ next. AreRedirectOptions next.0) }
+fn code_at<'w>(
+    options: &mut RedirectOptions,
+    others: WordsLeft<'w>,
+) -> Result<WordsLeft<'w>, RuleFault>
+    ensures gives { Gives (λ behind. (options.new, behind)) result (code_at options.old others.entry) }
+    ensures good { AreRedirectOptions options.old → IfOk result (λ behind. AreRedirectOptions options.new) }
 {
     may_stand(options.code.is_some(), true)?;
     let (code, others) = written_code(others)?;
     options.code = Some(code);
-    Ok((options, others))
+    Ok(others)
 }
 
 /// `drop-query`.
-fn with_drop_query(
-    mut options: RedirectOptions,
-    others: WordsLeft<'_>,
-) -> Result<(RedirectOptions, WordsLeft<'_>), RuleFault>
-    ensures gives { Gives (λ next. (next.0, next.1)) result ((alone others.entry (with_drop_query options)).gives) }
-    ensures good { AreRedirectOptions options → IfOk result (λ next. AreRedirectOptions next.0) }
+fn with_drop_query<'w>(
+    options: &mut RedirectOptions,
+    others: WordsLeft<'w>,
+) -> Result<WordsLeft<'w>, RuleFault>
+    ensures gives { Gives (λ behind. (options.new, behind)) result ((alone others.entry (with_drop_query options.old)).gives) }
+    ensures good { AreRedirectOptions options.old → IfOk result (λ behind. AreRedirectOptions options.new) }
 {
     may_stand(options.drop_query, may_drop_query(&options.to))?;
     options.drop_query = true;
-    Ok((options, others))
+    Ok(others)
 }
 
 /// `append-slash`.
-fn with_append_slash(
-    mut options: RedirectOptions,
-    others: WordsLeft<'_>,
-) -> Result<(RedirectOptions, WordsLeft<'_>), RuleFault>
-    ensures gives { Gives (λ next. (next.0, next.1)) result ((alone others.entry (with_append_slash options)).gives) }
-    ensures good { AreRedirectOptions options → IfOk result (λ next. AreRedirectOptions next.0) }
+fn with_append_slash<'w>(
+    options: &mut RedirectOptions,
+    others: WordsLeft<'w>,
+) -> Result<WordsLeft<'w>, RuleFault>
+    ensures gives { Gives (λ behind. (options.new, behind)) result ((alone others.entry (with_append_slash options.old)).gives) }
+    ensures good { AreRedirectOptions options.old → IfOk result (λ behind. AreRedirectOptions options.new) }
 {
     may_stand(options.append_slash, may_append_slash(&options.to))?;
     options.append_slash = true;
-    Ok((options, others))
+    Ok(others)
+}
+
+/// The location stands there.
+fn go_to(options: &mut RedirectOptions, to: RedirectTo)
+    ensures { options.new ≡ record options.old { to = Some to } }
+{
+    drop(options.to.replace(to));
 }
 
 /// `location` and its format.
@@ -161,29 +168,17 @@ fn with_append_slash(
 fn with_location<'w, P: Patterns>(
     alloc: Global,
     side: Side,
-    options: RedirectOptions,
+    options: &mut RedirectOptions,
     others: WordsLeft<'w>,
     pats: &mut P,
-) -> Result<(RedirectOptions, WordsLeft<'w>), RuleFault>
-    ensures reads { ReadsRule (λ next. (next.0, next.1)) (with_location side Location (options.drop_query || options.append_slash) options others.entry) (P.refusals pats.old) (P.refusals pats.new) (P.last_refused pats.new) result }
-    ensures good { AreRedirectOptions options → IfOk result (λ next. AreRedirectOptions next.0) }
+) -> Result<WordsLeft<'w>, RuleFault>
+    ensures reads { ReadsRule (λ behind. (options.new, behind)) (with_location side Location (options.old.drop_query || options.old.append_slash) options.old others.entry) (P.refusals pats.old) (P.refusals pats.new) (P.last_refused pats.new) result }
+    ensures good { AreRedirectOptions options.old → IfOk result (λ behind. AreRedirectOptions options.new) }
 {
-    may_come(clashes(&options), &options)?;
-    let RedirectOptions {
-        to,
-        code,
-        drop_query,
-        append_slash,
-    } = options;
-    drop(to);
+    may_come(clashes(options), options)?;
     let (fmt, others) = format_at(alloc, side, others, pats)?;
-    let options = RedirectOptions {
-        to: Some(RedirectTo::Location(fmt)),
-        code,
-        drop_query,
-        append_slash,
-    };
-    Ok((options, others))
+    go_to(options, RedirectTo::Location(fmt));
+    Ok(others)
 }
 
 /// `prefix` and its format.
@@ -191,29 +186,17 @@ fn with_location<'w, P: Patterns>(
 fn with_prefix<'w, P: Patterns>(
     alloc: Global,
     side: Side,
-    options: RedirectOptions,
+    options: &mut RedirectOptions,
     others: WordsLeft<'w>,
     pats: &mut P,
-) -> Result<(RedirectOptions, WordsLeft<'w>), RuleFault>
-    ensures reads { ReadsRule (λ next. (next.0, next.1)) (with_location side Prefix false options others.entry) (P.refusals pats.old) (P.refusals pats.new) (P.last_refused pats.new) result }
-    ensures good { AreRedirectOptions options → IfOk result (λ next. AreRedirectOptions next.0) }
+) -> Result<WordsLeft<'w>, RuleFault>
+    ensures reads { ReadsRule (λ behind. (options.new, behind)) (with_location side Prefix false options.old others.entry) (P.refusals pats.old) (P.refusals pats.new) (P.last_refused pats.new) result }
+    ensures good { AreRedirectOptions options.old → IfOk result (λ behind. AreRedirectOptions options.new) }
 {
-    may_come(false, &options)?;
-    let RedirectOptions {
-        to,
-        code,
-        drop_query,
-        append_slash,
-    } = options;
-    drop(to);
+    may_come(false, options)?;
     let (fmt, others) = format_at(alloc, side, others, pats)?;
-    let options = RedirectOptions {
-        to: Some(RedirectTo::Prefix(fmt)),
-        code,
-        drop_query,
-        append_slash,
-    };
-    Ok((options, others))
+    go_to(options, RedirectTo::Prefix(fmt));
+    Ok(others)
 }
 
 /// `scheme` and its format.
@@ -221,29 +204,17 @@ fn with_prefix<'w, P: Patterns>(
 fn with_scheme<'w, P: Patterns>(
     alloc: Global,
     side: Side,
-    options: RedirectOptions,
+    options: &mut RedirectOptions,
     others: WordsLeft<'w>,
     pats: &mut P,
-) -> Result<(RedirectOptions, WordsLeft<'w>), RuleFault>
-    ensures reads { ReadsRule (λ next. (next.0, next.1)) (with_location side Scheme options.append_slash options others.entry) (P.refusals pats.old) (P.refusals pats.new) (P.last_refused pats.new) result }
-    ensures good { AreRedirectOptions options → IfOk result (λ next. AreRedirectOptions next.0) }
+) -> Result<WordsLeft<'w>, RuleFault>
+    ensures reads { ReadsRule (λ behind. (options.new, behind)) (with_location side Scheme options.old.append_slash options.old others.entry) (P.refusals pats.old) (P.refusals pats.new) (P.last_refused pats.new) result }
+    ensures good { AreRedirectOptions options.old → IfOk result (λ behind. AreRedirectOptions options.new) }
 {
-    may_come(options.append_slash, &options)?;
-    let RedirectOptions {
-        to,
-        code,
-        drop_query,
-        append_slash,
-    } = options;
-    drop(to);
+    may_come(options.append_slash, options)?;
     let (fmt, others) = format_at(alloc, side, others, pats)?;
-    let options = RedirectOptions {
-        to: Some(RedirectTo::Scheme(fmt)),
-        code,
-        drop_query,
-        append_slash,
-    };
-    Ok((options, others))
+    go_to(options, RedirectTo::Scheme(fmt));
+    Ok(others)
 }
 
 /// An option and the words behind it.
@@ -251,13 +222,13 @@ fn with_scheme<'w, P: Patterns>(
 fn redirect_option<'w, P: Patterns>(
     alloc: Global,
     side: Side,
-    options: RedirectOptions,
+    options: &mut RedirectOptions,
     which: RedirectWord,
     others: WordsLeft<'w>,
     pats: &mut P,
-) -> Result<(RedirectOptions, WordsLeft<'w>), RuleFault>
-    ensures reads { ReadsRule (λ next. (next.0, next.1)) (redirect_option side options which others.entry) (P.refusals pats.old) (P.refusals pats.new) (P.last_refused pats.new) result }
-    ensures good { AreRedirectOptions options → IfOk result (λ next. AreRedirectOptions next.0) }
+) -> Result<WordsLeft<'w>, RuleFault>
+    ensures reads { ReadsRule (λ behind. (options.new, behind)) (redirect_option side options.old which others.entry) (P.refusals pats.old) (P.refusals pats.new) (P.last_refused pats.new) result }
+    ensures good { AreRedirectOptions options.old → IfOk result (λ behind. AreRedirectOptions options.new) }
 {
     match which {
         RedirectWord::Location => with_location(alloc, side, options, others, pats),
@@ -275,7 +246,7 @@ pub fn redirect_options<'w, P: Patterns>(
     alloc: Global,
     side: Side,
     most: u32,
-    options: RedirectOptions,
+    mut options: RedirectOptions,
     words: WordsLeft<'w>,
     pats: &mut P,
 ) -> Result<(RedirectOptions, WordsLeft<'w>), RuleFault>
@@ -291,10 +262,13 @@ pub fn redirect_options<'w, P: Patterns>(
     }
     match redirect_word(word) {
         None => Ok((options, words)),
-        Some(which) => {
-            let (options, left) = redirect_option(alloc, side, options, which, others, pats)?;
-            redirect_options(alloc, side, most - 1, options, left, pats)
-        }
+        Some(which) => match redirect_option(alloc, side, &mut options, which, others, pats) {
+            Ok(behind) => redirect_options(alloc, side, most - 1, options, behind, pats),
+            Err(fault) => {
+                drop(options);
+                Err(fault)
+            }
+        },
     }
 }
 

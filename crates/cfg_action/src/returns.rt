@@ -1,5 +1,5 @@
 //! The options of `return`, in any order.
-ghost use Rattle.std.specs.Prelude.{◌≡◌, ◌+◌, ◌<◌, ◌≤◌, ◌&&◌, false, length, IfOk};
+ghost use Rattle.std.specs.Prelude.{◌≡◌, ◌+◌, ◌<◌, ◌≤◌, ◌&&◌, Some, false, length, IfOk};
 ghost use Rattle.rule_model.specs.declared.action.ActionName.TheVariants as names;
 ghost use Rattle.cfg_action.specs.Faults.{Gives, ReadsRule, argument};
 ghost use Rattle.cfg_action.specs.Good.{IsNamed, AreReturnOptions};
@@ -10,7 +10,7 @@ ghost use Rattle.rule_model.specs.Valid.{IsCode, IsMadeName, is_bodiless};
 use crate::arguments::{argument, code_of, format_at, made_name_at};
 use crate::fault::{RuleFault, RuleKind};
 use cfg_acl::WordsLeft;
-use cfg_expr::Side;
+use cfg_expr::{Side, is_word};
 use px_pattern::Patterns;
 use rule_model::{Action, Hdr, HdrList, Payload, Text};
 use std::alloc::Global;
@@ -28,7 +28,7 @@ pub struct ReturnOptions {
 }
 
 /// The options by name.
-#[derive(Clone, Copy, Debug)]
+#[derive(Clone, Copy)]
 enum ReturnWord {
     Status,
     ContentType,
@@ -41,15 +41,15 @@ enum ReturnWord {
 fn return_word(word: &[u8]) -> Option<ReturnWord>
     ensures { result ≡ return_word word.now }
 {
-    if word == b"status".as_slice() {
+    if is_word(word, b"status") {
         Some(ReturnWord::Status)
-    } else if word == b"content-type".as_slice() {
+    } else if is_word(word, b"content-type") {
         Some(ReturnWord::ContentType)
-    } else if word == b"string".as_slice() {
+    } else if is_word(word, b"string") {
         Some(ReturnWord::Literal)
-    } else if word == b"lf-string".as_slice() {
+    } else if is_word(word, b"lf-string") {
         Some(ReturnWord::Format)
-    } else if word == b"hdr".as_slice() {
+    } else if is_word(word, b"hdr") {
         Some(ReturnWord::Hdr)
     } else {
         None
@@ -124,52 +124,59 @@ fn text_at(alloc: Global, others: WordsLeft<'_>) -> Result<(Text, WordsLeft<'_>)
 
 /// `status` and its code.
 #[tactic(auto, unfolding(crate::specs::Returns::status_at))]
-fn status_at(
-    mut options: ReturnOptions,
-    others: WordsLeft<'_>,
-) -> Result<(ReturnOptions, WordsLeft<'_>), RuleFault>
-    ensures gives { Gives (λ next. (next.0, next.1)) result (status_at options others.entry) }
-    ensures good { AreReturnOptions options → IfOk result (λ next. AreReturnOptions next.0) }
-    ensures few { IfOk result (λ next. length next.0.hdrs ≤ length options.hdrs + 1) }
+fn status_at<'w>(
+    options: &mut ReturnOptions,
+    others: WordsLeft<'w>,
+) -> Result<WordsLeft<'w>, RuleFault>
+    ensures gives { Gives (λ behind. (options.new, behind)) result (status_at options.old others.entry) }
+    ensures good { AreReturnOptions options.old → IfOk result (λ behind. AreReturnOptions options.new) }
+    ensures few { IfOk result (λ behind. length options.new.hdrs ≤ length options.old.hdrs + 1) }
 {
     once(options.status.is_some())?;
     let (code, others) = written_status(others)?;
     options.status = Some(going_with(options.payload.is_some(), code)?);
-    Ok((options, others))
+    Ok(others)
 }
 
 /// `content-type` and the type.
 #[tactic(auto, unfolding(crate::specs::Returns::content_type_at))]
-fn content_type_at(
+fn content_type_at<'w>(
     alloc: Global,
-    mut options: ReturnOptions,
-    others: WordsLeft<'_>,
-) -> Result<(ReturnOptions, WordsLeft<'_>), RuleFault>
-    ensures gives { Gives (λ next. (next.0, next.1)) result (content_type_at options others.entry) }
-    ensures good { AreReturnOptions options → IfOk result (λ next. AreReturnOptions next.0) }
-    ensures few { IfOk result (λ next. length next.0.hdrs ≤ length options.hdrs + 1) }
+    options: &mut ReturnOptions,
+    others: WordsLeft<'w>,
+) -> Result<WordsLeft<'w>, RuleFault>
+    ensures gives { Gives (λ behind. (options.new, behind)) result (content_type_at options.old others.entry) }
+    ensures good { AreReturnOptions options.old → IfOk result (λ behind. AreReturnOptions options.new) }
+    ensures few { IfOk result (λ behind. length options.new.hdrs ≤ length options.old.hdrs + 1) }
 {
     once(options.content_type.is_some())?;
     let (text, others) = text_at(alloc, others)?;
-    options.content_type = Some(text);
-    Ok((options, others))
+    drop(options.content_type.replace(text));
+    Ok(others)
+}
+
+/// The payload stands there.
+fn pay(options: &mut ReturnOptions, payload: Payload)
+    ensures { options.new ≡ record options.old { payload = Some payload } }
+{
+    drop(options.payload.replace(payload));
 }
 
 /// `string` and the payload.
 #[tactic(auto, unfolding(crate::specs::Returns::literal_at))]
-fn literal_at(
+fn literal_at<'w>(
     alloc: Global,
-    mut options: ReturnOptions,
-    others: WordsLeft<'_>,
-) -> Result<(ReturnOptions, WordsLeft<'_>), RuleFault>
-    ensures gives { Gives (λ next. (next.0, next.1)) result (literal_at options others.entry) }
-    ensures good { AreReturnOptions options → IfOk result (λ next. AreReturnOptions next.0) }
-    ensures few { IfOk result (λ next. length next.0.hdrs ≤ length options.hdrs + 1) }
+    options: &mut ReturnOptions,
+    others: WordsLeft<'w>,
+) -> Result<WordsLeft<'w>, RuleFault>
+    ensures gives { Gives (λ behind. (options.new, behind)) result (literal_at options.old others.entry) }
+    ensures good { AreReturnOptions options.old → IfOk result (λ behind. AreReturnOptions options.new) }
+    ensures few { IfOk result (λ behind. length options.new.hdrs ≤ length options.old.hdrs + 1) }
 {
-    may_have_payload(&options)?;
+    may_have_payload(options)?;
     let (text, others) = text_at(alloc, others)?;
-    options.payload = Some(Payload::Literal(text));
-    Ok((options, others))
+    pay(options, Payload::Literal(text));
+    Ok(others)
 }
 
 /// `lf-string` and the payload's format.
@@ -177,18 +184,18 @@ fn literal_at(
 fn payload_format_at<'w, P: Patterns>(
     alloc: Global,
     side: Side,
-    mut options: ReturnOptions,
+    options: &mut ReturnOptions,
     others: WordsLeft<'w>,
     pats: &mut P,
-) -> Result<(ReturnOptions, WordsLeft<'w>), RuleFault>
-    ensures reads { ReadsRule (λ next. (next.0, next.1)) (payload_format_at side options others.entry) (P.refusals pats.old) (P.refusals pats.new) (P.last_refused pats.new) result }
-    ensures good { AreReturnOptions options → IfOk result (λ next. AreReturnOptions next.0) }
-    ensures few { IfOk result (λ next. length next.0.hdrs ≤ length options.hdrs + 1) }
+) -> Result<WordsLeft<'w>, RuleFault>
+    ensures reads { ReadsRule (λ behind. (options.new, behind)) (payload_format_at side options.old others.entry) (P.refusals pats.old) (P.refusals pats.new) (P.last_refused pats.new) result }
+    ensures good { AreReturnOptions options.old → IfOk result (λ behind. AreReturnOptions options.new) }
+    ensures few { IfOk result (λ behind. length options.new.hdrs ≤ length options.old.hdrs + 1) }
 {
-    may_have_payload(&options)?;
+    may_have_payload(options)?;
     let (fmt, others) = format_at(alloc, side, others, pats)?;
-    options.payload = Some(Payload::Format(fmt));
-    Ok((options, others))
+    pay(options, Payload::Format(fmt));
+    Ok(others)
 }
 
 /// The field behind `hdr`, and the words behind it.
@@ -203,8 +210,13 @@ fn written_hdr<'w, P: Patterns>(
     ensures good { IfOk result (λ found. IsMadeName found.0.name) }
 {
     let (name, others) = made_name_at(alloc, others)?;
-    let (value, others) = format_at(alloc, side, others, pats)?;
-    Ok((Hdr { name, value }, others))
+    match format_at(alloc, side, others, pats) {
+        Ok((value, others)) => Ok((Hdr { name, value }, others)),
+        Err(fault) => {
+            drop(name);
+            Err(fault)
+        }
+    }
 }
 
 /// `hdr`: one more field.
@@ -212,18 +224,18 @@ fn written_hdr<'w, P: Patterns>(
 fn hdr_at<'w, P: Patterns>(
     alloc: Global,
     side: Side,
-    mut options: ReturnOptions,
+    options: &mut ReturnOptions,
     others: WordsLeft<'w>,
     pats: &mut P,
-) -> Result<(ReturnOptions, WordsLeft<'w>), RuleFault>
-    requires { length options.hdrs < 64 }
-    ensures reads { ReadsRule (λ next. (next.0, next.1)) (hdr_at side options others.entry) (P.refusals pats.old) (P.refusals pats.new) (P.last_refused pats.new) result }
-    ensures good { AreReturnOptions options → IfOk result (λ next. AreReturnOptions next.0) }
-    ensures few { IfOk result (λ next. length next.0.hdrs ≤ length options.hdrs + 1) }
+) -> Result<WordsLeft<'w>, RuleFault>
+    requires { length options.old.hdrs < 64 }
+    ensures reads { ReadsRule (λ behind. (options.new, behind)) (hdr_at side options.old others.entry) (P.refusals pats.old) (P.refusals pats.new) (P.last_refused pats.new) result }
+    ensures good { AreReturnOptions options.old → IfOk result (λ behind. AreReturnOptions options.new) }
+    ensures few { IfOk result (λ behind. length options.new.hdrs ≤ length options.old.hdrs + 1) }
 {
     let (hdr, others) = written_hdr(alloc, side, others, pats)?;
     options.hdrs.push(hdr)?;
-    Ok((options, others))
+    Ok(others)
 }
 
 /// An option and the words behind it.
@@ -231,15 +243,15 @@ fn hdr_at<'w, P: Patterns>(
 fn return_option<'w, P: Patterns>(
     alloc: Global,
     side: Side,
-    options: ReturnOptions,
+    options: &mut ReturnOptions,
     which: ReturnWord,
     others: WordsLeft<'w>,
     pats: &mut P,
-) -> Result<(ReturnOptions, WordsLeft<'w>), RuleFault>
-    requires { length options.hdrs < 64 }
-    ensures reads { ReadsRule (λ next. (next.0, next.1)) (return_option side options which others.entry) (P.refusals pats.old) (P.refusals pats.new) (P.last_refused pats.new) result }
-    ensures good { AreReturnOptions options → IfOk result (λ next. AreReturnOptions next.0) }
-    ensures few { IfOk result (λ next. length next.0.hdrs ≤ length options.hdrs + 1) }
+) -> Result<WordsLeft<'w>, RuleFault>
+    requires { length options.old.hdrs < 64 }
+    ensures reads { ReadsRule (λ behind. (options.new, behind)) (return_option side options.old which others.entry) (P.refusals pats.old) (P.refusals pats.new) (P.last_refused pats.new) result }
+    ensures good { AreReturnOptions options.old → IfOk result (λ behind. AreReturnOptions options.new) }
+    ensures few { IfOk result (λ behind. length options.new.hdrs ≤ length options.old.hdrs + 1) }
 {
     match which {
         ReturnWord::Status => status_at(options, others),
@@ -256,7 +268,7 @@ pub fn return_options<'w, P: Patterns>(
     alloc: Global,
     side: Side,
     most: u32,
-    options: ReturnOptions,
+    mut options: ReturnOptions,
     words: WordsLeft<'w>,
     pats: &mut P,
 ) -> Result<(ReturnOptions, WordsLeft<'w>), RuleFault>
@@ -273,10 +285,13 @@ pub fn return_options<'w, P: Patterns>(
     }
     match return_word(word) {
         None => Ok((options, words)),
-        Some(which) => {
-            let (options, left) = return_option(alloc, side, options, which, others, pats)?;
-            return_options(alloc, side, most - 1, options, left, pats)
-        }
+        Some(which) => match return_option(alloc, side, &mut options, which, others, pats) {
+            Ok(behind) => return_options(alloc, side, most - 1, options, behind, pats),
+            Err(fault) => {
+                drop(options);
+                Err(fault)
+            }
+        },
     }
 }
 
@@ -287,6 +302,7 @@ pub fn return_of(options: ReturnOptions) -> Result<Action, RuleFault>
     ensures good { AreReturnOptions options → IfOk result (IsNamed names.Return) }
 {
     if options.payload.is_some() && options.content_type.is_none() {
+        drop(options);
         return Err(RuleFault::Refused(RuleKind::Argument));
     }
     let ReturnOptions {

@@ -22,8 +22,13 @@ fn rule_made(parts: ActionParts, cond: Option<Cond>) -> Result<Rule, RuleFault>
     ensures gives { Gives (λ rule. rule) result ((rule_made parts cond).gives) }
     ensures good { (name : ActionName) → AreGoodParts name parts → IfOk result (λ rule. IsNamed name rule.action) }
 {
-    let action = made_of(parts)?;
-    Ok(Rule { action, cond })
+    match made_of(parts) {
+        Ok(action) => Ok(Rule { action, cond }),
+        Err(fault) => {
+            drop(cond);
+            Err(fault)
+        }
+    }
 }
 
 /// The rule that the words behind `http-request`, `http-response` or `http-after-response` say, below these `acl` lines.

@@ -1,5 +1,4 @@
 use Rattle.std.proofs.Common.{Ok, rules}
-use Rattle.std.proofs.lemmas.Result.{err_from_is_err_and}
 use Rattle.px_pattern.specs.Pattern.{Pattern}
 use Rattle.log_format.specs.declared.fmt.Fmt.{Fmt}
 use Rattle.cfg_expr.specs.Reading.{plain, ◌>>=◌}
@@ -10,11 +9,9 @@ use Rattle.cfg_action.specs.Asked.{pattern_at, format_at}
 use Rattle.cfg_action.specs.Actions.{pattern_and_format}
 use Rattle.cfg_action.proofs.fields.pattern_and_format.Goals as goal
 
-pub returns-in_err-fmt : goal.returns-in_err-fmt
+pub returns-in-Err : goal.returns-in-Err
 unfolding pattern_and_format
-returns-in_err-fmt g c =
+returns-in-Err g c =
     let last : Pattern × Words → Fmt × Words → RuleReading (Pattern × Fmt × Words) = λ pat fmt. plain (Ok (pat.0, fmt.0, fmt.1)) in
-    let failed = err_from_is_err_and c.from_residual-in_err-fmt.result c.from_residual-in_err-fmt.ensures.1 in
-    rw (failed.1, failed.2)
-    (fails_behind (pattern_at c.args.words) (λ pat. format_at c.args.side pat.1 >>= last pat) (c.in_ok-pat.pat, c.in_ok-pat.others) _ _ _ _ _ (search rules) (search rules)
-    (fails_first (format_at c.args.side c.in_ok-pat.others) (last (c.in_ok-pat.pat, c.in_ok-pat.others)) _ _ _ _ c.in_err-fmt.ensures))
+    fails_behind (pattern_at c.args.words) (λ pat. format_at c.args.side pat.1 >>= last pat) (c.in_ok-pat.pat, c.in_ok-pat.others) _ _ _ _ _ (search rules) (search rules)
+    (fails_first (format_at c.args.side c.in_ok-pat.others) (last (c.in_ok-pat.pat, c.in_ok-pat.others)) _ _ _ _ c.in-Err.ensures)

@@ -1,4 +1,4 @@
 use Rattle.cfg_action.proofs.rules.rule_made.Goals as goal
 
-pub returns-clause-good : goal.returns-clause-good
-returns-clause-good c name good = c.in_ok-action.ensures.good name good
+pub returns-in-Ok-clause-good : goal.returns-in-Ok-clause-good
+returns-in-Ok-clause-good c name good = c.in-Ok.ensures.good name good
