@@ -4,6 +4,7 @@ ghost use Rattle.cfg_parse.specs.Numbers.{is_colon, port_of, address_of, server_
 
 use crate::fault::{CfgKind, LineRefusal};
 use crate::limits::MAX_DIGITS;
+use cfg_expr::is_word;
 use px_bytes::read_decimal;
 use px_link::{Address, Bytes};
 use std::alloc::Global;
@@ -46,7 +47,8 @@ pub fn server_address_of(alloc: Global, word: &[u8]) -> Result<Address, LineRefu
 {
     let address = address_of(alloc, word)?;
     let host = address.host.as_slice();
-    if host.is_empty() || host == b"*".as_slice() {
+    if host.is_empty() || is_word(host, b"*") {
+        drop(address);
         return Err(LineRefusal::Refused(CfgKind::Argument));
     }
     Ok(address)

@@ -5,7 +5,7 @@ use http_rules::{Filters, Rules};
 use px_link::Address;
 
 /// The section that a line stands in.
-#[derive(Clone, Copy, Debug, PartialEq, Eq)]
+#[derive(Clone, Copy)]
 pub enum Section {
     /// No section has begun.
     Before,
@@ -15,7 +15,7 @@ pub enum Section {
 }
 
 /// Whether a `listen` section has begun, of which there is one.
-#[derive(Clone, Copy, Debug, PartialEq, Eq)]
+#[derive(Clone, Copy, PartialEq, Eq)]
 pub enum Listen {
     Missing,
     Begun,

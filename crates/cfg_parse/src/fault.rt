@@ -43,7 +43,7 @@ pub enum CfgFault {
 }
 
 /// Why a line is refused, or could not be read.
-#[derive(Clone, Copy, Debug, PartialEq, Eq)]
+#[derive(Clone, Copy)]
 pub enum LineRefusal {
     /// By its words.
     Refused(CfgKind),

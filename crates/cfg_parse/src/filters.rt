@@ -12,19 +12,20 @@ use crate::draft::Draft;
 use crate::fault::{CfgKind, LineRefusal};
 use crate::limits::{MAX_DIGITS, MAX_FILTERS, MAX_NEEDLE};
 use body_filter::FilterSpec;
+use cfg_expr::is_word;
 use http_rules::Filters;
 use px_bytes::read_decimal;
 use px_link::Bytes;
 use std::alloc::Global;
 
 /// Whose bodies a filter changes.
-#[derive(Clone, Copy, Debug, PartialEq, Eq)]
+#[derive(Clone, Copy)]
 pub enum Direction {
     Request,
     Response,
 }
 
-#[derive(Clone, Copy, Debug, PartialEq, Eq)]
+#[derive(Clone, Copy)]
 enum FilterName {
     Limit,
     Deny,
@@ -35,11 +36,11 @@ enum FilterName {
 fn filter_name_of(word: &[u8]) -> Result<FilterName, LineRefusal>
     ensures { Gives (λ name. name) result (filter_name_of word.now) }
 {
-    if word == b"body-limit".as_slice() {
+    if is_word(word, b"body-limit") {
         Ok(FilterName::Limit)
-    } else if word == b"body-deny".as_slice() {
+    } else if is_word(word, b"body-deny") {
         Ok(FilterName::Deny)
-    } else if word == b"body-replace".as_slice() {
+    } else if is_word(word, b"body-replace") {
         Ok(FilterName::Replace)
     } else {
         Err(LineRefusal::Refused(CfgKind::Keyword))
@@ -50,9 +51,9 @@ fn filter_name_of(word: &[u8]) -> Result<FilterName, LineRefusal>
 fn direction_of(word: &[u8]) -> Result<Direction, LineRefusal>
     ensures { Gives (λ direction. direction) result (direction_of word.now) }
 {
-    if word == b"req".as_slice() {
+    if is_word(word, b"req") {
         Ok(Direction::Request)
-    } else if word == b"res".as_slice() {
+    } else if is_word(word, b"res") {
         Ok(Direction::Response)
     } else {
         Err(LineRefusal::Refused(CfgKind::Argument))
@@ -102,8 +103,13 @@ fn deny_filter(alloc: Global, arguments: Arguments<'_>) -> Result<FilterSpec, Li
 {
     let (word, arguments) = arguments.argument()?;
     let needle = text_of(alloc, 1, word)?;
-    arguments.no_more()?;
-    Ok(FilterSpec::Deny(needle))
+    match arguments.no_more() {
+        Ok(()) => Ok(FilterSpec::Deny(needle)),
+        Err(refusal) => {
+            drop(needle);
+            Err(refusal)
+        }
+    }
 }
 
 /// `FROM TO`.
@@ -179,6 +185,7 @@ fn add_filter(filters: &mut Filters, filter: FilterSpec) -> Result<(), LineRefus
     ensures { Leaves result filters.new (with_filter filters.old filter) }
 {
     if filters.len() >= MAX_FILTERS || is_replace(&filter) && has_replace(filters) {
+        drop(filter);
         return Err(LineRefusal::Refused(CfgKind::Limit));
     }
     filters.push(filter)?;

@@ -5,8 +5,10 @@ ghost use Rattle.std.specs.List.{list_any};
 ghost use Rattle.std.specs.Str.{bytes_eq};
 ghost use Rattle.cfg_parse.specs.Keywords.{section_word, general_setting, listen_setting, first_word_of, is_timeout_name};
 
+use cfg_expr::is_word;
+
 /// What a first word says of its line.
-#[derive(Clone, Copy, Debug, PartialEq, Eq)]
+#[derive(Clone, Copy)]
 pub enum FirstWord {
     /// A section begins.
     Begins(SectionWord),
@@ -15,7 +17,7 @@ pub enum FirstWord {
     Unknown,
 }
 
-#[derive(Clone, Copy, Debug, PartialEq, Eq)]
+#[derive(Clone, Copy)]
 pub enum SectionWord {
     Global,
     Defaults,
@@ -24,7 +26,7 @@ pub enum SectionWord {
     Other,
 }
 
-#[derive(Clone, Copy, Debug, PartialEq, Eq)]
+#[derive(Clone, Copy)]
 pub enum Setting {
     Bufsize,
     Maxrewrite,
@@ -40,7 +42,7 @@ pub enum Setting {
 }
 
 /// The sections in which a setting may stand.
-#[derive(Clone, Copy, Debug, PartialEq, Eq)]
+#[derive(Clone, Copy)]
 pub enum Places {
     InGlobal,
     /// `defaults` and `listen`.
@@ -63,7 +65,7 @@ const TIMEOUT_NAMES: [&[u8]; 8] = [
 fn is_among(word: &[u8], table: &[&'static [u8]]) -> bool
     ensures { result ≡ list_any (λ entry. bytes_eq entry.now word.now) table.now }
 {
-    table.iter().any(|entry| *entry == word)
+    table.contains(&word)
 }
 
 /// The words that begin a section.
@@ -71,13 +73,13 @@ fn is_among(word: &[u8], table: &[&'static [u8]]) -> bool
 fn section_word(word: &[u8]) -> Option<SectionWord>
     ensures { result ≡ section_word word.now }
 {
-    if word == b"global".as_slice() {
+    if is_word(word, b"global") {
         Some(SectionWord::Global)
-    } else if word == b"defaults".as_slice() {
+    } else if is_word(word, b"defaults") {
         Some(SectionWord::Defaults)
-    } else if word == b"listen".as_slice() {
+    } else if is_word(word, b"listen") {
         Some(SectionWord::Listen)
-    } else if word == b"frontend".as_slice() || word == b"backend".as_slice() {
+    } else if is_word(word, b"frontend") || is_word(word, b"backend") {
         Some(SectionWord::Other)
     } else {
         None
@@ -89,13 +91,13 @@ fn section_word(word: &[u8]) -> Option<SectionWord>
 fn general_setting(word: &[u8]) -> Option<(Setting, Places)>
     ensures { result ≡ general_setting word.now }
 {
-    if word == b"tune.bufsize".as_slice() {
+    if is_word(word, b"tune.bufsize") {
         Some((Setting::Bufsize, Places::InGlobal))
-    } else if word == b"tune.maxrewrite".as_slice() {
+    } else if is_word(word, b"tune.maxrewrite") {
         Some((Setting::Maxrewrite, Places::InGlobal))
-    } else if word == b"mode".as_slice() {
+    } else if is_word(word, b"mode") {
         Some((Setting::Mode, Places::InBoth))
-    } else if word == b"timeout".as_slice() {
+    } else if is_word(word, b"timeout") {
         Some((Setting::Timeout, Places::InBoth))
     } else {
         None
@@ -107,19 +109,19 @@ fn general_setting(word: &[u8]) -> Option<(Setting, Places)>
 fn listen_setting(word: &[u8]) -> Option<Setting>
     ensures { result ≡ listen_setting word.now }
 {
-    if word == b"bind".as_slice() {
+    if is_word(word, b"bind") {
         Some(Setting::Bind)
-    } else if word == b"server".as_slice() {
+    } else if is_word(word, b"server") {
         Some(Setting::Server)
-    } else if word == b"acl".as_slice() {
+    } else if is_word(word, b"acl") {
         Some(Setting::Acl)
-    } else if word == b"http-request".as_slice() {
+    } else if is_word(word, b"http-request") {
         Some(Setting::HttpRequest)
-    } else if word == b"http-response".as_slice() {
+    } else if is_word(word, b"http-response") {
         Some(Setting::HttpResponse)
-    } else if word == b"http-after-response".as_slice() {
+    } else if is_word(word, b"http-after-response") {
         Some(Setting::HttpAfterResponse)
-    } else if word == b"filter".as_slice() {
+    } else if is_word(word, b"filter") {
         Some(Setting::Filter)
     } else {
         None

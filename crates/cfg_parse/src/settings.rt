@@ -1,6 +1,7 @@
 //! The lines of a section, but for rules and filters.
 
-ghost use Rattle.cfg_parse.specs.Reading.{Leaves};
+ghost use Rattle.std.specs.Prelude.{◌≡◌, Some, OnOk};
+ghost use Rattle.cfg_parse.specs.Reading.{Gives, Leaves, no_more};
 ghost use Rattle.cfg_parse.specs.Settings.{bufsize_line, maxrewrite_line, mode_line, timeout_line, bind_line, server_line};
 
 use crate::address::{address_of, server_address_of};
@@ -10,7 +11,9 @@ use crate::fault::{CfgKind, LineRefusal};
 use crate::keywords::is_timeout_name;
 use crate::sizes::{number_up_to, size_of};
 use crate::times::is_time;
+use cfg_expr::is_word;
 use http_model::{MAX_BUFSIZE, MIN_BUFSIZE};
+use px_link::Address;
 use std::alloc::Global;
 
 #[tactic(auto, unfolding(crate::specs::Settings::bufsize_line))]
@@ -40,7 +43,7 @@ pub fn read_mode(draft: &mut Draft, arguments: Arguments<'_>) -> Result<(), Line
     ensures { Leaves result draft.new (mode_line draft.old arguments.entry) }
 {
     let (word, arguments) = arguments.argument()?;
-    if word != b"http".as_slice() {
+    if !is_word(word, b"http") {
         return Err(LineRefusal::Refused(CfgKind::Argument));
     }
     arguments.no_more()?;
@@ -63,6 +66,27 @@ pub fn read_timeout(draft: &mut Draft, arguments: Arguments<'_>) -> Result<(), L
     Ok(())
 }
 
+/// The address that a line ends with.
+fn put_last(
+    place: &mut Option<Address>,
+    address: Address,
+    behind: Arguments<'_>,
+) -> Result<(), LineRefusal>
+    ensures last { Gives (λ nothing. nothing) result (no_more behind.entry) }
+    ensures put { OnOk result (place.new ≡ Some address) }
+{
+    match behind.no_more() {
+        Ok(()) => {
+            drop(place.replace(address));
+            Ok(())
+        }
+        Err(refusal) => {
+            drop(address);
+            Err(refusal)
+        }
+    }
+}
+
 #[tactic(auto, unfolding(crate::specs::Settings::bind_line))]
 pub fn set_bind(
     alloc: Global,
@@ -76,9 +100,7 @@ pub fn set_bind(
     }
     let (word, arguments) = arguments.argument()?;
     let address = address_of(alloc, word)?;
-    arguments.no_more()?;
-    draft.bind = Some(address);
-    Ok(())
+    put_last(&mut draft.bind, address, arguments)
 }
 
 #[tactic(auto, unfolding(crate::specs::Settings::server_line))]
@@ -95,7 +117,5 @@ pub fn set_server(
     let (_name, arguments) = arguments.argument()?;
     let (word, arguments) = arguments.argument()?;
     let address = server_address_of(alloc, word)?;
-    arguments.no_more()?;
-    draft.server = Some(address);
-    Ok(())
+    put_last(&mut draft.server, address, arguments)
 }
