@@ -1,6 +1,5 @@
 -- Directions to which nothing has happened.
-use Rattle.std.proofs.Common.{◌≡◌, [], true, false, None, Result, Ok, Err, refl, sym, ap, ◌∙◌, subst}
-use Rattle.std.specs.Prelude.{IfOk}
+use Rattle.std.proofs.Common.{◌≡◌, [], true, false, None, refl, sym, ap, ◌∙◌, subst}
 use Rattle.http_model.specs.Head.{Head, Message, RequestLine}
 use Rattle.http_model.specs.Reading.{Received}
 use Rattle.http_model.specs.declared.Framing.TheVariants.{Absent}
@@ -101,17 +100,3 @@ fresh_is cfg d r a is_r is_a opened window window_a =
       to_server_window = ap (λ (x : RequestSide). requests.window_of x) is_r ∙ window;
       to_client_window = ap (λ (x : AnswerSide). (answers.seen x).window) is_a ∙ window_a;
     }
-
--- both directions joined with the rules of a session that begins
-pub record Joins (cfg : Config) (request : RequestSide) (answer : AnswerSide) (d : Directions) : Type 0 where
-  pub request_is : d.request ≡ request
-  pub answer_is : d.answer ≡ answer
-  pub ready : IsReady d.rules
-  pub settings : settings_of d ≡ cfg
-  pub vars : d.rules.vars ≡ no_variables
-  pub method : d.method.cap ≡ cfg.limits.bufsize
-
-pub joins : {E : Type 0} (cfg : Config) (request : RequestSide) (answer : AnswerSide) (r : Result Directions E) → IfOk r (λ d. d.request ≡ request) → IfOk r (λ d. d.answer ≡ answer)
-    → IfOk r (λ d. IsReady d.rules) → IfOk r (λ d. settings_of d ≡ cfg) → IfOk r (λ d. d.rules.vars ≡ no_variables) → IfOk r (λ d. d.method.cap ≡ cfg.limits.bufsize) → IfOk r (Joins cfg request answer)
-joins cfg request answer (Ok d) r a ready settings vars method = record { request_is = r; answer_is = a; ready = ready; settings = settings; vars = vars; method = method }
-joins cfg request answer (Err fault) r a ready settings vars method = tt

@@ -21,8 +21,6 @@ pub struct Directions<'c> {
     pub(crate) method: Buf,
 }
 
-ghost use Rattle.px_sample.specs.Variables.{no_variables};
-ghost use Rattle.session_rules.specs.Ruling.{IsReady};
 ghost use Rattle.session_core.specs.Place as at;
 ghost use Rattle.session_core.specs.Place.{IsSomewhere};
 ghost use Rattle.http_rules.specs.declared.config.Config.{Config};
@@ -46,6 +44,7 @@ impl<'c> Directions<'c> {
         ensures settings { IfOk result (λ d. settings_of d ≡ config.now) }
     {
         total();
+        let method = Buf::new(alloc, config.limits.bufsize)?;
         let request = RequestSide::new(
             alloc,
             config.limits,
@@ -64,7 +63,20 @@ impl<'c> Directions<'c> {
                 return Err(fault);
             }
         };
-        Directions::join(alloc, config, request, answer)
+        let rules = match SessionRules::new(alloc, config) {
+            Ok(rules) => rules,
+            Err(fault) => {
+                drop(request);
+                drop(answer);
+                return Err(fault);
+            }
+        };
+        Ok(Directions {
+            request,
+            answer,
+            rules,
+            method,
+        })
     }
 
     /// As new ones, in the same memory, for the same configuration: by what they stand for nothing has happened yet. The memory
@@ -80,44 +92,5 @@ impl<'c> Directions<'c> {
         self.answer.renew();
         self.rules.renew();
         self.method.clear();
-    }
-
-    /// Both directions with the rules of a session that begins.
-    fn join(
-        alloc: Global,
-        config: &'c Config,
-        request: RequestSide,
-        answer: AnswerSide,
-    ) -> Result<Directions<'c>, OutOfMemory>
-        requires { IsValid config.now }
-        ensures request { IfOk result (λ d. d.request ≡ request) }
-        ensures answer { IfOk result (λ d. d.answer ≡ answer) }
-        ensures ready { IfOk result (λ d. IsReady d.rules) }
-        ensures settings { IfOk result (λ d. settings_of d ≡ config.now) }
-        ensures vars { IfOk result (λ d. d.rules.vars ≡ no_variables) }
-        ensures method { IfOk result (λ d. d.method.cap ≡ config.now.limits.bufsize) }
-    {
-        let method = match Buf::new(alloc, config.limits.bufsize) {
-            Ok(method) => method,
-            Err(fault) => {
-                drop(request);
-                drop(answer);
-                return Err(fault);
-            }
-        };
-        let rules = match SessionRules::new(alloc, config) {
-            Ok(rules) => rules,
-            Err(fault) => {
-                drop(request);
-                drop(answer);
-                return Err(fault);
-            }
-        };
-        Ok(Directions {
-            request,
-            answer,
-            rules,
-            method,
-        })
     }
 }

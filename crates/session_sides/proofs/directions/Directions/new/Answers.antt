@@ -1,8 +1,8 @@
 use Rattle.std.proofs.Common.{refl, sym, []}
-use Rattle.std.proofs.lemmas.Result.{IfOk-weaker}
 use Rattle.px_sample.specs.Variables.{no_variables}
 use Rattle.session_core.specs.History.{no_stream}
-use Rattle.session_sides.proofs.Fresh.{no_past, no_asking, no_reply, Joins, joins, fresh_new, fresh_at, fresh_is}
+use Rattle.session_sides.specs.declared.directions.Directions.{Directions}
+use Rattle.session_sides.proofs.Fresh.{no_past, no_asking, no_reply, fresh_new, fresh_at, fresh_is}
 use Rattle.session_sides.proofs.directions.Directions.new.Goals as goal
 
 pub returns-clause-stands : goal.returns-clause-stands
@@ -12,32 +12,25 @@ returns-clause-stands c =
     let a = c.in-Ok.answer in
     let er = c.in_ok-request.ensures in
     let ea = c.in-Ok.ensures in
-    let e = c.join.ensures in
-    IfOk-weaker c.join.result (Joins cfg r a) _
-    (λ d j. (
+    let es = c.in-Ok-new.ensures in
+    let d : Directions = record { request = r; answer = a; rules = c.in-Ok-new.rules; method = c.in_ok-method.method } in (
       no_past cfg,
-      fresh_new cfg d r a j.request_is j.answer_is j.settings (c.total.ensures cfg) j.vars er.fresh.0 (er.stands cfg no_variables no_asking [] no_reply refl (sym c.as_slice.ensures))
+      fresh_new cfg d r a refl refl es.config (c.total.ensures cfg) es.vars er.fresh.0 (er.stands cfg no_variables no_asking [] no_reply refl (sym c.as_slice.ensures))
           (ea.stands cfg no_asking no_stream no_variables [] refl (sym c.as_slice-2.ensures)) ea.nobody,
-      fresh_is cfg d r a j.request_is j.answer_is er.fresh.1 er.fresh.2 ea.window,
-    ))
-    (joins cfg r a c.join.result e.request e.answer e.ready e.settings e.vars e.method)
+      fresh_is cfg d r a refl refl er.fresh.1 er.fresh.2 ea.window,
+    )
 
 pub returns-clause-placed : goal.returns-clause-placed
+unfolding returns-clause-stands
 returns-clause-placed c =
     let cfg = c.args.config.now in
     let r = c.in_ok-request.request in
     let a = c.in-Ok.answer in
     let er = c.in_ok-request.ensures in
     let ea = c.in-Ok.ensures in
-    let e = c.join.ensures in
-    IfOk-weaker c.join.result (Joins cfg r a) _
-    (λ d j. record {
-      is_at = fresh_at cfg d r a j.request_is j.answer_is j.settings er.sound er.limits er.fresh.0 ea.sound ea.size ea.place j.ready j.method;
-      past = (
-        cfg,
-        no_past cfg,
-        fresh_new cfg d r a j.request_is j.answer_is j.settings (c.total.ensures cfg) j.vars er.fresh.0 (er.stands cfg no_variables no_asking [] no_reply refl (sym c.as_slice.ensures))
-            (ea.stands cfg no_asking no_stream no_variables [] refl (sym c.as_slice-2.ensures)) ea.nobody,
-      );
-    })
-    (joins cfg r a c.join.result e.request e.answer e.ready e.settings e.vars e.method)
+    let es = c.in-Ok-new.ensures in
+    let d : Directions = record { request = r; answer = a; rules = c.in-Ok-new.rules; method = c.in_ok-method.method } in
+    record {
+      is_at = fresh_at cfg d r a refl refl es.config er.sound er.limits er.fresh.0 ea.sound ea.size ea.place es.ready c.in_ok-method.ensures.cap;
+      past = (cfg, no_past cfg, (returns-clause-stands c).1);
+    }
