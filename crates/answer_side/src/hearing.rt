@@ -9,7 +9,7 @@ use htx_arena::Arena;
 use htx_view::response_parts;
 
 /// What reading heads came to.
-#[derive(Clone, Copy, Debug, PartialEq, Eq)]
+#[derive(Clone, Copy)]
 pub enum Heard {
     /// The client has to take bytes first, or the server to give some.
     More,
