@@ -32,23 +32,6 @@ impl Model for Window {
 /// How many bytes are moved at once.
 const BLOCK: usize = 256;
 
-/// The most bytes that are put one at a time.
-const FEW: usize = 4;
-
-/// Takes the longest prefix of a few bytes that fits, one byte at a time: a copy of so few costs more than they do.
-fn push_few(ring: &mut HeapCircularBuffer<u8>, bytes: &[u8]) -> usize
-    requires held { length ring.old.items ≤ ring.old.capacity }
-    ensures count { result ≡ min (length bytes.now) (ring.old.capacity - length ring.old.items) }
-    ensures items { ring.new.items ≡ ring.old.items ++ take result bytes.now }
-    ensures capacity { ring.new.capacity ≡ ring.old.capacity }
-{
-    let count = bytes.len().min(ring.capacity() - ring.len());
-    for byte in &bytes[..count] {
-        ring.push_back(*byte);
-    }
-    count
-}
-
 /// Moves up to `left` bytes, and at most a block, from the front of a ring to its end, and answers their number.
 fn turn_block(ring: &mut HeapCircularBuffer<u8>, left: usize) -> usize
     requires left { left ≤ length ring.old.items }
@@ -123,11 +106,7 @@ impl Window {
                 self.rewind(&bytes[..behind]);
             }
         }
-        if bytes.len() <= FEW {
-            push_few(&mut self.ring, bytes)
-        } else {
-            self.ring.fill_from_slice(bytes)
-        }
+        self.ring.fill_from_slice(bytes)
     }
 
     /// Moves the bytes to the front of the ring: `run_up` fills it to its end, and the bytes follow behind it.
