@@ -5,6 +5,7 @@
 mod addresses;
 mod faults;
 mod linger;
+mod numeric;
 mod real_files;
 mod real_link;
 mod real_net;

@@ -4,12 +4,13 @@ ghost use Rattle.px_sock.specs.Untold.{untold_net};
 
 use crate::addresses::Addresses;
 use crate::faults::{count, counted};
+use crate::numeric::{Numeric, place_of};
 use crate::real_link::RealLink;
 use px_link::{Address, Fault, Net};
 use std::alloc::Global;
 use std::io::ErrorKind;
 use std::marker::Model;
-use std::net::{OpenListener, TcpListener, TcpStream};
+use std::net::{OpenListener, SocketAddr, TcpListener, TcpStream};
 use std::{io, net};
 
 /// A net over sockets. It listens at the address of the last bind that was answered Ok. Contracts see the addresses of its binds and
@@ -17,9 +18,12 @@ use std::{io, net};
 #[derive(Drop)]
 pub struct RealNet<'a, R: net::Net> {
     rt: &'a R,
+    alloc: Global,
     listener: Option<R::Listener>,
     bound: Addresses,
     dialled: Addresses,
+    /// The last address of numbers that was dialled. Only speed rests on it.
+    numeric: Option<Numeric>,
     lent: u64,
     bind_faults: u64,
     connect_faults: u64,
@@ -41,9 +45,11 @@ impl<'a, R: net::Net> RealNet<'a, R> {
     {
         RealNet {
             rt,
+            alloc,
             listener: None,
             bound: Addresses::new(alloc),
             dialled: Addresses::new(alloc),
+            numeric: None,
             lent: 0,
             bind_faults: 0,
             connect_faults: 0,
@@ -64,9 +70,12 @@ fn listen<R: net::Net>(rt: &R, at: &Address) -> io::Result<R::Listener> {
     TcpListener::bind(rt, (host_of(at)?, at.port))
 }
 
-/// A stream to this address.
-fn dial<R: net::Net>(rt: &R, to: &Address) -> io::Result<R::Stream> {
-    TcpStream::connect(rt, (host_of(to)?, to.port))
+/// A stream to this address: to its numbers, or to each address of its name in turn.
+fn dial<R: net::Net>(rt: &R, numbers: Option<SocketAddr>, to: &Address) -> io::Result<R::Stream> {
+    match numbers {
+        Some(at) => rt.connect(at),
+        None => TcpStream::connect(rt, (host_of(to)?, to.port)),
+    }
 }
 
 /// The next stream that comes in. A peer that was gone before it was accepted is none.
@@ -133,7 +142,8 @@ impl<'a, R: net::Net> Net for RealNet<'a, R> {
             count(&mut self.connect_faults);
             return Err(Fault::Failed);
         }
-        let answer = dial(self.rt, to);
+        let numbers = place_of(&mut self.numeric, self.alloc, to);
+        let answer = dial(self.rt, numbers, to);
         match counted(&mut self.connect_faults, answer) {
             Ok(stream) => {
                 self.lent += 1;
