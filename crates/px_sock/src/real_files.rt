@@ -1,12 +1,14 @@
 //! Files on disk. They count their faults, and tell no content: no contract can say what a file gives.
-ghost use Rattle.std.specs.Prelude.{◌≡◌};
+ghost use Rattle.std.specs.Prelude.{◌≡◌, []};
+ghost use Rattle.px_sock.specs.Untold.{untold_files};
 
 use px_link::{Bytes, Fault, Files};
 use std::alloc::Global;
 use std::io::Read;
+use std::marker::Model;
 use std::{fs, io, rt};
 
-/// Files on disk.
+/// Files on disk. Contracts see their count, and the name of the last that failed.
 #[derive(Drop)]
 pub struct RealFiles<'a, R> {
     rt: &'a R,
@@ -14,8 +16,19 @@ pub struct RealFiles<'a, R> {
     faults: u64,
 }
 
+impl<'a, R> Model for RealFiles<'a, R> {
+    ghost use Rattle.px_sock.specs.Untold.{FilesSeen, untold_files};
+
+    ghost Value = { FilesSeen };
+
+    ghost view = { λ f. untold_files f.faults f.last_failed };
+}
+
 impl<'a, R: rt::Files> RealFiles<'a, R> {
-    pub fn new(alloc: Global, rt: &'a R) -> Self {
+    /// Files of which no read failed yet.
+    pub fn new(alloc: Global, rt: &'a R) -> Self
+        ensures { result ≡ untold_files 0 [] }
+    {
         RealFiles {
             rt,
             last_failed: Bytes::from(Vec::new(alloc)),
@@ -52,13 +65,11 @@ fn read_path<R: rt::Files>(alloc: Global, rt: &R, name: &str, limit: usize) -> i
 }
 
 impl<'a, R: rt::Files> Files for RealFiles<'a, R> {
-    ghost use Rattle.std.specs.Prelude.{None};
+    ghost files = { λ seen. seen.files };
 
-    ghost files = { λ f. None };
+    ghost faults = { λ seen. seen.faults };
 
-    ghost faults = { λ f. f.faults };
-
-    ghost last_failed = { λ f. f.last_failed };
+    ghost last_failed = { λ seen. seen.last_failed };
 
     fn read_file(&mut self, alloc: Global, name: &str, limit: usize) -> Result<Bytes, Fault> {
         match read_path(alloc, self.rt, name, limit) {

@@ -65,9 +65,14 @@ fn host_of(address: &Address) -> io::Result<&str> {
     }
 }
 
-/// A listener at this address.
+/// A listener at this address. No host, and `*`, are every local address of IPv4 (Configuration Manual, `bind`).
 fn listen<R: net::Net>(rt: &R, at: &Address) -> io::Result<R::Listener> {
-    TcpListener::bind(rt, (host_of(at)?, at.port))
+    let host = match host_of(at)? {
+        "" => "0.0.0.0",
+        "*" => "0.0.0.0",
+        host => host,
+    };
+    TcpListener::bind(rt, (host, at.port))
 }
 
 /// A stream to this address: to its numbers, or to each address of its name in turn.

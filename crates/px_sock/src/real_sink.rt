@@ -1,29 +1,40 @@
 //! Standard output. It counts its faults, and tells no content.
 ghost use Rattle.std.specs.Prelude.{◌≡◌};
+ghost use Rattle.px_sock.specs.Untold.{untold_sink};
 
 use px_link::{Fault, Sink};
 use std::io;
 use std::io::Write;
+use std::marker::Model;
 
-/// Standard output.
+/// Standard output. Contracts see its count.
 #[derive(Drop)]
 pub struct RealSink<'a, R> {
     rt: &'a R,
     faults: u64,
 }
 
+impl<'a, R> Model for RealSink<'a, R> {
+    ghost use Rattle.px_sock.specs.Untold.{SinkSeen, untold_sink};
+
+    ghost Value = { SinkSeen };
+
+    ghost view = { λ s. untold_sink s.faults };
+}
+
 impl<'a, R: Print> RealSink<'a, R> {
-    pub fn new(rt: &'a R) -> Self {
+    /// Standard output of which no write failed yet.
+    pub fn new(rt: &'a R) -> Self
+        ensures { result ≡ untold_sink 0 }
+    {
         RealSink { rt, faults: 0 }
     }
 }
 
 impl<'a, R: Print> Sink for RealSink<'a, R> {
-    ghost use Rattle.std.specs.Prelude.{None};
+    ghost written = { λ seen. seen.written };
 
-    ghost written = { λ s. None };
-
-    ghost faults = { λ s. s.faults };
+    ghost faults = { λ seen. seen.faults };
 
     fn write_all(&mut self, piece: &[u8]) -> Result<(), Fault> {
         let mut writer = io::writer(self.rt);
