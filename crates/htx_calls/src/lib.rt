@@ -1,15 +1,6 @@
-//! What no row of `htx_cases` shows yet: calls that no kind of row has, each once with ample memory through the public surface, and
-//! links and nets in memory with the calls that are to fail. They stand here and not in their crates, since a crate with tests is
-//! proved twice.
+//! What no row of `htx_cases` shows: the array that a core lends while a server is to be opened. It stands here and not in its crate,
+//! since a crate with tests is proved twice.
 #![tactic(auto)]
 
 #[cfg(test)]
-mod conditions;
-#[cfg(test)]
-mod fetches;
-#[cfg(test)]
-mod links;
-#[cfg(test)]
 mod raw_request;
-#[cfg(test)]
-mod records;
