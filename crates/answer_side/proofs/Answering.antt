@@ -58,7 +58,7 @@ unbegun_at phase.Answering lane e last a = absurd (subst (λ (l : Last). IsLast 
 pub unbegun : (lane : ResponseLane) (e : Exchange) → e.last ≡ NotYet → Answers lane e → has_begun lane ≡ false
 unbegun lane e last a = unbegun_at lane.phase lane e last a
 
-as_server : (cfg : Config) (asker : Asker) (lane : ResponseLane) (server : Coming) (put : List ℕ) (e : Exchange) → IsFor cfg lane → IsInHand asker lane server put e → (heads : List Head) (left : List ℕ)
+pub as_server : (cfg : Config) (asker : Asker) (lane : ResponseLane) (server : Coming) (put : List ℕ) (e : Exchange) → IsFor cfg lane → IsInHand asker lane server put e → (heads : List Head) (left : List ℕ)
     → HeadsCame e.asked lane.lane.limits lane.lane.ended heads e.bytes left → HeadsCame asker.head_asked cfg.limits server.ending heads server.bytes left
 as_server cfg asker lane server put e for h heads left x =
     subst (λ (a : Bool). HeadsCame a cfg.limits server.ending heads server.bytes left) h.asked
@@ -140,7 +140,7 @@ record ResponseGoes (cfg : Config) (asker : Asker) (received : Received) (head :
   pub reads : Reads asker.head_asked cfg.limits server.ending left (λ more. Begins received (past.bytes ++ more))
   pub serving : Serving cfg asker received head interim put (has_begun lane) lane.lane past text
 
-same_pending : (a b : Received) (o : Option Received) → o ≡ Some a → o ≡ Some b → a ≡ b
+pub same_pending : (a b : Received) (o : Option Received) → o ≡ Some a → o ≡ Some b → a ≡ b
 same_pending a b o e f = let P : Option Received → Received = λ o. by o in ap P (sym e ∙ f)
   where
     by : Option Received → Received
@@ -244,7 +244,7 @@ response_answers cfg asking lane server put e now total has for h a laws r strea
 
 -- ---- the whole
 
-answering_at : (ph : Phase) (lane : ResponseLane) (e : Exchange) (filters : List FilterSpec) (head : Head) (framing : Framing) (no_body : Bool) → lane.phase ≡ ph → shows_last ph ≡ true → e.last ≡ Serves filters head framing no_body
+pub answering_at : (ph : Phase) (lane : ResponseLane) (e : Exchange) (filters : List FilterSpec) (head : Head) (framing : Framing) (no_body : Bool) → lane.phase ≡ ph → shows_last ph ≡ true → e.last ≡ Serves filters head framing no_body
     → AnswersAt ph lane e → (lane.phase ≡ phase.Answering) × AnswersLast lane e
 answering_at phase.Heads lane e filters head framing no_body at shows last a = absurd (let both : false ≡ true = shows in cc both)
 answering_at phase.Passing lane e filters head framing no_body at shows last a = absurd (let both : false ≡ true = shows in cc both)

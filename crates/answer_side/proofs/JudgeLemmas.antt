@@ -68,7 +68,7 @@ final_edited laws cfg old msg asking server put received head f =
 pub edits_by : EditLaws → (old : AnswerSide) (msg : Contents) → IsBetween old → stage_of old.lane ≡ stage.Head → msg.size ≡ (array_of old.lane).size → Edits old (record old { lane = with_answer_head old.lane msg })
 edits_by laws old msg b head size =
     record {
-      between = record { lane = laws.sound old.lane msg size head b.lane; open_is = b.open_is; place = b.place; begun = b.begun; first = b.first };
+      between = record { lane = laws.sound old.lane msg size head b.lane; open_is = b.open_is; place = b.place; begun = b.begun; first = b.first; stirs = b.stirs };
       stage = head;
       final = λ cfg asking server put received f. final_edited laws cfg old msg asking server put received head f;
       window = refl;

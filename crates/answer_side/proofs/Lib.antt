@@ -14,3 +14,5 @@ pub mod VerdictLemmas
 pub mod JudgeLemmas
 pub mod LastLemmas
 pub mod StepLemmas
+pub mod Resting
+pub mod RestLaws

@@ -13,7 +13,8 @@ use Rattle.session_core.specs.History.{Coming}
 use Rattle.session_core.specs.Sided.{Asking, asker_in}
 use Rattle.lane_core.specs.declared.stage.Stage.{Stage}
 use Rattle.lane_core.specs.declared.stage.Stage.TheVariants as stage
-use Rattle.lane.specs.Answering.{Exchange, Answers, HasFilters, IsSoundAnswer, IsSoundAt, IsAmongHeads, MayGoOn, NotYet, ended_of, limits_of, phase_of, stage_of, shows_last, output_of, framing_of, declared_of, passes, drops, with_put}
+use Rattle.lane_core.specs.declared.stage.Source.TheVariants as source
+use Rattle.lane.specs.Answering.{Exchange, Answers, HasFilters, IsSoundAnswer, IsSoundAt, IsAmongHeads, MayGoOn, NotYet, ended_of, limits_of, phase_of, stage_of, source_of, shows_last, output_of, framing_of, declared_of, passes, drops, with_put}
 use Rattle.lane.specs.declared.phase.Phase.{Phase}
 use Rattle.lane.specs.declared.phase.Phase.TheVariants as phase
 use Rattle.lane.specs.declared.response_lane.ResponseLane.{ResponseLane}
@@ -26,7 +27,7 @@ use Rattle.answer_side.specs.declared.place.Place.TheVariants as place
 use Rattle.answer_side.specs.declared.side.AnswerSide.{AnswerSide}
 use Rattle.answer_side.proofs.Events.{for_new}
 use Rattle.answer_side.proofs.Putting.{Puts, in_hand_puts}
-use Rattle.answer_side.proofs.Views.{at_place}
+use Rattle.answer_side.proofs.Views.{at_place, fits_same}
 
 -- ---- while heads are read
 
@@ -44,17 +45,25 @@ in_heads cfg side asking server put now saying heads s =
     subst (λ (p : Place). StandsAt p cfg (asker_in asking) (answering asking.vars) side.lane server put now saying) heads s.at in
     record { asks = s.asks; for_it = s.for_it; e = at.0; in_hand = at.1; last = at.2 }
 
-pub stands_in : (cfg : Config) (side : AnswerSide) (asking : Asking Variables) (server : Coming) (put : List ℕ) (now : Variables) (saying : List ℕ) → side.place ≡ place.Heads → InHeads cfg side asking server put → AnswerStands cfg side asking server put now saying
-stands_in cfg side asking server put now saying heads h =
+pub stands_in : (cfg : Config) (side : AnswerSide) (asking : Asking Variables) (server : Coming) (put : List ℕ) (now : Variables) (saying : List ℕ) → side.place ≡ place.Heads → side.at_rest ≡ false → InHeads cfg side asking server put → AnswerStands cfg side asking server put now saying
+stands_in cfg side asking server put now saying heads stirs h =
     record {
       asks = h.asks;
       for_it = h.for_it;
       at = subst (λ (p : Place). StandsAt p cfg (asker_in asking) (answering asking.vars) side.lane server put now saying) (sym heads) (h.e, h.in_hand, h.last);
+      rests = λ rest. absurd (let both : false ≡ true = sym stirs ∙ rest in cc both);
     }
 
--- the variables and what is to be said don't count there
-pub in_heads_whatever : (cfg : Config) (side : AnswerSide) (asking : Asking Variables) (server : Coming) (put : List ℕ) (now behind : Variables) (saying left : List ℕ) → side.place ≡ place.Heads → AnswerStands cfg side asking server put now saying → AnswerStands cfg side asking server put behind left
-in_heads_whatever cfg side asking server put now behind saying left heads s = stands_in cfg side asking server put behind left heads (in_heads cfg side asking server put now saying heads s)
+-- ---- a step begins
+
+pub stirred : (cfg : Config) (side : AnswerSide) (asking : Asking Variables) (server : Coming) (put : List ℕ) (now : Variables) (saying : List ℕ) → AnswerStands cfg side asking server put now saying
+    → AnswerStands cfg (record side { at_rest = false }) asking server put now saying
+stirred cfg side asking server put now saying s =
+    record { asks = s.asks; for_it = s.for_it; at = s.at; rests = λ rest. absurd (let both : false ≡ true = rest in cc both) }
+
+pub stirred_sound : (side : AnswerSide) → IsSoundSide side → IsSoundSide (record side { at_rest = false })
+stirred_sound side s =
+    record { lane = s.lane; open_is = s.open_is; at = fits_same side.place side (record side { at_rest = false }) refl refl refl refl refl s.at }
 
 -- ---- between
 
@@ -65,23 +74,21 @@ first_unbegun (phase.Turning no_body) lane e s = s.1
 first_unbegun phase.Answering lane e s = absurd (let both : true ≡ false = e in cc both)
 
 -- a side whose lane goes on reading heads
-pub between_on : (old new : AnswerSide) → IsBetween old → new.place ≡ old.place → new.open ≡ old.open → ended_of new.lane ≡ ended_of old.lane → IsSoundAnswer new.lane → shows_last (phase_of new.lane) ≡ false → IsBetween new
-between_on old new b places opens ended sound first =
+pub between_on : (old new : AnswerSide) → IsBetween old → new.place ≡ old.place → new.open ≡ old.open → new.at_rest ≡ old.at_rest → ended_of new.lane ≡ ended_of old.lane → IsSoundAnswer new.lane → shows_last (phase_of new.lane) ≡ false → IsBetween new
+between_on old new b places opens stirs ended sound first =
     record {
       lane = sound;
       open_is = opens ∙ b.open_is ∙ ap is_none (sym ended);
       place = places ∙ b.place;
       begun = first_unbegun new.lane.phase new.lane first sound.at;
       first = first;
+      stirs = stirs ∙ b.stirs;
     }
 
-pub between_sound : (side : AnswerSide) → IsSoundSide side → side.place ≡ place.Heads → IsBetween side
-between_sound side s heads =
+pub between_sound : (side : AnswerSide) → IsSoundSide side → side.place ≡ place.Heads → side.at_rest ≡ false → IsBetween side
+between_sound side s heads stirs =
     let f : FitsAt place.Heads side = at_place place.Heads side heads s.at in
-    record { lane = s.lane; open_is = s.open_is; place = heads; begun = f.0; first = f.1 }
-
-pub sound_between : (side : AnswerSide) → IsBetween side → FitsAt place.Heads side → IsSoundSide side
-sound_between side b f = record { lane = b.lane; open_is = b.open_is; at = subst (λ (p : Place). FitsAt p side) (sym b.place) f }
+    record { lane = s.lane; open_is = s.open_is; place = heads; begun = f.0; first = f.1; stirs = stirs }
 
 -- where the lane sends, or reads
 pub fits_sending : (side : AnswerSide) → IsBetween side → stage_of side.lane ≡ stage.Sending → FitsAt place.Heads side
@@ -101,6 +108,13 @@ fits_reading side b reads = (
 )
 
 -- ---- waiting
+
+-- an interim head that goes out has come whole
+pub showing_whole : (ph : Phase) (lane : ResponseLane) → shows_last ph ≡ false → stage_of lane ≡ stage.Sending → IsSoundAt ph lane → source_of lane ≡ source.Whole
+showing_whole phase.Heads lane e sends s = absurd (s.1 sends)
+showing_whole phase.Passing lane e sends s = s.2
+showing_whole (phase.Turning no_body) lane e sends s = s.2
+showing_whole phase.Answering lane e sends s = absurd (let both : true ≡ false = e in cc both)
 
 pub waits_on : (side : AnswerSide) → MayGoOn side.lane → WaitsForHead side
 waits_on side (inl some) = inl (λ none. (let e : length (output_of side.lane) ≡ 0 = ap length none in omega (arith, some, e)))
@@ -208,9 +222,9 @@ hears_none cfg old new asking server put now saying says window tells =
     }
 
 -- more was put out of an interim head
-pub hears_more : (cfg : Config) (old new : AnswerSide) (asking : Asking Variables) (server : Coming) (put more : List ℕ) (now : Variables) (saying : List ℕ) (says : Heard) → (seen new).window ≡ (seen old).window ++ more → new.place ≡ place.Heads
+pub hears_more : (cfg : Config) (old new : AnswerSide) (asking : Asking Variables) (server : Coming) (put more : List ℕ) (now : Variables) (saying : List ℕ) (says : Heard) → (seen new).window ≡ (seen old).window ++ more → new.place ≡ place.Heads → new.at_rest ≡ false
     → InHeads cfg new asking server (put ++ more) → (AnswerStands cfg new asking server (put ++ more) now saying → HeadSays says cfg new asking server (put ++ more) now saying) → Hears cfg old new asking server put now saying says
-hears_more cfg old new asking server put more now saying says window heads h tells = record { put = more; window = window; tells = tells (stands_in cfg new asking server (put ++ more) now saying heads h) }
+hears_more cfg old new asking server put more now saying says window heads stirs h tells = record { put = more; window = window; tells = tells (stands_in cfg new asking server (put ++ more) now saying heads stirs h) }
 
 -- what is heard from a side with the same window
 pub hears_from : (cfg : Config) (old mid new : AnswerSide) (asking : Asking Variables) (server : Coming) (put : List ℕ) (now : Variables) (saying : List ℕ) (says : Heard) → (seen mid).window ≡ (seen old).window

@@ -6,12 +6,12 @@ use Rattle.px_sample.specs.Variables.{Variables}
 use Rattle.http_rules.specs.declared.config.Config.{Config}
 use Rattle.http_rules.specs.Lives.{answering}
 use Rattle.session_core.specs.History.{Coming}
-use Rattle.session_core.specs.Sided.{Asking}
+use Rattle.session_core.specs.Sided.{Asking, asker_in}
 use Rattle.session_core.specs.declared.Told.TheVariants as told
 use Rattle.lane.specs.Answering.{source_of}
 use Rattle.answer_side.specs.Seen.{seen, place_of, size_of, is_last, told_at}
 use Rattle.answer_side.specs.Said.{PutsMore}
-use Rattle.answer_side.specs.Stands.{AnswerStands, FitsAt, IsSoundSide, is_serving}
+use Rattle.answer_side.specs.Stands.{AnswerStands, RestsAt, FitsAt, IsSoundSide, is_serving}
 use Rattle.answer_side.specs.Stepping.{VarsAt, StepsOn}
 use Rattle.answer_side.specs.Hearing.{IsBetween, Hears, WaitsForHead}
 use Rattle.answer_side.specs.Judging.{Finds, GoesOut, Decides, KeepsOn}
@@ -20,7 +20,6 @@ use Rattle.answer_side.specs.declared.place.Place.{Place}
 use Rattle.answer_side.specs.declared.place.Place.TheVariants as place
 use Rattle.answer_side.specs.declared.side.AnswerSide.{AnswerSide}
 use Rattle.answer_side.proofs.Answering.{last_serves}
-use Rattle.answer_side.proofs.ReadLemmas.{sound_between}
 use Rattle.answer_side.proofs.Views.{at_place}
 
 -- ---- places
@@ -92,7 +91,12 @@ decides_more cfg old mid new asking server put now saying vars is heads same h =
     subst (λ (s : AnswerSide). Decides cfg old s asking server put saying vars) (sym is) (record {
       put = h.put;
       behind = now;
-      stands = record { asks = h.tells.0.asks; for_it = h.tells.0.for_it; at = h.tells.0.at };
+      stands = record {
+        asks = h.tells.0.asks;
+        for_it = h.tells.0.for_it;
+        at = h.tells.0.at;
+        rests = λ _. subst (λ (p : Place). RestsAt p (asker_in asking).head_asked mid.lane) (sym heads) h.tells.2;
+      };
       vars = subst (λ (p : Place). VarsAt p (answering asking.vars) now vars) (sym heads) same;
       window = h.window;
       waits = λ at. (refl, λ off. waits_told mid heads h.tells.1);
@@ -153,7 +157,7 @@ pub keeps_more : (old mid : AnswerSide) → IsSoundSide old → old.place ≡ pl
 keeps_more old mid sound heads heard_ open_ size b f =
     record {
       serving = ap is_serving b.place;
-      sound = sound_between (record mid { at_rest = true }) (record { lane = b.lane; open_is = b.open_is; place = b.place; begun = b.begun; first = b.first }) (f.0, f.1, f.2, f.3);
+      sound = record { lane = b.lane; open_is = b.open_is; at = subst (λ (p : Place). FitsAt p (record mid { at_rest = true })) (sym b.place) (f.0, f.1, f.2, f.3) };
       begun = λ was. absurd (never_begun old sound heads was);
       heard = heard_;
       is_open = open_;

@@ -1,5 +1,5 @@
 -- What is seen of an answer direction.
-use Rattle.std.proofs.Common.{◌≡◌, ◌⊎◌, inl, true, false, sym, ap, ◌∙◌, subst}
+use Rattle.std.proofs.Common.{◌≡◌, ◌⊎◌, ℕ, ◌+◌, ◌-◌, arith, inl, true, false, sym, ap, ◌∙◌, subst}
 use Rattle.session_core.specs.Sided.{AnswerSeen}
 use Rattle.lane_core.specs.declared.stage.Stage.{Stage}
 use Rattle.lane_core.specs.declared.stage.Stage.TheVariants as stage
@@ -25,6 +25,10 @@ seen_same a b is_open room window told answered begun heard at_rest = λ i. reco
   heard = heard i;
   at_rest = at_rest i;
 }
+
+-- what came takes as much of the room
+pub room_less : (most most' held held' came : ℕ) → most' ≡ most → held' ≡ held + came → most' - held' ≡ (most - held) - came
+room_less most most' held held' came same more = omega arith
 
 -- ---- its place
 

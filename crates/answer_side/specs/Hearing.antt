@@ -10,19 +10,20 @@ use Rattle.session_core.specs.Sided.{Asking, asker_in}
 use Rattle.lane.specs.Answering.{Exchange, NotYet, IsSoundAnswer, stage_of, ended_of, output_of, blocks_of, framing_of, declared_of, phase_of, has_begun, shows_last}
 use Rattle.lane_core.specs.declared.stage.Stage.TheVariants as stage
 use Rattle.answer_side.specs.Seen.{seen}
-use Rattle.answer_side.specs.Stands.{IsAsker, IsFor, IsInHand, AnswerStands, FitsAt}
+use Rattle.answer_side.specs.Stands.{IsAsker, IsFor, IsInHand, AnswerStands, RestsAt, FitsAt}
 use Rattle.answer_side.specs.declared.place.Place.TheVariants as place
 use Rattle.answer_side.specs.declared.hearing.Heard.{Heard}
 use Rattle.answer_side.specs.declared.hearing.Heard.TheVariants as heard
 use Rattle.answer_side.specs.declared.side.AnswerSide.{AnswerSide}
 
--- within a step: nothing of the last that answers goes out
+-- within a step, which is not at rest: nothing of the last that answers goes out
 pub record IsBetween (side : AnswerSide) : Type 0 where
   pub lane : IsSoundAnswer side.lane
   pub open_is : side.open ≡ is_none (ended_of side.lane)
   pub place : side.place ≡ place.Heads
   pub begun : has_begun side.lane ≡ false
   pub first : shows_last (phase_of side.lane) ≡ false
+  pub stirs : side.at_rest ≡ false
 
 -- a head stands in the array
 pub record HasHead (side : AnswerSide) : Type 0 where
@@ -59,7 +60,8 @@ WaitsForHead side = (output_of side.lane ≢ []) ⊎ (((seen side).is_open ≡ t
 
 -- what the answer says of the server's stream
 abbrev pub HeadSays : Heard → (cfg : Config) → AnswerSide → Asking Variables → (server : Coming) → (to_client : List ℕ) → (now : Variables) → (saying : List ℕ) → Type 0
-HeadSays heard.More cfg side asking server to_client now saying = AnswerStands cfg side asking server to_client now saying × WaitsForHead side
+HeadSays heard.More cfg side asking server to_client now saying =
+    AnswerStands cfg side asking server to_client now saying × WaitsForHead side × RestsAt place.Heads (asker_in asking).head_asked side.lane
 HeadSays heard.Interim cfg side asking server to_client now saying = AnswerStands cfg side asking server to_client now saying
 HeadSays heard.Final cfg side asking server to_client now saying =
     (received : Received) × FinalHead cfg side asking server to_client received × (blocks_of side.lane ≡ head_blocks received.head)

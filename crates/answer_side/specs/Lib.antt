@@ -12,3 +12,4 @@ pub mod Lent
 pub mod Stepping
 pub mod Hearing
 pub mod Judging
+pub mod Resting

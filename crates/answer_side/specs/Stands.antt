@@ -1,5 +1,5 @@
 -- What the answer direction of a session stands for, over what it has of the past of an exchange.
-use Rattle.std.specs.Prelude.{◌≡◌, ◌≢◌, ℕ, List, [], ◌++◌, Bool, true, false, Some, is_none}
+use Rattle.std.specs.Prelude.{◌≡◌, ◌≢◌, ◌⊎◌, ℕ, List, [], ◌++◌, Bool, true, false, Some, is_none, ⊤}
 use Rattle.http_model.specs.declared.Framing.{Framing}
 use Rattle.http_model.specs.Head.{Head}
 use Rattle.http_model.specs.Finish.{response_framing}
@@ -10,6 +10,8 @@ use Rattle.px_sample.specs.Variables.{Variables}
 use Rattle.http_rules.specs.declared.config.Config.{Config}
 use Rattle.http_rules.specs.Lives.{answering}
 use Rattle.h1_body.specs.BodyOf.{BodyOf}
+use Rattle.h1_head.specs.Decides.{MayWait}
+use Rattle.h1_head.specs.Kind.{response_heads}
 use Rattle.proxy_meaning.specs.Product.{meaning_of, replaces}
 use Rattle.session_model.specs.Stream.{Stream}
 use Rattle.session_model.specs.Env.{Env, Pass, Edited, response_env}
@@ -21,8 +23,9 @@ use Rattle.session_core.specs.History.{Coming, Continues}
 use Rattle.session_core.specs.Sided.{Asking, asker_in, ToldIs}
 use Rattle.session_core.specs.declared.Told.{Told}
 use Rattle.session_core.specs.declared.Told.TheVariants as told
-use Rattle.lane.specs.Answering.{Exchange, Answers, Serves, Replies, NotYet, HeadsCame, HasFilters, IsSoundAnswer, interim_text, limits_of, stage_of, source_of, ended_of, phase_of, has_begun, shows_last}
+use Rattle.lane.specs.Answering.{Exchange, Answers, Serves, Replies, NotYet, HeadsCame, HasFilters, HoldsNothingBack, IsOpen, IsSoundAnswer, interim_text, limits_of, stage_of, source_of, input_of, output_of, ended_of, phase_of, has_begun, shows_last}
 use Rattle.lane_core.specs.declared.stage.Stage.TheVariants as stage
+use Rattle.lane_core.specs.declared.stage.Source.{Source}
 use Rattle.lane_core.specs.declared.stage.Source.TheVariants as source
 use Rattle.lane.specs.declared.response_lane.ResponseLane.{ResponseLane}
 use Rattle.answer_side.specs.declared.asker.Asker.{Asker as AskerSeen}
@@ -107,6 +110,30 @@ pub record IsUnanswered (e : Exchange) : Type 0 where
   pub put : e.put ≡ []
   pub passed : e.passed ≡ []
 
+-- ---- at rest
+
+-- While heads are read: an interim head goes out, and text of it waits to be taken; or the server's stream goes on, and what stands of it in
+-- the window allows More.
+abbrev pub HeadRests : (head_asked : Bool) → ResponseLane → Type 0
+HeadRests head_asked lane =
+    ((stage_of lane ≡ stage.Sending) × (output_of lane ≢ []))
+    ⊎ ((stage_of lane ≡ stage.Reading) × IsOpen lane × MayWait (response_heads head_asked) (limits_of lane) false (input_of lane))
+
+-- all that came of a response was put out, by where its body stands
+abbrev pub IsPutOut : Source → ResponseLane → Type 0
+IsPutOut source.Going lane = HoldsNothingBack lane
+IsPutOut source.Whole lane = stage_of lane ≡ stage.Done
+IsPutOut (source.Cut code) lane = stage_of lane ≡ stage.Done
+
+-- nothing was left undone that could be done with what has come
+abbrev pub RestsAt : Place → (head_asked : Bool) → ResponseLane → Type 0
+RestsAt place.Idle head_asked lane = ⊤
+RestsAt place.Heads head_asked lane = HeadRests head_asked lane
+RestsAt place.Response head_asked lane = output_of lane ≡ [] → IsPutOut (source_of lane) lane
+RestsAt place.Closing head_asked lane = output_of lane ≡ [] → stage_of lane ≡ stage.Done
+RestsAt place.Keeping head_asked lane = output_of lane ≡ [] → stage_of lane ≡ stage.Done
+RestsAt place.Saying head_asked lane = ⊤
+
 -- ---- the whole
 
 abbrev pub StandsAt : Place → (cfg : Config) → Asker → (before : Variables) → ResponseLane → (server : Coming) → (to_client : List ℕ) → (now : Variables) → (saying : List ℕ) → Type 0
@@ -118,11 +145,13 @@ StandsAt place.Keeping cfg asker before lane server put now saying = (e : Exchan
 StandsAt place.Saying cfg asker before lane server put now saying = (e : Exchange) × Answers lane e × (shows_last (phase_of lane) ≡ true) × IsSaid saying e
 
 -- The answer direction stands for its part of the past of an exchange: the request that is answered, the server's stream, the text
--- that was put out to the client, the variables behind the last that answers, and what is still to be said.
+-- that was put out to the client, the variables behind the last that answers, and what is still to be said. Where it is at rest, nothing was
+-- left undone.
 pub record AnswerStands (cfg : Config) (side : AnswerSide) (asking : Asking Variables) (server : Coming) (to_client : List ℕ) (now : Variables) (saying : List ℕ) : Type 0 where
   pub asks : IsAsker side.asker (asker_in asking)
   pub for_it : IsFor cfg side.lane
   pub at : StandsAt side.place cfg (asker_in asking) (answering asking.vars) side.lane server to_client now saying
+  pub rests : side.at_rest ≡ true → RestsAt side.place (asker_in asking).head_asked side.lane
 
 -- ---- its sizes
 

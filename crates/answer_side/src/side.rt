@@ -1,5 +1,5 @@
 //! The direction in which a session answers its client.
-ghost use Rattle.std.specs.Prelude.{◌≡◌, ◌≤◌, ◌+◌, ℕ, List, [], length, drop, true, false, IfOk};
+ghost use Rattle.std.specs.Prelude.{◌≡◌, ◌≤◌, ◌+◌, ◌-◌, ℕ, List, [], length, drop, true, false, IfOk};
 ghost use Rattle.http_model.specs.Sizes.{least_size, most_size, least_head};
 ghost use Rattle.body_filter.specs.Valid.{AreFilters};
 ghost use Rattle.px_sample.specs.Variables.{Variables};
@@ -91,7 +91,7 @@ impl AnswerSide {
         requires room { length bytes.now ≤ (seen self.old).room }
         ensures leads { (cfg : Config) (asking : Asking Variables) (server : Coming) (put : List ℕ) (now : Variables) (saying : List ℕ) → AnswerStands cfg self.old asking server put now saying
             → AnswerStands cfg self.new asking (gains server bytes.now) put now saying }
-        ensures seen { (room : ℕ) × (seen self.new ≡ record (seen self.old) { room = room; at_rest = false }) }
+        ensures seen { seen self.new ≡ record (seen self.old) { room = (seen self.old).room - length bytes.now; at_rest = false } }
         ensures place { place_of self.new ≡ place_of self.old }
         ensures sound { IsSoundSide self.new }
         ensures size { size_of self.new ≡ size_of self.old }

@@ -11,7 +11,7 @@ use Rattle.http_model.specs.declared.Framing.{Framing}
 use Rattle.http_model.specs.declared.Framing.TheVariants as framing
 use Rattle.http_model.specs.declared.Limits.{Limits}
 use Rattle.http_model.specs.Finish.{finish_interim}
-use Rattle.http_model.specs.Head.{Head, StartLine, RequestLine, StatusLine, head_blocks}
+use Rattle.http_model.specs.Head.{Head, StartLine, RequestLine, StatusLine, head_blocks, front_blocks}
 use Rattle.http_model.specs.Reading.{Received, HeadReading, Nothing, Refused, Begins}
 use Rattle.http_model.specs.Spelling.{head_text}
 use Rattle.body_filter.specs.declared.filter_spec.FilterSpec.{FilterSpec}
@@ -20,11 +20,10 @@ use Rattle.h1_head.specs.Received.{IsReceived}
 use Rattle.h1_head.specs.Response.{ResponseOf}
 use Rattle.h1_head.specs.Sides.{kind_of}
 use Rattle.h1_head.specs.Stream.{behind}
-use Rattle.h1_head.specs.Decides.{OnEachStream}
-use Rattle.http_model.specs.Head.{front_blocks}
+use Rattle.h1_head.specs.Decides.{OnEachStream, MayWait}
 use Rattle.lane_core.specs.Filtering.{AreThese}
 use Rattle.lane_core.specs.Promise.{Promise}
-use Rattle.lane_core.specs.Sends.{Past, Stands, IsSound, IsReading, put_out, GoesOn}
+use Rattle.lane_core.specs.Sends.{Past, Stands, IsSound, IsReading, IsAtRest, RestsFor, put_out, GoesOn}
 use Rattle.lane_core.specs.Shown.{Shows}
 use Rattle.lane_core.specs.declared.stage.LaneHead.{LaneHead}
 use Rattle.lane_core.specs.declared.stage.LaneHead.TheVariants as says
@@ -273,6 +272,7 @@ pub record IsSoundAnswer (lane : ResponseLane) : Type 0 where
 abbrev pub HeadComes : Exchange → ResponseLane → LaneHead → Type 0
 HeadComes p new says.More =
     Answers new p × (new.lane.stage ≡ stage.Reading) × (new.lane.ended ≡ None) × (length new.lane.input.items < new.lane.input.capacity)
+    × MayWait (kind_of (Response p.asked)) new.lane.limits false new.lane.input.items
 HeadComes p new says.Nothing = ⊥
 HeadComes p new says.Head =
     (got : Received) × Answers new (record p { pending = Some got }) × (new.lane.stage ≡ stage.Head) × (new.lane.msg.blocks ≡ head_blocks got.head)
@@ -292,6 +292,14 @@ pub record PutsOut (old new : ResponseLane) : Type 0 where
   pub put : List ℕ
   pub window : new.lane.output.items ≡ old.lane.output.items ++ put
   pub answers : (p : Exchange) → Answers old p → Answers new (with_put p put)
+
+-- all that came of the last that answers was put out
+abbrev pub HoldsNothingBack : ResponseLane → Type 0
+HoldsNothingBack lane = IsAtRest lane.lane
+
+-- its body is over, or the lane waits for the stream
+abbrev pub Rests : ResponseLane → Type 0
+Rests lane = RestsFor lane.lane
 
 -- a lane that stopped short of the end waits for its output to be taken, or for the stream
 abbrev pub MayGoOn : ResponseLane → Type 0

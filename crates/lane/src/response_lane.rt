@@ -1,6 +1,6 @@
 //! The direction in which the client is answered: a server's heads come, interim ones are passed on or dropped, and the
 //! last that answers goes out behind them, the server's or one in its place.
-ghost use Rattle.std.specs.Prelude.{◌≡◌, ◌≤◌, ◌<◌, ◌+◌, ◌⊎◌, [], length, drop, true, false, List, ℕ, Some, Bool, IfOk};
+ghost use Rattle.std.specs.Prelude.{◌≡◌, ◌≤◌, ◌<◌, ◌+◌, ◌++◌, ◌⊎◌, [], length, drop, true, false, List, ℕ, Some, Bool, IfOk};
 ghost use Rattle.htx_model.specs.Blocks.{Fits};
 ghost use Rattle.http_model.specs.Head.{Head, head_blocks};
 ghost use Rattle.http_model.specs.Reading.{Received};
@@ -75,6 +75,7 @@ impl ResponseLane {
         requires open { IsOpen self.old }
         requires room { length (input_of self.old) + length bytes.now ≤ most_of self.old }
         ensures answers { (p : Exchange) → Answers self.old p → Answers self.new (with_bytes p bytes.now) }
+        ensures input { input_of self.new ≡ input_of self.old ++ bytes.now }
         ensures same { (stage_of self.new ≡ stage_of self.old) × (window_of self.new ≡ window_of self.old) × (has_begun self.new ≡ has_begun self.old) }
         ensures keeps { (ended_of self.new ≡ ended_of self.old) × (phase_of self.new ≡ phase_of self.old) × (source_of self.new ≡ source_of self.old) }
         ensures limits { limits_of self.new ≡ limits_of self.old }

@@ -6,6 +6,7 @@ pub mod Goes
 pub mod Sounds
 pub mod Stepping
 pub mod Wholes
+pub mod Resting
 pub mod Reading
 pub mod Sending
 pub mod Keeping

@@ -1,6 +1,7 @@
 -- What calls keep of where the lane stands, and what is seen of it.
-use Rattle.std.proofs.Common.{◌≡◌, ◌≢◌, ℕ, ◌⊎◌, List, [], Bool, true, refl, ap, sym, ◌∙◌, subst, length, ◌-◌}
+use Rattle.std.proofs.Common.{◌≡◌, ◌≢◌, ℕ, ◌⊎◌, List, [], ◌++◌, Bool, true, refl, ap, sym, ◌∙◌, subst, length, ◌+◌, ◌-◌, arith}
 use Rattle.std.specs.Prelude.{Option, Some, None, is_none}
+use Rattle.std.proofs.lemmas.List.{length-append}
 use Rattle.http_model.specs.declared.Ending.{Ending}
 use Rattle.lane_core.specs.Sends.{Past}
 use Rattle.lane_core.specs.declared.stage.Stage.{Stage}
@@ -40,6 +41,14 @@ pub room_same : (old new : RequestLane) → IsWell old → IsWell new → limits
 room_same old new was now limits input =
     let most : most_of new ≡ most_of old = now.sized.input ∙ ap (λ l. l.bufsize) limits ∙ sym was.sized.input in
     λ i. most i - length (input i)
+
+-- where these bytes came behind the others
+pub room_less : (old new : RequestLane) (bytes : List ℕ) → IsWell old → IsWell new → limits_of new ≡ limits_of old → input_of new ≡ input_of old ++ bytes
+    → most_of new - length (input_of new) ≡ most_of old - length (input_of old) - length bytes
+room_less old new bytes was now limits input =
+    let most : most_of new ≡ most_of old = now.sized.input ∙ ap (λ l. l.bufsize) limits ∙ sym was.sized.input in
+    let long : length (input_of new) ≡ length (input_of old) + length bytes = ap length input ∙ length-append (input_of old) bytes in
+    omega (arith, most, long)
 
 pub seen_as : (old new : RequestLane) (at : Place) (awaits was now open_ dropped : Bool) (room unread : ℕ) (window : List ℕ)
     → is_none (ended_of new) ≡ open_ → most_of new - length (input_of new) ≡ room → unread_at at (input_of new) ≡ unread → output_of new ≡ window

@@ -1,6 +1,7 @@
 -- What a step of the request direction keeps.
-use Rattle.std.proofs.Common.{◌≡◌, ◌≢◌, ℕ, ◌<◌, ◌≤◌, ◌⊎◌, inl, inr, List, [], ◌∷◌, ◌++◌, Bool, true, false, refl, ap, sym, ◌∙◌, length, ◌-◌, arith}
+use Rattle.std.proofs.Common.{◌≡◌, ◌≢◌, ℕ, ◌<◌, ◌≤◌, ◌⊎◌, inl, inr, List, [], ◌∷◌, ◌++◌, Bool, true, false, refl, ap, sym, ◌∙◌, subst, length, ◌-◌, arith}
 use Rattle.std.specs.Prelude.{is_none}
+use Rattle.std.proofs.lemmas.List.{append-nil}
 use Rattle.session_core.specs.History.{Coming}
 use Rattle.session_core.specs.Leads.{KeepsRequest, StaysSettled}
 use Rattle.session_core.specs.Sided.{Asking, Reply, IsSettled}
@@ -19,6 +20,7 @@ use Rattle.request_side.specs.declared.place.Place.{Place}
 use Rattle.request_side.specs.declared.place.Place.TheVariants as place
 use Rattle.request_side.specs.Seen.{seen, unread_at, source_by, source_at, sent_at, is_done}
 use Rattle.request_side.specs.Stands.{SoundAt, StandsAt}
+use Rattle.request_side.specs.Steps.{Puts}
 use Rattle.request_side.proofs.Events.{Keeps, steps}
 
 -- what the lane says of a step
@@ -125,7 +127,19 @@ step_keeps at awaits was old new e t s = record {
   waits = λ sent. step_waits at old new e t s sent;
 }
 
--- where nothing is to go out
+-- ---- where nothing is to go out
+
+-- no text is put out
+pub nothing_put : (at : Place) (awaits was now : Bool) (lane : RequestLane) → Puts (record { lane = lane; place = at; awaits = awaits; at_rest = was }) (record { lane = lane; place = at; awaits = awaits; at_rest = now })
+nothing_put at awaits was now lane = record {
+  put = [];
+  window = sym (append-nil (output_of lane));
+  stands = λ cfg vars came_ asking to_server reply h. record {
+    is_for = h.is_for;
+    at = subst (λ (text : List ℕ). StandsAt at cfg lane vars came_ asking text reply) (sym (append-nil to_server)) h.at;
+  };
+}
+
 rest_waits : (at : Place) (lane : RequestLane) → (at ≡ place.Sending → stage_of lane ≢ stage.Sending) → SoundAt at lane → sent_at at (stage_of lane) ≡ false → SeenWaits at lane
 rest_waits place.Reading lane over s h = absurd (cc)
 rest_waits place.Sending lane over s h = absurd (over refl (undone (stage_of lane) h s.stage))

@@ -21,6 +21,7 @@ use Rattle.lane.specs.declared.request_lane.RequestLane.{RequestLane}
 use Rattle.request_side.specs.declared.place.Place.{Place}
 use Rattle.request_side.specs.declared.place.Place.TheVariants as place
 use Rattle.request_side.specs.declared.side.RequestSide.{RequestSide}
+use Rattle.request_side.specs.Rests.{RestsAt}
 
 -- ---- at any moment
 
@@ -38,10 +39,11 @@ SoundAt place.Sending lane = GoesSoundly lane
 SoundAt place.Idle lane = output_of lane ≡ []
 SoundAt place.Replied lane = output_of lane ≡ []
 
--- its lane has the sizes that it was made with, and stands where the place says
+-- its lane has the sizes that it was made with, and stands where the place says; at rest it has left nothing undone
 pub record IsSound (side : RequestSide) : Type 0 where
   pub well : IsWell side.lane
   pub at : SoundAt side.place side.lane
+  pub rests : side.at_rest ≡ true → RestsAt side.place side.lane
 
 -- ---- for a past
 

@@ -1,5 +1,5 @@
 //! What the definitions say together.
-ghost use Rattle.std.specs.Prelude.{◌≡◌, ℕ, List};
+ghost use Rattle.std.specs.Prelude.{◌≡◌, ◌⊎◌, ℕ, List, [], true, false};
 ghost use Rattle.session_core.specs.Consequences.{IsTotal};
 ghost use Rattle.session_model.specs.Stream.{Stream};
 ghost use Rattle.session_core.specs.History.{Coming, Continues};
@@ -8,12 +8,13 @@ ghost use Rattle.session_core.specs.declared.Source.TheVariants as source;
 ghost use Rattle.px_sample.specs.Variables.{Variables};
 ghost use Rattle.http_rules.specs.declared.config.Config.{Config};
 ghost use Rattle.proxy_meaning.specs.Product.{meaning_of};
-ghost use Rattle.request_side.specs.Seen.{place_of, source_of, limits_of};
-ghost use Rattle.request_side.specs.Stands.{RequestStands, IsReplied, left_of};
+ghost use Rattle.request_side.specs.Seen.{seen, place_of, source_of, window_of, limits_of};
+ghost use Rattle.request_side.specs.Stands.{IsSound, RequestStands, IsReplied, left_of};
 ghost use Rattle.htx_arena.specs.Contents.{Contents};
 ghost use Rattle.request_side.specs.Reads.{HasHead};
 ghost use Rattle.request_side.specs.Edits.{Edits, array_size_of, with_head};
 ghost use Rattle.request_side.specs.Steps.{RequestsSo, WholeCame};
+ghost use Rattle.request_side.specs.Shown.{ShowsNoCut, PutsAll, NoHeadCame};
 ghost use Rattle.request_side.specs.declared.place.Place.TheVariants as place;
 ghost use Rattle.request_side.specs.declared.side.RequestSide.{RequestSide};
 
@@ -66,4 +67,24 @@ pub fn came_whole()
 pub fn came_replied()
     ensures { (cfg : Config) (side : RequestSide) (vars : Variables) (came : Coming) (asking : Asking Variables) (to_server : List ℕ) (reply : Reply Variables)
         → place_of side ≡ place.Replied → RequestStands cfg side vars came asking to_server reply → IsReplied cfg vars came reply (left_of side) }
+{}
+
+/// Nothing is held back of a request that goes on, where the direction is at rest and no text waits for the server or it takes no
+/// more: what came so far shows no cut of it, and a server that takes has got all of it, but for what filters keep back.
+pub fn nothing_held_back()
+    ensures no_cut { (cfg : Config) (side : RequestSide) (vars : Variables) (came : Coming) (asking : Asking Variables) (to_server : List ℕ) (reply : Reply Variables)
+        → IsSound side → RequestStands cfg side vars came asking to_server reply → place_of side ≡ place.Sending → (seen side).at_rest ≡ true → source_of side ≡ source.Going
+        → (window_of side ≡ []) ⊎ ((seen side).dropped ≡ true) → ShowsNoCut cfg came asking }
+    ensures puts { (cfg : Config) (side : RequestSide) (vars : Variables) (came : Coming) (asking : Asking Variables) (to_server : List ℕ) (reply : Reply Variables)
+        → IsSound side → RequestStands cfg side vars came asking to_server reply → place_of side ≡ place.Sending → (seen side).at_rest ≡ true → source_of side ≡ source.Going
+        → window_of side ≡ [] → (seen side).dropped ≡ false → PutsAll cfg came asking to_server }
+{
+    lanes::nothing_held_back();
+    lanes::no_cut_shown();
+}
+
+/// Where a head is to be read and the direction is at rest, none came, and the client may still give one.
+pub fn waits_for_a_head()
+    ensures { (cfg : Config) (side : RequestSide) (vars : Variables) (came : Coming) (asking : Asking Variables) (to_server : List ℕ) (reply : Reply Variables)
+        → IsSound side → RequestStands cfg side vars came asking to_server reply → place_of side ≡ place.Reading → (seen side).at_rest ≡ true → NoHeadCame cfg came }
 {}

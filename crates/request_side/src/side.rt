@@ -1,5 +1,5 @@
 //! The request direction of a session, and its events and work.
-ghost use Rattle.std.specs.Prelude.{◌≡◌, ◌≢◌, ◌≤◌, ◌+◌, ℕ, List, [], ◌++◌, true, false, drop, length, IfOk};
+ghost use Rattle.std.specs.Prelude.{◌≡◌, ◌≢◌, ◌≤◌, ◌+◌, ◌-◌, ℕ, List, [], ◌++◌, true, false, drop, length, IfOk};
 ghost use Rattle.http_model.specs.Head.{Head, head_blocks};
 ghost use Rattle.http_model.specs.Sizes.{least_size, most_size, least_head};
 ghost use Rattle.htx_model.specs.Block.{Block};
@@ -11,6 +11,7 @@ ghost use Rattle.session_core.specs.Sided.{Asking, Reply};
 ghost use Rattle.session_core.specs.Leads.{KeepsRequest};
 ghost use Rattle.session_core.specs.declared.Source.TheVariants as source;
 ghost use Rattle.lane.specs.Asking.{stage_of, blocks_of};
+ghost use Rattle.lane_core.specs.declared.stage.LaneHead.TheVariants as says;
 ghost use Rattle.lane_core.specs.declared.stage.Stage.TheVariants as stage;
 
 mod views;
@@ -80,7 +81,7 @@ impl RequestSide {
         requires room { length bytes.now ≤ room_of self.old }
         ensures sound { IsSound self.new }
         ensures leads { Leads self.old self.new (λ came. gains came bytes.now) (λ put. put) }
-        ensures seen { (room : ℕ) × (unread : ℕ) × (seen self.new ≡ record (seen self.old) { room = room; unread = unread; at_rest = false }) }
+        ensures seen { (unread : ℕ) × (seen self.new ≡ record (seen self.old) { room = room_of self.old - length bytes.now; unread = unread; at_rest = false }) }
         ensures place { place_of self.new ≡ place_of self.old }
         ensures limits { limits_of self.new ≡ limits_of self.old }
     {
@@ -116,8 +117,8 @@ impl RequestSide {
         self.at_rest = false;
     }
 
-    /// The server takes nothing more: what waits for it, and all that follows, is dropped. The array on which rules run is
-    /// emptied.
+    /// The server takes nothing more: what waits for it, and all that follows, is dropped. The array on which rules run
+    /// changes.
     pub fn drop_request(&mut self)
         requires sound { IsSound self.old }
         requires some { window_of self.old ≢ [] }
@@ -133,20 +134,38 @@ impl RequestSide {
         self.lane.discard();
     }
 
-    /// Reads, filters and puts out as much of the request as there is room for. The array on which rules run changes.
+    /// Reads, filters and puts out as much of the request as there is room for. The array on which rules run changes. Where a head
+    /// is to be read nothing is done.
     pub fn step_request(&mut self)
         requires { IsSound self.old }
         ensures sound { IsSound self.new }
         ensures puts { Puts self.old self.new }
-        ensures keeps { KeepsRequest (seen self.old) (seen self.new) }
+        ensures keeps { place_of self.old ≢ place.Reading → KeepsRequest (seen self.old) (seen self.new) }
+        ensures still { place_of self.old ≡ place.Reading → seen self.new ≡ seen self.old }
         ensures place { place_of self.new ≡ place_of self.old }
         ensures limits { limits_of self.new ≡ limits_of self.old }
     {
+        if self.is_reading() {
+            return;
+        }
         self.at_rest = true;
         if !self.is_going_out() {
             return;
         }
         self.lane.step();
+    }
+
+    /// Whether the head of a request is to be read.
+    fn is_reading(&self) -> bool
+        ensures reading { result ≡ true → place_of self.now ≡ place.Reading }
+        ensures begun { result ≡ false → place_of self.now ≢ place.Reading }
+    {
+        match self.place {
+            Place::Reading => true,
+            Place::Sending => false,
+            Place::Idle => false,
+            Place::Replied => false,
+        }
     }
 
     /// Whether text of a request is still to go out.
@@ -169,6 +188,7 @@ impl RequestSide {
         ensures sound { IsSound self.new }
         ensures tells { HeadTells self.old self.new result }
         ensures uses { UsesBytes self.old self.new result }
+        ensures rests { result ≡ says.More → (seen self.new).at_rest ≡ true }
         ensures open { is_open self.new ≡ is_open self.old }
         ensures window { window_of self.new ≡ window_of self.old }
         ensures limits { limits_of self.new ≡ limits_of self.old }
@@ -176,7 +196,10 @@ impl RequestSide {
         has_bytes();
         self.at_rest = false;
         match self.lane.read_head() {
-            LaneHead::More => LaneHead::More,
+            LaneHead::More => {
+                self.at_rest = true;
+                LaneHead::More
+            }
             LaneHead::Nothing => {
                 self.place = Place::Idle;
                 LaneHead::Nothing

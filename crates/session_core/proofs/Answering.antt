@@ -47,7 +47,7 @@ pub answers_on : (M : Meaning) (S : Sided M → Type 0) (at : At) (q : RequestSe
     → Holds M at q a p past → Holds M at q b (record p { to_client = p.to_client ++ st.put; now = st.behind }) (record past { note = at.cut })
 answers_on M S at q a b p past is other opened st h =
     in_serving M at at q q a b p (record p { to_client = p.to_client ++ st.put; now = st.behind }) past st.put is is refl refl refl refl refl st.window
-    (λ now c s. (s.0, s.1, answer_serves M S q a b p at.cut other st s.2, answer_open opened s.3)) h
+    (λ now c s. (s.0, s.1, answer_serves M S q a b p at.cut other st s.2, answer_open opened s.3, s.4)) h
 
 -- ---- what is said in its place
 
@@ -79,7 +79,7 @@ pub says_turned : (M : Meaning) (S : Sided M → Type 0) (at : At) (q : RequestS
     → Holds M at q a p past → Holds M at q b (record p { to_client = p.to_client ++ st.put; saying = st.left }) (record past { note = at.cut })
 says_turned M S at q a b p past is cut opened st h =
     in_serving M at at q q a b p (record p { to_client = p.to_client ++ st.put; saying = st.left }) past st.put is is refl refl refl refl refl st.window
-    (λ now c s. (s.0, s.1, says_serves M S q a b p at.cut cut st s.2, answer_open opened s.3)) h
+    (λ now c s. (s.0, s.1, says_serves M S q a b p at.cut cut st s.2, answer_open opened s.3, s.4)) h
 
 refusing_on : (M : Meaning) (S : Sided M → Type 0) (a b : AnswerSeen) (p : Sided M) (now : List Connect) (st : Says M S a b p)
     → Refusing M a.answered p.vars p.came p.to_client p.saying now → Refusing M b.answered p.vars p.came (p.to_client ++ st.put) st.left now

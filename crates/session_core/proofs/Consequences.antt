@@ -60,7 +60,7 @@ replying_fronted M total q a p cut now kept unopened alone h stream servers c s 
     let r : (rest : Stream) × Asks M p.vars stream (replied_to p.reply rest) = h.asks stream c in
     fronted_by_one M total p now q.window cut a.begun stream servers
     (replied_exchange M r.0 h.text (kept_with kept p.now))
-    (reply_one M p.vars p.reply stream servers r.0 h.text (kept_with kept p.now) (subst S alone s) h.spelled h.behind r.1) (p.saying, h.said) (subst F (sym alone) tt) (subst B (sym unopened.uncut) tt)
+    (reply_one M p.vars p.reply stream servers r.0 h.text (kept_with kept p.now) (subst S alone s) h.spelled h.behind r.1) (p.saying, h.said) (subst F (sym alone) unopened.none) (subst B (sym unopened.uncut) tt)
 
 over_fronted : (M : Meaning) (q : RequestSeen) (a : AnswerSeen) (p : Sided M) (hand : ℕ) (cut : Option Bool) (now : List Connect) (how : End)
     → q.window ≡ [] → Fronts now [] (map sent_of now) → IsOver M p hand now cut how → IsFronted M q a p cut now
@@ -92,8 +92,8 @@ refusing_fronted M total q a p cut now unopened fronts h stream servers c s =
 -- whatever the phase
 pub fronted : (M : Meaning) → IsTotal M → (q : RequestSeen) (a : AnswerSeen) (p : Sided M) (hand : ℕ) (cut : Option Bool) (now : List Connect) (ph : Phase)
     → InPhase M q a p hand cut now ph → IsFronted M q a p cut now
-fronted M total q a p hand cut now phase.Reading h = fronted_by_none M total q a p cut now h.1.uncut h.2 h.3
-fronted M total q a p hand cut now phase.Opening h = fronted_by_none M total q a p cut now h.1.uncut h.2 h.3
+fronted M total q a p hand cut now phase.Reading h = fronted_by_none M total q a p cut now h.1.uncut h.1.none h.2 h.3
+fronted M total q a p hand cut now phase.Opening h = fronted_by_none M total q a p cut now h.1.uncut h.1.none h.2 h.3
 fronted M total q a p hand cut now phase.Unserved h = unserved_fronted M total q a p cut now h.1 h.2 h.3 h.4
 fronted M total q a p hand cut now phase.Serving h = serving_fronted M total q a p cut now h.1 h.2
 fronted M total q a p hand cut now phase.Served h = serving_fronted M total q a p cut now h.2 h.4

@@ -3,10 +3,10 @@ use Rattle.std.proofs.Common.{◌≡◌, ◌≢◌, ℕ, ◌<◌, nat_lt, List, 
 use Rattle.std.proofs.lemmas.List.{append-nil}
 use Rattle.http_model.specs.declared.Close.{Close}
 use Rattle.http_model.specs.declared.End.{End}
-use Rattle.session_model.specs.Stream.{Stream, Sent}
+use Rattle.session_model.specs.Stream.{Sent}
 use Rattle.session_model.specs.Meaning.{Meaning}
 use Rattle.session_core.specs.History.{Past, Coming, Connect, Continues, IsPrefix, IsFrontOf, Fronts, close_by}
-use Rattle.session_core.specs.Sided.{Sided, RequestSeen, AnswerSeen, asker_in, AnswersSo, AnswerGoes, IsBefore, Interims, RequestAsks}
+use Rattle.session_core.specs.Sided.{Sided, RequestSeen, AnswerSeen, asker_in, AnswersSo, AnswerGoes, IsBefore, Interims}
 use Rattle.session_core.specs.Stands.{Serves, InPhase, Holds}
 use Rattle.session_core.specs.Waits.{is_empty, is_serving, is_opening, is_telling, is_turned, has_ended, takes_client, over_by, wants_of}
 use Rattle.session_core.specs.Consequences.{IsFinal, IsFront, out_of_past}
@@ -14,11 +14,11 @@ use Rattle.session_core.specs.Drives.{WantsMean, IsAlone, WantsSay, BegunSays, I
 use Rattle.session_core.specs.declared.machine.At.{At}
 use Rattle.session_core.specs.declared.Phase.{Phase}
 use Rattle.session_core.specs.declared.Phase.TheVariants as phase
-use Rattle.session_core.proofs.Streams.{Splits}
 use Rattle.session_core.proofs.Exists.{over_perhaps}
 use Rattle.session_core.proofs.Events.{open_of}
 use Rattle.session_core.proofs.Fronts.{perhaps_told}
-use Rattle.session_core.proofs.Consequences.{final, split_past}
+use Rattle.session_core.proofs.Consequences.{final}
+use Rattle.session_core.proofs.InHand.{in_hand_of, in_phase}
 
 -- ---- what wants mean
 
@@ -123,7 +123,7 @@ front_less taken window None h = none_taken taken window h
 front_less taken window (Some sent) h = prefix_less taken window sent.bytes h
 
 fronts_less : (cs : List Connect) (window : List ℕ) (ss : List (Option Sent)) → Fronts cs window ss → Fronts cs [] ss
-fronts_less [] window ss h = tt
+fronts_less [] window ss h = refl
 fronts_less (c ∷ []) window [] h = absurd h
 fronts_less (c ∷ []) window (s ∷ ss) h = front_less c.taken window s h
 fronts_less (c ∷ d ∷ cs) window [] h = absurd h
@@ -169,27 +169,22 @@ pub record InHandLast (M : Meaning) (at : At) (q : RequestSeen) (a : AnswerSeen)
   pub before : List Connect
   pub connect : Connect
   pub last : past.connects ≡ before ++ connect ∷ []
-  pub there : connect.there ≡ true
   pub stopped : connect.stopped ≡ q.dropped
   pub stream : connect.stream ≡ p.server
   pub ended : a.is_open ≡ true → p.server.ending ≡ None
   pub drops : q.dropped ≡ true → q.window ≡ []
-  pub serves : Serves M q a p at.cut
 
 pub in_hand_last : (M : Meaning) (at : At) (q : RequestSeen) (a : AnswerSeen) (p : Sided M) (past : Past) → at.phase ≡ phase.Serving → Holds M at q a p past → InHandLast M at q a p past
 in_hand_last M at q a p past is h =
-    let P : Phase → Type 0 = λ ph. InPhase M q a p h.hand at.cut h.now ph in
-    let k : InPhase M q a p h.hand at.cut h.now phase.Serving = subst P is h.phase in
+    let k : InPhase M q a p h.hand at.cut h.now phase.Serving = in_phase M at phase.Serving q a p past is h in
     record {
       before = h.before;
       connect = k.1;
       last = h.connects ∙ ap (λ cs. h.before ++ cs) k.2.0;
-      there = k.2.1.there;
       stopped = k.2.1.stopped;
       stream = k.2.1.stream;
       ended = λ e. open_of a.is_open p.server.ending k.2.3.is_open e;
       drops = k.2.3.drops;
-      serves = k.2.2;
     }
 
 close_is : (b : Bool) (cut : Option Bool) (how : Close) → (if b then Some (close_by cut) else None) ≡ Some how → how ≡ close_by cut
@@ -231,36 +226,35 @@ began M q a p (Some false) turned s = absurd (grind (arith, turned))
 pub begun_so : (M : Meaning) (at : At) (q : RequestSeen) (a : AnswerSeen) (p : Sided M) (past : Past) → at.phase ≡ phase.Serving → is_turned at.cut ≡ false → (h : Holds M at q a p past)
     → BegunSays M past a.window a.begun
 begun_so M at q a p past is turned h =
-    let k : InHandLast M at q a p past = in_hand_last M at q a p past is h in
-    let b : Began M a p = began M q a p at.cut turned k.serves in
+    let k : InPhase M q a p h.hand at.cut h.now phase.Serving = in_phase M at phase.Serving q a p past is h in
+    let b : Began M a p = began M q a p at.cut turned k.2.2 in
     let P : Coming → Type 0 = λ s. Interims M (asker_in p.asking) s p.to_client in
     record {
+      in_hand = in_hand_of M at q a p past h;
+      connect = k.1;
+      now = k.2.0;
+      there = k.2.1.there;
       asking = p.asking;
-      last = record { before = k.before; connect = k.connect; last = k.last; there = k.there };
-      done = h.done.client;
+      asks = k.2.4;
       put = p.to_client;
       text = h.taken;
       has_begun = λ e stream on.
           let Q : Coming → Type 0 = λ s. Continues s stream in
-          over_perhaps (perhaps_told a.told (b.answers.1 stream (subst Q k.stream on)))
+          over_perhaps (perhaps_told a.told (b.answers.1 stream (subst Q k.2.1.stream on)))
           (λ (g : AnswerGoes M a.told a.answered a.begun p.asking p.to_client p.now stream). record { answered = g.answered; answers = g.answers; byte = (g.began e).0; more = (g.began e).1; begun = (g.began e).2 });
-      before = λ e. subst P (sym k.stream) (b.before e);
+      before = λ e. subst P (sym k.2.1.stream) (b.before e);
     }
 
 -- ---- a server is to be opened
 
 pub asked_for : (M : Meaning) (at : At) (q : RequestSeen) (a : AnswerSeen) (p : Sided M) (past : Past) → at.phase ≡ phase.Opening → Holds M at q a p past → IsAskedFor M q past
 asked_for M at q a p past is h =
-    let P : Phase → Type 0 = λ ph. InPhase M q a p h.hand at.cut h.now ph in
-    let k : InPhase M q a p h.hand at.cut h.now phase.Opening = subst P is h.phase in
+    let k : InPhase M q a p h.hand at.cut h.now phase.Opening = in_phase M at phase.Opening q a p past is h in
     record {
-      vars = p.vars;
-      used = h.used;
+      in_hand = in_hand_of M at q a p past h;
+      no_connect = k.3;
       asking = p.asking;
-      asks = λ stream on.
-          let s : Splits h.used p.came stream = split_past h.used p.came past.client stream h.client on in
-          let r : RequestAsks M p.vars p.asking s.rest = k.6 s.rest s.continues in
-          (s.rest, r.rest, ap (λ (x : Stream). x.bytes) s.is, ap (λ (x : Stream). x.ending) s.is, r.asks);
+      asks = k.6;
       held = k.4.held;
       waits = k.4.waits;
     }

@@ -42,8 +42,8 @@ in_phase_came : (M : Meaning) (q : RequestSeen) (a : AnswerSeen) (p : Sided M) (
 in_phase_came M q a p came hand cut now phase.Reading w h = h
 in_phase_came M q a p came hand cut now phase.Opening w h = (h.0, h.1, h.2, h.3, h.4, λ s c. h.5 s (w s c), λ s c. h.6 s (w s c))
 in_phase_came M q a p came hand cut now phase.Unserved w h = (h.0, h.1, h.2, h.3, λ s c. h.4 s (w s c))
-in_phase_came M q a p came hand cut now phase.Serving w h = (h.0, h.1, (h.2.0, h.2.1, serves_came M q a p came cut w h.2.2, h.2.3))
-in_phase_came M q a p came hand cut now phase.Served w h = (h.0, h.1, h.2, h.3, (h.4.0, h.4.1, serves_came M q a p came cut w h.4.2, h.4.3))
+in_phase_came M q a p came hand cut now phase.Serving w h = (h.0, h.1, (h.2.0, h.2.1, serves_came M q a p came cut w h.2.2, h.2.3, λ s c. h.2.4 s (w s c)))
+in_phase_came M q a p came hand cut now phase.Served w h = (h.0, h.1, h.2, h.3, (h.4.0, h.4.1, serves_came M q a p came cut w h.4.2, h.4.3, λ s c. h.4.4 s (w s c)))
 in_phase_came M q a p came hand cut now phase.Refusing w h =
     (h.0, h.1, h.2, record { text = h.3.text; said = h.3.said; sent = h.3.sent; goes = λ s ss c z. h.3.goes s ss (w s c) z })
 in_phase_came M q a p came hand cut now (phase.Replying kept) w h =
@@ -179,6 +179,7 @@ server_gives M q a p bytes room cut c is h = (
     record { there = h.1.there; stopped = h.1.stopped; stream = ap (λ s. gains s bytes) h.1.stream; taken = h.1.taken },
     serves_server M q a p (gains p.server bytes) cut (λ s d. continues_gains p.server bytes s (open_of a.is_open p.server.ending h.3.is_open is) d) h.2,
     h.3,
+    h.4,
   ),
 )
 
@@ -193,6 +194,7 @@ server_ends M q a p how cut c is h = (
     record { there = h.1.there; stopped = h.1.stopped; stream = ap (λ s. ends s how) h.1.stream; taken = h.1.taken },
     serves_server M q a p (ends p.server how) cut (λ s d. continues_ends p.server how s (open_of a.is_open p.server.ending h.3.is_open is) d) h.2,
     record { is_open = refl; settled = h.3.settled; drops = h.3.drops; waits = h.3.waits },
+    h.4,
   ),
 )
 
@@ -212,6 +214,7 @@ server_takes M q a p n cut c h = (
     },
     h.2,
     record { is_open = h.3.is_open; settled = h.3.settled; drops = λ e. ap (λ w. drop n w) (h.3.drops e) ∙ drop-nil n; waits = h.3.waits },
+    h.4,
   ),
 )
 
@@ -279,6 +282,7 @@ server_stops M q list a p cut c some h = (
     record { there = h.1.there; stopped = refl; stream = h.1.stream; taken = append-nil c.taken },
     serves_dropped M q list a p c.taken cut some h.1.taken h.2,
     record { is_open = h.3.is_open; settled = h.3.settled; drops = λ e. refl; waits = h.3.waits },
+    h.4,
   ),
 )
 
@@ -290,7 +294,7 @@ server_closes M q a p note cut c sent taken answered is h = (
   record { all_sent = sent; taken = taken; all_answered = answered },
   closing_by note c,
   ap (λ n. Some (close_by n)) is,
-  (refl, record { there = h.1.there; stopped = h.1.stopped; stream = h.1.stream; taken = h.1.taken }, h.2, h.3),
+  (refl, record { there = h.1.there; stopped = h.1.stopped; stream = h.1.stream; taken = h.1.taken }, h.2, h.3, h.4),
 )
 
 -- the same place, its phase written out

@@ -27,7 +27,7 @@ pub prefix_more : (xs ys zs : List ℕ) → IsPrefix xs ys → IsPrefix xs (ys +
 prefix_more xs ys zs h = (h.0 ++ zs, sym (append_assoc xs h.0 zs) ∙ ap (λ ws. ws ++ zs) h.1)
 
 pub fronts_more : (cs : List Connect) (window : List ℕ) (ss ts : List (Option Sent)) → Fronts cs window ss → Fronts cs window (ss ++ ts)
-fronts_more [] window ss ts h = tt
+fronts_more [] window ss ts h = h
 fronts_more (c ∷ []) window [] ts h = absurd h
 fronts_more (c ∷ []) window (s ∷ ss) ts h = h
 fronts_more (c ∷ d ∷ cs) window [] ts h = absurd h
@@ -85,8 +85,8 @@ fronted_by_one M total p now window cut begun stream servers e one client sent b
 
 -- nothing was put out, and there is no connect
 pub fronted_by_none : (M : Meaning) → IsTotal M → (q : RequestSeen) (a : AnswerSeen) (p : Sided M) (cut : Option Bool) (now : List Connect)
-    → cut ≡ None → p.to_client ≡ [] → now ≡ [] → IsFronted M q a p cut now
-fronted_by_none M total q a p cut now uncut none alone stream servers c s =
+    → cut ≡ None → q.window ≡ [] → p.to_client ≡ [] → now ≡ [] → IsFronted M q a p cut now
+fronted_by_none M total q a p cut now uncut window none alone stream servers c s =
     let P : List Connect → Type 0 = λ now. AllZip ContinuesServer now servers in
     let F : (x : Exists M p.vars stream) → List Connect → Type 0 = λ x now. Fronts now q.window (flat_map (λ e. e.connects) x.exchanges) in
     let B : (x : Exists M p.vars stream) → Option Bool → Type 0 = λ x c. BitFits c a.begun (first_bit x.exchanges) in
@@ -98,7 +98,7 @@ fronted_by_none M total q a p cut now uncut none alone stream servers c s =
       refused = x.refused;
       follow = no_servers servers (subst P alone s) x;
       client = (flat_map (λ e. e.client) x.exchanges, ap (λ xs. xs ++ flat_map (λ e. e.client) x.exchanges) none);
-      sent = subst (F x) (sym alone) tt;
+      sent = subst (F x) (sym alone) window;
       bit = subst (B x) (sym uncut) (subst C (sym x.uncut) tt);
     })
   where

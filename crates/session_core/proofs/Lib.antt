@@ -16,6 +16,7 @@ pub mod Finals
 pub mod Served
 pub mod Noting
 pub mod Stalls
+pub mod InHand
 pub mod Driving
 pub mod Heads
 pub mod Passing

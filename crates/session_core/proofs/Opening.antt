@@ -63,6 +63,7 @@ opened_server M q a b p cut is answers h = (
     serves_first M q b (record p { server = no_stream }) cut h.1.uncut h.5 answers h.4.uncut
         (record { heads = []; begins = λ s c. tt; front = (interim_text (sent_interim (asker_in p.asking) []), ap (λ xs. xs ++ interim_text (sent_interim (asker_in p.asking) [])) h.2) }),
     record { is_open = is; settled = h.4.settled; drops = λ e. h.1.none; waits = h.4.waits },
+    h.6,
   ),
 )
 

@@ -1,8 +1,8 @@
 -- Where the directions of a core stand when it asks them.
-use Rattle.std.proofs.Common.{◌≡◌, Bool, true, false, if◌then◌else◌, Option, Some, None, sym, ap, subst}
+use Rattle.std.proofs.Common.{◌≡◌, Bool, true, false, if◌then◌else◌, Option, Some, None, sym, ap, subst, inl, inr}
 use Rattle.session_core.specs.Sided.{AnswerSeen}
 use Rattle.session_core.specs.Waits.{is_turned}
-use Rattle.session_core.specs.Place.{Place, Says, Serves, place_serving, IsSomewhere, Stay, IsPlaced}
+use Rattle.session_core.specs.Place.{Place, Says, Serves, place_serving, IsSomewhere, IsAtServer, Stay, IsPlaced}
 use Rattle.session_core.specs.declared.Phase.{Phase}
 use Rattle.session_core.specs.declared.Phase.TheVariants as phase
 
@@ -53,3 +53,8 @@ says placed cut e h = subst (λ c. placed (place_serving c)) e h
 
 pub said : (placed : Place → Type 0) (cut : Option Bool) → cut ≡ Some false → placed Says → placed (place_serving cut)
 said placed cut e h = subst (λ c. placed (place_serving c)) (sym e) h
+
+pub at_server : (placed : Place → Type 0) (cut : Option Bool) → placed (place_serving cut) → IsAtServer placed
+at_server placed None h = inl h
+at_server placed (Some true) h = inl h
+at_server placed (Some false) h = inr h

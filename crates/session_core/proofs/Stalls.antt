@@ -91,7 +91,7 @@ over_wants q a at how is = by a.window refl
     by (x ∷ xs) e = writes (wants_of q a at) (rw e refl)
 
 by_phase : (q : RequestSeen) (a : AnswerSeen) (at : At) (ph : Phase) → at.phase ≡ ph → Settled ph at.cut q a → wants_any (wants_of q a at) ≡ true
-by_phase q a at phase.Reading is h = client_gives q a at (rw is refl) h.0 h.1
+by_phase q a at phase.Reading is h = client_gives q a at (rw is refl) h.1 h.2
 by_phase q a at phase.Opening is h = opens (wants_of q a at) (ap is_opening is)
 by_phase q a at phase.Unserved is h = absurd h
 by_phase q a at phase.Serving is h = serving_wants q a at is h.0 h.1

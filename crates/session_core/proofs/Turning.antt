@@ -7,7 +7,7 @@ use Rattle.http_model.specs.declared.End.TheVariants as end
 use Rattle.session_model.specs.Stream.{Stream, Server, Sent}
 use Rattle.session_model.specs.Meaning.{Meaning}
 use Rattle.session_model.specs.Asking.{Asks, Nothing}
-use Rattle.session_model.specs.Session.{Exchange, After, Over, Next, Follow, first_bit}
+use Rattle.session_model.specs.Session.{Exchange, After, Over, Follow}
 use Rattle.session_core.specs.History.{Past, nothing_yet, Coming, Connect, Continues, ContinuesServer, Fronts, sent_of, prepend, prepended}
 use Rattle.session_core.specs.Sided.{Sided, replied_to, RequestSeen, AnswerSeen}
 use Rattle.session_core.specs.Stands.{One, none_done, Puts, IsBehind, EndsWith, IsOver, InPhase, Holds, most}
@@ -56,7 +56,7 @@ over_replying M q a p hand cut now all h =
     let N : List Connect → Type 0 = λ now. Fronts now [] (map sent_of now) × IsOver M p 1 now cut end.Closed in
     let text : h.3.text ≡ p.to_client = sym h.3.said ∙ ap (λ xs. p.to_client ++ xs) (h.3.sent all) ∙ append-nil p.to_client in
     let o : Fronts now [] (map sent_of now) × IsOver M p 1 now cut end.Closed = subst N (sym h.2) (
-      tt,
+      refl,
       λ stream servers c z.
           let r : (rest : Stream) × Asks M p.vars stream (replied_to p.reply rest) = h.3.asks stream c in
           ends_by_one M p.vars p.to_client [] cut end.Closed stream servers _ (reply_one M p.vars p.reply stream servers r.0 h.3.text None z h.3.spelled h.3.behind r.1) refl text refl (sym h.1.uncut),
@@ -126,7 +126,7 @@ replies_next M S at q r a b p past is all opened none window re h =
     let F : List Connect → Type 0 = λ now. Fronts now [] (map sent_of now) in
     let G : List Connect → Type 0 = λ now. (rest : Stream) (servers : List Server) → Continues re.left rest → AllZip ContinuesServer now servers → Passes M p.vars re.used rest servers (M.renewed p.now) p.to_client (map sent_of now) in (
       k.0,
-      subst F (sym k.2) tt,
+      subst F (sym k.2) refl,
       subst G (sym k.2) (λ rest servers c z.
           record {
             exchange = replied_exchange M rest k.3.text (Some p.now);
@@ -177,7 +177,7 @@ no_more : (M : Meaning) (q : RequestSeen) (a : AnswerSeen) (p : Sided M) (hand :
 no_more M q a p hand cut now asks h =
     let N : List Connect → Type 0 = λ now. Fronts now [] (map sent_of now) × IsOver M p 0 now cut end.Done in
     let H : ℕ → Type 0 = λ n. IsOver M p n now cut end.Done in
-    let o : Fronts now [] (map sent_of now) × IsOver M p 0 now cut end.Done = subst N (sym h.3) (tt, λ stream servers c z. ended stream servers z (asks stream c)) in
+    let o : Fronts now [] (map sent_of now) × IsOver M p 0 now cut end.Done = subst N (sym h.3) (refl, λ stream servers c z. ended stream servers z (asks stream c)) in
     (h.1.none, o.0, subst H (sym h.0) o.1)
   where
     ended : (stream : Stream) (servers : List Server) → AllZip ContinuesServer [] servers → Asks M p.vars stream Nothing → EndsWith M p.vars p.to_client 0 [] cut end.Done stream servers
@@ -216,7 +216,7 @@ asks_refusal M S at q r a b p past count is opened window same starts counted re
     (λ k. (
       refl,
       record { none = window ∙ k.1.none; uncut = k.1.uncut },
-      tt,
+      refl,
       record {
         text = re.text;
         said = ap (λ xs. xs ++ re.text) k.2;
@@ -274,7 +274,7 @@ holds_first M q a p f =
       note = refl;
       count = refl;
       sent = refl;
-      fronts = tt;
+      fronts = refl;
       behind = subst V (sym f.vars) (behind_none M p.came);
       phase = (refl, record { none = f.to_server_window; uncut = refl }, f.to_client, refl);
     }

@@ -97,7 +97,7 @@ pub steps_on : (M : Meaning) (S : Sided M → Type 0) (at : At) (q r : RequestSe
     → Holds M at q a p past → Holds M at r a (record p { to_server = p.to_server ++ st.put }) (record past { note = at.cut })
 steps_on M S at q r a p past is uncut k st h =
     in_serving M at at q r a a p (record p { to_server = p.to_server ++ st.put }) past [] is is refl refl k.is_open refl (sym (append-nil p.to_client)) (sym (append-nil a.window))
-    (λ now c s. (s.0, step_connect q r p.server p.to_server st.put c k.dropped st.window s.1, step_serves M q r a p st.put at.cut k.stays st.requests uncut s.2, step_open q r a.is_open a.is_open p.server.ending p.asking.received k refl s.3)) h
+    (λ now c s. (s.0, step_connect q r p.server p.to_server st.put c k.dropped st.window s.1, step_serves M q r a p st.put at.cut k.stays st.requests uncut s.2, step_open q r a.is_open a.is_open p.server.ending p.asking.received k refl s.3, s.4)) h
 
 cut_was_none : (M : Meaning) (q : RequestSeen) (a : AnswerSeen) (p : Sided M) (cut : Option Bool) → cut ≡ None → Serves M q a p cut → Serves M q a p None
 cut_was_none M q a p cut is h = let P : Option Bool → Type 0 = λ c. Serves M q a p c in subst P is h
@@ -113,6 +113,7 @@ steps_begun M S at q r a p past code is none met begun k st h =
       step_connect q r p.server p.to_server st.put c k.dropped st.window s.1,
       (st.requests, (cut_was_none M q a p at.cut none s.2).1, code, met, begun),
       step_open q r a.is_open a.is_open p.server.ending p.asking.received k refl s.3,
+      s.4,
     )) h
 
 -- a step that meets the cut before the answer has begun, and the turn to a refusal
@@ -127,6 +128,7 @@ steps_before M S T at q r a b p past code is none met k st window opened tu h =
       step_connect q r p.server p.to_server st.put c k.dropped st.window s.1,
       (st.requests, code, met, tu.turned),
       step_open q r a.is_open b.is_open p.server.ending p.asking.received k opened s.3,
+      s.4,
     )) h
 
 -- what the turn needs

@@ -3,12 +3,12 @@ use Rattle.std.specs.Prelude.{◌≡◌, ◌≢◌, ℕ, ◌<◌, List, [], ◌�
 use Rattle.http_model.specs.declared.Close.{Close}
 use Rattle.session_model.specs.Stream.{Stream}
 use Rattle.session_model.specs.Meaning.{Meaning}
-use Rattle.session_model.specs.Asking.{Sends, Asks}
 use Rattle.session_model.specs.Answering.{Answered, AnswersFrom}
 use Rattle.session_model.specs.Session.{interim_text}
 use Rattle.session_core.specs.History.{Past, Connect, Continues, close_by}
-use Rattle.session_core.specs.Sided.{RequestSeen, AnswerSeen, Asking, asker_in, Perhaps, Interims, finished_blocks, forwarded_to}
+use Rattle.session_core.specs.Sided.{RequestSeen, AnswerSeen, Asking, asker_in, Perhaps, RequestAsks, Interims, finished_blocks}
 use Rattle.session_core.specs.Awaits.{awaits_continue}
+use Rattle.session_core.specs.InHand.{InHand}
 use Rattle.session_core.specs.declared.machine.Wants.{Wants}
 
 -- What wants say of windows and rooms, and of whether a server is open.
@@ -39,13 +39,6 @@ pub record WantsSay (w : Wants) (past : Past) : Type 0 where
   pub server_write : (before : List Connect) (c : Connect) → past.connects ≡ before ++ c ∷ [] → w.server_write ≡ true → c.stopped ≡ false
   pub server_close : (how : Close) → w.server_close ≡ Some how → how ≡ close_by past.note
 
--- the last connect of a history, which is there
-pub record LastConnect (past : Past) : Type 0 where
-  pub before : List Connect
-  pub connect : Connect
-  pub last : past.connects ≡ before ++ connect ∷ []
-  pub there : connect.there ≡ true
-
 -- this stream of the server brings an answer of which a byte of the last was put out
 pub record HasBegun (M : Meaning) (asking : Asking M.Vars) (put : List ℕ) (stream : Stream) : Type 0 where
   pub answered : Answered M.Vars
@@ -54,24 +47,27 @@ pub record HasBegun (M : Meaning) (asking : Asking M.Vars) (put : List ℕ) (str
   pub more : List ℕ
   pub begun : put ≡ interim_text answered.interim ++ byte ∷ more
 
--- What `begun` says while a server's answer goes out: of the bytes put out those of this exchange hold a byte of the last that
--- answers, or are interim heads alone.
+-- What `begun` says while a server's answer goes out. The exchange in hand has one connect, and its request asks for a server for
+-- this head. Of the bytes put out those behind the exchanges that are done hold a byte of the last that answers where `begun` says
+-- so, and are a front of interim heads alone where it does not.
 pub record BegunSays (M : Meaning) (past : Past) (window : List ℕ) (begun : Bool) : Type 0 where
+  pub in_hand : InHand M past
+  pub connect : Connect
+  pub now : in_hand.now ≡ connect ∷ []
+  pub there : connect.there ≡ true
   pub asking : Asking M.Vars
-  pub last : LastConnect past
-  pub done : List ℕ
+  pub asks : (stream : Stream) → Continues in_hand.came stream → RequestAsks M in_hand.vars asking stream
   pub put : List ℕ
-  pub text : past.taken ++ window ≡ done ++ put
-  pub has_begun : begun ≡ true → (stream : Stream) → Continues last.connect.stream stream → Perhaps (HasBegun M asking put stream)
-  pub before : begun ≡ false → Interims M (asker_in asking) last.connect.stream put
+  pub text : past.taken ++ window ≡ in_hand.done.client ++ put
+  pub has_begun : begun ≡ true → (stream : Stream) → Continues connect.stream stream → Perhaps (HasBegun M asking put stream)
+  pub before : begun ≡ false → Interims M (asker_in asking) connect.stream put
 
--- While a server is to be opened: however the client's stream goes on, it asks for a server for this head behind the exchanges that
--- are done; its finished list is the one in the array; and the client waits where the head says so.
+-- While a server is to be opened: however the client's stream goes on, the exchange in hand asks for a server for this head, and
+-- has no connect yet; the head's finished list is the one in the array; and the client waits where the head says so.
 pub record IsAskedFor (M : Meaning) (q : RequestSeen) (past : Past) : Type 0 where
-  pub vars : M.Vars
-  pub used : List ℕ
+  pub in_hand : InHand M past
+  pub no_connect : in_hand.now ≡ []
   pub asking : Asking M.Vars
-  pub asks : (stream : Stream) → Continues past.client stream
-      → (rest left : Stream) × (stream.bytes ≡ used ++ rest.bytes) × (stream.ending ≡ rest.ending) × Asks M vars rest (Sends (forwarded_to asking left))
+  pub asks : (stream : Stream) → Continues in_hand.came stream → RequestAsks M in_hand.vars asking stream
   pub held : q.list ≡ finished_blocks M asking
   pub waits : q.awaits ≡ awaits_continue asking.received

@@ -126,9 +126,9 @@ AsksTo M S new p asked.Refuse = AsksRefusal M S p
 AsksTo M S new p (asked.Reply kept) = AsksReply M S p kept
 AsksTo M S new p asked.Send = AsksServer M S new p
 
--- where the next request hasn't come, the client may give more
+-- where the next request hasn't come, nothing is left undone with what has come, and the client may give more
 abbrev pub AskWaits : RequestSeen → Asked → Type 0
-AskWaits new asked.More = (new.is_open ≡ true) × (0 < new.room)
+AskWaits new asked.More = (new.at_rest ≡ true) × (new.is_open ≡ true) × (0 < new.room)
 AskWaits new asked.Nothing = ⊤
 AskWaits new asked.Refuse = ⊤
 AskWaits new (asked.Reply kept) = ⊤

@@ -8,6 +8,7 @@ pub mod History
 pub mod Awaits
 pub mod Sided
 pub mod Stands
+pub mod InHand
 pub mod Consequences
 pub mod Drives
 pub mod Place

@@ -1,5 +1,5 @@
 -- Where the two directions stand in the exchange in hand.
-use Rattle.std.specs.Prelude.{◌≡◌, Bool, true, false, if◌then◌else◌, Option, None}
+use Rattle.std.specs.Prelude.{◌≡◌, ◌⊎◌, Bool, true, false, if◌then◌else◌, Option, None}
 use Rattle.session_core.specs.Sided.{AnswerSeen}
 use Rattle.session_core.specs.Waits.{is_turned}
 use Rattle.session_core.specs.declared.Phase.{Phase}
@@ -45,6 +45,10 @@ place_serving cut = if is_turned cut then Says else Serves
 -- the directions stand somewhere
 abbrev pub IsSomewhere : (Place → Type 0) → Type 0
 IsSomewhere placed = (at : Place) × placed at
+
+-- a server is open for the request in hand
+abbrev pub IsAtServer : (Place → Type 0) → Type 0
+IsAtServer placed = placed Serves ⊎ placed Says
 
 -- from wherever they stood to the same place
 abbrev pub Stay : (old new : Place → Type 0) → Type 0

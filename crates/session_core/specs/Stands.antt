@@ -91,10 +91,10 @@ pub record IsOpenServer (so : Source) (sent dropped awaits : Bool) (window : Lis
 abbrev pub IsOpen : {M : Meaning} → RequestSeen → AnswerSeen → Sided M → Type 0
 IsOpen q a p = IsOpenServer q.source q.sent q.dropped q.awaits q.window a.is_open p.server.ending p.asking.received
 
--- its one connect, and what both directions have made
+-- its one connect, what both directions have made, and for which head the client's stream asks for a server
 abbrev pub IsServing : (M : Meaning) → RequestSeen → AnswerSeen → Sided M → (cut : Option Bool) → List Connect → Connect → Type 0
 IsServing M q a p cut now connect =
-    (now ≡ connect ∷ []) × IsConnect q.dropped q.window p.server p.to_server connect × Serves M q a p cut × IsOpen q a p
+    (now ≡ connect ∷ []) × IsConnect q.dropped q.window p.server p.to_server connect × Serves M q a p cut × IsOpen q a p × RequestsAsk M p
 
 -- both directions have ended
 pub record HasEnded (sent : Bool) (window : List ℕ) (answered : Bool) : Type 0 where

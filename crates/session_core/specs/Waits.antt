@@ -128,7 +128,7 @@ Ended (phase.Over how) cut q a = ⊤
 
 -- behind all of work
 abbrev pub Settled : Phase → Option Bool → RequestSeen → AnswerSeen → Type 0
-Settled phase.Reading cut q a = (q.is_open ≡ true) × (0 < q.room)
+Settled phase.Reading cut q a = (q.at_rest ≡ true) × (q.is_open ≡ true) × (0 < q.room)
 Settled phase.Opening cut q a = ⊤
 Settled phase.Unserved cut q a = ⊥
 Settled phase.Serving cut q a = RequestWaits q × AnswerWaitsAt cut a

@@ -1,12 +1,12 @@
 //! What follows for every core that stands for its history.
-ghost use Rattle.std.specs.Prelude.{◌≡◌, ◌++◌, ◌∷◌, [], List, Some, false};
+ghost use Rattle.std.specs.Prelude.{◌≡◌, ◌++◌, ◌∷◌, [], List, Bool, Some, false};
 ghost use Rattle.http_model.specs.declared.End.{End};
-ghost use Rattle.session_model.specs.Meaning.{Meaning};
-ghost use Rattle.session_core.specs.History.{Event, Past, after, past_of};
+ghost use Rattle.session_core.specs.History.{Event, Past, past_of};
 ghost use Rattle.session_core.specs.Consequences.{IsFinal, IsFront, out_of_past};
 ghost use Rattle.session_core.specs.Sided.{RequestSeen, AnswerSeen, Perhaps};
 ghost use Rattle.session_core.specs.Waits.{wants_of, is_serving, is_turned};
-ghost use Rattle.session_core.specs.Drives.{WantsMean, IsAlone, WantsSay, LastConnect, BegunSays, IsAskedFor};
+ghost use Rattle.session_core.specs.Drives.{WantsMean, IsAlone, WantsSay, BegunSays, IsAskedFor};
+ghost use Rattle.session_core.specs.InHand.{ReadsInHand, ServesInHand, RefusesInHand, RepliesInHand, ExchangesAre};
 ghost use Rattle.session_core.specs.Leads.{Stands, Leads, Sees};
 ghost use Rattle.session_core.specs.declared.machine.At.{At};
 ghost use Rattle.session_core.specs.declared.Phase.TheVariants as phase;
@@ -68,4 +68,34 @@ pub fn begun_says<S: Works>()
 pub fn request_is_held<S: Works>()
     ensures { (cfg : S.Settings) (sides : S) (at : At) (past : Past) → Stands (S.meaning cfg) S.request S.answer (S.stands cfg) sides at past
         → at.phase ≡ phase.Opening → IsAskedFor (S.meaning cfg) (S.request sides) past }
+{}
+
+/// In front of a request head: the exchange in hand, of which nothing was put out.
+pub fn reads_in_hand<S: Works>()
+    ensures { (cfg : S.Settings) (sides : S) (at : At) (past : Past) → Stands (S.meaning cfg) S.request S.answer (S.stands cfg) sides at past
+        → at.phase ≡ phase.Reading → ReadsInHand (S.meaning cfg) (S.stands cfg sides) (S.answer sides) at past }
+{}
+
+/// While a server is open: the exchange in hand, its connect, and what both directions have made of it.
+pub fn serves_in_hand<S: Works>()
+    ensures { (cfg : S.Settings) (sides : S) (at : At) (past : Past) → Stands (S.meaning cfg) S.request S.answer (S.stands cfg) sides at past
+        → at.phase ≡ phase.Serving → ServesInHand (S.meaning cfg) (S.stands cfg sides) (S.request sides) (S.answer sides) at past }
+{}
+
+/// While a refusal goes out with no server open: the exchange in hand, however the streams go on.
+pub fn refuses_in_hand<S: Works>()
+    ensures { (cfg : S.Settings) (sides : S) (at : At) (past : Past) → Stands (S.meaning cfg) S.request S.answer (S.stands cfg) sides at past
+        → at.phase ≡ phase.Refusing → RefusesInHand (S.meaning cfg) (S.stands cfg sides) (S.answer sides) at past }
+{}
+
+/// While a reply of the request's rules goes out: the exchange in hand, however the streams go on.
+pub fn replies_in_hand<S: Works>()
+    ensures { (cfg : S.Settings) (sides : S) (at : At) (past : Past) (kept : Bool) → Stands (S.meaning cfg) S.request S.answer (S.stands cfg) sides at past
+        → at.phase ≡ phase.Replying kept → RepliesInHand (S.meaning cfg) (S.stands cfg sides) kept (S.answer sides) at past }
+{}
+
+/// What the count of exchanges says of the history.
+pub fn exchanges_are<S: Works>()
+    ensures { (cfg : S.Settings) (sides : S) (at : At) (past : Past) → Stands (S.meaning cfg) S.request S.answer (S.stands cfg) sides at past
+        → ExchangesAre (S.meaning cfg) (S.stands cfg sides) (S.request sides) (S.answer sides) at past }
 {}

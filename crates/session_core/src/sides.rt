@@ -1,5 +1,5 @@
 //! The two directions of a core, as it sees them.
-ghost use Rattle.std.specs.Prelude.{◌≡◌, ◌≢◌, ◌≤◌, ◌<◌, ◌++◌, ◌⊎◌, [], ℕ, List, Option, Some, None, Bool, true, false, not, length, take, drop, OnOk, IfOk, IsOk, IsTrue, IsFalse};
+ghost use Rattle.std.specs.Prelude.{◌≡◌, ◌≢◌, ◌≤◌, ◌<◌, ◌++◌, ◌-◌, [], ℕ, List, Bool, true, false, not, length, take, drop, OnOk, IfOk, IsOk, IsTrue};
 ghost use Rattle.session_model.specs.Meaning.{Meaning};
 ghost use Rattle.session_core.specs.Consequences.{IsTotal};
 ghost use Rattle.session_core.specs.History.{no_stream, gains, ends};
@@ -8,7 +8,7 @@ ghost use Rattle.htx_model.specs.Block.{Block};
 ghost use Rattle.session_core.specs.Sided.{Sided, asker_in, RequestSeen, AnswerSeen, Requests, AnswersSo, IsBefore, HoldsList};
 ghost use Rattle.session_core.specs.Waits.{is_empty};
 ghost use Rattle.session_core.specs.Place as place;
-ghost use Rattle.session_core.specs.Place.{Place, is_saying, place_behind, IsSomewhere, Stay};
+ghost use Rattle.session_core.specs.Place.{Place, is_saying, place_behind, IsSomewhere, IsAtServer, Stay};
 ghost use Rattle.session_core.specs.Lending.{LendsText};
 ghost use Rattle.session_core.specs.Leads.{StepsRequest, KeepsRequest, StepsAnswer, AnswerWaits, Says, Refuses, Turns, AsksTo, AskKeeps, Renews, RenewsReplied};
 
@@ -162,7 +162,7 @@ pub trait Peers: Sides {
         requires placed { IsSomewhere (Self.placed self.old) }
         ensures placed { Stay (Self.placed self.old) (Self.placed self.new) }
         ensures leads { (cfg : Self.Settings) (p : Sided (Self.meaning cfg)) → Self.stands cfg self.old p → Self.stands cfg self.new (record p { came = gains p.came bytes.now }) }
-        ensures request { (room : ℕ) × (unread : ℕ) × (Self.request self.new ≡ record (Self.request self.old) { room = room; unread = unread; at_rest = false }) }
+        ensures request { (unread : ℕ) × (Self.request self.new ≡ record (Self.request self.old) { room = (Self.request self.old).room - length bytes.now; unread = unread; at_rest = false }) }
         ensures answer { Self.answer self.new ≡ Self.answer self.old };
 
     fn end_client(&mut self, how: Ending)
@@ -188,7 +188,7 @@ pub trait Peers: Sides {
         ensures placed { Stay (Self.placed self.old) (Self.placed self.new) }
         ensures leads { (cfg : Self.Settings) (p : Sided (Self.meaning cfg)) → Self.stands cfg self.old p → Self.stands cfg self.new (record p { server = gains p.server bytes.now }) }
         ensures request { Self.request self.new ≡ Self.request self.old }
-        ensures answer { (room : ℕ) × (Self.answer self.new ≡ record (Self.answer self.old) { room = room; at_rest = false }) };
+        ensures answer { Self.answer self.new ≡ record (Self.answer self.old) { room = (Self.answer self.old).room - length bytes.now; at_rest = false } };
 
     fn end_server(&mut self, how: Ending)
         requires open { IsTrue (Self.answer self.old).is_open }
@@ -241,9 +241,9 @@ pub trait Works: Shows + Lends + Peers {
         ensures starts { OnOk result ((Self.answer self.new).answered ≡ false) }
         ensures heard { OnOk result ((Self.answer self.new).heard ≡ false) };
 
-    /// Reads, filters and puts out as much of the request as there is room for.
+    /// Reads, filters and puts out as much of the request as there is room for, while a server is open for it.
     fn step_request(&mut self)
-        requires placed { IsSomewhere (Self.placed self.old) }
+        requires placed { IsAtServer (Self.placed self.old) }
         ensures placed { Stay (Self.placed self.old) (Self.placed self.new) }
         ensures leads { (cfg : Self.Settings) (p : Sided (Self.meaning cfg)) → Self.stands cfg self.old p → Requests (Self.meaning cfg) (Self.request self.old) p → StepsRequest (Self.meaning cfg) (Self.stands cfg self.new) (Self.request self.old) (Self.request self.new) p }
         ensures keeps { KeepsRequest (Self.request self.old) (Self.request self.new) }

@@ -1,5 +1,5 @@
 -- What asking for the client's next request comes to, by what reading its head said.
-use Rattle.std.proofs.Common.{◌≡◌, ℕ, ◌<◌, [], false, refl, sym, ap, ◌∙◌, subst}
+use Rattle.std.proofs.Common.{true, ◌≡◌, ℕ, ◌<◌, [], false, refl, sym, ap, ◌∙◌, subst}
 use Rattle.http_rules.specs.declared.config.Config.{Config}
 use Rattle.http_rules.specs.Run.{IsHead}
 use Rattle.proxy_meaning.specs.Product.{meaning_of}
@@ -59,12 +59,12 @@ more_past d r was tells cfg p s =
     stands_request cfg d r p p.came p.to_server (tells.0 ∙ sym was.is_at.stand.0) s (tells.3 cfg p.vars p.came p.asking p.to_server p.reply s.request)
 
 pub asks_more : (d : Directions) (r : RequestSide) → Placed d at.Reads → IsSound r → requests.limits_of r ≡ requests.limits_of d.request → requests.is_open r ≡ requests.is_open d.request
-    → requests.window_of r ≡ requests.window_of d.request → HeadTells d.request r says.More → AsksSo d (record d { request = r }) asks.More
-asks_more d r was sound limits is_open window tells =
+    → requests.window_of r ≡ requests.window_of d.request → HeadTells d.request r says.More → (requests.seen r).at_rest ≡ true → AsksSo d (record d { request = r }) asks.More
+asks_more d r was sound limits is_open window tells rests =
     record {
       leads = more_past d r was tells;
       placed = placed_behind d (record d { request = r }) asks.More was (more_past d r was tells) (at_request d r at.Reads sound limits (tells.0 ∙ sym was.is_at.stand.0) was.is_at);
-      request = record { is_open = is_open; window = window; waits = (tells.1, tells.2); less = tt };
+      request = record { is_open = is_open; window = window; waits = (rests, tells.1, tells.2); less = tt };
       window = refl;
       starts = idle_starts d.answer was.is_at.stand.1;
       heard = idle_heard d.answer was.is_at.sound.answer was.is_at.stand.1;

@@ -1,8 +1,10 @@
 pub mod AskLemmas
 pub mod Asked
+pub mod AtServer
 pub mod Finished
 pub mod Forwarding
 pub mod Fresh
+pub mod HeldBack
 pub mod Joining
 pub mod Judged
 pub mod Methods

@@ -33,7 +33,7 @@ use Rattle.session_sides.specs.Joined.{IsSoundPair, Holds, KeepsMethod, Directio
 use Rattle.session_sides.specs.Asks.{SaysText, SaysRefusal, IsSilent, Ruled, RefusesSo, GoesOn}
 use Rattle.session_sides.specs.declared.directions.Directions.{Directions}
 use Rattle.session_sides.proofs.AskLemmas.{asks_always}
-use Rattle.session_sides.proofs.Serving.{sound_both}
+use Rattle.session_sides.proofs.Serving.{sound_both, begun_idle}
 
 -- ---- nothing is read and nothing goes out
 
@@ -109,7 +109,7 @@ less_unread pl input before idle h = let some : 0 < before = omega (arith, h) in
 pub refusal_goes : (old new : Directions) (code : ℕ) (method : List ℕ) (no_body : Bool) → requests.place_of old.request ≡ asked.Idle → RefusesSo old new code method no_body → GoesOn old new asks.Refuse
 refusal_goes old new code method no_body idle r =
     record {
-      placed = record { sound = r.sound; stand = r.place };
+      placed = record { sound = r.sound; stand = (begun_idle (requests.place_of new.request) (ap (λ (x : RequestSide). requests.place_of x) r.request ∙ idle), r.place) };
       is_open = ap (λ (x : RequestSide). requests.is_open x) r.request;
       window = ap (λ (x : RequestSide). requests.window_of x) r.request;
       waits = tt;

@@ -78,7 +78,7 @@ pub says_at : (at : Place) (r : Asked) (a : Answered) → is_saying at ≡ true 
 says_at at.Reads r a says h = absurd (let e : false ≡ true = says in cc e)
 says_at at.Opens r a says h = absurd (let e : false ≡ true = says in cc e)
 says_at at.Serves r a says h = absurd (let e : false ≡ true = says in cc e)
-says_at at.Says r a says h = h
+says_at at.Says r a says h = h.1
 says_at at.Replies r a says h = h.1
 says_at at.Ends r a says h = absurd (let e : false ≡ true = says in cc e)
 
@@ -145,6 +145,12 @@ at_start d r a rules sound limits sound_a size ready config reads idle s =
 
 pub busy_sending : (pl : Asked) → pl ≡ asked.Sending → pl ≢ asked.Idle
 busy_sending pl e i = let x : asked.Sending ≡ asked.Idle = sym e ∙ i in cc x
+
+pub begun_sending : (pl : Asked) → pl ≡ asked.Sending → pl ≢ asked.Reading
+begun_sending pl e i = let x : asked.Sending ≡ asked.Reading = sym e ∙ i in cc x
+
+pub begun_idle : (pl : Asked) → pl ≡ asked.Idle → pl ≢ asked.Reading
+begun_idle pl e i = let x : asked.Idle ≡ asked.Reading = sym e ∙ i in cc x
 
 pub busy_replied : (pl : Asked) → pl ≡ asked.Replied → pl ≢ asked.Idle
 busy_replied pl e i = let x : asked.Replied ≡ asked.Idle = sym e ∙ i in cc x

@@ -1,5 +1,5 @@
 -- What the two directions of a session stand for together, with the rules between them.
-use Rattle.std.specs.Prelude.{◌≡◌, ℕ, List, true, ⊤}
+use Rattle.std.specs.Prelude.{◌≡◌, ◌≢◌, ℕ, List, true, ⊤}
 use Rattle.px_sample.specs.Variables.{Variables}
 use Rattle.http_rules.specs.declared.config.Config.{Config}
 use Rattle.http_rules.specs.Lives.{answering}
@@ -47,7 +47,7 @@ abbrev pub StandAt : Place → Asked → Answered → Type 0
 StandAt at.Reads r a = (r ≡ asked.Reading) × (a ≡ answered.Idle)
 StandAt at.Opens r a = (r ≡ asked.Sending) × (a ≡ answered.Idle)
 StandAt at.Serves r a = (r ≡ asked.Sending) × (is_serving a ≡ true)
-StandAt at.Says r a = a ≡ answered.Saying
+StandAt at.Says r a = (r ≢ asked.Reading) × (a ≡ answered.Saying)
 StandAt at.Replies r a = (r ≡ asked.Replied) × (a ≡ answered.Saying)
 StandAt at.Ends r a = (r ≡ asked.Idle) × (a ≡ answered.Idle)
 

@@ -4,3 +4,4 @@ pub use Rattle.proxy_meaning.specs.Product
 pub mod Joined
 pub mod Asks
 pub mod Lent
+pub mod HeldBack

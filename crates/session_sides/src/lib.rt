@@ -3,6 +3,7 @@
 
 mod asking;
 mod directions;
+pub mod laws;
 mod saying;
 mod sides;
 

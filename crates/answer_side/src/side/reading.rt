@@ -23,6 +23,7 @@ impl AnswerSide {
     pub(super) fn hear(&mut self) -> Heard
         requires sound { IsSoundSide self.old }
         requires heads { place_of self.old ≡ place.Heads }
+        requires stirs { (seen self.old).at_rest ≡ false }
         ensures leads { (cfg : Config) (asking : Asking Variables) (server : Coming) (put : List ℕ) (now : Variables) (saying : List ℕ) → AnswerStands cfg self.old asking server put now saying
             → Hears cfg self.old self.new asking server put now saying result }
         ensures between { IsBetween self.new }
@@ -44,6 +45,7 @@ impl AnswerSide {
     fn show_first(&mut self) -> Heard
         requires sound { IsSoundSide self.old }
         requires heads { place_of self.old ≡ place.Heads }
+        requires stirs { (seen self.old).at_rest ≡ false }
         ensures leads { (cfg : Config) (asking : Asking Variables) (server : Coming) (put : List ℕ) (now : Variables) (saying : List ℕ) → AnswerStands cfg self.old asking server put now saying
             → Hears cfg self.old self.new asking server put now saying result }
         ensures between { IsBetween self.new }

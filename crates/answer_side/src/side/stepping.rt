@@ -64,6 +64,7 @@ impl AnswerSide {
         if !self.is_hearing() {
             return Ok(());
         }
+        self.at_rest = false;
         match self.hear() {
             Heard::More => {
                 self.at_rest = true;

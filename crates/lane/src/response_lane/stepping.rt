@@ -1,7 +1,7 @@
 //! Text that a lane of answers puts out.
-ghost use Rattle.std.specs.Prelude.{◌≡◌, ◌≤◌, length, true, false, List};
+ghost use Rattle.std.specs.Prelude.{◌≡◌, ◌≤◌, [], length, true, false, List};
 ghost use Rattle.body_filter.specs.declared.filter_spec.FilterSpec.{FilterSpec};
-ghost use Rattle.lane.specs.Answering.{Exchange, Answers, PutsOut, IsSoundAnswer, IsAmongHeads, MayGoOn, HasFilters, shows_last, stage_of, source_of, input_of, ended_of, limits_of, has_begun, phase_of};
+ghost use Rattle.lane.specs.Answering.{Exchange, Answers, PutsOut, IsSoundAnswer, IsAmongHeads, HoldsNothingBack, Rests, MayGoOn, HasFilters, shows_last, stage_of, source_of, input_of, ended_of, output_of, limits_of, has_begun, phase_of};
 ghost use Rattle.lane.specs.declared.phase.Phase.TheVariants as phase;
 ghost use Rattle.lane_core.specs.declared.stage.Source.TheVariants as source;
 ghost use Rattle.lane_core.specs.declared.stage.Stage.TheVariants as stage;
@@ -16,6 +16,8 @@ impl ResponseLane {
         requires sending { stage_of self.old ≡ stage.Sending }
         ensures answers { PutsOut self.old self.new }
         ensures no_stall { (p : Exchange) → Answers self.old p → stage_of self.new ≡ stage.Sending → MayGoOn self.new }
+        ensures nothing_back { (p : Exchange) → Answers self.old p → phase_of self.new ≡ phase.Answering → output_of self.new ≡ [] → HoldsNothingBack self.new }
+        ensures no_cut { (p : Exchange) → Answers self.old p → phase_of self.new ≡ phase.Answering → output_of self.new ≡ [] → Rests self.new }
         ensures begun { has_begun self.old ≡ true → has_begun self.new ≡ true }
         ensures last { shows_last (phase_of self.old) ≡ true → shows_last (phase_of self.new) ≡ true }
         ensures whole { shows_last (phase_of self.old) ≡ true → source_of self.old ≡ source.Whole → source_of self.new ≡ source.Whole }
@@ -40,6 +42,8 @@ impl ResponseLane {
         requires at { phase_of self.old ≡ phase.Passing }
         ensures answers { PutsOut self.old self.new }
         ensures no_stall { (p : Exchange) → Answers self.old p → stage_of self.new ≡ stage.Sending → MayGoOn self.new }
+        ensures nothing_back { (p : Exchange) → Answers self.old p → phase_of self.new ≡ phase.Answering → output_of self.new ≡ [] → HoldsNothingBack self.new }
+        ensures no_cut { (p : Exchange) → Answers self.old p → phase_of self.new ≡ phase.Answering → output_of self.new ≡ [] → Rests self.new }
         ensures begun { has_begun self.old ≡ true → has_begun self.new ≡ true }
         ensures last { shows_last (phase_of self.old) ≡ true → shows_last (phase_of self.new) ≡ true }
         ensures whole { shows_last (phase_of self.old) ≡ true → source_of self.old ≡ source.Whole → source_of self.new ≡ source.Whole }
@@ -62,6 +66,8 @@ impl ResponseLane {
         requires at { phase_of self.old ≡ phase.Turning no_body }
         ensures answers { PutsOut self.old self.new }
         ensures no_stall { (p : Exchange) → Answers self.old p → stage_of self.new ≡ stage.Sending → MayGoOn self.new }
+        ensures nothing_back { (p : Exchange) → Answers self.old p → phase_of self.new ≡ phase.Answering → output_of self.new ≡ [] → HoldsNothingBack self.new }
+        ensures no_cut { (p : Exchange) → Answers self.old p → phase_of self.new ≡ phase.Answering → output_of self.new ≡ [] → Rests self.new }
         ensures begun { has_begun self.old ≡ true → has_begun self.new ≡ true }
         ensures last { shows_last (phase_of self.old) ≡ true → shows_last (phase_of self.new) ≡ true }
         ensures whole { shows_last (phase_of self.old) ≡ true → source_of self.old ≡ source.Whole → source_of self.new ≡ source.Whole }
@@ -86,6 +92,8 @@ impl ResponseLane {
         requires sending { stage_of self.old ≡ stage.Sending }
         ensures answers { PutsOut self.old self.new }
         ensures no_stall { (p : Exchange) → Answers self.old p → stage_of self.new ≡ stage.Sending → MayGoOn self.new }
+        ensures nothing_back { (p : Exchange) → Answers self.old p → phase_of self.new ≡ phase.Answering → output_of self.new ≡ [] → HoldsNothingBack self.new }
+        ensures no_cut { (p : Exchange) → Answers self.old p → phase_of self.new ≡ phase.Answering → output_of self.new ≡ [] → Rests self.new }
         ensures begun { has_begun self.old ≡ true → has_begun self.new ≡ true }
         ensures last { shows_last (phase_of self.old) ≡ true → shows_last (phase_of self.new) ≡ true }
         ensures whole { shows_last (phase_of self.old) ≡ true → source_of self.old ≡ source.Whole → source_of self.new ≡ source.Whole }

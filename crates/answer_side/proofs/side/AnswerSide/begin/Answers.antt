@@ -1,7 +1,7 @@
 use Rattle.std.proofs.Common.{refl, sym, subst}
 use Rattle.http_rules.specs.Lives.{answering}
 use Rattle.session_core.specs.Sided.{asker_in}
-use Rattle.answer_side.specs.Stands.{StandsAt}
+use Rattle.answer_side.specs.Stands.{StandsAt, RestsAt}
 use Rattle.answer_side.specs.declared.place.Place.{Place}
 use Rattle.answer_side.specs.declared.place.Place.TheVariants as place
 use Rattle.answer_side.proofs.Views.{fits_same}
@@ -15,6 +15,7 @@ returns-clause-leads c = λ cfg was asking server put now saying s idle is.
       asks = is;
       for_it = s.for_it;
       at = subst (λ (p : Place). StandsAt p cfg (asker_in asking) (answering asking.vars) old.lane server put now saying) (sym idle) (at.0, at.1, at.2, at.3);
+      rests = λ _. subst (λ (p : Place). RestsAt p (asker_in asking).head_asked old.lane) (sym idle) tt;
     }
 
 pub returns-clause-sound : goal.returns-clause-sound

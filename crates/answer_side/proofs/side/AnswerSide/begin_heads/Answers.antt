@@ -1,4 +1,4 @@
-use Rattle.std.proofs.Common.{refl, sym, ap, ◌∙◌, ◌≡◌, ℕ, inr, subst}
+use Rattle.std.proofs.Common.{refl, sym, ap, ◌∙◌, ◌≡◌, true, false, ℕ, inr, subst}
 use Rattle.std.specs.Prelude.{is_none}
 use Rattle.wire_buf.specs.Buffer.{Buffer}
 use Rattle.http_rules.specs.Lives.{answering}
@@ -34,6 +34,7 @@ returns-clause-leads c = λ cfg asking server put now saying s.
         },
         refl,
       );
+      rests = λ rest. absurd (let both : false ≡ true = rest in cc both);
     }
 
 pub returns-clause-open : goal.returns-clause-open

@@ -21,4 +21,5 @@ returns-in-Idle-clause-leads c = λ cfg asking server put now saying head body s
       asks = s.asks;
       for_it = for_new cfg old.lane c.answer.new.self c.answer.ensures.limits c.answer.ensures.filters s.for_it;
       at = (replies at.0 head body c.args.no_body, c.answer.ensures.answers at.0 head body at.1 is, c.answer.ensures.last, said_at at.0 head body c.args.no_body at.2);
+      rests = λ _. tt;
     }

@@ -1,4 +1,4 @@
-use Rattle.std.proofs.Common.{refl, sym, ap, ◌∙◌, ℕ, length}
+use Rattle.std.proofs.Common.{◌≡◌, true, false, refl, sym, ap, ◌∙◌, ℕ, length}
 use Rattle.std.specs.Prelude.{is_none, ◌-◌}
 use Rattle.wire_buf.specs.Buffer.{Buffer}
 use Rattle.http_rules.specs.Lives.{answering}
@@ -16,6 +16,7 @@ returns-clause-leads c = λ cfg asking server put now saying s.
       for_it = for_new cfg old.lane c.took.new.self c.took.ensures.limits c.took.ensures.filters s.for_it;
       at = took_at old.place cfg (asker_in asking) (answering asking.vars) old.lane c.took.new.self server put now saying
           (record { answers = c.took.ensures.answers; ended = c.took.ensures.same.1; phase = c.took.ensures.keeps.1 }) s.at;
+      rests = λ rest. absurd (let both : false ≡ true = rest in cc both);
     }
 
 pub returns-clause-seen : goal.returns-clause-seen

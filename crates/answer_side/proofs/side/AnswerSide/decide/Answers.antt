@@ -1,11 +1,12 @@
-use Rattle.std.proofs.Common.{◌≡◌, ◌++◌, refl, sym, ap, ◌∙◌, subst}
+use Rattle.std.proofs.Common.{◌≡◌, false, ◌++◌, refl, sym, ap, ◌∙◌, subst}
 use Rattle.px_sample.specs.Variables.{Variables}
 use Rattle.http_rules.specs.Lives.{answering}
 use Rattle.session_model.specs.Answering.{Final, Refuses}
 use Rattle.session_core.specs.Sided.{asker_in}
 use Rattle.std.proofs.lemmas.Result.{on_ok_weaker}
 use Rattle.answer_side.specs.Judging.{Settles}
-use Rattle.answer_side.proofs.ReadLemmas.{in_heads}
+use Rattle.answer_side.specs.declared.hearing.Heard.TheVariants as heard
+use Rattle.answer_side.proofs.ReadLemmas.{in_heads, hears_from, stirred, stirred_sound}
 use Rattle.answer_side.proofs.SettleLemmas.{settles_refused}
 use Rattle.answer_side.proofs.StepLemmas.{vars_heads, decides_none, decides_last, decides_more, keeps_out, keeps_more, on_ok_both}
 use Rattle.answer_side.proofs.side.AnswerSide.decide.Goals as goal
@@ -22,12 +23,19 @@ returns-then-not-is_hearing-clause-keeps c = record { serving = c.requires.servi
 pub hear-requires-clause-heads : goal.hear-requires-clause-heads
 hear-requires-clause-heads c = c.is_hearing.ensures.heads c.if-not-is_hearing.false
 
+pub hear-requires-clause-sound : goal.hear-requires-clause-sound
+hear-requires-clause-sound c = stirred_sound c.args.self.now c.requires.sound
+
+pub hear-requires-clause-stirs : goal.hear-requires-clause-stirs
+hear-requires-clause-stirs c = refl
+
 -- ---- more is wanted
 
 pub returns-in-More-clause-leads : goal.returns-in-More-clause-leads
 returns-in-More-clause-leads c = λ cfg asking server put now saying s runs vars.
     decides_more cfg c.args.self.now c.hear.new.self _ asking server put now saying c.args.rules.now.vars refl c.in-More.ensures.between.place (vars_heads c.args.self.now.place _ now c.args.rules.now.vars (c.is_hearing.ensures.heads c.if-not-is_hearing.false) vars)
-    (c.in-More.ensures.leads cfg asking server put now saying s)
+    (hears_from cfg c.args.self.now (record c.args.self.now { at_rest = false }) c.hear.new.self asking server put now saying heard.More refl
+    (c.in-More.ensures.leads cfg asking server put now saying (stirred cfg c.args.self.now asking server put now saying s)))
 
 pub returns-in-More-clause-keeps : goal.returns-in-More-clause-keeps
 returns-in-More-clause-keeps c =
@@ -50,7 +58,7 @@ pub returns-in-Final-clause-leads : goal.returns-in-Final-clause-leads
 returns-in-Final-clause-leads c =
     on_ok_both c.judge.result
     (λ leads goes cfg asking server put now saying s runs vars.
-    let x = c.in-Final.ensures.leads cfg asking server put now saying s in
+    let x = c.in-Final.ensures.leads cfg asking server put now saying (stirred cfg c.args.self.now asking server put now saying s) in
     decides_last cfg c.args.self.now c.hear.new.self c.judge.new.self asking server put x.put saying c.judge.new.rules.vars x.window goes
     (leads cfg asking server _ saying x.tells.0 x.tells.1 x.tells.2 runs (vars_heads c.args.self.now.place _ now c.args.rules.now.vars (c.is_hearing.ensures.heads c.if-not-is_hearing.false) vars)))
     c.judge.ensures.leads c.judge.ensures.goes_out
@@ -68,7 +76,7 @@ pub returns-in-Refused-clause-leads : goal.returns-in-Refused-clause-leads
 returns-in-Refused-clause-leads c =
     on_ok_both c.refuse.result
     (λ leads goes cfg asking server put now saying s runs vars.
-    let x = c.in-Refused.ensures.leads cfg asking server put now saying s in
+    let x = c.in-Refused.ensures.leads cfg asking server put now saying (stirred cfg c.args.self.now asking server put now saying s) in
     let same = vars_heads c.args.self.now.place _ now c.args.rules.now.vars (c.is_hearing.ensures.heads c.if-not-is_hearing.false) vars in
     let last : Refuses 502 (asker_in asking).method (answering asking.vars) ≡ Refuses 502 c.args.method.now c.args.rules.now.vars =
     ap (λ m. Refuses 502 m (answering asking.vars)) (sym runs.asked) ∙ ap (λ (v : Variables). Refuses 502 c.args.method.now v) (sym same) in

@@ -16,6 +16,7 @@ returns-clause-leads c = λ cfg asking server put now saying s.
       asks = s.asks;
       for_it = for_new cfg old.lane c.next.new.self c.next.ensures.limits c.next.ensures.filters s.for_it;
       at = (with_bytes (fresh true) (input_of old.lane), c.next.ensures.answers true, record { put = refl; passed = refl }, refl);
+      rests = λ _. tt;
     }
 
 pub returns-clause-window : goal.returns-clause-window

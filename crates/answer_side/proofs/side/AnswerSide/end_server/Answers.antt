@@ -1,4 +1,4 @@
-use Rattle.std.proofs.Common.{refl, sym, ap, ℕ, length}
+use Rattle.std.proofs.Common.{◌≡◌, true, false, refl, sym, ap, ℕ, length}
 use Rattle.std.specs.Prelude.{is_none, ◌-◌}
 use Rattle.wire_buf.specs.Buffer.{Buffer}
 use Rattle.http_rules.specs.Lives.{answering}
@@ -20,6 +20,7 @@ returns-clause-leads c = λ cfg asking server put now saying s.
       for_it = for_new cfg old.lane c.end.new.self c.end.ensures.limits c.end.ensures.filters s.for_it;
       at = ends_at old.place cfg (asker_in asking) (answering asking.vars) old.lane c.end.new.self server put now saying c.args.how
           (record { answers = c.end.ensures.answers; is_open = none_of (ended_of old.lane) c.requires.open; ended = c.end.ensures.ended; phase = c.end.ensures.keeps.1 }) s.at;
+      rests = λ rest. absurd (let both : false ≡ true = rest in cc both);
     }
 
 pub returns-clause-seen : goal.returns-clause-seen

@@ -1,4 +1,4 @@
-use Rattle.std.proofs.Common.{refl, sym, ap, ◌∙◌, ◌≡◌, [], true, false, subst}
+use Rattle.std.proofs.Common.{refl, sym, ap, ◌∙◌, ◌≡◌, ◌++◌, [], true, false, subst}
 use Rattle.std.specs.Prelude.{is_none}
 use Rattle.std.proofs.lemmas.List.{append-nil}
 use Rattle.http_rules.specs.Lives.{answering}
@@ -8,6 +8,8 @@ use Rattle.answer_side.specs.Seen.{is_done}
 use Rattle.answer_side.specs.Stands.{StandsAt}
 use Rattle.answer_side.specs.declared.side.AnswerSide.{AnswerSide}
 use Rattle.answer_side.proofs.Events.{for_new}
+use Rattle.answer_side.proofs.Bodies.{done_is}
+use Rattle.answer_side.proofs.Resting.{done_rests, last_rests}
 use Rattle.answer_side.proofs.Putting.{puts_at, last_shows, last_fits, last_answered, last_waits}
 use Rattle.answer_side.proofs.Answering.{in_hand_at, last_serves}
 use Rattle.answer_side.proofs.Saying.{sends_still}
@@ -29,6 +31,7 @@ returns-then-is_done-clause-leads c = λ cfg asking server put now saying s.
         asks = s.asks;
         for_it = s.for_it;
         at = subst (λ xs. StandsAt old.place cfg (asker_in asking) (answering asking.vars) old.lane server xs now saying) (sym (append-nil put)) s.at;
+        rests = λ _. done_rests old.place cfg (asker_in asking) (answering asking.vars) old.lane server put now saying c.requires.last (done_is (stage_of old.lane) done) s.at;
       };
       window = sym (append-nil (output_of old.lane));
       waits = (refl, λ off. absurd (let both : true ≡ false = sym (last_answered old.place (stage_of old.lane) c.requires.last ∙ done) ∙ off in cc both));
@@ -42,19 +45,23 @@ returns-clause-leads c = λ cfg asking server put now saying s.
     let h = in_hand_at old.place cfg asking old.lane server put now saying (last_serves old.place c.requires.last) s.at in
     let shows = c.step.ensures.last (last_shows old.place old c.requires.last c.requires.sound.at) in
     let side : AnswerSide = record old { lane = new; at_rest = true } in
+    let at = puts_at old.place cfg (asker_in asking) (answering asking.vars) old.lane new server put now saying p.put c.requires.last
+    (record { answers = p.answers; ended = c.step.ensures.keeps; last = c.step.ensures.last }) s.at in
+    let fits = last_fits old.place old side c.requires.last c.step.ensures.last c.step.ensures.whole c.requires.sound.at in
+    let stage = last_stage new.phase new shows c.step.ensures.sound.at in
     record {
       put = p.put;
       stands = record {
         asks = s.asks;
         for_it = for_new cfg old.lane new c.step.ensures.limits c.step.ensures.filters s.for_it;
-        at = puts_at old.place cfg (asker_in asking) (answering asking.vars) old.lane new server put now saying p.put c.requires.last
-            (record { answers = p.answers; ended = c.step.ensures.keeps; last = c.step.ensures.last }) s.at;
+        at = at;
+        rests = λ _. last_rests old.place side cfg (asker_in asking) (answering asking.vars) server (put ++ p.put) now saying c.requires.last fits at stage
+            (c.step.ensures.no_stall h.0 h.1.answers) (c.step.ensures.nothing_back h.0 h.1.answers);
       };
       window = p.window;
       waits = (
         refl,
-        λ off. last_waits old.place side c.requires.last (last_fits old.place old side c.requires.last c.step.ensures.last c.step.ensures.whole c.requires.sound.at)
-            (c.step.ensures.no_stall h.0 h.1.answers (sends_still new (last_stage new.phase new shows c.step.ensures.sound.at) (sym (last_answered old.place (stage_of new) c.requires.last) ∙ off))),
+        λ off. last_waits old.place side c.requires.last fits (c.step.ensures.no_stall h.0 h.1.answers (sends_still new stage (sym (last_answered old.place (stage_of new) c.requires.last) ∙ off))),
       );
     }
 

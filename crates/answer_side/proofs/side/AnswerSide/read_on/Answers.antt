@@ -1,8 +1,10 @@
-use Rattle.std.proofs.Common.{◌<◌, ◌≤◌, inr, refl, sym, ap, ◌∙◌, length, ℕ, true, arith}
+use Rattle.std.proofs.Common.{◌<◌, ◌≤◌, inr, refl, sym, ap, ◌∙◌, length, ℕ, Bool, true, false, arith, subst}
 use Rattle.std.specs.Prelude.{is_none}
 use Rattle.wire_buf.specs.Buffer.{Buffer}
 use Rattle.http_model.specs.declared.Limits.{Limits}
-use Rattle.lane.specs.Answering.{shows_last}
+use Rattle.h1_head.specs.Decides.{MayWait}
+use Rattle.h1_head.specs.Kind.{response_heads}
+use Rattle.lane.specs.Answering.{shows_last, limits_of, input_of}
 use Rattle.answer_side.specs.declared.hearing.Heard.TheVariants as heard
 use Rattle.answer_side.specs.declared.side.AnswerSide.{AnswerSide}
 use Rattle.answer_side.proofs.ReadLemmas.{InHeads, in_heads, stands_in, stands_by, between_on, fits_reading, hears_none, hears_from, is_read}
@@ -20,18 +22,19 @@ returns-in-More-clause-leads c = λ cfg asking server put now saying s.
     let h : InHeads cfg old asking server put = in_heads cfg old asking server put now saying c.requires.between.place s in
     let x = c.in-More.ensures.comes h.e h.in_hand.answers (h.in_hand.asked ∙ sym h.asks.head_asked) in
     hears_none cfg old new asking server put now saying heard.More (ap (λ (b : Buffer ℕ). b.items) c.in-More.ensures.same.0) (
-      stands_in cfg new asking server put now saying c.requires.between.place (stands_by cfg old new asking server put refl c.in-More.ensures.same.1 c.in-More.ensures.limits c.in-More.ensures.filters h x.0),
+      stands_in cfg new asking server put now saying c.requires.between.place c.requires.between.stirs (stands_by cfg old new asking server put refl c.in-More.ensures.same.1 c.in-More.ensures.limits c.in-More.ensures.filters h x.0),
       inr (ap is_none x.2, omega (arith, x.3)),
+      inr (x.1, x.2, subst (λ (b : Bool). MayWait (response_heads b) (limits_of new.lane) false (input_of new.lane)) h.in_hand.asked x.4),
     )
 
 pub returns-in-More-clause-between : goal.returns-in-More-clause-between
 returns-in-More-clause-between c =
-    between_on c.args.self.now (record c.args.self.now { lane = c.read_head.new.self }) c.requires.between refl refl c.in-More.ensures.same.1 c.in-More.ensures.sound (ap shows_last c.in-More.ensures.phase ∙ c.requires.between.first)
+    between_on c.args.self.now (record c.args.self.now { lane = c.read_head.new.self }) c.requires.between refl refl refl c.in-More.ensures.same.1 c.in-More.ensures.sound (ap shows_last c.in-More.ensures.phase ∙ c.requires.between.first)
 
 pub returns-in-More-clause-there : goal.returns-in-More-clause-there
 returns-in-More-clause-there c =
     let new : AnswerSide = record c.args.self.now { lane = c.read_head.new.self } in
-    fits_reading new (between_on c.args.self.now new c.requires.between refl refl c.in-More.ensures.same.1 c.in-More.ensures.sound (ap shows_last c.in-More.ensures.phase ∙ c.requires.between.first)) c.in-More.ensures.stands
+    fits_reading new (between_on c.args.self.now new c.requires.between refl refl refl c.in-More.ensures.same.1 c.in-More.ensures.sound (ap shows_last c.in-More.ensures.phase ∙ c.requires.between.first)) c.in-More.ensures.stands
 
 pub returns-in-More-clause-open : goal.returns-in-More-clause-open
 returns-in-More-clause-open c = ap is_none c.in-More.ensures.same.1
@@ -63,11 +66,11 @@ returns-in-Refuse-clause-leads c = λ cfg asking server put now saying s.
     let h : InHeads cfg old asking server put = in_heads cfg old asking server put now saying c.requires.between.place s in
     let x = c.in-Refuse.ensures.comes h.e h.in_hand.answers (h.in_hand.asked ∙ sym h.asks.head_asked) in
     hears_none cfg old new asking server put now saying heard.Refused (ap (λ (b : Buffer ℕ). b.items) c.in-Refuse.ensures.same.0)
-    (stands_in cfg new asking server put now saying c.requires.between.place (stands_by cfg old new asking server put refl c.in-Refuse.ensures.same.1 c.in-Refuse.ensures.limits c.in-Refuse.ensures.filters h x.0))
+    (stands_in cfg new asking server put now saying c.requires.between.place c.requires.between.stirs (stands_by cfg old new asking server put refl c.in-Refuse.ensures.same.1 c.in-Refuse.ensures.limits c.in-Refuse.ensures.filters h x.0))
 
 pub returns-in-Refuse-clause-between : goal.returns-in-Refuse-clause-between
 returns-in-Refuse-clause-between c =
-    between_on c.args.self.now (record c.args.self.now { lane = c.read_head.new.self }) c.requires.between refl refl c.in-Refuse.ensures.same.1 c.in-Refuse.ensures.sound (ap shows_last c.in-Refuse.ensures.phase ∙ c.requires.between.first)
+    between_on c.args.self.now (record c.args.self.now { lane = c.read_head.new.self }) c.requires.between refl refl refl c.in-Refuse.ensures.same.1 c.in-Refuse.ensures.sound (ap shows_last c.in-Refuse.ensures.phase ∙ c.requires.between.first)
 
 pub returns-in-Refuse-clause-open : goal.returns-in-Refuse-clause-open
 returns-in-Refuse-clause-open c = ap is_none c.in-Refuse.ensures.same.1
@@ -79,7 +82,7 @@ returns-in-Refuse-clause-size c = ap (λ (l : Limits). l.bufsize) c.in-Refuse.en
 
 pub tell_head-requires-clause-between : goal.tell_head-requires-clause-between
 tell_head-requires-clause-between c =
-    between_on c.args.self.now (record c.args.self.now { lane = c.read_head.new.self; heard = true }) c.requires.between refl refl c.in-Head.ensures.same.1 c.in-Head.ensures.sound (ap shows_last c.in-Head.ensures.phase ∙ c.requires.between.first)
+    between_on c.args.self.now (record c.args.self.now { lane = c.read_head.new.self; heard = true }) c.requires.between refl refl refl c.in-Head.ensures.same.1 c.in-Head.ensures.sound (ap shows_last c.in-Head.ensures.phase ∙ c.requires.between.first)
 
 pub tell_head-requires-clause-has : goal.tell_head-requires-clause-has
 tell_head-requires-clause-has c = let x = c.in-Head.ensures.stands in record { stage = x.0; head = x.1.0; blocks = x.1.1 }

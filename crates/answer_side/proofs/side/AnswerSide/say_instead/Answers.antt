@@ -1,4 +1,4 @@
-use Rattle.std.proofs.Common.{ℕ, false, refl, sym, ap, subst, arith}
+use Rattle.std.proofs.Common.{◌≡◌, ℕ, true, false, refl, sym, ap, subst, arith}
 use Rattle.wire_buf.specs.Buffer.{Buffer}
 use Rattle.http_rules.specs.Lives.{answering}
 use Rattle.session_core.specs.Sided.{asker_in}
@@ -29,6 +29,7 @@ returns-clause-leads c = λ cfg asking server put saying now last head body s is
       for_it = for_new cfg old.lane new c.answer.ensures.limits c.answer.ensures.filters s.for_it;
       at = subst (λ (p : Place). StandsAt p cfg (asker_in asking) (answering asking.vars) new server put now saying) (sym c.place_when-self.ensures)
           (instead_stands cfg old new asking server put now saying last head body c.args.replied s spelled told c.answer.ensures.same.1 c.answer.ensures.last (c.answer.ensures.answers s.e head body s.in_hand.answers is));
+      rests = λ rest. absurd (let both : false ≡ true = rest in cc both);
     }
 
 pub returns-clause-goes_out : goal.returns-clause-goes_out

@@ -4,7 +4,7 @@ use Rattle.http_rules.specs.Lives.{answering}
 use Rattle.session_core.specs.Sided.{asker_in}
 use Rattle.lane.specs.Answering.{with_put, stage_of, output_of}
 use Rattle.answer_side.specs.Seen.{is_done}
-use Rattle.answer_side.specs.Stands.{StandsAt}
+use Rattle.answer_side.specs.Stands.{StandsAt, RestsAt}
 use Rattle.answer_side.specs.declared.place.Place.{Place}
 use Rattle.answer_side.specs.declared.place.Place.TheVariants as place
 use Rattle.answer_side.proofs.Events.{for_new}
@@ -31,6 +31,7 @@ returns-then-is_done-clause-leads c = λ cfg asking server put now saying s.
         asks = s.asks;
         for_it = s.for_it;
         at = subst (λ (p : Place). StandsAt p cfg (asker_in asking) (answering asking.vars) old.lane server (put ++ []) now saying) (sym c.requires.says) (at.0, at.1, at.2, at.3);
+        rests = s.rests;
       };
       said = refl;
       window = sym (append-nil (output_of old.lane));
@@ -56,6 +57,7 @@ returns-clause-leads c = λ cfg asking server put now saying s.
         asks = s.asks;
         for_it = for_new cfg old.lane new c.step.ensures.limits c.step.ensures.filters s.for_it;
         at = subst (λ (pl : Place). StandsAt pl cfg (asker_in asking) (answering asking.vars) new server (put ++ p.put) now g.left) (sym c.requires.says) (with_put at.0 p.put, a, shows, g.is_said);
+        rests = λ _. subst (λ (pl : Place). RestsAt pl (asker_in asking).head_asked new) (sym c.requires.says) tt;
       };
       said = g.said;
       window = p.window;

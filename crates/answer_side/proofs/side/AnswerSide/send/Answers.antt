@@ -1,4 +1,4 @@
-use Rattle.std.proofs.Common.{refl, ap, ◌∙◌, ℕ, false}
+use Rattle.std.proofs.Common.{◌≡◌, refl, ap, ◌∙◌, ℕ, true, false}
 use Rattle.wire_buf.specs.Buffer.{Buffer}
 use Rattle.http_model.specs.Finish.{response_framing}
 use Rattle.session_model.specs.Answering.{finished_response}
@@ -28,6 +28,7 @@ returns-clause-leads c = λ cfg asking server put now saying received head f edi
       for_it = for_new cfg old.lane new c.send.ensures.limits c.send.ensures.filters f.read.for_it;
       at = sends_response cfg old new asking server put now received head c.response_framing-framing.result f edited fits framed c.send.ensures.same.1 c.send.ensures.last
           (c.send.ensures.answers f.read.e cfg.res_filters (finished_response (meaning_of cfg) (asker_in asking) received head) f.read.in_hand.answers f.read.for_it.filters blocks);
+      rests = λ rest. absurd (let both : false ≡ true = rest in cc both);
     }
 
 pub returns-clause-goes_out : goal.returns-clause-goes_out

@@ -21,6 +21,7 @@ returns-clause-leads c = λ cfg asking server put now saying head body s serves 
         asks = s.asks;
         for_it = for_new cfg old.lane new c.answer.ensures.limits c.answer.ensures.filters s.for_it;
         at = (t.e, t.answers, c.answer.ensures.last, t.is_said);
+        rests = λ _. tt;
       };
       heads = t.heads;
       begins = t.begins;

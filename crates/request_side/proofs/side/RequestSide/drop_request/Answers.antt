@@ -2,6 +2,7 @@ use Rattle.request_side.proofs.Events.{Keeps, drops, for_same}
 use Rattle.std.proofs.Common.{false}
 use Rattle.lane.specs.Asking.{blocks_of}
 use Rattle.request_side.proofs.Sounds.{sound_drops, seen_dropped}
+use Rattle.request_side.proofs.Resting.{unrested}
 use Rattle.request_side.proofs.side.RequestSide.drop_request.Goals as goal
 
 pub returns-clause-sound : goal.returns-clause-sound
@@ -10,6 +11,7 @@ returns-clause-sound c =
     record {
       well = e.well c.requires.sound.well;
       at = sound_drops c.args.self.now.place c.args.self.now.lane c.discard.new.self c.requires.some e.dropping.1 e.same.0 e.sends c.requires.sound.at;
+      rests = unrested c.args.self.now.place c.discard.new.self;
     }
 
 pub returns-clause-leads : goal.returns-clause-leads

@@ -2,6 +2,7 @@ use Rattle.std.proofs.Common.{◌∙◌}
 use Rattle.lane.specs.Asking.{ended_of}
 use Rattle.request_side.proofs.Events.{EndsSo, ended, for_same}
 use Rattle.request_side.proofs.Sounds.{none_is, sound_keeps}
+use Rattle.request_side.proofs.Resting.{unrested}
 use Rattle.request_side.proofs.side.RequestSide.end_client.Goals as goal
 
 pub returns-clause-sound : goal.returns-clause-sound
@@ -10,6 +11,7 @@ returns-clause-sound c =
     record {
       well = e.well c.requires.sound.well;
       at = sound_keeps c.args.self.now.place c.args.self.now.lane c.end.new.self e.reading (λ none. e.same.4 ∙ none) e.same.0 e.same.2 (λ p s. (p, e.sends p s)) c.requires.sound.at;
+      rests = unrested c.args.self.now.place c.end.new.self;
     }
 
 pub returns-clause-leads : goal.returns-clause-leads

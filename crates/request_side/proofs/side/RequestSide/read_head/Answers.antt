@@ -6,12 +6,18 @@ use Rattle.lane.specs.Asking.{input_of, most_of, limits_of, ended_of}
 use Rattle.request_side.specs.declared.place.Place.TheVariants as place
 use Rattle.request_side.proofs.Events.{for_same}
 use Rattle.request_side.proofs.Reading.{at_reading, on_reading, still_reading, nothing_out, each_nothing, asks_reading, head_read, reads_on, some_room, refuses_bytes, head_uses}
+use Rattle.request_side.proofs.Resting.{more_rests}
 use Rattle.request_side.proofs.side.RequestSide.read_head.Goals as goal
 
 pub returns-in-More-clause-sound : goal.returns-in-More-clause-sound
 returns-in-More-clause-sound c =
     let w = c.in-More.ensures.tells in
-    record { well = w.reading.ready.sound; at = still_reading c.args.self.now.place c.args.self.now.lane c.read_head.new.self c.requires.place c.requires.sound.at w.reading c.in-More.ensures.same.2 }
+    let e = c.in-More.ensures.same in
+    record {
+      well = w.reading.ready.sound;
+      at = still_reading c.args.self.now.place c.args.self.now.lane c.read_head.new.self c.requires.place c.requires.sound.at w.reading e.2;
+      rests = λ rest. more_rests c.args.self.now.place c.args.self.now.lane c.read_head.new.self c.requires.place e.1 e.0 w;
+    }
 
 pub returns-in-More-clause-tells : goal.returns-in-More-clause-tells
 returns-in-More-clause-tells c =
@@ -29,7 +35,7 @@ returns-in-More-clause-tells c =
 
 pub returns-in-Nothing-clause-sound : goal.returns-in-Nothing-clause-sound
 returns-in-Nothing-clause-sound c =
-    record { well = c.in-Nothing.ensures.tells.reading.ready.sound; at = c.in-Nothing.ensures.same.2 ∙ nothing_out c.args.self.now.place c.args.self.now.lane c.requires.place c.requires.sound.at }
+    record { well = c.in-Nothing.ensures.tells.reading.ready.sound; at = c.in-Nothing.ensures.same.2 ∙ nothing_out c.args.self.now.place c.args.self.now.lane c.requires.place c.requires.sound.at; rests = λ e. tt }
 
 pub returns-in-Nothing-clause-tells : goal.returns-in-Nothing-clause-tells
 returns-in-Nothing-clause-tells c =
@@ -47,7 +53,7 @@ returns-in-Nothing-clause-tells c =
 
 pub returns-in-Head-clause-sound : goal.returns-in-Head-clause-sound
 returns-in-Head-clause-sound c =
-    record { well = c.in-Head.ensures.tells.ready.sound; at = c.in-Head.ensures.same.2 ∙ nothing_out c.args.self.now.place c.args.self.now.lane c.requires.place c.requires.sound.at }
+    record { well = c.in-Head.ensures.tells.ready.sound; at = c.in-Head.ensures.same.2 ∙ nothing_out c.args.self.now.place c.args.self.now.lane c.requires.place c.requires.sound.at; rests = λ e. tt }
 
 pub returns-in-Head-clause-tells : goal.returns-in-Head-clause-tells
 returns-in-Head-clause-tells c =
@@ -68,7 +74,7 @@ returns-in-Head-clause-tells c =
 
 pub returns-in-Refuse-clause-sound : goal.returns-in-Refuse-clause-sound
 returns-in-Refuse-clause-sound c =
-    record { well = c.in-Refuse.ensures.tells.sound; at = c.in-Refuse.ensures.same.2 ∙ nothing_out c.args.self.now.place c.args.self.now.lane c.requires.place c.requires.sound.at }
+    record { well = c.in-Refuse.ensures.tells.sound; at = c.in-Refuse.ensures.same.2 ∙ nothing_out c.args.self.now.place c.args.self.now.lane c.requires.place c.requires.sound.at; rests = λ e. tt }
 
 pub returns-in-Refuse-clause-tells : goal.returns-in-Refuse-clause-tells
 returns-in-Refuse-clause-tells c =

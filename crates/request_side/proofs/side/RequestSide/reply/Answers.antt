@@ -6,7 +6,7 @@ use Rattle.request_side.proofs.Sending.{replies_to}
 use Rattle.request_side.proofs.side.RequestSide.reply.Goals as goal
 
 pub returns-clause-sound : goal.returns-clause-sound
-returns-clause-sound c = record { well = c.requires.sound.well; at = subst (λ (at : Place). SoundAt at c.args.self.now.lane) c.requires.idle c.requires.sound.at }
+returns-clause-sound c = record { well = c.requires.sound.well; at = subst (λ (at : Place). SoundAt at c.args.self.now.lane) c.requires.idle c.requires.sound.at; rests = λ e. tt }
 
 pub returns-clause-leads : goal.returns-clause-leads
 returns-clause-leads c = λ cfg vars came received m left asking to_server h rules. record {

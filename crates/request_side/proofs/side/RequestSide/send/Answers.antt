@@ -1,9 +1,11 @@
 use Rattle.std.proofs.Common.{◌≡◌, [], subst}
 use Rattle.lane.specs.Asking.{output_of}
 use Rattle.request_side.specs.declared.place.Place.{Place}
+use Rattle.request_side.specs.declared.place.Place.TheVariants as place
 use Rattle.request_side.specs.Stands.{SoundAt}
 use Rattle.request_side.proofs.Events.{for_same}
 use Rattle.request_side.proofs.Sending.{IsBegun, sends_sound, sends_on}
+use Rattle.request_side.proofs.Resting.{unrested}
 use Rattle.request_side.proofs.side.RequestSide.send.Goals as goal
 
 pub returns-clause-sound : goal.returns-clause-sound
@@ -18,7 +20,7 @@ returns-clause-sound c =
       sends = e.sends;
     } in
     let none : output_of old ≡ [] = subst (λ (at : Place). SoundAt at old) c.requires.idle c.requires.sound.at in
-    record { well = e.well; at = sends_sound old c.send.new.self c.args.framing c.requires.head.0 b c.requires.sound.well none e.stage c.requires.head.1 }
+    record { well = e.well; at = sends_sound old c.send.new.self c.args.framing c.requires.head.0 b c.requires.sound.well none e.stage c.requires.head.1; rests = unrested place.Sending c.send.new.self }
 
 pub returns-clause-leads : goal.returns-clause-leads
 returns-clause-leads c = λ cfg vars came received env reply h framing rules short fits framed blocks.

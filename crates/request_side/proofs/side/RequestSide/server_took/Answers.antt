@@ -2,6 +2,7 @@ use Rattle.std.proofs.Common.{◌++◌, ap, ◌∙◌, take, drop}
 use Rattle.lane.specs.Asking.{output_of}
 use Rattle.request_side.proofs.Events.{Keeps, server_takes, for_same, drop_none}
 use Rattle.request_side.proofs.Sounds.{sound_keeps}
+use Rattle.request_side.proofs.Resting.{unrested}
 use Rattle.request_side.proofs.side.RequestSide.server_took.Goals as goal
 
 pub returns-clause-sound : goal.returns-clause-sound
@@ -11,6 +12,7 @@ returns-clause-sound c =
       well = e.well c.requires.sound.well;
       at = sound_keeps c.args.self.now.place c.args.self.now.lane c.took.new.self e.reading (λ none. e.output ∙ ap (drop c.args.n) none ∙ drop_none c.args.n) e.same.0 e.same.2
           (λ p s. (record p { took = p.took ++ take c.args.n (output_of c.args.self.now.lane) }, e.sends p s)) c.requires.sound.at;
+      rests = unrested c.args.self.now.place c.took.new.self;
     }
 
 pub returns-clause-leads : goal.returns-clause-leads

@@ -1,7 +1,34 @@
-use Rattle.std.proofs.Common.{refl}
+use Rattle.std.proofs.Common.{true, refl}
 use Rattle.request_side.proofs.Events.{for_same}
-use Rattle.request_side.proofs.Stepping.{Steps, step_sound, step_stands, step_keeps}
+use Rattle.request_side.proofs.Resting.{step_rests, rest_rests}
+use Rattle.request_side.proofs.Stepping.{Steps, step_sound, step_stands, step_keeps, rest_keeps, nothing_put}
 use Rattle.request_side.proofs.side.RequestSide.step_request.Goals as goal
+
+pub returns-then-is_reading : goal.returns-then-is_reading
+returns-then-is_reading c =
+    let s = c.args.self.now in
+    record {
+      sound = c.requires;
+      puts = nothing_put s.place s.awaits s.at_rest s.at_rest s.lane;
+      keeps = λ begun. absurd (begun (c.is_reading.ensures.reading c.if-is_reading.true));
+      still = λ reading. refl;
+      place = refl;
+      limits = refl;
+    }
+
+pub returns-then-not-is_going_out : goal.returns-then-not-is_going_out
+returns-then-not-is_going_out c =
+    let s = c.args.self.now in
+    let begun = c.is_reading.ensures.begun c.if-is_reading.false in
+    let over = c.is_going_out.ensures.rests c.if-not-is_going_out.true in
+    record {
+      sound = record { well = c.requires.well; at = c.requires.at; rests = λ rest. rest_rests s.place s.lane begun over c.requires.at };
+      puts = nothing_put s.place s.awaits s.at_rest true s.lane;
+      keeps = λ b. rest_keeps s.place s.awaits s.at_rest s.lane over c.requires.at;
+      still = λ reading. absurd (begun reading);
+      place = refl;
+      limits = refl;
+    }
 
 pub returns : goal.returns
 returns c =
@@ -21,7 +48,11 @@ returns c =
       goes_on = e.no_stall;
     } in
     record {
-      sound = record { well = e.well; at = step_sound c.args.self.now.place old new sending t c.requires.at };
+      sound = record {
+        well = e.well;
+        at = step_sound c.args.self.now.place old new sending t c.requires.at;
+        rests = λ rest. step_rests c.args.self.now.place old new sending (λ p s. record { no_cut = e.no_cut p s; nothing_back = e.nothing_back p s }) c.requires.at;
+      };
       puts = record {
         put = e.grows.0;
         window = e.grows.1;
@@ -30,7 +61,8 @@ returns c =
           at = step_stands c.args.self.now.place cfg old new vars came asking to_server e.grows.0 reply sending t e.grows.1 h.at;
         };
       };
-      keeps = step_keeps c.args.self.now.place c.args.self.now.awaits c.args.self.now.at_rest old new sending t c.requires.at;
+      keeps = λ begun. step_keeps c.args.self.now.place c.args.self.now.awaits c.args.self.now.at_rest old new sending t c.requires.at;
+      still = λ reading. absurd (c.is_reading.ensures.begun c.if-is_reading.false reading);
       place = refl;
       limits = e.same.1;
     }

@@ -3,7 +3,8 @@ use Rattle.std.specs.Prelude.{is_none}
 use Rattle.lane.specs.Asking.{ended_of, input_of, most_of, output_of, is_dropping}
 use Rattle.request_side.specs.Seen.{unread_at}
 use Rattle.request_side.proofs.Events.{Takes, takes, for_same}
-use Rattle.request_side.proofs.Sounds.{none_is, sound_keeps, seen_as}
+use Rattle.request_side.proofs.Sounds.{none_is, sound_keeps, room_less, seen_as}
+use Rattle.request_side.proofs.Resting.{unrested}
 use Rattle.request_side.proofs.side.RequestSide.take_client.Goals as goal
 
 pub returns-clause-sound : goal.returns-clause-sound
@@ -12,6 +13,7 @@ returns-clause-sound c =
     record {
       well = e.well c.requires.sound.well;
       at = sound_keeps c.args.self.now.place c.args.self.now.lane c.take.new.self e.reading (λ none. e.same.4 ∙ none) e.same.0 e.same.2 (λ p s. (record p { bytes = p.bytes ++ c.args.bytes.now }, e.sends p s)) c.requires.sound.at;
+      rests = unrested c.args.self.now.place c.take.new.self;
     }
 
 pub returns-clause-leads : goal.returns-clause-leads
@@ -33,8 +35,8 @@ returns-clause-seen c =
     let e = c.take.ensures in
     let old = c.args.self.now.lane in
     let new = c.take.new.self in (
-      most_of new - length (input_of new),
       unread_at c.args.self.now.place (input_of new),
       seen_as old new c.args.self.now.place c.args.self.now.awaits c.args.self.now.at_rest false (is_none (ended_of old)) (is_dropping old)
-          (most_of new - length (input_of new)) (unread_at c.args.self.now.place (input_of new)) (output_of old) (ap is_none (e.same.3 ∙ sym (none_is (ended_of old) c.requires.open))) refl refl e.same.4 e.same.1 e.same.0 e.same.2 e.array,
+          (most_of old - length (input_of old) - length c.args.bytes.now) (unread_at c.args.self.now.place (input_of new)) (output_of old) (ap is_none (e.same.3 ∙ sym (none_is (ended_of old) c.requires.open)))
+          (room_less old new c.args.bytes.now c.requires.sound.well (e.well c.requires.sound.well) e.same.5 e.input) refl e.same.4 e.same.1 e.same.0 e.same.2 e.array,
     )

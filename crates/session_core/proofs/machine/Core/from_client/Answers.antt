@@ -1,4 +1,4 @@
-use Rattle.std.proofs.Common.{false, ap}
+use Rattle.std.proofs.Common.{◌-◌, length, false, ap}
 use Rattle.session_core.specs.History.{gains}
 use Rattle.session_core.proofs.Events.{holds_at, client_gives}
 use Rattle.session_core.proofs.Placing.{is_somewhere, stay_placed}
@@ -15,8 +15,8 @@ returns-clause-leads g c = λ cfg past s.
     record {
       sided = record s.sided { came = gains s.sided.came c.args.bytes.now };
       stand = c.take_client.ensures.leads cfg s.sided s.stand;
-      holds = holds_at M at (record q { room = r.0; unread = r.1; at_rest = false }) (g.S.Sides.request c.take_client.new.self) a (g.S.Sides.answer c.take_client.new.self) _ _ r.2 c.take_client.ensures.answer
-          (client_gives M at q a s.sided past c.args.bytes.now r.0 r.1 c.requires.open s.holds);
+      holds = holds_at M at (record q { room = q.room - length c.args.bytes.now; unread = r.0; at_rest = false }) (g.S.Sides.request c.take_client.new.self) a (g.S.Sides.answer c.take_client.new.self) _ _ r.1 c.take_client.ensures.answer
+          (client_gives M at q a s.sided past c.args.bytes.now (q.room - length c.args.bytes.now) r.0 c.requires.open s.holds);
     }
 
 pub take_client-requires-clause-placed : goal.take_client-requires-clause-placed

@@ -1,7 +1,7 @@
 use Rattle.std.proofs.Common.{◌≡◌, ◌++◌, Some, true, false, sym, ap, ◌∙◌, refl}
 use Rattle.session_core.proofs.Working.{steps_on, steps_begun, steps_before, before_of, requests_of}
 use Rattle.session_core.proofs.Events.{holds_at}
-use Rattle.session_core.proofs.Placing.{is_somewhere, stay_somewhere, stay_placed, placed_in, placed_at, serves}
+use Rattle.session_core.proofs.Placing.{is_somewhere, stay_somewhere, stay_placed, placed_in, placed_at, serves, at_server}
 use Rattle.session_core.specs.declared.Phase.TheVariants as phase
 use Rattle.session_core.specs.Place.{Serves}
 use Rattle.session_core.specs.Waits.{is_turned}
@@ -62,7 +62,10 @@ returns-else-is_begun-clause-keeps g c = λ cfg past s.
     }
 
 pub step_request-requires : goal.step_request-requires
-step_request-requires g c = record { placed = is_somewhere (g.S.Sides.placed c.args.self.now.sides) (g.S.Sides.answer c.args.self.now.sides) c.args.self.now.at.phase c.args.self.now.at.cut c.requires.placed }
+step_request-requires g c =
+    let placed = g.S.Sides.placed c.args.self.now.sides in
+    let at = c.args.self.now.at in
+    record { placed = at_server placed at.cut (placed_in placed (g.S.Sides.answer c.args.self.now.sides) at.phase phase.Serving at.cut c.requires.phase c.requires.placed) }
 
 pub newly_cut-requires : goal.newly_cut-requires
 newly_cut-requires g c = record { placed = stay_somewhere (g.S.Sides.placed c.args.self.now.sides) (g.S.Sides.placed c.step_request.new.self) c.step_request.ensures.placed (is_somewhere (g.S.Sides.placed c.args.self.now.sides) (g.S.Sides.answer c.args.self.now.sides) c.args.self.now.at.phase c.args.self.now.at.cut c.requires.placed) }

@@ -3,7 +3,8 @@ use Rattle.session_sides.proofs.Serving.{needs_of}
 use Rattle.std.proofs.Common.{subst, ℕ, List}
 use Rattle.session_sides.specs.Asks.{SaysRefusal}
 use Rattle.session_rules.specs.Ruling.{config_of}
-use Rattle.session_sides.proofs.Serving.{refuses, sound_both}
+use Rattle.request_side.specs.Seen as requests
+use Rattle.session_sides.proofs.Serving.{refuses, sound_both, begun_sending}
 use Rattle.session_sides.proofs.sides.DirectionsWorks.refuse.Goals as goal
 
 pub returns-clause-placed : goal.returns-clause-placed
@@ -17,7 +18,7 @@ returns-clause-placed c =
     let says = subst (λ (m : List ℕ). SaysRefusal (config_of d.rules) d.answer a c.args.code m d.rules.vars c.asks_head-no_body.result) c.bytes.ensures.bytes e.says in
     let r = refuses x.past.0 d a rules p c.args.code c.asks_head-no_body.result x.is_at.stand.0 x.is_at.stand.1 e.config e.place c.asks_head-no_body.ensures x.past.2 says in
     record {
-      is_at = record { sound = sound_both d a rules e.sound e.size e.ready e.config x.is_at.sound; stand = e.place };
+      is_at = record { sound = sound_both d a rules e.sound e.size e.ready e.config x.is_at.sound; stand = (begun_sending (requests.place_of d.request) x.is_at.stand.0, e.place) };
       past = (x.past.0, record p { saying = r.text }, r.stands);
     }
 

@@ -2,7 +2,8 @@ use Rattle.session_sides.proofs.SayLemmas.{said_fits, said_size}
 use Rattle.answer_side.specs.Seen.{size_of}
 use Rattle.std.proofs.Common.{◌≡◌, true, false, sym, ◌∙◌}
 use Rattle.http_model.specs.Refusal.{refusal, closing}
-use Rattle.session_sides.proofs.Serving.{turns, sound_both}
+use Rattle.request_side.specs.Seen as requests
+use Rattle.session_sides.proofs.Serving.{turns, sound_both, begun_sending}
 use Rattle.session_sides.proofs.sides.DirectionsWorks.turn.Goals as goal
 
 pub returns-clause-placed : goal.returns-clause-placed
@@ -20,7 +21,7 @@ returns-clause-placed c =
     record {
       is_at = record {
         sound = sound_both d a rules e.sound e.size (record { valid = ready.valid; scratch = ready.scratch; said = e.list_size ∙ ready.said }) c.say_closing.ensures.config x.is_at.sound;
-        stand = place;
+        stand = (begun_sending (requests.place_of d.request) x.is_at.stand.0, place);
       };
       past = (x.past.0, record p { saying = t.saying }, turns x.past.0 d a rules p t.saying x.is_at.stand.0 place c.say_closing.ensures.config x.past.2 t.stands);
     }

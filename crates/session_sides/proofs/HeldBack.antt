@@ -1,0 +1,139 @@
+-- Behind a call of work nothing is held back.
+use Rattle.std.proofs.Common.{◌≡◌, ◌⊎◌, inl, inr, Bool, true, false, [], List, ℕ, Option, None, sym, ap, ◌∙◌, subst, refl}
+use Rattle.px_sample.specs.Variables.{Variables}
+use Rattle.http_rules.specs.declared.config.Config.{Config}
+use Rattle.http_rules.specs.Lives.{answering}
+use Rattle.proxy_meaning.specs.Product.{meaning_of}
+use Rattle.session_model.specs.Stream.{Stream}
+use Rattle.session_core.specs.History.{Past, Coming, Connect, Continues}
+use Rattle.session_core.specs.InHand.{ReadsInHand, ServesInHand}
+use Rattle.session_core.specs.Place.{IsPlaced, place_serving, Serves, Reads}
+use Rattle.session_core.specs.Sided.{Asking, asker_in, RequestAsks, IsUncut}
+use Rattle.session_core.specs.Stands.{Serves as ServesSo}
+use Rattle.session_core.specs.Waits.{Settled, RequestWaits, AnswerWaitsAt, is_turned}
+use Rattle.session_core.specs.declared.Phase.{Phase}
+use Rattle.session_core.specs.declared.Phase.TheVariants as phase
+use Rattle.session_core.specs.declared.Source.{Source}
+use Rattle.session_core.specs.declared.Source.TheVariants as source
+use Rattle.session_core.specs.declared.Told.TheVariants as told
+use Rattle.session_core.specs.declared.machine.At.{At}
+use Rattle.lane.specs.Answering.{source_of, has_begun}
+use Rattle.lane_core.specs.declared.stage.Source.{Source as LaneSource}
+use Rattle.request_side.specs.Shown.{ShowsNoCut, PutsAll, NoHeadCame}
+use Rattle.answer_side.specs.Resting.{AwaitsHead, PutsOutBody}
+use Rattle.answer_side.specs.Seen.{seen, told_at, place_of}
+use Rattle.answer_side.specs.Stands.{IsSoundSide, FitsAt, is_serving}
+use Rattle.answer_side.specs.declared.place.Place.{Place as Answered}
+use Rattle.answer_side.specs.declared.place.Place.TheVariants as answered
+use Rattle.answer_side.specs.declared.side.AnswerSide.{AnswerSide}
+use Rattle.session_sides.specs.HeldBack.{HasWorked, IsServed, IsUncutSoFar, IsSentSoFar, AwaitsAnswer, IsAnsweredSoFar, AwaitsRequest}
+use Rattle.session_sides.specs.Joined.{DirectionsStand, Placed, IsAt, request_of, answer_of}
+use Rattle.session_sides.specs.declared.directions.Directions.{Directions}
+
+-- ---- while a server is open
+
+abbrev pub Served : Config → Directions → At → Past → Type 0
+Served cfg d at past = ServesInHand (meaning_of cfg) (DirectionsStand cfg d) (request_of d) (answer_of d) at past
+
+-- where both directions stand, and that they are at rest
+pub record RestsServing (d : Directions) : Type 0 where
+  pub is_at : IsAt d Serves
+  pub request : (request_of d).at_rest ≡ true
+  pub answer : (answer_of d).at_rest ≡ true
+
+pub rests_serving : (cfg : Config) (d : Directions) (at : At) (past : Past) → HasWorked cfg d at past → at.phase ≡ phase.Serving → at.cut ≡ None → RestsServing d
+rests_serving cfg d at past h is uncut =
+    let placed : Placed d (place_serving at.cut) = subst (λ (f : Phase). IsPlaced (Placed d) (answer_of d) f at.cut) is h.placed in
+    let there : Placed d Serves = subst (λ (x : Option Bool). Placed d (place_serving x)) uncut placed in
+    let settled : RequestWaits (request_of d) × AnswerWaitsAt at.cut (answer_of d) = subst (λ (f : Phase). Settled f at.cut (request_of d) (answer_of d)) is h.settled in
+    record { is_at = there.is_at; request = settled.0.0; answer = settled.1.0 (ap is_turned uncut) }
+
+abbrev pub is_served : (cfg : Config) (d : Directions) (at : At) (past : Past) → Served cfg d at past → IsServed cfg past
+is_served cfg d at past s =
+    let p = s.sided in
+    record {
+      in_hand = s.in_hand;
+      connect = s.connect;
+      now = s.now;
+      there = s.there;
+      asking = p.asking;
+      asks = subst (λ (v : Variables). (stream : Stream) → Continues s.in_hand.came stream → RequestAsks (meaning_of cfg) v p.asking stream) (sym s.vars)
+          (subst (λ (c : Coming). (stream : Stream) → Continues c stream → RequestAsks (meaning_of cfg) p.vars p.asking stream) (sym s.came) s.asks);
+    }
+
+uncut_so : (A : Type 0) (so : Source) → IsUncut so → (so ≡ source.Going → A) → (so ≡ source.Whole) ⊎ A
+uncut_so A source.Going u f = inr (f refl)
+uncut_so A source.Whole u f = inl refl
+uncut_so A (source.Cut code) u f = absurd u
+
+is_uncut : (cfg : Config) (d : Directions) (at : At) (past : Past) → at.cut ≡ None → (s : Served cfg d at past) → IsUncut (request_of d).source
+is_uncut cfg d at past uncut s = (subst (λ (x : Option Bool). ServesSo (meaning_of cfg) (request_of d) (answer_of d) s.sided x) uncut s.serves).2
+
+pub uncut_so_far : (cfg : Config) (d : Directions) (at : At) (past : Past) → at.cut ≡ None → (s : Served cfg d at past)
+    → ((request_of d).source ≡ source.Going → ShowsNoCut cfg s.sided.came s.sided.asking) → IsUncutSoFar cfg (request_of d).source past
+uncut_so_far cfg d at past uncut s shows =
+    let p = s.sided in
+    let A : Type 0 = ShowsNoCut cfg s.in_hand.came p.asking in
+    record {
+      served = is_served cfg d at past s;
+      shows = uncut_so A (request_of d).source (is_uncut cfg d at past uncut s) (λ e. subst (λ (c : Coming). ShowsNoCut cfg c p.asking) (sym s.came) (shows e));
+    }
+
+pub sent_so_far : (cfg : Config) (d : Directions) (at : At) (past : Past) → (s : Served cfg d at past) → PutsAll cfg s.sided.came s.sided.asking s.sided.to_server → IsSentSoFar cfg (request_of d).window past
+sent_so_far cfg d at past s puts =
+    let p = s.sided in
+    record {
+      served = is_served cfg d at past s;
+      puts = subst (λ (xs : List ℕ). PutsAll cfg s.in_hand.came p.asking xs) (sym s.to_server) (subst (λ (c : Coming). PutsAll cfg c p.asking p.to_server) (sym s.came) puts);
+    }
+
+pub awaits_answer : (cfg : Config) (d : Directions) (at : At) (past : Past) → (s : Served cfg d at past) → AwaitsHead cfg (asker_in s.sided.asking) s.sided.server s.sided.to_client
+    → AwaitsAnswer cfg (answer_of d).window past
+awaits_answer cfg d at past s awaits =
+    let p = s.sided in
+    record {
+      served = is_served cfg d at past s;
+      put = p.to_client;
+      text = s.to_client;
+      awaits = subst (λ (c : Coming). AwaitsHead cfg (asker_in p.asking) c p.to_client) (sym s.stream) awaits;
+    }
+
+pub answered_so_far : (cfg : Config) (d : Directions) (at : At) (past : Past) → (s : Served cfg d at past)
+    → PutsOutBody cfg (asker_in s.sided.asking) (answering s.sided.asking.vars) s.sided.server s.sided.to_client s.sided.now → IsAnsweredSoFar cfg (answer_of d).window past
+answered_so_far cfg d at past s puts =
+    let p = s.sided in
+    record {
+      served = is_served cfg d at past s;
+      put = p.to_client;
+      text = s.to_client;
+      now = p.now;
+      puts = subst (λ (c : Coming). PutsOutBody cfg (asker_in p.asking) (answering p.asking.vars) c p.to_client p.now) (sym s.stream) puts;
+    }
+
+-- a response goes out
+response_at : (pl : Answered) (side : AnswerSide) (body : LaneSource) → FitsAt pl side → is_serving pl ≡ true → told_at pl body ≡ told.Going → has_begun side.lane ≡ true → pl ≡ answered.Response
+response_at answered.Idle side body fits serves tells begun = absurd (let e : false ≡ true = serves in cc e)
+response_at answered.Heads side body fits serves tells begun = absurd (let e : false ≡ true = sym fits.0 ∙ begun in cc e)
+response_at answered.Response side body fits serves tells begun = refl
+response_at answered.Closing side body fits serves tells begun = absurd (let e : told.Closes ≡ told.Going = tells in cc e)
+response_at answered.Keeping side body fits serves tells begun = absurd (let e : told.Whole ≡ told.Going = tells in cc e)
+response_at answered.Saying side body fits serves tells begun = absurd (let e : false ≡ true = serves in cc e)
+
+pub is_response : (side : AnswerSide) → IsSoundSide side → is_serving (place_of side) ≡ true → (seen side).told ≡ told.Going → (seen side).begun ≡ true → place_of side ≡ answered.Response
+is_response side sound serves tells begun = response_at side.place side (source_of side.lane) sound.at serves tells begun
+
+-- ---- while a head is awaited
+
+pub record RestsReading (d : Directions) : Type 0 where
+  pub is_at : IsAt d Reads
+  pub request : (request_of d).at_rest ≡ true
+
+pub rests_reading : (cfg : Config) (d : Directions) (at : At) (past : Past) → HasWorked cfg d at past → at.phase ≡ phase.Reading → RestsReading d
+rests_reading cfg d at past h is =
+    let placed : Placed d Reads × (at.cut ≡ None) = subst (λ (f : Phase). IsPlaced (Placed d) (answer_of d) f at.cut) is h.placed in
+    let settled : Settled phase.Reading at.cut (request_of d) (answer_of d) = subst (λ (f : Phase). Settled f at.cut (request_of d) (answer_of d)) is h.settled in
+    record { is_at = placed.0.is_at; request = settled.0 }
+
+pub awaits_request : (cfg : Config) (d : Directions) (at : At) (past : Past) → (s : ReadsInHand (meaning_of cfg) (DirectionsStand cfg d) (answer_of d) at past) → NoHeadCame cfg s.sided.came → AwaitsRequest cfg past
+awaits_request cfg d at past s awaits =
+    record { in_hand = s.in_hand; no_connect = s.no_connect; awaits = subst (λ (c : Coming). NoHeadCame cfg c) (sym s.came) awaits }

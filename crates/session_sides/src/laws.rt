@@ -1,0 +1,49 @@
+//! What follows for the core of a configuration, behind each call of `work`: nothing is held back.
+ghost use Rattle.std.specs.Prelude.{◌≡◌, ◌⊎◌, [], None, true, false};
+ghost use Rattle.http_rules.specs.declared.config.Config.{Config};
+ghost use Rattle.session_core.specs.History.{Past};
+ghost use Rattle.session_core.specs.declared.Phase.TheVariants as phase;
+ghost use Rattle.session_core.specs.declared.Source.TheVariants as source;
+ghost use Rattle.session_core.specs.declared.Told.TheVariants as told;
+ghost use Rattle.session_core.specs.declared.machine.At.{At};
+ghost use Rattle.session_sides.specs.HeldBack.{HasWorked, IsUncutSoFar, IsSentSoFar, AwaitsAnswer, IsAnsweredSoFar, AwaitsRequest};
+ghost use Rattle.session_sides.specs.Joined.{request_of, answer_of};
+ghost use Rattle.session_sides.specs.declared.directions.Directions.{Directions};
+
+use crate::Directions;
+use answer_side::laws as answers;
+use request_side::laws as requests;
+use session_core::laws::{reads_in_hand, serves_in_hand};
+
+/// While a server is open and no cut of its request was met: where the server has taken all text, or takes no more, what the client gave shows no
+/// cut (`no_cut`); and a server that has taken all text was sent all that came, but what filters keep back (`sent`).
+pub fn request_not_held_back<'c>()
+    ensures no_cut { (cfg : Config) (d : Directions) (at : At) (past : Past) → HasWorked cfg d at past → at.phase ≡ phase.Serving → at.cut ≡ None
+        → ((request_of d).window ≡ []) ⊎ ((request_of d).dropped ≡ true) → IsUncutSoFar cfg (request_of d).source past }
+    ensures sent { (cfg : Config) (d : Directions) (at : At) (past : Past) → HasWorked cfg d at past → at.phase ≡ phase.Serving → at.cut ≡ None
+        → (request_of d).source ≡ source.Going → (request_of d).window ≡ [] → (request_of d).dropped ≡ false → IsSentSoFar cfg (request_of d).window past }
+{
+    serves_in_hand::<Directions<'c>>();
+    requests::nothing_held_back();
+}
+
+/// While a server is open and no cut of its request was met, and the client has taken all text: where the answer hasn't begun, no final head has come,
+/// and the interim heads were put out (`waits`); where it goes on, all that came of it was put out, but what filters keep back (`answered`).
+pub fn answer_not_held_back<'c>()
+    ensures waits { (cfg : Config) (d : Directions) (at : At) (past : Past) → HasWorked cfg d at past → at.phase ≡ phase.Serving → at.cut ≡ None
+        → (answer_of d).window ≡ [] → (answer_of d).begun ≡ false → AwaitsAnswer cfg (answer_of d).window past }
+    ensures answered { (cfg : Config) (d : Directions) (at : At) (past : Past) → HasWorked cfg d at past → at.phase ≡ phase.Serving → at.cut ≡ None
+        → (answer_of d).window ≡ [] → (answer_of d).begun ≡ true → (answer_of d).told ≡ told.Going → IsAnsweredSoFar cfg (answer_of d).window past }
+{
+    serves_in_hand::<Directions<'c>>();
+    answers::begun_or_waits();
+    answers::body_put_out();
+}
+
+/// Where the next request is waited for, none has come.
+pub fn head_not_held_back<'c>()
+    ensures { (cfg : Config) (d : Directions) (at : At) (past : Past) → HasWorked cfg d at past → at.phase ≡ phase.Reading → AwaitsRequest cfg past }
+{
+    reads_in_hand::<Directions<'c>>();
+    requests::waits_for_a_head();
+}
