@@ -57,15 +57,16 @@ server_fails S T U seen wrote first client first_link old new failed before past
     })
 
 -- so many more turns were paid for
-pub goes_on : {L : Type 0} (S T : Past → Type 0) (seen : L → Seen) (wrote : L → List ℕ → Type 0) (first mid new first_link mid_link link : L) (failed : Bool) (before : List Connect) (past : Past) (had has paid left : ℕ)
+pub goes_on : {L : Type 0} (S T U : Past → Type 0) (seen : L → Seen) (wrote : L → List ℕ → Type 0) (first mid new first_link mid_link link : L) (failed : Bool) (before : List Connect) (past : Past) (had has paid left : ℕ)
     → HandGoes S seen wrote first mid first_link mid_link false before past had has
     → ((p : Past) (c : Connect) → Hand S seen wrote first mid first_link mid_link false before p c → HandGoes T seen wrote first new first_link link failed before p paid 0)
-    → has ≤ left + paid → HandGoes T seen wrote first new first_link link failed before past had left
-goes_on S T seen wrote first mid new first_link mid_link link failed before past had has paid left h step e =
+    → (has ≤ left + paid → (p : Past) → T p → U p) → has ≤ left + paid → HandGoes U seen wrote first new first_link link failed before past had left
+goes_on S T U seen wrote first mid new first_link mid_link link failed before past had has paid left h step w e =
     let n = step h.now h.c h.hand in
     let m : moved past + had ≤ moved h.now + has = h.more in
     let k : moved h.now + paid ≤ moved n.now + 0 = n.more in
-    record { now = n.now; c = n.c; hand = n.hand; more = omega arith }
+    let idle = n.hand.idle in
+    record { now = n.now; c = n.c; hand = record { idle = record { stand = w e n.now idle.stand; came = idle.came; put = idle.put; closed = idle.closed }; connects = n.hand.connects; linked = n.hand.linked }; more = omega arith }
 
 -- the same past, of which less is said
 pub hand_as : {L : Type 0} (S T : Past → Type 0) (seen : L → Seen) (wrote : L → List ℕ → Type 0) (first client first_link link : L) (failed : Bool) (before : List Connect) (past : Past) (had has : ℕ)
@@ -89,7 +90,7 @@ works S T seen wrote first client first_link link before past c (Some begun) w h
 pub hand_works : {L : Type 0} (S T : Past → Type 0) (seen : L → Seen) (wrote : L → List ℕ → Type 0) (first client first_link link : L) (before : List Connect) (past : Past) (had has : ℕ) (note : Option Bool)
     → ((p : Past) → S p → T (after p (Work note))) → HandGoes S seen wrote first client first_link link false before past had has → HandGoes T seen wrote first client first_link link false before past had has
 hand_works S T seen wrote first client first_link link before past had has note w h =
-    goes_on S T seen wrote first client client first_link link link false before past had has 0 has h (λ p c k. works S T seen wrote first client first_link link before p c note w k) (omega arith)
+    goes_on S T T seen wrote first client client first_link link link false before past had has 0 has h (λ p c k. works S T seen wrote first client first_link link before p c note w k) (λ e p t. t) (omega arith)
 
 pub no_both : (b : Bool) → b ≡ true → b ≡ false → ⊥
 no_both b e f = cc

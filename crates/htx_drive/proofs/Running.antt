@@ -32,11 +32,11 @@ idle_stays T U seen wrote first client failed past m w =
 pub idle_as : {L : Type 0} (S T : Past → Type 0) (seen : L → Seen) (wrote : L → List ℕ → Type 0) (first client : L) (failed : Bool) (past : Past) → (S past → T past) → Idle S seen wrote first client failed past → Idle T seen wrote first client failed past
 idle_as S T seen wrote first client failed past w h = record { stand = w h.stand; came = h.came; put = h.put; closed = h.closed }
 
-pub idle_paid : {L : Type 0} (T : Past → Type 0) (seen : L → Seen) (wrote : L → List ℕ → Type 0) (first client : L) (failed : Bool) (past : Past) (paid had has : ℕ)
-    → IdleGoes T seen wrote first client failed past paid 0 → had ≤ has + paid → IdleGoes T seen wrote first client failed past had has
-idle_paid T seen wrote first client failed past paid had has g e =
+pub idle_paid : {L : Type 0} (T U : Past → Type 0) (seen : L → Seen) (wrote : L → List ℕ → Type 0) (first client : L) (failed : Bool) (past : Past) (paid had has : ℕ)
+    → (had ≤ has + paid → (p : Past) → T p → U p) → IdleGoes T seen wrote first client failed past paid 0 → had ≤ has + paid → IdleGoes U seen wrote first client failed past had has
+idle_paid T U seen wrote first client failed past paid had has w g e =
     let more : moved past + paid ≤ moved g.now + 0 = g.more in
-    record { now = g.now; idle = g.idle; connects = g.connects; more = omega arith }
+    record { now = g.now; idle = record { stand = w e g.now g.idle.stand; came = g.idle.came; put = g.idle.put; closed = g.idle.closed }; connects = g.connects; more = omega arith }
 
 pub idle_goes : {L : Type 0} (S T : Past → Type 0) (seen : L → Seen) (wrote : L → List ℕ → Type 0) (first client : L) (failed : Bool) (to : Place) (first_net net : NetSeen) (past : Past) (had has : ℕ)
     → ((p : Past) → S p → T p) → Dials to first_net net past.connects → IdleGoes S seen wrote first client failed past had has → Goes T seen wrote first client failed to first_net net past had has
@@ -89,3 +89,6 @@ shut_closed first old new how close e f h = ap (λ (s : Seen). s.closed) e ∙ a
 
 pub all_spent : (budget m left : ℕ) → 0 + budget ≤ m + left → left ≡ 0 → budget ≤ m
 all_spent budget m left e z = omega arith
+
+pub turns_spent : (budget turns left : ℕ) → budget ≤ turns + left → left ≡ 0 → budget ≤ turns
+turns_spent budget turns left e z = omega arith

@@ -3,7 +3,7 @@ use Rattle.std.specs.Prelude.{◌≡◌, ℕ, ◌+◌, ◌<◌, ◌≤◌, List,
 use Rattle.std.specs.List.{AllByRecursion}
 use Rattle.session_model.specs.Meaning.{Meaning}
 use Rattle.htx_drive.specs.Machine.{CoreSeen, TookFront}
-use Rattle.htx_drive.specs.Turned.{Makes, UpToAFault}
+use Rattle.htx_drive.specs.Turned.{Makes, UpToAFault, turns_up_to}
 use Rattle.htx_drive.specs.declared.act.Act.{Act}
 use Rattle.px_link.specs.declared.turns.Turn.{Turn}
 use Rattle.session_core.specs.History.{Past, Coming, Connect, Event, after}
@@ -94,16 +94,22 @@ pub record HandGoes {L : Type 0} (S : Past → Type 0) (seen : L → Seen) (wrot
 -- ---- results
 
 -- what is left of a core behind a fault: what was taken is a front, and a core that isn't lost stands for its history; up to the fault
--- turns led to it
-pub record Left {C : Type 0} (M : Meaning) (stands : C → Past → Type 0) (seen : C → CoreSeen) (turns left : List Turn) (core : C) (past : Past) : Type 0 where
+-- turns led to it, and what isn't left of this budget was for them
+pub record Left {C : Type 0} (M : Meaning) (stands : C → Past → Type 0) (seen : C → CoreSeen) (turns left : List Turn) (budget spare : ℕ) (core : C) (past : Past) : Type 0 where
   pub front : TookFront M past
   pub stand : (seen core).lost ≡ false → stands core past
   pub turned : UpToAFault stands seen turns left past
+  pub paid : budget ≤ turns_up_to turned + spare
 
 -- what a turn pays
 abbrev pub paid_by : Bool → ℕ
 paid_by true = 1
 paid_by false = 0
+
+-- so much, and what a turn pays
+abbrev pub paid_more : Bool → ℕ → ℕ
+paid_more true count = 1 + count
+paid_more false count = count
 
 abbrev pub failed_by : SessionFault → Bool
 failed_by faults.ClientWrite = true

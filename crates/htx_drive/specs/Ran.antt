@@ -12,6 +12,7 @@ use Rattle.htx_drive.specs.Came.{Came, Put}
 use Rattle.std.specs.List.{AllByRecursion}
 use Rattle.htx_drive.specs.Driven.{IsOver, moved, failed_by}
 use Rattle.htx_drive.specs.Dialled.{Dials}
+use Rattle.htx_drive.specs.Turned.{LedInAtLeast}
 use Rattle.htx_drive.specs.declared.Ran.{Ran}
 use Rattle.htx_drive.specs.declared.SessionFault.{SessionFault}
 use Rattle.htx_drive.specs.declared.SessionFault.TheVariants as faults
@@ -31,7 +32,7 @@ pub record RanSo {L : Type 0} (M : Meaning) (stands : Past → Type 0) (seen : L
 
 -- The session was given up. What was written is a front, a core that isn't lost stands for the past, and each link that was
 -- still open is closed Failed; a write to the client failed exactly where the fault says so; where it says that the budget is
--- spent, so much was moved.
+-- spent, so much was moved, by as many turns.
 pub record GaveUp {C L : Type 0} (M : Meaning) (stands : C → Past → Type 0) (core : C) (lost : Bool) (seen : L → Seen) (wrote : L → List ℕ → Type 0) (first client : L) (to : Place) (first_net net : NetSeen) (budget : ℕ) (fault : SessionFault) : Type 0 where
   pub past : Past
   pub front : TookFront M past
@@ -41,3 +42,4 @@ pub record GaveUp {C L : Type 0} (M : Meaning) (stands : C → Past → Type 0) 
   pub closed : (seen client).closed ≡ closed_by (seen first).closed Failed
   pub dials : Dials to first_net net past.connects
   pub spent : fault ≡ faults.Spent → budget ≤ moved past
+  pub spent_in_turns : fault ≡ faults.Spent → LedInAtLeast budget past

@@ -32,7 +32,7 @@ pub struct Ran {
 pub enum SessionFault {
     /// A write to the client failed, and its link has counted that.
     ClientWrite,
-    /// As many turns as the budget has each moved something, and the session isn't over.
+    /// The budget is spent: as many turns as it has each moved a byte, an ending or a stop, or opened a server.
     Spent,
     /// The machine has no memory left.
     OutOfMemory,

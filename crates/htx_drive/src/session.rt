@@ -1,13 +1,13 @@
 //! A whole session.
-ghost use Rattle.std.specs.Prelude.{◌≡◌, ◌<◌, ◌≤◌, ◌+◌, List, Some, None, true, false, length, OnOk, IfOk, IfErr, IsErrOf};
+ghost use Rattle.std.specs.Prelude.{◌≡◌, ◌<◌, ◌≤◌, ◌+◌, ℕ, List, Some, None, true, false, length, OnOk, IfOk, IfErr, IsErrOf};
 ghost use Rattle.http_model.specs.declared.End.{End};
 ghost use Rattle.session_model.specs.Session.{close_of};
 ghost use Rattle.session_core.specs.History.{Past, nothing_yet};
 ghost use Rattle.px_link.specs.Net.{address_of};
 ghost use Rattle.htx_drive.specs.Acts.{moves_bytes};
 ghost use Rattle.px_link.specs.declared.turns.Turn.{Turn};
-ghost use Rattle.htx_drive.specs.Driven.{Idle, IdleGoes, Rests, Left, Ends, paid_by};
-ghost use Rattle.htx_drive.specs.Turned.{InTurns, UpToAFault, StandsIn, WorkedIn, FailsIn};
+ghost use Rattle.htx_drive.specs.Driven.{Idle, IdleGoes, Rests, Left, Ends, paid_by, paid_more};
+ghost use Rattle.htx_drive.specs.Turned.{InTurns, UpToAFault, turns_up_to, StandsIn, WorkedIn, FailsIn};
 ghost use Rattle.htx_drive.specs.Dialled.{Goes, Dials};
 ghost use Rattle.htx_drive.specs.Ran.{RanSo, GaveUp};
 
@@ -35,8 +35,8 @@ fn client_turn<C: Machine, L: Link, T: Turns>(
     requires no_write { wants.now.server_write ≡ false }
     requires sound { C.sound core.old }
     ensures sound { OnOk result (C.sound core.new) }
-    ensures goes { (cfg : C.Settings) (all : List Turn) (first : L) (past : Past) → Idle (WorkedIn (C.stands cfg) C.seen all (T.left turns.old) core.old) L.seen L.wrote first client.old false past
-        → Ends result (λ moved. IdleGoes (StandsIn (C.stands cfg) C.seen all (T.left turns.new) core.new) L.seen L.wrote first client.new false past (paid_by moved) 0) (λ failed. IdleGoes (FailsIn (C.stands cfg) C.seen all (T.left turns.new) core.new) L.seen L.wrote first client.new failed past 0 0) }
+    ensures goes { (cfg : C.Settings) (all : List Turn) (budget spare : ℕ) (first : L) (past : Past) → Idle (WorkedIn (C.stands cfg) C.seen all (T.left turns.old) budget spare core.old) L.seen L.wrote first client.old false past
+        → Ends result (λ moved. IdleGoes (StandsIn (C.stands cfg) C.seen all (T.left turns.new) (paid_more moved budget) spare core.new) L.seen L.wrote first client.new false past (paid_by moved) 0) (λ failed. IdleGoes (FailsIn (C.stands cfg) C.seen all (T.left turns.new) budget spare core.new) L.seen L.wrote first client.new failed past 0 0) }
     ensures serving { (C.seen core.new).serving ≡ (C.seen core.old).serving }
     ensures fewer { length (T.left turns.new) ≤ length (T.left turns.old) }
     ensures less { IfOk result (λ moved. moved ≡ false → length (T.left turns.new) < length (T.left turns.old)) }
@@ -76,8 +76,8 @@ fn idle_turn<C: Machine, L: Link, T: Turns>(
     requires left { 0 < resources.old.left }
     requires sound { C.sound core.old }
     ensures sound { OnOk result (C.sound core.new) }
-    ensures goes { (cfg : C.Settings) (all : List Turn) (first : L) (past : Past) → Idle (WorkedIn (C.stands cfg) C.seen all (T.left turns.old) core.old) L.seen L.wrote first client.old false past
-        → Ends result (λ _. IdleGoes (StandsIn (C.stands cfg) C.seen all (T.left turns.new) core.new) L.seen L.wrote first client.new false past resources.old.left resources.new.left) (λ failed. IdleGoes (FailsIn (C.stands cfg) C.seen all (T.left turns.new) core.new) L.seen L.wrote first client.new failed past resources.old.left resources.new.left) }
+    ensures goes { (cfg : C.Settings) (all : List Turn) (budget : ℕ) (first : L) (past : Past) → Idle (WorkedIn (C.stands cfg) C.seen all (T.left turns.old) budget resources.old.left core.old) L.seen L.wrote first client.old false past
+        → Ends result (λ _. IdleGoes (StandsIn (C.stands cfg) C.seen all (T.left turns.new) budget resources.new.left core.new) L.seen L.wrote first client.new false past resources.old.left resources.new.left) (λ failed. IdleGoes (FailsIn (C.stands cfg) C.seen all (T.left turns.new) budget resources.new.left core.new) L.seen L.wrote first client.new failed past resources.old.left resources.new.left) }
     ensures serving { (C.seen core.new).serving ≡ (C.seen core.old).serving }
     ensures less { OnOk result (resources.new.left + length (T.left turns.new) < resources.old.left + length (T.left turns.old)) }
     ensures unspent { IsErrOf result SessionFault.Spent → ⊥ }
@@ -109,8 +109,8 @@ fn step<C: Machine, L: Link, N: Net<Link = L>, T: Turns>(
     requires left { 0 < resources.old.left }
     requires sound { C.sound core.old }
     ensures sound { OnOk result (C.sound core.new) }
-    ensures goes { (cfg : C.Settings) (all : List Turn) (first : L) (first_net : N) (past : Past) → Idle (Rests (WorkedIn (C.stands cfg) C.seen all (T.left turns.old) core.old)) L.seen L.wrote first client.old false past → Dials (address_of to.now) (N.seen first_net) (N.seen net.old) past.connects
-        → Ends result (λ _. Goes (Rests (StandsIn (C.stands cfg) C.seen all (T.left turns.new) core.new)) L.seen L.wrote first client.new false (address_of to.now) (N.seen first_net) (N.seen net.new) past resources.old.left resources.new.left) (λ failed. Goes (Left (C.meaning cfg) (C.stands cfg) C.seen all (T.left turns.new) core.new) L.seen L.wrote first client.new failed (address_of to.now) (N.seen first_net) (N.seen net.new) past resources.old.left resources.new.left) }
+    ensures goes { (cfg : C.Settings) (all : List Turn) (budget : ℕ) (first : L) (first_net : N) (past : Past) → Idle (Rests (WorkedIn (C.stands cfg) C.seen all (T.left turns.old) budget resources.old.left core.old)) L.seen L.wrote first client.old false past → Dials (address_of to.now) (N.seen first_net) (N.seen net.old) past.connects
+        → Ends result (λ _. Goes (Rests (StandsIn (C.stands cfg) C.seen all (T.left turns.new) budget resources.new.left core.new)) L.seen L.wrote first client.new false (address_of to.now) (N.seen first_net) (N.seen net.new) past resources.old.left resources.new.left) (λ failed. Goes (Left (C.meaning cfg) (C.stands cfg) C.seen all (T.left turns.new) budget resources.new.left core.new) L.seen L.wrote first client.new failed (address_of to.now) (N.seen first_net) (N.seen net.new) past resources.old.left resources.new.left) }
     ensures serving { OnOk result ((C.seen core.new).serving ≡ false) }
     ensures less { OnOk result (resources.new.left + length (T.left turns.new) < resources.old.left + length (T.left turns.old)) }
     ensures spent { IsErrOf result SessionFault.Spent → resources.new.left ≡ 0 }
@@ -134,8 +134,8 @@ fn exchanges<C: Machine, L: Link, N: Net<Link = L>, T: Turns>(
     requires serving { (C.seen core.old).serving ≡ false }
     requires sound { C.sound core.old }
     ensures sound { OnOk result (C.sound core.new) }
-    ensures goes { (cfg : C.Settings) (all : List Turn) (first : L) (first_net : N) (past : Past) → Idle (Rests (StandsIn (C.stands cfg) C.seen all (T.left turns.old) core.old)) L.seen L.wrote first client.old false past → Dials (address_of to.now) (N.seen first_net) (N.seen net.old) past.connects
-        → Ends result (λ _. Goes (Rests (WorkedIn (C.stands cfg) C.seen all (T.left turns.new) core.new)) L.seen L.wrote first client.new false (address_of to.now) (N.seen first_net) (N.seen net.new) past resources.old.left resources.new.left) (λ failed. Goes (Left (C.meaning cfg) (C.stands cfg) C.seen all (T.left turns.new) core.new) L.seen L.wrote first client.new failed (address_of to.now) (N.seen first_net) (N.seen net.new) past resources.old.left resources.new.left) }
+    ensures goes { (cfg : C.Settings) (all : List Turn) (budget : ℕ) (first : L) (first_net : N) (past : Past) → Idle (Rests (StandsIn (C.stands cfg) C.seen all (T.left turns.old) budget resources.old.left core.old)) L.seen L.wrote first client.old false past → Dials (address_of to.now) (N.seen first_net) (N.seen net.old) past.connects
+        → Ends result (λ _. Goes (Rests (WorkedIn (C.stands cfg) C.seen all (T.left turns.new) budget resources.new.left core.new)) L.seen L.wrote first client.new false (address_of to.now) (N.seen first_net) (N.seen net.new) past resources.old.left resources.new.left) (λ failed. Goes (Left (C.meaning cfg) (C.stands cfg) C.seen all (T.left turns.new) budget resources.new.left core.new) L.seen L.wrote first client.new failed (address_of to.now) (N.seen first_net) (N.seen net.new) past resources.old.left resources.new.left) }
     ensures over { IfOk result (λ how. (C.seen core.new).wants.over ≡ Some how) }
     ensures spent { IsErrOf result SessionFault.Spent → resources.new.left ≡ 0 }
 {
@@ -191,7 +191,7 @@ pub fn run_session<C: Machine, L: Link, N: Net<Link = L>, T: Turns>(
     ensures in_turns { (cfg : C.Settings) → C.stands cfg core.old nothing_yet → IfOk result (λ ran. (so : RanSo (C.meaning cfg) (C.stands cfg core.new) L.seen L.wrote client.old client.new (address_of to.now) (N.seen net.old) (N.seen net.new) ran)
         × InTurns (C.stands cfg) C.seen (T.left turns.old) true (T.left turns.new) so.past) }
     ensures up_to_a_fault { (cfg : C.Settings) → C.stands cfg core.old nothing_yet → IfErr result (λ fault. (so : GaveUp (C.meaning cfg) (C.stands cfg) core.new (C.seen core.new).lost L.seen L.wrote client.old client.new (address_of to.now) (N.seen net.old) (N.seen net.new) budget fault)
-        × UpToAFault (C.stands cfg) C.seen (T.left turns.old) (T.left turns.new) so.past) }
+        × (turned : UpToAFault (C.stands cfg) C.seen (T.left turns.old) (T.left turns.new) so.past) × (fault ≡ SessionFault.Spent → budget ≤ turns_up_to turned)) }
 {
     let mut resources = Resources {
         left: budget,

@@ -28,5 +28,5 @@ serves meaning stands core_seen seen wrote cfg to first client first_net net law
     λ own ending answers kept a b c d. law h.0 ran own ending answers kept a b c d h.1
 serves meaning stands core_seen seen wrote cfg to first client first_net net law (Err fault) (inl h) =
     let g = h.1 in
-    inl (record { past = g.past; front = g.front; came = g.came; put = g.put; closed = g.closed; dials = g.dials; spent = g.spent })
+    inl (record { past = g.past; front = g.front; came = g.came; put = g.put; closed = g.closed; dials = g.dials; spent = g.spent; spent_in_turns = g.spent_in_turns })
 serves meaning stands core_seen seen wrote cfg to first client first_net net law (Err fault) (inr h) = inr h

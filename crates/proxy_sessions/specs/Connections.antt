@@ -10,6 +10,7 @@ use Rattle.htx_drive.specs.Machine.{TookFront}
 use Rattle.htx_drive.specs.Came.{Came, Put}
 use Rattle.htx_drive.specs.Driven.{moved, failed_by}
 use Rattle.htx_drive.specs.Dialled.{Dials}
+use Rattle.htx_drive.specs.Turned.{LedInAtLeast}
 use Rattle.htx_drive.specs.Headline.{IsSessionOf}
 use Rattle.htx_drive.specs.declared.Ran.{Ran}
 use Rattle.htx_drive.specs.declared.SessionFault.{SessionFault}
@@ -17,7 +18,7 @@ use Rattle.htx_drive.specs.declared.SessionFault.TheVariants as faults
 use Rattle.serve_run.specs.Drove.{budget, NotBegun}
 
 -- The session was given up: each link was written a front of what a session writes, and the client's is closed Failed. A write to the client
--- failed exactly where the fault says so; where it says that the budget is spent, so much was moved.
+-- failed exactly where the fault says so; where it says that the budget is spent, so much was moved, by as many turns.
 pub record LeftOff {L : Type 0} (M : Meaning) (seen : L → Seen) (wrote : L → List ℕ → Type 0) (first client : L) (to : Place) (first_net net : NetSeen) (fault : SessionFault) : Type 0 where
   pub past : Past
   pub front : TookFront M past
@@ -26,6 +27,7 @@ pub record LeftOff {L : Type 0} (M : Meaning) (seen : L → Seen) (wrote : L →
   pub closed : (seen client).closed ≡ closed_by (seen first).closed Failed
   pub dials : Dials to first_net net past.connects
   pub spent : fault ≡ faults.Spent → budget ≤ moved past
+  pub spent_in_turns : fault ≡ faults.Spent → LedInAtLeast budget past
 
 -- where a link and a net tell what comes and what goes, the session that ran over them is that of the client's stream and of the servers that its
 -- connects found

@@ -1,5 +1,6 @@
 -- What the driver's clauses say of a session's net and of its client's link.
-use Rattle.std.proofs.Common.{ℕ, inl, inr, List, [], Some, Result, Ok, Err, sym, ap, subst, ◌∙◌, refl}
+use Rattle.std.proofs.Common.{◌≡◌, ◌≤◌, ℕ, inl, inr, List, [], Some, Result, Ok, Err, sym, ap, subst, ◌∙◌, refl}
+use Rattle.std.specs.Prelude.{IfOk, IfErr}
 use Rattle.std.proofs.lemmas.List.{append-nil}
 use Rattle.std.specs.List.{flat_map}
 use Rattle.session_model.specs.Meaning.{Meaning}
@@ -8,10 +9,13 @@ use Rattle.px_link.specs.Link.{Seen}
 use Rattle.px_link.specs.Net.{Place, NetSeen}
 use Rattle.htx_drive.specs.Machine.{CoreSeen}
 use Rattle.htx_drive.specs.Dialled.{Dials}
+use Rattle.htx_drive.specs.Ran.{RanSo, GaveUp}
+use Rattle.htx_drive.specs.Turned.{UpToAFault, turns_up_to}
 use Rattle.htx_drive.specs.declared.Ran.{Ran}
 use Rattle.htx_drive.specs.declared.SessionFault.{SessionFault}
+use Rattle.htx_drive.specs.declared.SessionFault.TheVariants as faults
 use Rattle.serve_run.specs.Visits.{Visits, Puts}
-use Rattle.serve_run.specs.Drove.{Drove}
+use Rattle.serve_run.specs.Drove.{Drove, budget}
 
 dials_visits : (to : Place) (first now : NetSeen) (connects : List Connect) → Dials to first now connects → Visits to first now
 dials_visits to first now connects d =
@@ -52,3 +56,13 @@ drove_puts meaning stands core_seen seen wrote cfg to first client first_net net
 drove_puts meaning stands core_seen seen wrote cfg to first client first_net net (Err fault) (inl h) = let so = h.1 in (so.past.taken, so.put.wrote)
 drove_puts meaning stands core_seen seen wrote cfg to first client first_net net (Err fault) (inr h) =
     ([], λ bytes w. subst (wrote client) (sym (append-nil bytes)) (h.same bytes w))
+
+-- the driver's clauses, as one
+pub drove_by : {Settings C L : Type 0} (meaning : Settings → Meaning) (stands : Settings → C → Past → Type 0) (core_seen : C → CoreSeen) (seen : L → Seen) (wrote : L → List ℕ → Type 0)
+    (cfg : Settings) (to : Place) (core : C) (first client : L) (first_net net : NetSeen) (result : Result Ran SessionFault)
+    → IfOk result (λ ran. RanSo (meaning cfg) (stands cfg core) seen wrote first client to first_net net ran)
+    → IfErr result (λ fault. (so : GaveUp (meaning cfg) (stands cfg) core (core_seen core).lost seen wrote first client to first_net net budget fault)
+    × (turned : UpToAFault (stands cfg) core_seen [] [] so.past) × (fault ≡ faults.Spent → budget ≤ turns_up_to turned))
+    → Drove meaning stands core_seen seen wrote cfg to first client first_net net result
+drove_by meaning stands core_seen seen wrote cfg to core first client first_net net (Ok ran) ran_so gave_up = (core, ran_so)
+drove_by meaning stands core_seen seen wrote cfg to core first client first_net net (Err fault) ran_so gave_up = inl (core, gave_up.0, gave_up.1, gave_up.2)

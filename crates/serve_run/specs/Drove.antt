@@ -1,5 +1,5 @@
 -- What a session that the driver ran did.
-use Rattle.std.specs.Prelude.{◌≡◌, ℕ, ◌^◌, ◌⊎◌, List, Result, Ok, Err}
+use Rattle.std.specs.Prelude.{◌≡◌, ℕ, ◌^◌, ◌≤◌, ◌⊎◌, List, [], Result, Ok, Err}
 use Rattle.http_model.specs.declared.Close.TheVariants.{Failed}
 use Rattle.session_model.specs.Meaning.{Meaning}
 use Rattle.session_core.specs.History.{Past}
@@ -7,6 +7,7 @@ use Rattle.px_link.specs.Link.{Seen, with_close}
 use Rattle.px_link.specs.Net.{Place, NetSeen}
 use Rattle.htx_drive.specs.Machine.{CoreSeen}
 use Rattle.htx_drive.specs.Ran.{RanSo, GaveUp}
+use Rattle.htx_drive.specs.Turned.{UpToAFault, turns_up_to}
 use Rattle.htx_drive.specs.declared.Ran.{Ran}
 use Rattle.htx_drive.specs.declared.SessionFault.{SessionFault}
 use Rattle.htx_drive.specs.declared.SessionFault.TheVariants as faults
@@ -22,10 +23,12 @@ pub record NotBegun {L : Type 0} (seen : L → Seen) (wrote : L → List ℕ →
   pub same : (bytes : List ℕ) → wrote first bytes → wrote client bytes
   pub untouched : net ≡ first_net
 
--- A core ran to its end, or the session was given up, by the driver's clauses.
+-- A core ran to its end, or the session was given up, by the driver's clauses. Where it was given up turns led to what was taken, with no list of them, and
+-- where the budget is spent as many as it has moved something, openings among them.
 abbrev pub Drove : {Settings C L : Type 0} (meaning : Settings → Meaning) (stands : Settings → C → Past → Type 0) (core_seen : C → CoreSeen) (seen : L → Seen) (wrote : L → List ℕ → Type 0)
     (cfg : Settings) (to : Place) (first client : L) (first_net net : NetSeen) → Result Ran SessionFault → Type 0
 Drove {Settings} {C} {L} meaning stands core_seen seen wrote cfg to first client first_net net (Ok ran) = (core : C) × RanSo (meaning cfg) (stands cfg core) seen wrote first client to first_net net ran
 Drove {Settings} {C} {L} meaning stands core_seen seen wrote cfg to first client first_net net (Err fault) =
-    ((core : C) × GaveUp (meaning cfg) (stands cfg) core (core_seen core).lost seen wrote first client to first_net net budget fault)
+    ((core : C) × (so : GaveUp (meaning cfg) (stands cfg) core (core_seen core).lost seen wrote first client to first_net net budget fault)
+    × (turned : UpToAFault (stands cfg) core_seen [] [] so.past) × (fault ≡ faults.Spent → budget ≤ turns_up_to turned))
     ⊎ NotBegun seen wrote first client first_net net fault

@@ -1,17 +1,18 @@
 use Rattle.std.proofs.Common.{◌≡◌, ◌++◌, ◌∷◌, [], Some, false, true, refl, ap, arith, sym}
-use Rattle.session_core.specs.History.{connected, closing_by, close_by, ServerOpened, ServerClosed}
+use Rattle.session_core.specs.History.{connected, closing_by, close_by, ServerClosed}
 use Rattle.htx_drive.specs.Dialled.{closed_how}
 use Rattle.htx_drive.specs.Turned.{StandsIn, takes_none}
 use Rattle.http_model.specs.declared.Close.TheVariants.{Failed}
 use Rattle.htx_drive.proofs.Last.{stand_last}
 use Rattle.htx_drive.proofs.Resting.{over_more}
+use Rattle.htx_drive.proofs.Turning.{opens_in}
 use Rattle.htx_drive.proofs.Dialling.{linked_fresh, returned, moved_opened, moved_closed}
 use Rattle.htx_drive.proofs.exchange.with_link.Goals as goal
 
 pub returns-in-Ok-clause-goes : goal.returns-in-Ok-clause-goes
-returns-in-Ok-clause-goes g c = λ cfg all first past h.
-    let done = c.in-Ok.ensures.goes cfg all first c.args.lent past.connects (record past { connects = past.connects ++ connected true ∷ [] }) (connected true) (record {
-      idle = record { stand = record { stand = c.server_opened.ensures.leads cfg past h.stand.stand.stand; worked = false; turned = takes_none true _ past (ServerOpened true) refl h.stand.stand.turned }; came = h.came; put = h.put; closed = h.closed };
+returns-in-Ok-clause-goes g c = λ cfg all budget first past h.
+    let done = c.in-Ok.ensures.goes cfg all budget first c.args.lent past.connects (record past { connects = past.connects ++ connected true ∷ [] }) (connected true) (record {
+      idle = record { stand = opens_in (g.C.Machine.stands cfg) g.C.Machine.seen all _ budget _ _ _ c.server_opened.new.self past true (c.server_opened.ensures.leads cfg past h.stand.stand.stand) (omega arith) h.stand.stand; came = h.came; put = h.put; closed = h.closed };
       connects = refl;
       linked = linked_fresh g.L.Link.seen g.L.Link.wrote c.args.lent;
     }) in
@@ -25,8 +26,8 @@ returns-in-Ok-clause-goes g c = λ cfg all first past h.
       c = closing_by done.now.note done.c;
       idle = record {
         stand = record {
-          stand = stand_last (StandsIn (g.C.Machine.stands cfg) g.C.Machine.seen all (g.T.Turns.left c.serve.new.turns) c.server_closed.new.self) done.now past.connects done.c (closing_by done.now.note) hand.connects
-              (record { stand = c.server_closed.ensures.leads cfg done.now hand.idle.stand.stand; worked = false; turned = takes_none true _ done.now ServerClosed refl hand.idle.stand.turned });
+          stand = stand_last (StandsIn (g.C.Machine.stands cfg) g.C.Machine.seen all (g.T.Turns.left c.serve.new.turns) budget c.serve.new.resources.left c.server_closed.new.self) done.now past.connects done.c (closing_by done.now.note) hand.connects
+              (record { stand = c.server_closed.ensures.leads cfg done.now hand.idle.stand.stand; worked = false; turned = takes_none true _ done.now ServerClosed refl hand.idle.stand.turned; paid = hand.idle.stand.paid });
           over = over_more past.connects (closing_by done.now.note done.c) h.stand.over (λ there. refl);
         };
         came = hand.idle.came;
@@ -40,9 +41,9 @@ returns-in-Ok-clause-goes g c = λ cfg all first past h.
     }
 
 pub returns-in-Err-clause-goes : goal.returns-in-Err-clause-goes
-returns-in-Err-clause-goes g c = λ cfg all first past h.
-    let done = c.in-Err.ensures.goes cfg all first c.args.lent past.connects (record past { connects = past.connects ++ connected true ∷ [] }) (connected true) (record {
-      idle = record { stand = record { stand = c.server_opened.ensures.leads cfg past h.stand.stand.stand; worked = false; turned = takes_none true _ past (ServerOpened true) refl h.stand.stand.turned }; came = h.came; put = h.put; closed = h.closed };
+returns-in-Err-clause-goes g c = λ cfg all budget first past h.
+    let done = c.in-Err.ensures.goes cfg all budget first c.args.lent past.connects (record past { connects = past.connects ++ connected true ∷ [] }) (connected true) (record {
+      idle = record { stand = opens_in (g.C.Machine.stands cfg) g.C.Machine.seen all _ budget _ _ _ c.server_opened.new.self past true (c.server_opened.ensures.leads cfg past h.stand.stand.stand) (omega arith) h.stand.stand; came = h.came; put = h.put; closed = h.closed };
       connects = refl;
       linked = linked_fresh g.L.Link.seen g.L.Link.wrote c.args.lent;
     }) in
