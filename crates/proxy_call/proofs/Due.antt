@@ -140,7 +140,7 @@ good_due words files fs text told (inl (name, is, (cfg, ok, line))) = inl (name,
 good_due words files fs text told (inr (inl (rec, is, (r, ok, wrote)))) = inr (inl (rec, is, r, of_told files fs _ told ok))
 good_due words files fs text told (inr (inr (inl (name, rec, is, (cfg, r, say, wrote))))) = inr (inr (inl (name, rec, is, cfg, r, of_told files fs _ told say)))
 good_due words files fs text told (inr (inr (inr (inl (seed, exchanges, is, wrote))))) = inr (inr (inr (inl (seed, exchanges, is))))
-good_due words files fs text told (inr (inr (inr (inr texts)))) = inr (inr (inr (inr texts)))
+good_due words files fs text told (inr (inr (inr (inr texts)))) = inr (inr (inr (inr texts.0)))
 
 unbuilt : (fs : List NamedBytes) (builder : Builder) (name : List ℕ) (line : ℕ) (kind : CfgKind) → (Rose builder.before builder.now → ⊥) → IsRefused (Some fs) builder name line kind → Configured fs name (Err (line, kind))
 unbuilt fs builder name line kind never (None, (text, content, (refuses, builds))) = (text, content, refuses)

@@ -82,8 +82,8 @@ still F now later new last quiet same f = subst (λ (w : ℕ). F w last) (sym qu
 
 pub ended_ok : (input : Input) (output : Output) (quiet : Type 0) (Serves : Config → ℕ → Result (Unit {0}) ServeFault → Type 0)
     → Ran input output quiet Serves (Ok tt) → Ended input output quiet Serves ended.Good
-ended_ok input output quiet Serves (inl ((text, good, gains), q)) = inl (record { text = text; answer = good; gains = gains; cause = λ is. absurd cc }, q)
-ended_ok input output quiet Serves (inr (name, count, is, cfg, told, (answer, serves, result))) = inr (name, count, is, cfg, told, (answer, serves, served_ok answer result))
+ended_ok input output quiet Serves (inl ((text, good, gains, built), q)) = inl (record { text = text; answer = good; gains = gains; cause = λ is. absurd cc; built = λ is. built }, q)
+ended_ok input output quiet Serves (inr (built, (name, count, is, cfg, told, (answer, serves, result)))) = inr (built, (name, count, is, cfg, told, (answer, serves, served_ok answer result)))
 
 pub ended_err : (input : Input) (writes now later : ℕ) (old new last : Option (List ℕ)) (quiet : Type 0) (F : ℕ → Option (List ℕ) → Config → ℕ → Result (Unit {0}) ServeFault → Type 0) (s : Stop) (status : Status)
     → Ran input (put writes now old new) quiet (F now new) (Err s)
@@ -91,7 +91,7 @@ pub ended_err : (input : Input) (writes now later : ℕ) (old new last : Option 
     → Ended input (put writes later old last) quiet (F later last) status
 ended_err input writes now later old new last quiet F s status (inl (wrote, q)) told silent =
     inl (stopped input writes now later old new last s status wrote told silent, q)
-ended_err input writes now later old new last quiet F s status (inr (name, count, is, cfg, accepted, (answer, serves, result))) told silent =
+ended_err input writes now later old new last quiet F s status (inr (built, (name, count, is, cfg, accepted, (answer, serves, result)))) told silent =
     let f = served_err answer s result in
     let end = silent (subst IsSilent (sym f.2) (silent_serving f.0)) in
-    inr (name, count, is, cfg, accepted, (answer, still (λ w o. F w o cfg count answer) now later new last end.1 end.2 serves, after answer s status f.0 f.1 f.2 end.0))
+    inr (built, (name, count, is, cfg, accepted, (answer, still (λ w o. F w o cfg count answer) now later new last end.1 end.2 serves, after answer s status f.0 f.1 f.2 end.0)))

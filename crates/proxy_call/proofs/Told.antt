@@ -84,18 +84,27 @@ refused (Some fs) builder name bytes line kind r loads =
       ),
     )
 
--- where no build was refused, a configuration is that of all patterns built
-accepts : (read : Placed Config) (cfg : Config) (kept : Kept) (q : Option (ℕ × Pattern)) → refused_at read q ≡ Ok cfg → IsSomeAnd q (λ (line, p). kept ≡ Some (p.text, p.icase)) → read.gives ≡ Ok cfg
-accepts read cfg kept None is told = absurd told
-accepts read cfg kept (Some (number, p)) is told = absurd cc
+-- where the build of a pattern was refused, there is no configuration
+never_refused : (read : Placed Config) (cfg : Config) (kept : Kept) (q : Option (ℕ × Pattern)) → refused_at read q ≡ Ok cfg → IsSomeAnd q (λ (line, p). kept ≡ Some (p.text, p.icase)) → ⊥
+never_refused read cfg kept None is told = told
+never_refused read cfg kept (Some (number, p)) is told = absurd cc
 
 accepts_by : (text : List ℕ) (before now : ℕ) (kept : Kept) (cfg : Config) (r : Option ℕ) → config_of text r ≡ Ok cfg → Builds text r before now kept → config_of text None ≡ Ok cfg
 unfolding config_of pattern_at
 accepts_by text before now kept cfg None is builds = is
-accepts_by text before now kept cfg (Some number) is builds = accepts (read_whole text) cfg kept (slice_get (read_whole text).asks number) is builds.1
+accepts_by text before now kept cfg (Some number) is builds = absurd (never_refused (read_whole text) cfg kept (slice_get (read_whole text).asks number) is builds.1)
 
+built_by : (text : List ℕ) (before now : ℕ) (kept : Kept) (cfg : Config) (r : Option ℕ) → config_of text r ≡ Ok cfg → Builds text r before now kept → now ≡ before
+unfolding config_of pattern_at
+built_by text before now kept cfg None is builds = builds
+built_by text before now kept cfg (Some number) is builds = absurd (never_refused (read_whole text) cfg kept (slice_get (read_whole text).asks number) is builds.1)
+
+-- so a configuration is that of all patterns built, and the builder refused none
 pub accepted_text : (text : List ℕ) (before now : ℕ) (kept : Kept) (cfg : Config) → Loads text before now kept (Ok cfg) → config_of text None ≡ Ok cfg
 accepted_text text before now kept cfg loads = accepts_by text before now kept cfg loads.r loads.configures loads.builds
+
+pub built_text : (text : List ℕ) (before now : ℕ) (kept : Kept) (cfg : Config) → Loads text before now kept (Ok cfg) → now ≡ before
+built_text text before now kept cfg loads = built_by text before now kept cfg loads.r loads.configures loads.builds
 
 -- ---- the record
 

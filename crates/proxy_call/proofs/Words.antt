@@ -100,8 +100,8 @@ good_key words text files (inl (cfg, is, made)) = ap is_serve (check_key words c
 good_key words text files (inr (inl (rec, is, made))) = ap is_serve (record_key words rec is)
 good_key words text files (inr (inr (inl (cfg, rec, is, made)))) = ap is_serve (replay_key words cfg rec is)
 good_key words text files (inr (inr (inr (inl (seed, exchanges, is, made))))) = ap is_serve (drill_key words seed exchanges is)
-good_key words text files (inr (inr (inr (inr (inl help))))) = ap is_serve (help_key words help)
-good_key words text files (inr (inr (inr (inr (inr version))))) = ap is_serve (version_key words version)
+good_key words text files (inr (inr (inr (inr (inl help, ends))))) = ap is_serve (help_key words help)
+good_key words text files (inr (inr (inr (inr (inr version, ends))))) = ap is_serve (version_key words version)
 
 pub good_or_serve : (words : List (List ℕ)) (text : List ℕ) (files : Option (List NamedBytes)) → IsGood words files text → NamesServe words → ⊥
 good_or_serve words text files good (cfg, count, is) = no_bool (is_serve (key words)) (ap is_serve (serve_key words cfg count is)) (good_key words text files good)

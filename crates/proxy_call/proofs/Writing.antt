@@ -6,9 +6,9 @@ use Rattle.px_link.specs.declared.fault.Fault.{Fault}
 use Rattle.px_link.specs.declared.fault.Fault.TheVariants as faults
 use Rattle.http_rules.specs.declared.config.Config.{Config}
 use Rattle.serve_run.specs.declared.outcome.ServeFault.{ServeFault}
-use Rattle.proxy_call.specs.Answers.{IsAnswer, IsGood}
+use Rattle.proxy_call.specs.Answers.{IsAnswer, IsGood, IsRefusal}
 use Rattle.proxy_call.specs.Ends.{Answered, Output, Ran, Says, Writes, put}
-use Rattle.proxy_call.specs.Stops.{Input, Replies, StopsBy, stop_of_output}
+use Rattle.proxy_call.specs.Stops.{Answers, Input, Replies, StopsBy, stop_of_output}
 use Rattle.proxy_call.specs.declared.reply.Reply.{Reply}
 use Rattle.proxy_call.specs.declared.status.Status.{Status}
 use Rattle.proxy_call.specs.declared.status.Status.TheVariants as ended
@@ -32,7 +32,11 @@ ran_err input output quiet Serves (Err y) s is p = subst (λ (t : Stop). Ran inp
 
 -- ---- a text
 
--- the text that the words ask for couldn't be written
+-- the text that the words ask for was written
+pub write_ok : (input : Input) (output : Output) (text piece : List ℕ) → piece ≡ text → Answers input (Ok text) → Gains output.old output.new piece → Writes input output (Ok tt)
+write_ok input output text piece same made gains = (text, made.0, subst (λ (t : List ℕ). Gains output.old output.new t) same gains, made.1)
+
+-- it couldn't be
 pub write_stops : (input : Input) (writes now : ℕ) (old new : Option (List ℕ)) (text piece : List ℕ) (fault : Fault) → piece ≡ text → IsGood input.words input.files text
     → GainsFront old new piece → Counts {T = Unit {0}} writes now (Err fault) → Writes input (put writes now old new) (Err (stop_of_output fault))
 write_stops input writes now old new text piece faults.Failed same good front count =
@@ -43,7 +47,13 @@ write_stops input writes now old new text piece faults.OutOfMemory same good fro
 -- the text of a stop was written
 pub say_ok : (input : Input) (output : Output) (reply : Reply) (piece : List ℕ) → piece ≡ reply.text → Replies input (Ok reply) → Gains output.old output.new piece → Answered input output reply.status
 say_ok input output reply piece same replies gains =
-    record { text = reply.text; answer = replies.0; gains = subst (λ (t : List ℕ). Gains output.old output.new t) same gains; cause = replies.1 }
+    record {
+      text = reply.text;
+      answer = replies.0;
+      gains = subst (λ (t : List ℕ). Gains output.old output.new t) same gains;
+      cause = replies.1;
+      built = λ good. absurd (subst IsRefusal good replies.2);
+    }
 
 -- it couldn't be
 pub say_stops : (input : Input) (writes now : ℕ) (old new : Option (List ℕ)) (reply : Reply) (piece : List ℕ) (fault : Fault) → piece ≡ reply.text → Replies input (Ok reply)

@@ -1,5 +1,5 @@
 -- What a command is answered: which text is written with which status, by the words and the files.
-use Rattle.std.specs.Prelude.{◌≡◌, ℕ, ◌+◌, List, ◌⊎◌, length, Option, None, Ok, Err}
+use Rattle.std.specs.Prelude.{◌≡◌, ℕ, ◌+◌, List, ◌⊎◌, ⊤, length, Option, None, Ok, Err}
 use Rattle.px_link.specs.Told.{NamedBytes, GainsFront}
 use Rattle.http_rules.specs.declared.config.Config.{Config}
 use Rattle.cfg_parse.specs.Whole.{config_of}
@@ -7,6 +7,7 @@ use Rattle.cfg_parse.specs.declared.fault.CfgKind.{CfgKind}
 use Rattle.drill_session.specs.Drill.{configuration}
 use Rattle.proxy_meaning.specs.Product.{meaning_of}
 use Rattle.px_command.specs.Command.{IsCheck, IsCheckRecord, IsReplay, IsServe, IsDrill, IsHelp, IsVersion, IsUsage, NamesConfig}
+use Rattle.px_command.specs.Texts.{EndsLine}
 use Rattle.rec_format.specs.declared.record.RecKind.{RecKind}
 use Rattle.rec_format.specs.Recorded.{Recorded}
 use Rattle.rec_format.specs.Written.{written}
@@ -67,25 +68,36 @@ abbrev pub NamesServe : List (List ℕ) → Type 0
 NamesServe words = (cfg_name : List ℕ) × (connections : ℕ) × IsServe words cfg_name connections
 
 -- The text is what the words ask for: the line of `check`, the record of `check --record`, the report of `replay`, the lines of
--- `drill`, or a text of help, which tests show. What `serve` writes is said with what it does.
+-- `drill`, or lines of help or of the version, which tests show. What `serve` writes is said with what it does.
 abbrev pub IsGood : List (List ℕ) → Option (List NamedBytes) → (text : List ℕ) → Type 0
 IsGood words files text =
     ((cfg_name : List ℕ) × IsCheck words cfg_name × IsCheckOf files cfg_name text)
     ⊎ (((rec_name : List ℕ) × IsCheckRecord words rec_name × IsRewritten files rec_name text)
     ⊎ (((cfg_name : List ℕ) × (rec_name : List ℕ) × IsReplay words cfg_name rec_name × IsReportOf files cfg_name rec_name text)
     ⊎ (((seed : ℕ) × (exchanges : ℕ) × IsDrill words seed exchanges × IsDrilled seed exchanges text)
-    ⊎ (IsHelp words ⊎ IsVersion words))))
+    ⊎ ((IsHelp words ⊎ IsVersion words) × EndsLine text))))
 
--- The text is what is written with this status, where the last failed read was of this name. A usage text is shown by tests.
+-- The text is what is written with this status, where the last failed read was of this name. The lines of a usage text are shown by tests.
 abbrev pub IsAnswer : List (List ℕ) → Option (List NamedBytes) → Builder → (last : List ℕ) → Status → (text : List ℕ) → Type 0
 IsAnswer words files builder last Good text = IsGood words files text
-IsAnswer words files builder last Usage text = IsUsage words
+IsAnswer words files builder last Usage text = IsUsage words × EndsLine text
 IsAnswer words files builder last ended.Config text = (cfg_name : List ℕ) × NamesConfig words cfg_name × IsRefusedOf files builder cfg_name text
 IsAnswer words files builder last ended.Record text = (rec_name : List ℕ) × DecidesRecord words files rec_name × IsRecordRefusedOf files rec_name text
 IsAnswer words files builder last FileFault text = DecidesBy words files last × (text ≡ file_line last)
 IsAnswer words files builder last OutFault text = ⊥
 IsAnswer words files builder last NetFault text = ⊥
 IsAnswer words files builder last OutOfMemory text = ⊥
+
+-- the words, a configuration, a record or a file was refused
+abbrev pub IsRefusal : Status → Type 0
+IsRefusal Good = ⊥
+IsRefusal Usage = ⊤
+IsRefusal ended.Config = ⊤
+IsRefusal ended.Record = ⊤
+IsRefusal FileFault = ⊤
+IsRefusal OutFault = ⊥
+IsRefusal NetFault = ⊥
+IsRefusal OutOfMemory = ⊥
 
 -- a front of what some status writes was written
 abbrev pub WritesFront : List (List ℕ) → Option (List NamedBytes) → Builder → (last : List ℕ) → (old new : Option (List ℕ)) → Type 0

@@ -4,6 +4,7 @@ use Rattle.px_link.specs.Told.{Gains, Rose}
 use Rattle.http_rules.specs.declared.config.Config.{Config}
 use Rattle.serve_run.specs.declared.outcome.ServeFault.{ServeFault}
 use Rattle.proxy_call.specs.Answers.{IsAnswer, IsGood, WritesFront}
+use Rattle.proxy_call.specs.Files.{IsBuilt}
 use Rattle.proxy_call.specs.Serving.{Serving}
 use Rattle.proxy_call.specs.Stops.{Input, StopsBy, status_of, stop_of_serving}
 use Rattle.proxy_call.specs.declared.status.Status.{Status}
@@ -30,9 +31,10 @@ pub record IsUntouched (output : Output) : Type 0 where
 abbrev pub PutsFront : Input → Output → Type 0
 PutsFront input output = WritesFront input.words input.files input.builder input.last output.old output.new
 
--- the text that the words ask for was written; or the command stopped before anything was, or while it was written
+-- the text that the words ask for was written, and no pattern was refused; or the command stopped before anything was, or while it was
+-- written
 abbrev pub Writes : Input → Output → Result (Unit {0}) Stop → Type 0
-Writes input output (Ok done) = (text : List ℕ) × IsGood input.words input.files text × Gains output.old output.new text
+Writes input output (Ok done) = (text : List ℕ) × IsGood input.words input.files text × Gains output.old output.new text × IsBuilt input.builder
 Writes input output (Err (stops.Usage text)) = StopsBy input (stops.Usage text) × IsUntouched output
 Writes input output (Err (stops.Refused line kind)) = StopsBy input (stops.Refused line kind) × IsUntouched output
 Writes input output (Err (stops.Record place kind)) = StopsBy input (stops.Record place kind) × IsUntouched output
@@ -46,18 +48,20 @@ abbrev pub served_as : Result (Unit {0}) ServeFault → Result (Unit {0}) Stop
 served_as (Ok done) = Ok done
 served_as (Err fault) = Err (stop_of_serving fault)
 
--- What a command came to: it left the net as it was; or it is `serve`, and did what serving by its configuration does, with this answer.
+-- What a command came to: it left the net as it was; or it is `serve`, no pattern was refused, and it did what serving by its configuration
+-- does, with this answer.
 abbrev pub Ran : Input → Output → (quiet : Type 0) → (Serves : Config → ℕ → Result (Unit {0}) ServeFault → Type 0) → Result (Unit {0}) Stop → Type 0
 Ran input output quiet Serves result =
     (Writes input output result × quiet)
-    ⊎ Serving input.words input.files (λ cfg count. (answer : Result (Unit {0}) ServeFault) × Serves cfg count answer × (result ≡ served_as answer))
+    ⊎ (IsBuilt input.builder × Serving input.words input.files (λ cfg count. (answer : Result (Unit {0}) ServeFault) × Serves cfg count answer × (result ≡ served_as answer)))
 
--- an answer was written whole, with its cause in the count where it tells a fault
+-- an answer was written whole, with its cause in the count where it tells a fault, and with no pattern refused where it is good
 pub record Answered (input : Input) (output : Output) (status : Status) : Type 0 where
   pub text : List ℕ
   pub answer : IsAnswer input.words input.files input.builder input.last status text
   pub gains : Gains output.old output.new text
   pub cause : status ≡ ended.FileFault → Rose input.reads input.reads_now
+  pub built : status ≡ ended.Good → IsBuilt input.builder
 
 -- what was written with this status, by every command but `serve`
 abbrev pub Tells : Input → Output → Status → Type 0
@@ -86,8 +90,8 @@ abbrev pub status_after : Result (Unit {0}) ServeFault → Status
 status_after (Ok done) = ended.Good
 status_after (Err fault) = status_of (stop_of_serving fault)
 
--- how the call ended: it left the net as it was; or it is `serve`, and did what serving by its configuration does
+-- how the call ended: it left the net as it was; or it is `serve`, no pattern was refused, and it did what serving by its configuration does
 abbrev pub Ended : Input → Output → (quiet : Type 0) → (Serves : Config → ℕ → Result (Unit {0}) ServeFault → Type 0) → Status → Type 0
 Ended input output quiet Serves status =
     (Tells input output status × quiet)
-    ⊎ Serving input.words input.files (λ cfg count. (answer : Result (Unit {0}) ServeFault) × Serves cfg count answer × (status ≡ status_after answer))
+    ⊎ (IsBuilt input.builder × Serving input.words input.files (λ cfg count. (answer : Result (Unit {0}) ServeFault) × Serves cfg count answer × (status ≡ status_after answer)))

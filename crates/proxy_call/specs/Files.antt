@@ -25,6 +25,10 @@ pub record Builder : Type 0 where
 abbrev pub told_by : (before now : ℕ) → Kept → Builder
 told_by before now kept = record { before = before; now = now; kept = kept }
 
+-- it refused none in this call
+abbrev pub IsBuilt : Builder → Type 0
+IsBuilt builder = builder.now ≡ builder.before
+
 -- the text of this file comes to this as a configuration where each of its patterns is built
 abbrev pub Configured : List NamedBytes → (cfg_name : List ℕ) → Result Config Refusal → Type 0
 Configured files cfg_name result = Holds files cfg_name (λ text. config_of text None ≡ result)

@@ -6,12 +6,13 @@ use Rattle.px_link.specs.declared.fault.Fault.TheVariants as links
 use Rattle.cfg_parse.specs.declared.fault.CfgFault.{CfgFault}
 use Rattle.cfg_parse.specs.declared.fault.CfgFault.TheVariants as configurations
 use Rattle.px_command.specs.Command.{IsUsage, NamesConfig}
+use Rattle.px_command.specs.Texts.{EndsLine}
 use Rattle.rec_format.specs.declared.record.RecFault.{RecFault}
 use Rattle.rec_format.specs.declared.record.RecFault.TheVariants as records
 use Rattle.serve_run.specs.declared.outcome.ServeFault.{ServeFault}
 use Rattle.serve_run.specs.declared.outcome.ServeFault.TheVariants as serving
-use Rattle.proxy_call.specs.Answers.{DecidesBy, DecidesRecord, IsAnswer, IsGood, IsRefused}
-use Rattle.proxy_call.specs.Files.{IfTold, Builder, RecordIs}
+use Rattle.proxy_call.specs.Answers.{DecidesBy, DecidesRecord, IsAnswer, IsGood, IsRefusal, IsRefused}
+use Rattle.proxy_call.specs.Files.{IfTold, Builder, IsBuilt, RecordIs}
 use Rattle.proxy_call.specs.declared.status.Status.{Status}
 use Rattle.proxy_call.specs.declared.status.Status.TheVariants as ended
 use Rattle.proxy_call.specs.declared.reply.Reply.{Reply}
@@ -71,7 +72,7 @@ given words files builder last reads reads_now = record {
 
 -- The words and the files make a command stop so, before anything is written.
 abbrev pub StopsBy : Input → Stop → Type 0
-StopsBy input (stops.Usage text) = IsUsage input.words
+StopsBy input (stops.Usage text) = IsUsage input.words × EndsLine text
 StopsBy input (stops.Refused line kind) = (cfg_name : List ℕ) × NamesConfig input.words cfg_name × IsRefused input.files input.builder cfg_name line kind
 StopsBy input (stops.Record place kind) =
     (rec_name : List ℕ) × DecidesRecord input.words input.files rec_name × IfTold input.files (λ fs. RecordIs fs rec_name (Err (record { place = place; kind = kind })))
@@ -90,9 +91,9 @@ ReadStops name last before now stops.Output = ⊥
 ReadStops name last before now stops.Net = ⊥
 ReadStops name last before now stops.OutOfMemory = ⊤
 
--- a command makes the text that its words and files ask for, or stops
+-- a command makes the text that its words and files ask for, and the builder refused none of its patterns, or it stops
 abbrev pub Answers : Input → Result (List ℕ) Stop → Type 0
-Answers input (Ok text) = IsGood input.words input.files text
+Answers input (Ok text) = IsGood input.words input.files text × IsBuilt input.builder
 Answers input (Err stop) = StopsBy input stop
 
 -- nothing is written for a stop
@@ -105,8 +106,9 @@ IsSilent stops.Output = ⊤
 IsSilent stops.Net = ⊤
 IsSilent stops.OutOfMemory = ⊤
 
--- a reply is written as an answer, with its cause in the count where it tells a fault, or memory ran out
+-- a reply tells what was refused, with its cause in the count where it tells a fault, or memory ran out
 abbrev pub Replies : Input → Result Reply Stop → Type 0
 Replies input (Ok reply) =
     IsAnswer input.words input.files input.builder input.last reply.status reply.text × (reply.status ≡ ended.FileFault → Rose input.reads input.reads_now)
+    × IsRefusal reply.status
 Replies input (Err stop) = stop ≡ stops.OutOfMemory

@@ -1,10 +1,10 @@
 //! The texts that commands make of their files. The first step that is refused decides: configuration file, configuration, record
 //! file, record, session.
-ghost use Rattle.std.specs.Prelude.{◌≡◌, ◌≤◌, ℕ, List, Option, Ok, IfOk, IfErr};
+ghost use Rattle.std.specs.Prelude.{◌≡◌, ◌≤◌, ℕ, List, Option, Ok, IfOk, IfErr, OnOk};
 ghost use Rattle.px_link.specs.Told.{NamedBytes, Reads};
 ghost use Rattle.http_rules.specs.Valid.{IsValid};
 ghost use Rattle.px_command.specs.Command.{IsCheck, IsCheckRecord, IsReplay, IsDrill, NamesConfig};
-ghost use Rattle.proxy_call.specs.Files.{IfTold, Builder, Configured, told_by};
+ghost use Rattle.proxy_call.specs.Files.{IfTold, Builder, Configured, IsBuilt, told_by};
 ghost use Rattle.proxy_call.specs.Stops.{Answers, ReadStops, StopsBy, given};
 
 use crate::lines::accepted_line;
@@ -48,6 +48,7 @@ pub fn configuration<'a, F: Files, P: Patterns>(
 ) -> Result<Config, Stop<'a>>
     ensures accepted { IfOk result (λ cfg. IfTold (F.files files.old) (λ fs. Configured fs name.now (Ok cfg))) }
     ensures valid { IfOk result IsValid }
+    ensures built { OnOk result (P.refusals pats.new ≡ P.refusals pats.old) }
     ensures stop { (words : List (List ℕ)) → NamesConfig words name.now
         → IfErr result (StopsBy (given words (F.files files.old) (told_by (P.refusals pats.old) (P.refusals pats.new) (P.last_refused pats.new)) (F.last_failed files.new) (F.faults files.old) (F.faults files.new))) }
     ensures grows { F.faults files.old ≤ F.faults files.new }
@@ -79,7 +80,7 @@ pub fn check_record<'a, F: Files>(
     files: &mut F,
     name: &'a str,
 ) -> Result<Bytes, Stop<'a>>
-    ensures { (words : List (List ℕ)) (builder : Builder) → IsCheckRecord words name.now
+    ensures { (words : List (List ℕ)) (builder : Builder) → IsCheckRecord words name.now → IsBuilt builder
         → Answers (given words (F.files files.old) builder (F.last_failed files.new) (F.faults files.old) (F.faults files.new)) result }
 {
     let text = read(alloc, files, name, MAX_RECORD + 1)?;
@@ -112,8 +113,8 @@ pub fn drill<'a, P: Patterns>(
     exchanges: u32,
     pats: &mut P,
 ) -> Result<Bytes, Stop<'a>>
-    ensures { (words : List (List ℕ)) (files : Option (List NamedBytes)) (builder : Builder) (last : List ℕ) (reads reads_now : ℕ) → IsDrill words seed exchanges
-        → Answers (given words files builder last reads reads_now) result }
+    ensures { (words : List (List ℕ)) (files : Option (List NamedBytes)) (last : List ℕ) (reads reads_now : ℕ) → IsDrill words seed exchanges
+        → Answers (given words files (told_by (P.refusals pats.old) (P.refusals pats.new) (P.last_refused pats.new)) last reads reads_now) result }
 {
     let cfg = load(alloc, drill_session::configuration(), pats)?;
     Ok(drill_lines(alloc, &cfg, seed, exchanges)?)

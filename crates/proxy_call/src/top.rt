@@ -3,11 +3,12 @@ ghost use Rattle.std.specs.Prelude.{◌≡◌, ◌⊎◌, ℕ, List, Option, map
 ghost use Rattle.px_link.specs.Net.{Coming, Kept, address_of, with_address};
 ghost use Rattle.px_link.specs.Told.{NamedBytes, Rose, Gains};
 ghost use Rattle.px_command.specs.Command.{IsServe, IsUsage, NamesConfig};
+ghost use Rattle.px_command.specs.Texts.{EndsLine};
 ghost use Rattle.serve_run.specs.Lines.{net_line};
 ghost use Rattle.serve_run.specs.Served.{Breaks, NetFails, ServedAll};
 ghost use Rattle.serve_run.specs.Told.{Visited};
 ghost use Rattle.proxy_call.specs.Lines.{file_line};
-ghost use Rattle.proxy_call.specs.Answers.{IsGood, IsRefusedOf, IsRecordRefusedOf, DecidesRecord, DecidesBy, NamesServe, WritesFront, IsDue};
+ghost use Rattle.proxy_call.specs.Answers.{IsGood, IsRefusal, IsRefusedOf, IsRecordRefusedOf, DecidesRecord, DecidesBy, NamesServe, WritesFront, IsDue};
 ghost use Rattle.proxy_call.specs.Files.{told_by};
 ghost use Rattle.proxy_call.specs.Serving.{GainsBind, ServedBy, Serving};
 
@@ -43,9 +44,13 @@ pub fn htx_proxy<F: Files, N: Net, K: Sink, P: Patterns>(
         → (N.seen net.old).accepts ≡ Some coming → (N.seen net.old).answers ≡ Some answers → (N.seen net.old).kept ≡ Some kept
         → Visited (N.seen net.new) coming kept count }
 
+    // Good, and NetFault where `serve` had accepted its configuration, come only where the builder refused no pattern.
+    ensures built { result ≡ Status.Good → P.refusals pats.new ≡ P.refusals pats.old }
+    ensures net_built { result ≡ Status.NetFault → P.refusals pats.new ≡ P.refusals pats.old }
+
     // Usage comes only for words that are no command, and has written a usage text.
     ensures usage { result ≡ Status.Usage → IsUsage (map string_bytes words.now)
-        × (text : List ℕ) × Gains (K.written out.old) (K.written out.new) text }
+        × (text : List ℕ) × EndsLine text × Gains (K.written out.old) (K.written out.new) text }
 
     // Config comes only where the configuration is refused, and has written the line and what is wrong there: Pattern only
     // where the builder refused a pattern of the file, and it was the last one.
@@ -91,7 +96,9 @@ pub fn htx_proxy<F: Files, N: Net, K: Sink, P: Patterns>(
         ⊎ Serving (map string_bytes words.now) (F.files files.old) (λ cfg count. (N.seen net.new).dialled ≡ with_address (N.seen net.old).dialled (address_of cfg.server)) }
     ensures lent { (N.seen net.new).lent ≡ (N.seen net.old).lent }
 
-    // Words other than those of `serve` leave the net as it was.
+    // Whatever the words are, a refusal of them, of a configuration, of a record or of a file leaves the net as it was. So does each answer to
+    // words other than those of `serve`.
+    ensures refused { IsRefusal result → net.new ≡ net.old }
     ensures untouched { (NamesServe (map string_bytes words.now) → ⊥) → net.new ≡ net.old }
 
     // Where nothing failed, only memory is in the way of the status that words and files call for.

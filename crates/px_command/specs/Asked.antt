@@ -1,10 +1,11 @@
 -- What words ask for.
 use Rattle.std.specs.Prelude.{ℕ, List}
 use Rattle.px_command.specs.Command.{IsCheck, IsCheckRecord, IsReplay, IsServe, IsDrill, IsHelp, IsVersion, IsUsage}
+use Rattle.px_command.specs.Texts.{EndsLine}
 use Rattle.px_command.specs.declared.ask.Asked.{Asked}
 use Rattle.px_command.specs.declared.ask.Asked.TheVariants.{Check, CheckRecord, Replay, Serve, Drill, Help, Version, Usage}
 
--- the words are the list that was told
+-- the words are the list that was told; where they are none, a text of lines goes with that
 abbrev pub IsAsked : List (List ℕ) → Asked → Type 0
 IsAsked words (Check cfg) = IsCheck words cfg.now
 IsAsked words (CheckRecord rec) = IsCheckRecord words rec.now
@@ -13,4 +14,4 @@ IsAsked words (Serve cfg connections) = IsServe words cfg.now connections
 IsAsked words (Drill seed exchanges) = IsDrill words seed exchanges
 IsAsked words Help = IsHelp words
 IsAsked words Version = IsVersion words
-IsAsked words (Usage text) = IsUsage words
+IsAsked words (Usage text) = IsUsage words × EndsLine text

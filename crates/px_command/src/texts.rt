@@ -1,4 +1,7 @@
 //! The texts of help and of what is wrong with words, as `clap` renders them.
+ghost use Rattle.std.specs.Prelude.{IfOk, OnOk};
+ghost use Rattle.px_command.specs.Texts.{EndsLine};
+
 use crate::parser::{check_command, command, drill_command, replay_command, serve_command};
 use clap::error::ErrorKind;
 use clap::{Command, Error};
@@ -66,8 +69,14 @@ Byte P is the first one of the refused line, counted from 0. KIND tells what mus
           number of the connection and a blank stand in front
   Rest    `end`, as the last line, and nothing behind it
   Limit   no more than 1024 connections, 65536 servers, 1000000 turns and 67108864 bytes
-Lines end with a line feed, and numbers have no zeros in front.
-";
+Lines end with a line feed, and numbers have no zeros in front.";
+
+/// Ends the last line of a text.
+fn end_line(text: &mut Bytes) -> Result<(), OutOfMemory>
+    ensures { OnOk result (EndsLine text.new) }
+{
+    text.push(b"\n")
+}
 
 /// Puts the help of a command behind a text.
 fn push_rendered(text: &mut Bytes, command: &mut Command<'_>) -> Result<(), OutOfMemory> {
@@ -107,12 +116,15 @@ fn push_help(
 }
 
 /// Puts the help of each command behind a text, and the rest of help behind that.
-fn push_commands(alloc: Global, text: &mut Bytes) -> Result<(), OutOfMemory> {
+fn push_commands(alloc: Global, text: &mut Bytes) -> Result<(), OutOfMemory>
+    ensures { OnOk result (EndsLine text.new) }
+{
     push_help(text, check_command(alloc), "htx_proxy check", CHECK)?;
     push_help(text, replay_command(alloc), "htx_proxy replay", REPLAY)?;
     push_help(text, serve_command(alloc), "htx_proxy serve", SERVE)?;
     push_help(text, drill_command(alloc), "htx_proxy drill", DRILL)?;
-    text.push(REST)
+    text.push(REST)?;
+    end_line(text)
 }
 
 /// The help of a command.
@@ -133,19 +145,28 @@ fn top_help(alloc: Global) -> Result<Bytes, OutOfMemory> {
 }
 
 /// The text of `--help`.
-pub fn help_text(alloc: Global) -> Result<Bytes, OutOfMemory> {
+pub fn help_text(alloc: Global) -> Result<Bytes, OutOfMemory>
+    ensures { IfOk result EndsLine }
+{
     let mut text = top_help(alloc)?;
     push_commands(alloc, &mut text)?;
     Ok(text)
 }
 
-/// The version of a command.
-fn version_of(alloc: Global, command: &Command<'_>) -> Result<Bytes, OutOfMemory> {
-    Bytes::copy(alloc, command.render_version()?.as_bytes())
+/// The version of a command, on a line of its own.
+fn version_of(alloc: Global, command: &Command<'_>) -> Result<Bytes, OutOfMemory>
+    ensures { IfOk result EndsLine }
+{
+    let version = command.render_version()?;
+    let mut line = Bytes::copy(alloc, version.as_str().trim_end().as_bytes())?;
+    end_line(&mut line)?;
+    Ok(line)
 }
 
 /// The text of `--version`.
-pub fn version_text(alloc: Global) -> Result<Bytes, OutOfMemory> {
+pub fn version_text(alloc: Global) -> Result<Bytes, OutOfMemory>
+    ensures { IfOk result EndsLine }
+{
     match command(alloc) {
         Ok(command) => {
             let text = version_of(alloc, &command);
@@ -157,14 +178,19 @@ pub fn version_text(alloc: Global) -> Result<Bytes, OutOfMemory> {
 }
 
 /// Puts what is wrong behind a text, and the help behind that.
-fn push_reason(alloc: Global, reason: &str, text: &mut Bytes) -> Result<(), OutOfMemory> {
+fn push_reason(alloc: Global, reason: &str, text: &mut Bytes) -> Result<(), OutOfMemory>
+    ensures { OnOk result (EndsLine text.new) }
+{
     text.push(reason.as_bytes())?;
     text.push(b"\n\n")?;
-    text.push(help_text(alloc)?.as_slice())
+    text.push(top_help(alloc)?.as_slice())?;
+    push_commands(alloc, text)
 }
 
 /// What is wrong, in front of the help.
-fn reason_and_help(alloc: Global, reason: &str) -> Result<Bytes, OutOfMemory> {
+fn reason_and_help(alloc: Global, reason: &str) -> Result<Bytes, OutOfMemory>
+    ensures { IfOk result EndsLine }
+{
     let mut text = Bytes::copy(alloc, b"error: ")?;
     push_reason(alloc, reason, &mut text)?;
     Ok(text)
@@ -187,7 +213,9 @@ fn without_title(text: &str) -> &str {
 }
 
 /// What is wrong with words that `clap` refused.
-pub fn error_text(alloc: Global, error: &Error) -> Result<Bytes, OutOfMemory> {
+pub fn error_text(alloc: Global, error: &Error) -> Result<Bytes, OutOfMemory>
+    ensures { IfOk result EndsLine }
+{
     if !error.use_stderr() {
         return reason_and_help(alloc, "`--help` and `--version` stand alone");
     }
@@ -196,7 +224,9 @@ pub fn error_text(alloc: Global, error: &Error) -> Result<Bytes, OutOfMemory> {
 }
 
 /// What is wrong with words that `clap` took, and the lists don't.
-pub fn unlisted_text(alloc: Global) -> Result<Bytes, OutOfMemory> {
+pub fn unlisted_text(alloc: Global) -> Result<Bytes, OutOfMemory>
+    ensures { IfOk result EndsLine }
+{
     reason_and_help(
         alloc,
         "a word is empty, out of bounds or out of place, or `--` is among the words",

@@ -14,7 +14,7 @@ returns-in_err-record g c =
     let text : List ℕ = c.as_slice.result.now in
     let read : Reads told c.args.name.now 67108865 text = subst (λ (t : List ℕ). Reads told c.args.name.now 67108865 t) (sym c.as_slice.ensures) c.in_ok-text.ensures.bytes in
     let fault : RecFault = c.in_err-record.field-0.0 in
-    λ words builder check.
+    λ words builder check built.
     let input : Input = given words told builder (g.F.Files.last_failed c.read.new.files) (g.F.Files.faults c.args.files.now) (g.F.Files.faults c.read.new.files) in
     answers_err input c.from_residual-in_err-record.result (stop_of_record fault) c.from_residual-in_err-record.ensures.1
     (record_stops input c.args.name.now text fault (inl check) read c.in_err-record.ensures.refused)
@@ -24,13 +24,15 @@ returns g c =
     let told : Option (List NamedBytes) = g.F.Files.files c.args.files.now in
     let text : List ℕ = c.as_slice.result.now in
     let read : Reads told c.args.name.now 67108865 text = subst (λ (t : List ℕ). Reads told c.args.name.now 67108865 t) (sym c.as_slice.ensures) c.in_ok-text.ensures.bytes in
-    λ words builder check.
-    inr (inl (
-      c.args.name.now,
-      check,
-      (
-        meaning_of c.in_ok-record.record,
-        recorded told c.args.name.now text (Ok (meaning_of c.in_ok-record.record)) read c.in_ok-record.ensures.read,
-        c.in_ok-write_record.ensures,
-      ),
-    ))
+    λ words builder check built. (
+      inr (inl (
+        c.args.name.now,
+        check,
+        (
+          meaning_of c.in_ok-record.record,
+          recorded told c.args.name.now text (Ok (meaning_of c.in_ok-record.record)) read c.in_ok-record.ensures.read,
+          c.in_ok-write_record.ensures,
+        ),
+      )),
+      built,
+    )

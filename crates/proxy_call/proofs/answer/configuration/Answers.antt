@@ -5,7 +5,7 @@ use Rattle.cfg_parse.specs.declared.fault.CfgFault.{CfgFault}
 use Rattle.proxy_call.specs.Files.{Builder, told_by}
 use Rattle.proxy_call.specs.Stops.{Input, StopsBy, given, stop_of_configuration}
 use Rattle.proxy_call.proofs.Causes.{load_stops, passed_on}
-use Rattle.proxy_call.proofs.Told.{accepted_text, configured}
+use Rattle.proxy_call.proofs.Told.{accepted_text, built_text, configured}
 use Rattle.proxy_call.proofs.answer.configuration.Goals as goal
 
 pub returns-in_err-cfg-clause-stop : goal.returns-in_err-cfg-clause-stop
@@ -27,3 +27,7 @@ returns-clause-accepted g c =
     let read : Reads told c.args.name.now 1048577 text = subst (λ (t : List ℕ). Reads told c.args.name.now 1048577 t) (sym c.as_slice.ensures) c.in_ok-text.ensures.bytes in
     configured told c.args.name.now text (Ok c.in_ok-cfg.cfg) read
     (accepted_text text (g.P.Patterns.refusals c.args.pats.now) (g.P.Patterns.refusals c.load.new.pats) (g.P.Patterns.last_refused c.load.new.pats) c.in_ok-cfg.cfg c.in_ok-cfg.ensures.loads)
+
+pub returns-clause-built : goal.returns-clause-built
+returns-clause-built g c =
+    built_text c.as_slice.result.now (g.P.Patterns.refusals c.args.pats.now) (g.P.Patterns.refusals c.load.new.pats) (g.P.Patterns.last_refused c.load.new.pats) c.in_ok-cfg.cfg c.in_ok-cfg.ensures.loads

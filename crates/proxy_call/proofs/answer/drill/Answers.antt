@@ -4,10 +4,11 @@ use Rattle.px_pattern.specs.Refusals.{Kept}
 use Rattle.drill_session.specs.Drill.{configuration}
 use Rattle.cfg_parse.specs.Whole.{Loads}
 use Rattle.cfg_parse.specs.declared.fault.CfgFault.{CfgFault}
+use Rattle.proxy_call.specs.Files.{told_by}
 use Rattle.proxy_call.specs.Stops.{Input, given, stop_of_configuration}
 use Rattle.proxy_call.proofs.Causes.{answers_err}
 use Rattle.proxy_call.proofs.Drill.{drill_stops}
-use Rattle.proxy_call.proofs.Told.{accepted_text}
+use Rattle.proxy_call.proofs.Told.{accepted_text, built_text}
 use Rattle.proxy_call.proofs.answer.drill.Goals as goal
 
 pub returns-in_err-cfg : goal.returns-in_err-cfg
@@ -17,8 +18,8 @@ returns-in_err-cfg g c =
     let kept : Kept = g.P.Patterns.last_refused c.load.new.pats in
     let fault : CfgFault = c.in_err-cfg.field-0.0 in
     let loads : Loads configuration before now kept (Err fault) = subst (λ (t : List ℕ). Loads t before now kept (Err fault)) c.configuration.ensures c.in_err-cfg.ensures.loads in
-    λ words files builder last reads reads_now drill.
-    let input : Input = given words files builder last reads reads_now in
+    λ words files last reads reads_now drill.
+    let input : Input = given words files (told_by before now kept) last reads reads_now in
     answers_err input c.from_residual.result (stop_of_configuration fault) c.from_residual.ensures.1 (drill_stops input before now kept fault loads)
 
 pub returns : goal.returns
@@ -28,5 +29,7 @@ returns g c =
     let kept : Kept = g.P.Patterns.last_refused c.load.new.pats in
     let loads : Loads configuration before now kept (Ok c.in_ok-cfg.cfg) =
     subst (λ (t : List ℕ). Loads t before now kept (Ok c.in_ok-cfg.cfg)) c.configuration.ensures c.in_ok-cfg.ensures.loads in
-    λ words files builder last reads reads_now drill.
-    inr (inr (inr (inl (c.args.seed, c.args.exchanges, drill, (c.in_ok-cfg.cfg, accepted_text configuration before now kept c.in_ok-cfg.cfg loads, c.in_ok-drill_lines.ensures)))))
+    λ words files last reads reads_now drill. (
+      inr (inr (inr (inl (c.args.seed, c.args.exchanges, drill, (c.in_ok-cfg.cfg, accepted_text configuration before now kept c.in_ok-cfg.cfg loads, c.in_ok-drill_lines.ensures))))),
+      built_text configuration before now kept c.in_ok-cfg.cfg loads,
+    )

@@ -46,15 +46,17 @@ returns g c =
     let read : Reads told c.args.rec_name.now 67108865 text =
     subst (λ (o : Option (List NamedBytes)). Reads o c.args.rec_name.now 67108865 text) c.in_ok-cfg.ensures.files
     (subst (λ (t : List ℕ). Reads (g.F.Files.files c.configuration.new.files) c.args.rec_name.now 67108865 t) (sym c.as_slice.ensures) c.in_ok-text.ensures.bytes) in
-    λ words replay.
-    inr (inr (inl (
-      c.args.cfg_name.now,
-      c.args.rec_name.now,
-      replay,
-      (
-        c.in_ok-cfg.cfg,
-        meaning_of c.in_ok-record.record,
-        said told c.args.cfg_name.now c.args.rec_name.now text c.in_ok-cfg.cfg (meaning_of c.in_ok-record.record) c.in_ok-cfg.ensures.accepted read c.in_ok-record.ensures.read,
-        c.in_ok-replay_report.ensures,
-      ),
-    )))
+    λ words replay. (
+      inr (inr (inl (
+        c.args.cfg_name.now,
+        c.args.rec_name.now,
+        replay,
+        (
+          c.in_ok-cfg.cfg,
+          meaning_of c.in_ok-record.record,
+          said told c.args.cfg_name.now c.args.rec_name.now text c.in_ok-cfg.cfg (meaning_of c.in_ok-record.record) c.in_ok-cfg.ensures.accepted read c.in_ok-record.ensures.read,
+          c.in_ok-replay_report.ensures,
+        ),
+      ))),
+      c.in_ok-cfg.ensures.built,
+    )

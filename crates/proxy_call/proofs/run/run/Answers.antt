@@ -20,7 +20,7 @@ returns-in-CheckRecord g c =
     let is : IsCheckRecord words c.in-CheckRecord.rec.now = subst (IsAsked words) c.in-CheckRecord.is c.in_ok-cfg.ensures in
     let builder : Builder = told_by (g.P.Patterns.refusals c.args.pats.now) (g.P.Patterns.refusals c.args.pats.now) (g.P.Patterns.last_refused c.args.pats.now) in
     let input : Input = given words (g.F.Files.files c.args.files.now) builder (g.F.Files.last_failed c.check_record.new.files) (g.F.Files.faults c.args.files.now) (g.F.Files.faults c.check_record.new.files) in
-    inl (c.write-in-CheckRecord.ensures input (c.check_record.ensures words builder is), refl)
+    inl (c.write-in-CheckRecord.ensures input (c.check_record.ensures words builder is refl), refl)
 
 pub returns-in-Replay : goal.returns-in-Replay
 returns-in-Replay g c =
@@ -42,7 +42,7 @@ returns-in-Drill g c =
     let is : IsDrill words c.in-Drill.seed c.in-Drill.exchanges = subst (IsAsked words) c.in-Drill.is c.in_ok-cfg.ensures in
     let builder : Builder = told_by (g.P.Patterns.refusals c.args.pats.now) (g.P.Patterns.refusals c.drill.new.pats) (g.P.Patterns.last_refused c.drill.new.pats) in
     let input : Input = given words (g.F.Files.files c.args.files.now) builder (g.F.Files.last_failed c.args.files.now) (g.F.Files.faults c.args.files.now) (g.F.Files.faults c.args.files.now) in
-    inl (c.write-in-Drill.ensures input (c.drill.ensures words input.files builder input.last input.reads input.reads_now is), refl)
+    inl (c.write-in-Drill.ensures input (c.drill.ensures words input.files input.last input.reads input.reads_now is), refl)
 
 pub returns-in_ok-help_text-in-Help : goal.returns-in_ok-help_text-in-Help
 returns-in_ok-help_text-in-Help g c =
@@ -50,7 +50,7 @@ returns-in_ok-help_text-in-Help g c =
     let is : IsHelp words = subst (IsAsked words) c.in-Help.is c.in_ok-cfg.ensures in
     let builder : Builder = told_by (g.P.Patterns.refusals c.args.pats.now) (g.P.Patterns.refusals c.args.pats.now) (g.P.Patterns.last_refused c.args.pats.now) in
     let input : Input = given words (g.F.Files.files c.args.files.now) builder (g.F.Files.last_failed c.args.files.now) (g.F.Files.faults c.args.files.now) (g.F.Files.faults c.args.files.now) in
-    inl (c.write-in-Help.ensures input (inr (inr (inr (inr (inl is))))), refl)
+    inl (c.write-in-Help.ensures input (inr (inr (inr (inr (inl is, c.in_ok-help_text-in-Help.ensures)))), refl), refl)
 
 pub returns-in_ok-version_text-in-Version : goal.returns-in_ok-version_text-in-Version
 returns-in_ok-version_text-in-Version g c =
@@ -58,4 +58,4 @@ returns-in_ok-version_text-in-Version g c =
     let is : IsVersion words = subst (IsAsked words) c.in-Version.is c.in_ok-cfg.ensures in
     let builder : Builder = told_by (g.P.Patterns.refusals c.args.pats.now) (g.P.Patterns.refusals c.args.pats.now) (g.P.Patterns.last_refused c.args.pats.now) in
     let input : Input = given words (g.F.Files.files c.args.files.now) builder (g.F.Files.last_failed c.args.files.now) (g.F.Files.faults c.args.files.now) (g.F.Files.faults c.args.files.now) in
-    inl (c.write-in-Version.ensures input (inr (inr (inr (inr (inr is))))), refl)
+    inl (c.write-in-Version.ensures input (inr (inr (inr (inr (inr is, c.in_ok-version_text-in-Version.ensures)))), refl), refl)

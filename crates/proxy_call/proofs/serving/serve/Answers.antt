@@ -42,7 +42,7 @@ returns-in_err-serve_clients g c =
     λ words serve.
     let input : Input = given words (g.F.Files.files c.args.files.now) builder (g.F.Files.last_failed c.configuration.new.files) (g.F.Files.faults c.args.files.now) (g.F.Files.faults c.configuration.new.files) in
     ran_err input output (c.serve_clients.new.net ≡ c.args.net.now) Does c.from_residual-in_err-serve_clients.result (stop_of_serving fault) c.from_residual-in_err-serve_clients.ensures.1
-    (inr (c.args.name.now, c.args.connections, serve, c.in_ok-cfg.cfg, c.in_ok-cfg.ensures.accepted, (Err fault, does, refl)))
+    (inr (c.in_ok-cfg.ensures.built, (c.args.name.now, c.args.connections, serve, c.in_ok-cfg.cfg, c.in_ok-cfg.ensures.accepted, (Err fault, does, refl))))
 
 pub returns : goal.returns
 returns g c =
@@ -61,4 +61,4 @@ returns g c =
       dialled = c.in_ok-serve_clients.ensures.dialled;
       lent = c.in_ok-serve_clients.ensures.lent;
     } in
-    λ words serve. inr (c.args.name.now, c.args.connections, serve, c.in_ok-cfg.cfg, c.in_ok-cfg.ensures.accepted, (Ok tt, does, refl))
+    λ words serve. inr (c.in_ok-cfg.ensures.built, (c.args.name.now, c.args.connections, serve, c.in_ok-cfg.cfg, c.in_ok-cfg.ensures.accepted, (Ok tt, does, refl)))

@@ -11,4 +11,4 @@ returns c =
     let other : kind_of c.args.error.now ≡ OutOfMemory → ⊥ = search rules in
     let help : IsHelp (map string_bytes c.args.words.now) → ⊥ = search rules in
     let version : IsVersion (map string_bytes c.args.words.now) → ⊥ = search rules in
-    refused_usage (map string_bytes c.args.words.now) c.args.error.now c.requires other help version
+    (refused_usage (map string_bytes c.args.words.now) c.args.error.now c.requires other help version, c.in_ok-text.ensures)
