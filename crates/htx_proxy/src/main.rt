@@ -10,22 +10,27 @@ use std::env::Env;
 use std::process::ExitCode;
 use std::{env, io};
 
+/// What stands for the words where one of them is no UTF-8: no command has it, so the answer is a usage text.
+const NO_TEXT: &str = "\u{fffd}";
+
 /// The words of the command line, without the program's name.
-fn words_of<R: Env + AllocGlobal>(rt: &R) -> io::Result<Vec<String>> {
+fn words_of<R: Env + AllocGlobal>(rt: &R) -> Result<Vec<String>, AllocError> {
     let mut words = Vec::new(rt.alloc());
-    for word in env::args(rt)?.skip(1) {
-        words.push(word).map_err(AllocError::from)?;
+    match env::args(rt) {
+        Ok(args) => {
+            for word in args.skip(1) {
+                words.push(word)?;
+            }
+        }
+        Err(fault) if fault.kind() == io::ErrorKind::OutOfMemory => return Err(AllocError),
+        Err(_) => words.push(String::from_str(rt.alloc(), NO_TEXT)?)?,
     }
     Ok(words)
 }
 
-fn main(rt: HostRuntime) -> io::Result<ExitCode> {
-    let words = match words_of(&rt) {
-        Ok(words) => words,
-        Err(fault) if fault.kind() == io::ErrorKind::OutOfMemory => {
-            return Ok(ExitCode::from(Status::OutOfMemory as u8));
-        }
-        Err(fault) => return Err(fault),
+fn main(rt: HostRuntime) -> ExitCode {
+    let Ok(words) = words_of(&rt) else {
+        return ExitCode::from(Status::OutOfMemory as u8);
     };
     let mut files = RealFiles::new(rt.alloc(), &rt);
     let mut net = RealNet::new(rt.alloc(), &rt);
@@ -39,5 +44,5 @@ fn main(rt: HostRuntime) -> io::Result<ExitCode> {
         &mut out,
         &mut pats,
     );
-    Ok(ExitCode::from(status as u8))
+    ExitCode::from(status as u8)
 }
