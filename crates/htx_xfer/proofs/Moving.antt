@@ -2,17 +2,16 @@
 use Rattle.std.proofs.Common.{◌≡◌, ℕ, zero, suc, ◌+◌, ◌-◌, ◌<◌, ◌≤◌, ◌⊎◌, inl, inr, List, [], ◌∷◌, ◌++◌, Bool, length, take, drop, refl, ap, sym, ◌∙◌, subst, arith}
 use Rattle.std.specs.Prelude.{min, if◌then◌else◌}
 use Rattle.std.proofs.lemmas.Bool.{lt-ltb}
-use Rattle.std.proofs.lemmas.List.{take-append-drop, take_all, take-take, length-take, length-drop, length-take-le, drop_more, drop_all}
-use Rattle.std.proofs.lemmas.List.Sums.{sum_by-append, sum_by-cons, sum_by-take-drop}
-use Rattle.htx_model.specs.Block.{Block, RequestLine, ResponseLine, Header, EndHeaders, Data, Trailer, EndTrailers, kind_of, payload_len, weight}
+use Rattle.std.proofs.lemmas.List.{take-append-drop, take_all, take-take, length-take, length-drop, length-take-le}
+use Rattle.std.proofs.lemmas.List.Sums.{sum_by-append}
+use Rattle.htx_model.specs.Block.{Block, RequestLine, ResponseLine, Header, EndHeaders, Data, Trailer, EndTrailers, kind_of, payload_len}
 use Rattle.htx_model.specs.Blocks.{load, append_data, extend_last, followed, data_overhead, block_at, taken, flow, joined, cut_front, cut_data}
 use Rattle.htx_model.specs.declared.Kind.TheVariants as kinds
 use Rattle.htx_model.proofs.Edits.{data_is}
 use Rattle.htx_model.proofs.Loads.{load-append_data, taken_is}
-use Rattle.htx_xfer.specs.declared.Copied.{Copied}
-use Rattle.htx_model.specs.Flow.{put_behind, added, AreFilled}
+use Rattle.htx_model.specs.Flow.{added, AreFilled}
 use Rattle.htx_model.proofs.Flows.{joined_twice, flow-append, added_flows}
-use Rattle.htx_xfer.specs.Moved.{payload, front_of, rest_of, Stays, MovesBlock, Copies}
+use Rattle.htx_xfer.specs.Moved.{payload, front_of, rest_of, Stays, MovesBlock}
 
 -- ---- fronts
 

@@ -1,18 +1,14 @@
 -- All goes where all fits, and what stays passes the limit or the size.
-use Rattle.std.proofs.Common.{◌≡◌, ℕ, zero, suc, ◌+◌, ◌-◌, ◌<◌, ◌≤◌, ◌⊎◌, inl, inr, List, [], ◌∷◌, ◌++◌, Bool, length, take, drop, refl, ap, sym, ◌∙◌, subst, arith}
-use Rattle.std.specs.Prelude.{min, if◌then◌else◌}
-use Rattle.std.proofs.lemmas.Bool.{lt-ltb}
-use Rattle.std.proofs.lemmas.List.{take-append-drop, take_all, take-take, length-take, length-drop, length-take-le, drop_more, drop_all}
+use Rattle.std.proofs.Common.{◌≡◌, ℕ, zero, suc, ◌+◌, ◌-◌, ◌<◌, ◌≤◌, ◌⊎◌, inl, inr, List, [], ◌∷◌, ◌++◌, length, take, drop, refl, ap, ◌∙◌, subst, arith}
+use Rattle.std.proofs.lemmas.List.{length-drop, length-take-le, drop_more, drop_all}
 use Rattle.std.proofs.lemmas.List.Sums.{sum_by-append, sum_by-cons, sum_by-take-drop}
 use Rattle.htx_model.specs.Block.{Block, RequestLine, ResponseLine, Header, EndHeaders, Data, Trailer, EndTrailers, kind_of, payload_len, weight}
-use Rattle.htx_model.specs.Blocks.{load, append_data, extend_last, followed, data_overhead, block_at, taken, flow, joined, cut_front, cut_data}
+use Rattle.htx_model.specs.Blocks.{load, append_data, data_overhead, block_at}
 use Rattle.htx_model.specs.declared.Kind.TheVariants as kinds
-use Rattle.htx_model.proofs.Edits.{data_is}
-use Rattle.htx_model.proofs.Loads.{load-append_data, taken_is}
+use Rattle.htx_model.proofs.Loads.{load-append_data}
 use Rattle.htx_xfer.specs.declared.Copied.{Copied}
-use Rattle.htx_model.specs.Flow.{put_behind, added, AreFilled}
-use Rattle.htx_model.proofs.Flows.{joined_twice, flow-append, added_flows}
-use Rattle.htx_xfer.specs.Moved.{payload, front_of, rest_of, Stays, MovesBlock, Copies}
+use Rattle.htx_model.specs.Flow.{put_behind, added}
+use Rattle.htx_xfer.specs.Moved.{payload, front_of, rest_of, Stays, Copies}
 use Rattle.htx_xfer.proofs.Moving.{IsData, data_only, data_overhead_none, le_cases, rest_none}
 
 overhead_most : (bs : List Block) → data_overhead bs ≤ 8

@@ -5,7 +5,7 @@ use Rattle.htx_model.specs.Flow.{added}
 use Rattle.htx_xfer.specs.Moved.{front_of}
 use Rattle.htx_xfer.proofs.Moving.{moved_flows}
 use Rattle.htx_xfer.proofs.Staying.{all_goes}
-use Rattle.htx_xfer.proofs.xfer.Goals as goal
+use Rattle.htx_xfer.proofs.move_each.Goals as goal
 
 pub returns-clause-flow : goal.returns-clause-flow
 returns-clause-flow c =
