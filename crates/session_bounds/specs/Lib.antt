@@ -1,1 +1,2 @@
 pub use Rattle.session_laws.specs.Bound
+pub mod Decided

@@ -1,4 +1,5 @@
-//! The product's meaning is bounded, so no session puts out more than its bound.
+//! The product's meaning is bounded, so no session puts out more than its bound; and what it decides of a stream without an ending stays
+//! decided.
 #![tactic(auto)]
 
 ghost use Rattle.http_rules.specs.declared.config.Config.{Config};
@@ -6,6 +7,9 @@ ghost use Rattle.http_rules.specs.Valid.{IsValid};
 ghost use Rattle.proxy_meaning.specs.Product.{meaning_of};
 ghost use Rattle.session_laws.specs.Bound.{IsBounded};
 
+mod decides;
+
+pub use decides::{program_decides, readings_stay};
 use h1_head::laws::has_bytes;
 use http_rules::replies_are_plain;
 
