@@ -4,7 +4,7 @@ use Rattle.std.proofs.lemmas.List.{length-drop, append-nil}
 use Rattle.h1_head.specs.declared.answer.Side.{Side}
 use Rattle.h1_head.specs.Sides.{kind_of}
 use Rattle.h1_head.specs.Stream.{behind, HeadOf}
-use Rattle.h1_head.specs.Decides.{MayWait}
+use Rattle.h1_head.specs.Decides.{MayWait, OnEachStream}
 use Rattle.h1_head.specs.Scanned.{IsScanned}
 use Rattle.std.specs.Prelude.{Option, None, is_some}
 use Rattle.wire_buf.specs.Buffer.{Buffer}
@@ -14,16 +14,15 @@ use Rattle.http_model.specs.declared.Limits.{Limits}
 use Rattle.http_model.specs.Sizes.{least_size}
 use Rattle.http_model.specs.Reading.{Received, Begins}
 use Rattle.h1_head.specs.Answers.{Keeps}
-use Rattle.h1_head.specs.Decides.{OnEachStream}
 use Rattle.lane_core.specs.Sends.{IsSound, IsReading}
 use Rattle.lane_core.specs.Heads.{Waits, HasHead}
 use Rattle.lane_core.specs.declared.stage.Stage.TheVariants as stage
-use Rattle.lane_core.specs.declared.lane.Lane.{Lane}
+use Rattle.lane_core.specs.State.{LaneState}
 
 -- ---- the lane
 
 -- nothing was looked at yet
-pub reads_anew : (side : Side) (l : Lane) → ((side : Side) (limits : Limits) (window : List ℕ) → least_size ≤ limits.bufsize → IsScanned (kind_of side) limits window 0)
+pub reads_anew : (side : Side) (l : LaneState) → ((side : Side) (limits : Limits) (window : List ℕ) → least_size ≤ limits.bufsize → IsScanned (kind_of side) limits window 0)
     → IsSound l → l.out.blocks ≡ [] → l.dropped ≡ false → l.scanned ≡ 0 → l.stage ≡ stage.Reading → l.msg.blocks ≡ [] → IsReading side l
 reads_anew side l none sound out kept at reading empty = record {
   scanned = subst (IsScanned (kind_of side) l.limits l.input.items) (sym at) (none side l.limits l.input.items sound.sized.least);
@@ -33,7 +32,7 @@ reads_anew side l none sound out kept at reading empty = record {
 }
 
 -- the bytes that were looked at, without the empty lines in front
-pub looked : (side : Side) (l : Lane) (skip n : ℕ) (input : Buffer ℕ) (msg : Contents) → IsReading side l → l.ended ≡ None → skip ≤ length l.input.items → input.items ≡ drop skip l.input.items → input.capacity ≡ l.input.capacity
+pub looked : (side : Side) (l : LaneState) (skip n : ℕ) (input : Buffer ℕ) (msg : Contents) → IsReading side l → l.ended ≡ None → skip ≤ length l.input.items → input.items ≡ drop skip l.input.items → input.capacity ≡ l.input.capacity
     → drop skip l.input.items ≡ behind l.input.items → MayWait (kind_of side) l.limits false l.input.items → IsScanned (kind_of side) l.limits (drop skip l.input.items) (length l.input.items - skip)
     → ((window more : List ℕ) → behind (behind window ++ more) ≡ behind (window ++ more)) → msg.blocks ≡ [] → msg.size ≡ l.msg.size → n ≡ length input.items
     → Waits side l (record l { input = input; scanned = n; msg = msg })
@@ -71,7 +70,7 @@ looked side l skip n input msg r open_ fits items capacity lines waits scanned d
     }
 
 -- a head was received
-pub received : (side : Side) (l : Lane) (used : ℕ) (input : Buffer ℕ) (msg : Contents) (framing : Framing) (declared : Option ℕ) (close whole : Bool) → IsReading side l → whole ≡ is_some l.ended
+pub received : (side : Side) (l : LaneState) (used : ℕ) (input : Buffer ℕ) (msg : Contents) (framing : Framing) (declared : Option ℕ) (close whole : Bool) → IsReading side l → whole ≡ is_some l.ended
     → input.items ≡ drop used l.input.items → input.capacity ≡ l.input.capacity → Keeps (kind_of side) l.limits whole l.input.items msg.blocks used framing declared close → msg.size ≡ l.msg.size
     → HasHead side l (record l { input = input; msg = msg; framing = framing; declared = declared; close = close; stage = stage.Head })
 received side l used input msg framing declared close whole r is items capacity keeps size =

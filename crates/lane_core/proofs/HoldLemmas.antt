@@ -24,7 +24,7 @@ use Rattle.lane_core.specs.Sends.{Past, Sends, SourceIs, RestsFor, put_out, end_
 use Rattle.lane_core.specs.Sends as sends
 use Rattle.lane_core.specs.declared.stage.Source.{Source}
 use Rattle.lane_core.specs.declared.stage.Source.TheVariants as source
-use Rattle.lane_core.specs.declared.lane.Lane.{Lane}
+use Rattle.lane_core.specs.State.{LaneState}
 use Rattle.lane_core.proofs.PullLemmas.{Feeds, piece_length, waits_here}
 use Rattle.lane_core.proofs.ReadLemmas.{more_section}
 use Rattle.lane_core.proofs.SendLemmas.{closed_at, sends_going, sends_section}
@@ -169,7 +169,7 @@ next_ended ended reader reader' before after sieve held_ new n st x is none (inr
 
 -- ---- the message that is sent
 
-pub record Took (l : Lane) (input : Buffer ℕ) (reader : BodyReader) (sieve : Option Sieve) (more : Bool) : Type 0 where
+pub record Took (l : LaneState) (input : Buffer ℕ) (reader : BodyReader) (sieve : Option Sieve) (more : Bool) : Type 0 where
   pub holds : HoldsBy l.ended l.reader reader l.input.items input.items l.sieve sieve more
   pub capacity : input.capacity ≡ l.input.capacity
   pub fits : SieveFits l.limits.bufsize sieve
@@ -177,11 +177,11 @@ pub record Took (l : Lane) (input : Buffer ℕ) (reader : BodyReader) (sieve : O
   pub going : l.source ≡ source.Going
   pub some : l.sieve ≢ None
 
-abbrev pub after_hold : Lane → Buffer ℕ → BodyReader → Option Sieve → Lane
+abbrev pub after_hold : LaneState → Buffer ℕ → BodyReader → Option Sieve → LaneState
 after_hold l input reader sieve = record l { input = input; reader = reader; sieve = sieve }
 
 -- of the lane's own sieve
-pub record TookBy (l : Lane) (input : Buffer ℕ) (reader : BodyReader) (sieve : Option Sieve) (more : Bool) : Type 0 where
+pub record TookBy (l : LaneState) (input : Buffer ℕ) (reader : BodyReader) (sieve : Option Sieve) (more : Bool) : Type 0 where
   pub old : Sieve
   pub new : Sieve
   pub was : l.sieve ≡ Some old
@@ -189,14 +189,14 @@ pub record TookBy (l : Lane) (input : Buffer ℕ) (reader : BodyReader) (sieve :
   pub next : HoldsNext l.ended l.reader reader l.input.items input.items old new more
   pub idle : IsIdle old × IsStill old
 
-pub took_by : (o : Option Sieve) (l : Lane) (input : Buffer ℕ) (reader : BodyReader) (sieve : Option Sieve) (more : Bool) → l.sieve ≡ o → Took l input reader sieve more → TookBy l input reader sieve more
+pub took_by : (o : Option Sieve) (l : LaneState) (input : Buffer ℕ) (reader : BodyReader) (sieve : Option Sieve) (more : Bool) → l.sieve ≡ o → Took l input reader sieve more → TookBy l input reader sieve more
 took_by None l input reader sieve more e x = absurd (x.some e)
 took_by (Some old) l input reader sieve more e x =
     let h : HoldsBy l.ended l.reader reader l.input.items input.items (Some old) sieve more = subst (λ (o : Option Sieve). HoldsBy l.ended l.reader reader l.input.items input.items o sieve more) e x.holds in
     record { old = old; new = h.0; was = e; is = h.1; next = h.2; idle = subst SieveRests e x.rests }
 
 -- the filters stay these, since some body is read by each reader
-pub took_nearer : (l : Lane) (input : Buffer ℕ) (reader : BodyReader) (sieve : Option Sieve) (x : Took l input reader sieve true) → 2 * length input.items + end_left l.source sieve < 2 * length l.input.items + end_left l.source l.sieve
+pub took_nearer : (l : LaneState) (input : Buffer ℕ) (reader : BodyReader) (sieve : Option Sieve) (x : Took l input reader sieve true) → 2 * length input.items + end_left l.source sieve < 2 * length l.input.items + end_left l.source l.sieve
 took_nearer l input reader sieve x =
     let t = took_by l.sieve l input reader sieve true refl x in
     let one : end_left l.source l.sieve ≡ 1 = ap (λ (src : Source). end_left src l.sieve) x.going ∙ ap (end_left source.Going) t.was ∙ ap is_open t.idle.0.end in
@@ -204,14 +204,14 @@ took_nearer l input reader sieve x =
     let three = t.next.nearer refl in
     omega arith
 
-pub took_these : (l : Lane) (input : Buffer ℕ) (reader : BodyReader) (sieve : Option Sieve) (more : Bool) → Took l input reader sieve more → (filters : List FilterSpec) → AreThese l.sieve filters → AreThese sieve filters
+pub took_these : (l : LaneState) (input : Buffer ℕ) (reader : BodyReader) (sieve : Option Sieve) (more : Bool) → Took l input reader sieve more → (filters : List FilterSpec) → AreThese l.sieve filters → AreThese sieve filters
 took_these l input reader sieve more x filters these =
     let t = took_by l.sieve l input reader sieve more refl x in
     let old : AreThese (Some t.old) filters = subst (λ (o : Option Sieve). AreThese o filters) t.was these in
     subst (λ (o : Option Sieve). AreThese o filters) (sym t.is) (t.next.these filters old.0 old.1 old.2)
 
 -- the input shrinks
-pub took_shrinks : (l : Lane) (p : Past) (input : Buffer ℕ) (reader : BodyReader) (sieve : Option Sieve) (more : Bool) (t : TookBy l input reader sieve more) (s : Sends l p) → l.source ≡ source.Going → SieveRests l.sieve
+pub took_shrinks : (l : LaneState) (p : Past) (input : Buffer ℕ) (reader : BodyReader) (sieve : Option Sieve) (more : Bool) (t : TookBy l input reader sieve more) (s : Sends l p) → l.source ≡ source.Going → SieveRests l.sieve
     → HoldsSo l.limits p.reads p.filters l.ended reader s.used s.found s.passed l.input.items input.items t.new more
 took_shrinks l p input reader sieve more t s going rests =
     let none = sends_section l p s going rests in
@@ -219,7 +219,7 @@ took_shrinks l p input reader sieve more t s going rests =
     let has : HasSieved p.filters s.found s.passed t.old = subst (λ (o : Option Sieve). HasPassed o p.filters s.found s.passed) t.was s.has_passed in
     t.next.leads l.limits p.reads p.filters s.used s.found s.passed read has
 
-pub sends_held : (l : Lane) (p : Past) (input : Buffer ℕ) (reader : BodyReader) (sieve : Option Sieve) (more : Bool) → Took l input reader sieve more → Sends l p → Sends (after_hold l input reader sieve) p
+pub sends_held : (l : LaneState) (p : Past) (input : Buffer ℕ) (reader : BodyReader) (sieve : Option Sieve) (more : Bool) → Took l input reader sieve more → Sends l p → Sends (after_hold l input reader sieve) p
 sends_held l p input reader sieve more x s =
     let t = took_by l.sieve l input reader sieve more refl x in
     let h = took_shrinks l p input reader sieve more t s x.going x.rests in
@@ -246,7 +246,7 @@ sends_held l p input reader sieve more x s =
           (sends_going l p s x.going d);
     }
 
-pub held_rests : (l : Lane) (p : Past) (input : Buffer ℕ) (reader : BodyReader) (sieve : Option Sieve) → Took l input reader sieve false → Sends l p → RestsFor (after_hold l input reader sieve)
+pub held_rests : (l : LaneState) (p : Past) (input : Buffer ℕ) (reader : BodyReader) (sieve : Option Sieve) → Took l input reader sieve false → Sends l p → RestsFor (after_hold l input reader sieve)
 held_rests l p input reader sieve x s =
     let t = took_by l.sieve l input reader sieve false refl x in
     let h = took_shrinks l p input reader sieve false t s x.going x.rests in

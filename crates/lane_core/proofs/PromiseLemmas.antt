@@ -4,7 +4,7 @@ use Rattle.std.specs.Prelude.{Option, Some, map}
 use Rattle.std.proofs.lemmas.List.{append-nil}
 use Rattle.htx_model.specs.Block.{Block}
 use Rattle.htx_model.specs.Blocks.{flow, append_data}
-use Rattle.http_model.specs.Head.{Field}
+use Rattle.http_model.specs.Head.{Field, front_blocks, message_blocks, ended_trailers, trailer_block}
 use Rattle.http_model.specs.Reading.{Whole, Broke, Bad}
 use Rattle.http_model.specs.declared.Ending.{Ending}
 use Rattle.http_model.specs.declared.Ending.TheVariants as ending
@@ -19,7 +19,6 @@ use Rattle.h1_write.specs.declared.writer.Stage.{Stage}
 use Rattle.h1_write.specs.declared.writer.Stage.TheVariants as at
 use Rattle.h1_write.specs.declared.writer.Writer.{Writer}
 use Rattle.h1_write.specs.Spelled.{IsEven, done_at, ended_at}
-use Rattle.http_model.specs.Head.{front_blocks, message_blocks, ended_trailers, trailer_block}
 use Rattle.h1_write.proofs.Told.{front_told, cut_front_told, whole_told, cut_told}
 use Rattle.lane_core.specs.Sent.{Sent, Finish, Cut, Ends, SpellsAs, IsFrontOf, message_of}
 use Rattle.lane_core.specs.Carried.{Carried, CarriesFront, Carries, EndIsOut}
@@ -28,7 +27,7 @@ use Rattle.lane_core.specs.Filtering.{IsWholeAt, IsCutAt, CutBy, Broken, Refused
 use Rattle.lane_core.specs.Promise.{Promise, BodyTaken, HasBody, OnEachBody, GoesOnWith, body_in, body_sent, filter_of, finish_of, ends_as, IsCut, IsCutWith}
 use Rattle.lane_core.specs.declared.stage.Source.{Source}
 use Rattle.lane_core.specs.declared.stage.Source.TheVariants as source
-use Rattle.lane_core.specs.declared.lane.Lane.{Lane}
+use Rattle.lane_core.specs.State.{LaneState}
 use Rattle.htx_model.proofs.Flows.{flow-front}
 use Rattle.lane_core.proofs.FlowLemmas.{front_flow, front_more, front_ended}
 use Rattle.lane_core.proofs.ReadLemmas.{no_trailers}
@@ -85,7 +84,7 @@ spelled_cut w s found put left msg c none empty even =
 -- ---- what the bytes come to
 
 -- the reading of the bytes taken and of those that follow
-reading : (l : Lane) (p : Past) (s : Sends l p) (more : List ℕ) (ending : Option Ending) (read : BodyRead) → BodyTaken l p more ending read → IsBodyOf l.limits p.reads (s.used ++ (l.input.items ++ more)) ending read
+reading : (l : LaneState) (p : Past) (s : Sends l p) (more : List ℕ) (ending : Option Ending) (read : BodyRead) → BodyTaken l p more ending read → IsBodyOf l.limits p.reads (s.used ++ (l.input.items ++ more)) ending read
 reading l p s more ending read x =
     subst (λ (bytes : List ℕ). IsBodyOf l.limits p.reads bytes ending read) (ap (λ (b : List ℕ). b ++ more) s.bytes ∙ append_assoc s.used l.input.items more) x
 
@@ -93,7 +92,7 @@ ended_more : (ended : Option Ending) (more : List ℕ) (ending : Option Ending) 
 ended_more ended more ending how e g = subst (λ (o : Option Ending). GoesOnWith o more ending) e g
 
 -- it is whole, with what follows it
-whole_is : (l : Lane) (p : Past) (s : Sends l p) (trailers : List Field) → IsWholeAt l.reader l.ended l.input.items s.section → HasTrailers s.section trailers
+whole_is : (l : LaneState) (p : Past) (s : Sends l p) (trailers : List Field) → IsWholeAt l.reader l.ended l.input.items s.section → HasTrailers s.section trailers
     → (more : List ℕ) (last : Option Ending) → GoesOnWith l.ended more last → (read : BodyRead) → BodyTaken l p more last read → read ≡ Reads (Whole s.found trailers (l.input.items ++ more))
 whole_is l p s trailers (inl whole) has more last g read x =
     one_reading l.limits p.reads (s.used ++ (l.input.items ++ more)) last read (Reads (Whole s.found trailers (l.input.items ++ more))) (reading l p s more last read x)
@@ -110,12 +109,12 @@ whole_is l p s trailers (inr (ended, ends, empty, none)) has more last g read x 
     ∙ ap (λ (ts : List Field). Reads (Whole s.found ts [])) same ∙ ap (λ (b : List ℕ). Reads (Whole s.found trailers b)) (sym nothing)
 
 -- a reading of the bytes behind the head
-taken : (l : Lane) (p : Past) (s : Sends l p) (more : List ℕ) (ending : Option Ending) (read : BodyRead) → IsBodyOf l.limits p.reads (s.used ++ (l.input.items ++ more)) ending read → BodyTaken l p more ending read
+taken : (l : LaneState) (p : Past) (s : Sends l p) (more : List ℕ) (ending : Option Ending) (read : BodyRead) → IsBodyOf l.limits p.reads (s.used ++ (l.input.items ++ more)) ending read → BodyTaken l p more ending read
 taken l p s more ending read x =
     subst (λ (bytes : List ℕ). IsBodyOf l.limits p.reads bytes ending read) (sym (ap (λ (b : List ℕ). b ++ more) s.bytes ∙ append_assoc s.used l.input.items more)) x
 
 -- a body that is whole has a reading, whatever follows it
-whole_read : (l : Lane) (p : Past) (s : Sends l p) (trailers : List Field) → IsWholeAt l.reader l.ended l.input.items s.section → HasTrailers s.section trailers → HasBody l p
+whole_read : (l : LaneState) (p : Past) (s : Sends l p) (trailers : List Field) → IsWholeAt l.reader l.ended l.input.items s.section → HasTrailers s.section trailers → HasBody l p
 whole_read l p s trailers (inl whole) has more last g = (
   Reads (Whole s.found trailers (l.input.items ++ more)),
   taken l p s more last (Reads (Whole s.found trailers (l.input.items ++ more)))
@@ -135,7 +134,7 @@ record IsCutHere (found : List ℕ) (read : BodyRead) : Type 0 where
   pub body : body_in read ≡ found
   pub cut : IsCut read
 
-cut_is : (l : Lane) (p : Past) (s : Sends l p) → IsCutAt l.reader l.ended l.input.items
+cut_is : (l : LaneState) (p : Past) (s : Sends l p) → IsCutAt l.reader l.ended l.input.items
     → (more : List ℕ) (ending : Option Ending) → GoesOnWith l.ended more ending → (read : BodyRead) → BodyTaken l p more ending read → IsCutHere s.found read
 cut_is l p s (inl bad) more ending g read x =
     let same : read ≡ Reads (Bad s.found) = one_reading l.limits p.reads (s.used ++ (l.input.items ++ more)) ending read (Reads (Bad s.found)) (reading l p s more ending read x)
@@ -160,7 +159,7 @@ all_that_came filters (Reads (Bad body)) h = refl
 all_that_came filters (More body) h = absurd h
 
 -- and so of one that is cut where the bytes were read to
-cut_filtered : (l : Lane) (p : Past) (s : Sends l p) → IsCutAt l.reader l.ended l.input.items
+cut_filtered : (l : LaneState) (p : Past) (s : Sends l p) → IsCutAt l.reader l.ended l.input.items
     → (more : List ℕ) (ending : Option Ending) → GoesOnWith l.ended more ending → (read : BodyRead) → BodyTaken l p more ending read → filter_of p.filters read ≡ filtered p.filters true s.found
 cut_filtered l p s at more ending g read x =
     let here = cut_is l p s at more ending g read x in
@@ -195,7 +194,7 @@ record CutSource (p : Past) (passed : List ℕ) (code : ℕ) (read : BodyRead) :
   pub finish : finish_of p.filters read ≡ Cut
   pub why : IsCutWith code p.filters read
 
-cut_source : (l : Lane) (p : Past) (s : Sends l p) (code : ℕ) → CutBy p.filters l.reader l.ended l.input.items s.section s.found s.passed code
+cut_source : (l : LaneState) (p : Past) (s : Sends l p) (code : ℕ) → CutBy p.filters l.reader l.ended l.input.items s.section s.found s.passed code
     → (more : List ℕ) (ending : Option Ending) → GoesOnWith l.ended more ending → (read : BodyRead) → BodyTaken l p more ending read → CutSource p s.passed code read
 cut_source l p s code (Broken four at all) more ending g read x =
     let here = cut_is l p s at more ending g read x in
@@ -220,21 +219,21 @@ cut_source l p s code (RefusedAtEnd (inl at) whole) more ending g read x =
 
 -- ---- the promise
 
-source_is : (l : Lane) (p : Past) (s : Sends l p) (src : Source) → l.source ≡ src → SourceIs src l.sieve p.filters l.reader l.ended l.input.items s.section s.found s.passed
+source_is : (l : LaneState) (p : Past) (s : Sends l p) (src : Source) → l.source ≡ src → SourceIs src l.sieve p.filters l.reader l.ended l.input.items s.section s.found s.passed
 source_is l p s src e = subst (λ (x : Source). SourceIs x l.sieve p.filters l.reader l.ended l.input.items s.section s.found s.passed) e s.source
 
-pub text_is : (l : Lane) (p : Past) (s : Sends l p) (src : Source) → l.source ≡ src → l.dropped ≡ false → Carries src l.writer p.sent (p.sent.given ++ s.passed) s.section (put_out l p) l.out.blocks l.msg.blocks
+pub text_is : (l : LaneState) (p : Past) (s : Sends l p) (src : Source) → l.source ≡ src → l.dropped ≡ false → Carries src l.writer p.sent (p.sent.given ++ s.passed) s.section (put_out l p) l.out.blocks l.msg.blocks
 text_is l p s src e d = subst (λ (x : Source). Carries x l.writer p.sent (p.sent.given ++ s.passed) s.section (put_out l p) l.out.blocks l.msg.blocks) e (s.text d)
 
 -- while it goes on
-going_front : (l : Lane) (p : Past) (s : Sends l p) → CarriesFront l.writer p.sent (p.sent.given ++ s.passed) (put_out l p) l.out.blocks l.msg.blocks
+going_front : (l : LaneState) (p : Past) (s : Sends l p) → CarriesFront l.writer p.sent (p.sent.given ++ s.passed) (put_out l p) l.out.blocks l.msg.blocks
     → (more : List ℕ) (ending : Option Ending) → GoesOnWith l.ended more ending → (read : BodyRead) → BodyTaken l p more ending read → (rest : List ℕ) → (filter_of p.filters read).output ≡ s.passed ++ rest
     → IsFrontOf p.sent (body_sent p read) (finish_of p.filters read) (put_out l p)
 going_front l p s c more ending g read x rest e =
     front_as l.writer p.sent (p.sent.given ++ s.passed) rest (put_out l p) l.out.blocks l.msg.blocks (finish_of p.filters read) (body_sent p read) c
     (ap (λ (b : List ℕ). p.sent.given ++ b) e ∙ sym (append_assoc p.sent.given s.passed rest))
 
-passes_read : (l : Lane) (p : Past) (s : Sends l p) → Passes p.filters s.found s.passed → (more : List ℕ) (ending : Option Ending) (read : BodyRead) → BodyTaken l p more ending read
+passes_read : (l : LaneState) (p : Past) (s : Sends l p) → Passes p.filters s.found s.passed → (more : List ℕ) (ending : Option Ending) (read : BodyRead) → BodyTaken l p more ending read
     → (rest : List ℕ) × ((filter_of p.filters read).output ≡ s.passed ++ rest)
 passes_read l p s h more ending read x =
     let body = grows l.limits p.reads s.used s.found s.section (l.input.items ++ more) l.reader ending read s.has_read (reading l p s more ending read x) in
@@ -242,7 +241,7 @@ passes_read l p s h more ending read x =
     let on = h.on way.0 body.0 in
     (on.0, ap (λ (f : Filtered). f.output) way.1 ∙ ap (λ (b : List ℕ). (filtered p.filters way.0 b).output) body.1 ∙ on.1)
 
-front_going : (l : Lane) (p : Past) (s : Sends l p) → Came p.filters l.reader l.ended l.input.items s.section s.found s.passed → CarriesFront l.writer p.sent (p.sent.given ++ s.passed) (put_out l p) l.out.blocks l.msg.blocks
+front_going : (l : LaneState) (p : Past) (s : Sends l p) → Came p.filters l.reader l.ended l.input.items s.section s.found s.passed → CarriesFront l.writer p.sent (p.sent.given ++ s.passed) (put_out l p) l.out.blocks l.msg.blocks
     → OnEachBody l p (λ read. IsFrontOf p.sent (body_sent p read) (finish_of p.filters read) (put_out l p))
 front_going l p s (GoesOn h) c more ending g read x = let on = passes_read l p s h more ending read x in going_front l p s c more ending g read x on.0 on.1
 front_going l p s (CutHere at h) c more ending g read x =
@@ -253,12 +252,12 @@ front_going l p s (WholeHere at h) c more ending g read x =
     going_front l p s c more ending g read x h.all.0 (ap (λ (r : BodyRead). (filter_of p.filters r).output) same ∙ h.all.1)
 
 -- a source that is whole: the reading, and what is sent of it
-record WholeSource (l : Lane) (p : Past) (s : Sends l p) (trailers : List Field) (more : List ℕ) (read : BodyRead) : Type 0 where
+record WholeSource (l : LaneState) (p : Past) (s : Sends l p) (trailers : List Field) (more : List ℕ) (read : BodyRead) : Type 0 where
   pub is : read ≡ Reads (Whole s.found trailers (l.input.items ++ more))
   pub sent : body_sent p read ≡ p.sent.given ++ s.passed
   pub finish : finish_of p.filters read ≡ Ends trailers
 
-whole_source : (l : Lane) (p : Past) (s : Sends l p) (trailers : List Field) → HasTrailers s.section trailers → IsWholeAt l.reader l.ended l.input.items s.section → filtered p.filters true s.found ≡ record { output = s.passed; state = state.Over }
+whole_source : (l : LaneState) (p : Past) (s : Sends l p) (trailers : List Field) → HasTrailers s.section trailers → IsWholeAt l.reader l.ended l.input.items s.section → filtered p.filters true s.found ≡ record { output = s.passed; state = state.Over }
     → (more : List ℕ) (ending : Option Ending) → GoesOnWith l.ended more ending → (read : BodyRead) → BodyTaken l p more ending read → WholeSource l p s trailers more read
 whole_source l p s trailers has at over more ending g read x =
     let same = whole_is l p s trailers at has more ending g read x in
@@ -268,7 +267,7 @@ whole_source l p s trailers has at over more ending g read x =
       finish = ap (finish_of p.filters) same ∙ ap (λ (f : Filtered). ends_as f.state trailers) over;
     }
 
-front_of : (l : Lane) (p : Past) → Stands l p → (src : Source) → l.source ≡ src → l.dropped ≡ false → OnEachBody l p (λ read. IsFrontOf p.sent (body_sent p read) (finish_of p.filters read) (put_out l p))
+front_of : (l : LaneState) (p : Past) → Stands l p → (src : Source) → l.source ≡ src → l.dropped ≡ false → OnEachBody l p (λ read. IsFrontOf p.sent (body_sent p read) (finish_of p.filters read) (put_out l p))
 front_of l p st source.Going e d more ending g read x =
     let s = st.sends in
     front_going l p s (came_by l.sieve p.filters l.reader l.ended l.input.items s.section s.found s.passed (source_is l p s source.Going e) s.has_passed) (text_is l p s source.Going e d) more ending g read x
@@ -286,7 +285,7 @@ front_of l p st (source.Cut code) e d more ending g read x =
     let here = cut_source l p s code (source_is l p s (source.Cut code) e) more ending g read x in
     going_front l p s c more ending g read x [] (here.output ∙ sym (append-nil s.passed))
 
-spelled_at : (l : Lane) (p : Past) → Stands l p → (src : Source) → l.source ≡ src → IsAllOut l → l.dropped ≡ false → OnEachBody l p (λ read. SpellsAs p.sent (body_sent p read) (finish_of p.filters read) (put_out l p))
+spelled_at : (l : LaneState) (p : Past) → Stands l p → (src : Source) → l.source ≡ src → IsAllOut l → l.dropped ≡ false → OnEachBody l p (λ read. SpellsAs p.sent (body_sent p read) (finish_of p.filters read) (put_out l p))
 spelled_at l p st source.Going e out d more ending g read x = absurd (out.source e)
 spelled_at l p st source.Whole e out d more ending g read x =
     let s = st.sends in
@@ -308,7 +307,7 @@ spelled_at l p st (source.Cut code) e out d more ending g read x =
     subst (λ (f : Finish). SpellsAs p.sent (body_sent p read) f (put_out l p)) (sym here.finish)
     (subst (λ (b : List ℕ). SpellsAs p.sent b Cut (put_out l p)) (ap (λ (b : List ℕ). p.sent.given ++ b) (sym here.output)) (spelled_cut l.writer p.sent (p.sent.given ++ s.passed) (put_out l p) l.out.blocks l.msg.blocks c out.out out.msg end))
 
-pub promise : (l : Lane) (p : Past) → Stands l p → Promise l p
+pub promise : (l : LaneState) (p : Past) → Stands l p → Promise l p
 promise l p st = record {
   front = λ d. front_of l p st l.source refl d;
   spelled = λ done d. spelled_at l p st l.source refl (st.over done d) d;
@@ -320,7 +319,7 @@ promise l p st = record {
   cut = λ code e more ending g read x. (let s = st.sends in (cut_source l p s code (source_is l p s (source.Cut code) e) more ending g read x).why);
 }
 
-pub has_body : (l : Lane) (p : Past) → Stands l p → l.source ≡ source.Whole → HasBody l p
+pub has_body : (l : LaneState) (p : Past) → Stands l p → l.source ≡ source.Whole → HasBody l p
 has_body l p st e =
     let s = st.sends in
     let is = source_is l p s source.Whole e in

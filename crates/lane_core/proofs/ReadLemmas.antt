@@ -5,7 +5,7 @@ use Rattle.std.proofs.lemmas.List.{append-nil, length-append}
 use Rattle.wire_buf.specs.Buffer.{Buffer}
 use Rattle.htx_model.specs.Block.{Block}
 use Rattle.htx_arena.specs.Contents.{Contents}
-use Rattle.http_model.specs.Head.{Field}
+use Rattle.http_model.specs.Head.{Field, front_blocks, message_blocks, ended_trailers, trailer_block}
 use Rattle.std.specs.List.{flat_map}
 use Rattle.httparse.specs.Grammar as grammar
 use Rattle.httparse.specs.Grammar.{print_section, print_field, print_end}
@@ -22,7 +22,6 @@ use Rattle.h1_body.specs.Stands.{HasRead, state_at, section_in}
 use Rattle.h1_body.proofs.Told.{told}
 use Rattle.htx_model.specs.Blocks.{flow, append_data}
 use Rattle.h1_write.specs.declared.writer.Writer.{Writer}
-use Rattle.http_model.specs.Head.{front_blocks, message_blocks, ended_trailers, trailer_block}
 use Rattle.lane_core.specs.Sent.{Sent, message_of}
 use Rattle.lane_core.specs.Carried.{Carried, CarriesFront, Carries}
 use Rattle.htx_model.proofs.Flows.{flow-front}
@@ -31,7 +30,7 @@ use Rattle.lane_core.specs.Pulled.{Pulls, IsWaiting}
 use Rattle.lane_core.specs.Sends.{Past, Sends, SourceIs, put_out}
 use Rattle.lane_core.specs.declared.stage.Source.{Source}
 use Rattle.lane_core.specs.declared.stage.Source.TheVariants as source
-use Rattle.lane_core.specs.declared.lane.Lane.{Lane}
+use Rattle.lane_core.specs.State.{LaneState}
 use Rattle.lane_core.proofs.RoomLemmas.{some_end}
 use Rattle.body_sieve.specs.declared.sieve.Sieve.{Sieve}
 use Rattle.lane_core.specs.Filtering.{HasPassed, GoesOnBy, Broken}
@@ -124,10 +123,10 @@ whole_part (x ∷ section) piece trailers blocks plain ended has = inr (ended (�
 -- ---- the lane
 
 -- what a read leaves
-abbrev pub after_read : Lane → Buffer ℕ → BodyReader → Contents → Lane
+abbrev pub after_read : LaneState → Buffer ℕ → BodyReader → Contents → LaneState
 after_read l input reader msg = record l { input = input; reader = reader; msg = msg }
 
-pub record Reads (l : Lane) (input : Buffer ℕ) (reader : BodyReader) (msg : Contents) (used : ℕ) (st : BodyState) : Type 0 where
+pub record Reads (l : LaneState) (input : Buffer ℕ) (reader : BodyReader) (msg : Contents) (used : ℕ) (st : BodyState) : Type 0 where
   pub pulls : Pulls l.reader reader l.input.items input.items l.msg.size msg.blocks used st
   pub capacity : input.capacity ≡ l.input.capacity
   pub size : msg.size ≡ l.msg.size
@@ -136,35 +135,35 @@ pub record Reads (l : Lane) (input : Buffer ℕ) (reader : BodyReader) (msg : Co
   pub none : l.sieve ≡ None
 
 -- what was carried before, with the empty array
-pub carried : (l : Lane) (p : Past) (s : Sends l p) → l.source ≡ source.Going → l.msg.blocks ≡ [] → l.dropped ≡ false
+pub carried : (l : LaneState) (p : Past) (s : Sends l p) → l.source ≡ source.Going → l.msg.blocks ≡ [] → l.dropped ≡ false
     → CarriesFront l.writer p.sent (p.sent.given ++ s.passed) (put_out l p) l.out.blocks []
 carried l p s is none d =
     subst (λ (bs : List Block). CarriesFront l.writer p.sent (p.sent.given ++ s.passed) (put_out l p) l.out.blocks bs) none
     (sends_going l p s is d)
 
-pub further : (l : Lane) (p : Past) (passed piece : List ℕ) (msg : List Block) → CarriesFront l.writer p.sent ((p.sent.given ++ passed) ++ piece) (put_out l p) l.out.blocks msg
+pub further : (l : LaneState) (p : Past) (passed piece : List ℕ) (msg : List Block) → CarriesFront l.writer p.sent ((p.sent.given ++ passed) ++ piece) (put_out l p) l.out.blocks msg
     → CarriesFront l.writer p.sent (p.sent.given ++ (passed ++ piece)) (put_out l p) l.out.blocks msg
 further l p passed piece msg c = subst (λ (b : List ℕ). CarriesFront l.writer p.sent b (put_out l p) l.out.blocks msg) (append_assoc p.sent.given passed piece) c
 
-open_section : (l : Lane) (p : Past) (s : Sends l p) → l.source ≡ source.Going → l.sieve ≡ None → s.section ≡ []
+open_section : (l : LaneState) (p : Past) (s : Sends l p) → l.source ≡ source.Going → l.sieve ≡ None → s.section ≡ []
 open_section l p s going none = sends_section l p s going (none_rests l.sieve none)
 
-has_read_on : (l : Lane) (p : Past) (input : Buffer ℕ) (reader : BodyReader) (msg : Contents) (used : ℕ) (st : BodyState) (r : Reads l input reader msg used st) (s : Sends l p)
+has_read_on : (l : LaneState) (p : Past) (input : Buffer ℕ) (reader : BodyReader) (msg : Contents) (used : ℕ) (st : BodyState) (r : Reads l input reader msg used st) (s : Sends l p)
     → HasRead l.limits p.reads (s.used ++ r.pulls.used) (s.found ++ r.pulls.piece) r.pulls.section reader
 has_read_on l p input reader msg used st r s =
     subst (λ (xs : List ℕ). HasRead l.limits p.reads (s.used ++ r.pulls.used) (s.found ++ r.pulls.piece) (xs ++ r.pulls.section) reader) (open_section l p s r.going r.none)
     (r.pulls.reads l.limits p.reads s.used s.found s.section s.has_read)
 
-passed_on : (l : Lane) (p : Past) (s : Sends l p) → l.sieve ≡ None → (piece : List ℕ) → HasPassed l.sieve p.filters (s.found ++ piece) (s.passed ++ piece)
+passed_on : (l : LaneState) (p : Past) (s : Sends l p) → l.sieve ≡ None → (piece : List ℕ) → HasPassed l.sieve p.filters (s.found ++ piece) (s.passed ++ piece)
 passed_on l p s none piece =
     let is = no_filters l.sieve none p.filters s.found s.passed s.has_passed in
     subst (λ (o : Option Sieve). HasPassed o p.filters (s.found ++ piece) (s.passed ++ piece)) (sym none) (is.0, ap (λ (b : List ℕ). b ++ piece) is.1)
 
-wide : (l : Lane) (p : Past) → Sends l p → 8 ≤ l.msg.size
+wide : (l : LaneState) (p : Past) → Sends l p → 8 ≤ l.msg.size
 wide l p s = let a = s.sized.least in let b : l.msg.size ≡ l.limits.bufsize = s.sized.msg in omega arith
 
 -- the body still comes
-pub sends_more : (l : Lane) (p : Past) (input : Buffer ℕ) (reader : BodyReader) (msg : Contents) (used : ℕ) (st : BodyState) → Reads l input reader msg used st → st ≡ state.More
+pub sends_more : (l : LaneState) (p : Past) (input : Buffer ℕ) (reader : BodyReader) (msg : Contents) (used : ℕ) (st : BodyState) → Reads l input reader msg used st → st ≡ state.More
     → Sends l p → Sends (after_read l input reader msg) p
 sends_more l p input reader msg used st r is s =
     let x = r.pulls in
@@ -187,7 +186,7 @@ sends_more l p input reader msg used st r is s =
     }
 
 -- the body was whole
-pub sends_whole : (l : Lane) (p : Past) (input : Buffer ℕ) (reader : BodyReader) (msg : Contents) (used : ℕ) (st : BodyState) → Reads l input reader msg used st → st ≡ state.Whole
+pub sends_whole : (l : LaneState) (p : Past) (input : Buffer ℕ) (reader : BodyReader) (msg : Contents) (used : ℕ) (st : BodyState) → Reads l input reader msg used st → st ≡ state.Whole
     → Sends l p → Sends (record (after_read l input reader msg) { source = source.Whole }) p
 sends_whole l p input reader msg used st r is s =
     let x = r.pulls in
@@ -213,7 +212,7 @@ sends_whole l p input reader msg used st r is s =
     }
 
 -- the bytes were none
-pub sends_bad : (l : Lane) (p : Past) (input : Buffer ℕ) (reader : BodyReader) (msg : Contents) (used : ℕ) (st : BodyState) → Reads l input reader msg used st → st ≡ state.Bad
+pub sends_bad : (l : LaneState) (p : Past) (input : Buffer ℕ) (reader : BodyReader) (msg : Contents) (used : ℕ) (st : BodyState) → Reads l input reader msg used st → st ≡ state.Bad
     → Sends l p → Sends (record (after_read l input reader msg) { source = source.Cut 400 }) p
 sends_bad l p input reader msg used st r is s =
     let x = r.pulls in
@@ -234,7 +233,7 @@ sends_bad l p input reader msg used st r is s =
     }
 
 -- a read that used nothing waits
-pub read_waits : (l : Lane) (p : Past) (input : Buffer ℕ) (reader : BodyReader) (msg : Contents) (used : ℕ) (st : BodyState) → Reads l input reader msg used st → used ≡ 0
+pub read_waits : (l : LaneState) (p : Past) (input : Buffer ℕ) (reader : BodyReader) (msg : Contents) (used : ℕ) (st : BodyState) → Reads l input reader msg used st → used ≡ 0
     → Sends l p → IsWaiting reader input.items
 read_waits l p input reader msg used st r none s = r.pulls.waits l.limits p.reads s.used s.found s.section s.has_read s.sized.msg none
 

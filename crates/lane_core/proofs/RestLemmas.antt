@@ -19,7 +19,7 @@ use Rattle.lane_core.specs.Sends.{Past, Sends, Stands, IsAtRest, RestsFor, IsOve
 use Rattle.lane_core.specs.Filtering.{HasPassed, SieveRests}
 use Rattle.lane_core.specs.Promise.{BodyTaken, body_in, sent_so_far, ShowsNoCut, InSection}
 use Rattle.lane_core.specs.declared.stage.Source.TheVariants as source
-use Rattle.lane_core.specs.declared.lane.Lane.{Lane}
+use Rattle.lane_core.specs.State.{LaneState}
 use Rattle.lane_core.proofs.BodyLemmas.{waiting_body, waiting_open}
 use Rattle.lane_core.proofs.SendLemmas.{plain_settled}
 use Rattle.lane_core.proofs.PromiseLemmas.{spelled_cut, text_is}
@@ -35,15 +35,15 @@ settled_by (Some sieve) filters found passed rests h =
     ap (filtered filters false) all ∙ rests.1 filters u.used passed u.has
 
 -- what is known of the bytes taken where the lane waits
-record AtRest (l : Lane) (p : Past) (s : Sends l p) (read : BodyRead) : Type 0 where
+record AtRest (l : LaneState) (p : Past) (s : Sends l p) (read : BodyRead) : Type 0 where
   pub body : body_in read ≡ s.found
   pub open_ : (read ≡ More s.found) ⊎ InSection l
   pub passed : filtered p.filters false (body_in read) ≡ record { output = s.passed; state = state.Going }
 
-taken_here : (l : Lane) (p : Past) (s : Sends l p) (read : BodyRead) → BodyTaken l p [] l.ended read → IsBodyOf l.limits p.reads (s.used ++ l.input.items) l.ended read
+taken_here : (l : LaneState) (p : Past) (s : Sends l p) (read : BodyRead) → BodyTaken l p [] l.ended read → IsBodyOf l.limits p.reads (s.used ++ l.input.items) l.ended read
 taken_here l p s read x = subst (λ (bytes : List ℕ). IsBodyOf l.limits p.reads bytes l.ended read) (append-nil p.bytes ∙ s.bytes) x
 
-at_rest : (l : Lane) (p : Past) (s : Sends l p) → l.ended ≡ None → IsWaiting l.reader l.input.items → state_of l.reader ≡ body_state.More → SieveRests l.sieve → (read : BodyRead) → BodyTaken l p [] l.ended read → AtRest l p s read
+at_rest : (l : LaneState) (p : Past) (s : Sends l p) → l.ended ≡ None → IsWaiting l.reader l.input.items → state_of l.reader ≡ body_state.More → SieveRests l.sieve → (read : BodyRead) → BodyTaken l p [] l.ended read → AtRest l p s read
 at_rest l p s ended waits more still read x =
     let here : IsBodyOf l.limits p.reads (s.used ++ l.input.items) None read = subst (λ (end : Option Ending). IsBodyOf l.limits p.reads (s.used ++ l.input.items) end read) ended (taken_here l p s read x) in
     let body = waiting_body l.limits p.reads s.used s.found s.section l.input.items l.reader None read s.has_read more waits here in
@@ -53,7 +53,7 @@ at_rest l p s ended waits more still read x =
       passed = ap (filtered p.filters false) body ∙ settled_by l.sieve p.filters s.found s.passed still s.has_passed;
     }
 
-pub nothing_held_back : (l : Lane) (p : Past) → Stands l p → l.dropped ≡ false → l.source ≡ source.Going → IsAtRest l → (read : BodyRead) → BodyTaken l p [] l.ended read → SpellsAs p.sent (sent_so_far p read) Cut (put_out l p)
+pub nothing_held_back : (l : LaneState) (p : Past) → Stands l p → l.dropped ≡ false → l.source ≡ source.Going → IsAtRest l → (read : BodyRead) → BodyTaken l p [] l.ended read → SpellsAs p.sent (sent_so_far p read) Cut (put_out l p)
 nothing_held_back l p st d e rest read x = by rest.for
   where
     by : RestsFor l → SpellsAs p.sent (sent_so_far p read) Cut (put_out l p)
@@ -64,7 +64,7 @@ nothing_held_back l p st d e rest read x = by rest.for
         subst (λ (b : List ℕ). SpellsAs p.sent b Cut (put_out l p)) (ap (λ (f : Filtered). p.sent.given ++ f.output) (sym r.passed))
         (spelled_cut l.writer p.sent (p.sent.given ++ s.passed) (put_out l p) l.out.blocks l.msg.blocks (text_is l p s source.Going e d) rest.out rest.msg rest.rests)
 
-pub no_cut_shown : (l : Lane) (p : Past) → Stands l p → l.source ≡ source.Going → RestsFor l → ShowsNoCut l p
+pub no_cut_shown : (l : LaneState) (p : Past) → Stands l p → l.source ≡ source.Going → RestsFor l → ShowsNoCut l p
 no_cut_shown l p st e (IsOver over) = absurd (over e)
 no_cut_shown l p st e (Waits going ended waits more still) =
     let s = st.sends in

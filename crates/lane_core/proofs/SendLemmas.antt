@@ -20,7 +20,7 @@ use Rattle.lane_core.specs.Filtering.{HasPassed, SieveRests, GoesOnBy, EndsAt, B
 use Rattle.lane_core.specs.Sends.{Past, Sends, SourceIs, put_out}
 use Rattle.lane_core.specs.declared.stage.Source.{Source}
 use Rattle.lane_core.specs.declared.stage.Source.TheVariants as source
-use Rattle.lane_core.specs.declared.lane.Lane.{Lane}
+use Rattle.lane_core.specs.State.{LaneState}
 use Rattle.lane_core.proofs.CarryLemmas.{carries_closed}
 
 -- a body that a close ends waits for no byte that stands in the window
@@ -56,13 +56,13 @@ rests_section (Some sieve) reader ended input section rests h =
     let ends : EndsAt sieve.end reader ended input section = h.0 in
     subst (λ (e : BodyEnd). EndsAt e reader ended input section) rests.0.end ends
 
-pub sends_goes : (l : Lane) (p : Past) (s : Sends l p) → l.source ≡ source.Going → GoesOnBy l.sieve l.reader l.ended l.input.items s.section
+pub sends_goes : (l : LaneState) (p : Past) (s : Sends l p) → l.source ≡ source.Going → GoesOnBy l.sieve l.reader l.ended l.input.items s.section
 sends_goes l p s is = subst (λ (src : Source). SourceIs src l.sieve p.filters l.reader l.ended l.input.items s.section s.found s.passed) is s.source
 
-pub sends_section : (l : Lane) (p : Past) (s : Sends l p) → l.source ≡ source.Going → SieveRests l.sieve → s.section ≡ []
+pub sends_section : (l : LaneState) (p : Past) (s : Sends l p) → l.source ≡ source.Going → SieveRests l.sieve → s.section ≡ []
 sends_section l p s is rests = rests_section l.sieve l.reader l.ended l.input.items s.section rests (sends_goes l p s is)
 
-pub sends_going : (l : Lane) (p : Past) (s : Sends l p) → l.source ≡ source.Going → l.dropped ≡ false
+pub sends_going : (l : LaneState) (p : Past) (s : Sends l p) → l.source ≡ source.Going → l.dropped ≡ false
     → CarriesFront l.writer p.sent (p.sent.given ++ s.passed) (put_out l p) l.out.blocks l.msg.blocks
 sends_going l p s is d = subst (λ (src : Source). Carries src l.writer p.sent (p.sent.given ++ s.passed) s.section (put_out l p) l.out.blocks l.msg.blocks) is (s.text d)
 
@@ -95,7 +95,7 @@ none_rests sieve none = subst SieveRests (sym none) tt
 -- ---- the stream ends
 
 -- the body broke off
-pub sends_cut : (l : Lane) (p : Past) (how : Ending) → Sends l p → l.source ≡ source.Going → l.sieve ≡ None → l.ended ≡ Some how → IsWaiting l.reader l.input.items → state_of l.reader ≡ state.More
+pub sends_cut : (l : LaneState) (p : Past) (how : Ending) → Sends l p → l.source ≡ source.Going → l.sieve ≡ None → l.ended ≡ Some how → IsWaiting l.reader l.input.items → state_of l.reader ≡ state.More
     → (how ≡ ending.Closed → ends_of l.reader ≡ false) → Sends (record l { source = source.Cut 400 }) p
 sends_cut l p how s is none ended waits more open_ = record {
   used = s.used;
@@ -111,7 +111,7 @@ sends_cut l p how s is none ended waits more open_ = record {
 }
 
 -- it was whole
-pub sends_closed : (l : Lane) (p : Past) → Sends l p → l.source ≡ source.Going → l.sieve ≡ None → l.ended ≡ Some ending.Closed → IsWaiting l.reader l.input.items → state_of l.reader ≡ state.More
+pub sends_closed : (l : LaneState) (p : Past) → Sends l p → l.source ≡ source.Going → l.sieve ≡ None → l.ended ≡ Some ending.Closed → IsWaiting l.reader l.input.items → state_of l.reader ≡ state.More
     → ends_of l.reader ≡ true → Sends (record l { source = source.Whole }) p
 sends_closed l p s is plain ended waits more ends =
     let none = sends_section l p s is (none_rests l.sieve plain) in
@@ -130,7 +130,7 @@ sends_closed l p s is plain ended waits more ends =
     }
 
 -- what the end makes of it
-pub sends_source : (l : Lane) (p : Past) (src : Source) → (ends_of l.reader ≡ true → src ≡ source.Whole) → (ends_of l.reader ≡ false → src ≡ source.Cut 400)
+pub sends_source : (l : LaneState) (p : Past) (src : Source) → (ends_of l.reader ≡ true → src ≡ source.Whole) → (ends_of l.reader ≡ false → src ≡ source.Cut 400)
     → Sends l p → l.source ≡ source.Going → l.sieve ≡ None → l.ended ≡ Some ending.Closed → IsWaiting l.reader l.input.items → state_of l.reader ≡ state.More → Sends (record l { source = src }) p
 sends_source l p src whole cut s is none ended waits more = by (ends_of l.reader) refl
   where

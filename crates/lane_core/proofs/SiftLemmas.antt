@@ -36,7 +36,7 @@ use Rattle.lane_core.specs.declared.sift.Came.{Came}
 use Rattle.lane_core.specs.declared.sift.Came.TheVariants as came
 use Rattle.lane_core.specs.declared.stage.Source.{Source}
 use Rattle.lane_core.specs.declared.stage.Source.TheVariants as source
-use Rattle.lane_core.specs.declared.lane.Lane.{Lane}
+use Rattle.lane_core.specs.State.{LaneState}
 use Rattle.lane_core.proofs.RoomLemmas.{trailers_fit}
 use Rattle.lane_core.proofs.ReadLemmas.{carried, further, read_on, read_last}
 use Rattle.lane_core.proofs.SendLemmas.{sends_goes}
@@ -120,17 +120,17 @@ waits_left size (Some old) new blocks x (filters, (found, passed, has)) =
 -- ---- the message that is sent
 
 -- what a step of the filters leaves
-abbrev pub after_sift : Lane → Option Sieve → Contents → Source → Lane
+abbrev pub after_sift : LaneState → Option Sieve → Contents → Source → LaneState
 after_sift l sieve msg src = record l { sieve = sieve; msg = msg; source = src }
 
-pub record Steps (l : Lane) (sieve : Option Sieve) (msg : Contents) (answer : Came) : Type 0 where
+pub record Steps (l : LaneState) (sieve : Option Sieve) (msg : Contents) (answer : Came) : Type 0 where
   pub comes : ComesBy answer l.msg.size l.sieve sieve msg.blocks
   pub fits : SieveFits l.msg.size sieve
   pub size : msg.size ≡ l.msg.size
   pub empty : l.msg.blocks ≡ []
   pub going : l.source ≡ source.Going
 
-sends_as : (l : Lane) (p : Past) (sieve : Option Sieve) (msg : Contents) (answer : Came) (src : Source) (passed : List ℕ) (x : Steps l sieve msg answer) (s : Sends l p) → HasPassed sieve p.filters s.found passed
+sends_as : (l : LaneState) (p : Past) (sieve : Option Sieve) (msg : Contents) (answer : Came) (src : Source) (passed : List ℕ) (x : Steps l sieve msg answer) (s : Sends l p) → HasPassed sieve p.filters s.found passed
     → SourceIs src sieve p.filters l.reader l.ended l.input.items s.section s.found passed
     → (l.dropped ≡ false → Carries src l.writer p.sent (p.sent.given ++ passed) s.section (put_out l p) l.out.blocks msg.blocks) → Sends (after_sift l sieve msg src) p
 sends_as l p sieve msg answer src passed x s has is text = record {
@@ -155,7 +155,7 @@ sends_as l p sieve msg answer src passed x s has is text = record {
 }
 
 -- some bytes more passed
-given_text : (l : Lane) (p : Past) (s : Sends l p) (filters : List FilterSpec) (old new : Sieve) (msg : Contents) (g : Given filters s.found s.passed old new msg.blocks) → l.source ≡ source.Going → l.msg.blocks ≡ [] → l.dropped ≡ false
+given_text : (l : LaneState) (p : Past) (s : Sends l p) (filters : List FilterSpec) (old new : Sieve) (msg : Contents) (g : Given filters s.found s.passed old new msg.blocks) → l.source ≡ source.Going → l.msg.blocks ≡ [] → l.dropped ≡ false
     → CarriesFront l.writer p.sent (p.sent.given ++ (s.passed ++ g.piece)) (put_out l p) l.out.blocks msg.blocks
 given_text l p s filters old new msg g going empty d =
     further l p s.passed g.piece msg.blocks (read_on l.writer p.sent (p.sent.given ++ s.passed) g.piece (put_out l p) l.out.blocks msg.blocks (carried l p s going empty d) g.put)
@@ -189,7 +189,7 @@ some_trailers limits framing used found section input reader ended h (inl whole)
     (says.0, says.1)
 some_trailers limits framing used found section input reader ended h (inr (closed, ends, empty, none)) = ([], inl (none, refl))
 
-pub sends_given : (o : Option Sieve) (l : Lane) (p : Past) (sieve : Option Sieve) (msg : Contents) → l.sieve ≡ o → Steps l sieve msg came.More → Sends l p → Sends (after_sift l sieve msg l.source) p
+pub sends_given : (o : Option Sieve) (l : LaneState) (p : Past) (sieve : Option Sieve) (msg : Contents) → l.sieve ≡ o → Steps l sieve msg came.More → Sends l p → Sends (after_sift l sieve msg l.source) p
 sends_given None l p sieve msg is x s =
     let c : ComesBy came.More l.msg.size None sieve msg.blocks = subst (λ (o : Option Sieve). ComesBy came.More l.msg.size o sieve msg.blocks) is x.comes in
     absurd (let both : came.More ≡ came.Waits = c.1 in cc both)
@@ -205,7 +205,7 @@ sends_given (Some old) l p sieve msg is x s =
     (subst (λ (src : Source). SourceIs src sieve p.filters l.reader l.ended l.input.items s.section s.found (s.passed ++ g.piece)) (sym x.going) (subst (λ (o : Option Sieve). GoesOnBy o l.reader l.ended l.input.items s.section) (sym c.1) on))
     (λ d. subst (λ (src : Source). Carries src l.writer p.sent (p.sent.given ++ (s.passed ++ g.piece)) s.section (put_out l p) l.out.blocks msg.blocks) (sym x.going) (given_text l p s p.filters old c.0 msg g x.going x.empty d))
 
-pub sends_waiting : (o : Option Sieve) (l : Lane) (p : Past) (sieve : Option Sieve) (msg : Contents) → l.sieve ≡ o → Steps l sieve msg came.Waits → Sends l p → Sends (after_sift l sieve msg l.source) p
+pub sends_waiting : (o : Option Sieve) (l : LaneState) (p : Past) (sieve : Option Sieve) (msg : Contents) → l.sieve ≡ o → Steps l sieve msg came.Waits → Sends l p → Sends (after_sift l sieve msg l.source) p
 sends_waiting None l p sieve msg is x s =
     let c : ComesBy came.Waits l.msg.size None sieve msg.blocks = subst (λ (o : Option Sieve). ComesBy came.Waits l.msg.size o sieve msg.blocks) is x.comes in
     let same : l.sieve ≡ sieve = is ∙ sym c.0 in
@@ -234,14 +234,14 @@ end_at body_end.Accepted reader ended input section is h = inl h
 end_at body_end.Cut reader ended input section is h = inr h
 
 -- why it is cut
-cut_now : (l : Lane) (p : Past) (s : Sends l p) (old : Sieve) (passed : List ℕ) (code : ℕ) → EndsAt (end_of old) l.reader l.ended l.input.items s.section → IsCutNow (end_of old) p.filters s.found passed code
+cut_now : (l : LaneState) (p : Past) (s : Sends l p) (old : Sieve) (passed : List ℕ) (code : ℕ) → EndsAt (end_of old) l.reader l.ended l.input.items s.section → IsCutNow (end_of old) p.filters s.found passed code
     → CutBy p.filters l.reader l.ended l.input.items s.section s.found passed code
 cut_now l p s old passed code ends (inl (is, four, all)) =
     Broken four (subst (λ (b : BodyEnd). EndsAt b l.reader l.ended l.input.items s.section) is ends) all
 cut_now l p s old passed code ends (inr (inl now)) = RefusedNow now
 cut_now l p s old passed code ends (inr (inr (is, whole))) = RefusedAtEnd (end_at (end_of old) l.reader l.ended l.input.items s.section is ends) whole
 
-pub sends_ended : (o : Option Sieve) (src : Source) (l : Lane) (p : Past) (sieve : Option Sieve) (msg : Contents) → l.sieve ≡ o → Steps l sieve msg (came.Ends src) → Sends l p → Sends (after_sift l sieve msg src) p
+pub sends_ended : (o : Option Sieve) (src : Source) (l : LaneState) (p : Past) (sieve : Option Sieve) (msg : Contents) → l.sieve ≡ o → Steps l sieve msg (came.Ends src) → Sends l p → Sends (after_sift l sieve msg src) p
 sends_ended None src l p sieve msg is x s =
     let c : ComesBy (came.Ends src) l.msg.size None sieve msg.blocks = subst (λ (o : Option Sieve). ComesBy (came.Ends src) l.msg.size o sieve msg.blocks) is x.comes in
     absurd (let both : came.Ends src ≡ came.Waits = c.1 in cc both)

@@ -26,7 +26,7 @@ use Rattle.lane_core.specs.Sends.{Past, Sends, SourceIs, IsAtRest, IsDrained, Re
 use Rattle.lane_core.specs.declared.stage.Stage.{Stage as LaneStage}
 use Rattle.lane_core.specs.declared.stage.Stage.TheVariants as stage
 use Rattle.lane_core.specs.declared.stage.Source.TheVariants as source
-use Rattle.lane_core.specs.declared.lane.Lane.{Lane}
+use Rattle.lane_core.specs.State.{LaneState}
 
 -- a window in which nothing can be used is short
 waits_short : (st : Stage) (most : ℕ) (w : List ℕ) → state_at st ≡ state.More → WaitsAt most st w 1 → (length w ≤ 255) ⊎ (length w < most)
@@ -43,21 +43,21 @@ waits_short at.LineEnd most w more (inl e) = let len = ap length e in inl (omega
 waits_short at.LineEnd most w more (inr e) = let len = ap length e in inl (omega arith)
 waits_short at.Section most w more may = inr may.short
 
-pub waiting_room : (l : Lane) (p : Past) → Sends l p → IsWaiting l.reader l.input.items → state_of l.reader ≡ state.More → length l.input.items < l.input.capacity
+pub waiting_room : (l : LaneState) (p : Past) → Sends l p → IsWaiting l.reader l.input.items → state_of l.reader ≡ state.More → length l.input.items < l.input.capacity
 waiting_room l p s waits more = by (waits_short l.reader.stage l.reader.section_limit l.input.items more waits)
   where
     by : (length l.input.items ≤ 255) ⊎ (length l.input.items < l.reader.section_limit) → length l.input.items < l.input.capacity
     by (inl few) = let a = s.sized.least in let b = s.sized.input in omega arith
     by (inr few) = let a = s.sized.least in let b = s.sized.input in let c : l.reader.section_limit ≡ section_limit l.limits = s.has_read.limit in omega arith
 
-rests_stage : (l : Lane) (x : LaneStage) → RestsFor l → RestsFor (record l { stage = x })
+rests_stage : (l : LaneState) (x : LaneStage) → RestsFor l → RestsFor (record l { stage = x })
 rests_stage l x (IsOver over) = IsOver over
 rests_stage l x (Waits going ended waits more still) = Waits going ended waits more still
 
-at_rest_stage : (l : Lane) (x : LaneStage) → IsAtRest l → IsAtRest (record l { stage = x })
+at_rest_stage : (l : LaneState) (x : LaneStage) → IsAtRest l → IsAtRest (record l { stage = x })
 at_rest_stage l x r = record { msg = r.msg; out = r.out; rests = r.rests; end = r.end; for = rests_stage l x r.for }
 
-pub goes_on : (l : Lane) (p : Past) → Sends l p → (l.output.capacity ≤ length l.output.items) ⊎ IsAtRest l → (IsAtRest l → l.source ≢ source.Going → ⊥) → GoesOn l
+pub goes_on : (l : LaneState) (p : Past) → Sends l p → (l.output.capacity ≤ length l.output.items) ⊎ IsAtRest l → (IsAtRest l → l.source ≢ source.Going → ⊥) → GoesOn l
 goes_on l p s (inl full) over = let a = s.sized.output in inl (omega arith)
 goes_on l p s (inr r) over = by r.for
   where
@@ -65,23 +65,23 @@ goes_on l p s (inr r) over = by r.for
     by (IsOver is) = absurd (over r is)
     by (Waits going ended waits more still) = inr (going, waiting_room l p s waits more, ended)
 
-pub at_rest : (l : Lane) (x : LaneStage) (new : Lane) (p : Past) → Sends l p → (l.output.capacity ≤ length l.output.items) ⊎ IsAtRest l → new ≡ record l { stage = x } → new.output.items ≡ [] → IsAtRest new
+pub at_rest : (l : LaneState) (x : LaneStage) (new : LaneState) (p : Past) → Sends l p → (l.output.capacity ≤ length l.output.items) ⊎ IsAtRest l → new ≡ record l { stage = x } → new.output.items ≡ [] → IsAtRest new
 at_rest l x new p s (inl full) same none =
     let a = s.sized.output in
-    let b : l.output.items ≡ [] = ap (λ (n : Lane). n.output.items) (sym same) ∙ none in
+    let b : l.output.items ≡ [] = ap (λ (n : LaneState). n.output.items) (sym same) ∙ none in
     let c : length l.output.items ≡ 0 = ap length b in
     absurd (omega arith)
 at_rest l x new p s (inr r) same none = subst IsAtRest (sym same) (at_rest_stage l x r)
 
-pub going_on : (l : Lane) (p : Past) → Sends l p → RestsFor l → l.source ≡ source.Going → GoesOn l
+pub going_on : (l : LaneState) (p : Past) → Sends l p → RestsFor l → l.source ≡ source.Going → GoesOn l
 going_on l p s (IsOver is) going = absurd (is going)
 going_on l p s (Waits going ended waits more still) is = inr (going, waiting_room l p s waits more, ended)
 
-pub rests_done : (l : Lane) (x : LaneStage) → RestsFor l → RestsFor (record l { stage = x })
+pub rests_done : (l : LaneState) (x : LaneStage) → RestsFor l → RestsFor (record l { stage = x })
 rests_done l x r = rests_stage l x r
 
 -- the same lane at another stage
-pub stands_at : (l : Lane) (x : LaneStage) (p : Past) → Sends l p → (x ≡ stage.Done → IsAllOut l) → Stands (record l { stage = x }) p
+pub stands_at : (l : LaneState) (x : LaneStage) (p : Past) → Sends l p → (x ≡ stage.Done → IsAllOut l) → Stands (record l { stage = x }) p
 stands_at l x p s out = record {
   sends = record {
     used = s.used;
@@ -101,30 +101,30 @@ stands_at l x p s out = record {
 
 -- ---- what is left
 
-pub reads_same : (old new : Lane) → new.input ≡ old.input → new.source ≡ old.source → new.sieve ≡ old.sieve → reads_left new ≡ reads_left old
+pub reads_same : (old new : LaneState) → new.input ≡ old.input → new.source ≡ old.source → new.sieve ≡ old.sieve → reads_left new ≡ reads_left old
 reads_same old new input src sieve =
     ap (λ (b : Buffer ℕ). 2 * length b.items + end_left new.source new.sieve) input ∙ ap (λ (x : Source). 2 * length old.input.items + end_left x new.sieve) src
     ∙ ap (λ (o : Option Sieve). 2 * length old.input.items + end_left old.source o) sieve
 
 -- with nothing in the first array
-pub brings_none : (old new : Lane) → new.msg.blocks ≡ [] → new.source ≡ old.source → new.sieve ≡ old.sieve → brings_left new ≡ 2 * (held_left old.sieve + is_going old.source)
+pub brings_none : (old new : LaneState) → new.msg.blocks ≡ [] → new.source ≡ old.source → new.sieve ≡ old.sieve → brings_left new ≡ 2 * (held_left old.sieve + is_going old.source)
 brings_none old new none src sieve =
     ap (λ (bs : List Block). 2 * (held_left new.sieve + is_going new.source) + (if nat_lt 0 (length bs) then 1 else 0)) none
     ∙ ap (λ (o : Option Sieve). 2 * (held_left o + is_going new.source) + 0) sieve ∙ ap (λ (x : Source). 2 * (held_left old.sieve + is_going x) + 0) src ∙ omega arith
 
-pub brings_same : (old new : Lane) → new.msg ≡ old.msg → new.source ≡ old.source → new.sieve ≡ old.sieve → brings_left new ≡ brings_left old
+pub brings_same : (old new : LaneState) → new.msg ≡ old.msg → new.source ≡ old.source → new.sieve ≡ old.sieve → brings_left new ≡ brings_left old
 brings_same old new msg src sieve =
     ap (λ (m : Contents). 2 * (held_left new.sieve + is_going new.source) + (if nat_lt 0 (length m.blocks) then 1 else 0)) msg
     ∙ ap (λ (o : Option Sieve). 2 * (held_left o + is_going new.source) + (if nat_lt 0 (length old.msg.blocks) then 1 else 0)) sieve
     ∙ ap (λ (x : Source). 2 * (held_left old.sieve + is_going x) + (if nat_lt 0 (length old.msg.blocks) then 1 else 0)) src
 
 -- where the window is not full, all was brought
-pub drained : (l : Lane) → (l.output.capacity ≤ length l.output.items) ⊎ IsDrained l → length l.output.items < l.output.capacity → IsDrained l
+pub drained : (l : LaneState) → (l.output.capacity ≤ length l.output.items) ⊎ IsDrained l → length l.output.items < l.output.capacity → IsDrained l
 drained l (inl full) free = absurd (omega arith)
 drained l (inr d) free = d
 
 -- text that is dropped stands nowhere, so the array may be emptied
-pub sends_cleared : (l : Lane) (p : Past) (msg : Contents) → l.dropped ≡ true → msg.size ≡ l.msg.size → Sends l p → Sends (record l { msg = msg }) p
+pub sends_cleared : (l : LaneState) (p : Past) (msg : Contents) → l.dropped ≡ true → msg.size ≡ l.msg.size → Sends l p → Sends (record l { msg = msg }) p
 sends_cleared l p msg dropped size s = record {
   used = s.used;
   found = s.found;
@@ -175,7 +175,7 @@ source_open source.Whole sieve filters reader ended later input grown section fo
 source_open (source.Cut code) sieve filters reader ended later input grown section found passed open_ h = cuts_open filters reader ended later input grown section found passed code open_ h
 
 -- these bytes more, and this ending or none
-pub stands_open : (l : Lane) (p : Past) (input : Buffer ℕ) (later : Option Ending) (bytes : List ℕ) → l.ended ≡ None → input.items ≡ l.input.items ++ bytes → input.capacity ≡ l.input.capacity → Stands l p
+pub stands_open : (l : LaneState) (p : Past) (input : Buffer ℕ) (later : Option Ending) (bytes : List ℕ) → l.ended ≡ None → input.items ≡ l.input.items ++ bytes → input.capacity ≡ l.input.capacity → Stands l p
     → Stands (record l { input = input; ended = later }) (record p { bytes = p.bytes ++ bytes })
 stands_open l p input later bytes open_ items capacity st =
     let s = st.sends in
@@ -197,7 +197,7 @@ stands_open l p input later bytes open_ items capacity st =
     }
 
 -- the stream ends
-pub stands_ended : (l : Lane) (p : Past) (how : Ending) → l.ended ≡ None → Stands l p → Stands (record l { ended = Some how }) p
+pub stands_ended : (l : LaneState) (p : Past) (how : Ending) → l.ended ≡ None → Stands l p → Stands (record l { ended = Some how }) p
 stands_ended l p how open_ st =
     let s = st.sends in
     record {

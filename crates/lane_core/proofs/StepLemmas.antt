@@ -13,7 +13,7 @@ use Rattle.lane_core.specs.Sends.{IsSized, Keeps, is_going, end_left, reads_left
 use Rattle.lane_core.specs.declared.sift.Came.{Came}
 use Rattle.lane_core.specs.declared.sift.Came.TheVariants as came
 use Rattle.lane_core.specs.declared.stage.Source.{Source}
-use Rattle.lane_core.specs.declared.lane.Lane.{Lane}
+use Rattle.lane_core.specs.State.{LaneState}
 use Rattle.lane_core.proofs.SiftLemmas.{Steps, after_sift, these_on, more_left, waits_left, ends_left}
 
 -- ---- a body that has not begun
@@ -51,7 +51,7 @@ nothing_over filters = nothing_passes filters true
 
 -- ---- the lane behind a step
 
-pub step_sized : (l : Lane) (sieve : Option Sieve) (msg : Contents) (answer : Came) (src : Source) → Steps l sieve msg answer → IsSized l → IsSized (after_sift l sieve msg src)
+pub step_sized : (l : LaneState) (sieve : Option Sieve) (msg : Contents) (answer : Came) (src : Source) → Steps l sieve msg answer → IsSized l → IsSized (after_sift l sieve msg src)
 step_sized l sieve msg answer src x z = record {
   least = z.least;
   msg = x.size ∙ z.msg;
@@ -62,7 +62,7 @@ step_sized l sieve msg answer src x z = record {
   filters = (z.filters.0, these_on answer l.msg.size l.sieve sieve msg.blocks x.comes z.filters.0 z.filters.1);
 }
 
-pub step_keeps : (l : Lane) (sieve : Option Sieve) (msg : Contents) (answer : Came) (src : Source) → Steps l sieve msg answer → Keeps l (after_sift l sieve msg src)
+pub step_keeps : (l : LaneState) (sieve : Option Sieve) (msg : Contents) (answer : Came) (src : Source) → Steps l sieve msg answer → Keeps l (after_sift l sieve msg src)
 step_keeps l sieve msg answer src x = record {
   limits = refl;
   ended = refl;
@@ -74,7 +74,7 @@ step_keeps l sieve msg answer src x = record {
   filters = these_on answer l.msg.size l.sieve sieve msg.blocks x.comes;
 }
 
-pub step_more : (l : Lane) (sieve : Option Sieve) (msg : Contents) → Steps l sieve msg came.More → IsSized l
+pub step_more : (l : LaneState) (sieve : Option Sieve) (msg : Contents) → Steps l sieve msg came.More → IsSized l
     → (held_left sieve + is_going l.source < held_left l.sieve + is_going l.source) × (reads_left (after_sift l sieve msg l.source) ≤ reads_left l)
 step_more l sieve msg x z =
     let m = more_left l.msg.size l.sieve sieve msg.blocks x.comes z.filters in
@@ -82,14 +82,14 @@ step_more l sieve msg x z =
     let within : end_left l.source sieve ≤ end_left l.source l.sieve = subst (λ (src : Source). end_left src sieve ≤ end_left src l.sieve) (sym x.going) m.1 in
     (omega arith, omega arith)
 
-pub step_waits : (l : Lane) (sieve : Option Sieve) (msg : Contents) → Steps l sieve msg came.Waits → IsSized l
+pub step_waits : (l : LaneState) (sieve : Option Sieve) (msg : Contents) → Steps l sieve msg came.Waits → IsSized l
     → SieveRests sieve × (msg.blocks ≡ []) × (reads_left (after_sift l sieve msg l.source) ≤ reads_left l)
 step_waits l sieve msg x z =
     let m = waits_left l.msg.size l.sieve sieve msg.blocks x.comes z.filters in
     let within : end_left l.source sieve ≤ end_left l.source l.sieve = subst (λ (src : Source). end_left src sieve ≤ end_left src l.sieve) (sym x.going) m.2 in
     (m.0, m.1, omega arith)
 
-pub step_ends : (l : Lane) (sieve : Option Sieve) (msg : Contents) (src : Source) → Steps l sieve msg (came.Ends src) → IsSized l
+pub step_ends : (l : LaneState) (sieve : Option Sieve) (msg : Contents) (src : Source) → Steps l sieve msg (came.Ends src) → IsSized l
     → (held_left sieve + is_going src < held_left l.sieve + is_going l.source) × (reads_left (after_sift l sieve msg src) ≤ reads_left l)
 step_ends l sieve msg src x z =
     let m = ends_left src l.msg.size l.sieve sieve msg.blocks x.comes z.filters in

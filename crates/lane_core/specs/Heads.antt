@@ -11,10 +11,10 @@ use Rattle.lane_core.specs.Sends.{IsSound, IsReady, IsReading}
 use Rattle.lane_core.specs.declared.stage.LaneHead.{LaneHead}
 use Rattle.lane_core.specs.declared.stage.LaneHead.TheVariants as says
 use Rattle.lane_core.specs.declared.stage.Stage.TheVariants as stage
-use Rattle.lane_core.specs.declared.lane.Lane.{Lane}
+use Rattle.lane_core.specs.State.{LaneState}
 
 -- the stream goes on, no head stands in the window, and there is room for more of it
-pub record Waits (side : Side) (old new : Lane) : Type 0 where
+pub record Waits (side : Side) (old new : LaneState) : Type 0 where
   pub reading : IsReading side new
   pub ended : old.ended ≡ None
   pub waits : MayWait (kind_of side) old.limits false old.input.items
@@ -24,14 +24,14 @@ pub record Waits (side : Side) (old new : Lane) : Type 0 where
   pub room : length new.input.items < new.input.capacity
 
 -- the stream has ended, and only empty lines are left
-pub record IsEnd (side : Side) (old new : Lane) : Type 0 where
+pub record IsEnd (side : Side) (old new : LaneState) : Type 0 where
   pub reading : IsReading side new
   pub ended : is_some old.ended ≡ true
   pub nothing : HeadOf (kind_of side) old.limits old.input.items Nothing
 
 -- A head stands in the array, with its framing, length and mark: each stream that begins with the bytes in the window
 -- begins with it, and then comes what is left in the window.
-pub record HasHead (side : Side) (old new : Lane) : Type 0 where
+pub record HasHead (side : Side) (old new : LaneState) : Type 0 where
   pub ready : IsReady new
   pub stage : new.stage ≡ stage.Head
   pub output : new.output ≡ old.output
@@ -42,13 +42,13 @@ pub record HasHead (side : Side) (old new : Lane) : Type 0 where
   pub received : IsReceived (kind_of side) old.limits head
 
 -- it is refused with this code, however the stream goes on
-pub record IsRefused (side : Side) (old new : Lane) (code : ℕ) : Type 0 where
+pub record IsRefused (side : Side) (old new : LaneState) (code : ℕ) : Type 0 where
   pub sound : IsSound new
   pub stage : new.stage ≡ stage.Done
   pub refused : OnEachStream (is_some old.ended) (λ more. HeadOf (kind_of side) old.limits (old.input.items ++ more) (Refused code))
 
 -- what the answer says
-abbrev pub HeadTells : Side → Lane → Lane → LaneHead → Type 0
+abbrev pub HeadTells : Side → LaneState → LaneState → LaneHead → Type 0
 HeadTells side old new says.More = Waits side old new
 HeadTells side old new says.Nothing = IsEnd side old new
 HeadTells side old new says.Head = HasHead side old new

@@ -1,3 +1,4 @@
+pub mod State
 pub mod Sent
 pub mod Carried
 pub mod Pulled

@@ -14,7 +14,7 @@ use Rattle.lane_core.specs.Sent.{Finish, Cut, Ends, SpellsAs, IsFrontOf}
 use Rattle.lane_core.specs.Sends.{Past, put_out}
 use Rattle.lane_core.specs.declared.stage.Stage.TheVariants as stage
 use Rattle.lane_core.specs.declared.stage.Source.TheVariants as source
-use Rattle.lane_core.specs.declared.lane.Lane.{Lane}
+use Rattle.lane_core.specs.State.{LaneState}
 
 -- the bytes of a body, however far it is
 abbrev pub body_in : BodyRead → List ℕ
@@ -49,15 +49,15 @@ GoesOnWith None more ending = ⊤
 GoesOnWith (Some how) more ending = (more ≡ []) × (ending ≡ Some how)
 
 -- what the bytes taken behind the head come to with those that follow
-abbrev pub BodyTaken : Lane → Past → (more : List ℕ) → Option Ending → BodyRead → Type 0
+abbrev pub BodyTaken : LaneState → Past → (more : List ℕ) → Option Ending → BodyRead → Type 0
 BodyTaken lane p more ending read = IsBodyOf lane.limits p.reads (p.bytes ++ more) ending read
 
 -- however the stream goes on, what was taken comes to some body
-abbrev pub HasBody : Lane → Past → Type 0
+abbrev pub HasBody : LaneState → Past → Type 0
 HasBody lane p = (more : List ℕ) (ending : Option Ending) → GoesOnWith lane.ended more ending → (read : BodyRead) × BodyTaken lane p more ending read
 
 -- P of each body that the stream may come to, however it goes on
-abbrev pub OnEachBody : Lane → Past → (BodyRead → Type 0) → Type 0
+abbrev pub OnEachBody : LaneState → Past → (BodyRead → Type 0) → Type 0
 OnEachBody lane p P = (more : List ℕ) (ending : Option Ending) → GoesOnWith lane.ended more ending → (read : BodyRead) → BodyTaken lane p more ending read → P read
 
 -- the body broke off, or was none
@@ -83,7 +83,7 @@ body_sent p read = p.sent.given ++ (filter_of p.filters read).output
 abbrev pub sent_so_far : Past → BodyRead → List ℕ
 sent_so_far p read = p.sent.given ++ (filtered p.filters false (body_in read)).output
 
-pub record Promise (lane : Lane) (p : Past) : Type 0 where
+pub record Promise (lane : LaneState) (p : Past) : Type 0 where
   -- at every moment the text is a front of the spelling of what comes
   pub front : lane.dropped ≡ false → OnEachBody lane p (λ read. IsFrontOf p.sent (body_sent p read) (finish_of p.filters read) (put_out lane p))
   -- once it is done it is the spelling, whole or cut
@@ -95,12 +95,12 @@ pub record Promise (lane : Lane) (p : Past) : Type 0 where
   pub cut : (code : ℕ) → lane.source ≡ source.Cut code → OnEachBody lane p (IsCutWith code p.filters)
 
 -- a trailer section that is not whole, and not past its limit
-abbrev pub InSection : Lane → Type 0
+abbrev pub InSection : LaneState → Type 0
 InSection lane = HasNoSection lane.input.items × (length lane.input.items < section_limit lane.limits)
 
 -- No ending came, the filters refused nothing, and the bytes taken show no cut: the body is still to be whole, or a trailer section
 -- stands there that is not whole.
-pub record ShowsNoCut (lane : Lane) (p : Past) : Type 0 where
+pub record ShowsNoCut (lane : LaneState) (p : Past) : Type 0 where
   pub ended : lane.ended ≡ None
   pub still : (read : BodyRead) → BodyTaken lane p [] lane.ended read → (read ≡ More (body_in read)) ⊎ InSection lane
   pub accepted : (read : BodyRead) → BodyTaken lane p [] lane.ended read → (filtered p.filters false (body_in read)).state ≡ Going

@@ -24,7 +24,7 @@ use Rattle.lane_core.specs.Pulled.{IsWaiting}
 use Rattle.lane_core.specs.declared.stage.Stage.TheVariants as stage
 use Rattle.lane_core.specs.declared.stage.Source.{Source}
 use Rattle.lane_core.specs.declared.stage.Source.TheVariants as source
-use Rattle.lane_core.specs.declared.lane.Lane.{Lane}
+use Rattle.lane_core.specs.State.{LaneState}
 
 -- What happened to a lane since `send`: the message that was begun, the filters of its body, how that body is framed where it
 -- comes from, the bytes taken behind the head, and the text that was taken from the output window.
@@ -36,11 +36,11 @@ pub record Past : Type 0 where
   pub took : List ℕ
 
 -- put out: taken, or standing in the window
-abbrev pub put_out : Lane → Past → List ℕ
+abbrev pub put_out : LaneState → Past → List ℕ
 put_out lane p = p.took ++ lane.output.items
 
 -- the arrays, the input window and the filters have the configured size
-pub record IsSized (lane : Lane) : Type 0 where
+pub record IsSized (lane : LaneState) : Type 0 where
   pub least : least_size ≤ lane.limits.bufsize
   pub msg : lane.msg.size ≡ lane.limits.bufsize
   pub out : lane.out.size ≡ lane.limits.bufsize
@@ -57,7 +57,7 @@ SourceIs source.Whole sieve filters reader ended input section found passed =
 SourceIs (source.Cut code) sieve filters reader ended input section found passed = CutBy filters reader ended input section found passed code
 
 -- the lane sends the message of this past
-pub record Sends (lane : Lane) (p : Past) : Type 0 where
+pub record Sends (lane : LaneState) (p : Past) : Type 0 where
   pub used : List ℕ
   pub found : List ℕ
   pub section : List ℕ
@@ -70,13 +70,13 @@ pub record Sends (lane : Lane) (p : Past) : Type 0 where
   pub text : lane.dropped ≡ false → Carries lane.source lane.writer p.sent (p.sent.given ++ passed) section (put_out lane p) lane.out.blocks lane.msg.blocks
 
 -- a call leads from a lane that sends to one that sends the same
-abbrev pub Leads : Lane → Lane → Type 0
+abbrev pub Leads : LaneState → LaneState → Type 0
 Leads old new = (p : Past) → Sends old p → Sends new p
 
 -- ---- inside a step
 
 -- what a step never changes
-pub record Keeps (old new : Lane) : Type 0 where
+pub record Keeps (old new : LaneState) : Type 0 where
   pub limits : new.limits ≡ old.limits
   pub ended : new.ended ≡ old.ended
   pub stage : new.stage ≡ old.stage
@@ -87,12 +87,12 @@ pub record Keeps (old new : Lane) : Type 0 where
   pub filters : (filters : List FilterSpec) → AreThese old.sieve filters → AreThese new.sieve filters
 
 -- nothing comes: the body is over, or the lane waits for the stream
-pub data RestsFor (lane : Lane) : Type 0 where
+pub data RestsFor (lane : LaneState) : Type 0 where
   IsOver : lane.source ≢ source.Going → RestsFor lane
   Waits : lane.source ≡ source.Going → lane.ended ≡ None → IsWaiting lane.reader lane.input.items → state_of lane.reader ≡ state.More → SieveRests lane.sieve → RestsFor lane
 
 -- all that came was put out
-pub record IsAtRest (lane : Lane) : Type 0 where
+pub record IsAtRest (lane : LaneState) : Type 0 where
   pub msg : lane.msg.blocks ≡ []
   pub out : lane.out.blocks ≡ []
   pub rests : IsEven lane.writer
@@ -100,7 +100,7 @@ pub record IsAtRest (lane : Lane) : Type 0 where
   pub for : RestsFor lane
 
 -- all that was read was put out, but for what the filters keep back
-pub record IsDrained (lane : Lane) : Type 0 where
+pub record IsDrained (lane : LaneState) : Type 0 where
   pub msg : lane.msg.blocks ≡ []
   pub out : lane.out.blocks ≡ []
   pub rests : IsEven lane.writer
@@ -114,7 +114,7 @@ end_left source.Going (Some sieve) = is_open (end_of sieve)
 end_left source.Whole sieve = 0
 end_left (source.Cut code) sieve = 0
 
-abbrev pub reads_left : Lane → ℕ
+abbrev pub reads_left : LaneState → ℕ
 reads_left lane = 2 * length lane.input.items + end_left lane.source lane.sieve
 
 -- what is left to bring of what was read: bytes of the filters, an end, blocks to move
@@ -123,50 +123,50 @@ is_going source.Going = 1
 is_going source.Whole = 0
 is_going (source.Cut code) = 0
 
-abbrev pub brings_left : Lane → ℕ
+abbrev pub brings_left : LaneState → ℕ
 brings_left lane = 2 * (held_left lane.sieve + is_going lane.source) + (if nat_lt 0 (length lane.msg.blocks) then 1 else 0)
 
 -- ---- what callers see
 
 -- all text of the message is out
-pub record IsAllOut (lane : Lane) : Type 0 where
+pub record IsAllOut (lane : LaneState) : Type 0 where
   pub msg : lane.msg.blocks ≡ []
   pub out : lane.out.blocks ≡ []
   pub source : lane.source ≢ source.Going
   pub end : EndIsOut lane.source lane.writer
 
 -- The lane sends the message of this past, or has put it out; text that is dropped stands nowhere.
-pub record Stands (lane : Lane) (p : Past) : Type 0 where
+pub record Stands (lane : LaneState) (p : Past) : Type 0 where
   pub sends : Sends lane p
   pub over : lane.stage ≡ stage.Done → lane.dropped ≡ false → IsAllOut lane
   pub done : lane.stage ≡ stage.Done → lane.source ≢ source.Going
 
 -- a lane that stopped short of the end waits for its output to be taken, or for the stream
-abbrev pub GoesOn : Lane → Type 0
+abbrev pub GoesOn : LaneState → Type 0
 GoesOn lane = (0 < length lane.output.items) ⊎ ((lane.source ≡ source.Going) × (length lane.input.items < lane.input.capacity) × (lane.ended ≡ None))
 
 -- the sizes of a lane, and the limits that it was made with
-pub record IsSound (lane : Lane) : Type 0 where
+pub record IsSound (lane : LaneState) : Type 0 where
   pub sized : IsSized lane
   pub most : lane.limits.bufsize ≤ most_size
   pub reserve : lane.limits.maxrewrite + least_head ≤ lane.limits.bufsize
   pub held : length lane.input.items ≤ lane.input.capacity
 
 -- nothing of a message goes out; text of the one before may still stand in the output window
-pub record IsReady (lane : Lane) : Type 0 where
+pub record IsReady (lane : LaneState) : Type 0 where
   pub sound : IsSound lane
   pub out : lane.out.blocks ≡ []
   pub kept : lane.dropped ≡ false
 
 -- a head is to be read
-pub record IsReading (side : Side) (lane : Lane) : Type 0 where
+pub record IsReading (side : Side) (lane : LaneState) : Type 0 where
   pub scanned : IsScanned (kind_of side) lane.limits lane.input.items lane.scanned
   pub ready : IsReady lane
   pub stage : lane.stage ≡ stage.Reading
   pub empty : lane.msg.blocks ≡ []
 
 -- the message that `send` begins
-abbrev pub begun : Lane → List FilterSpec → Head → Framing → Bool → Past
+abbrev pub begun : LaneState → List FilterSpec → Head → Framing → Bool → Past
 begun lane filters head framing no_body =
     record {
       sent = record { head = head; given = []; framing = framing; no_body = no_body; before = lane.output.items };
@@ -177,7 +177,7 @@ begun lane filters head framing no_body =
     }
 
 -- the message of a list that is put out in place of another, its body with it
-abbrev pub said : Lane → List FilterSpec → Head → (body : List ℕ) → Bool → Past
+abbrev pub said : LaneState → List FilterSpec → Head → (body : List ℕ) → Bool → Past
 said lane filters head body no_body =
     record {
       sent = record { head = head; given = body; framing = framing.ToClose; no_body = no_body; before = lane.output.items };

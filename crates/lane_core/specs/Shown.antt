@@ -6,7 +6,7 @@ use Rattle.http_model.specs.declared.Framing.TheVariants as framing
 use Rattle.http_model.specs.Head.{Head, head_blocks}
 use Rattle.h1_write.specs.declared.writer.Writer.{Writer}
 use Rattle.h1_write.specs.Spelled.{HasWritten}
-use Rattle.lane_core.specs.declared.lane.Lane.{Lane}
+use Rattle.lane_core.specs.State.{LaneState}
 
 -- of a head alone this text was put out, with these blocks left of it
 pub record Shows (w : Writer) (head : Head) (text : List ℕ) (left : List Block) : Type 0 where
@@ -15,7 +15,7 @@ pub record Shows (w : Writer) (head : Head) (text : List ℕ) (left : List Block
   pub flows : flow (taken ++ left) ≡ head_blocks head
 
 -- some text more is put out of whatever head it is
-pub record Goes (old new : Lane) : Type 0 where
+pub record Goes (old new : LaneState) : Type 0 where
   pub put : List ℕ
   pub window : new.output.items ≡ old.output.items ++ put
   pub shows : (head : Head) (text : List ℕ) → Shows old.writer head text old.out.blocks → Shows new.writer head (text ++ put) new.out.blocks

@@ -6,6 +6,7 @@ mod dropping;
 mod heads;
 mod read;
 mod telling;
+mod views;
 
 use crate::input::Input;
 use crate::stage::{Source, Stage};
@@ -14,6 +15,7 @@ use h1_body::BodyReader;
 use h1_write::Writer;
 use http_model::{Ending, Framing, Limits};
 use htx_arena::Arena;
+use std::marker::Model;
 use wire_buf::Window;
 
 /// What both directions of a connection own: from the bytes that come to the text that goes out, a message after the other.
@@ -43,4 +45,12 @@ pub struct Lane {
     source: Source,
     /// Text is dropped.
     dropped: bool,
+}
+
+impl Model for Lane {
+    ghost use Rattle.lane_core.specs.State.{LaneState};
+
+    ghost Value = { LaneState };
+
+    ghost view = { λ l. record { limits = l.limits; input = l.input; ended = l.ended; scanned = l.scanned; msg = l.msg; out = l.out; framing = l.framing; declared = l.declared; close = l.close; reader = l.reader; sieve = l.sieve; writer = l.writer; output = l.output; stage = l.stage; source = l.source; dropped = l.dropped } };
 }

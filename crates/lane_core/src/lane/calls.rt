@@ -1,5 +1,5 @@
 //! The calls of a lane beside reading a head.
-ghost use Rattle.std.specs.Prelude.{◌≡◌, ◌≢◌, ◌≤◌, ◌<◌, ◌+◌, ◌++◌, ◌⊎◌, [], length, take, drop, true, false, List, ℕ, Some, None, Option, IfOk, is_none};
+ghost use Rattle.std.specs.Prelude.{◌≡◌, ◌≢◌, ◌≤◌, ◌<◌, ◌+◌, ◌++◌, ◌⊎◌, [], length, take, drop, true, false, List, ℕ, Some, None, Option, IfOk};
 ghost use Rattle.http_model.specs.Head.{Head, head_blocks};
 ghost use Rattle.http_model.specs.Sizes.{least_size, most_size, least_head};
 ghost use Rattle.http_model.specs.declared.Ending.{Ending};
@@ -7,7 +7,6 @@ ghost use Rattle.body_filter.specs.declared.filter_spec.FilterSpec.{FilterSpec};
 ghost use Rattle.body_filter.specs.Valid.{AreFilters};
 ghost use Rattle.h1_body.specs.declared.reader.BodyReader.{BodyReader};
 ghost use Rattle.lane_core.specs.Filtering.{AreThese, HasPassed, SieveFits, GoesOnBy};
-ghost use Rattle.htx_layout.specs.Held.{held, blocks_of as told};
 ghost use Rattle.header_ops.specs.Headers.{without_framing};
 ghost use Rattle.h1_head.specs.declared.answer.Side.{Side};
 ghost use Rattle.lane_core.specs.Sends.{Past, Stands, GoesOn, IsAtRest, IsAllOut, IsSound, IsReady, IsReading, RestsFor, begun};
@@ -75,7 +74,8 @@ impl Lane {
         requires valid { AreFilters filters.now }
         ensures filters { IfOk result (λ lane. AreThese lane.sieve filters.now) }
         ensures reading { IfOk result (λ lane. (side : Side) → IsReading side lane) }
-        ensures input { IfOk result (λ lane. (lane.input.items ≡ []) × (lane.ended ≡ None)) }
+        ensures input { IfOk result (λ lane. lane.input.items ≡ []) }
+        ensures ended { IfOk result (λ lane. lane.ended ≡ None) }
         ensures output { IfOk result (λ lane. lane.output.items ≡ []) }
         ensures limits { IfOk result (λ lane. lane.limits ≡ limits) }
     {
@@ -98,55 +98,6 @@ impl Lane {
             dropped: false,
             sieve: sieve_of(alloc, filters, limits.bufsize)?,
         })
-    }
-
-    /// Where the lane stands.
-    pub fn stage(&self) -> Stage
-        ensures { result ≡ self.now.stage }
-    {
-        self.stage
-    }
-
-    /// Where the body stands.
-    pub fn source(&self) -> Source
-        ensures { result ≡ self.now.source }
-    {
-        self.source
-    }
-
-    /// How many bytes can be taken.
-    pub fn room(&self) -> usize
-        ensures { result + length self.now.input.items ≡ self.now.input.capacity }
-    {
-        self.input.room()
-    }
-
-    /// How the body of the head that stands in the array is framed.
-    pub fn framing(&self) -> Framing
-        ensures { result ≡ self.now.framing }
-    {
-        self.framing
-    }
-
-    /// The length that a field of that head declared.
-    pub fn declared(&self) -> Option<u64>
-        ensures { result ≡ self.now.declared }
-    {
-        self.declared
-    }
-
-    /// Whether a Connection element of that head was `close`.
-    pub fn close(&self) -> bool
-        ensures { result ≡ self.now.close }
-    {
-        self.close
-    }
-
-    /// Whether the stream has not ended.
-    pub fn is_open(&self) -> bool
-        ensures { result ≡ is_none self.now.ended }
-    {
-        self.ended.is_none()
     }
 
     /// Bytes of the stream come.
@@ -182,15 +133,6 @@ impl Lane {
         &mut self.msg
     }
 
-    /// The bytes of that array.
-    pub fn raw(&self) -> &[u8]
-        ensures held { held result.now self.now.msg.blocks self.now.msg.addrs }
-        ensures size { length result.now ≡ self.now.msg.size }
-        ensures gives_back { told result.now (length self.now.msg.blocks) ≡ self.now.msg.blocks }
-    {
-        self.msg.raw()
-    }
-
     /// The head that stands in the array is put out, and the body behind it in this framing.
     pub fn send(&mut self, framing: Framing, no_body: bool)
         requires ready { IsReady self.old }
@@ -200,7 +142,11 @@ impl Lane {
         ensures sound { IsSound self.new }
         ensures stage { self.new.stage ≡ stage.Sending }
         ensures source { self.new.source ≡ source.Going }
-        ensures same { (self.new.input ≡ self.old.input) × (self.new.ended ≡ self.old.ended) × (self.new.msg ≡ self.old.msg) × (self.new.output ≡ self.old.output) × (self.new.dropped ≡ false) }
+        ensures input { self.new.input ≡ self.old.input }
+        ensures ended { self.new.ended ≡ self.old.ended }
+        ensures msg { self.new.msg ≡ self.old.msg }
+        ensures output { self.new.output ≡ self.old.output }
+        ensures kept { self.new.dropped ≡ false }
         ensures limits { self.new.limits ≡ self.old.limits }
     {
         reset(&mut self.sieve);
@@ -217,8 +163,10 @@ impl Lane {
         ensures stands { (p : Past) → Stands self.old p → Stands self.new p }
         ensures sound { IsSound self.new }
         ensures filters { (filters : List FilterSpec) → AreThese self.old.sieve filters → AreThese self.new.sieve filters }
-        ensures input { (self.new.input.capacity ≡ self.old.input.capacity) × (length self.new.input.items ≤ length self.old.input.items) }
-        ensures ended { (self.new.ended ≡ self.old.ended) × (self.new.limits ≡ self.old.limits) }
+        ensures capacity { self.new.input.capacity ≡ self.old.input.capacity }
+        ensures shrinks { length self.new.input.items ≤ length self.old.input.items }
+        ensures ended { self.new.ended ≡ self.old.ended }
+        ensures limits { self.new.limits ≡ self.old.limits }
         ensures no_stall { (p : Past) → Stands self.old p → self.new.stage ≡ stage.Sending → GoesOn self.new }
         ensures done { IsAllOut self.new → self.new.stage ≡ stage.Done }
         ensures all { (p : Past) → Stands self.old p → self.new.output.items ≡ [] → self.new.dropped ≡ false → IsAtRest self.new }
@@ -229,7 +177,7 @@ impl Lane {
         ensures stage { (self.new.stage ≡ stage.Sending) ⊎ (self.new.stage ≡ stage.Done) }
         ensures settled { self.old.source ≢ source.Going → self.new.source ≡ self.old.source }
     {
-        if self.dropped {
+        if self.is_dropping() {
             self.read_out();
             return;
         }
@@ -258,9 +206,13 @@ impl Lane {
 
     /// From now on text is dropped, until `next`.
     pub fn discard(&mut self)
-        ensures dropped { (self.new.dropped ≡ true) × (self.new.output.items ≡ []) }
+        ensures dropped { self.new.dropped ≡ true }
+        ensures output { self.new.output.items ≡ [] }
         ensures sieve { self.new.sieve ≡ self.old.sieve }
-        ensures same { (self.new.stage ≡ self.old.stage) × (self.new.source ≡ self.old.source) × (self.new.input ≡ self.old.input) × (self.new.ended ≡ self.old.ended) }
+        ensures stage { self.new.stage ≡ self.old.stage }
+        ensures source { self.new.source ≡ self.old.source }
+        ensures input { self.new.input ≡ self.old.input }
+        ensures ended { self.new.ended ≡ self.old.ended }
         ensures limits { self.new.limits ≡ self.old.limits }
         ensures sound { IsSound self.old → IsSound self.new }
         ensures stands { (p : Past) → Stands self.old p → Stands self.new p }
@@ -275,7 +227,10 @@ impl Lane {
     pub fn next(&mut self)
         requires sound { IsSound self.old }
         ensures reading { (side : Side) → IsReading side self.new }
-        ensures same { (self.new.input ≡ self.old.input) × (self.new.ended ≡ self.old.ended) × (self.new.limits ≡ self.old.limits) × (self.new.output ≡ self.old.output) }
+        ensures input { self.new.input ≡ self.old.input }
+        ensures ended { self.new.ended ≡ self.old.ended }
+        ensures limits { self.new.limits ≡ self.old.limits }
+        ensures output { self.new.output ≡ self.old.output }
         ensures sieve { self.new.sieve ≡ self.old.sieve }
     {
         stays_scanned();
@@ -303,13 +258,6 @@ impl Lane {
         remove_framing(&mut self.msg);
     }
 
-    /// How many bytes are put out and were not taken.
-    pub fn put(&self) -> usize
-        ensures { result ≡ length self.now.output.items }
-    {
-        self.output.len()
-    }
-
     /// What is put out and was not taken goes.
     pub fn clear_output(&mut self)
         ensures same { self.new ≡ record self.old { output = self.new.output } }
@@ -323,7 +271,10 @@ impl Lane {
     pub fn new_stream(&mut self)
         requires sound { IsSound self.old }
         ensures reading { (side : Side) → IsReading side self.new }
-        ensures same { (self.new.input.items ≡ []) × (self.new.ended ≡ None) × (self.new.limits ≡ self.old.limits) × (self.new.output ≡ self.old.output) }
+        ensures input { self.new.input.items ≡ [] }
+        ensures ended { self.new.ended ≡ None }
+        ensures limits { self.new.limits ≡ self.old.limits }
+        ensures output { self.new.output ≡ self.old.output }
         ensures sieve { self.new.sieve ≡ self.old.sieve }
     {
         self.input.drop_front(self.input.len());

@@ -119,6 +119,14 @@ impl Lane {
         true
     }
 
+    /// Whether the output window has no room.
+    fn is_full(&self) -> bool
+        ensures full { result ≡ true → self.now.output.capacity ≤ length self.now.output.items }
+        ensures room { result ≡ false → length self.now.output.items < self.now.output.capacity }
+    {
+        self.output.room() == 0
+    }
+
     /// Writes, and brings what comes next of what was read. False where the window is full, or nothing comes.
     fn pass_on(&mut self) -> bool
         requires { IsSized self.old }
@@ -133,7 +141,7 @@ impl Lane {
         ensures settled { self.old.source ≢ source.Going → self.new.source ≡ self.old.source }
     {
         self.write();
-        if self.output.room() == 0 {
+        if self.is_full() {
             return false;
         }
         self.refill()
@@ -171,7 +179,7 @@ impl Lane {
         ensures settled { self.old.source ≢ source.Going → self.new.source ≡ self.old.source }
     {
         self.drain();
-        if self.output.room() == 0 {
+        if self.is_full() {
             return false;
         }
         if !self.is_going() {

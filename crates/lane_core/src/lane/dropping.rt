@@ -7,9 +7,15 @@ ghost use Rattle.lane_core.specs.declared.stage.Source.TheVariants as source;
 ghost use Rattle.lane_core.specs.declared.stage.Stage.TheVariants as stage;
 
 use crate::lane::Lane;
-use crate::stage::Stage;
 
 impl Lane {
+    /// Whether text is dropped.
+    pub(super) fn is_dropping(&self) -> bool
+        ensures { result ≡ self.now.dropped }
+    {
+        self.dropped
+    }
+
     /// Lets the filters give what can be given, and drops it. False where they wait for more of the body.
     fn drop_sifted(&mut self) -> bool
         requires sized { IsSized self.old }
@@ -119,6 +125,6 @@ impl Lane {
         if self.is_going() {
             return;
         }
-        self.stage = Stage::Done;
+        self.give_up();
     }
 }

@@ -16,11 +16,14 @@ impl Lane {
     pub fn read_head(&mut self, side: Side) -> LaneHead
         requires { IsReading side self.old }
         ensures tells { HeadTells side self.old self.new result }
-        ensures same { (self.new.limits ≡ self.old.limits) × (self.new.ended ≡ self.old.ended) }
+        ensures limits { self.new.limits ≡ self.old.limits }
+        ensures ended { self.new.ended ≡ self.old.ended }
         ensures sieve { self.new.sieve ≡ self.old.sieve }
         ensures shrinks { length self.new.input.items ≤ length self.old.input.items }
         ensures takes { result ≡ says.Head → length self.new.input.items < length self.old.input.items }
-        ensures still { (self.new.output ≡ self.old.output) × (self.new.out ≡ self.old.out) × (self.new.dropped ≡ self.old.dropped) }
+        ensures output { self.new.output ≡ self.old.output }
+        ensures out { self.new.out ≡ self.old.out }
+        ensures kept { self.new.dropped ≡ self.old.dropped }
     {
         drops_lines();
         has_bytes();

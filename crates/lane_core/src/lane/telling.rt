@@ -31,10 +31,15 @@ impl Lane {
         ensures sound { IsSound self.new }
         ensures list { list.new.blocks ≡ [] }
         ensures list_size { list.new.size ≡ list.old.size }
-        ensures stage { (self.new.stage ≡ stage.Sending) × (self.new.source ≡ source.Whole) }
-        ensures same { (self.new.input ≡ self.old.input) × (self.new.ended ≡ self.old.ended) × (self.new.output ≡ self.old.output) × (self.new.dropped ≡ self.old.dropped) × (self.new.limits ≡ self.old.limits) }
+        ensures stage { self.new.stage ≡ stage.Sending }
+        ensures source { self.new.source ≡ source.Whole }
+        ensures input { self.new.input ≡ self.old.input }
+        ensures ended { self.new.ended ≡ self.old.ended }
+        ensures output { self.new.output ≡ self.old.output }
+        ensures kept { self.new.dropped ≡ self.old.dropped }
+        ensures limits { self.new.limits ≡ self.old.limits }
     {
-        self.out.clear();
+        self.hide();
         self.put_by(list);
         self.say_msg(no_body);
     }
@@ -62,8 +67,15 @@ impl Lane {
         ensures stands { (filters : List FilterSpec) (head : Head) (body : List ℕ) → AreThese self.old.sieve filters → flow self.old.msg.blocks ≡ front_blocks head body → Stands self.new (said self.old filters head body no_body) }
         ensures filters { (filters : List FilterSpec) → AreThese self.old.sieve filters → AreThese self.new.sieve filters }
         ensures sound { IsSound self.new }
-        ensures stage { (self.new.stage ≡ stage.Sending) × (self.new.source ≡ source.Whole) }
-        ensures same { (self.new.input ≡ self.old.input) × (self.new.ended ≡ self.old.ended) × (self.new.output ≡ self.old.output) × (self.new.dropped ≡ self.old.dropped) × (self.new.limits ≡ self.old.limits) × (self.new.msg ≡ self.old.msg) × (self.new.out ≡ self.old.out) }
+        ensures stage { self.new.stage ≡ stage.Sending }
+        ensures source { self.new.source ≡ source.Whole }
+        ensures input { self.new.input ≡ self.old.input }
+        ensures ended { self.new.ended ≡ self.old.ended }
+        ensures output { self.new.output ≡ self.old.output }
+        ensures kept { self.new.dropped ≡ self.old.dropped }
+        ensures limits { self.new.limits ≡ self.old.limits }
+        ensures msg { self.new.msg ≡ self.old.msg }
+        ensures out { self.new.out ≡ self.old.out }
     {
         reset(&mut self.sieve);
         self.reader = BodyReader::new(Framing::Absent, self.limits);
@@ -78,8 +90,13 @@ impl Lane {
         ensures shows { (head : Head) → self.old.msg.blocks ≡ head_blocks head → Shows self.new.writer head [] self.new.out.blocks }
         ensures msg { self.new.msg.blocks ≡ [] }
         ensures sound { IsSound self.new }
-        ensures stage { (self.new.stage ≡ stage.Sending) × (self.new.source ≡ source.Whole) }
-        ensures same { (self.new.input ≡ self.old.input) × (self.new.ended ≡ self.old.ended) × (self.new.output ≡ self.old.output) × (self.new.dropped ≡ false) × (self.new.limits ≡ self.old.limits) }
+        ensures stage { self.new.stage ≡ stage.Sending }
+        ensures source { self.new.source ≡ source.Whole }
+        ensures input { self.new.input ≡ self.old.input }
+        ensures ended { self.new.ended ≡ self.old.ended }
+        ensures output { self.new.output ≡ self.old.output }
+        ensures kept { self.new.dropped ≡ false }
+        ensures limits { self.new.limits ≡ self.old.limits }
         ensures sieve { self.new.sieve ≡ self.old.sieve }
     {
         let load = self.limits.bufsize - self.msg.room();

@@ -14,10 +14,10 @@ returns-clause-answers c = λ p got a e is blocks.
     let h = at_head c.args.self.now p c.requires.sound c.requires.head a in
     let none = head_sound c.args.self.now c.requires.sound c.requires.head in
     let stripped : c.strip.new.self.msg.blocks ≡ head_blocks (finish_interim got.head) = c.strip.ensures.blocks ∙ ap without_framing blocks ∙ c.edits_of_heads.ensures.strip got.head in
-    let limits = c.show.ensures.same.4 ∙ ap (λ (l : Lane). l.limits) c.strip.ensures.same in
-    let ended = c.show.ensures.same.1 ∙ ap (λ (l : Lane). l.ended) c.strip.ensures.same in
-    let input = c.show.ensures.same.0 ∙ ap (λ (l : Lane). l.input) c.strip.ensures.same in (
-      shows_first c.show.new.self p (finish_interim got.head) h.put (c.show.ensures.shows (finish_interim got.head) stripped) c.show.ensures.sound c.show.ensures.same.3 c.show.ensures.stage.0 (passes p got) refl refl,
+    let limits = c.show.ensures.limits ∙ ap (λ (l : Lane). l.limits) c.strip.ensures.same in
+    let ended = c.show.ensures.ended ∙ ap (λ (l : Lane). l.ended) c.strip.ensures.same in
+    let input = c.show.ensures.input ∙ ap (λ (l : Lane). l.input) c.strip.ensures.same in (
+      shows_first c.show.new.self p (finish_interim got.head) h.put (c.show.ensures.shows (finish_interim got.head) stripped) c.show.ensures.sound c.show.ensures.kept c.show.ensures.stage (passes p got) refl refl,
       none.0,
       c.show.ensures.msg,
       subst (λ (b : Buffer ℕ). HeadsCame p.asked c.show.new.self.limits c.show.new.self.ended (p.read ++ got.head ∷ []) p.bytes b.items) (sym input)
@@ -26,4 +26,4 @@ returns-clause-answers c = λ p got a e is blocks.
     )
 
 pub returns-clause-keeps : goal.returns-clause-keeps
-returns-clause-keeps c = (c.show.ensures.same.0 ∙ ap (λ (l : Lane). l.input) c.strip.ensures.same, refl)
+returns-clause-keeps c = (c.show.ensures.input ∙ ap (λ (l : Lane). l.input) c.strip.ensures.same, refl)

@@ -20,15 +20,15 @@ returns-then-show_on-clause-answers c =
     (record {
       stands = c.say_msg.ensures.stands;
       sound = c.say_msg.ensures.sound;
-      stage = c.say_msg.ensures.stage.0;
-      ended = c.say_msg.ensures.same.1;
-      output = c.say_msg.ensures.same.2;
-      dropped = c.say_msg.ensures.same.3;
-      limits = c.say_msg.ensures.same.4;
+      stage = c.say_msg.ensures.stage;
+      ended = c.say_msg.ensures.ended;
+      output = c.say_msg.ensures.output;
+      dropped = c.say_msg.ensures.kept;
+      limits = c.say_msg.ensures.limits;
     }) a in
     record {
       put = g.put ++ n.put;
-      window = n.window ∙ ap (λ (b : Buffer ℕ). b.items ++ n.put) (c.say_msg.ensures.same.2 ∙ ap (λ (l : Lane). l.output) c.hide.ensures.same) ∙ ap (λ (t : List ℕ). t ++ n.put) g.window ∙ append_assoc c.args.self.now.lane.output.items g.put n.put;
+      window = n.window ∙ ap (λ (b : Buffer ℕ). b.items ++ n.put) (c.say_msg.ensures.output ∙ ap (λ (l : Lane). l.output) c.hide.ensures.same) ∙ ap (λ (t : List ℕ). t ++ n.put) g.window ∙ append_assoc c.args.self.now.lane.output.items g.put n.put;
       answers = λ p a. subst (λ (q : Exchange). Answers c.answer_on.new.self q) (put_twice p g.put n.put) (n.answers (with_put p g.put) (now p a));
     }
 
@@ -40,11 +40,11 @@ returns-then-show_on-clause-no_stall c = λ p a e.
     (record {
       stands = c.say_msg.ensures.stands;
       sound = c.say_msg.ensures.sound;
-      stage = c.say_msg.ensures.stage.0;
-      ended = c.say_msg.ensures.same.1;
-      output = c.say_msg.ensures.same.2;
-      dropped = c.say_msg.ensures.same.3;
-      limits = c.say_msg.ensures.same.4;
+      stage = c.say_msg.ensures.stage;
+      ended = c.say_msg.ensures.ended;
+      output = c.say_msg.ensures.output;
+      dropped = c.say_msg.ensures.kept;
+      limits = c.say_msg.ensures.limits;
     }) a in
     c.answer_on.ensures.no_stall (with_put p c.show_on.ensures.shows.put) now e
 
@@ -56,11 +56,11 @@ returns-then-show_on-clause-nothing_back c = λ p a at none.
     (record {
       stands = c.say_msg.ensures.stands;
       sound = c.say_msg.ensures.sound;
-      stage = c.say_msg.ensures.stage.0;
-      ended = c.say_msg.ensures.same.1;
-      output = c.say_msg.ensures.same.2;
-      dropped = c.say_msg.ensures.same.3;
-      limits = c.say_msg.ensures.same.4;
+      stage = c.say_msg.ensures.stage;
+      ended = c.say_msg.ensures.ended;
+      output = c.say_msg.ensures.output;
+      dropped = c.say_msg.ensures.kept;
+      limits = c.say_msg.ensures.limits;
     }) a in
     c.answer_on.ensures.nothing_back (with_put p c.show_on.ensures.shows.put) now at none
 
@@ -72,11 +72,11 @@ returns-then-show_on-clause-no_cut c = λ p a at none.
     (record {
       stands = c.say_msg.ensures.stands;
       sound = c.say_msg.ensures.sound;
-      stage = c.say_msg.ensures.stage.0;
-      ended = c.say_msg.ensures.same.1;
-      output = c.say_msg.ensures.same.2;
-      dropped = c.say_msg.ensures.same.3;
-      limits = c.say_msg.ensures.same.4;
+      stage = c.say_msg.ensures.stage;
+      ended = c.say_msg.ensures.ended;
+      output = c.say_msg.ensures.output;
+      dropped = c.say_msg.ensures.kept;
+      limits = c.say_msg.ensures.limits;
     }) a in
     c.answer_on.ensures.no_cut (with_put p c.show_on.ensures.shows.put) now at none
 
@@ -100,7 +100,7 @@ returns-else-show_on-clause-answers c =
 
 pub returns-then-show_on-clause-shrinks : goal.returns-then-show_on-clause-shrinks
 returns-then-show_on-clause-shrinks c =
-    let input = c.say_msg.ensures.same.0 ∙ ap (λ (l : Lane). l.input) c.hide.ensures.same ∙ ap (λ (l : Lane). l.input) c.show_on.ensures.same in
+    let input = c.say_msg.ensures.input ∙ ap (λ (l : Lane). l.input) c.hide.ensures.same ∙ ap (λ (l : Lane). l.input) c.show_on.ensures.same in
     let e : length c.say_msg.new.self.input.items ≡ length c.args.self.now.lane.input.items = ap (λ (b : Buffer ℕ). length b.items) input in
     let less = c.answer_on.ensures.shrinks in
     omega arith

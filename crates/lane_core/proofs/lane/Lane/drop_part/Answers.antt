@@ -1,4 +1,7 @@
-use Rattle.std.proofs.Common.{◌≡◌, false, ◌∙◌, rules}
+use Rattle.std.proofs.Common.{◌≡◌, true, false, sym, ◌∙◌, subst, rules}
+use Rattle.lane_core.specs.State.{LaneState}
+use Rattle.lane_core.specs.Sends.{Sends}
+use Rattle.lane_core.specs.contracts.lane.Lane.{the_view}
 use Rattle.lane_core.proofs.StallLemmas.{sends_cleared}
 use Rattle.lane_core.proofs.lane.Lane.drop_part.Goals as goal
 
@@ -9,5 +12,5 @@ returns-then-not-read_body-clause-rests c = λ p d s _.
 
 pub returns-clause-leads : goal.returns-clause-leads
 returns-clause-leads c = λ d p s.
-    sends_cleared c.read_body.new.self p c.clear.new.self (c.read_body.ensures.keeps.dropped ∙ c.drop_held.ensures.keeps.dropped ∙ d) c.clear.ensures.size
-    (c.read_body.ensures.leads p (c.drop_held.ensures.leads d p s))
+    sends_cleared (the_view c.self.inside) p c.clear.new.self (subst (λ (l : LaneState). l.dropped ≡ true) (sym c.self.view_is) (c.read_body.ensures.keeps.dropped ∙ c.drop_held.ensures.keeps.dropped ∙ d)) c.clear.ensures.size
+    (subst (λ (l : LaneState). Sends l p) (sym c.self.view_is) (c.read_body.ensures.leads p (c.drop_held.ensures.leads d p s)))

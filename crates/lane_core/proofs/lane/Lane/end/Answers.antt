@@ -1,5 +1,12 @@
 use Rattle.lane_core.proofs.StallLemmas.{stands_ended}
+use Rattle.lane_core.specs.State.{LaneState}
+use Rattle.lane_core.specs.contracts.lane.Lane.{the_view}
+use Rattle.std.specs.Prelude.{None}
+use Rattle.std.proofs.Common.{◌≡◌, sym, subst}
 use Rattle.lane_core.proofs.lane.Lane.end.Goals as goal
 
 pub returns-clause-stands : goal.returns-clause-stands
-returns-clause-stands c = λ p s. stands_ended c.args.self.now p c.args.how c.requires s
+returns-clause-stands c =
+    let l = the_view c.self.inside in
+    let was = subst (λ (s : LaneState). s.ended ≡ None) (sym c.self.view_is) c.requires in
+    rw (← c.self.view_is) (λ p s. stands_ended l p c.args.how was s)

@@ -1,10 +1,16 @@
-use Rattle.std.proofs.Common.{refl, ◌∙◌}
+use Rattle.std.proofs.Common.{refl, ◌∙◌, sym, subst}
 use Rattle.lane_core.proofs.HeadLemmas.{reads_anew}
+use Rattle.lane_core.specs.State.{LaneState}
+use Rattle.lane_core.specs.contracts.lane.Lane.{the_view}
+use Rattle.lane_core.specs.Sends.{IsSound}
 use Rattle.lane_core.proofs.lane.Lane.next.Goals as goal
 
 pub returns-clause-reading : goal.returns-clause-reading
-returns-clause-reading c = λ side.
-    let s = c.requires.sound in
+returns-clause-reading c =
+    let l = the_view c.self.inside in
+    let was_sound = subst (λ (s : LaneState). IsSound s) (sym c.self.view_is) c.requires.sound in
+    λ side.
+    let s = was_sound in
     reads_anew side _ c.stays_scanned.ensures.none
     (record {
       sized = record { least = s.sized.least; msg = c.clear.ensures.size ∙ s.sized.msg; out = c.clear-2.ensures.size ∙ s.sized.out; input = s.sized.input; output = s.sized.output; sieve = s.sized.sieve; filters = s.sized.filters };

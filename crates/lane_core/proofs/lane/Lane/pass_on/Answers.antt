@@ -3,8 +3,8 @@ use Rattle.lane_core.specs.Sends.{reads_left, brings_left}
 use Rattle.lane_core.proofs.StallLemmas.{reads_same, brings_same}
 use Rattle.lane_core.proofs.lane.Lane.pass_on.Goals as goal
 
-pub returns-then-room-eq0-clause-reads : goal.returns-then-room-eq0-clause-reads
-returns-then-room-eq0-clause-reads c =
+pub returns-then-is_full-clause-reads : goal.returns-then-is_full-clause-reads
+returns-then-is_full-clause-reads c =
     let e : reads_left c.write.new.self ≡ reads_left c.args.self.now = reads_same c.args.self.now c.write.new.self c.write.ensures.same.1 c.write.ensures.same.2 c.write.ensures.sieve in
     omega (arith, e)
 

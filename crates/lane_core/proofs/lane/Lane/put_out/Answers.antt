@@ -1,6 +1,6 @@
 use Rattle.std.proofs.Common.{◌≡◌, sym, ◌∙◌, subst}
 use Rattle.lane_core.specs.Sends.{GoesOn, Stands}
-use Rattle.lane_core.specs.declared.lane.Lane.{Lane}
+use Rattle.lane_core.specs.State.{LaneState}
 use Rattle.lane_core.specs.declared.stage.Stage.TheVariants as stage
 use Rattle.lane_core.proofs.StallLemmas.{goes_on, at_rest, stands_at}
 use Rattle.lane_core.proofs.lane.Lane.put_out.Goals as goal
@@ -17,4 +17,4 @@ returns-clause-all c = λ p s none.
 
 pub returns-clause-stands : goal.returns-clause-stands
 returns-clause-stands c = λ p s.
-    subst (λ (l : Lane). Stands l p) (sym c.settle.ensures.same) (stands_at c.carry.new.self c.settle.new.self.stage p (c.carry.ensures.leads p s) c.settle.ensures.done)
+    subst (λ (l : LaneState). Stands l p) (sym c.settle.ensures.same) (stands_at c.carry.new.self c.settle.new.self.stage p (c.carry.ensures.leads p s) c.settle.ensures.done)

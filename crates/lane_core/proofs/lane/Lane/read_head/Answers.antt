@@ -6,6 +6,9 @@ use Rattle.http_model.specs.declared.Ending.{Ending}
 use Rattle.h1_head.specs.Sides.{kind_of}
 use Rattle.h1_head.specs.Decides.{MayWait}
 use Rattle.lane_core.proofs.HeadLemmas.{looked, received, head_takes}
+use Rattle.lane_core.specs.State.{LaneState}
+use Rattle.lane_core.specs.contracts.lane.Lane.{the_view}
+use Rattle.lane_core.specs.Sends.{IsReading}
 use Rattle.lane_core.proofs.lane.Lane.read_head.Goals as goal
 
 not_ended : (o : Option Ending) (whole : Bool) → whole ≡ is_some o → whole ≡ false → o ≡ None
@@ -14,21 +17,23 @@ not_ended (Some how) whole is no_end = let both : true ≡ false = sym is ∙ no
 
 pub returns-else-whole-clause-tells : goal.returns-else-whole-clause-tells
 returns-else-whole-clause-tells c =
-    let l = c.args.self.now in
-    let more = c.in-More.ensures in
+    let l = the_view c.self.inside in
+    let was = subst (λ (s : LaneState). IsReading c.args.side s) (sym c.self.view_is) c.requires in
+    rw (← c.self.view_is) (let more = c.in-More.ensures in
     let old = more.same in
-    looked c.args.side l c.in-More.skip c.len-self.result c.drop_front.new.self c.read_head.new.to c.requires
+    looked c.args.side l c.in-More.skip c.len-self-inside.result c.drop_front.new.self c.read_head.new.to was
     (not_ended l.ended c.is_some-whole.result c.is_some-whole.ensures c.if-whole.false)
     more.skip (c.drop_front.ensures.items ∙ ap (λ (b : Buffer ℕ). drop c.in-More.skip b.items) old) (c.drop_front.ensures.capacity ∙ ap (λ (b : Buffer ℕ). b.capacity) old) more.lines
     (subst (λ (b : Bool). MayWait (kind_of c.args.side) l.limits b l.input.items) c.if-whole.false more.waits)
-    more.scanned c.drops_lines.ensures more.unkept more.size c.len-self.ensures.len
+    more.scanned c.drops_lines.ensures more.unkept more.size c.len-self-inside.ensures.len)
 
 pub returns-in-Head-clause-tells : goal.returns-in-Head-clause-tells
 returns-in-Head-clause-tells c =
-    let l = c.args.self.now in
-    let got = c.in-Head.ensures in
-    received c.args.side l c.in-Head.used c.drop_front-in-Head.new.self c.read_head.new.to c.in-Head.framing c.in-Head.declared c.in-Head.close c.is_some-whole.result c.requires c.is_some-whole.ensures
-    (c.drop_front-in-Head.ensures.items ∙ ap (λ (b : Buffer ℕ). drop c.in-Head.used b.items) got.same) (c.drop_front-in-Head.ensures.capacity ∙ ap (λ (b : Buffer ℕ). b.capacity) got.same) got.head got.size
+    let l = the_view c.self.inside in
+    let was = subst (λ (s : LaneState). IsReading c.args.side s) (sym c.self.view_is) c.requires in
+    rw (← c.self.view_is) (let got = c.in-Head.ensures in
+    received c.args.side l c.in-Head.used c.drop_front-in-Head.new.self c.read_head.new.to c.in-Head.framing c.in-Head.declared c.in-Head.close c.is_some-whole.result was c.is_some-whole.ensures
+    (c.drop_front-in-Head.ensures.items ∙ ap (λ (b : Buffer ℕ). drop c.in-Head.used b.items) got.same) (c.drop_front-in-Head.ensures.capacity ∙ ap (λ (b : Buffer ℕ). b.capacity) got.same) got.head got.size)
 
 left_is : (input : Buffer ℕ) (old kept : Buffer ℕ) (n : ℕ) → input.items ≡ drop n kept.items → kept ≡ old → input.items ≡ drop n old.items
 left_is input old kept n items same = items ∙ ap (λ (b : Buffer ℕ). drop n b.items) same
@@ -40,19 +45,26 @@ fewer input old kept n items same =
     omega arith
 
 pub returns-in-Head-clause-takes : goal.returns-in-Head-clause-takes
-returns-in-Head-clause-takes c = λ is.
-    let l = c.args.self.now in
+returns-in-Head-clause-takes c =
+    let l = the_view c.self.inside in
+    rw (← c.self.view_is) (λ is.
     let got = c.in-Head.ensures in
     let k = got.head in
     let less = head_takes c.args.side l.limits l.input.items (drop c.in-Head.used l.input.items) c.is_some-whole.result (record { head = k.head; framing = c.in-Head.framing; declared = c.in-Head.declared; close = c.in-Head.close }) (c.has_bytes.ensures c.args.side) k.begins in
     let e : length c.drop_front-in-Head.new.self.items ≡ length (drop c.in-Head.used l.input.items) = ap length (left_is c.drop_front-in-Head.new.self l.input c.read_head.new.self c.in-Head.used c.drop_front-in-Head.ensures.items got.same) in
-    omega arith
+    omega arith)
 
 pub returns-in-Head-clause-shrinks : goal.returns-in-Head-clause-shrinks
-returns-in-Head-clause-shrinks c = fewer c.drop_front-in-Head.new.self c.args.self.now.input c.read_head.new.self c.in-Head.used c.drop_front-in-Head.ensures.items c.in-Head.ensures.same
+returns-in-Head-clause-shrinks c =
+    let l = the_view c.self.inside in
+    rw (← c.self.view_is) (fewer c.drop_front-in-Head.new.self l.input c.read_head.new.self c.in-Head.used c.drop_front-in-Head.ensures.items c.in-Head.ensures.same)
 
 pub returns-then-whole-clause-shrinks : goal.returns-then-whole-clause-shrinks
-returns-then-whole-clause-shrinks c = fewer c.drop_front.new.self c.args.self.now.input c.read_head.new.self c.in-More.skip c.drop_front.ensures.items c.in-More.ensures.same
+returns-then-whole-clause-shrinks c =
+    let l = the_view c.self.inside in
+    rw (← c.self.view_is) (fewer c.drop_front.new.self l.input c.read_head.new.self c.in-More.skip c.drop_front.ensures.items c.in-More.ensures.same)
 
 pub returns-else-whole-clause-shrinks : goal.returns-else-whole-clause-shrinks
-returns-else-whole-clause-shrinks c = fewer c.drop_front.new.self c.args.self.now.input c.read_head.new.self c.in-More.skip c.drop_front.ensures.items c.in-More.ensures.same
+returns-else-whole-clause-shrinks c =
+    let l = the_view c.self.inside in
+    rw (← c.self.view_is) (fewer c.drop_front.new.self l.input c.read_head.new.self c.in-More.skip c.drop_front.ensures.items c.in-More.ensures.same)

@@ -4,7 +4,7 @@ use Rattle.std.specs.Prelude.{Option}
 use Rattle.body_sieve.specs.declared.sieve.Sieve.{Sieve}
 use Rattle.lane_core.specs.Filtering.{AreThese}
 use Rattle.lane_core.specs.Sends.{Stands, said}
-use Rattle.lane_core.specs.declared.lane.Lane.{Lane}
+use Rattle.lane_core.specs.State.{LaneState}
 use Rattle.lane_core.proofs.FlowLemmas.{front_flow}
 use Rattle.lane_core.proofs.lane.Lane.say.Goals as goal
 
@@ -12,4 +12,5 @@ pub returns-clause-stands : goal.returns-clause-stands
 returns-clause-stands c = λ filters head body these is.
     let flows = ap flow is ∙ front_flow head body in
     let at = c.put_by.ensures.flow ∙ flows in
-    subst (λ (l : Lane). Stands c.say_msg.new.self (said l filters head body c.args.no_body)) c.put_by.ensures.same (c.say_msg.ensures.stands filters head body (subst (λ (o : Option Sieve). AreThese o filters) (sym (ap (λ (l : Lane). l.sieve) c.put_by.ensures.same)) these) at)
+    let same = c.put_by.ensures.same ∙ ap (λ (l : LaneState). record l { msg = c.put_by.new.self.msg }) c.hide.ensures.same in
+    subst (λ (l : LaneState). Stands c.say_msg.new.self (said l filters head body c.args.no_body)) same (c.say_msg.ensures.stands filters head body (subst (λ (o : Option Sieve). AreThese o filters) (sym (ap (λ (l : LaneState). l.sieve) same)) these) at)

@@ -1,5 +1,12 @@
 use Rattle.lane_core.proofs.StallLemmas.{stands_open}
+use Rattle.lane_core.specs.State.{LaneState}
+use Rattle.lane_core.specs.contracts.lane.Lane.{the_view}
+use Rattle.std.specs.Prelude.{None}
+use Rattle.std.proofs.Common.{◌≡◌, sym, subst}
 use Rattle.lane_core.proofs.lane.Lane.take.Goals as goal
 
 pub returns-clause-stands : goal.returns-clause-stands
-returns-clause-stands c = λ p s. stands_open c.args.self.now p c.push.new.self c.args.self.now.ended c.args.bytes.now c.requires.open c.push.ensures.items c.push.ensures.capacity s
+returns-clause-stands c =
+    let l = the_view c.self.inside in
+    let was_open = subst (λ (s : LaneState). s.ended ≡ None) (sym c.self.view_is) c.requires.open in
+    rw (← c.self.view_is) (λ p s. stands_open l p c.push.new.self l.ended c.args.bytes.now was_open c.push.ensures.items c.push.ensures.capacity s)

@@ -1,4 +1,4 @@
-use Rattle.std.proofs.Common.{◌≡◌, ◌<◌, ◌∙◌, inr, ap, sym, subst, arith, length, rules}
+use Rattle.std.proofs.Common.{◌≡◌, ◌<◌, ◌∙◌, inr, ap, sym, subst, length, rules}
 use Rattle.htx_arena.specs.Contents.{Contents}
 use Rattle.h1_write.specs.Spelled.{IsEven}
 use Rattle.lane_core.specs.Carried.{EndIsOut}
@@ -9,7 +9,7 @@ use Rattle.lane_core.proofs.lane.Lane.turn.Goals as goal
 
 pub returns-clause-rests : goal.returns-clause-rests
 returns-clause-rests c = λ p s no_more.
-    let free : length c.drain.new.self.output.items < c.drain.new.self.output.capacity = omega arith in
+    let free : length c.drain.new.self.output.items < c.drain.new.self.output.capacity = c.is_full.ensures.room c.if-is_full.false in
     let d = drained c.drain.new.self c.drain.ensures.rests free in
     let w = c.read_body.ensures.waits p (c.drain.ensures.leads p s) no_more in
     let was : c.drain.new.self.source ≡ source.Going = search rules in
