@@ -19,6 +19,7 @@ use std::marker::Model;
 use wire_buf::Window;
 
 /// What both directions of a connection own: from the bytes that come to the text that goes out, a message after the other.
+/// Contracts see a `LaneState`.
 #[derive(Drop)]
 pub struct Lane {
     limits: Limits,

@@ -243,8 +243,10 @@ impl Lane {
         requires going { self.old.dropped ≡ false }
         ensures sound { IsSound self.new }
         ensures filters { (filters : List FilterSpec) → AreThese self.old.sieve filters → AreThese self.new.sieve filters }
-        ensures input { (self.new.input.capacity ≡ self.old.input.capacity) × (length self.new.input.items ≤ length self.old.input.items) }
-        ensures ended { (self.new.ended ≡ self.old.ended) × (self.new.limits ≡ self.old.limits) }
+        ensures capacity { self.new.input.capacity ≡ self.old.input.capacity }
+        ensures shrinks { length self.new.input.items ≤ length self.old.input.items }
+        ensures ended { self.new.ended ≡ self.old.ended }
+        ensures limits { self.new.limits ≡ self.old.limits }
         ensures grows { (put : List ℕ) × (self.new.output.items ≡ self.old.output.items ++ put) }
         ensures stands { (p : Past) → Sends self.old p → Stands self.new p }
         ensures done { IsAllOut self.new → self.new.stage ≡ stage.Done }

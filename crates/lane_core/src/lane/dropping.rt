@@ -111,9 +111,12 @@ impl Lane {
         requires dropped { self.old.dropped ≡ true }
         ensures sound { IsSound self.new }
         ensures filters { (filters : List FilterSpec) → AreThese self.old.sieve filters → AreThese self.new.sieve filters }
-        ensures input { (self.new.input.capacity ≡ self.old.input.capacity) × (length self.new.input.items ≤ length self.old.input.items) }
-        ensures ended { (self.new.ended ≡ self.old.ended) × (self.new.limits ≡ self.old.limits) }
-        ensures same { (self.new.output ≡ self.old.output) × (self.new.dropped ≡ true) }
+        ensures capacity { self.new.input.capacity ≡ self.old.input.capacity }
+        ensures shrinks { length self.new.input.items ≤ length self.old.input.items }
+        ensures ended { self.new.ended ≡ self.old.ended }
+        ensures limits { self.new.limits ≡ self.old.limits }
+        ensures output { self.new.output ≡ self.old.output }
+        ensures dropped { self.new.dropped ≡ true }
         ensures stands { (p : Past) → Sends self.old p → Stands self.new p }
         ensures rests { (p : Past) → Sends self.old p → RestsFor self.new }
         ensures done { IsAllOut self.new → self.new.stage ≡ stage.Done }
