@@ -10,7 +10,7 @@ use Rattle.lane.specs.Asking.{stage_of, source_of, input_of, most_of, ended_of, 
 use Rattle.lane.specs.declared.request_lane.RequestLane.{RequestLane}
 use Rattle.request_side.specs.declared.place.Place.{Place}
 use Rattle.request_side.specs.declared.place.Place.TheVariants as place
-use Rattle.request_side.specs.Seen.{seen, unread_at, source_at, sent_at}
+use Rattle.request_side.specs.Seen.{seen, unread_at, to_read, source_at, sent_at}
 use Rattle.request_side.specs.Stands.{SoundAt}
 
 pub none_is : (o : Option Ending) → is_none o ≡ true → o ≡ None
@@ -49,6 +49,13 @@ room_less old new bytes was now limits input =
     let most : most_of new ≡ most_of old = now.sized.input ∙ ap (λ l. l.bufsize) limits ∙ sym was.sized.input in
     let long : length (input_of new) ≡ length (input_of old) + length bytes = ap length input ∙ length-append (input_of old) bytes in
     omega (arith, most, long)
+
+-- and those of them that are to be read
+pub unread_more : (at : Place) (old new : RequestLane) (bytes : List ℕ) → input_of new ≡ input_of old ++ bytes → unread_at at (input_of new) ≡ unread_at at (input_of old) + to_read at (length bytes)
+unread_more place.Reading old new bytes input = ap length input ∙ length-append (input_of old) bytes
+unread_more place.Sending old new bytes input = ap length input ∙ length-append (input_of old) bytes
+unread_more place.Idle old new bytes input = refl
+unread_more place.Replied old new bytes input = ap length input ∙ length-append (input_of old) bytes
 
 pub seen_as : (old new : RequestLane) (at : Place) (awaits was now open_ dropped : Bool) (room unread : ℕ) (window : List ℕ)
     → is_none (ended_of new) ≡ open_ → most_of new - length (input_of new) ≡ room → unread_at at (input_of new) ≡ unread → output_of new ≡ window

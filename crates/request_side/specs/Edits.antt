@@ -8,9 +8,8 @@ use Rattle.http_model.specs.Reading.{Received}
 use Rattle.session_core.specs.History.{Coming}
 use Rattle.http_rules.specs.declared.config.Config.{Config}
 use Rattle.lane.specs.Asking as lane
-use Rattle.lane.specs.Asking.{array_of}
 use Rattle.lane.specs.Lending as lanes
-use Rattle.request_side.specs.Seen.{place_of, is_open, room_of, window_of, input_size_of, limits_of}
+use Rattle.request_side.specs.Seen.{place_of, is_open, room_of, window_of, array_of, input_size_of, limits_of}
 use Rattle.request_side.specs.Stands.{IsSound}
 use Rattle.request_side.specs.Reads.{HasHead, HeadRead}
 use Rattle.request_side.specs.declared.side.RequestSide.{RequestSide}
@@ -29,7 +28,7 @@ close_of side = lane.close_of side.lane
 
 -- the size of the array, in bytes
 abbrev pub array_size_of : RequestSide → ℕ
-array_size_of side = (array_of side.lane).size
+array_size_of side = (array_of side).size
 
 -- the side with this array
 abbrev pub with_head : RequestSide → Contents → RequestSide

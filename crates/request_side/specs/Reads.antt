@@ -22,7 +22,7 @@ use Rattle.lane_core.specs.declared.stage.Stage.TheVariants as stage
 use Rattle.lane.specs.Asking.{stage_of, blocks_of, framing_of, declared_of, close_of, MaySend}
 use Rattle.request_side.specs.declared.place.Place.TheVariants as place
 use Rattle.request_side.specs.declared.side.RequestSide.{RequestSide}
-use Rattle.request_side.specs.Seen.{place_of, is_open, room_of, input_size_of}
+use Rattle.request_side.specs.Seen.{seen, place_of, is_open, room_of, input_size_of}
 use Rattle.request_side.specs.Stands.{IsFor, RequestStands, Leads, left_of}
 
 -- a head stands in the array, for rules to run on; nothing of it goes out yet
@@ -49,8 +49,23 @@ AsksAlways side asked =
     (cfg : Config) (vars : Variables) (came : Coming) (asking : Asking Variables) (to_server : List ℕ) (reply : Reply Variables)
     → RequestStands cfg side vars came asking to_server reply → (stream : Stream) → Continues came stream → Asks (meaning_of cfg) vars stream (asked vars)
 
+-- no head came, and it is at rest: the stream goes on, and there is room for more of it
+pub record HeadWaits (old new : RequestSide) : Type 0 where
+  pub place : place_of new ≡ place.Reading
+  pub is_open : is_open new ≡ true
+  pub room : 0 < room_of new
+  pub rests : (seen new).at_rest ≡ true
+  pub leads : Leads old new (λ came. came) (λ put. put)
+
+-- no head comes: this is what the client asks for, with no rule
+pub record NoHead (old new : RequestSide) (asked : Variables → Asked Variables) : Type 0 where
+  pub place : place_of new ≡ place.Idle
+  pub leads : Leads old new (λ came. came) (λ put. put)
+  pub asks : AsksAlways old asked
+
 -- a head came, with what is left behind it
 pub record HeadComes (old new : RequestSide) : Type 0 where
+  pub place : place_of new ≡ place.Idle
   pub received : Received
   pub has : HasHead new
   pub holds : Holds new received
@@ -61,10 +76,10 @@ pub record HeadComes (old new : RequestSide) : Type 0 where
 -- More: the stream goes on, there is room, and no head came. Nothing: the client asks for nothing more. Head: it came. Refuse: it
 -- is refused, with its body, before any rule.
 abbrev pub HeadTells : RequestSide → RequestSide → LaneHead → Type 0
-HeadTells old new says.More = (place_of new ≡ place.Reading) × (is_open new ≡ true) × (0 < room_of new) × Leads old new (λ came. came) (λ put. put)
-HeadTells old new says.Nothing = (place_of new ≡ place.Idle) × Leads old new (λ came. came) (λ put. put) × AsksAlways old (λ vars. Nothing)
-HeadTells old new says.Head = (place_of new ≡ place.Idle) × HeadComes old new
-HeadTells old new (says.Refuse code) = (place_of new ≡ place.Idle) × Leads old new (λ came. came) (λ put. put) × AsksAlways old (λ vars. Refused code false [] vars)
+HeadTells old new says.More = HeadWaits old new
+HeadTells old new says.Nothing = NoHead old new (λ vars. Nothing)
+HeadTells old new says.Head = HeadComes old new
+HeadTells old new (says.Refuse code) = NoHead old new (λ vars. Refused code false [] vars)
 
 -- what is refused is at least one byte, and a head takes some
 abbrev pub UsesBytes : RequestSide → RequestSide → LaneHead → Type 0

@@ -1,5 +1,6 @@
 -- What a core sees of the request direction.
 use Rattle.std.specs.Prelude.{ℕ, ◌-◌, List, Bool, true, false, is_none, length}
+use Rattle.htx_arena.specs.Contents.{Contents}
 use Rattle.htx_model.specs.Block.{Block}
 use Rattle.http_model.specs.declared.Limits.{Limits}
 use Rattle.lane.specs.Asking as lanes
@@ -64,6 +65,13 @@ unread_at place.Sending input = length input
 unread_at place.Idle input = 0
 unread_at place.Replied input = length input
 
+-- of so many bytes that come, those that are to be read
+abbrev pub to_read : Place → ℕ → ℕ
+to_read place.Reading n = n
+to_read place.Sending n = n
+to_read place.Idle n = 0
+to_read place.Replied n = n
+
 abbrev pub unread_of : RequestSide → ℕ
 unread_of side = unread_at side.place (input_of side.lane)
 
@@ -79,7 +87,11 @@ limits_of side = lanes.limits_of side.lane
 abbrev pub input_size_of : RequestSide → ℕ
 input_size_of side = length (input_of side.lane)
 
--- the blocks of the array on which rules run
+-- the array on which rules run
+abbrev pub array_of : RequestSide → Contents
+array_of side = lanes.array_of side.lane
+
+-- its blocks
 abbrev pub list_of : RequestSide → List Block
 list_of side = lanes.blocks_of side.lane
 

@@ -1,5 +1,5 @@
 -- What the calls of the request direction come to.
-use Rattle.std.specs.Prelude.{◌≡◌, ◌≢◌, ℕ, List, ◌++◌, not, ◌&&◌, None}
+use Rattle.std.specs.Prelude.{◌≡◌, ℕ, List, ◌++◌, not, ◌&&◌, None}
 use Rattle.session_model.specs.Stream.{Stream}
 use Rattle.session_core.specs.History.{Coming, Continues, prepend, prepended}
 use Rattle.session_core.specs.Sided.{Asking, Reply, RequestGoes, request_to}
@@ -7,9 +7,8 @@ use Rattle.px_sample.specs.Variables.{Variables}
 use Rattle.http_rules.specs.declared.config.Config.{Config}
 use Rattle.proxy_meaning.specs.Product.{meaning_of}
 use Rattle.lane.specs.Asking.{stage_of, is_dropping}
-use Rattle.request_side.specs.Seen.{place_of, source_of, sent_at, window_of}
+use Rattle.request_side.specs.Seen.{source_of, sent_at, window_of}
 use Rattle.request_side.specs.Stands.{RequestStands, left_of}
-use Rattle.request_side.specs.declared.place.Place.TheVariants as place
 use Rattle.request_side.specs.declared.side.RequestSide.{RequestSide}
 
 -- however the client's stream goes on, what was put out to the server is a front of the request that it brings, or all of it
@@ -33,9 +32,8 @@ pub record Puts (old new : RequestSide) : Type 0 where
   pub stands : (cfg : Config) (vars : Variables) (came : Coming) (asking : Asking Variables) (to_server : List ℕ) (reply : Reply Variables)
       → RequestStands cfg old vars came asking to_server reply → RequestStands cfg new vars came asking (to_server ++ put) reply
 
--- where a request goes out or was replied to, the next exchange is read from what is left
+-- the next exchange is read from what is left
 abbrev pub ReadsNext : RequestSide → RequestSide → Type 0
 ReadsNext old new =
-    place_of old ≢ place.Idle →
     (cfg : Config) (vars next : Variables) (came : Coming) (asking now : Asking Variables) (to_server text : List ℕ) (reply other : Reply Variables)
     → RequestStands cfg old vars came asking to_server reply → RequestStands cfg new next (left_of old) now text other

@@ -1,12 +1,11 @@
 //! What is kept of a request's head as it was received, while rules edit the one that stands in the array.
-ghost use Rattle.std.specs.Prelude.{◌≡◌, ◌<◌, ℕ, List, length, ◌&&◌};
+ghost use Rattle.std.specs.Prelude.{◌≡◌, ◌<◌, length, ◌&&◌};
 ghost use Rattle.std.specs.List.{list_any};
-ghost use Rattle.http_model.specs.Head.{head_blocks, RequestLine};
 ghost use Rattle.http_model.specs.Reading.{Received};
 ghost use Rattle.session_model.specs.Meaning.{is_bodiless};
 ghost use Rattle.htx_arena.specs.Blocks.{block_at};
 ghost use Rattle.htx_view.specs.Lines.{request_in};
-ghost use Rattle.request_side.specs.Kept.{is_head_line, is_11_line, is_expectation, IsKept};
+ghost use Rattle.request_side.specs.Kept.{is_head_line, is_11_line, is_expectation, StandsIn, IsKept};
 
 use header_ops::has_named;
 use http_model::Framing;
@@ -96,8 +95,7 @@ fn all(a: bool, b: bool, c: bool) -> bool
 
 /// What is kept of the head that stands in the array, whose body is framed so, and of whose Connection elements one is `close` or none.
 pub fn kept_of(msg: &Arena, framing: Framing, close: bool) -> Kept
-    ensures { (received : Received) (method target version : List ℕ) → received.head.line ≡ RequestLine method target version → received.framing ≡ framing → received.close ≡ close
-        → msg.now.blocks ≡ head_blocks received.head → IsKept received result }
+    ensures kept { (received : Received) → StandsIn received msg.now.blocks framing close → IsKept received result }
 {
     let is_http_11 = is_http_11(msg);
     let is_bodiless = is_bodiless(framing);

@@ -2,7 +2,6 @@
 ghost use Rattle.std.specs.Prelude.{◌≡◌, ◌≢◌, ◌≤◌, ◌+◌, ◌-◌, ℕ, List, [], ◌++◌, true, false, drop, length, IfOk};
 ghost use Rattle.http_model.specs.Head.{Head, head_blocks};
 ghost use Rattle.http_model.specs.Sizes.{least_size, most_size, least_head};
-ghost use Rattle.htx_model.specs.Block.{Block};
 ghost use Rattle.body_filter.specs.Valid.{AreFilters};
 ghost use Rattle.px_sample.specs.Variables.{Variables};
 ghost use Rattle.http_rules.specs.declared.config.Config.{Config};
@@ -10,8 +9,7 @@ ghost use Rattle.session_core.specs.History.{Coming, no_stream, gains, ends};
 ghost use Rattle.session_core.specs.Sided.{Asking, Reply};
 ghost use Rattle.session_core.specs.Leads.{KeepsRequest};
 ghost use Rattle.session_core.specs.declared.Source.TheVariants as source;
-ghost use Rattle.lane.specs.Asking.{stage_of, blocks_of};
-ghost use Rattle.lane_core.specs.declared.stage.LaneHead.TheVariants as says;
+ghost use Rattle.lane.specs.Asking.{stage_of};
 ghost use Rattle.lane_core.specs.declared.stage.Stage.TheVariants as stage;
 
 mod views;
@@ -37,7 +35,7 @@ pub struct RequestSide {
     at_rest: bool,
 }
 
-ghost use Rattle.request_side.specs.Seen.{seen, list_of, limits_of, input_size_of, place_of, is_open, room_of, window_of};
+ghost use Rattle.request_side.specs.Seen.{seen, list_of, limits_of, input_size_of, place_of, is_open, room_of, window_of, to_read};
 ghost use Rattle.request_side.specs.Stands.{IsSound, RequestStands, Leads};
 ghost use Rattle.request_side.specs.Steps.{Puts, ReadsNext};
 ghost use Rattle.request_side.specs.Reads.{HeadTells, UsesBytes, HasHead, SendsOn, RepliesTo};
@@ -62,7 +60,9 @@ impl RequestSide {
         ensures limits { IfOk result (λ side. limits_of side ≡ limits) }
         ensures stands { IfOk result (λ side. (cfg : Config) (vars : Variables) (asking : Asking Variables) (to_server : List ℕ) (reply : Reply Variables)
             → cfg.limits ≡ limits → cfg.req_filters ≡ filters.now → RequestStands cfg side vars no_stream asking to_server reply) }
-        ensures fresh { IfOk result (λ side. (place_of side ≡ place.Reading) × (is_open side ≡ true) × (window_of side ≡ [])) }
+        ensures place { IfOk result (λ side. place_of side ≡ place.Reading) }
+        ensures open { IfOk result (λ side. is_open side ≡ true) }
+        ensures window { IfOk result (λ side. window_of side ≡ []) }
     {
         let mut lane = RequestLane::new(alloc, limits, window, filters)?;
         lane.next();
@@ -81,7 +81,7 @@ impl RequestSide {
         requires room { length bytes.now ≤ room_of self.old }
         ensures sound { IsSound self.new }
         ensures leads { Leads self.old self.new (λ came. gains came bytes.now) (λ put. put) }
-        ensures seen { (unread : ℕ) × (seen self.new ≡ record (seen self.old) { room = room_of self.old - length bytes.now; unread = unread; at_rest = false }) }
+        ensures seen { seen self.new ≡ record (seen self.old) { room = room_of self.old - length bytes.now; unread = (seen self.old).unread + to_read (place_of self.old) (length bytes.now); at_rest = false } }
         ensures place { place_of self.new ≡ place_of self.old }
         ensures limits { limits_of self.new ≡ limits_of self.old }
     {
@@ -117,15 +117,15 @@ impl RequestSide {
         self.at_rest = false;
     }
 
-    /// The server takes nothing more: what waits for it, and all that follows, is dropped. The array on which rules run
-    /// changes.
+    /// The server takes nothing more: what waits for it, and all that follows, is dropped. Which blocks are left in the array on
+    /// which rules run isn't said: no rule runs on them, and a head is read over them.
     pub fn drop_request(&mut self)
         requires sound { IsSound self.old }
         requires some { window_of self.old ≢ [] }
         ensures sound { IsSound self.new }
         ensures leads { (cfg : Config) (vars : Variables) (came : Coming) (asking : Asking Variables) (to_server put : List ℕ) (reply : Reply Variables)
             → RequestStands cfg self.old vars came asking to_server reply → put ++ window_of self.old ≡ to_server → RequestStands cfg self.new vars came asking put reply }
-        ensures seen { (list : List Block) × (seen self.new ≡ record (seen self.old) { window = []; dropped = true; at_rest = false; list = list }) }
+        ensures seen { seen self.new ≡ record (seen self.old) { window = []; dropped = true; at_rest = false; list = list_of self.new } }
         ensures place { place_of self.new ≡ place_of self.old }
         ensures limits { limits_of self.new ≡ limits_of self.old }
     {
@@ -134,20 +134,16 @@ impl RequestSide {
         self.lane.discard();
     }
 
-    /// Reads, filters and puts out as much of the request as there is room for. The array on which rules run changes. Where a head
-    /// is to be read nothing is done.
+    /// Reads, filters and puts out as much of the request as there is room for. The array on which rules run changes.
     pub fn step_request(&mut self)
-        requires { IsSound self.old }
+        requires sound { IsSound self.old }
+        requires begun { place_of self.old ≢ place.Reading }
         ensures sound { IsSound self.new }
         ensures puts { Puts self.old self.new }
-        ensures keeps { place_of self.old ≢ place.Reading → KeepsRequest (seen self.old) (seen self.new) }
-        ensures still { place_of self.old ≡ place.Reading → seen self.new ≡ seen self.old }
+        ensures keeps { KeepsRequest (seen self.old) (seen self.new) }
         ensures place { place_of self.new ≡ place_of self.old }
         ensures limits { limits_of self.new ≡ limits_of self.old }
     {
-        if self.is_reading() {
-            return;
-        }
         self.at_rest = true;
         if !self.is_going_out() {
             return;
@@ -155,22 +151,10 @@ impl RequestSide {
         self.lane.step();
     }
 
-    /// Whether the head of a request is to be read.
-    fn is_reading(&self) -> bool
-        ensures reading { result ≡ true → place_of self.now ≡ place.Reading }
-        ensures begun { result ≡ false → place_of self.now ≢ place.Reading }
-    {
-        match self.place {
-            Place::Reading => true,
-            Place::Sending => false,
-            Place::Idle => false,
-            Place::Replied => false,
-        }
-    }
-
     /// Whether text of a request is still to go out.
     fn is_going_out(&self) -> bool
-        ensures going { result ≡ true → (place_of self.now ≡ place.Sending) × (stage_of self.now.lane ≡ stage.Sending) }
+        ensures place { result ≡ true → place_of self.now ≡ place.Sending }
+        ensures stage { result ≡ true → stage_of self.now.lane ≡ stage.Sending }
         ensures rests { result ≡ false → place_of self.now ≡ place.Sending → stage_of self.now.lane ≢ stage.Sending }
     {
         match self.place {
@@ -188,7 +172,6 @@ impl RequestSide {
         ensures sound { IsSound self.new }
         ensures tells { HeadTells self.old self.new result }
         ensures uses { UsesBytes self.old self.new result }
-        ensures rests { result ≡ says.More → (seen self.new).at_rest ≡ true }
         ensures open { is_open self.new ≡ is_open self.old }
         ensures window { window_of self.new ≡ window_of self.old }
         ensures limits { limits_of self.new ≡ limits_of self.old }
@@ -221,14 +204,17 @@ impl RequestSide {
         requires sound { IsSound self.old }
         requires idle { place_of self.old ≡ place.Idle }
         requires has { HasHead self.old }
-        requires head { (head : Head) × (blocks_of self.old.lane ≡ head_blocks head) }
+        requires head { (head : Head) × (list_of self.old ≡ head_blocks head) }
         ensures sound { IsSound self.new }
         ensures leads { SendsOn self.old self.new framing }
         ensures place { place_of self.new ≡ place.Sending }
         ensures open { is_open self.new ≡ is_open self.old }
         ensures window { window_of self.new ≡ window_of self.old }
         ensures list { list_of self.new ≡ list_of self.old }
-        ensures seen { ((seen self.new).source ≡ source.Going) × ((seen self.new).sent ≡ false) × ((seen self.new).dropped ≡ false) × ((seen self.new).awaits ≡ awaits) }
+        ensures source { (seen self.new).source ≡ source.Going }
+        ensures sent { (seen self.new).sent ≡ false }
+        ensures dropped { (seen self.new).dropped ≡ false }
+        ensures waits { (seen self.new).awaits ≡ awaits }
         ensures limits { limits_of self.new ≡ limits_of self.old }
     {
         self.lane.send(framing, false);
@@ -256,31 +242,31 @@ impl RequestSide {
     /// The next exchange begins behind a request that came whole, or that was replied to: the head of the next is to be read.
     /// What stands in the output goes.
     pub fn next(&mut self)
-        requires { IsSound self.old }
+        requires sound { IsSound self.old }
+        requires busy { place_of self.old ≢ place.Idle }
         ensures sound { IsSound self.new }
         ensures leads { ReadsNext self.old self.new }
-        ensures place { place_of self.old ≢ place.Idle → place_of self.new ≡ place.Reading }
+        ensures place { place_of self.new ≡ place.Reading }
         ensures open { is_open self.new ≡ is_open self.old }
         ensures window { window_of self.new ≡ [] }
         ensures unread { (seen self.new).unread ≡ (seen self.old).unread }
         ensures limits { limits_of self.new ≡ limits_of self.old }
     {
-        self.at_rest = false;
-        if self.place == Place::Idle {
-            return;
-        }
         self.lane.next();
         self.place = Place::Reading;
+        self.at_rest = false;
     }
 
     /// As a new one, in the same memory, for the same configuration.
     pub fn renew(&mut self)
-        requires { IsSound self.old }
+        requires sound { IsSound self.old }
         ensures sound { IsSound self.new }
         ensures limits { limits_of self.new ≡ limits_of self.old }
         ensures stands { (cfg : Config) (before : Variables) (came : Coming) (asked : Asking Variables) (sent : List ℕ) (replied : Reply Variables) → RequestStands cfg self.old before came asked sent replied
             → (vars : Variables) (asking : Asking Variables) (to_server : List ℕ) (reply : Reply Variables) → RequestStands cfg self.new vars no_stream asking to_server reply }
-        ensures fresh { (place_of self.new ≡ place.Reading) × (is_open self.new ≡ true) × (window_of self.new ≡ []) }
+        ensures place { place_of self.new ≡ place.Reading }
+        ensures open { is_open self.new ≡ true }
+        ensures window { window_of self.new ≡ [] }
     {
         self.lane.renew();
         self.place = Place::Reading;

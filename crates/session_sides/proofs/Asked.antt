@@ -1,5 +1,5 @@
 -- What asking for the client's next request comes to, by what reading its head said.
-use Rattle.std.proofs.Common.{true, ◌≡◌, ℕ, ◌<◌, [], false, refl, sym, ap, ◌∙◌, subst}
+use Rattle.std.proofs.Common.{◌≡◌, ℕ, ◌<◌, [], false, refl, sym, ap, ◌∙◌, subst}
 use Rattle.http_rules.specs.declared.config.Config.{Config}
 use Rattle.http_rules.specs.Run.{IsHead}
 use Rattle.proxy_meaning.specs.Product.{meaning_of}
@@ -56,15 +56,15 @@ uses_less old new asks.Send h = tt
 
 more_past : (d : Directions) (r : RequestSide) → Placed d at.Reads → HeadTells d.request r says.More → (cfg : Config) (p : Sided (meaning_of cfg)) → DirectionsStand cfg d p → DirectionsStand cfg (record d { request = r }) p
 more_past d r was tells cfg p s =
-    stands_request cfg d r p p.came p.to_server (tells.0 ∙ sym was.is_at.stand.0) s (tells.3 cfg p.vars p.came p.asking p.to_server p.reply s.request)
+    stands_request cfg d r p p.came p.to_server (tells.place ∙ sym was.is_at.stand.0) s (tells.leads cfg p.vars p.came p.asking p.to_server p.reply s.request)
 
 pub asks_more : (d : Directions) (r : RequestSide) → Placed d at.Reads → IsSound r → requests.limits_of r ≡ requests.limits_of d.request → requests.is_open r ≡ requests.is_open d.request
-    → requests.window_of r ≡ requests.window_of d.request → HeadTells d.request r says.More → (requests.seen r).at_rest ≡ true → AsksSo d (record d { request = r }) asks.More
-asks_more d r was sound limits is_open window tells rests =
+    → requests.window_of r ≡ requests.window_of d.request → HeadTells d.request r says.More → AsksSo d (record d { request = r }) asks.More
+asks_more d r was sound limits is_open window tells =
     record {
       leads = more_past d r was tells;
-      placed = placed_behind d (record d { request = r }) asks.More was (more_past d r was tells) (at_request d r at.Reads sound limits (tells.0 ∙ sym was.is_at.stand.0) was.is_at);
-      request = record { is_open = is_open; window = window; waits = (rests, tells.1, tells.2); less = tt };
+      placed = placed_behind d (record d { request = r }) asks.More was (more_past d r was tells) (at_request d r at.Reads sound limits (tells.place ∙ sym was.is_at.stand.0) was.is_at);
+      request = record { is_open = is_open; window = window; waits = (tells.rests, tells.is_open, tells.room); less = tt };
       window = refl;
       starts = idle_starts d.answer was.is_at.stand.1;
       heard = idle_heard d.answer was.is_at.sound.answer was.is_at.stand.1;
@@ -83,14 +83,14 @@ idle_past cfg d r p idle s request =
 
 nothing_leads : (d : Directions) (r : RequestSide) → HeadTells d.request r says.Nothing → LeadsOn d (record d { request = r }) asks.Nothing
 nothing_leads d r tells cfg p s =
-    (idle_past cfg d r p tells.0 s (tells.1 cfg p.vars p.came p.asking p.to_server p.reply s.request), tells.2 cfg p.vars p.came p.asking p.to_server p.reply s.request)
+    (idle_past cfg d r p tells.place s (tells.leads cfg p.vars p.came p.asking p.to_server p.reply s.request), tells.asks cfg p.vars p.came p.asking p.to_server p.reply s.request)
 
 pub asks_nothing : (d : Directions) (r : RequestSide) → Placed d at.Reads → IsSound r → requests.limits_of r ≡ requests.limits_of d.request → requests.is_open r ≡ requests.is_open d.request
     → requests.window_of r ≡ requests.window_of d.request → HeadTells d.request r says.Nothing → AsksSo d (record d { request = r }) asks.Nothing
 asks_nothing d r was sound limits is_open window tells =
     record {
       leads = nothing_leads d r tells;
-      placed = placed_behind d (record d { request = r }) asks.Nothing was (nothing_leads d r tells) (record { sound = sound_request d r sound limits was.is_at.sound; stand = (tells.0, was.is_at.stand.1) });
+      placed = placed_behind d (record d { request = r }) asks.Nothing was (nothing_leads d r tells) (record { sound = sound_request d r sound limits was.is_at.sound; stand = (tells.place, was.is_at.stand.1) });
       request = record { is_open = is_open; window = window; waits = tt; less = tt };
       window = refl;
       starts = idle_starts d.answer was.is_at.stand.1;
@@ -106,14 +106,14 @@ refused_leads : (d : Directions) (r : RequestSide) (new : Directions) (code : �
 refused_leads d r new code was tells refuses cfg p s =
     let held : d.rules.vars ≡ p.vars = subst (λ (x : Read). Holds x (answers.place_of d.answer) d.rules.vars p.vars p.asking.vars p.now) was.is_at.stand.0 s.vars in
     asks_refusal cfg (record d { request = r }) new p code [] [] p.vars false false
-    (record { config = s.config; total = s.total; is_for = (tells.1 cfg p.vars p.came p.asking p.to_server p.reply s.request).is_for; answer = s.answer })
-    tells.0 refuses refl held refl (tells.2 cfg p.vars p.came p.asking p.to_server p.reply s.request)
+    (record { config = s.config; total = s.total; is_for = (tells.leads cfg p.vars p.came p.asking p.to_server p.reply s.request).is_for; answer = s.answer })
+    tells.place refuses refl held refl (tells.asks cfg p.vars p.came p.asking p.to_server p.reply s.request)
 
 pub asks_refused : (d : Directions) (r : RequestSide) (new : Directions) (code : ℕ) → Placed d at.Reads → requests.is_open r ≡ requests.is_open d.request → requests.window_of r ≡ requests.window_of d.request
     → HeadTells d.request r (says.Refuse code) → UsesBytes d.request r (says.Refuse code) → RefusesSo (record d { request = r }) new code [] false → AsksSo d new asks.Refuse
 asks_refused d r new code was is_open window tells uses refuses =
-    let goes : GoesOn (record d { request = r }) new asks.Refuse = refusal_goes (record d { request = r }) new code [] false tells.0 refuses in
-    let none : (request_of new).unread ≡ 0 = ap (λ (x : RequestSide). requests.unread_of x) refuses.request ∙ ap (λ (x : Read). unread_at x (input_of r.lane)) tells.0 in
+    let goes : GoesOn (record d { request = r }) new asks.Refuse = refusal_goes (record d { request = r }) new code [] false tells.place refuses in
+    let none : (request_of new).unread ≡ 0 = ap (λ (x : RequestSide). requests.unread_of x) refuses.request ∙ ap (λ (x : Read). unread_at x (input_of r.lane)) tells.place in
     let some : requests.unread_of d.request ≡ requests.input_size_of d.request = unread_reading d.request was.is_at.stand.0 in
     let less : (request_of new).unread < requests.unread_of d.request = subst (λ (n : ℕ). n < requests.unread_of d.request) (sym none) (subst (λ (n : ℕ). 0 < n) (sym some) uses) in
     record {
@@ -128,14 +128,14 @@ asks_refused d r new code was is_open window tells uses refuses =
 -- ---- a head came
 
 pub read_behind : (d : Directions) (r : RequestSide) → Placed d at.Reads → IsSound r → requests.limits_of r ≡ requests.limits_of d.request → HeadTells d.request r says.Head → HasRead (record d { request = r })
-read_behind d r was sound limits tells = record { still = still_behind d r was sound limits tells.0; has = tells.1.has }
+read_behind d r was sound limits tells = record { still = still_behind d r was sound limits tells.place; has = tells.has }
 
 pub head_behind : (d : Directions) (r : RequestSide) → HeadTells d.request r says.Head → IsHead (list_of r)
-head_behind d r tells = (tells.1.received.head, tells.1.holds.blocks)
+head_behind d r tells = (tells.received.head, tells.holds.blocks)
 
 head_leads : (d : Directions) (r : RequestSide) (new : Directions) (asks : Asked) → Placed d at.Reads → HeadTells d.request r says.Head → AsksBehind (record d { request = r }) new asks → LeadsOn d new asks
 head_leads d r new asks was tells behind cfg p s =
-    let comes : HeadComes d.request r = tells.1 in
+    let comes : HeadComes d.request r = tells in
     behind.leads cfg p comes.received (record {
       config = s.config;
       total = s.total;

@@ -137,7 +137,10 @@ pub record SendsRequest (old new : RequestSide) (framing : Framing) (waits : Boo
   pub is_open : requests.is_open new ≡ requests.is_open old
   pub window : requests.window_of new ≡ requests.window_of old
   pub list : list_of new ≡ list_of old
-  pub seen : ((requests.seen new).source ≡ source.Going) × ((requests.seen new).sent ≡ false) × ((requests.seen new).dropped ≡ false) × ((requests.seen new).awaits ≡ waits)
+  pub source : (requests.seen new).source ≡ source.Going
+  pub sent : (requests.seen new).sent ≡ false
+  pub dropped : (requests.seen new).dropped ≡ false
+  pub awaits : (requests.seen new).awaits ≡ waits
   pub limits : requests.limits_of new ≡ requests.limits_of old
 
 -- what a core sees of a request that goes out, of which nothing was put out
@@ -183,7 +186,7 @@ sends_so d a r asker framing kept laws read known b s =
       };
       is_open = s.is_open;
       window = s.window;
-      begins = record { going = s.seen.0; sent = s.seen.1; dropped = s.seen.2; awaits = s.seen.3; list = s.list };
+      begins = record { going = s.source; sent = s.sent; dropped = s.dropped; awaits = s.awaits; list = s.list };
       answer = b.seen;
     }
 

@@ -131,12 +131,12 @@ opens cfg d a rules p sends idle heads config vars s stands =
 
 -- the next exchange begins behind what was answered
 pub renews_now : (cfg : Config) (d : Directions) (r : RequestSide) (a : AnswerSide) (rules : SessionRules) (p : Sided (meaning_of cfg))
-    → ReadsNext d.request r → requests.place_of d.request ≢ asked.Idle → requests.place_of r ≡ asked.Reading → config_of rules ≡ config_of d.rules → rules.vars ≡ renewed d.rules.vars
+    → ReadsNext d.request r → requests.place_of r ≡ asked.Reading → config_of rules ≡ config_of d.rules → rules.vars ≡ renewed d.rules.vars
     → d.rules.vars ≡ p.now → DirectionsStand cfg d p → AnswerStands cfg a p.asking no_stream [] p.now []
     → DirectionsStand cfg (record d { request = r; answer = a; rules = rules }) (renewed_at p (left_of d.request))
-renews_now cfg d r a rules p next busy reads config renews held s stands_a =
+renews_now cfg d r a rules p next reads config renews held s stands_a =
     renews_at cfg d r a rules p (left_of d.request) reads config renews held s
-    (next busy cfg p.vars (renewed p.now) p.came p.asking p.asking p.to_server [] p.reply p.reply s.request) stands_a
+    (next cfg p.vars (renewed p.now) p.came p.asking p.asking p.to_server [] p.reply p.reply s.request) stands_a
 
 pub at_start : (d : Directions) (r : RequestSide) (a : AnswerSide) (rules : SessionRules) → IsSound r → requests.limits_of r ≡ requests.limits_of d.request → IsSoundSide a → answers.size_of a ≡ answers.size_of d.answer
     → IsReady rules → config_of rules ≡ config_of d.rules → requests.place_of r ≡ asked.Reading → answers.place_of a ≡ answered.Idle → IsSoundPair d → IsAt (record d { request = r; answer = a; rules = rules }) at.Reads

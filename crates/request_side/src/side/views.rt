@@ -2,8 +2,7 @@
 ghost use Rattle.std.specs.Prelude.{◌≡◌, not};
 ghost use Rattle.session_core.specs.Sided.{HoldsList};
 ghost use Rattle.session_core.specs.Waits.{is_empty};
-ghost use Rattle.lane.specs.Asking.{array_of};
-ghost use Rattle.request_side.specs.Seen.{seen, place_of, is_open, room_of, window_of, source_by};
+ghost use Rattle.request_side.specs.Seen.{seen, place_of, is_open, room_of, window_of, array_of, source_by};
 ghost use Rattle.request_side.specs.Edits.{framing_of, declared_of, close_of};
 
 use crate::place::Place;
@@ -88,7 +87,7 @@ impl RequestSide {
     /// The array in which the head stands that was read, for rules to edit.
     pub fn head(&mut self) -> &mut Arena
         ensures* back { sem 𝓛 (LendsHead self.entry result) }
-        ensures value { result.now ≡ array_of self.old.lane }
+        ensures value { result.now ≡ array_of self.old }
     {
         self.lane.head()
     }

@@ -1,13 +1,18 @@
-use Rattle.std.proofs.Common.{Bool, ap, sym, ◌∙◌}
+use Rattle.std.proofs.Common.{Bool, ap, ◌∙◌}
 use Rattle.std.specs.Prelude.{not, ◌&&◌}
+use Rattle.httparse.specs.Grammar.{print_version}
 use Rattle.session_model.specs.Meaning.{is_bodiless}
 use Rattle.request_side.proofs.Keeping.{kept_is}
 use Rattle.request_side.proofs.kept.kept_of.Goals as goal
 
 pub returns : goal.returns
-returns c = λ received method target version line framing close is.
+returns c =
     let eleven : Bool = c.is_http_11-is_http_11.result in
     let expects : Bool = c.has_named-expects.result in
-    kept_is received method target version c.args.msg.now.blocks c.asks_head.result eleven c.is_bodiless-is_bodiless.result expects c.expects_continue-continues.result c.all.result c.all-2.result line is
-    c.asks_head.ensures c.is_http_11-is_http_11.ensures (c.is_bodiless-is_bodiless.ensures ∙ ap is_bodiless (sym framing)) c.has_named-expects.ensures c.expects_continue-continues.ensures
-    (c.all.ensures ∙ ap (λ (b : Bool). (eleven && not b && not expects)) (sym close)) c.all-2.ensures
+    record {
+      kept = λ received stands.
+          let line = stands.line in
+          kept_is received line.method line.target (print_version line.minor) c.args.msg.now.blocks c.asks_head.result eleven c.is_bodiless-is_bodiless.result expects c.expects_continue-continues.result c.all.result c.all-2.result line.is stands.blocks
+          c.asks_head.ensures c.is_http_11-is_http_11.ensures (c.is_bodiless-is_bodiless.ensures ∙ ap is_bodiless stands.framing) c.has_named-expects.ensures c.expects_continue-continues.ensures
+          (c.all.ensures ∙ ap (λ (b : Bool). (eleven && not b && not expects)) stands.close) c.all-2.ensures;
+    }

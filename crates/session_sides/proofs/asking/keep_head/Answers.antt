@@ -1,13 +1,12 @@
-use Rattle.std.proofs.Common.{sym, ap, ◌∙◌}
-use Rattle.httparse.specs.Grammar.{print_version}
+use Rattle.std.proofs.Common.{ap, ◌∙◌}
 use Rattle.htx_arena.specs.Contents.{Contents}
 use Rattle.request_side.specs.Edits.{with_head}
 use Rattle.session_sides.proofs.asking.keep_head.Goals as goal
 
 pub returns-clause-kept : goal.returns-clause-kept
 returns-clause-kept c = λ received holds line.
-    c.kept_of.ensures received line.method line.target (print_version line.minor) line.is (sym (c.framing-framing.ensures ∙ holds.framing)) (sym (c.close-close.ensures ∙ holds.close))
-    (ap (λ (x : Contents). x.blocks) c.head.ensures.value ∙ holds.blocks)
+    c.kept_of.ensures.kept received
+    (record { line = line; blocks = ap (λ (x : Contents). x.blocks) c.head.ensures.value ∙ holds.blocks; framing = c.framing-framing.ensures ∙ holds.framing; close = c.close-close.ensures ∙ holds.close })
 
 pub returns-clause-same : goal.returns-clause-same
 returns-clause-same c = ap (λ (x : Contents). with_head c.args.request.now x) c.head.ensures.value

@@ -1,6 +1,5 @@
 use Rattle.request_side.proofs.Events.{Keeps, drops, for_same}
 use Rattle.std.proofs.Common.{false}
-use Rattle.lane.specs.Asking.{blocks_of}
 use Rattle.request_side.proofs.Sounds.{sound_drops, seen_dropped}
 use Rattle.request_side.proofs.Resting.{unrested}
 use Rattle.request_side.proofs.side.RequestSide.drop_request.Goals as goal
@@ -29,4 +28,4 @@ returns-clause-seen c =
     let e = c.discard.ensures in
     let old = c.args.self.now.lane in
     let new = c.discard.new.self in
-    (blocks_of new, seen_dropped old new c.args.self.now.place c.args.self.now.awaits c.args.self.now.at_rest false c.requires.sound.well (e.well c.requires.sound.well) e.same.4 e.same.2 e.same.3 e.dropping.1 e.same.1 e.same.0 e.dropping.0)
+    seen_dropped old new c.args.self.now.place c.args.self.now.awaits c.args.self.now.at_rest false c.requires.sound.well (e.well c.requires.sound.well) e.same.4 e.same.2 e.same.3 e.dropping.1 e.same.1 e.same.0 e.dropping.0

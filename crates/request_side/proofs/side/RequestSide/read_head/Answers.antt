@@ -23,15 +23,17 @@ pub returns-in-More-clause-tells : goal.returns-in-More-clause-tells
 returns-in-More-clause-tells c =
     let e = c.in-More.ensures in
     let old = c.args.self.now.lane in
-    let new = c.read_head.new.self in (
-      c.requires.place,
-      ap is_none (e.same.0 ∙ e.tells.ended),
-      some_room (most_of new) (input_of new) e.tells.room,
-      λ cfg vars came asking to_server reply h. record {
+    let new = c.read_head.new.self in
+    record {
+      place = c.requires.place;
+      is_open = ap is_none (e.same.0 ∙ e.tells.ended);
+      room = some_room (most_of new) (input_of new) e.tells.room;
+      rests = refl;
+      leads = λ cfg vars came asking to_server reply h. record {
         is_for = for_same cfg old new (record { limits = e.same.1; filters = λ cfg has. e.filters cfg.req_filters has }) h.is_for;
         at = on_reading c.args.self.now.place cfg new vars came asking to_server reply c.requires.place (reads_on old new came e.same.0 e.tells (at_reading c.args.self.now.place cfg old vars came asking to_server reply c.requires.place h.at));
-      },
-    )
+      };
+    }
 
 pub returns-in-Nothing-clause-sound : goal.returns-in-Nothing-clause-sound
 returns-in-Nothing-clause-sound c =
@@ -41,15 +43,16 @@ pub returns-in-Nothing-clause-tells : goal.returns-in-Nothing-clause-tells
 returns-in-Nothing-clause-tells c =
     let e = c.in-Nothing.ensures in
     let old = c.args.self.now.lane in
-    let new = c.read_head.new.self in (
-      refl,
-      λ cfg vars came asking to_server reply h. record {
+    let new = c.read_head.new.self in
+    record {
+      place = refl;
+      leads = λ cfg vars came asking to_server reply h. record {
         is_for = for_same cfg old new (record { limits = e.same.1; filters = λ cfg has. e.filters cfg.req_filters has }) h.is_for;
         at = tt;
-      },
-      λ cfg vars came asking to_server reply h stream on.
-          asks_reading cfg old vars came Nothing h.is_for (at_reading c.args.self.now.place cfg old vars came asking to_server reply c.requires.place h.at) (each_nothing old new e.tells) stream on,
-    )
+      };
+      asks = λ cfg vars came asking to_server reply h stream on.
+          asks_reading cfg old vars came Nothing h.is_for (at_reading c.args.self.now.place cfg old vars came asking to_server reply c.requires.place h.at) (each_nothing old new e.tells) stream on;
+    }
 
 pub returns-in-Head-clause-sound : goal.returns-in-Head-clause-sound
 returns-in-Head-clause-sound c =
@@ -59,18 +62,17 @@ pub returns-in-Head-clause-tells : goal.returns-in-Head-clause-tells
 returns-in-Head-clause-tells c =
     let e = c.in-Head.ensures in
     let old = c.args.self.now.lane in
-    let new = c.read_head.new.self in (
-      refl,
-      record {
-        received = record { head = e.tells.head; framing = new.lane.framing; declared = new.lane.declared; close = new.lane.close };
-        has = record { ready = e.tells.ready; stage = e.tells.stage };
-        holds = record { blocks = e.tells.blocks; framing = refl; declared = refl; close = refl };
-        is_request = e.tells.received.line;
-        came = λ cfg vars came asking to_server reply h.
-            head_read cfg old (record { lane = new; place = place.Idle; awaits = c.args.self.now.awaits; at_rest = false }) came h.is_for
-            (for_same cfg old new (record { limits = e.same.1; filters = λ cfg has. e.filters cfg.req_filters has }) h.is_for) e.same.0 (at_reading c.args.self.now.place cfg old vars came asking to_server reply c.requires.place h.at) e.tells;
-      },
-    )
+    let new = c.read_head.new.self in
+    record {
+      place = refl;
+      received = record { head = e.tells.head; framing = new.lane.framing; declared = new.lane.declared; close = new.lane.close };
+      has = record { ready = e.tells.ready; stage = e.tells.stage };
+      holds = record { blocks = e.tells.blocks; framing = refl; declared = refl; close = refl };
+      is_request = e.tells.received.line;
+      came = λ cfg vars came asking to_server reply h.
+          head_read cfg old (record { lane = new; place = place.Idle; awaits = c.args.self.now.awaits; at_rest = false }) came h.is_for
+          (for_same cfg old new (record { limits = e.same.1; filters = λ cfg has. e.filters cfg.req_filters has }) h.is_for) e.same.0 (at_reading c.args.self.now.place cfg old vars came asking to_server reply c.requires.place h.at) e.tells;
+    }
 
 pub returns-in-Refuse-clause-sound : goal.returns-in-Refuse-clause-sound
 returns-in-Refuse-clause-sound c =
@@ -80,15 +82,16 @@ pub returns-in-Refuse-clause-tells : goal.returns-in-Refuse-clause-tells
 returns-in-Refuse-clause-tells c =
     let e = c.in-Refuse.ensures in
     let old = c.args.self.now.lane in
-    let new = c.read_head.new.self in (
-      refl,
-      λ cfg vars came asking to_server reply h. record {
+    let new = c.read_head.new.self in
+    record {
+      place = refl;
+      leads = λ cfg vars came asking to_server reply h. record {
         is_for = for_same cfg old new (record { limits = e.same.1; filters = λ cfg has. e.filters cfg.req_filters has }) h.is_for;
         at = tt;
-      },
-      λ cfg vars came asking to_server reply h stream on.
-          asks_reading cfg old vars came (Refused c.in-Refuse.code) h.is_for (at_reading c.args.self.now.place cfg old vars came asking to_server reply c.requires.place h.at) e.tells.refused stream on,
-    )
+      };
+      asks = λ cfg vars came asking to_server reply h stream on.
+          asks_reading cfg old vars came (Refused c.in-Refuse.code) h.is_for (at_reading c.args.self.now.place cfg old vars came asking to_server reply c.requires.place h.at) e.tells.refused stream on;
+    }
 
 pub returns-in-Head-clause-uses : goal.returns-in-Head-clause-uses
 returns-in-Head-clause-uses c =

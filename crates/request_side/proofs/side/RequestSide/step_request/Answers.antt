@@ -4,38 +4,33 @@ use Rattle.request_side.proofs.Resting.{step_rests, rest_rests}
 use Rattle.request_side.proofs.Stepping.{Steps, step_sound, step_stands, step_keeps, rest_keeps, nothing_put}
 use Rattle.request_side.proofs.side.RequestSide.step_request.Goals as goal
 
-pub returns-then-is_reading : goal.returns-then-is_reading
-returns-then-is_reading c =
-    let s = c.args.self.now in
-    record {
-      sound = c.requires;
-      puts = nothing_put s.place s.awaits s.at_rest s.at_rest s.lane;
-      keeps = λ begun. absurd (begun (c.is_reading.ensures.reading c.if-is_reading.true));
-      still = λ reading. refl;
-      place = refl;
-      limits = refl;
-    }
+-- ---- nothing is to go out
 
-pub returns-then-not-is_going_out : goal.returns-then-not-is_going_out
-returns-then-not-is_going_out c =
+pub returns-then-not-is_going_out-clause-sound : goal.returns-then-not-is_going_out-clause-sound
+returns-then-not-is_going_out-clause-sound c =
     let s = c.args.self.now in
-    let begun = c.is_reading.ensures.begun c.if-is_reading.false in
     let over = c.is_going_out.ensures.rests c.if-not-is_going_out.true in
-    record {
-      sound = record { well = c.requires.well; at = c.requires.at; rests = λ rest. rest_rests s.place s.lane begun over c.requires.at };
-      puts = nothing_put s.place s.awaits s.at_rest true s.lane;
-      keeps = λ b. rest_keeps s.place s.awaits s.at_rest s.lane over c.requires.at;
-      still = λ reading. absurd (begun reading);
-      place = refl;
-      limits = refl;
-    }
+    record { well = c.requires.sound.well; at = c.requires.sound.at; rests = λ rest. rest_rests s.place s.lane c.requires.begun over c.requires.sound.at }
+
+pub returns-then-not-is_going_out-clause-puts : goal.returns-then-not-is_going_out-clause-puts
+returns-then-not-is_going_out-clause-puts c =
+    let s = c.args.self.now in
+    nothing_put s.place s.awaits s.at_rest true s.lane
+
+pub returns-then-not-is_going_out-clause-keeps : goal.returns-then-not-is_going_out-clause-keeps
+returns-then-not-is_going_out-clause-keeps c =
+    let s = c.args.self.now in
+    let over = c.is_going_out.ensures.rests c.if-not-is_going_out.true in
+    rest_keeps s.place s.awaits s.at_rest s.lane over c.requires.sound.at
+
+-- ---- a step of the lane
 
 pub returns : goal.returns
 returns c =
     let e = c.step.ensures in
     let old = c.args.self.now.lane in
     let new = c.step.new.self in
-    let sending = (c.is_going_out.ensures.going c.if-not-is_going_out.false).0 in
+    let sending = c.is_going_out.ensures.place c.if-not-is_going_out.false in
     let t : Steps old new = record {
       keeps = record { same = record { limits = e.same.1; filters = λ cfg has. e.filters cfg.req_filters has }; ended = e.same.0 };
       most = e.same.2;
@@ -50,8 +45,8 @@ returns c =
     record {
       sound = record {
         well = e.well;
-        at = step_sound c.args.self.now.place old new sending t c.requires.at;
-        rests = λ rest. step_rests c.args.self.now.place old new sending (λ p s. record { no_cut = e.no_cut p s; nothing_back = e.nothing_back p s }) c.requires.at;
+        at = step_sound c.args.self.now.place old new sending t c.requires.sound.at;
+        rests = λ rest. step_rests c.args.self.now.place old new sending (λ p s. record { no_cut = e.no_cut p s; nothing_back = e.nothing_back p s }) c.requires.sound.at;
       };
       puts = record {
         put = e.grows.0;
@@ -61,8 +56,7 @@ returns c =
           at = step_stands c.args.self.now.place cfg old new vars came asking to_server e.grows.0 reply sending t e.grows.1 h.at;
         };
       };
-      keeps = λ begun. step_keeps c.args.self.now.place c.args.self.now.awaits c.args.self.now.at_rest old new sending t c.requires.at;
-      still = λ reading. absurd (c.is_reading.ensures.begun c.if-is_reading.false reading);
+      keeps = step_keeps c.args.self.now.place c.args.self.now.awaits c.args.self.now.at_rest old new sending t c.requires.sound.at;
       place = refl;
       limits = e.same.1;
     }

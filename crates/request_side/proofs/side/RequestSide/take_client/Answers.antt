@@ -1,9 +1,9 @@
-use Rattle.std.proofs.Common.{◌++◌, ◌-◌, false, refl, ap, sym, ◌∙◌, length}
+use Rattle.std.proofs.Common.{◌++◌, ◌+◌, ◌-◌, false, ap, sym, ◌∙◌, length}
 use Rattle.std.specs.Prelude.{is_none}
 use Rattle.lane.specs.Asking.{ended_of, input_of, most_of, output_of, is_dropping}
-use Rattle.request_side.specs.Seen.{unread_at}
+use Rattle.request_side.specs.Seen.{unread_at, to_read}
 use Rattle.request_side.proofs.Events.{Takes, takes, for_same}
-use Rattle.request_side.proofs.Sounds.{none_is, sound_keeps, room_less, seen_as}
+use Rattle.request_side.proofs.Sounds.{none_is, sound_keeps, room_less, unread_more, seen_as}
 use Rattle.request_side.proofs.Resting.{unrested}
 use Rattle.request_side.proofs.side.RequestSide.take_client.Goals as goal
 
@@ -34,9 +34,9 @@ pub returns-clause-seen : goal.returns-clause-seen
 returns-clause-seen c =
     let e = c.take.ensures in
     let old = c.args.self.now.lane in
-    let new = c.take.new.self in (
-      unread_at c.args.self.now.place (input_of new),
-      seen_as old new c.args.self.now.place c.args.self.now.awaits c.args.self.now.at_rest false (is_none (ended_of old)) (is_dropping old)
-          (most_of old - length (input_of old) - length c.args.bytes.now) (unread_at c.args.self.now.place (input_of new)) (output_of old) (ap is_none (e.same.3 ∙ sym (none_is (ended_of old) c.requires.open)))
-          (room_less old new c.args.bytes.now c.requires.sound.well (e.well c.requires.sound.well) e.same.5 e.input) refl e.same.4 e.same.1 e.same.0 e.same.2 e.array,
-    )
+    let new = c.take.new.self in
+    let at = c.args.self.now.place in
+    seen_as old new at c.args.self.now.awaits c.args.self.now.at_rest false (is_none (ended_of old)) (is_dropping old)
+    (most_of old - length (input_of old) - length c.args.bytes.now) (unread_at at (input_of old) + to_read at (length c.args.bytes.now)) (output_of old)
+    (ap is_none (e.same.3 ∙ sym (none_is (ended_of old) c.requires.open))) (room_less old new c.args.bytes.now c.requires.sound.well (e.well c.requires.sound.well) e.same.5 e.input)
+    (unread_more at old new c.args.bytes.now e.input) e.same.4 e.same.1 e.same.0 e.same.2 e.array

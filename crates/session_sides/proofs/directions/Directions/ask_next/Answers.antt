@@ -1,4 +1,4 @@
-use Rattle.std.proofs.Common.{refl, sym, subst, false}
+use Rattle.std.proofs.Common.{sym, subst, false}
 use Rattle.std.proofs.lemmas.Result.{IfOk-weaker}
 use Rattle.session_core.specs.declared.sides.Asked.{Asked}
 use Rattle.session_sides.specs.Asks.{AsksSo}
@@ -9,7 +9,7 @@ use Rattle.session_sides.proofs.directions.Directions.ask_next.Goals as goal
 pub returns-in-More-clause-so : goal.returns-in-More-clause-so
 returns-in-More-clause-so c =
     let e = c.in-More.ensures in
-    asks_more c.args.self.now c.read_head.new.self c.requires e.sound e.limits e.open e.window e.tells (e.rests refl)
+    asks_more c.args.self.now c.read_head.new.self c.requires e.sound e.limits e.open e.window e.tells
 
 pub returns-in-Nothing-clause-so : goal.returns-in-Nothing-clause-so
 returns-in-Nothing-clause-so c =
@@ -21,7 +21,7 @@ refuse_asked-requires c =
     let e = c.in-Refuse.ensures in
     let d = c.args.self.now in
     let r = c.read_head.new.self in
-    silent_emptied (record d { request = r }) c.clear.new.self c.clear.ensures.cap (still_behind d r c.requires e.sound e.limits e.tells.0)
+    silent_emptied (record d { request = r }) c.clear.new.self c.clear.ensures.cap (still_behind d r c.requires e.sound e.limits e.tells.place)
 
 pub returns-in-Refuse-clause-so : goal.returns-in-Refuse-clause-so
 returns-in-Refuse-clause-so c =

@@ -15,9 +15,9 @@ returns-clause-stands c =
     let es = c.in-Ok-new.ensures in
     let d : Directions = record { request = r; answer = a; rules = c.in-Ok-new.rules; method = c.in_ok-method.method } in (
       no_past cfg,
-      fresh_new cfg d r a refl refl es.config (c.total.ensures cfg) es.vars er.fresh.0 (er.stands cfg no_variables no_asking [] no_reply refl (sym c.as_slice.ensures))
+      fresh_new cfg d r a refl refl es.config (c.total.ensures cfg) es.vars er.place (er.stands cfg no_variables no_asking [] no_reply refl (sym c.as_slice.ensures))
           (ea.stands cfg no_asking no_stream no_variables [] refl (sym c.as_slice-2.ensures)) ea.nobody,
-      fresh_is cfg d r a refl refl er.fresh.1 er.fresh.2 ea.window,
+      fresh_is cfg d r a refl refl er.open er.window ea.window,
     )
 
 pub returns-clause-placed : goal.returns-clause-placed
@@ -31,6 +31,6 @@ returns-clause-placed c =
     let es = c.in-Ok-new.ensures in
     let d : Directions = record { request = r; answer = a; rules = c.in-Ok-new.rules; method = c.in_ok-method.method } in
     record {
-      is_at = fresh_at cfg d r a refl refl es.config er.sound er.limits er.fresh.0 ea.sound ea.size ea.place es.ready c.in_ok-method.ensures.cap;
+      is_at = fresh_at cfg d r a refl refl es.config er.sound er.limits er.place ea.sound ea.size ea.place es.ready c.in_ok-method.ensures.cap;
       past = (cfg, no_past cfg, (returns-clause-stands c).1);
     }

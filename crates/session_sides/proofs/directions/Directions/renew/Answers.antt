@@ -7,7 +7,7 @@ use Rattle.session_sides.proofs.Fresh.{no_past, no_asking, no_reply, fresh_new, 
 use Rattle.session_sides.proofs.directions.Directions.renew.Goals as goal
 
 pub renew-requires : goal.renew-requires
-renew-requires c = let placed = c.requires.placed.1 in placed.is_at.sound.request
+renew-requires c = let placed = c.requires.placed.1 in record { sound = placed.is_at.sound.request }
 
 pub renew-requires-2 : goal.renew-requires-2
 renew-requires-2 c = let placed = c.requires.placed.1 in record { sound = placed.is_at.sound.answer }
@@ -21,10 +21,10 @@ returns-clause-stands c = λ cfg p s.
     let r = c.renew.new.self in
     let a = c.renew-2.new.self in (
       no_past cfg,
-      fresh_new cfg d r a refl refl (c.renew-3.ensures.config ∙ s.config) s.total c.renew-3.ensures.vars c.renew.ensures.fresh.0
+      fresh_new cfg d r a refl refl (c.renew-3.ensures.config ∙ s.config) s.total c.renew-3.ensures.vars c.renew.ensures.place
           (c.renew.ensures.stands cfg p.vars p.came p.asking p.to_server p.reply s.request no_variables no_asking [] no_reply)
           (c.renew-2.ensures.stands cfg p.asking p.server p.to_client p.now p.saying s.answer no_asking no_stream no_variables []) c.renew-2.ensures.nobody,
-      fresh_is cfg d r a refl refl c.renew.ensures.fresh.1 c.renew.ensures.fresh.2 c.renew-2.ensures.window,
+      fresh_is cfg d r a refl refl c.renew.ensures.open c.renew.ensures.window c.renew-2.ensures.window,
     )
 
 pub returns-clause-placed : goal.returns-clause-placed
@@ -40,7 +40,7 @@ returns-clause-placed c =
     let er = c.renew.ensures in
     let ea = c.renew-2.ensures in
     record {
-      is_at = fresh_at cfg d r a refl refl (c.renew-3.ensures.config ∙ s.config) er.sound (er.limits ∙ sound.request_limits ∙ ap (λ (x : Config). x.limits) s.config) er.fresh.0
+      is_at = fresh_at cfg d r a refl refl (c.renew-3.ensures.config ∙ s.config) er.sound (er.limits ∙ sound.request_limits ∙ ap (λ (x : Config). x.limits) s.config) er.place
           ea.sound (ea.size ∙ sound.answer_size ∙ ap (λ (x : Config). x.limits.bufsize) s.config) ea.place c.renew-3.ensures.ready (c.clear.ensures.cap ∙ sound.method ∙ ap (λ (x : Config). x.limits.bufsize) s.config);
       past = (cfg, no_past cfg, (returns-clause-stands c cfg placed.past.1 s).1);
     }

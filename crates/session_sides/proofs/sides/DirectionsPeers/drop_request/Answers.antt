@@ -1,3 +1,4 @@
+use Rattle.request_side.specs.Seen.{list_of}
 use Rattle.session_sides.proofs.Joining.{at_request, stands_request}
 use Rattle.session_sides.proofs.Stepping.{was_put}
 use Rattle.session_sides.proofs.sides.DirectionsPeers.drop_request.Goals as goal
@@ -25,3 +26,6 @@ returns-clause-leads c = λ cfg p put s is.
 
 pub drop_request-requires-clause-sound : goal.drop_request-requires-clause-sound
 drop_request-requires-clause-sound c = c.requires.placed.1.is_at.sound.request
+
+pub returns-clause-request : goal.returns-clause-request
+returns-clause-request c = (list_of c.drop_request.new.self, c.drop_request.ensures.seen)

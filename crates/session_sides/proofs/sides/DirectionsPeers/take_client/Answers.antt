@@ -1,3 +1,5 @@
+use Rattle.std.proofs.Common.{◌+◌, length}
+use Rattle.request_side.specs.Seen.{unread_of, place_of, to_read}
 use Rattle.session_core.specs.History.{gains}
 use Rattle.session_sides.proofs.Joining.{request_goes, request_placed}
 use Rattle.session_sides.proofs.sides.DirectionsPeers.take_client.Goals as goal
@@ -12,3 +14,6 @@ returns-clause-leads c = request_goes c.args.self.now c.take_client.new.self (λ
 
 pub take_client-requires-clause-sound : goal.take_client-requires-clause-sound
 take_client-requires-clause-sound c = c.requires.placed.1.is_at.sound.request
+
+pub returns-clause-request : goal.returns-clause-request
+returns-clause-request c = (unread_of c.args.self.now.request + to_read (place_of c.args.self.now.request) (length c.args.bytes.now), c.take_client.ensures.seen)

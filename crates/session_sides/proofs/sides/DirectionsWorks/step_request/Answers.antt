@@ -30,13 +30,13 @@ returns-clause-leads c = λ cfg p s was.
     record {
       put = e.puts.put;
       stands = stands_request cfg d r p p.came (p.to_server ++ e.puts.put) e.place s stands;
-      requests = requests_on cfg d.request r p e.puts.put (sound_there d c.requires.placed) e.sound e.place (e.keeps (not_reading d c.requires.placed)).dropped e.puts.window
+      requests = requests_on cfg d.request r p e.puts.put (sound_there d c.requires.placed) e.sound e.place e.keeps.dropped e.puts.window
           (λ sends. c.requests.ensures cfg r p.vars p.came p.asking (p.to_server ++ e.puts.put) p.reply sends stands) was (sends_or_not (place_of r));
       window = e.puts.window;
     }
 
-pub step_request-requires : goal.step_request-requires
-step_request-requires c = sound_there c.args.self.now c.requires.placed
+pub step_request-requires-clause-sound : goal.step_request-requires-clause-sound
+step_request-requires-clause-sound c = sound_there c.args.self.now c.requires.placed
 
-pub returns-clause-keeps : goal.returns-clause-keeps
-returns-clause-keeps c = c.step_request.ensures.keeps (not_reading c.args.self.now c.requires.placed)
+pub step_request-requires-clause-begun : goal.step_request-requires-clause-begun
+step_request-requires-clause-begun c = not_reading c.args.self.now c.requires.placed
