@@ -61,6 +61,8 @@ final_edited laws cfg old msg asking server put received head f =
         pending = f.read.pending;
         framing = f.read.framing;
         declared = f.read.declared;
+        is_heard = f.read.is_heard;
+        has_read = record { ending = f.read.has_read.ending; begins = f.read.has_read.begins };
       };
       is_final = f.is_final;
     }

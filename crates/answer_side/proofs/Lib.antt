@@ -8,6 +8,7 @@ pub mod Views
 pub mod Saying
 pub mod Listed
 pub mod Putting
+pub mod HeardLemmas
 pub mod ReadLemmas
 pub mod SettleLemmas
 pub mod VerdictLemmas
@@ -16,3 +17,4 @@ pub mod LastLemmas
 pub mod StepLemmas
 pub mod Resting
 pub mod RestLaws
+pub mod HeardLaws

@@ -20,12 +20,14 @@ use Rattle.lane.specs.declared.phase.Phase.TheVariants as phase
 use Rattle.lane.specs.declared.response_lane.ResponseLane.{ResponseLane}
 use Rattle.answer_side.specs.Seen.{seen}
 use Rattle.answer_side.specs.Stands.{IsAsker, IsFor, IsInHand, StandsAt, AnswerStands, FitsAt, IsSoundSide}
+use Rattle.answer_side.specs.HeadsRead.{HeardAt}
 use Rattle.answer_side.specs.Hearing.{IsBetween, IsRead, HeadSays, Hears, WaitsForHead}
 use Rattle.answer_side.specs.declared.hearing.Heard.{Heard}
 use Rattle.answer_side.specs.declared.place.Place.{Place}
 use Rattle.answer_side.specs.declared.place.Place.TheVariants as place
 use Rattle.answer_side.specs.declared.side.AnswerSide.{AnswerSide}
 use Rattle.answer_side.proofs.Events.{for_new}
+use Rattle.answer_side.proofs.HeardLemmas.{heard_puts, heard_heads, has_read}
 use Rattle.answer_side.proofs.Putting.{Puts, in_hand_puts}
 use Rattle.answer_side.proofs.Views.{at_place, fits_same}
 
@@ -38,12 +40,13 @@ pub record InHeads (cfg : Config) (side : AnswerSide) (asking : Asking Variables
   pub e : Exchange
   pub in_hand : IsInHand (asker_in asking) side.lane server put e
   pub last : e.last ≡ NotYet
+  pub heard : HeardAt side.heard place.Heads cfg (asker_in asking) side.lane server
 
 pub in_heads : (cfg : Config) (side : AnswerSide) (asking : Asking Variables) (server : Coming) (put : List ℕ) (now : Variables) (saying : List ℕ) → side.place ≡ place.Heads → AnswerStands cfg side asking server put now saying → InHeads cfg side asking server put
 in_heads cfg side asking server put now saying heads s =
     let at : StandsAt place.Heads cfg (asker_in asking) (answering asking.vars) side.lane server put now saying =
     subst (λ (p : Place). StandsAt p cfg (asker_in asking) (answering asking.vars) side.lane server put now saying) heads s.at in
-    record { asks = s.asks; for_it = s.for_it; e = at.0; in_hand = at.1; last = at.2 }
+    record { asks = s.asks; for_it = s.for_it; e = at.0; in_hand = at.1; last = at.2; heard = subst (λ (p : Place). HeardAt side.heard p cfg (asker_in asking) side.lane server) heads s.heard }
 
 pub stands_in : (cfg : Config) (side : AnswerSide) (asking : Asking Variables) (server : Coming) (put : List ℕ) (now : Variables) (saying : List ℕ) → side.place ≡ place.Heads → side.at_rest ≡ false → InHeads cfg side asking server put → AnswerStands cfg side asking server put now saying
 stands_in cfg side asking server put now saying heads stirs h =
@@ -51,6 +54,7 @@ stands_in cfg side asking server put now saying heads stirs h =
       asks = h.asks;
       for_it = h.for_it;
       at = subst (λ (p : Place). StandsAt p cfg (asker_in asking) (answering asking.vars) side.lane server put now saying) (sym heads) (h.e, h.in_hand, h.last);
+      heard = subst (λ (p : Place). HeardAt side.heard p cfg (asker_in asking) side.lane server) (sym heads) h.heard;
       rests = λ rest. absurd (let both : false ≡ true = sym stirs ∙ rest in cc both);
     }
 
@@ -59,7 +63,7 @@ stands_in cfg side asking server put now saying heads stirs h =
 pub stirred : (cfg : Config) (side : AnswerSide) (asking : Asking Variables) (server : Coming) (put : List ℕ) (now : Variables) (saying : List ℕ) → AnswerStands cfg side asking server put now saying
     → AnswerStands cfg (record side { at_rest = false }) asking server put now saying
 stirred cfg side asking server put now saying s =
-    record { asks = s.asks; for_it = s.for_it; at = s.at; rests = λ rest. absurd (let both : false ≡ true = rest in cc both) }
+    record { asks = s.asks; for_it = s.for_it; at = s.at; heard = s.heard; rests = λ rest. absurd (let both : false ≡ true = rest in cc both) }
 
 pub stirred_sound : (side : AnswerSide) → IsSoundSide side → IsSoundSide (record side { at_rest = false })
 stirred_sound side s =
@@ -123,15 +127,16 @@ waits_on side (inr (going, room, open_)) = inr (ap is_none open_, omega (arith, 
 -- ---- interim heads
 
 -- more of an interim head is put out
-pub puts_more : (cfg : Config) (old new : AnswerSide) (asking : Asking Variables) (server : Coming) (put more : List ℕ) → new.asker ≡ old.asker → Puts old.lane new.lane more → limits_of new.lane ≡ limits_of old.lane
+pub puts_more : (cfg : Config) (old new : AnswerSide) (asking : Asking Variables) (server : Coming) (put more : List ℕ) → new.asker ≡ old.asker → new.heard ≡ old.heard → Puts old.lane new.lane more → limits_of new.lane ≡ limits_of old.lane
     → ((filters : List FilterSpec) → HasFilters old.lane filters → HasFilters new.lane filters) → InHeads cfg old asking server put → InHeads cfg new asking server (put ++ more)
-puts_more cfg old new asking server put more same t limits filters h =
+puts_more cfg old new asking server put more same told t limits filters h =
     record {
       asks = subst (λ a. IsAsker a (asker_in asking)) (sym same) h.asks;
       for_it = for_new cfg old.lane new.lane limits filters h.for_it;
       e = with_put h.e more;
       in_hand = in_hand_puts (asker_in asking) old.lane new.lane server put h.e more t h.in_hand;
       last = h.last;
+      heard = subst (λ (b : Bool). HeardAt b place.Heads cfg (asker_in asking) new.lane server) (sym told) (heard_puts old.heard place.Heads cfg (asker_in asking) old.lane new.lane server more t h.heard);
     }
 
 sent_one : (eleven : Bool) (heads : List Head) (head : Head) → eleven ≡ true → (if eleven then map finish_interim heads else []) ++ finish_interim head ∷ [] ≡ (if eleven then map finish_interim (heads ++ head ∷ []) else [])
@@ -143,9 +148,9 @@ sent_none false heads head e = refl
 sent_none true heads head e = absurd (let both : true ≡ false = e in cc both)
 
 -- an interim head goes to an HTTP/1.1 client
-pub passes_on : (cfg : Config) (old new : AnswerSide) (asking : Asking Variables) (server : Coming) (put : List ℕ) (received : Received) → new.asker ≡ old.asker → ended_of new.lane ≡ ended_of old.lane → limits_of new.lane ≡ limits_of old.lane
+pub passes_on : (cfg : Config) (old new : AnswerSide) (asking : Asking Variables) (server : Coming) (put : List ℕ) (received : Received) → new.asker ≡ old.asker → new.heard ≡ old.heard → ended_of new.lane ≡ ended_of old.lane → limits_of new.lane ≡ limits_of old.lane
     → ((filters : List FilterSpec) → HasFilters old.lane filters → HasFilters new.lane filters) → old.asker.is_http_11 ≡ true → (r : IsRead cfg old asking server put received) → Answers new.lane (passes r.e received) → InHeads cfg new asking server put
-passes_on cfg old new asking server put received same ended limits filters eleven r a =
+passes_on cfg old new asking server put received same told ended limits filters eleven r a =
     record {
       asks = subst (λ a. IsAsker a (asker_in asking)) (sym same) r.asks;
       for_it = for_new cfg old.lane new.lane limits filters r.for_it;
@@ -159,12 +164,13 @@ passes_on cfg old new asking server put received same ended limits filters eleve
         put_is = r.in_hand.put_is;
       };
       last = r.last;
+      heard = subst (λ (b : Bool). HeardAt b place.Heads cfg (asker_in asking) new.lane server) (sym (told ∙ r.is_heard)) (record { ending = ended ∙ r.has_read.ending; begins = r.has_read.begins });
     }
 
 -- and nowhere where its client is HTTP/1.0
-pub drops_on : (cfg : Config) (old new : AnswerSide) (asking : Asking Variables) (server : Coming) (put : List ℕ) (received : Received) → new.asker ≡ old.asker → ended_of new.lane ≡ ended_of old.lane → limits_of new.lane ≡ limits_of old.lane
+pub drops_on : (cfg : Config) (old new : AnswerSide) (asking : Asking Variables) (server : Coming) (put : List ℕ) (received : Received) → new.asker ≡ old.asker → new.heard ≡ old.heard → ended_of new.lane ≡ ended_of old.lane → limits_of new.lane ≡ limits_of old.lane
     → ((filters : List FilterSpec) → HasFilters old.lane filters → HasFilters new.lane filters) → old.asker.is_http_11 ≡ false → (r : IsRead cfg old asking server put received) → Answers new.lane (drops r.e received) → InHeads cfg new asking server put
-drops_on cfg old new asking server put received same ended limits filters ten r a =
+drops_on cfg old new asking server put received same told ended limits filters ten r a =
     record {
       asks = subst (λ a. IsAsker a (asker_in asking)) (sym same) r.asks;
       for_it = for_new cfg old.lane new.lane limits filters r.for_it;
@@ -178,6 +184,7 @@ drops_on cfg old new asking server put received same ended limits filters ten r 
         put_is = r.in_hand.put_is;
       };
       last = r.last;
+      heard = subst (λ (b : Bool). HeardAt b place.Heads cfg (asker_in asking) new.lane server) (sym (told ∙ r.is_heard)) (record { ending = ended ∙ r.has_read.ending; begins = r.has_read.begins });
     }
 
 -- ---- one after the other
@@ -234,29 +241,37 @@ hears_from cfg old mid new asking server put now saying says window h = record {
 -- ---- a head is read
 
 -- a lane that stands for the same exchange
-pub stands_by : (cfg : Config) (old new : AnswerSide) (asking : Asking Variables) (server : Coming) (put : List ℕ) → new.asker ≡ old.asker → ended_of new.lane ≡ ended_of old.lane → limits_of new.lane ≡ limits_of old.lane
-    → ((filters : List FilterSpec) → HasFilters old.lane filters → HasFilters new.lane filters) → (h : InHeads cfg old asking server put) → Answers new.lane h.e → InHeads cfg new asking server put
-stands_by cfg old new asking server put same ended limits filters h a =
+pub stands_by : (cfg : Config) (old new : AnswerSide) (asking : Asking Variables) (server : Coming) (put : List ℕ) → new.asker ≡ old.asker → new.heard ≡ old.heard → ended_of new.lane ≡ ended_of old.lane → limits_of new.lane ≡ limits_of old.lane
+    → ((filters : List FilterSpec) → HasFilters old.lane filters → HasFilters new.lane filters) → ((e : Exchange) → e.asked ≡ (asker_in asking).head_asked → Answers old.lane e → Answers new.lane e) → InHeads cfg old asking server put → InHeads cfg new asking server put
+stands_by cfg old new asking server put same told ended limits filters answers h =
     record {
       asks = subst (λ a. IsAsker a (asker_in asking)) (sym same) h.asks;
       for_it = for_new cfg old.lane new.lane limits filters h.for_it;
       e = h.e;
-      in_hand = record { answers = a; asked = h.in_hand.asked; bytes = h.in_hand.bytes; ending = ended ∙ h.in_hand.ending; passed = h.in_hand.passed; put_is = h.in_hand.put_is };
+      in_hand = record { answers = answers h.e h.in_hand.asked h.in_hand.answers; asked = h.in_hand.asked; bytes = h.in_hand.bytes; ending = ended ∙ h.in_hand.ending; passed = h.in_hand.passed; put_is = h.in_hand.put_is };
       last = h.last;
+      heard = subst (λ (b : Bool). HeardAt b place.Heads cfg (asker_in asking) new.lane server) (sym told) (heard_heads old.heard cfg (asker_in asking) old.lane new.lane server ended answers h.heard);
     }
 
 -- or for that in which this head was read
 pub is_read : (cfg : Config) (old new : AnswerSide) (asking : Asking Variables) (server : Coming) (put : List ℕ) (received : Received) → new.asker ≡ old.asker → ended_of new.lane ≡ ended_of old.lane → limits_of new.lane ≡ limits_of old.lane
     → ((filters : List FilterSpec) → HasFilters old.lane filters → HasFilters new.lane filters) → (h : InHeads cfg old asking server put) → Answers new.lane (record h.e { pending = Some received })
+    → IsSoundAnswer new.lane → shows_last (phase_of new.lane) ≡ false → stage_of new.lane ≡ stage.Head → new.heard ≡ true
     → framing_of new.lane ≡ received.framing → declared_of new.lane ≡ received.declared → IsRead cfg new asking server put received
-is_read cfg old new asking server put received same ended limits filters h a framing declared =
+is_read cfg old new asking server put received same ended limits filters h a sound first head told framing declared =
+    let for : IsFor cfg new.lane = for_new cfg old.lane new.lane limits filters h.for_it in
+    let e : Exchange = record h.e { pending = Some received } in
+    let in_hand : IsInHand (asker_in asking) new.lane server put e =
+    record { answers = a; asked = h.in_hand.asked; bytes = h.in_hand.bytes; ending = ended ∙ h.in_hand.ending; passed = h.in_hand.passed; put_is = h.in_hand.put_is } in
     record {
       asks = subst (λ a. IsAsker a (asker_in asking)) (sym same) h.asks;
-      for_it = for_new cfg old.lane new.lane limits filters h.for_it;
-      e = record h.e { pending = Some received };
-      in_hand = record { answers = a; asked = h.in_hand.asked; bytes = h.in_hand.bytes; ending = ended ∙ h.in_hand.ending; passed = h.in_hand.passed; put_is = h.in_hand.put_is };
+      for_it = for;
+      e = e;
+      in_hand = in_hand;
       last = h.last;
       pending = refl;
       framing = framing;
       declared = declared;
+      is_heard = told;
+      has_read = has_read cfg (asker_in asking) new.lane server put e sound first head for in_hand;
     }

@@ -52,7 +52,7 @@ pub record Laws (lane : ResponseLane) : Type 0 where
 -- ---- a final head is waited for
 
 -- what is left of the stream differs from the window by empty lines alone
-waits_behind : (asked : Bool) (limits : Limits) (left input : List ℕ) → SameLines left input → MayWait (response_heads asked) limits false input → MayWait (response_heads asked) limits false left
+pub waits_behind : (asked : Bool) (limits : Limits) (left input : List ℕ) → SameLines left input → MayWait (response_heads asked) limits false input → MayWait (response_heads asked) limits false left
 waits_behind asked limits left input same w =
     may_wait (response_heads asked) limits input left (ap behind (sym (append-nil input)) ∙ sym (same []) ∙ ap behind (append-nil left)) w
 
@@ -120,7 +120,7 @@ same_rest : (got other : Received) (rest more : List ℕ) → Begins got rest �
 same_rest got other rest more both = cc
 
 -- where no head stands, none begins
-none_begins : (asked : Bool) (limits : Limits) (bytes left : List ℕ) (got : Received) (rest : List ℕ) → bytes ≡ left → MayWait (response_heads asked) limits false left → ResponseOf asked limits bytes (Begins got rest) → ⊥
+pub none_begins : (asked : Bool) (limits : Limits) (bytes left : List ℕ) (got : Received) (rest : List ℕ) → bytes ≡ left → MayWait (response_heads asked) limits false left → ResponseOf asked limits bytes (Begins got rest) → ⊥
 none_begins asked limits bytes left got rest is w r = w.no_head r.0 rest (subst (λ (b : List ℕ). (response_heads asked).Reads (behind b) r.0 rest) is r.1.reads)
 
 -- behind the interim heads that came there is one place

@@ -21,24 +21,15 @@ use Rattle.lane.specs.declared.phase.Phase.{Phase}
 use Rattle.lane.specs.declared.phase.Phase.TheVariants as phase
 use Rattle.lane.specs.declared.response_lane.ResponseLane.{ResponseLane}
 use Rattle.answer_side.specs.Stands.{IsAsker, IsFor, IsInHand}
+use Rattle.answer_side.specs.HeadsRead.{ReadBefore}
 use Rattle.answer_side.specs.Hearing.{IsBetween, FinalHead}
 use Rattle.answer_side.specs.Judging.{Settles}
 use Rattle.answer_side.specs.declared.side.AnswerSide.{AnswerSide}
 use Rattle.answer_side.proofs.Heads.{More, more_of}
+use Rattle.answer_side.proofs.HeardLemmas.{heads_at, as_reads, as_came, not_sending, head_not_sending, read_before}
 use Rattle.answer_side.proofs.ReadLemmas.{InHeads}
 
--- ---- what the lane holds of the head that it read last
-
-heads_phase : (ph : Phase) (lane : ResponseLane) → IsSoundAt ph lane → shows_last ph ≡ false → stage_of lane ≢ stage.Sending → ph ≡ phase.Heads
-heads_phase phase.Heads lane s first off = refl
-heads_phase phase.Passing lane s first off = absurd (off s.0)
-heads_phase (phase.Turning no_body) lane s first off = absurd (let both : true ≡ false = first in cc both)
-heads_phase phase.Answering lane s first off = absurd (let both : true ≡ false = first in cc both)
-
-heads_at : (lane : ResponseLane) (e : Exchange) → IsSoundAnswer lane → shows_last (phase_of lane) ≡ false → stage_of lane ≢ stage.Sending → Answers lane e → HeadsAt (stage_of lane) lane.lane e
-heads_at lane e s first off a =
-    let h : AnswersAt phase.Heads lane e = subst (λ (ph : Phase). AnswersAt ph lane e) (heads_phase lane.phase lane s.at first off) a in
-    h.2
+-- ---- what follows the interim heads
 
 -- what is left behind the interim heads, and how it reads
 record ReadsBehind (cfg : Config) (asker : Asker) (server : Coming) (e : Exchange) (reading : List ℕ → HeadReading) : Type 0 where
@@ -46,25 +37,11 @@ record ReadsBehind (cfg : Config) (asker : Asker) (server : Coming) (e : Exchang
   came : HeadsCame asker.head_asked cfg.limits server.ending e.read e.bytes left
   reads : Reads asker.head_asked cfg.limits server.ending left reading
 
-as_reads : (cfg : Config) (asker : Asker) (lane : ResponseLane) (server : Coming) (put : List ℕ) (e : Exchange) → IsFor cfg lane → IsInHand asker lane server put e → (left : List ℕ) (reading : List ℕ → HeadReading)
-    → Reads e.asked lane.lane.limits lane.lane.ended left reading → Reads asker.head_asked cfg.limits server.ending left reading
-as_reads cfg asker lane server put e for h left reading x =
-    subst (λ (a : Bool). Reads a cfg.limits server.ending left reading) h.asked
-    (subst (λ (l : Limits). Reads e.asked l server.ending left reading) for.limits
-    (subst (λ (o : Option Ending). Reads e.asked lane.lane.limits o left reading) h.ending x))
-
-as_came : (cfg : Config) (asker : Asker) (lane : ResponseLane) (server : Coming) (put : List ℕ) (e : Exchange) → IsFor cfg lane → IsInHand asker lane server put e → (left : List ℕ)
-    → HeadsCame e.asked lane.lane.limits lane.lane.ended e.read e.bytes left → HeadsCame asker.head_asked cfg.limits server.ending e.read e.bytes left
-as_came cfg asker lane server put e for h left x =
-    subst (λ (a : Bool). HeadsCame a cfg.limits server.ending e.read e.bytes left) h.asked
-    (subst (λ (l : Limits). HeadsCame e.asked l server.ending e.read e.bytes left) for.limits
-    (subst (λ (o : Option Ending). HeadsCame e.asked lane.lane.limits o e.read e.bytes left) h.ending x))
-
 -- a last that each way in which the stream goes on answers, by how it reads
 settled_by : (cfg : Config) (side : AnswerSide) (asking : Asking Variables) (server : Coming) (put : List ℕ) (last : Final Variables) (e : Exchange) (reading : List ℕ → HeadReading)
-    → IsAsker side.asker (asker_in asking) → IsFor cfg side.lane → IsInHand (asker_in asking) side.lane server put e → ReadsBehind cfg (asker_in asking) server e reading
+    → IsAsker side.asker (asker_in asking) → IsFor cfg side.lane → IsInHand (asker_in asking) side.lane server put e → ReadBefore side.heard cfg (asker_in asking) side.lane server → ReadsBehind cfg (asker_in asking) server e reading
     → ((more : List ℕ) (ending : Ending) → AnswersReading (meaning_of cfg) (asker_in asking) (answering asking.vars) ending (reading more) last) → Settles cfg side asking server put last
-settled_by cfg side asking server put last e reading asks for h c answers =
+settled_by cfg side asking server put last e reading asks for h heard c answers =
     record {
       asks = asks;
       for_it = for;
@@ -72,6 +49,7 @@ settled_by cfg side asking server put last e reading asks for h c answers =
       in_hand = h;
       left = c.left;
       came = c.came;
+      heard = heard;
       answers = λ rest goes.
           let m : More server.ending c.left rest = more_of server.ending c.left rest goes in
           record {
@@ -83,9 +61,6 @@ settled_by cfg side asking server put last e reading asks for h c answers =
 
 -- ---- no head is to be had
 
-not_sending : (st : Stage) → st ≡ stage.Done → st ≢ stage.Sending
-not_sending st e f = let both : stage.Done ≡ stage.Sending = sym e ∙ f in absurd (cc both)
-
 pub settles_refused : (cfg : Config) (side : AnswerSide) (asking : Asking Variables) (server : Coming) (put : List ℕ) → IsBetween side → stage_of side.lane ≡ stage.Done → (h : InHeads cfg side asking server put)
     → Settles cfg side asking server put (Refuses 502 (asker_in asking).method (answering asking.vars))
 settles_refused cfg side asking server put b done h =
@@ -93,25 +68,22 @@ settles_refused cfg side asking server put b done h =
     let at : HeadsAt stage.Done side.lane.lane h.e =
     subst (λ (st : Stage). HeadsAt st side.lane.lane h.e) done (heads_at side.lane h.e b.lane b.first (not_sending (stage_of side.lane) done) h.in_hand.answers) in
     let came = as_came cfg asker side.lane server put h.e h.for_it h.in_hand at.0 at.1 in
-    by at.0 came at.2
+    by (read_before side.heard cfg asker side.lane server h.for_it b.lane b.first done h.heard) at.0 came at.2
   where
-    by : (left : List ℕ) → HeadsCame (asker_in asking).head_asked cfg.limits server.ending h.e.read h.e.bytes left
+    by : ReadBefore side.heard cfg (asker_in asking) side.lane server → (left : List ℕ) → HeadsCame (asker_in asking).head_asked cfg.limits server.ending h.e.read h.e.bytes left
         → (Reads h.e.asked side.lane.lane.limits side.lane.lane.ended left (λ more. Refused 502) ⊎ ((is_some side.lane.lane.ended ≡ true) × Reads h.e.asked side.lane.lane.limits side.lane.lane.ended left (λ more. Nothing)))
         → Settles cfg side asking server put (Refuses 502 (asker_in asking).method (answering asking.vars))
-    by left came (inl refused) =
-        settled_by cfg side asking server put _ h.e (λ more. Refused 502) h.asks h.for_it h.in_hand
+    by heard left came (inl refused) =
+        settled_by cfg side asking server put _ h.e (λ more. Refused 502) h.asks h.for_it h.in_hand heard
         (record { left = left; came = came; reads = as_reads cfg (asker_in asking) side.lane server put h.e h.for_it h.in_hand left (λ more. Refused 502) refused }) (λ more ending. refl)
-    by left came (inr nothing) =
-        settled_by cfg side asking server put _ h.e (λ more. Nothing) h.asks h.for_it h.in_hand
+    by heard left came (inr nothing) =
+        settled_by cfg side asking server put _ h.e (λ more. Nothing) h.asks h.for_it h.in_hand heard
         (record { left = left; came = came; reads = as_reads cfg (asker_in asking) side.lane server put h.e h.for_it h.in_hand left (λ more. Nothing) nothing.1 }) (λ more ending. refl)
 
 -- ---- a final head
 
 same_received : (o : Option Received) (a b : Received) → o ≡ Some a → o ≡ Some b → a ≡ b
 same_received o a b e f = let both : Some a ≡ Some b = sym e ∙ f in cc
-
-head_not_sending : (st : Stage) → st ≡ stage.Head → st ≢ stage.Sending
-head_not_sending st e f = let both : stage.Head ≡ stage.Sending = sym e ∙ f in absurd (cc both)
 
 -- what it answers is settled where that does not hang on what follows the head
 pub settles_head : (cfg : Config) (side : AnswerSide) (asking : Asking Variables) (server : Coming) (put : List ℕ) (received : Received) (last : Final Variables) → IsBetween side → stage_of side.lane ≡ stage.Head
@@ -126,6 +98,7 @@ settles_head cfg side asking server put received last b head f answers =
     let got : at.0 ≡ received = same_received r.e.pending at.0 received at.2 r.pending in
     let reading : Received → List ℕ → HeadReading = λ g more. Begins g (side.lane.lane.input.items ++ more) in
     settled_by cfg side asking server put last r.e (reading received) r.asks r.for_it r.in_hand
+    (subst (λ (b : Bool). ReadBefore b cfg asker side.lane server) (sym r.is_heard) r.has_read)
     (record {
       left = at.1;
       came = as_came cfg asker side.lane server put r.e r.for_it r.in_hand at.1 at.3;

@@ -95,6 +95,7 @@ decides_more cfg old mid new asking server put now saying vars is heads same h =
         asks = h.tells.0.asks;
         for_it = h.tells.0.for_it;
         at = h.tells.0.at;
+        heard = h.tells.0.heard;
         rests = λ _. subst (λ (p : Place). RestsAt p (asker_in asking).head_asked mid.lane) (sym heads) h.tells.2;
       };
       vars = subst (λ (p : Place). VarsAt p (answering asking.vars) now vars) (sym heads) same;

@@ -10,6 +10,7 @@ use Rattle.session_core.specs.Sided.{Asking, asker_in}
 use Rattle.lane.specs.Answering.{Exchange, NotYet, IsSoundAnswer, stage_of, ended_of, output_of, blocks_of, framing_of, declared_of, phase_of, has_begun, shows_last}
 use Rattle.lane_core.specs.declared.stage.Stage.TheVariants as stage
 use Rattle.answer_side.specs.Seen.{seen}
+use Rattle.answer_side.specs.HeadsRead.{HasRead}
 use Rattle.answer_side.specs.Stands.{IsAsker, IsFor, IsInHand, AnswerStands, RestsAt, FitsAt}
 use Rattle.answer_side.specs.declared.place.Place.TheVariants as place
 use Rattle.answer_side.specs.declared.hearing.Heard.{Heard}
@@ -48,6 +49,8 @@ pub record IsRead (cfg : Config) (side : AnswerSide) (asking : Asking Variables)
   pub pending : e.pending ≡ Some received
   pub framing : framing_of side.lane ≡ received.framing
   pub declared : declared_of side.lane ≡ received.declared
+  pub is_heard : side.heard ≡ true
+  pub has_read : HasRead cfg (asker_in asking) side.lane server
 
 -- and it is final
 pub record FinalHead (cfg : Config) (side : AnswerSide) (asking : Asking Variables) (server : Coming) (to_client : List ℕ) (received : Received) : Type 0 where

@@ -23,6 +23,7 @@ use Rattle.session_core.specs.Leads.{AnswerWaits}
 use Rattle.lane.specs.Answering.{Exchange, HeadsCame, stage_of, array_of, blocks_of, framing_of, declared_of}
 use Rattle.lane_core.specs.declared.stage.Stage.TheVariants as stage
 use Rattle.answer_side.specs.Hearing.{IsBetween, FinalHead}
+use Rattle.answer_side.specs.HeadsRead.{ReadBefore}
 use Rattle.answer_side.specs.Seen.{seen, place_of, size_of, is_last}
 use Rattle.answer_side.specs.Stands.{IsAsker, IsFor, IsInHand, AnswerStands, IsSoundSide, is_serving}
 use Rattle.answer_side.specs.Stepping.{VarsAt}
@@ -56,6 +57,7 @@ pub record Settles (cfg : Config) (side : AnswerSide) (asking : Asking Variables
   pub in_hand : IsInHand (asker_in asking) side.lane server to_client e
   pub left : List ℕ
   pub came : HeadsCame (asker_in asking).head_asked cfg.limits server.ending e.read e.bytes left
+  pub heard : ReadBefore side.heard cfg (asker_in asking) side.lane server
   pub answers : (rest : Stream) → Continues (record { bytes = left; ending = server.ending }) rest → AnswersLast (meaning_of cfg) (asker_in asking) (answering asking.vars) rest last
 
 -- how a list in place of a response is told, and its place: a reply that isn't plain, or what closes the connection

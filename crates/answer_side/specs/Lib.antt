@@ -5,6 +5,7 @@ pub use Rattle.session_core.specs.Lanes
 pub use Rattle.lane.specs.Answering
 pub use Rattle.session_rules.specs.Ruling
 pub mod Seen
+pub mod HeadsRead
 pub mod Stands
 pub mod Said
 pub mod Listed

@@ -59,6 +59,10 @@ place_of side = side.place
 abbrev pub asker_of : AnswerSide → Asker
 asker_of side = side.asker
 
+-- what is known of no request
+abbrev pub nobody : Asker
+nobody = record { head_asked = false; is_http_11 = false; keep = false }
+
 -- the most bytes of a list that it can put out, and of a head that rules leave
 abbrev pub size_of : AnswerSide → ℕ
 size_of side = (limits_of side.lane).bufsize

@@ -28,6 +28,7 @@ use Rattle.lane_core.specs.declared.stage.Stage.TheVariants as stage
 use Rattle.lane_core.specs.declared.stage.Source.{Source}
 use Rattle.lane_core.specs.declared.stage.Source.TheVariants as source
 use Rattle.lane.specs.declared.response_lane.ResponseLane.{ResponseLane}
+use Rattle.answer_side.specs.HeadsRead.{HeardAt}
 use Rattle.answer_side.specs.declared.asker.Asker.{Asker as AskerSeen}
 use Rattle.answer_side.specs.declared.place.Place.{Place}
 use Rattle.answer_side.specs.declared.place.Place.TheVariants as place
@@ -145,12 +146,13 @@ StandsAt place.Keeping cfg asker before lane server put now saying = (e : Exchan
 StandsAt place.Saying cfg asker before lane server put now saying = (e : Exchange) × Answers lane e × (shows_last (phase_of lane) ≡ true) × IsSaid saying e
 
 -- The answer direction stands for its part of the past of an exchange: the request that is answered, the server's stream, the text
--- that was put out to the client, the variables behind the last that answers, and what is still to be said. Where it is at rest, nothing was
--- left undone.
+-- that was put out to the client, the variables behind the last that answers, and what is still to be said. It knows whether a head of the
+-- server's stream was read. Where it is at rest, nothing was left undone.
 pub record AnswerStands (cfg : Config) (side : AnswerSide) (asking : Asking Variables) (server : Coming) (to_client : List ℕ) (now : Variables) (saying : List ℕ) : Type 0 where
   pub asks : IsAsker side.asker (asker_in asking)
   pub for_it : IsFor cfg side.lane
   pub at : StandsAt side.place cfg (asker_in asking) (answering asking.vars) side.lane server to_client now saying
+  pub heard : HeardAt side.heard side.place cfg (asker_in asking) side.lane server
   pub rests : side.at_rest ≡ true → RestsAt side.place (asker_in asking).head_asked side.lane
 
 -- ---- its sizes

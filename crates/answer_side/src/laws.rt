@@ -20,6 +20,7 @@ ghost use Rattle.session_core.specs.History.{Coming};
 ghost use Rattle.session_core.specs.Sided.{Sided, Asking, asker_in, AnswersSo, IsBefore};
 ghost use Rattle.session_core.specs.declared.Told.TheVariants as told;
 ghost use Rattle.lane.specs.Answering.{HeadsCame};
+ghost use Rattle.answer_side.specs.HeadsRead.{BeginsWithHead, HeadBegins};
 ghost use Rattle.answer_side.specs.Resting.{AwaitsHead, PutsOutBody};
 ghost use Rattle.answer_side.specs.Seen.{seen, place_of};
 ghost use Rattle.answer_side.specs.Stands.{AnswerStands, IsSoundSide, is_serving, list_text};
@@ -87,10 +88,22 @@ pub fn body_put_out()
     lane::laws::answer_not_held_back();
 }
 
+/// Whether a response head was read. Where one was, the server's stream begins with it, however it goes on (`came`). Where the bytes so far begin
+/// with one, interim or final, it was read once all was done that could be (`read`).
+pub fn head_heard()
+    ensures came { (cfg : Config) (side : AnswerSide) (asking : Asking Variables) (server : Coming) (to_client : List ℕ) (now : Variables) (saying : List ℕ) → AnswerStands cfg side asking server to_client now saying
+        → (seen side).heard ≡ true → HeadBegins cfg (asker_in asking) server }
+    ensures read { (cfg : Config) (side : AnswerSide) (asking : Asking Variables) (server : Coming) (to_client : List ℕ) (now : Variables) (saying : List ℕ) → IsSoundSide side → AnswerStands cfg side asking server to_client now saying
+        → is_serving (place_of side) ≡ true → (seen side).at_rest ≡ true → BeginsWithHead cfg (asker_in asking) server.bytes → (seen side).heard ≡ true }
+{
+    h1_head::laws::one_reading();
+}
+
 /// Refusals and replies stand as a head with its body behind it, and their text is that of both.
 pub fn lists()
     ensures blocks { (m : Message) → IsListed m → message_blocks m ≡ front_blocks m.head m.body }
     ensures spelled { (m : Message) (no_body : Bool) → IsListed m → Spells true no_body m (list_text no_body m.head m.body) }
-    ensures refusal { (code : ℕ) → IsListed (refusal code) × IsListed (closing (refusal code)) }
+    ensures refusal { (code : ℕ) → IsListed (refusal code) }
+    ensures closing { (code : ℕ) → IsListed (closing (refusal code)) }
     ensures sent { (cfg : Config) (m : Message) (method : List ℕ) (vars : Variables) (keep : Bool) → IsListed m → IsListed (reply_sent (meaning_of cfg) m method vars keep) }
 {}

@@ -6,6 +6,7 @@ ghost use Rattle.px_sample.specs.Variables.{Variables};
 ghost use Rattle.http_rules.specs.declared.config.Config.{Config};
 ghost use Rattle.session_core.specs.History.{Coming, gains, ends, no_stream};
 ghost use Rattle.session_core.specs.Sided.{Asking, asker_in};
+ghost use Rattle.answer_side.specs.Seen as spec;
 ghost use Rattle.answer_side.specs.Seen.{seen, place_of, asker_of, size_of};
 ghost use Rattle.answer_side.specs.Stands.{AnswerStands, IsSoundSide, IsAsker};
 ghost use Rattle.answer_side.specs.declared.place.Place.TheVariants as place;
@@ -24,7 +25,6 @@ use body_filter::FilterSpec;
 use http_model::{Ending, Limits, OutOfMemory};
 use lane::ResponseLane;
 use std::alloc::Global;
-use views::is_done;
 
 /// The answer direction of a session.
 #[derive(Drop)]
@@ -42,7 +42,7 @@ pub struct AnswerSide {
 
 /// What is known of no request.
 fn nobody() -> Asker
-    ensures { (result.head_asked ≡ false) × (result.is_http_11 ≡ false) × (result.keep ≡ false) }
+    ensures { result ≡ spec.nobody }
 {
     Asker {
         head_asked: false,
@@ -67,7 +67,7 @@ impl AnswerSide {
         requires valid { AreFilters filters.now }
         ensures stands { IfOk result (λ side. (cfg : Config) (asking : Asking Variables) (server : Coming) (now : Variables) (saying : List ℕ) → cfg.limits ≡ limits → cfg.res_filters ≡ filters.now
             → IsAsker (asker_of side) (asker_in asking) → AnswerStands cfg side asking server [] now saying) }
-        ensures nobody { IfOk result (λ side. ((asker_of side).head_asked ≡ false) × ((asker_of side).is_http_11 ≡ false) × ((asker_of side).keep ≡ false)) }
+        ensures nobody { IfOk result (λ side. asker_of side ≡ spec.nobody) }
         ensures place { IfOk result (λ side. place_of side ≡ place.Idle) }
         ensures sound { IfOk result IsSoundSide }
         ensures size { IfOk result (λ side. size_of side ≡ limits.bufsize) }
@@ -134,8 +134,9 @@ impl AnswerSide {
     /// The next request was read, and goes to a server.
     pub fn begin(&mut self, asker: Asker)
         requires sound { IsSoundSide self.old }
+        requires idle { place_of self.old ≡ place.Idle }
         ensures leads { (cfg : Config) (old asking : Asking Variables) (server : Coming) (put : List ℕ) (now : Variables) (saying : List ℕ) → AnswerStands cfg self.old old server put now saying
-            → place_of self.old ≡ place.Idle → IsAsker asker (asker_in asking) → AnswerStands cfg self.new asking server put now saying }
+            → IsAsker asker (asker_in asking) → AnswerStands cfg self.new asking server put now saying }
         ensures seen { seen self.new ≡ seen self.old }
         ensures place { place_of self.new ≡ place_of self.old }
         ensures sound { IsSoundSide self.new }
@@ -146,25 +147,6 @@ impl AnswerSide {
 
     /// A server is open for the request in hand.
     pub fn open_server(&mut self)
-        requires sound { IsSoundSide self.old }
-        ensures leads { (cfg : Config) (asking : Asking Variables) (server : Coming) (put : List ℕ) (now : Variables) (saying : List ℕ) → AnswerStands cfg self.old asking server put now saying
-            → place_of self.old ≡ place.Idle → AnswerStands cfg self.new asking no_stream put now saying }
-        ensures place { place_of self.old ≡ place.Idle → place_of self.new ≡ place.Heads }
-        ensures open { place_of self.old ≡ place.Idle → (seen self.new).is_open ≡ true }
-        ensures begun { place_of self.old ≡ place.Idle → (seen self.new).begun ≡ false }
-        ensures heard { place_of self.old ≡ place.Idle → (seen self.new).heard ≡ false }
-        ensures window { (seen self.new).window ≡ (seen self.old).window }
-        ensures sound { IsSoundSide self.new }
-        ensures size { size_of self.new ≡ size_of self.old }
-    {
-        match self.place {
-            Place::Idle => self.begin_heads(),
-            Place::Heads | Place::Response | Place::Closing | Place::Keeping | Place::Saying => {}
-        }
-    }
-
-    /// Heads of another server are read.
-    fn begin_heads(&mut self)
         requires sound { IsSoundSide self.old }
         requires idle { place_of self.old ≡ place.Idle }
         ensures leads { (cfg : Config) (asking : Asking Variables) (server : Coming) (put : List ℕ) (now : Variables) (saying : List ℕ) → AnswerStands cfg self.old asking server put now saying
@@ -184,25 +166,10 @@ impl AnswerSide {
         self.at_rest = false;
     }
 
-    /// The next exchange begins, once all of the answer is put out.
+    /// All of the answer is put out, and the next exchange begins: nothing is put out until its answer does.
     pub fn next(&mut self)
         requires sound { IsSoundSide self.old }
-        ensures leads { (cfg : Config) (asking : Asking Variables) (server : Coming) (put : List ℕ) (now : Variables) (saying : List ℕ) → AnswerStands cfg self.old asking server put now saying
-            → (seen self.old).answered ≡ true → AnswerStands cfg self.new asking no_stream [] now [] }
-        ensures place { (seen self.old).answered ≡ true → place_of self.new ≡ place.Idle }
-        ensures window { (seen self.new).window ≡ (seen self.old).window }
-        ensures sound { IsSoundSide self.new }
-        ensures size { size_of self.new ≡ size_of self.old }
-    {
-        if is_done(self.lane.stage()) {
-            self.end_exchange();
-        }
-    }
-
-    /// Nothing is put out until the next answer begins.
-    fn end_exchange(&mut self)
-        requires sound { IsSoundSide self.old }
-        requires done { (seen self.old).answered ≡ true }
+        requires answered { (seen self.old).answered ≡ true }
         ensures leads { (cfg : Config) (asking : Asking Variables) (server : Coming) (put : List ℕ) (now : Variables) (saying : List ℕ) → AnswerStands cfg self.old asking server put now saying
             → AnswerStands cfg self.new asking no_stream [] now [] }
         ensures place { place_of self.new ≡ place.Idle }
@@ -221,7 +188,7 @@ impl AnswerSide {
         requires sound { IsSoundSide self.old }
         ensures stands { (cfg : Config) (asked : Asking Variables) (came : Coming) (sent : List ℕ) (before : Variables) (said : List ℕ) → AnswerStands cfg self.old asked came sent before said
             → (asking : Asking Variables) (server : Coming) (now : Variables) (saying : List ℕ) → IsAsker (asker_of self.new) (asker_in asking) → AnswerStands cfg self.new asking server [] now saying }
-        ensures nobody { ((asker_of self.new).head_asked ≡ false) × ((asker_of self.new).is_http_11 ≡ false) × ((asker_of self.new).keep ≡ false) }
+        ensures nobody { asker_of self.new ≡ spec.nobody }
         ensures place { place_of self.new ≡ place.Idle }
         ensures sound { IsSoundSide self.new }
         ensures size { size_of self.new ≡ size_of self.old }

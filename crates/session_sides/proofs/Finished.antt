@@ -123,7 +123,7 @@ head_finished old mid framing head f = (finish_request head.0 framing, f.finishe
 -- the answer direction knows of the request
 pub record BeginsAnswer (old new : AnswerSide) (asker : Asker) : Type 0 where
   pub leads : (cfg : Config) (was asking : Asking Variables) (server : Coming) (put : List ℕ) (now : Variables) (saying : List ℕ) → AnswerStands cfg old was server put now saying
-      → answers.place_of old ≡ answered.Idle → IsAsker asker (asker_in asking) → AnswerStands cfg new asking server put now saying
+      → IsAsker asker (asker_in asking) → AnswerStands cfg new asking server put now saying
   pub seen : answers.seen new ≡ answers.seen old
   pub place : answers.place_of new ≡ answers.place_of old
   pub sound : IsSoundSide new
@@ -177,7 +177,7 @@ sends_so d a r asker framing kept laws read known b s =
     record {
       leads = s.leads;
       goes = λ cfg vars came asking reply stands. laws cfg r vars came asking [] reply s.place stands;
-      knows = λ cfg was asking server put now saying stands is. b.leads cfg was asking server put now saying stands read.still.silent (subst (λ (x : Asker). IsAsker x (asker_in asking)) (sym known) is);
+      knows = λ cfg was asking server put now saying stands is. b.leads cfg was asking server put now saying stands (subst (λ (x : Asker). IsAsker x (asker_in asking)) (sym known) is);
       rules = refl;
       method = refl;
       placed = record {

@@ -44,14 +44,14 @@ abbrev pub no_past : (cfg : Config) → Sided (meaning_of cfg)
 no_past cfg =
     record { vars = no_variables; came = no_stream; asking = no_asking; to_server = []; server = no_stream; to_client = []; now = no_variables; reply = no_reply; saying = [] }
 
-asked_nothing : (seen : Asker) → (seen.head_asked ≡ false) × (seen.is_http_11 ≡ false) × (seen.keep ≡ false) → IsAsker seen (asker_in no_asking)
-asked_nothing seen h = record { head_asked = h.0; is_http_11 = h.1; keep = h.2 }
+asked_nothing : (seen : Asker) → seen ≡ answers.nobody → IsAsker seen (asker_in no_asking)
+asked_nothing seen h = record { head_asked = ap (λ (a : Asker). a.head_asked) h; is_http_11 = ap (λ (a : Asker). a.is_http_11) h; keep = ap (λ (a : Asker). a.keep) h }
 
 -- new directions stand for nothing
 pub fresh_stand : (cfg : Config) (d : Directions) → settings_of d ≡ cfg → IsTotal (meaning_of cfg) → d.rules.vars ≡ no_variables → requests.place_of d.request ≡ asked.Reading
     → RequestStands cfg d.request no_variables no_stream no_asking [] no_reply
     → (IsAsker (answers.asker_of d.answer) (asker_in no_asking) → AnswerStands cfg d.answer no_asking no_stream [] no_variables [])
-    → ((answers.asker_of d.answer).head_asked ≡ false) × ((answers.asker_of d.answer).is_http_11 ≡ false) × ((answers.asker_of d.answer).keep ≡ false)
+    → answers.asker_of d.answer ≡ answers.nobody
     → DirectionsStand cfg d (no_past cfg)
 fresh_stand cfg d config total vars reads request answer nobody =
     record {
@@ -66,13 +66,13 @@ fresh_stand cfg d config total vars reads request answer nobody =
 pub fresh_new : (cfg : Config) (d : Directions) (r : RequestSide) (a : AnswerSide) → d.request ≡ r → d.answer ≡ a → settings_of d ≡ cfg → IsTotal (meaning_of cfg) → d.rules.vars ≡ no_variables
     → requests.place_of r ≡ asked.Reading → RequestStands cfg r no_variables no_stream no_asking [] no_reply
     → (IsAsker (answers.asker_of a) (asker_in no_asking) → AnswerStands cfg a no_asking no_stream [] no_variables [])
-    → ((answers.asker_of a).head_asked ≡ false) × ((answers.asker_of a).is_http_11 ≡ false) × ((answers.asker_of a).keep ≡ false)
+    → answers.asker_of a ≡ answers.nobody
     → DirectionsStand cfg d (no_past cfg)
 fresh_new cfg d r a is_r is_a config total vars reads request answer nobody =
     fresh_stand cfg d config total vars (ap (λ (x : RequestSide). requests.place_of x) is_r ∙ reads)
     (subst (λ (x : RequestSide). RequestStands cfg x no_variables no_stream no_asking [] no_reply) (sym is_r) request)
     (subst (λ (x : AnswerSide). IsAsker (answers.asker_of x) (asker_in no_asking) → AnswerStands cfg x no_asking no_stream [] no_variables []) (sym is_a) answer)
-    (subst (λ (x : AnswerSide). ((answers.asker_of x).head_asked ≡ false) × ((answers.asker_of x).is_http_11 ≡ false) × ((answers.asker_of x).keep ≡ false)) (sym is_a) nobody)
+    (subst (λ (x : AnswerSide). answers.asker_of x ≡ answers.nobody) (sym is_a) nobody)
 
 pub fresh_at : (cfg : Config) (d : Directions) (r : RequestSide) (a : AnswerSide) → d.request ≡ r → d.answer ≡ a → settings_of d ≡ cfg → IsSound r → requests.limits_of r ≡ cfg.limits
     → requests.place_of r ≡ asked.Reading → IsSoundSide a → answers.size_of a ≡ cfg.limits.bufsize → answers.place_of a ≡ answered.Idle → IsReady d.rules → d.method.cap ≡ cfg.limits.bufsize → IsAt d at.Reads

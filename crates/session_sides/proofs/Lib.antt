@@ -5,6 +5,7 @@ pub mod Finished
 pub mod Forwarding
 pub mod Fresh
 pub mod HeldBack
+pub mod Waiting
 pub mod Joining
 pub mod Judged
 pub mod Methods

@@ -82,6 +82,7 @@ any_now cfg side asking server put now other saying idle s =
     record {
       asks = s.asks;
       for_it = s.for_it;
+      heard = s.heard;
       rests = s.rests;
       at = subst (λ (x : Answered). StandsAt x cfg (asker_in asking) (answering asking.vars) side.lane server put other saying) (sym idle)
           (subst (λ (x : Answered). StandsAt x cfg (asker_in asking) (answering asking.vars) side.lane server put now saying) idle s.at);

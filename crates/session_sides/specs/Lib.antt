@@ -5,3 +5,4 @@ pub mod Joined
 pub mod Asks
 pub mod Lent
 pub mod HeldBack
+pub mod Waiting

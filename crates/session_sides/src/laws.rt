@@ -7,13 +7,15 @@ ghost use Rattle.session_core.specs.declared.Source.TheVariants as source;
 ghost use Rattle.session_core.specs.declared.Told.TheVariants as told;
 ghost use Rattle.session_core.specs.declared.machine.At.{At};
 ghost use Rattle.session_sides.specs.HeldBack.{HasWorked, IsUncutSoFar, IsSentSoFar, AwaitsAnswer, IsAnsweredSoFar, AwaitsRequest};
+ghost use Rattle.session_core.specs.Waits.{is_turned, wants_of};
 ghost use Rattle.session_sides.specs.Joined.{request_of, answer_of};
+ghost use Rattle.session_sides.specs.Waiting.{WaitsForHead, WaitsForNone};
 ghost use Rattle.session_sides.specs.declared.directions.Directions.{Directions};
 
 use crate::Directions;
 use answer_side::laws as answers;
 use request_side::laws as requests;
-use session_core::laws::{reads_in_hand, serves_in_hand};
+use session_core::laws::{exchanges_are, reads_in_hand, serves_in_hand};
 
 /// While a server is open and no cut of its request was met: where the server has taken all text, or takes no more, what the client gave shows no
 /// cut (`no_cut`); and a server that has taken all text was sent all that came, but what filters keep back (`sent`).
@@ -38,6 +40,22 @@ pub fn answer_not_held_back<'c>()
     serves_in_hand::<Directions<'c>>();
     answers::begun_or_waits();
     answers::body_put_out();
+}
+
+/// Whether the client waits for a response head before it sends its body (RFC 9110 section 10.1.1). While a server is open and no refusal took the
+/// place of its answer, the want `client_waits` stands only where the request says so and the server has sent no head, interim or final (`waits`).
+/// Where it doesn't stand, the request says nothing of it, or the server's stream begins with a head (`free`). Before a server is open it stands exactly
+/// where the request says so (`opening`).
+pub fn client_waits_in_hand<'c>()
+    ensures waits { (cfg : Config) (d : Directions) (at : At) (past : Past) → HasWorked cfg d at past → at.phase ≡ phase.Serving → is_turned at.cut ≡ false
+        → (wants_of (request_of d) (answer_of d) at).client_waits ≡ true → WaitsForHead cfg past }
+    ensures free { (cfg : Config) (d : Directions) (at : At) (past : Past) → HasWorked cfg d at past → at.phase ≡ phase.Serving
+        → (wants_of (request_of d) (answer_of d) at).client_waits ≡ false → WaitsForNone cfg past }
+    ensures opening { (cfg : Config) (d : Directions) (at : At) (past : Past) → HasWorked cfg d at past → at.phase ≡ phase.Opening
+        → (wants_of (request_of d) (answer_of d) at).client_waits ≡ (request_of d).awaits }
+{
+    exchanges_are::<Directions<'c>>();
+    answers::head_heard();
 }
 
 /// Where the next request is waited for, none has come.

@@ -29,7 +29,7 @@ fn is_last(place: Place) -> bool
 
 impl AnswerSide {
     /// Puts out as much of a response, or of what stands in its place, as there is room for.
-    pub fn put_out(&mut self)
+    pub(super) fn put_out(&mut self)
         requires sound { IsSoundSide self.old }
         ensures leads { (cfg : Config) (asking : Asking Variables) (server : Coming) (put : List ℕ) (now : Variables) (saying : List ℕ) → AnswerStands cfg self.old asking server put now saying
             → spec.is_last (place_of self.old) ≡ true → PutsMore cfg self.old self.new asking server put now saying }

@@ -21,36 +21,37 @@ impl AnswerSide {
     /// While no answer is in hand, the message of this list is to be said: the refusal or the reply of a request.
     pub fn begin_saying(&mut self, list: &mut Arena, no_body: bool)
         requires sound { IsSoundSide self.old }
+        requires idle { place_of self.old ≡ place.Idle }
         requires fits { Fits list.old.blocks (size_of self.old) }
         ensures leads { (cfg : Config) (asking : Asking Variables) (server : Coming) (put : List ℕ) (now : Variables) (saying : List ℕ) (head : Head) (body : List ℕ) → AnswerStands cfg self.old asking server put now saying
-            → place_of self.old ≡ place.Idle → list.old.blocks ≡ front_blocks head body → AnswerStands cfg self.new asking server put now (list_text no_body head body) }
-        ensures place { place_of self.old ≡ place.Idle → place_of self.new ≡ place.Saying }
-        ensures starts { place_of self.old ≡ place.Idle → (seen self.new).answered ≡ false }
-        ensures heard { place_of self.old ≡ place.Idle → (seen self.new).heard ≡ false }
+            → list.old.blocks ≡ front_blocks head body → AnswerStands cfg self.new asking server put now (list_text no_body head body) }
+        ensures place { place_of self.new ≡ place.Saying }
+        ensures starts { (seen self.new).answered ≡ false }
+        ensures begun { (seen self.new).begun ≡ false }
+        ensures heard { (seen self.new).heard ≡ false }
         ensures window { (seen self.new).window ≡ (seen self.old).window }
         ensures list_size { list.new.size ≡ list.old.size }
         ensures sound { IsSoundSide self.new }
         ensures size { size_of self.new ≡ size_of self.old }
     {
-        match self.place {
-            Place::Idle => {
-                self.lane.answer(list, no_body);
-                self.place = Place::Saying;
-                self.at_rest = false;
-            }
-            Place::Heads | Place::Response | Place::Closing | Place::Keeping | Place::Saying => {}
-        }
+        self.lane.answer(list, no_body);
+        self.place = Place::Saying;
+        self.at_rest = false;
     }
 
     /// While the last that answers hasn't begun, the message of this list is to be said in place of the server's answer,
     /// behind the interim heads, each whole.
     pub fn turn_to(&mut self, list: &mut Arena)
         requires sound { IsSoundSide self.old }
+        requires serving { is_serving (place_of self.old) ≡ true }
+        requires begun { (seen self.old).begun ≡ false }
         requires fits { Fits list.old.blocks (size_of self.old) }
         ensures leads { (cfg : Config) (asking : Asking Variables) (server : Coming) (put : List ℕ) (now : Variables) (saying : List ℕ) (head : Head) (body : List ℕ) → AnswerStands cfg self.old asking server put now saying
-            → is_serving (place_of self.old) ≡ true → (seen self.old).begun ≡ false → list.old.blocks ≡ front_blocks head body → TurnsTo cfg self.new asking server put now head body }
-        ensures place { is_serving (place_of self.old) ≡ true → (seen self.old).begun ≡ false → place_of self.new ≡ place.Saying }
-        ensures starts { is_serving (place_of self.old) ≡ true → (seen self.old).begun ≡ false → (seen self.new).answered ≡ false }
+            → list.old.blocks ≡ front_blocks head body → TurnsTo cfg self.new asking server put now head body }
+        ensures place { place_of self.new ≡ place.Saying }
+        ensures starts { (seen self.new).answered ≡ false }
+        ensures begun { (seen self.new).begun ≡ false }
+        ensures heard { (seen self.new).heard ≡ (seen self.old).heard }
         ensures window { (seen self.new).window ≡ (seen self.old).window }
         ensures open { (seen self.new).is_open ≡ (seen self.old).is_open }
         ensures list_size { list.new.size ≡ list.old.size }
@@ -58,9 +59,6 @@ impl AnswerSide {
         ensures size { size_of self.new ≡ size_of self.old }
     {
         answer_promise();
-        if self.lane.begun() {
-            return;
-        }
         self.lane.answer(list, self.asker.head_asked);
         self.place = Place::Saying;
         self.at_rest = false;
@@ -69,27 +67,13 @@ impl AnswerSide {
     /// Puts out as much of what is said as there is room for.
     pub fn say(&mut self)
         requires sound { IsSoundSide self.old }
-        ensures leads { (cfg : Config) (asking : Asking Variables) (server : Coming) (put : List ℕ) (now : Variables) (saying : List ℕ) → AnswerStands cfg self.old asking server put now saying
-            → place_of self.old ≡ place.Saying → SaysMore cfg self.old self.new asking server put now saying }
-        ensures place { place_of self.new ≡ place_of self.old }
-        ensures open { (seen self.new).is_open ≡ (seen self.old).is_open }
-        ensures sound { IsSoundSide self.new }
-        ensures size { size_of self.new ≡ size_of self.old }
-    {
-        match self.place {
-            Place::Saying => self.say_on(),
-            Place::Idle | Place::Heads | Place::Response | Place::Closing | Place::Keeping => {}
-        }
-    }
-
-    /// Puts out more.
-    fn say_on(&mut self)
-        requires sound { IsSoundSide self.old }
         requires says { place_of self.old ≡ place.Saying }
         ensures leads { (cfg : Config) (asking : Asking Variables) (server : Coming) (put : List ℕ) (now : Variables) (saying : List ℕ) → AnswerStands cfg self.old asking server put now saying
             → SaysMore cfg self.old self.new asking server put now saying }
         ensures place { place_of self.new ≡ place_of self.old }
         ensures open { (seen self.new).is_open ≡ (seen self.old).is_open }
+        ensures begun { (seen self.old).begun ≡ true → (seen self.new).begun ≡ true }
+        ensures heard { (seen self.new).heard ≡ (seen self.old).heard }
         ensures sound { IsSoundSide self.new }
         ensures size { size_of self.new ≡ size_of self.old }
     {

@@ -10,7 +10,10 @@ pub returns-clause-spelled : goal.returns-clause-spelled
 returns-clause-spelled c = listed_spells
 
 pub returns-clause-refusal : goal.returns-clause-refusal
-returns-clause-refusal c = λ code. (refusal_listed code, closing_listed (refusal code) (refusal_listed code))
+returns-clause-refusal c = refusal_listed
+
+pub returns-clause-closing : goal.returns-clause-closing
+returns-clause-closing c = λ code. closing_listed (refusal code) (refusal_listed code)
 
 pub returns-clause-sent : goal.returns-clause-sent
 returns-clause-sent c = λ cfg. reply_listed (meaning_of cfg)

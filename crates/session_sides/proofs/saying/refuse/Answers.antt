@@ -16,11 +16,11 @@ returns-clause-says c =
     let code = c.args.code in
     let method = c.args.method.now in
     let m = refusal_sent (meaning_of cfg) code method (answering rules.vars) in
-    let listed = c.lists.ensures.sent cfg (refusal code) method (answering rules.vars) false (c.lists.ensures.refusal code).0 in
+    let listed = c.lists.ensures.sent cfg (refusal code) method (answering rules.vars) false (c.lists.ensures.refusal code) in
     record {
       text = list_text c.args.no_body m.head m.body;
       spelled = c.lists.ensures.spelled m c.args.no_body listed;
-      says = λ asking server put now saying s. c.begin_saying.ensures.leads cfg asking server put now saying m.head m.body s c.requires.idle
+      says = λ asking server put now saying s. c.begin_saying.ensures.leads cfg asking server put now saying m.head m.body s
           (refusal_said cfg (config_of c.begin_answer.new.self) code method rules.vars c.begin_answer.new.self.vars c.say_refusal.new.self.said.blocks c.begin_answer.ensures.config c.begin_answer.ensures.vars c.in_ok-say_refusal.ensures.said
           ∙ c.lists.ensures.blocks m listed);
     }

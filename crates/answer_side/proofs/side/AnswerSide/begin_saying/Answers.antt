@@ -6,20 +6,25 @@ use Rattle.answer_side.specs.Stands.{StandsAt}
 use Rattle.answer_side.specs.declared.place.Place.{Place}
 use Rattle.answer_side.specs.declared.place.Place.TheVariants as place
 use Rattle.answer_side.proofs.Events.{for_new}
+use Rattle.answer_side.proofs.HeardLemmas.{heard_said}
 use Rattle.answer_side.proofs.Saying.{said_at}
 use Rattle.answer_side.proofs.Views.{at_place}
 use Rattle.answer_side.proofs.side.AnswerSide.begin_saying.Goals as goal
 
 pub answer-requires-clause-unbegun : goal.answer-requires-clause-unbegun
-answer-requires-clause-unbegun c = (at_place place.Idle c.args.self.now c.in-Idle.is c.requires.sound.at).1
+answer-requires-clause-unbegun c = (at_place place.Idle c.args.self.now c.requires.idle c.requires.sound.at).1
 
-pub returns-in-Idle-clause-leads : goal.returns-in-Idle-clause-leads
-returns-in-Idle-clause-leads c = λ cfg asking server put now saying head body s idle is.
+pub returns-clause-leads : goal.returns-clause-leads
+returns-clause-leads c = λ cfg asking server put now saying head body s is.
     let old = c.args.self.now in
-    let at : StandsAt place.Idle cfg (asker_in asking) (answering asking.vars) old.lane server put now saying = subst (λ (p : Place). StandsAt p cfg (asker_in asking) (answering asking.vars) old.lane server put now saying) idle s.at in
+    let at : StandsAt place.Idle cfg (asker_in asking) (answering asking.vars) old.lane server put now saying = subst (λ (p : Place). StandsAt p cfg (asker_in asking) (answering asking.vars) old.lane server put now saying) c.requires.idle s.at in
     record {
       asks = s.asks;
       for_it = for_new cfg old.lane c.answer.new.self c.answer.ensures.limits c.answer.ensures.filters s.for_it;
       at = (replies at.0 head body c.args.no_body, c.answer.ensures.answers at.0 head body at.1 is, c.answer.ensures.last, said_at at.0 head body c.args.no_body at.2);
+      heard = heard_said old.heard old.place cfg (asker_in asking) old.lane c.answer.new.self server c.answer.ensures.same.1 s.heard;
       rests = λ _. tt;
     }
+
+pub returns-clause-heard : goal.returns-clause-heard
+returns-clause-heard c = (at_place place.Idle c.args.self.now c.requires.idle c.requires.sound.at).2

@@ -5,6 +5,7 @@ use Rattle.http_rules.specs.Lives.{answering}
 use Rattle.session_core.specs.Sided.{asker_in}
 use Rattle.answer_side.specs.Seen.{told_at, answered_at}
 use Rattle.answer_side.proofs.Events.{took_at, for_new}
+use Rattle.answer_side.proofs.HeardLemmas.{heard_took}
 use Rattle.answer_side.proofs.Views.{seen_same, fits_same}
 use Rattle.answer_side.proofs.side.AnswerSide.client_took.Goals as goal
 
@@ -16,6 +17,8 @@ returns-clause-leads c = λ cfg asking server put now saying s.
       for_it = for_new cfg old.lane c.took.new.self c.took.ensures.limits c.took.ensures.filters s.for_it;
       at = took_at old.place cfg (asker_in asking) (answering asking.vars) old.lane c.took.new.self server put now saying
           (record { answers = c.took.ensures.answers; ended = c.took.ensures.same.1; phase = c.took.ensures.keeps.1 }) s.at;
+      heard = heard_took old.heard old.place cfg (asker_in asking) old.lane c.took.new.self server
+          (record { answers = c.took.ensures.answers; ended = c.took.ensures.same.1; phase = c.took.ensures.keeps.1 }) s.heard;
       rests = λ rest. absurd (let both : false ≡ true = rest in cc both);
     }
 

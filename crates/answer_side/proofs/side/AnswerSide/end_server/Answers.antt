@@ -6,6 +6,7 @@ use Rattle.session_core.specs.Sided.{asker_in}
 use Rattle.lane.specs.Answering.{ended_of}
 use Rattle.answer_side.specs.Seen.{told_at, answered_at}
 use Rattle.answer_side.proofs.Events.{ends_at, for_new, none_of}
+use Rattle.answer_side.proofs.HeardLemmas.{heard_ends}
 use Rattle.answer_side.proofs.Views.{seen_same, fits_same}
 use Rattle.answer_side.proofs.side.AnswerSide.end_server.Goals as goal
 
@@ -20,6 +21,8 @@ returns-clause-leads c = λ cfg asking server put now saying s.
       for_it = for_new cfg old.lane c.end.new.self c.end.ensures.limits c.end.ensures.filters s.for_it;
       at = ends_at old.place cfg (asker_in asking) (answering asking.vars) old.lane c.end.new.self server put now saying c.args.how
           (record { answers = c.end.ensures.answers; is_open = none_of (ended_of old.lane) c.requires.open; ended = c.end.ensures.ended; phase = c.end.ensures.keeps.1 }) s.at;
+      heard = heard_ends old.heard old.place cfg (asker_in asking) old.lane c.end.new.self server c.args.how
+          (record { answers = c.end.ensures.answers; is_open = none_of (ended_of old.lane) c.requires.open; ended = c.end.ensures.ended; phase = c.end.ensures.keeps.1 }) s.heard;
       rests = λ rest. absurd (let both : false ≡ true = rest in cc both);
     }
 

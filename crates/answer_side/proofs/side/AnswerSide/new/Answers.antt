@@ -9,6 +9,7 @@ returns-clause-stands c = λ cfg asking server now saying limits filters is.
       asks = is;
       for_it = record { limits = c.in_ok-lane.ensures.limits ∙ sym limits; filters = subst (HasFilters c.in_ok-lane.lane) (sym filters) c.in_ok-lane.ensures.filters };
       at = (fresh true, c.in_ok-lane.ensures.fresh true, record { put = refl; passed = refl }, refl);
+      heard = tt;
       rests = λ _. tt;
     }
 

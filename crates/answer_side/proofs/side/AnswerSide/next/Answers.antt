@@ -1,21 +1,32 @@
-use Rattle.std.proofs.Common.{sym, ap, ◌∙◌, ◌≡◌, true, false}
-use Rattle.lane.specs.Answering.{stage_of}
-use Rattle.answer_side.specs.Seen.{is_done}
-use Rattle.answer_side.proofs.Bodies.{done_is}
-use Rattle.answer_side.proofs.Views.{done_answered, answered_done}
+use Rattle.std.proofs.Common.{refl, sym, ap, ◌∙◌, ℕ, true}
+use Rattle.std.specs.Prelude.{is_none}
+use Rattle.wire_buf.specs.Buffer.{Buffer}
+use Rattle.lane.specs.Answering.{fresh, with_bytes, input_of, stage_of}
+use Rattle.answer_side.proofs.Events.{for_new}
+use Rattle.answer_side.proofs.Views.{answered_done}
 use Rattle.answer_side.proofs.side.AnswerSide.next.Goals as goal
 
-pub end_exchange-requires-clause-done : goal.end_exchange-requires-clause-done
-end_exchange-requires-clause-done c =
-    let old = c.args.self.now in
-    done_answered old.place old c.requires.sound.at (done_is (stage_of old.lane) (ap is_done (sym c.stage.ensures) ∙ sym c.is_done.ensures ∙ c.if-is_done.true))
+pub next-requires-clause-done : goal.next-requires-clause-done
+next-requires-clause-done c = answered_done c.args.self.now.place (stage_of c.args.self.now.lane) c.requires.answered
 
-pub returns-else-is_done-clause-leads : goal.returns-else-is_done-clause-leads
-returns-else-is_done-clause-leads c = λ cfg asking server put now saying s answered.
+pub returns-clause-leads : goal.returns-clause-leads
+returns-clause-leads c = λ cfg asking server put now saying s.
     let old = c.args.self.now in
-    absurd (let both : true ≡ false = sym (ap is_done (answered_done old.place (stage_of old.lane) answered)) ∙ (ap is_done (sym c.stage.ensures) ∙ sym c.is_done.ensures ∙ c.if-is_done.false) in cc both)
+    record {
+      asks = s.asks;
+      for_it = for_new cfg old.lane c.next.new.self c.next.ensures.limits c.next.ensures.filters s.for_it;
+      at = (with_bytes (fresh true) (input_of old.lane), c.next.ensures.answers true, record { put = refl; passed = refl }, refl);
+      heard = tt;
+      rests = λ _. tt;
+    }
 
-pub returns-else-is_done-clause-place : goal.returns-else-is_done-clause-place
-returns-else-is_done-clause-place c = λ answered.
-    let old = c.args.self.now in
-    absurd (let both : true ≡ false = sym (ap is_done (answered_done old.place (stage_of old.lane) answered)) ∙ (ap is_done (sym c.stage.ensures) ∙ sym c.is_done.ensures ∙ c.if-is_done.false) in cc both)
+pub returns-clause-window : goal.returns-clause-window
+returns-clause-window c = ap (λ (b : Buffer ℕ). b.items) c.next.ensures.same.0
+
+pub returns-clause-sound : goal.returns-clause-sound
+returns-clause-sound c =
+    record {
+      lane = c.next.ensures.sound;
+      open_is = c.requires.sound.open_is ∙ ap is_none (sym c.next.ensures.same.1);
+      at = (c.next.ensures.stage, c.next.ensures.begun, refl);
+    }

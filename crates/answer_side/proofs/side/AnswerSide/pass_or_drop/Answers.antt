@@ -27,7 +27,7 @@ returns-then-self-clause-leads c = λ cfg asking server put now saying received 
     let old = c.args.self.now in
     let mid : AnswerSide = record old { lane = c.pass.new.self } in
     let s = stands_in cfg mid asking server put now saying c.requires.between.place c.requires.between.stirs
-    (passes_on cfg old mid asking server put received refl c.pass.ensures.same.1 c.pass.ensures.limits c.pass.ensures.filters c.if-self.true r (c.pass.ensures.answers r.e received r.in_hand.answers r.pending is blocks)) in
+    (passes_on cfg old mid asking server put received refl refl c.pass.ensures.same.1 c.pass.ensures.limits c.pass.ensures.filters c.if-self.true r (c.pass.ensures.answers r.e received r.in_hand.answers r.pending is blocks)) in
     hears_from cfg old mid c.show_on.new.self asking server put now saying c.show_on.result (ap (λ (b : Buffer ℕ). b.items) c.pass.ensures.same.0) (c.show_on.ensures.leads cfg asking server put now saying s)
 
 pub returns-then-self-clause-less : goal.returns-then-self-clause-less
@@ -44,7 +44,7 @@ returns-clause-leads c = λ cfg asking server put now saying received r is block
     let old = c.args.self.now in
     let new : AnswerSide = record old { lane = c.drop_head.new.self } in
     let s = stands_in cfg new asking server put now saying c.requires.between.place c.requires.between.stirs
-    (drops_on cfg old new asking server put received refl c.drop_head.ensures.same.1 c.drop_head.ensures.limits c.drop_head.ensures.filters c.if-self.false r (c.drop_head.ensures.answers r.e received r.in_hand.answers r.pending is)) in
+    (drops_on cfg old new asking server put received refl refl c.drop_head.ensures.same.1 c.drop_head.ensures.limits c.drop_head.ensures.filters c.if-self.false r (c.drop_head.ensures.answers r.e received r.in_hand.answers r.pending is)) in
     hears_none cfg old new asking server put now saying _ (ap (λ (b : Buffer ℕ). b.items) c.drop_head.ensures.same.0) s
 
 pub returns-clause-between : goal.returns-clause-between

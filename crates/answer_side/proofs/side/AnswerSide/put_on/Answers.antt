@@ -10,6 +10,7 @@ use Rattle.answer_side.specs.declared.side.AnswerSide.{AnswerSide}
 use Rattle.answer_side.proofs.Events.{for_new}
 use Rattle.answer_side.proofs.Bodies.{done_is}
 use Rattle.answer_side.proofs.Resting.{done_rests, last_rests}
+use Rattle.answer_side.proofs.HeardLemmas.{heard_puts}
 use Rattle.answer_side.proofs.Putting.{puts_at, last_shows, last_fits, last_answered, last_waits}
 use Rattle.answer_side.proofs.Answering.{in_hand_at, last_serves}
 use Rattle.answer_side.proofs.Saying.{sends_still}
@@ -31,6 +32,7 @@ returns-then-is_done-clause-leads c = λ cfg asking server put now saying s.
         asks = s.asks;
         for_it = s.for_it;
         at = subst (λ xs. StandsAt old.place cfg (asker_in asking) (answering asking.vars) old.lane server xs now saying) (sym (append-nil put)) s.at;
+        heard = s.heard;
         rests = λ _. done_rests old.place cfg (asker_in asking) (answering asking.vars) old.lane server put now saying c.requires.last (done_is (stage_of old.lane) done) s.at;
       };
       window = sym (append-nil (output_of old.lane));
@@ -55,6 +57,7 @@ returns-clause-leads c = λ cfg asking server put now saying s.
         asks = s.asks;
         for_it = for_new cfg old.lane new c.step.ensures.limits c.step.ensures.filters s.for_it;
         at = at;
+        heard = heard_puts old.heard old.place cfg (asker_in asking) old.lane new server p.put (record { answers = p.answers; ended = c.step.ensures.keeps; last = c.step.ensures.last }) s.heard;
         rests = λ _. last_rests old.place side cfg (asker_in asking) (answering asking.vars) server (put ++ p.put) now saying c.requires.last fits at stage
             (c.step.ensures.no_stall h.0 h.1.answers) (c.step.ensures.nothing_back h.0 h.1.answers);
       };

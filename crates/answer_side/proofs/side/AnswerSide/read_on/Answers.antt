@@ -22,7 +22,7 @@ returns-in-More-clause-leads c = λ cfg asking server put now saying s.
     let h : InHeads cfg old asking server put = in_heads cfg old asking server put now saying c.requires.between.place s in
     let x = c.in-More.ensures.comes h.e h.in_hand.answers (h.in_hand.asked ∙ sym h.asks.head_asked) in
     hears_none cfg old new asking server put now saying heard.More (ap (λ (b : Buffer ℕ). b.items) c.in-More.ensures.same.0) (
-      stands_in cfg new asking server put now saying c.requires.between.place c.requires.between.stirs (stands_by cfg old new asking server put refl c.in-More.ensures.same.1 c.in-More.ensures.limits c.in-More.ensures.filters h x.0),
+      stands_in cfg new asking server put now saying c.requires.between.place c.requires.between.stirs (stands_by cfg old new asking server put refl refl c.in-More.ensures.same.1 c.in-More.ensures.limits c.in-More.ensures.filters (λ e asked a. (c.in-More.ensures.comes e a (asked ∙ sym h.asks.head_asked)).0) h),
       inr (ap is_none x.2, omega (arith, x.3)),
       inr (x.1, x.2, subst (λ (b : Bool). MayWait (response_heads b) (limits_of new.lane) false (input_of new.lane)) h.in_hand.asked x.4),
     )
@@ -64,9 +64,8 @@ returns-in-Refuse-clause-leads c = λ cfg asking server put now saying s.
     let old = c.args.self.now in
     let new : AnswerSide = record old { lane = c.read_head.new.self } in
     let h : InHeads cfg old asking server put = in_heads cfg old asking server put now saying c.requires.between.place s in
-    let x = c.in-Refuse.ensures.comes h.e h.in_hand.answers (h.in_hand.asked ∙ sym h.asks.head_asked) in
     hears_none cfg old new asking server put now saying heard.Refused (ap (λ (b : Buffer ℕ). b.items) c.in-Refuse.ensures.same.0)
-    (stands_in cfg new asking server put now saying c.requires.between.place c.requires.between.stirs (stands_by cfg old new asking server put refl c.in-Refuse.ensures.same.1 c.in-Refuse.ensures.limits c.in-Refuse.ensures.filters h x.0))
+    (stands_in cfg new asking server put now saying c.requires.between.place c.requires.between.stirs (stands_by cfg old new asking server put refl refl c.in-Refuse.ensures.same.1 c.in-Refuse.ensures.limits c.in-Refuse.ensures.filters (λ e asked a. (c.in-Refuse.ensures.comes e a (asked ∙ sym h.asks.head_asked)).0) h))
 
 pub returns-in-Refuse-clause-between : goal.returns-in-Refuse-clause-between
 returns-in-Refuse-clause-between c =
@@ -94,7 +93,7 @@ returns-in-Head-clause-leads c = λ cfg asking server put now saying s.
     let h : InHeads cfg old asking server put = in_heads cfg old asking server put now saying c.requires.between.place s in
     let x = c.in-Head.ensures.comes h.e h.in_hand.answers (h.in_hand.asked ∙ sym h.asks.head_asked) in
     hears_from cfg old mid c.tell_head.new.self asking server put now saying c.tell_head.result (ap (λ (b : Buffer ℕ). b.items) c.in-Head.ensures.same.0)
-    (c.tell_head.ensures.leads cfg asking server put now saying x.0 (is_read cfg old mid asking server put x.0 refl c.in-Head.ensures.same.1 c.in-Head.ensures.limits c.in-Head.ensures.filters h x.1 x.4 x.5) x.3)
+    (c.tell_head.ensures.leads cfg asking server put now saying x.0 (is_read cfg old mid asking server put x.0 refl c.in-Head.ensures.same.1 c.in-Head.ensures.limits c.in-Head.ensures.filters h x.1 c.in-Head.ensures.sound (ap shows_last c.in-Head.ensures.phase ∙ c.requires.between.first) x.2 refl x.4 x.5) x.3)
 
 pub returns-in-Head-clause-less : goal.returns-in-Head-clause-less
 returns-in-Head-clause-less c = λ interim.

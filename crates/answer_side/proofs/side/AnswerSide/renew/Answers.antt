@@ -10,6 +10,7 @@ returns-clause-stands c = λ cfg asked came sent before said old asking server n
       asks = is;
       for_it = record { limits = c.renew.ensures.limits ∙ for.limits; filters = c.renew.ensures.filters _ for.filters };
       at = (fresh true, c.renew.ensures.fresh true, record { put = refl; passed = refl }, refl);
+      heard = tt;
       rests = λ _. tt;
     }
 

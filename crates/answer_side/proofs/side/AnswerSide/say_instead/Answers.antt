@@ -2,11 +2,13 @@ use Rattle.std.proofs.Common.{◌≡◌, ℕ, true, false, refl, sym, ap, subst,
 use Rattle.wire_buf.specs.Buffer.{Buffer}
 use Rattle.http_rules.specs.Lives.{answering}
 use Rattle.session_core.specs.Sided.{asker_in}
+use Rattle.answer_side.specs.HeadsRead.{HeardAt}
 use Rattle.answer_side.specs.Stands.{StandsAt}
 use Rattle.answer_side.specs.Judging.{place_when}
 use Rattle.answer_side.specs.declared.place.Place.{Place}
 use Rattle.answer_side.specs.declared.side.AnswerSide.{AnswerSide}
 use Rattle.answer_side.proofs.Events.{for_new}
+use Rattle.answer_side.proofs.HeardLemmas.{heard_last}
 use Rattle.answer_side.proofs.JudgeLemmas.{instead_stands}
 use Rattle.answer_side.proofs.LastLemmas.{when_last, when_fits, goes_out}
 use Rattle.answer_side.proofs.side.AnswerSide.say_instead.Goals as goal
@@ -29,6 +31,8 @@ returns-clause-leads c = λ cfg asking server put saying now last head body s is
       for_it = for_new cfg old.lane new c.answer.ensures.limits c.answer.ensures.filters s.for_it;
       at = subst (λ (p : Place). StandsAt p cfg (asker_in asking) (answering asking.vars) new server put now saying) (sym c.place_when-self.ensures)
           (instead_stands cfg old new asking server put now saying last head body c.args.replied s spelled told c.answer.ensures.same.1 c.answer.ensures.last (c.answer.ensures.answers s.e head body s.in_hand.answers is));
+      heard = subst (λ (p : Place). HeardAt old.heard p cfg (asker_in asking) new server) (sym c.place_when-self.ensures)
+          (heard_last old.heard (place_when c.args.replied) cfg (asker_in asking) old.lane new server (when_last c.args.replied) c.answer.ensures.same.1 s.heard);
       rests = λ rest. absurd (let both : false ≡ true = rest in cc both);
     }
 

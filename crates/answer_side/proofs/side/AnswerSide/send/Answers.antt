@@ -1,12 +1,14 @@
-use Rattle.std.proofs.Common.{◌≡◌, refl, ap, ◌∙◌, ℕ, true, false}
+use Rattle.std.proofs.Common.{◌≡◌, Bool, refl, sym, ap, ◌∙◌, ℕ, true, false, subst}
 use Rattle.wire_buf.specs.Buffer.{Buffer}
 use Rattle.http_model.specs.Finish.{response_framing}
 use Rattle.session_model.specs.Answering.{finished_response}
 use Rattle.proxy_meaning.specs.Product.{meaning_of, replaces}
 use Rattle.session_core.specs.Sided.{asker_in}
+use Rattle.answer_side.specs.HeadsRead.{ReadBefore}
 use Rattle.answer_side.specs.declared.place.Place.TheVariants as place
 use Rattle.answer_side.specs.declared.side.AnswerSide.{AnswerSide}
 use Rattle.answer_side.proofs.Events.{for_new}
+use Rattle.answer_side.proofs.HeardLemmas.{heard_last}
 use Rattle.answer_side.proofs.JudgeLemmas.{sends_response}
 use Rattle.answer_side.proofs.LastLemmas.{goes_out}
 use Rattle.answer_side.proofs.side.AnswerSide.send.Goals as goal
@@ -28,6 +30,8 @@ returns-clause-leads c = λ cfg asking server put now saying received head f edi
       for_it = for_new cfg old.lane new c.send.ensures.limits c.send.ensures.filters f.read.for_it;
       at = sends_response cfg old new asking server put now received head c.response_framing-framing.result f edited fits framed c.send.ensures.same.1 c.send.ensures.last
           (c.send.ensures.answers f.read.e cfg.res_filters (finished_response (meaning_of cfg) (asker_in asking) received head) f.read.in_hand.answers f.read.for_it.filters blocks);
+      heard = heard_last old.heard place.Response cfg (asker_in asking) old.lane new server refl c.send.ensures.same.1
+          (subst (λ (b : Bool). ReadBefore b cfg (asker_in asking) old.lane server) (sym f.read.is_heard) f.read.has_read);
       rests = λ rest. absurd (let both : false ≡ true = rest in cc both);
     }
 

@@ -17,7 +17,7 @@ returns-then-is_showing-clause-leads c = λ cfg asking server put now saying s.
     let p = c.step.ensures.answers in
     let h : InHeads cfg old asking server put = in_heads cfg old asking server put now saying c.requires.between.place s in
     hears_more cfg old new asking server put p.put now saying heard.More p.window c.requires.between.place c.requires.between.stirs
-    (puts_more cfg old new asking server put p.put refl (record { answers = p.answers; ended = c.step.ensures.keeps; last = c.step.ensures.last }) c.step.ensures.limits c.step.ensures.filters h)
+    (puts_more cfg old new asking server put p.put refl refl (record { answers = p.answers; ended = c.step.ensures.keeps; last = c.step.ensures.last }) c.step.ensures.limits c.step.ensures.filters h)
     (λ stands.
     let sends = c.is_showing.ensures.shows c.if-is_showing.true in
     let goes = c.step.ensures.no_stall h.e h.in_hand.answers sends in
@@ -30,7 +30,7 @@ returns-clause-leads c = λ cfg asking server put now saying s.
     let new : AnswerSide = record old { lane = c.step.new.self } in
     let p = c.step.ensures.answers in
     hears_more cfg old new asking server put p.put now saying heard.Interim p.window c.requires.between.place c.requires.between.stirs
-    (puts_more cfg old new asking server put p.put refl (record { answers = p.answers; ended = c.step.ensures.keeps; last = c.step.ensures.last }) c.step.ensures.limits c.step.ensures.filters
+    (puts_more cfg old new asking server put p.put refl refl (record { answers = p.answers; ended = c.step.ensures.keeps; last = c.step.ensures.last }) c.step.ensures.limits c.step.ensures.filters
     (in_heads cfg old asking server put now saying c.requires.between.place s))
     (λ stands. stands)
 

@@ -7,6 +7,7 @@ use Rattle.session_core.specs.Sided.{asker_in}
 use Rattle.lane.specs.Answering.{ended_of, most_of, input_of}
 use Rattle.answer_side.specs.Seen.{told_at, answered_at}
 use Rattle.answer_side.proofs.Events.{takes_at, for_new, none_of}
+use Rattle.answer_side.proofs.HeardLemmas.{heard_takes}
 use Rattle.answer_side.proofs.Views.{seen_same, room_less, fits_same}
 use Rattle.answer_side.proofs.side.AnswerSide.take_server.Goals as goal
 
@@ -21,6 +22,8 @@ returns-clause-leads c = λ cfg asking server put now saying s.
       for_it = for_new cfg old.lane c.take.new.self c.take.ensures.limits c.take.ensures.filters s.for_it;
       at = takes_at old.place cfg (asker_in asking) (answering asking.vars) old.lane c.take.new.self server put now saying c.args.bytes.now
           (record { answers = c.take.ensures.answers; is_open = none_of (ended_of old.lane) c.requires.open; ended = c.take.ensures.keeps.0; phase = c.take.ensures.keeps.1 }) s.at;
+      heard = heard_takes old.heard old.place cfg (asker_in asking) old.lane c.take.new.self server c.args.bytes.now
+          (record { answers = c.take.ensures.answers; is_open = none_of (ended_of old.lane) c.requires.open; ended = c.take.ensures.keeps.0; phase = c.take.ensures.keeps.1 }) s.heard;
       rests = λ rest. absurd (let both : false ≡ true = rest in cc both);
     }
 

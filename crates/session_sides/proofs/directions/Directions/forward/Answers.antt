@@ -45,6 +45,9 @@ send-requires-clause-head c =
     let f = finishes_for d r framing c.finish_head.result c.requires.read c.finish_head.ensures in
     head_finished d (record d { request = r }) framing c.requires.head (subst (λ (b : Bool). Finishes d (record d { request = r }) framing b) c.if-finish_head.true f)
 
+pub begin-requires-clause-idle : goal.begin-requires-clause-idle
+begin-requires-clause-idle c = c.requires.read.still.silent
+
 pub returns-then-finish_head-clause-asks : goal.returns-then-finish_head-clause-asks
 returns-then-finish_head-clause-asks c =
     let d = c.args.self.now in

@@ -18,12 +18,12 @@ returns-clause-placed c =
     record {
       is_at = record {
         sound = sound_both d a rules e.sound e.size (c.begin_answer.ensures.ready x.is_at.sound.rules) c.begin_answer.ensures.config x.is_at.sound;
-        stand = (sends, ap is_serving (e.place idle));
+        stand = (sends, ap is_serving e.place);
       };
       past = (
         x.past.0,
         record p { server = no_stream },
-        opens x.past.0 d a rules p sends idle (e.place idle) c.begin_answer.ensures.config c.begin_answer.ensures.vars s (e.leads x.past.0 p.asking p.server p.to_client p.now p.saying s.answer idle),
+        opens x.past.0 d a rules p sends idle e.place c.begin_answer.ensures.config c.begin_answer.ensures.vars s (e.leads x.past.0 p.asking p.server p.to_client p.now p.saying s.answer),
       );
     }
 
@@ -31,14 +31,13 @@ pub returns-clause-leads : goal.returns-clause-leads
 returns-clause-leads c = λ cfg p s.
     let e = c.open_server.ensures in
     let stand = c.requires.placed.is_at.stand in
-    opens cfg c.args.self.now c.open_server.new.self c.begin_answer.new.self p stand.0 stand.1 (e.place stand.1) c.begin_answer.ensures.config c.begin_answer.ensures.vars s
-    (e.leads cfg p.asking p.server p.to_client p.now p.saying s.answer stand.1)
+    opens cfg c.args.self.now c.open_server.new.self c.begin_answer.new.self p stand.0 stand.1 e.place c.begin_answer.ensures.config c.begin_answer.ensures.vars s
+    (e.leads cfg p.asking p.server p.to_client p.now p.saying s.answer)
 
 pub returns-clause-answers : goal.returns-clause-answers
 returns-clause-answers c = λ cfg p s none.
     let e = c.open_server.ensures in
-    let idle = c.requires.placed.is_at.stand.1 in
-    c.answers.ensures cfg c.open_server.new.self (record p { server = no_stream }) (e.leads cfg p.asking p.server p.to_client p.now p.saying s.answer idle) (ap is_serving (e.place idle))
+    c.answers.ensures cfg c.open_server.new.self (record p { server = no_stream }) (e.leads cfg p.asking p.server p.to_client p.now p.saying s.answer) (ap is_serving e.place)
 
 pub open_server-requires : goal.open_server-requires
-open_server-requires c = record { sound = c.requires.placed.is_at.sound.answer }
+open_server-requires c = record { sound = c.requires.placed.is_at.sound.answer; idle = c.requires.placed.is_at.stand.1 }

@@ -13,10 +13,10 @@ returns-clause-placed c =
     let x = c.requires.placed in
     let p = x.past.1 in
     let s = x.past.2 in
-    let stands = c.next-2.ensures.leads x.past.0 p.asking p.server p.to_client p.now p.saying s.answer c.requires.answered in
+    let stands = c.next-2.ensures.leads x.past.0 p.asking p.server p.to_client p.now p.saying s.answer in
     record {
       is_at = at_start d r a rules c.next.ensures.sound c.next.ensures.limits c.next-2.ensures.sound c.next-2.ensures.size (c.begin_exchange.ensures.ready x.is_at.sound.rules) c.begin_exchange.ensures.config
-          c.next.ensures.place (c.next-2.ensures.place c.requires.answered) x.is_at.sound;
+          c.next.ensures.place c.next-2.ensures.place x.is_at.sound;
       past = (
         x.past.0,
         renewed_at p (left_of d.request),
@@ -35,7 +35,7 @@ returns-clause-leads c = λ cfg p s was whole sent.
       left = left_of d.request;
       whole = record { came = w.came_is; goes = w.goes };
       stands = renews_now cfg d c.next.new.self c.next-2.new.self c.begin_exchange.new.self p c.next.ensures.leads c.next.ensures.place c.begin_exchange.ensures.config c.begin_exchange.ensures.vars
-          (held_served cfg d p x.is_at.stand.0 x.is_at.stand.1 c.requires.answered s) s (c.next-2.ensures.leads cfg p.asking p.server p.to_client p.now p.saying s.answer c.requires.answered);
+          (held_served cfg d p x.is_at.stand.0 x.is_at.stand.1 c.requires.answered s) s (c.next-2.ensures.leads cfg p.asking p.server p.to_client p.now p.saying s.answer);
     }
 
 pub next-requires-clause-sound : goal.next-requires-clause-sound
@@ -45,4 +45,4 @@ pub next-requires-clause-busy : goal.next-requires-clause-busy
 next-requires-clause-busy c = busy_sending (place_of c.args.self.now.request) c.requires.placed.is_at.stand.0
 
 pub next-requires-2 : goal.next-requires-2
-next-requires-2 c = record { sound = c.requires.placed.is_at.sound.answer }
+next-requires-2 c = record { sound = c.requires.placed.is_at.sound.answer; answered = c.requires.answered }

@@ -12,8 +12,7 @@ returns-clause-placed c = λ at says x.
     let e = c.say.ensures in
     let p = x.past.1 in
     let s = x.past.2 in
-    let is = says_at at (requests.place_of d.request) (place_of d.answer) says x.is_at.stand in
-    let m = e.leads x.past.0 p.asking p.server p.to_client p.now p.saying s.answer is in
+    let m = e.leads x.past.0 p.asking p.server p.to_client p.now p.saying s.answer in
     record {
       is_at = at_answer d a at e.sound e.size e.place x.is_at;
       past = (x.past.0, record p { to_client = p.to_client ++ m.put; saying = m.left }, stands_answer x.past.0 d a p p.server (p.to_client ++ m.put) m.left e.place s m.stands);
@@ -25,8 +24,7 @@ returns-clause-leads c = λ cfg p s.
     let a = c.say.new.self in
     let e = c.say.ensures in
     let x = c.requires.placed.2 in
-    let is = says_at c.requires.placed.0 (requests.place_of d.request) (place_of d.answer) c.requires.placed.1 x.is_at.stand in
-    let m = e.leads cfg p.asking p.server p.to_client p.now p.saying s.answer is in
+    let m = e.leads cfg p.asking p.server p.to_client p.now p.saying s.answer in
     record {
       put = m.put;
       left = m.left;
@@ -41,8 +39,10 @@ returns-clause-waits c =
     let d = c.args.self.now in
     let x = c.requires.placed.2 in
     let p = x.past.1 in
-    let is = says_at c.requires.placed.0 (requests.place_of d.request) (place_of d.answer) c.requires.placed.1 x.is_at.stand in
-    (c.say.ensures.leads x.past.0 p.asking p.server p.to_client p.now p.saying x.past.2.answer is).waits
+    (c.say.ensures.leads x.past.0 p.asking p.server p.to_client p.now p.saying x.past.2.answer).waits
 
 pub say-requires : goal.say-requires
-say-requires c = record { sound = c.requires.placed.2.is_at.sound.answer }
+say-requires c =
+    let d = c.args.self.now in
+    let x = c.requires.placed.2 in
+    record { sound = x.is_at.sound.answer; says = says_at c.requires.placed.0 (requests.place_of d.request) (place_of d.answer) c.requires.placed.1 x.is_at.stand }

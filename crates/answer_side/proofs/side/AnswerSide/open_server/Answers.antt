@@ -10,7 +10,7 @@ use Rattle.answer_side.specs.declared.place.Place.{Place}
 use Rattle.answer_side.specs.declared.place.Place.TheVariants as place
 use Rattle.answer_side.proofs.Events.{for_new, none_sent}
 use Rattle.answer_side.proofs.Views.{at_place}
-use Rattle.answer_side.proofs.side.AnswerSide.begin_heads.Goals as goal
+use Rattle.answer_side.proofs.side.AnswerSide.open_server.Goals as goal
 
 pub restart-requires-clause-rests : goal.restart-requires-clause-rests
 restart-requires-clause-rests c = inr ((at_place place.Idle c.args.self.now c.requires.idle c.requires.sound.at).0)
@@ -34,6 +34,15 @@ returns-clause-leads c = λ cfg asking server put now saying s.
         },
         refl,
       );
+      heard = record {
+        e = fresh (asker_in asking).head_asked;
+        answers = c.restart.ensures.answers (asker_in asking).head_asked;
+        asked = refl;
+        bytes = refl;
+        ending = c.restart.ensures.open;
+        read = refl;
+        passed = refl;
+      };
       rests = λ rest. absurd (let both : false ≡ true = rest in cc both);
     }
 

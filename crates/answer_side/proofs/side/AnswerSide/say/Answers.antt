@@ -8,9 +8,10 @@ use Rattle.answer_side.specs.Stands.{StandsAt, RestsAt}
 use Rattle.answer_side.specs.declared.place.Place.{Place}
 use Rattle.answer_side.specs.declared.place.Place.TheVariants as place
 use Rattle.answer_side.proofs.Events.{for_new}
+use Rattle.answer_side.proofs.HeardLemmas.{heard_puts}
 use Rattle.answer_side.proofs.Saying.{says, says_nothing, waits_for, sends_still, says_at}
 use Rattle.answer_side.proofs.Views.{at_place, last_stage}
-use Rattle.answer_side.proofs.side.AnswerSide.say_on.Goals as goal
+use Rattle.answer_side.proofs.side.AnswerSide.say.Goals as goal
 
 pub step-requires-clause-sending : goal.step-requires-clause-sending
 step-requires-clause-sending c =
@@ -31,6 +32,7 @@ returns-then-is_done-clause-leads c = λ cfg asking server put now saying s.
         asks = s.asks;
         for_it = s.for_it;
         at = subst (λ (p : Place). StandsAt p cfg (asker_in asking) (answering asking.vars) old.lane server (put ++ []) now saying) (sym c.requires.says) (at.0, at.1, at.2, at.3);
+        heard = s.heard;
         rests = s.rests;
       };
       said = refl;
@@ -57,6 +59,7 @@ returns-clause-leads c = λ cfg asking server put now saying s.
         asks = s.asks;
         for_it = for_new cfg old.lane new c.step.ensures.limits c.step.ensures.filters s.for_it;
         at = subst (λ (pl : Place). StandsAt pl cfg (asker_in asking) (answering asking.vars) new server (put ++ p.put) now g.left) (sym c.requires.says) (with_put at.0 p.put, a, shows, g.is_said);
+        heard = heard_puts old.heard old.place cfg (asker_in asking) old.lane new server p.put (record { answers = p.answers; ended = c.step.ensures.keeps; last = c.step.ensures.last }) s.heard;
         rests = λ _. subst (λ (pl : Place). RestsAt pl (asker_in asking).head_asked new) (sym c.requires.says) tt;
       };
       said = g.said;
