@@ -3,10 +3,9 @@ use Rattle.std.proofs.Common.{◌≡◌, ◌≢◌, inl, inr, ℕ, ◌+◌, List
 use Rattle.std.proofs.lemmas.List.{append-nil}
 use Rattle.http_model.specs.declared.Limits.{Limits}
 use Rattle.http_model.specs.Head.{Head}
-use Rattle.http_model.specs.Reading.{Received, HeadReading, Begins, Refused, Nothing}
+use Rattle.http_model.specs.Reading.{Received, Begins, Refused, Nothing}
 use Rattle.h1_head.specs.Decides.{MayWait}
 use Rattle.h1_head.specs.Kind.{response_heads}
-use Rattle.h1_head.specs.Response.{ResponseOf}
 use Rattle.px_sample.specs.Variables.{Variables}
 use Rattle.http_rules.specs.declared.config.Config.{Config}
 use Rattle.session_model.specs.Asking.{Asker}
@@ -20,13 +19,12 @@ use Rattle.lane.specs.declared.phase.Phase.TheVariants as phase
 use Rattle.lane.specs.declared.response_lane.ResponseLane.{ResponseLane}
 use Rattle.lane.proofs.ComeLemmas.{AtReading, at_reading}
 use Rattle.answer_side.specs.Stands.{IsFor, AnswerStands, IsSoundSide, FitsAt, HeadRests, RestsAt, is_serving}
-use Rattle.answer_side.specs.HeadsRead.{BeginsWithHead, BeginsWithNone, HeadBegins, HasRead, ReadsNone, IsUnread, HeardAt}
+use Rattle.answer_side.specs.HeadsRead.{BeginsWithHead, BeginsWithNone, HeadBegins, ReadsNone, IsUnread, HeardAt}
 use Rattle.answer_side.specs.declared.place.Place.{Place}
 use Rattle.answer_side.specs.declared.place.Place.TheVariants as place
 use Rattle.answer_side.specs.declared.side.AnswerSide.{AnswerSide}
 use Rattle.answer_side.proofs.HeardLemmas.{all_left}
 use Rattle.answer_side.proofs.RestLaws.{OneReading, waits_behind, none_begins}
-use Rattle.answer_side.proofs.Views.{at_place}
 
 -- ---- a head was read
 

@@ -25,7 +25,6 @@ use Rattle.session_model.specs.Session.{interim_text}
 use Rattle.session_core.specs.History.{Coming}
 use Rattle.session_core.specs.Sided.{Asking, asker_in}
 use Rattle.session_core.specs.declared.Told.TheVariants as told
-use Rattle.lane_core.specs.Sent.{Cut}
 use Rattle.lane_core.specs.declared.stage.Source.{Source}
 use Rattle.lane_core.specs.declared.stage.Source.TheVariants as source
 use Rattle.lane_core.specs.declared.stage.Stage.TheVariants as stage

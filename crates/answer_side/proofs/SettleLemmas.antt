@@ -1,8 +1,7 @@
 -- A server's stream answers one last, however it goes on.
-use Rattle.std.proofs.Common.{◌≡◌, ◌≢◌, ◌⊎◌, inl, inr, ℕ, List, ◌++◌, Bool, true, false, refl, sym, ◌∙◌, subst}
+use Rattle.std.proofs.Common.{◌≡◌, ◌⊎◌, inl, inr, ℕ, List, ◌++◌, Bool, true, refl, sym, ◌∙◌, subst}
 use Rattle.std.specs.Prelude.{Option, Some, is_some}
 use Rattle.http_model.specs.declared.Ending.{Ending}
-use Rattle.http_model.specs.declared.Limits.{Limits}
 use Rattle.http_model.specs.Reading.{Received, HeadReading, Begins, Refused, Nothing}
 use Rattle.px_sample.specs.Variables.{Variables}
 use Rattle.http_rules.specs.declared.config.Config.{Config}
@@ -16,10 +15,7 @@ use Rattle.session_core.specs.History.{Coming}
 use Rattle.session_core.specs.Sided.{Asking, asker_in}
 use Rattle.lane_core.specs.declared.stage.Stage.{Stage}
 use Rattle.lane_core.specs.declared.stage.Stage.TheVariants as stage
-use Rattle.lane.specs.Answering.{Exchange, Answers, AnswersAt, HeadsAt, HeadsCame, Reads, IsSoundAnswer, IsSoundAt, phase_of, stage_of, shows_last}
-use Rattle.lane.specs.declared.phase.Phase.{Phase}
-use Rattle.lane.specs.declared.phase.Phase.TheVariants as phase
-use Rattle.lane.specs.declared.response_lane.ResponseLane.{ResponseLane}
+use Rattle.lane.specs.Answering.{Exchange, HeadsAt, HeadsCame, Reads, stage_of}
 use Rattle.answer_side.specs.Stands.{IsAsker, IsFor, IsInHand}
 use Rattle.answer_side.specs.HeadsRead.{ReadBefore}
 use Rattle.answer_side.specs.Hearing.{IsBetween, FinalHead}

@@ -29,7 +29,6 @@ use Rattle.request_side.specs.declared.side.RequestSide.{RequestSide}
 use Rattle.answer_side.specs.Seen as answers
 use Rattle.answer_side.specs.Stands.{AnswerStands, IsAsker, IsSoundSide}
 use Rattle.answer_side.specs.declared.asker.Asker.{Asker}
-use Rattle.answer_side.specs.declared.place.Place.TheVariants as answered
 use Rattle.answer_side.specs.declared.side.AnswerSide.{AnswerSide}
 use Rattle.session_sides.specs.Joined.{IsAt, settings_of, request_of, answer_of}
 use Rattle.session_sides.specs.Asks.{HasRead, FinishesHead, asker_for, fits_in}

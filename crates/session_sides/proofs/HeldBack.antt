@@ -1,14 +1,14 @@
 -- Behind a call of work nothing is held back.
-use Rattle.std.proofs.Common.{◌≡◌, ◌⊎◌, inl, inr, Bool, true, false, [], List, ℕ, Option, None, sym, ap, ◌∙◌, subst, refl}
+use Rattle.std.proofs.Common.{◌≡◌, ◌⊎◌, inl, inr, Bool, true, false, List, ℕ, Option, None, sym, ap, ◌∙◌, subst, refl}
 use Rattle.px_sample.specs.Variables.{Variables}
 use Rattle.http_rules.specs.declared.config.Config.{Config}
 use Rattle.http_rules.specs.Lives.{answering}
 use Rattle.proxy_meaning.specs.Product.{meaning_of}
 use Rattle.session_model.specs.Stream.{Stream}
-use Rattle.session_core.specs.History.{Past, Coming, Connect, Continues}
+use Rattle.session_core.specs.History.{Past, Coming, Continues}
 use Rattle.session_core.specs.InHand.{ReadsInHand, ServesInHand}
 use Rattle.session_core.specs.Place.{IsPlaced, place_serving, Serves, Reads}
-use Rattle.session_core.specs.Sided.{Asking, asker_in, RequestAsks, IsUncut}
+use Rattle.session_core.specs.Sided.{asker_in, RequestAsks, IsUncut}
 use Rattle.session_core.specs.Stands.{Serves as ServesSo}
 use Rattle.session_core.specs.Waits.{Settled, RequestWaits, AnswerWaitsAt, is_turned}
 use Rattle.session_core.specs.declared.Phase.{Phase}

@@ -6,7 +6,7 @@ use Rattle.session_sides.specs.declared.directions.Directions.{Directions}
 use Rattle.session_sides.specs.contracts.directions.Directions.{the_row}
 use Rattle.std.specs.Borrow.{Lends, MutBor, Fml, Array, u8}
 use mir.Syntax.{named}
-use Rattle.std.proofs.Common.{◌≡◌, ℕ, List, [], ◌++◌, length, take, drop, ap, ◌∙◌, append-nil, arith}
+use Rattle.std.proofs.Common.{◌≡◌, ℕ, List, [], ◌++◌, length, take, ap, ◌∙◌, append-nil, arith}
 use Rattle.std.specs.List.{refill}
 use Rattle.std.proofs.Math.Seq.{drop-length}
 use Rattle.std.proofs.lemmas.List.{take_all}
