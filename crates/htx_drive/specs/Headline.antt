@@ -10,6 +10,7 @@ use Rattle.session_core.specs.History as history
 use Rattle.session_core.specs.History.{sent_of}
 use Rattle.px_link.specs.Link.{Seen, closed_by}
 use Rattle.px_link.specs.Net.{Place, Coming, NetSeen, Kept}
+use Rattle.htx_drive.specs.Came.{Came}
 use Rattle.htx_drive.specs.Driven.{IsOver}
 use Rattle.htx_drive.specs.Dialled.{CountsRefused, Dial, Told, Dialled}
 use Rattle.htx_drive.specs.declared.Ran.{Ran}
@@ -31,8 +32,10 @@ IsServerOf d (Open stream stopped) =
     × (coming : Coming) × (d.answers ≡ Some coming ∷ d.left) × (stream ≡ stream_of d.connect.stream coming.bytes coming.ending)
 
 pub record IsSessionOf {L : Type 0} (M : Meaning) (seen : L → Seen) (wrote : L → List ℕ → Type 0) (first client : L) (to : Place) (first_net net : NetSeen) (ran : Ran) (own : List ℕ) (ending : Ending) (answers : List (Option Coming)) (ks : List Kept) : Type 0 where
-  -- the client's stream; over a plain link it is the link's own
+  -- what was read of the client, and how it ended: broken off only by a read that failed. Its stream is the link's own, or where a read
+  -- failed what came before; over a plain link it is the link's own
   pub came : history.Coming
+  pub read_client : Came (seen first) (seen client) came
   pub plain : (seen first).plain ≡ true → stream_of came own ending ≡ record { bytes = own; ending = ending }
   -- the connects of the call, and the servers that they found
   pub connects : List history.Connect

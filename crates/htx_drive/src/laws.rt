@@ -27,8 +27,8 @@ pub fn bytes_bound_requests<C: Machine>()
     ensures { (cfg : C.Settings) (bytes : List ℕ) → IsBounded (C.meaning cfg) → IsTotal (C.meaning cfg) → HasRequests (C.meaning cfg) bytes (length bytes) }
 {}
 
-/// Over a link and a net that are told, a session that ended is the session of the client's own stream and of the servers that the
-/// connects found.
+/// Over a link and a net that are told, a session that ended is the session of the client's own stream, or where a read of the client
+/// failed of the bytes that were read before, broken off, and of the servers that the connects found.
 pub fn ran_is_the_session<C: Machine, L: Link, N: Net<Link = L>>()
     ensures { (cfg : C.Settings) (core : C) (first client : L) (to : Place) (first_net net : N) (ran : Ran) (own : List ℕ) (ending : Ending) (answers : List (Option Coming)) (kept : List Kept)
         → (L.seen first).to_come ≡ Some own → (L.seen first).ending ≡ Some ending → (N.seen first_net).answers ≡ Some answers → (N.seen first_net).kept ≡ Some kept

@@ -29,8 +29,8 @@ pub record LeftOff {L : Type 0} (M : Meaning) (seen : L → Seen) (wrote : L →
   pub spent : fault ≡ faults.Spent → budget ≤ moved past
   pub spent_in_turns : fault ≡ faults.Spent → LedInAtLeast budget past
 
--- where a link and a net tell what comes and what goes, the session that ran over them is that of the client's stream and of the servers that its
--- connects found
+-- where a link and a net tell what comes and what goes, the session that ran over them is that of the client's stream, or where a read of the
+-- client failed of what came before, and of the servers that its connects found
 abbrev pub IsSessionIfTold : {L : Type 0} (M : Meaning) (seen : L → Seen) (wrote : L → List ℕ → Type 0) (first client : L) (to : Place) (first_net net : NetSeen) → Ran → Type 0
 IsSessionIfTold M seen wrote first client to first_net net ran =
     (own : List ℕ) (ending : Ending) (answers : List (Option Coming)) (kept : List Kept)

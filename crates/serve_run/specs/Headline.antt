@@ -6,8 +6,8 @@ use Rattle.px_link.specs.Net.{Place, Coming, Kept, NetSeen, Keeps, new_link}
 use Rattle.htx_drive.specs.Headline.{IsSessionOf}
 use Rattle.htx_drive.specs.declared.Ran.{Ran}
 
--- This link was accepted; what it and its servers were sent is the session of its stream and of the servers that the connects found, which
--- ran so; and then the link was kept.
+-- This link was accepted; what it and its servers were sent is the session of its stream, or where a read of it failed of what came before, and
+-- of the servers that the connects found, which ran so; and then the link was kept.
 pub record ServedSession {L N : Type 0} (M : Meaning) (seen : L → Seen) (wrote : L → List ℕ → Type 0) (net_seen : N → NetSeen) (to : Place) (link : Coming) (answers : List (Option Coming)) (kept : List Kept) (after : N) (ran : Ran) : Type 0 where
   pub first : L
   pub client : L

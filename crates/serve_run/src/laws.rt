@@ -10,8 +10,9 @@ use htx_drive::Machine;
 use htx_drive::laws::ran_is_the_session;
 use px_link::Net;
 
-/// A connection that the driver served to its end is the session of the accepted link's own stream and of the servers that the connects
-/// found, with the end and the number of exchanges that its line says.
+/// A connection that the driver served to its end is the session of the accepted link's own stream, or where a read of it failed of the
+/// bytes that were read before, broken off, and of the servers that the connects found, with the end and the number of exchanges that
+/// its line says.
 pub fn a_line_is_its_session<C: Machine, N: Net>()
     ensures { (cfg : C.Settings) (to : Place) (before after : N) (ran : Ran) (link : Coming) (later : List Coming) (answers : List (Option Coming)) (kept : List Kept)
         → Connection N.Link.seen N.Link.wrote N.seen (λ first client first_net net result. Drove C.meaning C.stands C.seen N.Link.seen N.Link.wrote cfg to first client (N.seen first_net) (N.seen net) result) to before after (Ok ran)

@@ -9,6 +9,7 @@ returns g c = λ cfg core first client to first_net net ran own ending answers k
     let f = found _ t.dials r.past.connects t.connects t.each in
     record {
       came = r.past.client;
+      read_client = r.came;
       plain = plain_stream (g.L.Link.seen first) (g.L.Link.seen client) r.past.client own ending told_own told_ending r.came;
       connects = r.past.connects;
       told = t;
