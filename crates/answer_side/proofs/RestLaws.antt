@@ -120,7 +120,7 @@ same_rest got other rest more both = cc
 
 -- where no head stands, none begins
 pub none_begins : (asked : Bool) (limits : Limits) (bytes left : List ℕ) (got : Received) (rest : List ℕ) → bytes ≡ left → MayWait (response_heads asked) limits false left → ResponseOf asked limits bytes (Begins got rest) → ⊥
-none_begins asked limits bytes left got rest is w r = w.no_head r.0 rest (subst (λ (b : List ℕ). (response_heads asked).Reads (behind b) r.0 rest) is r.1.reads)
+none_begins asked limits bytes left got rest is w r = w.no_head r.0 rest (subst (λ (b : List ℕ). (response_heads asked).Parses (behind b) r.0 rest) is r.1.reads.0)
 
 -- behind the interim heads that came there is one place
 one_place : OneReading → (asked : Bool) (limits : Limits) (heads others : List Head) (bytes left place_ : List ℕ) → BeginsWithInterim asked limits heads bytes (λ rest. rest ≡ left) → BeginsWithInterim asked limits others bytes (λ rest. rest ≡ place_)

@@ -100,6 +100,8 @@ rows limits h =
 
 pub requests_are_lawful : IsLawful request_heads
 requests_are_lawful = record {
+  parses = λ text h rest read. read;
+  reads = λ text other h rest left parses read. parses;
   unique = request_unique;
   append = ReadsRequest-append;
   within = λ text more h rest reads long. (reads.0, front_in text more (print_request h) rest reads.1 long);

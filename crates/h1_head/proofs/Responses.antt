@@ -98,14 +98,16 @@ rows asked limits h =
 
 pub responses_are_lawful : (asked : Bool) → IsLawful (response_heads asked)
 responses_are_lawful asked = record {
-  unique = λ text h k r q a b. response_unique text h k r q a.0 b.0;
-  append = λ text h rest more reads. (ReadsResponse-append text h rest more reads.0, reads.1);
-  within = λ text more h rest reads long. ((reads.0.0, front_in text more (print_response h) rest reads.0.1 long), reads.1);
-  lines = λ text more h rest reads. lines text more h rest reads.0;
-  least = λ text h rest reads. least text h rest reads.0;
-  shorter = λ text h rest reads. shorter text h rest reads.0;
-  full = λ text h rest reads. full text h rest reads.0;
-  unled = λ text h rest reads. response_unled text h rest reads.0;
+  parses = λ text h rest read. read.0;
+  reads = λ text other h rest left parses read. (parses, read.1);
+  unique = response_unique;
+  append = ReadsResponse-append;
+  lines = lines;
+  least = least;
+  within = λ text more h rest reads long. (reads.0, front_in text more (print_response h) rest reads.1 long);
+  shorter = shorter;
+  full = full;
+  unled = response_unled;
   codes_same = refl;
   rows = rows asked;
 }

@@ -47,7 +47,7 @@ goes_on window text more is same some other =
 -- a text that begins with a head has two bytes at least
 not_short : (K : HeadKind) → IsLawful K → (limits : Limits) (text short : List ℕ) (h : K.Tree) (rest : List ℕ) → length short ≤ 1 → BeginsWith K limits text h rest → text ≢ short
 not_short K laws limits text short h rest one b e =
-    no_short_head K laws text (let P : List ℕ → Type 0 = λ bytes. length bytes ≤ 1 in subst P (sym e) one) h rest b.reads
+    no_short_head K laws text (let P : List ℕ → Type 0 = λ bytes. length bytes ≤ 1 in subst P (sym e) one) h rest (laws.parses text h rest b.reads)
 
 begins_on : (K : HeadKind) → IsLawful K → (limits : Limits) (stream more : List ℕ) (h : K.Tree) (rest : List ℕ) → BeginsWith K limits (behind stream) h rest → BeginsWith K limits (behind (stream ++ more)) h (rest ++ more)
 begins_on K laws limits stream more h rest b =
@@ -104,7 +104,7 @@ pub hopeless_whole : (K : HeadKind) → IsLawful K → (limits : Limits) (text :
 hopeless_whole K laws limits text same some none more ends =
     let is : text ++ more ≡ text = ap (λ m. text ++ m) (ends refl) ∙ append-nil text in record {
       some = λ e. some (sym same ∙ sym (ap behind is) ∙ e);
-      none = λ h rest b. none h rest (subst (λ (bytes : List ℕ). K.Reads bytes h rest) (ap behind is ∙ same) b.reads);
+      none = λ h rest b. none h rest (laws.parses text h rest (subst (λ (bytes : List ℕ). K.Reads bytes h rest) (ap behind is ∙ same) b.reads));
     }
 
 pub hopeless_long : (K : HeadKind) → IsLawful K → (limits : Limits) (whole : Bool) (text : List ℕ) → behind text ≡ text → text ≢ [] → text ≢ 13 ∷ [] → HasNone K text
@@ -178,7 +178,7 @@ waits_short K laws limits whole window text size is short few unless =
 same_decision : (K : HeadKind) → IsLawful K → (limits : Limits) (text : List ℕ) (h k : K.Tree) (r q : List ℕ) → BeginsWith K limits text h r → BeginsWith K limits text k q
     → (K.decides limits h ≡ K.decides limits k) × (r ≡ q)
 same_decision K laws limits text h k r q a b =
-    let same = laws.unique text h k r q a.reads b.reads in
+    let same = laws.unique text h k r q (laws.parses text h r a.reads) (laws.parses text k q b.reads) in
     (ap (λ x. K.decides limits x) same.0, same.1)
 
 never_empty : (K : HeadKind) → IsLawful K → (limits : Limits) (text : List ℕ) (h : K.Tree) (r : List ℕ) → text ≡ [] → BeginsWith K limits text h r → ⊥

@@ -45,16 +45,20 @@ may_wait : (K : HeadKind) → IsLawful K → (limits : Limits) (window text more
 may_wait K laws limits window text more h rest is none b =
     let size : K.size h ≤ limits.bufsize = b.short in
     let few : K.count h ≤ most_fields = b.few in
+    let parses = laws.parses (text ++ more) h rest b.reads in
     let past : length text < K.size h =
     elim (cases_lt (length text) (K.size h)) [
       | inl short ↦ short
-      | inr long ↦ absurd (none h (drop (K.size h) text) (record { reads = laws.within text more h rest b.reads long; unled = b.unled; short = b.short; few = b.few }))
+      | inr long ↦
+          let read = laws.reads text (text ++ more) h (drop (K.size h) text) rest (laws.within text more h rest parses long) b.reads in
+          absurd (none h (drop (K.size h) text) (record { reads = read; unled = b.unled; short = b.short; few = b.few }))
     ]
     in
-    let fewer : feeds text < 2 + K.count h = laws.lines text more h rest b.reads b.unled past in
-    let no_head : HasNone K text = λ k r reads.
-    let same = laws.unique (text ++ more) k h (r ++ more) rest (laws.append text k r more reads) b.reads in
-    none h r (record { reads = subst (λ (t : K.Tree). K.Reads text t r) same.0 reads; unled = b.unled; short = b.short; few = b.few })
+    let fewer : feeds text < 2 + K.count h = laws.lines text more h rest parses b.unled past in
+    let no_head : HasNone K text = λ k r front.
+    let same = laws.unique (text ++ more) k h (r ++ more) rest (laws.append text k r more front) parses in
+    let read = laws.reads text (text ++ more) h r rest (subst (λ (t : K.Tree). K.Parses text t r) same.0 front) b.reads in
+    none h r (record { reads = read; unled = b.unled; short = b.short; few = b.few })
     in
     record {
       ended = λ e. absurd (cc);
@@ -104,6 +108,6 @@ behind_short (a ∷ b ∷ bytes) =
 
 pub has_bytes : (K : HeadKind) → IsLawful K → (limits : Limits) (stream : List ℕ) (got : Received) (rest : List ℕ) → HeadOf K limits stream (Begins got rest) → length rest < length stream
 has_bytes K laws limits stream got rest r =
-    let shorter : length rest < length (behind stream) = laws.shorter (behind stream) r.0 rest r.1.reads in
+    let shorter : length rest < length (behind stream) = laws.shorter (behind stream) r.0 rest (laws.parses (behind stream) r.0 rest r.1.reads) in
     let all = behind_short stream in
     omega arith

@@ -46,13 +46,13 @@ count_on (b ∷ more) none =
     or_second false y e = e
 
 no_head_on : (K : HeadKind) → IsLawful K → (w more : List ℕ) → behind (w ++ more) ≡ w ++ more → HasNone K w → list_any is_line_feed more ≡ false → HasNone K (w ++ more)
-no_head_on K laws w more alone no_head none h rest reads =
-    let blank = laws.unled (w ++ more) h rest reads alone in
+no_head_on K laws w more alone no_head none h rest parses =
+    let blank = laws.unled (w ++ more) h rest parses alone in
     elim (cases_lt (length w) (K.size h)) [
-      | inr long ↦ no_head h _ (laws.within w more h rest reads long)
+      | inr long ↦ no_head h _ (laws.within w more h rest parses long)
       | inl short ↦
-          let fewer : feeds w < 2 + K.count h = laws.lines w more h rest reads blank short in
-          let all : 2 + K.count h ≤ feeds (w ++ more) = laws.full (w ++ more) h rest reads blank in
+          let fewer : feeds w < 2 + K.count h = laws.lines w more h rest parses blank short in
+          let all : 2 + K.count h ≤ feeds (w ++ more) = laws.full (w ++ more) h rest parses blank in
           let sum : feeds (w ++ more) ≡ feeds w + feeds more = feeds-append w more in
           let no_more : feeds more ≡ 0 = count_on more none in
           absurd (omega arith)

@@ -15,8 +15,9 @@ OnEachStream whole P = (more : List ℕ) → (whole ≡ true → more ≡ []) �
 abbrev pub is_line_feed : ℕ → Bool
 is_line_feed b = b == 10
 
--- where a reader may ask for more of the stream: no head of the grammar stands in the window, whatever its size, and
--- one within the limits may still come. Where the stream has ended there are empty lines alone.
+-- Where a reader may ask for more of the stream: behind the empty lines stands nothing that the grammar parses, whatever
+-- its size and its status, and there are fewer bytes and line feeds than a head may have. Where the stream has ended there
+-- are empty lines alone.
 pub record MayWait (K : HeadKind) (limits : Limits) (whole : Bool) (window : List ℕ) : Type 0 where
   pub ended : whole ≡ true → behind window ≡ []
   pub no_head : HasNone K (behind window)

@@ -5,7 +5,7 @@ use Rattle.h1_head.specs.Kind.{HeadKind}
 use Rattle.h1_head.specs.Stream.{behind}
 use Rattle.h1_head.specs.Decides.{MayWait}
 
--- so many bytes at the front of the window begin with no empty line and hold no head, and one may still come of them
+-- so many bytes at the front of the window begin with no empty line, and more may be asked for behind them
 pub record IsScanned (K : HeadKind) (limits : Limits) (window : List ℕ) (scanned : ℕ) : Type 0 where
   pub within : scanned ≤ length window
   pub alone : behind (take scanned window) ≡ take scanned window

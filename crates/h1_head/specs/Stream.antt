@@ -21,9 +21,9 @@ pub record BeginsWith (K : HeadKind) (limits : Limits) (bytes : List ℕ) (h : K
   pub short : K.size h ≤ limits.bufsize
   pub few : K.count h ≤ most_fields
 
--- no front of the bytes is a head, whatever its size
+-- the grammar parses no front of the bytes, whatever its size and its status
 abbrev pub HasNone : HeadKind → List ℕ → Type 0
-HasNone K bytes = (h : K.Tree) (rest : List ℕ) → ¬ (K.Reads bytes h rest)
+HasNone K bytes = (h : K.Tree) (rest : List ℕ) → ¬ (K.Parses bytes h rest)
 
 -- no front of the bytes is a head within the limits
 abbrev pub HasNoHead : HeadKind → Limits → List ℕ → Type 0

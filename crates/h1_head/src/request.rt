@@ -161,7 +161,8 @@ pub fn read_request(window: &[u8], whole: bool, limits: Limits, to: &mut Arena) 
     requires empty { to.old.blocks ≡ [] }
     requires size { to.old.size ≡ limits.bufsize }
 
-    // More is asked for only where it may help, and what may be skipped is the empty lines in front.
+    // More is asked for only where the grammar parses nothing and a head has room, and what may be skipped is the empty lines
+    // in front.
     ensures skip { IfMore result (λ skip. skip ≤ length window.now) }
     ensures lines { IfMore result (λ skip. drop skip window.now ≡ behind window.now) }
     ensures waits { IfMore result (λ _. MayWait request_heads limits whole window.now) }

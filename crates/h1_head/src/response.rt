@@ -185,7 +185,8 @@ pub fn read_response(
     requires empty { to.old.blocks ≡ [] }
     requires size { to.old.size ≡ limits.bufsize }
 
-    // More is asked for only where it may help, and what may be skipped is the empty lines in front.
+    // More is asked for only where the grammar parses nothing and a head has room, and what may be skipped is the empty lines
+    // in front.
     ensures skip { IfMore result (λ skip. skip ≤ length window.now) }
     ensures lines { IfMore result (λ skip. drop skip window.now ≡ behind window.now) }
     ensures waits { IfMore result (λ _. MayWait (response_heads head_asked) limits whole window.now) }

@@ -13,7 +13,7 @@ pub record IsStill (lane : RequestLane) : Type 0 where
   pub no_cut : (output_of lane ≡ []) ⊎ (is_dropping lane ≡ true) → Rests lane
   pub nothing_back : output_of lane ≡ [] → is_dropping lane ≡ false → HoldsNothingBack lane
 
--- the client's stream hasn't ended, and no head stands in the input window, though one may still come
+-- the client's stream hasn't ended, and no head stands in the input window, which allows More
 pub record WaitsForHead (lane : RequestLane) : Type 0 where
   pub ended : ended_of lane ≡ None
   pub waits : MayWait request_heads (limits_of lane) false (input_of lane)

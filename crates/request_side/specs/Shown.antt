@@ -48,7 +48,7 @@ pub record PutsAll (cfg : Config) (came : Coming) (asking : Asking Variables) (t
   pub ended : left.ending ≡ None
   pub spelled : (read : BodyRead) → ReadsSoFar cfg asking left read → SpellsAs (message_to cfg asking) (filtered cfg.req_filters false (body_in read)).output Cut to_server
 
--- No head of the next request came: the client's stream hasn't ended, and none stands behind its empty lines, though one may still come.
+-- No head of the next request came: the client's stream hasn't ended, and none stands behind its empty lines, where more may be asked for.
 pub record NoHeadCame (cfg : Config) (came : Coming) : Type 0 where
   pub ended : came.ending ≡ None
   pub waits : MayWait request_heads cfg.limits false came.bytes

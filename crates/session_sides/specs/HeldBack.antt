@@ -45,7 +45,7 @@ pub record IsSentSoFar (cfg : Config) (window : List ℕ) (past : Past) : Type 0
   pub puts : PutsAll cfg served.in_hand.came served.asking (served.connect.taken ++ window)
 
 -- The answer hasn't begun: all interim heads that came were put out, as this client is sent them, the server's stream goes on, and what follows
--- them is no head, though one may still come.
+-- them is no head and allows More.
 pub record AwaitsAnswer (cfg : Config) (window : List ℕ) (past : Past) : Type 0 where
   pub served : IsServed cfg past
   pub put : List ℕ
@@ -60,7 +60,7 @@ pub record IsAnsweredSoFar (cfg : Config) (window : List ℕ) (past : Past) : Ty
   pub now : Variables
   pub puts : PutsOutBody cfg (asker_in served.asking) (answering served.asking.vars) served.connect.stream put now
 
--- behind the exchanges that are done no head of a request came, though one may still come
+-- behind the exchanges that are done no head of a request came, and what came allows More
 pub record AwaitsRequest (cfg : Config) (past : Past) : Type 0 where
   pub in_hand : InHand (meaning_of cfg) past
   pub no_connect : in_hand.now ≡ []

@@ -91,7 +91,7 @@ returns-in-Long-clause-why c =
     let none : HasNoResponse c.args.text.now = search rules in
     let full : (c.args.whole ≡ false) × ((c.args.limits.bufsize ≤ length c.args.text.now) ⊎ (most_lines ≤ count_by is_line_feed c.args.text.now)) = rw c.in-Long.is at c.wait_for.ensures in
     on_refusal c.refuse-in-Long.result 502 Long (λ _ why. RefusesFor (kind_of (side.Response c.args.head_asked)) c.args.limits c.args.whole c.args.text.now why) c.refuse-in-Long.ensures
-    (hopeless_long (kind_of (side.Response c.args.head_asked)) (each_is_lawful (side.Response c.args.head_asked)) c.args.limits c.args.whole c.args.text.now c.requires.alone c.requires.some c.requires.begun (λ h rest reads. none h rest reads.0) full.1)
+    (hopeless_long (kind_of (side.Response c.args.head_asked)) (each_is_lawful (side.Response c.args.head_asked)) c.args.limits c.args.whole c.args.text.now c.requires.alone c.requires.some c.requires.begun none full.1)
 
 pub returns-then-head-lt100-clause-why : goal.returns-then-head-lt100-clause-why
 returns-then-head-lt100-clause-why c =
