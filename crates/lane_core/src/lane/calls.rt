@@ -204,10 +204,11 @@ impl Lane {
         self.output.drop_front(n);
     }
 
-    /// From now on text is dropped, until `next`.
+    /// From now on text is dropped, until `next`: what stands in the output, and both arrays, too.
     pub fn discard(&mut self)
         ensures dropped { self.new.dropped ≡ true }
         ensures output { self.new.output.items ≡ [] }
+        ensures blocks { self.new.msg.blocks ≡ [] }
         ensures sieve { self.new.sieve ≡ self.old.sieve }
         ensures stage { self.new.stage ≡ self.old.stage }
         ensures source { self.new.source ≡ self.old.source }
