@@ -31,6 +31,8 @@ pub(crate) fn read_part(
     let (from, end) = (step.piece.from, step.piece.from + step.piece.len);
     to.add_data(&text[from..end]);
     if let Some(span) = step.trailers {
+        // Never Full in a lane: with a section comes no data, so the array is empty, and it is as large as the limits of
+        // the reader, by which a section is at most half of it, in at most 64 fields.
         let _added = add_trailers(&text[span.from..span.from + span.len], to);
     }
     Pulled {
