@@ -76,8 +76,12 @@ impl ResponseLane {
         requires room { length (input_of self.old) + length bytes.now ≤ most_of self.old }
         ensures answers { (p : Exchange) → Answers self.old p → Answers self.new (with_bytes p bytes.now) }
         ensures input { input_of self.new ≡ input_of self.old ++ bytes.now }
-        ensures same { (stage_of self.new ≡ stage_of self.old) × (window_of self.new ≡ window_of self.old) × (has_begun self.new ≡ has_begun self.old) }
-        ensures keeps { (ended_of self.new ≡ ended_of self.old) × (phase_of self.new ≡ phase_of self.old) × (source_of self.new ≡ source_of self.old) }
+        ensures stage { stage_of self.new ≡ stage_of self.old }
+        ensures window { window_of self.new ≡ window_of self.old }
+        ensures begun { has_begun self.new ≡ has_begun self.old }
+        ensures ended { ended_of self.new ≡ ended_of self.old }
+        ensures phase { phase_of self.new ≡ phase_of self.old }
+        ensures source { source_of self.new ≡ source_of self.old }
         ensures limits { limits_of self.new ≡ limits_of self.old }
         ensures sound { IsSoundAnswer self.old → IsSoundAnswer self.new }
         ensures filters { (filters : List FilterSpec) → HasFilters self.old filters → HasFilters self.new filters }
@@ -89,8 +93,12 @@ impl ResponseLane {
     pub fn end(&mut self, how: Ending)
         requires { IsOpen self.old }
         ensures answers { (p : Exchange) → Answers self.old p → Answers self.new p }
-        ensures same { (stage_of self.new ≡ stage_of self.old) × (window_of self.new ≡ window_of self.old) × (has_begun self.new ≡ has_begun self.old) }
-        ensures keeps { (came_in self.new ≡ came_in self.old) × (phase_of self.new ≡ phase_of self.old) × (source_of self.new ≡ source_of self.old) }
+        ensures stage { stage_of self.new ≡ stage_of self.old }
+        ensures window { window_of self.new ≡ window_of self.old }
+        ensures begun { has_begun self.new ≡ has_begun self.old }
+        ensures came { came_in self.new ≡ came_in self.old }
+        ensures phase { phase_of self.new ≡ phase_of self.old }
+        ensures source { source_of self.new ≡ source_of self.old }
         ensures ended { ended_of self.new ≡ Some how }
         ensures limits { limits_of self.new ≡ limits_of self.old }
         ensures sound { IsSoundAnswer self.old → IsSoundAnswer self.new }
@@ -104,7 +112,9 @@ impl ResponseLane {
         requires sound { IsSoundAnswer self.old }
         requires reading { stage_of self.old ≡ stage.Reading }
         ensures comes { (p : Exchange) → Answers self.old p → p.asked ≡ head_asked → HeadComes p self.new result }
-        ensures same { (window_of self.new ≡ window_of self.old) × (ended_of self.new ≡ ended_of self.old) × (has_begun self.new ≡ has_begun self.old) }
+        ensures window { window_of self.new ≡ window_of self.old }
+        ensures ended { ended_of self.new ≡ ended_of self.old }
+        ensures begun { has_begun self.new ≡ has_begun self.old }
         ensures phase { phase_of self.new ≡ phase_of self.old }
         ensures shrinks { length (input_of self.new) ≤ length (input_of self.old) }
         ensures stands { HeadStands result self.new }
@@ -141,8 +151,11 @@ impl ResponseLane {
             → Answers self.new (passes p got) }
         ensures stage { stage_of self.new ≡ stage.Sending }
         ensures limits { limits_of self.new ≡ limits_of self.old }
-        ensures same { (window_of self.new ≡ window_of self.old) × (ended_of self.new ≡ ended_of self.old) × (has_begun self.new ≡ has_begun self.old) }
-        ensures keeps { (came_in self.new ≡ came_in self.old) × (shows_last (phase_of self.new) ≡ false) }
+        ensures window { window_of self.new ≡ window_of self.old }
+        ensures ended { ended_of self.new ≡ ended_of self.old }
+        ensures begun { has_begun self.new ≡ has_begun self.old }
+        ensures came { came_in self.new ≡ came_in self.old }
+        ensures last { shows_last (phase_of self.new) ≡ false }
         ensures sound { IsSoundAnswer self.new }
         ensures filters { (filters : List FilterSpec) → HasFilters self.old filters → HasFilters self.new filters }
     {
@@ -159,8 +172,11 @@ impl ResponseLane {
         ensures answers { (p : Exchange) (got : Received) → Answers self.old p → p.pending ≡ Some got → is_interim got.head ≡ true → Answers self.new (drops p got) }
         ensures stage { stage_of self.new ≡ stage.Reading }
         ensures limits { limits_of self.new ≡ limits_of self.old }
-        ensures same { (window_of self.new ≡ window_of self.old) × (ended_of self.new ≡ ended_of self.old) × (has_begun self.new ≡ has_begun self.old) }
-        ensures keeps { (came_in self.new ≡ came_in self.old) × (shows_last (phase_of self.new) ≡ false) }
+        ensures window { window_of self.new ≡ window_of self.old }
+        ensures ended { ended_of self.new ≡ ended_of self.old }
+        ensures begun { has_begun self.new ≡ has_begun self.old }
+        ensures came { came_in self.new ≡ came_in self.old }
+        ensures last { shows_last (phase_of self.new) ≡ false }
         ensures sound { IsSoundAnswer self.new }
         ensures filters { (filters : List FilterSpec) → HasFilters self.old filters → HasFilters self.new filters }
     {
@@ -176,7 +192,9 @@ impl ResponseLane {
         ensures stage { stage_of self.new ≡ stage.Sending }
         ensures last { shows_last (phase_of self.new) ≡ true }
         ensures limits { limits_of self.new ≡ limits_of self.old }
-        ensures same { (window_of self.new ≡ window_of self.old) × (ended_of self.new ≡ ended_of self.old) × (has_begun self.new ≡ has_begun self.old) }
+        ensures window { window_of self.new ≡ window_of self.old }
+        ensures ended { ended_of self.new ≡ ended_of self.old }
+        ensures begun { has_begun self.new ≡ has_begun self.old }
         ensures sound { IsSoundAnswer self.new }
         ensures filters { (filters : List FilterSpec) → HasFilters self.old filters → HasFilters self.new filters }
     {
@@ -193,10 +211,13 @@ impl ResponseLane {
         ensures answers { (p : Exchange) (head : Head) (body : List ℕ) → Answers self.old p → list.old.blocks ≡ front_blocks head body → Answers self.new (replies p head body no_body) }
         ensures list { list.new.blocks ≡ [] }
         ensures list_size { list.new.size ≡ list.old.size }
-        ensures stage { (stage_of self.new ≡ stage.Sending) × (source_of self.new ≡ source.Whole) }
+        ensures stage { stage_of self.new ≡ stage.Sending }
+        ensures source { source_of self.new ≡ source.Whole }
         ensures last { shows_last (phase_of self.new) ≡ true }
         ensures limits { limits_of self.new ≡ limits_of self.old }
-        ensures same { (window_of self.new ≡ window_of self.old) × (ended_of self.new ≡ ended_of self.old) × (has_begun self.new ≡ has_begun self.old) }
+        ensures window { window_of self.new ≡ window_of self.old }
+        ensures ended { ended_of self.new ≡ ended_of self.old }
+        ensures begun { has_begun self.new ≡ has_begun self.old }
         ensures sound { IsSoundAnswer self.new }
         ensures filters { (filters : List FilterSpec) → HasFilters self.old filters → HasFilters self.new filters }
     {
@@ -232,8 +253,12 @@ impl ResponseLane {
         requires { n ≤ length (output_of self.old) }
         ensures output { output_of self.new ≡ drop n (output_of self.old) }
         ensures answers { (p : Exchange) → Answers self.old p → Answers self.new p }
-        ensures same { (stage_of self.new ≡ stage_of self.old) × (ended_of self.new ≡ ended_of self.old) × (has_begun self.new ≡ has_begun self.old) }
-        ensures keeps { (came_in self.new ≡ came_in self.old) × (phase_of self.new ≡ phase_of self.old) × (source_of self.new ≡ source_of self.old) }
+        ensures stage { stage_of self.new ≡ stage_of self.old }
+        ensures ended { ended_of self.new ≡ ended_of self.old }
+        ensures begun { has_begun self.new ≡ has_begun self.old }
+        ensures came { came_in self.new ≡ came_in self.old }
+        ensures phase { phase_of self.new ≡ phase_of self.old }
+        ensures source { source_of self.new ≡ source_of self.old }
         ensures limits { limits_of self.new ≡ limits_of self.old }
         ensures sound { IsSoundAnswer self.old → IsSoundAnswer self.new }
         ensures filters { (filters : List FilterSpec) → HasFilters self.old filters → HasFilters self.new filters }
@@ -248,7 +273,9 @@ impl ResponseLane {
         ensures answers { (asked : Bool) → Answers self.new (with_bytes (fresh asked) (input_of self.old)) }
         ensures stage { stage_of self.new ≡ stage.Reading }
         ensures limits { limits_of self.new ≡ limits_of self.old }
-        ensures same { (window_of self.new ≡ window_of self.old) × (ended_of self.new ≡ ended_of self.old) × (came_in self.new ≡ came_in self.old) }
+        ensures window { window_of self.new ≡ window_of self.old }
+        ensures ended { ended_of self.new ≡ ended_of self.old }
+        ensures came { came_in self.new ≡ came_in self.old }
         ensures begun { has_begun self.new ≡ false }
         ensures sound { IsSoundAnswer self.new }
         ensures filters { (filters : List FilterSpec) → HasFilters self.old filters → HasFilters self.new filters }
@@ -266,9 +293,9 @@ impl ResponseLane {
         ensures stage { stage_of self.new ≡ stage.Reading }
         ensures limits { limits_of self.new ≡ limits_of self.old }
         ensures open { IsOpen self.new }
-        ensures same { window_of self.new ≡ window_of self.old }
+        ensures window { window_of self.new ≡ window_of self.old }
         ensures begun { has_begun self.new ≡ false }
-        ensures phase { shows_last (phase_of self.new) ≡ false }
+        ensures last { shows_last (phase_of self.new) ≡ false }
         ensures sound { IsSoundAnswer self.new }
         ensures filters { (filters : List FilterSpec) → HasFilters self.old filters → HasFilters self.new filters }
     {

@@ -22,7 +22,7 @@ impl ResponseLane {
         ensures last { shows_last (phase_of self.old) ≡ true → shows_last (phase_of self.new) ≡ true }
         ensures whole { shows_last (phase_of self.old) ≡ true → source_of self.old ≡ source.Whole → source_of self.new ≡ source.Whole }
         ensures heads { shows_last (phase_of self.old) ≡ false → IsAmongHeads self.new }
-        ensures keeps { ended_of self.new ≡ ended_of self.old }
+        ensures ended { ended_of self.new ≡ ended_of self.old }
         ensures shrinks { length (input_of self.new) ≤ length (input_of self.old) }
         ensures limits { limits_of self.new ≡ limits_of self.old }
         ensures sound { IsSoundAnswer self.new }
@@ -48,7 +48,7 @@ impl ResponseLane {
         ensures last { shows_last (phase_of self.old) ≡ true → shows_last (phase_of self.new) ≡ true }
         ensures whole { shows_last (phase_of self.old) ≡ true → source_of self.old ≡ source.Whole → source_of self.new ≡ source.Whole }
         ensures heads { shows_last (phase_of self.old) ≡ false → IsAmongHeads self.new }
-        ensures keeps { ended_of self.new ≡ ended_of self.old }
+        ensures ended { ended_of self.new ≡ ended_of self.old }
         ensures shrinks { length (input_of self.new) ≤ length (input_of self.old) }
         ensures limits { limits_of self.new ≡ limits_of self.old }
         ensures sound { IsSoundAnswer self.new }
@@ -71,7 +71,7 @@ impl ResponseLane {
         ensures begun { has_begun self.old ≡ true → has_begun self.new ≡ true }
         ensures last { shows_last (phase_of self.old) ≡ true → shows_last (phase_of self.new) ≡ true }
         ensures whole { shows_last (phase_of self.old) ≡ true → source_of self.old ≡ source.Whole → source_of self.new ≡ source.Whole }
-        ensures keeps { ended_of self.new ≡ ended_of self.old }
+        ensures ended { ended_of self.new ≡ ended_of self.old }
         ensures shrinks { length (input_of self.new) ≤ length (input_of self.old) }
         ensures limits { limits_of self.new ≡ limits_of self.old }
         ensures sound { IsSoundAnswer self.new }
@@ -97,7 +97,7 @@ impl ResponseLane {
         ensures begun { has_begun self.old ≡ true → has_begun self.new ≡ true }
         ensures last { shows_last (phase_of self.old) ≡ true → shows_last (phase_of self.new) ≡ true }
         ensures whole { shows_last (phase_of self.old) ≡ true → source_of self.old ≡ source.Whole → source_of self.new ≡ source.Whole }
-        ensures keeps { ended_of self.new ≡ ended_of self.old }
+        ensures ended { ended_of self.new ≡ ended_of self.old }
         ensures shrinks { length (input_of self.new) ≤ length (input_of self.old) }
         ensures limits { limits_of self.new ≡ limits_of self.old }
         ensures sound { IsSoundAnswer self.new }

@@ -25,5 +25,5 @@ returns-clause-answers c = λ p got a e is blocks.
           (came_behind c.args.self.now p h got e is)),
     )
 
-pub returns-clause-keeps : goal.returns-clause-keeps
-returns-clause-keeps c = (c.show.ensures.input ∙ ap (λ (l : Lane). l.input) c.strip.ensures.same, refl)
+pub returns-clause-came : goal.returns-clause-came
+returns-clause-came c = c.show.ensures.input ∙ ap (λ (l : Lane). l.input) c.strip.ensures.same
