@@ -7,6 +7,7 @@ use Rattle.http_model.specs.Head.{Head, Message, front_blocks, message_blocks}
 use Rattle.px_sample.specs.Buffer.{Buffer}
 use Rattle.px_sample.specs.Variables.{Variables}
 use Rattle.htx_arena.specs.declared.arena.Full.{Full}
+use Rattle.rule_actions.specs.declared.place.Place.{Place}
 use Rattle.rule_actions.specs.declared.scratch.Scratch.{Scratch}
 use Rattle.rule_actions.specs.declared.side.Side.{Side}
 use Rattle.rule_actions.specs.declared.side.Side.TheVariants.{Request, Answer}
@@ -33,6 +34,10 @@ pub record IsAt (side : Side) (env : Env) (blocks : List Block) (vars : Variable
   pub on : IsOn side env
   pub blocks_are : blocks ≡ front_blocks env.head env.body
   pub vars_are : vars ≡ env.vars
+
+-- a message that is read is that of an environment, and the variables beside it are its own
+abbrev pub IsPlaceOf : Env → Place → Type 0
+IsPlaceOf env place = IsAt place.setting.side env place.msg.now.blocks place.setting.vars.now
 
 -- the blocks are those of a head, with a body or none behind it
 abbrev pub IsFront : List Block → Type 0

@@ -10,7 +10,9 @@ ghost use Rattle.rule_actions.specs.Outcome.{IsScratch, IsAt, Ran, IsFront};
 
 use crate::extent::Extent;
 use crate::part::TargetPart;
+use crate::place::Setting;
 use crate::removal::del_header;
+use crate::replacement::{FieldReplacement, Replacement};
 use crate::replacing::replace_fields;
 use crate::retarget::replace_part;
 use crate::scratch::Scratch;
@@ -18,7 +20,7 @@ use crate::side::Side;
 use crate::status::set_status;
 use crate::stepped::Stepped;
 use crate::text_edits::{format_of, run_text};
-use crate::variables::{set_var, unset_var};
+use crate::variables::{Assignment, set_var, unset_var};
 use http_model::Why;
 use htx_arena::Arena;
 use px_expr::Searchers;
@@ -71,42 +73,42 @@ fn run_steps(
     ensures size { msg.new.size ≡ msg.old.size }
     ensures scratch { IsScratch msg.old.size scratch.new }
 {
+    let setting = Setting { side, vars };
     if let Some(fmt) = format_of(action) {
-        return run_text(alloc, searchers, action, fmt, side, msg, vars, scratch);
+        return run_text(alloc, searchers, action, fmt, setting, msg, scratch);
     }
     match action {
         Action::DelHeader(by) => del_header(alloc, searchers, by, msg, scratch),
         Action::SetStatus(code, reason) => Ok(set_status(*code, reason, msg, scratch)),
         Action::SetVar(scope, name, expr) => {
-            let name = name.as_slice();
-            set_var(
-                alloc, searchers, *scope, name, expr, side, msg, vars, scratch,
-            )
+            let (scope, name) = (*scope, name.as_slice());
+            let assignment = Assignment { scope, name, expr };
+            set_var(alloc, searchers, assignment, side, msg, vars, scratch)
         }
         Action::UnsetVar(scope, name) => Ok(unset_var(*scope, name.as_slice(), vars)),
         Action::ReplaceHeader(name, pat, fmt) => {
             let (extent, name) = (Extent::Whole, name.as_slice());
-            replace_fields(
-                alloc, searchers, extent, name, pat, fmt, side, msg, vars, scratch,
-            )
+            let by = Replacement { pat, fmt };
+            let fields = FieldReplacement { name, extent, by };
+            replace_fields(alloc, searchers, fields, setting, msg, scratch)
         }
         Action::ReplaceValue(name, pat, fmt) => {
             let (extent, name) = (Extent::Values, name.as_slice());
-            replace_fields(
-                alloc, searchers, extent, name, pat, fmt, side, msg, vars, scratch,
-            )
+            let by = Replacement { pat, fmt };
+            let fields = FieldReplacement { name, extent, by };
+            replace_fields(alloc, searchers, fields, setting, msg, scratch)
         }
         Action::ReplacePath(pat, fmt) => {
-            let part = TargetPart::Path;
-            replace_part(alloc, searchers, part, pat, fmt, side, msg, vars, scratch)
+            let (part, by) = (TargetPart::Path, Replacement { pat, fmt });
+            replace_part(alloc, searchers, part, by, setting, msg, scratch)
         }
         Action::ReplacePathq(pat, fmt) => {
-            let part = TargetPart::Pathq;
-            replace_part(alloc, searchers, part, pat, fmt, side, msg, vars, scratch)
+            let (part, by) = (TargetPart::Pathq, Replacement { pat, fmt });
+            replace_part(alloc, searchers, part, by, setting, msg, scratch)
         }
         Action::ReplaceUri(pat, fmt) => {
-            let part = TargetPart::Uri;
-            replace_part(alloc, searchers, part, pat, fmt, side, msg, vars, scratch)
+            let (part, by) = (TargetPart::Uri, Replacement { pat, fmt });
+            replace_part(alloc, searchers, part, by, setting, msg, scratch)
         }
         _ => Ok(Stepped::Done),
     }

@@ -5,16 +5,15 @@ ghost use Rattle.px_pattern.specs.Groups.{LieIn};
 ghost use Rattle.px_conv.specs.Template.{expanded};
 ghost use Rattle.rule_actions.specs.Given.{Env};
 ghost use Rattle.rule_actions.specs.Replacing.{by_match};
-ghost use Rattle.rule_actions.specs.Outcome.{IsScratch, IsAt};
+ghost use Rattle.rule_actions.specs.Outcome.{IsScratch, IsPlaceOf};
 
+use crate::place::Place;
+use crate::replacement::Replacement;
 use crate::scratch::Scratch;
-use crate::side::Side;
 use crate::texts::write_text;
-use htx_arena::Arena;
-use log_format::Fmt;
-use px_conv::{Groups, Pat, expand};
+use px_conv::{Groups, expand};
 use px_expr::Searchers;
-use px_sample::{Buf, OutOfMemory, Vars};
+use px_sample::{Buf, OutOfMemory};
 use std::alloc::Global;
 
 /// What came of a text.
@@ -48,23 +47,20 @@ fn put_groups(template: &[u8], groups: &Groups, text: &[u8], into: &mut Buf) -> 
 pub(crate) fn fill(
     alloc: Global,
     searchers: &mut Searchers,
-    pat: &Pat,
-    fmt: &Fmt,
+    by: Replacement<'_>,
     text: &[u8],
-    side: Side<'_>,
-    msg: &Arena,
-    vars: &Vars,
+    place: Place<'_>,
     scratch: &mut Scratch,
 ) -> Result<Filled, OutOfMemory>
-    requires { IsScratch msg.now.size scratch.old }
-    ensures filled { IfOk result (λ filled. (env : Env) (make : List ℕ → Result Env Reason) → IsAt side.entry env msg.now.blocks vars.now
-        → by_match msg.now.size env pat.now fmt.now text.now make ≡ edited_by filled scratch.new.made.bytes env make) }
-    ensures scratch { IsScratch msg.now.size scratch.new }
+    requires { IsScratch place.msg.now.size scratch.old }
+    ensures filled { IfOk result (λ filled. (env : Env) (make : List ℕ → Result Env Reason) → IsPlaceOf env place.entry
+        → by_match place.entry.msg.now.size env by.entry.pat.now by.entry.fmt.now text.now make ≡ edited_by filled scratch.new.made.bytes env make) }
+    ensures scratch { IsScratch place.entry.msg.now.size scratch.new }
 {
-    let Some(groups) = searchers.find_groups(alloc, pat, text)? else {
+    let Some(groups) = searchers.find_groups(alloc, by.pat, text)? else {
         return Ok(Filled::Unmatched);
     };
-    if !write_text(alloc, searchers, fmt, side, msg, vars, scratch)? {
+    if !write_text(alloc, searchers, by.fmt, place, scratch)? {
         return Ok(Filled::TooLong);
     }
     let Scratch {

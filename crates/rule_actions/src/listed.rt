@@ -6,18 +6,17 @@ ghost use Rattle.px_bytes.specs.Values.{values_of};
 ghost use Rattle.rule_actions.specs.Given.{Env};
 ghost use Rattle.rule_actions.specs.Replacing.{matches, replaced, replaced_values, by_matches};
 ghost use Rattle.rule_actions.specs.Filling.{edited_by, IsHeld, IsPut, IsAll};
-ghost use Rattle.rule_actions.specs.Outcome.{IsScratch, IsAt};
+ghost use Rattle.rule_actions.specs.Outcome.{IsScratch, IsPlaceOf};
 
 use crate::filled::Filled;
+use crate::place::Place;
+use crate::replacement::Replacement;
 use crate::scratch::Scratch;
-use crate::side::Side;
 use crate::texts::write_text;
-use htx_arena::Arena;
-use log_format::Fmt;
 use px_bytes::{value_indices, values};
 use px_conv::{Pat, expand};
 use px_expr::Searchers;
-use px_sample::{Buf, OutOfMemory, Vars};
+use px_sample::{Buf, OutOfMemory};
 use std::alloc::Global;
 
 /// Whether the pattern matches in one of the values.
@@ -107,25 +106,22 @@ fn fill_listed(
 pub(crate) fn fill_values(
     alloc: Global,
     searchers: &mut Searchers,
-    pat: &Pat,
-    fmt: &Fmt,
+    by: Replacement<'_>,
     field: &[u8],
-    side: Side<'_>,
-    msg: &Arena,
-    vars: &Vars,
+    place: Place<'_>,
     scratch: &mut Scratch,
 ) -> Result<Filled, OutOfMemory>
-    requires { IsScratch msg.now.size scratch.old }
-    ensures filled { IfOk result (λ filled. (env : Env) (make : List ℕ → Result Env Reason) → IsAt side.entry env msg.now.blocks vars.now
-        → by_matches msg.now.size env pat.now fmt.now field.now make ≡ edited_by filled scratch.new.made.bytes env make) }
-    ensures scratch { IsScratch msg.now.size scratch.new }
+    requires { IsScratch place.msg.now.size scratch.old }
+    ensures filled { IfOk result (λ filled. (env : Env) (make : List ℕ → Result Env Reason) → IsPlaceOf env place.entry
+        → by_matches place.entry.msg.now.size env by.entry.pat.now by.entry.fmt.now field.now make ≡ edited_by filled scratch.new.made.bytes env make) }
+    ensures scratch { IsScratch place.entry.msg.now.size scratch.new }
 {
-    if !matches_one(alloc, searchers, pat, field)? {
+    if !matches_one(alloc, searchers, by.pat, field)? {
         return Ok(Filled::Unmatched);
     }
-    if !write_text(alloc, searchers, fmt, side, msg, vars, scratch)? {
+    if !write_text(alloc, searchers, by.fmt, place, scratch)? {
         return Ok(Filled::TooLong);
     }
     let Scratch { text, made, .. } = scratch;
-    fill_listed(alloc, searchers, pat, text.bytes(), field, made)
+    fill_listed(alloc, searchers, by.pat, text.bytes(), field, made)
 }

@@ -8,6 +8,7 @@ ghost use Rattle.rule_actions.specs.Outcome.{IsAt};
 ghost use Rattle.rule_actions.specs.Written.{body_by, IsBody};
 
 use crate::fields::are_value_bytes;
+use crate::place::{Place, Setting};
 use crate::side::Side;
 use crate::texts::write_into;
 use htx_arena::Arena;
@@ -88,7 +89,16 @@ pub(crate) fn make_payload(
     match payload {
         None | Some(Payload::Literal(_)) => Ok(true),
         Some(Payload::Format(fmt)) => {
-            write_into(alloc, searchers, fmt, side, msg, vars, text, buf, spare)
+            let setting = Setting { side, vars };
+            write_into(
+                alloc,
+                searchers,
+                fmt,
+                Place { msg, setting },
+                text,
+                buf,
+                spare,
+            )
         }
     }
 }

@@ -11,6 +11,7 @@ ghost use Rattle.rule_actions.specs.Written.{led_target};
 
 use crate::fields::{are_value_bytes, step_of};
 use crate::location::{join_prefixed, join_schemed, led_target};
+use crate::place::{Place, Setting};
 use crate::scratch::Scratch;
 use crate::side::Side;
 use crate::stepped::Stepped;
@@ -112,7 +113,9 @@ pub(crate) fn redirect(
     ensures size { reply.new.size ≡ reply.old.size }
     ensures scratch { IsScratch msg.now.size scratch.new }
 {
-    if !write_text(alloc, searchers, format_of(to), side, msg, vars, scratch)? {
+    let setting = Setting { side, vars };
+    let place = Place { msg, setting };
+    if !write_text(alloc, searchers, format_of(to), place, scratch)? {
         return Ok(Stepped::Failed(Why::Bytes));
     }
     let Scratch { text, made, .. } = scratch;

@@ -13,7 +13,7 @@ ghost use Rattle.rule_actions.specs.Given.{Env};
 ghost use Rattle.rule_actions.specs.Edits.{by_value};
 ghost use Rattle.rule_actions.specs.Replacing.{by_extent, places, replace_in, with_value};
 ghost use Rattle.rule_actions.specs.Acts.{run_steps};
-ghost use Rattle.rule_actions.specs.Outcome.{IsScratch, IsAt, Came, Ran, IsFront};
+ghost use Rattle.rule_actions.specs.Outcome.{IsScratch, IsAt, IsPlaceOf, Came, Ran, IsFront};
 ghost use Rattle.rule_actions.specs.Filling.{edited_by};
 ghost use Rattle.rule_actions.specs.Turns.{named_step};
 
@@ -21,15 +21,15 @@ use crate::extent::Extent;
 use crate::fields::{are_value_bytes, step_of};
 use crate::filled::{Filled, fill};
 use crate::listed::fill_values;
+use crate::place::{Place, Setting};
+use crate::replacement::{FieldReplacement, Replacement};
 use crate::scratch::Scratch;
-use crate::side::Side;
 use crate::stepped::Stepped;
 use http_model::Why;
 use htx_arena::{Arena, Kind};
-use log_format::Fmt;
 use px_bytes::{eq_fold, trim};
-use px_expr::{Pat, Searchers};
-use px_sample::{OutOfMemory, Vars};
+use px_expr::Searchers;
+use px_sample::OutOfMemory;
 use std::alloc::Global;
 
 /// Whether the block at an index is a header of this name.
@@ -64,22 +64,19 @@ fn fill_field(
     alloc: Global,
     searchers: &mut Searchers,
     extent: Extent,
-    pat: &Pat,
-    fmt: &Fmt,
+    by: Replacement<'_>,
     field: &[u8],
-    side: Side<'_>,
-    msg: &Arena,
-    vars: &Vars,
+    place: Place<'_>,
     scratch: &mut Scratch,
 ) -> Result<Filled, OutOfMemory>
-    requires { IsScratch msg.now.size scratch.old }
-    ensures filled { IfOk result (λ filled. (env : Env) (make : List ℕ → Result Env Reason) → IsAt side.entry env msg.now.blocks vars.now
-        → by_extent extent msg.now.size env pat.now fmt.now field.now make ≡ edited_by filled scratch.new.made.bytes env make) }
-    ensures scratch { IsScratch msg.now.size scratch.new }
+    requires { IsScratch place.msg.now.size scratch.old }
+    ensures filled { IfOk result (λ filled. (env : Env) (make : List ℕ → Result Env Reason) → IsPlaceOf env place.entry
+        → by_extent extent place.entry.msg.now.size env by.entry.pat.now by.entry.fmt.now field.now make ≡ edited_by filled scratch.new.made.bytes env make) }
+    ensures scratch { IsScratch place.entry.msg.now.size scratch.new }
 {
     match extent {
-        Extent::Whole => fill(alloc, searchers, pat, fmt, field, side, msg, vars, scratch),
-        Extent::Values => fill_values(alloc, searchers, pat, fmt, field, side, msg, vars, scratch),
+        Extent::Whole => fill(alloc, searchers, by, field, place, scratch),
+        Extent::Values => fill_values(alloc, searchers, by, field, place, scratch),
     }
 }
 
@@ -87,28 +84,25 @@ fn fill_field(
 fn replace_field(
     alloc: Global,
     searchers: &mut Searchers,
-    extent: Extent,
-    pat: &Pat,
-    fmt: &Fmt,
+    fields: FieldReplacement<'_>,
     at: u32,
-    side: Side<'_>,
+    setting: Setting<'_>,
     msg: &mut Arena,
-    vars: &Vars,
     scratch: &mut Scratch,
 ) -> Result<Stepped, OutOfMemory>
     requires scratch { IsScratch msg.old.size scratch.old }
     requires within { at < length msg.old.blocks }
     requires header { kind_of (block_at msg.old.blocks at) ≡ Header }
-    ensures came { IfOk result (λ step. (env : Env) (place : ℕ) → IsAt side.entry env msg.old.blocks vars.now → at ≡ place + 1
-        → Came side.entry env (replace_in extent msg.old.size pat.now fmt.now place env) step msg.new.blocks vars.now) }
+    ensures came { IfOk result (λ step. (env : Env) (place : ℕ) → IsAt setting.entry.side env msg.old.blocks setting.entry.vars.now → at ≡ place + 1
+        → Came setting.entry.side env (replace_in fields.entry.extent msg.old.size fields.entry.by.pat.now fields.entry.by.fmt.now place env) step msg.new.blocks setting.entry.vars.now) }
     ensures size { msg.new.size ≡ msg.old.size }
     ensures len { length msg.new.blocks ≡ length msg.old.blocks }
     ensures scratch { IsScratch msg.old.size scratch.new }
 {
     let field = msg.value(at);
-    match fill_field(
-        alloc, searchers, extent, pat, fmt, field, side, msg, vars, scratch,
-    )? {
+    let FieldReplacement { extent, by, .. } = fields;
+    let place = Place { msg, setting };
+    match fill_field(alloc, searchers, extent, by, field, place, scratch)? {
         Filled::Unmatched => Ok(Stepped::Done),
         Filled::TooLong => Ok(Stepped::Failed(Why::Bytes)),
         Filled::Made => Ok(put_value(msg, at, scratch.made.bytes())),
@@ -119,56 +113,44 @@ fn replace_field(
 fn replace_named(
     alloc: Global,
     searchers: &mut Searchers,
-    extent: Extent,
-    name: &[u8],
-    pat: &Pat,
-    fmt: &Fmt,
+    fields: FieldReplacement<'_>,
     at: u32,
-    side: Side<'_>,
+    setting: Setting<'_>,
     msg: &mut Arena,
-    vars: &Vars,
     scratch: &mut Scratch,
 ) -> Result<Stepped, OutOfMemory>
     requires scratch { IsScratch msg.old.size scratch.old }
     requires within { at < length msg.old.blocks }
-    ensures came { IfOk result (λ step. (env : Env) (place : ℕ) → IsAt side.entry env msg.old.blocks vars.now → at ≡ place + 1
-        → Came side.entry env (named_step name.now extent msg.old.size pat.now fmt.now place env) step msg.new.blocks vars.now) }
+    ensures came { IfOk result (λ step. (env : Env) (place : ℕ) → IsAt setting.entry.side env msg.old.blocks setting.entry.vars.now → at ≡ place + 1
+        → Came setting.entry.side env (named_step fields.entry.name.now fields.entry.extent msg.old.size fields.entry.by.pat.now fields.entry.by.fmt.now place env) step msg.new.blocks setting.entry.vars.now) }
     ensures size { msg.new.size ≡ msg.old.size }
     ensures len { length msg.new.blocks ≡ length msg.old.blocks }
     ensures scratch { IsScratch msg.old.size scratch.new }
 {
-    if !is_named(msg, at, name) {
+    if !is_named(msg, at, fields.name) {
         return Ok(Stepped::Done);
     }
-    replace_field(
-        alloc, searchers, extent, pat, fmt, at, side, msg, vars, scratch,
-    )
+    replace_field(alloc, searchers, fields, at, setting, msg, scratch)
 }
 
 /// Each field of the name in turn, up to a step that fails.
 pub(crate) fn replace_fields(
     alloc: Global,
     searchers: &mut Searchers,
-    extent: Extent,
-    name: &[u8],
-    pat: &Pat,
-    fmt: &Fmt,
-    side: Side<'_>,
+    fields: FieldReplacement<'_>,
+    setting: Setting<'_>,
     msg: &mut Arena,
-    vars: &Vars,
     scratch: &mut Scratch,
 ) -> Result<Stepped, OutOfMemory>
     requires scratch { IsScratch msg.old.size scratch.old }
     requires front { IsFront msg.old.blocks }
-    ensures ran { IfOk result (λ step. (env : Env) → IsAt side.entry env msg.old.blocks vars.now
-        → Ran side.entry (run_steps (map (replace_in extent msg.old.size pat.now fmt.now) (places name.now env.head.fields 0)) env) step msg.new.blocks vars.now) }
+    ensures ran { IfOk result (λ step. (env : Env) → IsAt setting.entry.side env msg.old.blocks setting.entry.vars.now
+        → Ran setting.entry.side (run_steps (map (replace_in fields.entry.extent msg.old.size fields.entry.by.pat.now fields.entry.by.fmt.now) (places fields.entry.name.now env.head.fields 0)) env) step msg.new.blocks setting.entry.vars.now) }
     ensures size { msg.new.size ≡ msg.old.size }
     ensures scratch { IsScratch msg.old.size scratch.new }
 {
     for at in 1..msg.len() {
-        match replace_named(
-            alloc, searchers, extent, name, pat, fmt, at, side, msg, vars, scratch,
-        )? {
+        match replace_named(alloc, searchers, fields, at, setting, msg, scratch)? {
             Stepped::Done => {}
             Stepped::Failed(why) => return Ok(Stepped::Failed(why)),
         }

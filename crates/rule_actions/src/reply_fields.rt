@@ -13,6 +13,7 @@ ghost use Rattle.rule_actions.specs.Outcome.{IsAt};
 ghost use Rattle.rule_actions.specs.Written.{IsHead, IsValue, IsPut, ArePut, put_step};
 
 use crate::fields::are_value_bytes;
+use crate::place::{Place, Setting};
 use crate::side::Side;
 use crate::stepped::Stepped;
 use crate::texts::write_into;
@@ -46,9 +47,9 @@ fn make_value(
     ensures buf { buf.new.cap ≡ msg.now.size }
     ensures spare { spare.new.cap ≡ msg.now.size }
 {
-    if !write_into(
-        alloc, searchers, &hdr.value, side, msg, vars, made, buf, spare,
-    )? {
+    let setting = Setting { side, vars };
+    let place = Place { msg, setting };
+    if !write_into(alloc, searchers, &hdr.value, place, made, buf, spare)? {
         return Ok(false);
     }
     Ok(are_value_bytes(made.bytes()))

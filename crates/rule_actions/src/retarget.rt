@@ -10,16 +10,16 @@ ghost use Rattle.rule_actions.specs.Outcome.{IsScratch, IsAt, Came, IsFront};
 use crate::filled::{Filled, fill};
 use crate::line::put_part;
 use crate::part::TargetPart;
+use crate::place::{Place, Setting};
+use crate::replacement::Replacement;
 use crate::scratch::Scratch;
-use crate::side::Side;
 use crate::stepped::Stepped;
 use crate::target::part_of;
 use http_model::Why;
 use htx_arena::Arena;
 use htx_view::request_parts;
-use log_format::Fmt;
-use px_expr::{Pat, Searchers};
-use px_sample::{OutOfMemory, Vars};
+use px_expr::Searchers;
+use px_sample::OutOfMemory;
 use std::alloc::Global;
 
 /// A part of the target becomes what `scratch.made` holds.
@@ -45,17 +45,15 @@ pub(crate) fn replace_part(
     alloc: Global,
     searchers: &mut Searchers,
     part: TargetPart,
-    pat: &Pat,
-    fmt: &Fmt,
-    side: Side<'_>,
+    by: Replacement<'_>,
+    setting: Setting<'_>,
     msg: &mut Arena,
-    vars: &Vars,
     scratch: &mut Scratch,
 ) -> Result<Stepped, OutOfMemory>
     requires scratch { IsScratch msg.old.size scratch.old }
     requires front { IsFront msg.old.blocks }
-    ensures came { IfOk result (λ step. (env : Env) → IsAt side.entry env msg.old.blocks vars.now
-        → Came side.entry env (replace_part msg.old.size part pat.now fmt.now env) step msg.new.blocks vars.now) }
+    ensures came { IfOk result (λ step. (env : Env) → IsAt setting.entry.side env msg.old.blocks setting.entry.vars.now
+        → Came setting.entry.side env (replace_part msg.old.size part by.entry.pat.now by.entry.fmt.now env) step msg.new.blocks setting.entry.vars.now) }
     ensures size { msg.new.size ≡ msg.old.size }
     ensures scratch { IsScratch msg.old.size scratch.new }
 {
@@ -63,7 +61,8 @@ pub(crate) fn replace_part(
         return Ok(Stepped::Done);
     };
     let text = part_of(part, line.b);
-    match fill(alloc, searchers, pat, fmt, text, side, msg, vars, scratch)? {
+    let place = Place { msg, setting };
+    match fill(alloc, searchers, by, text, place, scratch)? {
         Filled::Unmatched => Ok(Stepped::Done),
         Filled::TooLong => Ok(Stepped::Failed(Why::Bytes)),
         Filled::Made => Ok(put_made(part, msg, scratch)),

@@ -11,15 +11,15 @@ ghost use Rattle.rule_actions.specs.Outcome.{IsScratch, IsAt, Came, IsFront};
 use crate::fields::{add_made, set_made};
 use crate::line::{put_method, put_part, put_query};
 use crate::part::TargetPart;
+use crate::place::{Place, Setting};
 use crate::scratch::Scratch;
-use crate::side::Side;
 use crate::stepped::Stepped;
 use crate::texts::write_text;
 use http_model::Why;
 use htx_arena::Arena;
 use log_format::Fmt;
 use px_expr::Searchers;
-use px_sample::{OutOfMemory, Vars};
+use px_sample::OutOfMemory;
 use rule_model::Action;
 use std::alloc::Global;
 
@@ -75,22 +75,22 @@ pub(crate) fn run_text(
     searchers: &mut Searchers,
     action: &Action,
     fmt: &Fmt,
-    side: Side<'_>,
+    setting: Setting<'_>,
     msg: &mut Arena,
-    vars: &Vars,
     scratch: &mut Scratch,
 ) -> Result<Stepped, OutOfMemory>
     requires scratch { IsScratch msg.old.size scratch.old }
     requires front { IsFront msg.old.blocks }
     requires valid { IsGoodAction action.now }
-    ensures came { IfOk result (λ step. (env : Env) → IsAt side.entry env msg.old.blocks vars.now
-        → Came side.entry env (text_step msg.old.size action.now fmt.now env) step msg.new.blocks vars.now) }
+    ensures came { IfOk result (λ step. (env : Env) → IsAt setting.entry.side env msg.old.blocks setting.entry.vars.now
+        → Came setting.entry.side env (text_step msg.old.size action.now fmt.now env) step msg.new.blocks setting.entry.vars.now) }
     ensures succeeds { formats.holds_pattern fmt.now ≡ false → IsOk result }
     ensures size { msg.new.size ≡ msg.old.size }
     ensures scratch { IsScratch msg.old.size scratch.new }
 {
     // Nothing goes before the text is made.
-    if !write_text(alloc, searchers, fmt, side, msg, vars, scratch)? {
+    let place = Place { msg, setting };
+    if !write_text(alloc, searchers, fmt, place, scratch)? {
         return Ok(Stepped::Failed(Why::Bytes));
     }
     Ok(edit_by_text(action, msg, scratch))

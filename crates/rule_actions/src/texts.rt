@@ -5,8 +5,9 @@ ghost use Rattle.px_expr.specs.Expr as exprs;
 ghost use Rattle.acl_eval.specs.Condition as conditions;
 ghost use Rattle.px_sample.specs.Sample.{value_in};
 ghost use Rattle.rule_actions.specs.Given.{Env, text_on, sample_on, holds_on};
-ghost use Rattle.rule_actions.specs.Outcome.{IsScratch, IsAt, IsMade};
+ghost use Rattle.rule_actions.specs.Outcome.{IsScratch, IsAt, IsPlaceOf, IsMade};
 
+use crate::place::Place;
 use crate::scratch::Scratch;
 use crate::side::Side;
 use acl_eval::{Cond, holds};
@@ -22,23 +23,23 @@ pub(crate) fn write_into(
     alloc: Global,
     searchers: &mut Searchers,
     fmt: &Fmt,
-    side: Side<'_>,
-    msg: &Arena,
-    vars: &Vars,
+    place: Place<'_>,
     into: &mut Buf,
     buf: &mut Buf,
     spare: &mut Buf,
 ) -> Result<bool, OutOfMemory>
-    requires into { into.old.cap ≡ msg.now.size }
-    requires buf { buf.old.cap ≡ msg.now.size }
-    requires spare { spare.old.cap ≡ msg.now.size }
-    ensures made { IfOk result (λ fits. (env : Env) → IsAt side.entry env msg.now.blocks vars.now → IsMade msg.now.size (text_on msg.now.size env fmt.now) fits into.new.bytes) }
+    requires into { into.old.cap ≡ place.msg.now.size }
+    requires buf { buf.old.cap ≡ place.msg.now.size }
+    requires spare { spare.old.cap ≡ place.msg.now.size }
+    ensures made { IfOk result (λ fits. (env : Env) → IsPlaceOf env place.entry → IsMade place.entry.msg.now.size (text_on place.entry.msg.now.size env fmt.now) fits into.new.bytes) }
     ensures succeeds { formats.holds_pattern fmt.now ≡ false → IsOk result }
-    ensures into { into.new.cap ≡ msg.now.size }
-    ensures buf { buf.new.cap ≡ msg.now.size }
-    ensures spare { spare.new.cap ≡ msg.now.size }
+    ensures into { into.new.cap ≡ place.entry.msg.now.size }
+    ensures buf { buf.new.cap ≡ place.entry.msg.now.size }
+    ensures spare { spare.new.cap ≡ place.entry.msg.now.size }
 {
-    match side {
+    let Place { msg, setting } = place;
+    let vars = setting.vars;
+    match setting.side {
         Side::Request => {
             let env = ReqEnv::new(msg, vars);
             format(alloc, searchers, fmt, &env, into, buf, spare)
@@ -55,15 +56,13 @@ pub(crate) fn write_text(
     alloc: Global,
     searchers: &mut Searchers,
     fmt: &Fmt,
-    side: Side<'_>,
-    msg: &Arena,
-    vars: &Vars,
+    place: Place<'_>,
     scratch: &mut Scratch,
 ) -> Result<bool, OutOfMemory>
-    requires { IsScratch msg.now.size scratch.old }
-    ensures made { IfOk result (λ fits. (env : Env) → IsAt side.entry env msg.now.blocks vars.now → IsMade msg.now.size (text_on msg.now.size env fmt.now) fits scratch.new.text.bytes) }
+    requires { IsScratch place.msg.now.size scratch.old }
+    ensures made { IfOk result (λ fits. (env : Env) → IsPlaceOf env place.entry → IsMade place.entry.msg.now.size (text_on place.entry.msg.now.size env fmt.now) fits scratch.new.text.bytes) }
     ensures succeeds { formats.holds_pattern fmt.now ≡ false → IsOk result }
-    ensures scratch { IsScratch msg.now.size scratch.new }
+    ensures scratch { IsScratch place.entry.msg.now.size scratch.new }
 {
     let Scratch {
         text,
@@ -71,7 +70,7 @@ pub(crate) fn write_text(
         spare,
         ..
     } = scratch;
-    write_into(alloc, searchers, fmt, side, msg, vars, text, buf, spare)
+    write_into(alloc, searchers, fmt, place, text, buf, spare)
 }
 
 /// The sample of an expression; its bytes stand in `scratch.buf`.
@@ -79,18 +78,18 @@ pub(crate) fn sample_of(
     alloc: Global,
     searchers: &mut Searchers,
     expr: &Expr,
-    side: Side<'_>,
-    msg: &Arena,
-    vars: &Vars,
+    place: Place<'_>,
     scratch: &mut Scratch,
 ) -> Result<Sample, OutOfMemory>
-    requires { IsScratch msg.now.size scratch.old }
-    ensures value { IfOk result (λ made. (env : Env) → IsAt side.entry env msg.now.blocks vars.now → value_in made scratch.new.buf.bytes ≡ sample_on msg.now.size env expr.now) }
+    requires { IsScratch place.msg.now.size scratch.old }
+    ensures value { IfOk result (λ made. (env : Env) → IsPlaceOf env place.entry → value_in made scratch.new.buf.bytes ≡ sample_on place.entry.msg.now.size env expr.now) }
     ensures succeeds { exprs.holds_pattern expr.now ≡ false → IsOk result }
-    ensures scratch { IsScratch msg.now.size scratch.new }
+    ensures scratch { IsScratch place.entry.msg.now.size scratch.new }
 {
+    let Place { msg, setting } = place;
+    let vars = setting.vars;
     let Scratch { buf, spare, .. } = scratch;
-    match side {
+    match setting.side {
         Side::Request => eval(alloc, searchers, expr, &ReqEnv::new(msg, vars), buf, spare),
         Side::Answer(method) => {
             let env = ResEnv::new(msg, method, vars);

@@ -8,6 +8,7 @@ ghost use Rattle.rule_actions.specs.declared.side.Side.{Side as On};
 ghost use Rattle.htx_model.specs.Block.{Block};
 ghost use Rattle.std.specs.Prelude.{List};
 
+use crate::place::{Place, Setting};
 use crate::scratch::Scratch;
 use crate::side::Side;
 use crate::stepped::Stepped;
@@ -17,25 +18,33 @@ use px_expr::{Expr, Searchers};
 use px_sample::{OutOfMemory, Scope, Vars};
 use std::alloc::Global;
 
+/// What `set-var` is told: the variable, and the expression whose sample it takes.
+#[derive(Clone, Copy)]
+pub(crate) struct Assignment<'a> {
+    pub(crate) scope: Scope,
+    pub(crate) name: &'a [u8],
+    pub(crate) expr: &'a Expr,
+}
+
 /// `set-var`.
-pub(crate) fn set_var(
+pub(crate) fn set_var<'a>(
     alloc: Global,
     searchers: &mut Searchers,
-    scope: Scope,
-    name: &[u8],
-    expr: &Expr,
-    side: Side<'_>,
-    msg: &Arena,
+    assignment: Assignment<'_>,
+    side: Side<'a>,
+    msg: &'a Arena,
     vars: &mut Vars,
     scratch: &mut Scratch,
 ) -> Result<Stepped, OutOfMemory>
     requires { IsScratch msg.now.size scratch.old }
     ensures came { IfOk result (λ step. (env : Env) → IsAt side.entry env msg.now.blocks vars.old
-        → Came side.entry env (set_var_step msg.now.size scope name.now expr.now env) step msg.now.blocks vars.new) }
-    ensures succeeds { exprs.holds_pattern expr.now ≡ false → IsOk result }
+        → Came side.entry env (set_var_step msg.now.size assignment.entry.scope assignment.entry.name.now assignment.entry.expr.now env) step msg.now.blocks vars.new) }
+    ensures succeeds { exprs.holds_pattern assignment.entry.expr.now ≡ false → IsOk result }
     ensures scratch { IsScratch msg.now.size scratch.new }
 {
-    let made = sample_of(alloc, searchers, expr, side, msg, vars, scratch)?;
+    let Assignment { scope, name, expr } = assignment;
+    let setting = Setting { side, vars };
+    let made = sample_of(alloc, searchers, expr, Place { msg, setting }, scratch)?;
     vars.set(scope, name, made, &scratch.buf);
     Ok(Stepped::Done)
 }

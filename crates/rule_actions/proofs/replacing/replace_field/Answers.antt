@@ -11,20 +11,20 @@ use Rattle.rule_actions.proofs.replacing.replace_field.Goals as goal
 pub returns-in-Unmatched-clause-came : goal.returns-in-Unmatched-clause-came
 returns-in-Unmatched-clause-came c =
     λ env place on here.
-    refield c.args.side env c.args.vars.now c.args.extent c.args.msg.now.size c.args.pat.now c.args.fmt.now place c.args.at c.value-field.result.now c.fill_field.new.scratch.made.bytes c.in_ok-fill_field.field-0 Unmatched Done
+    refield c.args.setting.side env c.args.setting.vars.now c.args.fields.extent c.args.msg.now.size c.args.fields.by.pat.now c.args.fields.by.fmt.now place c.args.at c.value-field.result.now c.fill_field.new.scratch.made.bytes c.in_ok-fill_field.field-0 Unmatched Done
     c.args.msg.now.blocks c.args.msg.now.blocks on here c.requires.header c.value-field.ensures (λ make. c.in_ok-fill_field.ensures.filled env make on) c.in-Unmatched.is (λ field found. on)
 
 pub returns-in-TooLong-clause-came : goal.returns-in-TooLong-clause-came
 returns-in-TooLong-clause-came c =
     λ env place on here.
-    refield c.args.side env c.args.vars.now c.args.extent c.args.msg.now.size c.args.pat.now c.args.fmt.now place c.args.at c.value-field.result.now c.fill_field.new.scratch.made.bytes c.in_ok-fill_field.field-0 TooLong (Failed Bytes)
+    refield c.args.setting.side env c.args.setting.vars.now c.args.fields.extent c.args.msg.now.size c.args.fields.by.pat.now c.args.fields.by.fmt.now place c.args.at c.value-field.result.now c.fill_field.new.scratch.made.bytes c.in_ok-fill_field.field-0 TooLong (Failed Bytes)
     c.args.msg.now.blocks c.args.msg.now.blocks on here c.requires.header c.value-field.ensures (λ make. c.in_ok-fill_field.ensures.filled env make on) c.in-TooLong.is (λ field found. (refl, on))
 
 pub returns-in-Made-clause-came : goal.returns-in-Made-clause-came
 returns-in-Made-clause-came c =
     λ env place on here.
-    refield c.args.side env c.args.vars.now c.args.extent c.args.msg.now.size c.args.pat.now c.args.fmt.now place c.args.at c.value-field.result.now c.fill_field.new.scratch.made.bytes c.in_ok-fill_field.field-0 Made c.put_value.result
+    refield c.args.setting.side env c.args.setting.vars.now c.args.fields.extent c.args.msg.now.size c.args.fields.by.pat.now c.args.fields.by.fmt.now place c.args.at c.value-field.result.now c.fill_field.new.scratch.made.bytes c.in_ok-fill_field.field-0 Made c.put_value.result
     c.args.msg.now.blocks c.put_value.new.msg.blocks on here c.requires.header c.value-field.ensures (λ make. c.in_ok-fill_field.ensures.filled env make on) c.in-Made.is
     (λ field found.
-    subst (λ (held : List ℕ). Came c.args.side env (by_value c.args.msg.now.size env held (with_value env.head place field)) c.put_value.result c.put_value.new.msg.blocks c.args.vars.now) c.bytes.ensures.bytes
-    (c.put_value.ensures.came c.args.side env c.args.vars.now place field on here found))
+    subst (λ (held : List ℕ). Came c.args.setting.side env (by_value c.args.msg.now.size env held (with_value env.head place field)) c.put_value.result c.put_value.new.msg.blocks c.args.setting.vars.now) c.bytes.ensures.bytes
+    (c.put_value.ensures.came c.args.setting.side env c.args.setting.vars.now place field on here found))

@@ -7,8 +7,8 @@ use Rattle.rule_actions.proofs.replacing.replace_fields.Given as goal
 -- the fields so far had their turn
 abbrev pub invariant-loop-at : goal.invariant-loop-at
 invariant-loop-at l = record {
-  turns : (env : Env) → IsAt l.side env l.initial.msg.blocks l.vars
-      → HadTurns l.side (run_from l.extent l.initial.msg.size l.name l.pat l.fmt 0 env) l.extent l.initial.msg.size l.name l.pat l.fmt (l.at - 1) l.msg.blocks l.vars;
+  turns : (env : Env) → IsAt l.setting.side env l.initial.msg.blocks l.setting.vars.now
+      → HadTurns l.setting.side (run_from l.fields.extent l.initial.msg.size l.fields.name.now l.fields.by.pat.now l.fields.by.fmt.now 0 env) l.fields.extent l.initial.msg.size l.fields.name.now l.fields.by.pat.now l.fields.by.fmt.now (l.at - 1) l.msg.blocks l.setting.vars.now;
   size : l.msg.size ≡ l.initial.msg.size;
   len : length l.msg.blocks ≡ length l.initial.msg.blocks;
   scratch : IsScratch l.initial.msg.size l.scratch;

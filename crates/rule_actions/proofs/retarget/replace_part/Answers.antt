@@ -11,14 +11,14 @@ pub returns-in-Unmatched-clause-came : goal.returns-in-Unmatched-clause-came
 returns-in-Unmatched-clause-came c =
     λ env at.
     let line = c.in-Some.line in
-    repart c.args.side env c.args.vars.now c.args.msg.now.size c.args.part c.args.pat.now c.args.fmt.now c.part_of-text.result.now c.fill.new.scratch.made.bytes c.in_ok-fill.field-0 Unmatched Done c.args.msg.now.blocks
+    repart c.args.setting.side env c.args.setting.vars.now c.args.msg.now.size c.args.part c.args.by.pat.now c.args.by.fmt.now c.part_of-text.result.now c.fill.new.scratch.made.bytes c.in_ok-fill.field-0 Unmatched Done c.args.msg.now.blocks
     c.args.msg.now.blocks line.a.now line.b.now line.c.now at (sym c.in-Some.ensures) c.part_of-text.ensures (λ make. c.in_ok-fill.ensures.filled env make at) c.in-Unmatched.is at
 
 pub returns-in-TooLong-clause-came : goal.returns-in-TooLong-clause-came
 returns-in-TooLong-clause-came c =
     λ env at.
     let line = c.in-Some.line in
-    repart c.args.side env c.args.vars.now c.args.msg.now.size c.args.part c.args.pat.now c.args.fmt.now c.part_of-text.result.now c.fill.new.scratch.made.bytes c.in_ok-fill.field-0 TooLong (Failed Bytes) c.args.msg.now.blocks
+    repart c.args.setting.side env c.args.setting.vars.now c.args.msg.now.size c.args.part c.args.by.pat.now c.args.by.fmt.now c.part_of-text.result.now c.fill.new.scratch.made.bytes c.in_ok-fill.field-0 TooLong (Failed Bytes) c.args.msg.now.blocks
     c.args.msg.now.blocks line.a.now line.b.now line.c.now at (sym c.in-Some.ensures) c.part_of-text.ensures (λ make. c.in_ok-fill.ensures.filled env make at) c.in-TooLong.is (refl, at)
 
 pub returns-in-Made-clause-came : goal.returns-in-Made-clause-came
@@ -26,7 +26,7 @@ returns-in-Made-clause-came c =
     λ env at.
     let line = c.in-Some.line in
     let held = c.fill.new.scratch.made.bytes in
-    repart c.args.side env c.args.vars.now c.args.msg.now.size c.args.part c.args.pat.now c.args.fmt.now c.part_of-text.result.now c.fill.new.scratch.made.bytes c.in_ok-fill.field-0 Made c.put_made.result c.args.msg.now.blocks
+    repart c.args.setting.side env c.args.setting.vars.now c.args.msg.now.size c.args.part c.args.by.pat.now c.args.by.fmt.now c.part_of-text.result.now c.fill.new.scratch.made.bytes c.in_ok-fill.field-0 Made c.put_made.result c.args.msg.now.blocks
     c.put_made.new.msg.blocks line.a.now line.b.now line.c.now at (sym c.in-Some.ensures) c.part_of-text.ensures (λ make. c.in_ok-fill.ensures.filled env make at) c.in-Made.is
-    (of_parts c.args.side env c.args.vars.now (λ method target version. sent_to c.args.msg.now.size env method (with_part c.args.part target held) version) c.put_made.result c.args.msg.now.blocks c.put_made.new.msg.blocks
-    line.a.now line.b.now line.c.now at (sym c.in-Some.ensures) (c.put_made.ensures.came c.args.side env c.args.vars.now at))
+    (of_parts c.args.setting.side env c.args.setting.vars.now (λ method target version. sent_to c.args.msg.now.size env method (with_part c.args.part target held) version) c.put_made.result c.args.msg.now.blocks c.put_made.new.msg.blocks
+    line.a.now line.b.now line.c.now at (sym c.in-Some.ensures) (c.put_made.ensures.came c.args.setting.side env c.args.setting.vars.now at))
