@@ -6,14 +6,13 @@ ghost use Rattle.rule_model.specs.Actions.{location_holds_pattern};
 ghost use Rattle.rule_actions.specs.Given.{Env};
 ghost use Rattle.rule_actions.specs.Edits.{by_text};
 ghost use Rattle.rule_actions.specs.Replies as spec;
-ghost use Rattle.rule_actions.specs.Outcome.{IsScratch, IsAt, IsMade, Answers};
+ghost use Rattle.rule_actions.specs.Outcome.{IsScratch, IsPlaceOf, IsMade, Answers};
 ghost use Rattle.rule_actions.specs.Written.{led_target};
 
 use crate::fields::{are_value_bytes, step_of};
 use crate::location::{join_prefixed, join_schemed, led_target};
-use crate::place::{Place, Setting};
+use crate::place::Place;
 use crate::scratch::Scratch;
-use crate::side::Side;
 use crate::stepped::Stepped;
 use crate::texts::write_text;
 use http_fetch::host_in;
@@ -22,9 +21,20 @@ use htx_arena::Arena;
 use log_format::Fmt;
 use px_bytes::trim;
 use px_expr::Searchers;
-use px_sample::{Buf, OutOfMemory, Vars};
+use px_sample::{Buf, OutOfMemory};
 use rule_model::RedirectTo;
 use std::alloc::Global;
+
+/// Where a redirect leads, and with what status.
+#[derive(Clone, Copy)]
+pub(crate) struct Destination<'a> {
+    pub(crate) to: &'a RedirectTo,
+    pub(crate) code: u16,
+    /// The location is without the target's query.
+    pub(crate) drop_query: bool,
+    /// A `/` stands behind the path in place of the query.
+    pub(crate) append_slash: bool,
+}
 
 /// The format of a location.
 fn format_of(to: &RedirectTo) -> &Fmt
@@ -61,10 +71,7 @@ fn lead_if(held: bool, code: u16, location: &[u8], reply: &mut Arena) -> Stepped
 
 /// Writes the redirect by the text of its format. `made` takes the location.
 fn lead(
-    to: &RedirectTo,
-    code: u16,
-    drop_query: bool,
-    append_slash: bool,
+    destination: Destination<'_>,
     msg: &Arena,
     text: &[u8],
     made: &mut Buf,
@@ -73,10 +80,16 @@ fn lead(
     requires empty { reply.old.blocks ≡ [] }
     requires made { made.old.cap ≡ reply.old.size }
     requires within { length text.now ≤ reply.old.size }
-    ensures came { Answers (by_text reply.old.size (spec.location_by to.now drop_query append_slash text.now (host_in msg.now.blocks) (target_parts (led_target msg.now.blocks))) (spec.led_to reply.old.size code)) result reply.new.blocks }
+    ensures came { Answers (by_text reply.old.size (spec.location_by destination.entry.to.now destination.entry.drop_query destination.entry.append_slash text.now (host_in msg.now.blocks) (target_parts (led_target msg.now.blocks))) (spec.led_to reply.old.size destination.entry.code)) result reply.new.blocks }
     ensures size { reply.new.size ≡ reply.old.size }
     ensures made { made.new.cap ≡ made.old.cap }
 {
+    let Destination {
+        to,
+        code,
+        drop_query,
+        append_slash,
+    } = destination;
     match to {
         RedirectTo::Location(_) => lead_if(true, code, text, reply),
         RedirectTo::Prefix(_) => {
@@ -94,40 +107,24 @@ fn lead(
 pub(crate) fn redirect(
     alloc: Global,
     searchers: &mut Searchers,
-    to: &RedirectTo,
-    code: u16,
-    drop_query: bool,
-    append_slash: bool,
-    side: Side<'_>,
-    msg: &Arena,
-    vars: &Vars,
+    destination: Destination<'_>,
+    place: Place<'_>,
     scratch: &mut Scratch,
     reply: &mut Arena,
 ) -> Result<Stepped, OutOfMemory>
-    requires scratch { IsScratch msg.now.size scratch.old }
-    requires sizes { reply.old.size ≡ msg.now.size }
+    requires scratch { IsScratch place.msg.now.size scratch.old }
+    requires sizes { reply.old.size ≡ place.msg.now.size }
     requires empty { reply.old.blocks ≡ [] }
-    ensures came { IfOk result (λ step. (env : Env) → IsAt side.entry env msg.now.blocks vars.now
-        → Answers (spec.redirected msg.now.size to.now code drop_query append_slash env) step reply.new.blocks) }
-    ensures succeeds { location_holds_pattern to.now ≡ false → IsOk result }
+    ensures came { IfOk result (λ step. (env : Env) → IsPlaceOf env place.entry
+        → Answers (spec.redirected place.entry.msg.now.size destination.entry.to.now destination.entry.code destination.entry.drop_query destination.entry.append_slash env) step reply.new.blocks) }
+    ensures succeeds { location_holds_pattern destination.entry.to.now ≡ false → IsOk result }
     ensures size { reply.new.size ≡ reply.old.size }
-    ensures scratch { IsScratch msg.now.size scratch.new }
+    ensures scratch { IsScratch place.entry.msg.now.size scratch.new }
 {
-    let setting = Setting { side, vars };
-    let place = Place { msg, setting };
-    if !write_text(alloc, searchers, format_of(to), place, scratch)? {
+    let fmt = format_of(destination.to);
+    if !write_text(alloc, searchers, fmt, place, scratch)? {
         return Ok(Stepped::Failed(Why::Bytes));
     }
     let Scratch { text, made, .. } = scratch;
-    let step = lead(
-        to,
-        code,
-        drop_query,
-        append_slash,
-        msg,
-        text.bytes(),
-        made,
-        reply,
-    );
-    Ok(step)
+    Ok(lead(destination, place.msg, text.bytes(), made, reply))
 }

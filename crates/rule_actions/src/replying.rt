@@ -8,7 +8,8 @@ ghost use Rattle.rule_actions.specs.Answering.{answers};
 ghost use Rattle.rule_actions.specs.Does.{Replied};
 ghost use Rattle.rule_actions.specs.Outcome.{IsScratch, IsAt};
 
-use crate::redirect::redirect;
+use crate::place::{Place, Setting};
+use crate::redirect::{Destination, redirect};
 use crate::returning::return_reply;
 use crate::scratch::Scratch;
 use crate::side::Side;
@@ -52,25 +53,23 @@ pub fn run_reply(
     ensures reply_size { reply.new.size ≡ reply.old.size }
     ensures scratch { IsScratch msg.now.size scratch.new }
 {
+    let setting = Setting { side, vars };
+    let place = Place { msg, setting };
     match action {
         Action::Redirect {
             to,
             code,
             drop_query,
             append_slash,
-        } => redirect(
-            alloc,
-            searchers,
-            to,
-            *code,
-            *drop_query,
-            *append_slash,
-            side,
-            msg,
-            vars,
-            scratch,
-            reply,
-        ),
+        } => {
+            let destination = Destination {
+                to,
+                code: *code,
+                drop_query: *drop_query,
+                append_slash: *append_slash,
+            };
+            redirect(alloc, searchers, destination, place, scratch, reply)
+        }
         Action::Return {
             status,
             content_type,

@@ -12,17 +12,17 @@ use Rattle.rule_actions.proofs.redirect.redirect.Goals as goal
 pub returns-then-not-branch-clause-came : goal.returns-then-not-branch-clause-came
 returns-then-not-branch-clause-came c =
     λ env at.
-    let size = c.args.msg.now.size in
-    unled size c.args.code c.args.to.now c.args.drop_query c.args.append_slash env c.in_ok-write_text.field-0 (text_on size env c.format_of.result.now) c.write_text.new.scratch.text.bytes c.args.reply.now.blocks
-    (ap (text_on size env) c.format_of.ensures) (c.in_ok-write_text.ensures.made env at) c.if-not-branch.true c.requires.empty
+    let size = c.args.place.msg.now.size in
+    unled size c.args.destination.code c.args.destination.to.now c.args.destination.drop_query c.args.destination.append_slash env c.in_ok-write_text.field-0 (text_on size env c.format_of-fmt.result.now) c.write_text.new.scratch.text.bytes c.args.reply.now.blocks
+    (ap (text_on size env) c.format_of-fmt.ensures) (c.in_ok-write_text.ensures.made env at) c.if-not-branch.true c.requires.empty
 
 pub returns-clause-came : goal.returns-clause-came
 returns-clause-came c =
     λ env at.
-    let size = c.args.msg.now.size in
-    let to = c.args.to.now in
-    let old = c.args.msg.now.blocks in
-    led c.args.side size c.args.code to c.args.drop_query c.args.append_slash env c.in_ok-write_text.field-0 (text_on size env c.format_of.result.now) c.write_text.new.scratch.text.bytes c.bytes.result.now old c.args.vars.now
-    c.lead-step.result c.lead-step.new.reply.blocks at (ap (text_on size env) c.format_of.ensures) (c.in_ok-write_text.ensures.made env at) c.if-not-branch.false c.bytes.ensures.bytes
-    (subst (λ n. Answers (by_text n (location_by to c.args.drop_query c.args.append_slash c.bytes.result.now (host_in old) (target_parts (led_target old))) (led_to n c.args.code)) c.lead-step.result c.lead-step.new.reply.blocks)
-    c.requires.sizes c.lead-step.ensures.came)
+    let size = c.args.place.msg.now.size in
+    let to = c.args.destination.to.now in
+    let old = c.args.place.msg.now.blocks in
+    led c.args.place.setting.side size c.args.destination.code to c.args.destination.drop_query c.args.destination.append_slash env c.in_ok-write_text.field-0 (text_on size env c.format_of-fmt.result.now) c.write_text.new.scratch.text.bytes c.bytes.result.now old c.args.place.setting.vars.now
+    c.lead.result c.lead.new.reply.blocks at (ap (text_on size env) c.format_of-fmt.ensures) (c.in_ok-write_text.ensures.made env at) c.if-not-branch.false c.bytes.ensures.bytes
+    (subst (λ n. Answers (by_text n (location_by to c.args.destination.drop_query c.args.destination.append_slash c.bytes.result.now (host_in old) (target_parts (led_target old))) (led_to n c.args.destination.code)) c.lead.result c.lead.new.reply.blocks)
+    c.requires.sizes c.lead.ensures.came)
