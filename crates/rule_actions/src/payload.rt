@@ -1,20 +1,19 @@
 //! The payload of a `return`, its type and its length (RFC 9110 section 8).
-ghost use Rattle.std.specs.Prelude.{◌≡◌, false, IsOk, IfOk, option_copied, option_map};
+ghost use Rattle.std.specs.Prelude.{◌≡◌, false, IsOk, IfOk, option_copied, option_map, length};
 ghost use Rattle.px_bytes.specs.Blanks.{trimmed};
 ghost use Rattle.rule_model.specs.Actions.{payload_holds_pattern};
 ghost use Rattle.rule_actions.specs.Given.{Env};
 ghost use Rattle.rule_actions.specs.Replies as spec;
-ghost use Rattle.rule_actions.specs.Outcome.{IsAt};
+ghost use Rattle.rule_actions.specs.Outcome.{IsScratch, IsPlaceOf};
 ghost use Rattle.rule_actions.specs.Written.{body_by, IsBody};
 
 use crate::fields::are_value_bytes;
-use crate::place::{Place, Setting};
-use crate::side::Side;
-use crate::texts::write_into;
-use htx_arena::Arena;
+use crate::place::Place;
+use crate::scratch::Scratch;
+use crate::texts::write_text;
 use px_bytes::trim;
 use px_expr::{Searchers, Text};
-use px_sample::{Buf, OutOfMemory, Vars};
+use px_sample::OutOfMemory;
 use rule_model::Payload;
 use std::alloc::Global;
 
@@ -54,52 +53,34 @@ pub(crate) fn trimmed_type(content_type: Option<&[u8]>) -> Option<&[u8]>
     }
 }
 
-/// The length that is told: that of the payload, but for a status with which no body is sent.
-pub(crate) fn length_by(status: u16, len: usize) -> Option<u64>
-    ensures { result ≡ spec.length_by status len }
+/// The length that is told: that of the payload, but for a status with which no body is sent. `text` holds
+/// the bytes of a format.
+pub(crate) fn length_by(status: u16, payload: &Option<Payload>, text: &[u8]) -> Option<u64>
+    ensures { result ≡ spec.length_by status (length (body_by payload.now text.now)) }
 {
     if status == 204 || status == 304 {
         None
     } else {
-        Some(len as u64)
+        Some(body_by(payload, text).len() as u64)
     }
 }
 
-/// Makes the text of a payload's format in `text`; false where it is longer than the array.
+/// Makes the text of a payload's format in `scratch.text`; false where it is longer than the array.
 pub(crate) fn make_payload(
     alloc: Global,
     searchers: &mut Searchers,
     payload: &Option<Payload>,
-    side: Side<'_>,
-    msg: &Arena,
-    vars: &Vars,
-    text: &mut Buf,
-    buf: &mut Buf,
-    spare: &mut Buf,
+    place: Place<'_>,
+    scratch: &mut Scratch,
 ) -> Result<bool, OutOfMemory>
-    requires text { text.old.cap ≡ msg.now.size }
-    requires buf { buf.old.cap ≡ msg.now.size }
-    requires spare { spare.old.cap ≡ msg.now.size }
-    ensures made { IfOk result (λ good. (env : Env) → IsAt side.entry env msg.now.blocks vars.now → IsBody msg.now.size env payload.now good text.new.bytes) }
+    requires { IsScratch place.msg.now.size scratch.old }
+    ensures made { IfOk result (λ good. (env : Env) → IsPlaceOf env place.entry → IsBody place.entry.msg.now.size env payload.now good scratch.new.text.bytes) }
     ensures succeeds { payload_holds_pattern payload.now ≡ false → IsOk result }
-    ensures text { text.new.cap ≡ msg.now.size }
-    ensures buf { buf.new.cap ≡ msg.now.size }
-    ensures spare { spare.new.cap ≡ msg.now.size }
+    ensures scratch { IsScratch place.entry.msg.now.size scratch.new }
 {
     match payload {
         None | Some(Payload::Literal(_)) => Ok(true),
-        Some(Payload::Format(fmt)) => {
-            let setting = Setting { side, vars };
-            write_into(
-                alloc,
-                searchers,
-                fmt,
-                Place { msg, setting },
-                text,
-                buf,
-                spare,
-            )
-        }
+        Some(Payload::Format(fmt)) => write_text(alloc, searchers, fmt, place, scratch),
     }
 }
 

@@ -9,12 +9,12 @@ ghost use Rattle.rule_model.specs.Actions.{hdr_holds_pattern};
 ghost use Rattle.rule_model.specs.Valid.{IsMadeName};
 ghost use Rattle.rule_actions.specs.declared.stepped.Stepped.TheVariants.{Done};
 ghost use Rattle.rule_actions.specs.Given.{Env};
-ghost use Rattle.rule_actions.specs.Outcome.{IsAt};
+ghost use Rattle.rule_actions.specs.Outcome.{IsScratch, IsPlaceOf};
 ghost use Rattle.rule_actions.specs.Written.{IsHead, IsValue, IsPut, ArePut, put_step};
 
 use crate::fields::are_value_bytes;
-use crate::place::{Place, Setting};
-use crate::side::Side;
+use crate::place::Place;
+use crate::scratch::Scratch;
 use crate::stepped::Stepped;
 use crate::texts::write_into;
 use header_ops::add_field;
@@ -22,33 +22,30 @@ use http_model::Why;
 use htx_arena::Arena;
 use px_bytes::trim;
 use px_expr::Searchers;
-use px_sample::{Buf, OutOfMemory, Vars};
+use px_sample::OutOfMemory;
 use rule_model::{Hdr, HdrList};
 use std::alloc::Global;
 
-/// Makes the text of a field in `made`; false where it is longer than the array, or may not stand in a field value.
+/// Makes the text of a field in `scratch.made`; false where it is longer than the array, or may not stand in a field value.
 fn make_value(
     alloc: Global,
     searchers: &mut Searchers,
     hdr: &Hdr,
-    side: Side<'_>,
-    msg: &Arena,
-    vars: &Vars,
-    made: &mut Buf,
-    buf: &mut Buf,
-    spare: &mut Buf,
+    place: Place<'_>,
+    scratch: &mut Scratch,
 ) -> Result<bool, OutOfMemory>
-    requires made { made.old.cap ≡ msg.now.size }
-    requires buf { buf.old.cap ≡ msg.now.size }
-    requires spare { spare.old.cap ≡ msg.now.size }
-    ensures made { IfOk result (λ good. (env : Env) → IsAt side.entry env msg.now.blocks vars.now → IsValue msg.now.size env hdr.now good made.new.bytes) }
+    requires scratch { IsScratch place.msg.now.size scratch.old }
+    ensures made { IfOk result (λ good. (env : Env) → IsPlaceOf env place.entry → IsValue place.entry.msg.now.size env hdr.now good scratch.new.made.bytes) }
     ensures succeeds { hdr_holds_pattern hdr.now ≡ false → IsOk result }
-    ensures cap { made.new.cap ≡ msg.now.size }
-    ensures buf { buf.new.cap ≡ msg.now.size }
-    ensures spare { spare.new.cap ≡ msg.now.size }
+    ensures text { scratch.new.text ≡ scratch.old.text }
+    ensures scratch { IsScratch place.entry.msg.now.size scratch.new }
 {
-    let setting = Setting { side, vars };
-    let place = Place { msg, setting };
+    let Scratch {
+        made,
+        buf,
+        spare,
+        ..
+    } = scratch;
     if !write_into(alloc, searchers, &hdr.value, place, made, buf, spare)? {
         return Ok(false);
     }
@@ -85,40 +82,34 @@ fn step_by(fits: bool) -> Stepped
 }
 
 /// Puts fields behind the head of a reply, if it fits. Each text is made, so that one which is not good is told before the room is.
+/// `scratch.text` stays: it may hold the payload.
 pub(crate) fn put_fields(
     alloc: Global,
     searchers: &mut Searchers,
     hdrs: &HdrList,
-    side: Side<'_>,
-    msg: &Arena,
-    vars: &Vars,
+    place: Place<'_>,
     begun: bool,
-    made: &mut Buf,
-    buf: &mut Buf,
-    spare: &mut Buf,
+    scratch: &mut Scratch,
     reply: &mut Arena,
 ) -> Result<Stepped, OutOfMemory>
-    requires made { made.old.cap ≡ msg.now.size }
-    requires buf { buf.old.cap ≡ msg.now.size }
-    requires spare { spare.old.cap ≡ msg.now.size }
+    requires scratch { IsScratch place.msg.now.size scratch.old }
     requires head { OnTrue begun (IsHead reply.old.blocks) }
     requires names { AllByRecursion (λ hdr. IsMadeName hdr.name) hdrs.now }
-    ensures put { IfOk result (λ step. (env : Env) (head : Head) → IsAt side.entry env msg.now.blocks vars.now → IsPut reply.old.size head [] begun reply.old.blocks
-        → ArePut msg.now.size reply.old.size env head hdrs.now step reply.new.blocks) }
+    ensures put { IfOk result (λ step. (env : Env) (head : Head) → IsPlaceOf env place.entry → IsPut reply.old.size head [] begun reply.old.blocks
+        → ArePut place.entry.msg.now.size reply.old.size env head hdrs.now step reply.new.blocks) }
     ensures head { IfOk result (λ step. step ≡ Done → IsHead reply.new.blocks) }
     ensures succeeds { list_any hdr_holds_pattern hdrs.now ≡ false → IsOk result }
-    ensures made { made.new.cap ≡ msg.now.size }
-    ensures buf { buf.new.cap ≡ msg.now.size }
-    ensures spare { spare.new.cap ≡ msg.now.size }
     ensures size { reply.new.size ≡ reply.old.size }
+    ensures text { scratch.new.text ≡ scratch.old.text }
+    ensures scratch { IsScratch place.entry.msg.now.size scratch.new }
 {
     let mut fits = begun;
     for at in 0..hdrs.len() {
         let hdr = hdrs.get(at);
-        if !make_value(alloc, searchers, hdr, side, msg, vars, made, buf, spare)? {
+        if !make_value(alloc, searchers, hdr, place, scratch)? {
             return Ok(Stepped::Failed(Why::Bytes));
         }
-        fits = put_field(fits, reply, hdr.name.as_slice(), made.bytes());
+        fits = put_field(fits, reply, hdr.name.as_slice(), scratch.made.bytes());
     }
     Ok(step_by(fits))
 }

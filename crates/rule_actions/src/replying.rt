@@ -10,7 +10,7 @@ ghost use Rattle.rule_actions.specs.Outcome.{IsScratch, IsAt};
 
 use crate::place::{Place, Setting};
 use crate::redirect::{Destination, redirect};
-use crate::returning::return_reply;
+use crate::returning::{Returned, return_reply};
 use crate::scratch::Scratch;
 use crate::side::Side;
 use crate::stepped::Stepped;
@@ -75,19 +75,15 @@ pub fn run_reply(
             content_type,
             payload,
             hdrs,
-        } => return_reply(
-            alloc,
-            searchers,
-            *status,
-            content_type,
-            payload,
-            hdrs,
-            side,
-            msg,
-            vars,
-            scratch,
-            reply,
-        ),
+        } => {
+            let returned = Returned {
+                status: *status,
+                content_type,
+                payload,
+                hdrs,
+            };
+            return_reply(alloc, searchers, returned, place, scratch, reply)
+        }
         _ => unreachable!(),
     }
 }

@@ -9,22 +9,32 @@ ghost use Rattle.px_bytes.specs.Blanks.{trimmed};
 ghost use Rattle.rule_model.specs.Actions.{payload_holds_pattern, hdr_holds_pattern};
 ghost use Rattle.rule_model.specs.Valid.{IsMadeName};
 ghost use Rattle.rule_actions.specs.Given.{Env};
-ghost use Rattle.rule_actions.specs.Replies.{returned, length_by};
-ghost use Rattle.rule_actions.specs.Outcome.{IsScratch, IsAt, Answers};
+ghost use Rattle.rule_actions.specs.Replies as spec;
+ghost use Rattle.rule_actions.specs.Replies.{length_by};
+ghost use Rattle.rule_actions.specs.Outcome.{IsScratch, IsPlaceOf, Answers};
 ghost use Rattle.rule_actions.specs.Written.{IsHead, IsPut, IsEnded, IsReply, IsWritten, body_by};
 
 use crate::payload::{body_by, is_good_type, length_by, make_payload, trimmed_type, type_by};
+use crate::place::Place;
 use crate::reply_fields::put_fields;
 use crate::scratch::Scratch;
-use crate::side::Side;
 use crate::stepped::Stepped;
 use http_model::Why;
 use htx_arena::Arena;
 use px_expr::{Searchers, Text};
 use px_reply::{add_payload, begin_reply, has_room_to_close};
-use px_sample::{Buf, OutOfMemory, Vars};
+use px_sample::OutOfMemory;
 use rule_model::{HdrList, Payload};
 use std::alloc::Global;
+
+/// What a `return` sends.
+#[derive(Clone, Copy)]
+pub(crate) struct Returned<'a> {
+    pub(crate) status: u16,
+    pub(crate) content_type: &'a Option<Text>,
+    pub(crate) payload: &'a Option<Payload>,
+    pub(crate) hdrs: &'a HdrList,
+}
 
 /// Begins a reply in an empty array; false where its head does not fit.
 fn begin(status: u16, content_type: Option<&[u8]>, length: Option<u64>, reply: &mut Arena) -> bool
@@ -57,43 +67,36 @@ fn end(body: &[u8], reply: &mut Arena) -> Stepped
     }
 }
 
-/// The reply of a payload whose text is held, or some of its blocks where it fails. The text of each field is made, and tested before the room is.
+/// The reply of a payload whose text `scratch.text` holds, or some of its blocks where it fails. The text of each field is made, and tested before the room is.
 fn write_parts(
     alloc: Global,
     searchers: &mut Searchers,
-    status: u16,
+    returned: Returned<'_>,
     content_type: Option<&[u8]>,
-    payload: &Option<Payload>,
-    text: &Buf,
-    hdrs: &HdrList,
-    side: Side<'_>,
-    msg: &Arena,
-    vars: &Vars,
-    made: &mut Buf,
-    buf: &mut Buf,
-    spare: &mut Buf,
+    place: Place<'_>,
+    scratch: &mut Scratch,
     reply: &mut Arena,
 ) -> Result<Stepped, OutOfMemory>
-    requires made { made.old.cap ≡ msg.now.size }
-    requires buf { buf.old.cap ≡ msg.now.size }
-    requires spare { spare.old.cap ≡ msg.now.size }
+    requires scratch { IsScratch place.msg.now.size scratch.old }
     requires empty { reply.old.blocks ≡ [] }
-    requires names { AllByRecursion (λ hdr. IsMadeName hdr.name) hdrs.now }
-    ensures put { IfOk result (λ step. (env : Env) → IsAt side.entry env msg.now.blocks vars.now
-        → IsReply msg.now.size reply.old.size env (reply_head status (option_map trimmed (option_copied content_type.entry)) (length_by status (length (body_by payload.now text.now.bytes)))) hdrs.now (body_by payload.now text.now.bytes) step reply.new.blocks) }
-    ensures succeeds { list_any hdr_holds_pattern hdrs.now ≡ false → IsOk result }
-    ensures made { made.new.cap ≡ msg.now.size }
-    ensures buf { buf.new.cap ≡ msg.now.size }
-    ensures spare { spare.new.cap ≡ msg.now.size }
+    requires names { AllByRecursion (λ hdr. IsMadeName hdr.name) returned.hdrs.now }
+    ensures put { IfOk result (λ step. (env : Env) → IsPlaceOf env place.entry
+        → IsReply place.entry.msg.now.size reply.old.size env (reply_head returned.entry.status (option_map trimmed (option_copied content_type.entry)) (length_by returned.entry.status (length (body_by returned.entry.payload.now scratch.old.text.bytes)))) returned.entry.hdrs.now (body_by returned.entry.payload.now scratch.old.text.bytes) step reply.new.blocks) }
+    ensures succeeds { list_any hdr_holds_pattern returned.entry.hdrs.now ≡ false → IsOk result }
     ensures size { reply.new.size ≡ reply.old.size }
+    ensures scratch { IsScratch place.entry.msg.now.size scratch.new }
 {
-    let body = body_by(payload, text.bytes());
-    let begun = begin(status, content_type, length_by(status, body.len()), reply);
-    let step = put_fields(
-        alloc, searchers, hdrs, side, msg, vars, begun, made, buf, spare, reply,
-    )?;
+    let Returned {
+        status,
+        payload,
+        hdrs,
+        ..
+    } = returned;
+    let length = length_by(status, payload, scratch.text.bytes());
+    let begun = begin(status, content_type, length, reply);
+    let step = put_fields(alloc, searchers, hdrs, place, begun, scratch, reply)?;
     match step {
-        Stepped::Done => Ok(end(body, reply)),
+        Stepped::Done => Ok(end(body_by(payload, scratch.text.bytes()), reply)),
         Stepped::Failed(why) => Ok(Stepped::Failed(why)),
     }
 }
@@ -102,53 +105,35 @@ fn write_parts(
 fn write_reply(
     alloc: Global,
     searchers: &mut Searchers,
-    status: u16,
-    content_type: &Option<Text>,
-    payload: &Option<Payload>,
-    hdrs: &HdrList,
-    side: Side<'_>,
-    msg: &Arena,
-    vars: &Vars,
+    returned: Returned<'_>,
+    place: Place<'_>,
     scratch: &mut Scratch,
     reply: &mut Arena,
 ) -> Result<Stepped, OutOfMemory>
-    requires scratch { IsScratch msg.now.size scratch.old }
-    requires sizes { reply.old.size ≡ msg.now.size }
+    requires scratch { IsScratch place.msg.now.size scratch.old }
+    requires sizes { reply.old.size ≡ place.msg.now.size }
     requires empty { reply.old.blocks ≡ [] }
-    requires names { AllByRecursion (λ hdr. IsMadeName hdr.name) hdrs.now }
-    ensures written { IfOk result (λ step. (env : Env) → IsAt side.entry env msg.now.blocks vars.now
-        → IsWritten (returned msg.now.size status content_type.now payload.now hdrs.now env) step reply.new.blocks) }
-    ensures succeeds { payload_holds_pattern payload.now || list_any hdr_holds_pattern hdrs.now ≡ false → IsOk result }
+    requires names { AllByRecursion (λ hdr. IsMadeName hdr.name) returned.hdrs.now }
+    ensures written { IfOk result (λ step. (env : Env) → IsPlaceOf env place.entry
+        → IsWritten (spec.returned place.entry.msg.now.size returned.entry.status returned.entry.content_type.now returned.entry.payload.now returned.entry.hdrs.now env) step reply.new.blocks) }
+    ensures succeeds { payload_holds_pattern returned.entry.payload.now || list_any hdr_holds_pattern returned.entry.hdrs.now ≡ false → IsOk result }
     ensures size { reply.new.size ≡ reply.old.size }
-    ensures scratch { IsScratch msg.now.size scratch.new }
+    ensures scratch { IsScratch place.entry.msg.now.size scratch.new }
 {
-    let content_type = type_by(payload, content_type);
+    let content_type = type_by(returned.payload, returned.content_type);
     if !is_good_type(content_type) {
         return Ok(Stepped::Failed(Why::Bytes));
     }
-    let Scratch {
-        text,
-        made,
-        buf,
-        spare,
-    } = scratch;
-    if !make_payload(alloc, searchers, payload, side, msg, vars, text, buf, spare)? {
+    if !make_payload(alloc, searchers, returned.payload, place, scratch)? {
         return Ok(Stepped::Failed(Why::Bytes));
     }
     write_parts(
         alloc,
         searchers,
-        status,
+        returned,
         content_type,
-        payload,
-        text,
-        hdrs,
-        side,
-        msg,
-        vars,
-        made,
-        buf,
-        spare,
+        place,
+        scratch,
         reply,
     )
 }
@@ -174,38 +159,21 @@ fn whole(step: Stepped, reply: &mut Arena) -> Stepped
 pub(crate) fn return_reply(
     alloc: Global,
     searchers: &mut Searchers,
-    status: u16,
-    content_type: &Option<Text>,
-    payload: &Option<Payload>,
-    hdrs: &HdrList,
-    side: Side<'_>,
-    msg: &Arena,
-    vars: &Vars,
+    returned: Returned<'_>,
+    place: Place<'_>,
     scratch: &mut Scratch,
     reply: &mut Arena,
 ) -> Result<Stepped, OutOfMemory>
-    requires scratch { IsScratch msg.now.size scratch.old }
-    requires sizes { reply.old.size ≡ msg.now.size }
+    requires scratch { IsScratch place.msg.now.size scratch.old }
+    requires sizes { reply.old.size ≡ place.msg.now.size }
     requires empty { reply.old.blocks ≡ [] }
-    requires names { AllByRecursion (λ hdr. IsMadeName hdr.name) hdrs.now }
-    ensures came { IfOk result (λ step. (env : Env) → IsAt side.entry env msg.now.blocks vars.now
-        → Answers (returned msg.now.size status content_type.now payload.now hdrs.now env) step reply.new.blocks) }
-    ensures succeeds { payload_holds_pattern payload.now || list_any hdr_holds_pattern hdrs.now ≡ false → IsOk result }
+    requires names { AllByRecursion (λ hdr. IsMadeName hdr.name) returned.hdrs.now }
+    ensures came { IfOk result (λ step. (env : Env) → IsPlaceOf env place.entry
+        → Answers (spec.returned place.entry.msg.now.size returned.entry.status returned.entry.content_type.now returned.entry.payload.now returned.entry.hdrs.now env) step reply.new.blocks) }
+    ensures succeeds { payload_holds_pattern returned.entry.payload.now || list_any hdr_holds_pattern returned.entry.hdrs.now ≡ false → IsOk result }
     ensures size { reply.new.size ≡ reply.old.size }
-    ensures scratch { IsScratch msg.now.size scratch.new }
+    ensures scratch { IsScratch place.entry.msg.now.size scratch.new }
 {
-    let step = write_reply(
-        alloc,
-        searchers,
-        status,
-        content_type,
-        payload,
-        hdrs,
-        side,
-        msg,
-        vars,
-        scratch,
-        reply,
-    )?;
+    let step = write_reply(alloc, searchers, returned, place, scratch, reply)?;
     Ok(whole(step, reply))
 }

@@ -3,7 +3,7 @@ use Rattle.std.specs.Bool.{OnTrue}
 use Rattle.std.specs.List.{list_all}
 use Rattle.http_model.specs.Head.{Head}
 use Rattle.rule_actions.specs.Given.{Env}
-use Rattle.rule_actions.specs.Outcome.{IsAt}
+use Rattle.rule_actions.specs.Outcome.{IsScratch, IsPlaceOf}
 use Rattle.rule_actions.specs.Replies.{is_good_hdr, hdr_field}
 use Rattle.rule_actions.specs.Written.{IsHead, IsPut}
 use Rattle.rule_actions.proofs.reply_fields.put_fields.Given as goal
@@ -11,12 +11,11 @@ use Rattle.rule_actions.proofs.reply_fields.put_fields.Given as goal
 -- the texts so far are good, and their fields stand in the array, or do not fit
 abbrev pub invariant-loop-at : goal.invariant-loop-at
 invariant-loop-at l = record {
-  made : l.made.cap ≡ l.msg.size;
-  buf : l.buf.cap ≡ l.msg.size;
-  spare : l.spare.cap ≡ l.msg.size;
+  text : l.scratch.text ≡ l.initial.scratch.text;
+  scratch : IsScratch l.place.msg.now.size l.scratch;
   size : l.reply.size ≡ l.initial.reply.size;
   head : OnTrue l.fits (IsHead l.reply.blocks);
-  good : (env : Env) → IsAt l.side env l.msg.blocks l.vars → list_all (is_good_hdr l.msg.size env) (take l.at l.hdrs) ≡ true;
-  put : (env : Env) (head : Head) → IsAt l.side env l.msg.blocks l.vars → IsPut l.initial.reply.size head [] l.begun l.initial.reply.blocks
-      → IsPut l.initial.reply.size head (map (hdr_field l.msg.size env) (take l.at l.hdrs)) l.fits l.reply.blocks;
+  good : (env : Env) → IsPlaceOf env l.place → list_all (is_good_hdr l.place.msg.now.size env) (take l.at l.hdrs) ≡ true;
+  put : (env : Env) (head : Head) → IsPlaceOf env l.place → IsPut l.initial.reply.size head [] l.begun l.initial.reply.blocks
+      → IsPut l.initial.reply.size head (map (hdr_field l.place.msg.now.size env) (take l.at l.hdrs)) l.fits l.reply.blocks;
 }

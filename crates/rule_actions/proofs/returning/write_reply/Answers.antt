@@ -6,7 +6,7 @@ use Rattle.http_model.specs.Reply.{reply_head}
 use Rattle.px_bytes.specs.Blanks.{trimmed}
 use Rattle.rule_actions.specs.declared.stepped.Stepped.{Stepped}
 use Rattle.rule_actions.specs.Given.{Env}
-use Rattle.rule_actions.specs.Outcome.{IsAt}
+use Rattle.rule_actions.specs.Outcome.{IsPlaceOf}
 use Rattle.rule_actions.specs.Replies.{is_good_payload, is_good_type, is_good_hdr, type_by, length_by, returned}
 use Rattle.rule_actions.specs.Written.{IsReply, IsWritten, body_by}
 use Rattle.rule_actions.proofs.Sending.{Begins, bad_texts, first_bad, second_bad, reply_is}
@@ -15,40 +15,40 @@ use Rattle.rule_actions.proofs.returning.write_reply.Goals as goal
 pub returns-then-not-is_good_type-clause-written : goal.returns-then-not-is_good_type-clause-written
 returns-then-not-is_good_type-clause-written c =
     λ env at.
-    let size = c.args.msg.now.size in
-    let payload = c.args.payload.now in
-    let bad : is_good_type (type_by payload c.args.content_type.now) ≡ false = ap is_good_type (sym c.type_by-content_type.ensures) ∙ sym c.is_good_type.ensures ∙ c.if-not-is_good_type.true in
-    bad_texts size c.args.status c.args.content_type.now payload c.args.hdrs.now env c.args.reply.now.blocks
-    (second_bad (is_good_payload size env payload) (is_good_type (type_by payload c.args.content_type.now)) (list_all (is_good_hdr size env) c.args.hdrs.now) bad)
+    let size = c.args.place.msg.now.size in
+    let payload = c.args.returned.payload.now in
+    let bad : is_good_type (type_by payload c.args.returned.content_type.now) ≡ false = ap is_good_type (sym c.type_by-content_type.ensures) ∙ sym c.is_good_type.ensures ∙ c.if-not-is_good_type.true in
+    bad_texts size c.args.returned.status c.args.returned.content_type.now payload c.args.returned.hdrs.now env c.args.reply.now.blocks
+    (second_bad (is_good_payload size env payload) (is_good_type (type_by payload c.args.returned.content_type.now)) (list_all (is_good_hdr size env) c.args.returned.hdrs.now) bad)
 
 pub returns-then-not-branch-clause-written : goal.returns-then-not-branch-clause-written
 returns-then-not-branch-clause-written c =
     λ env at.
-    let size = c.args.msg.now.size in
-    let payload = c.args.payload.now in
+    let size = c.args.place.msg.now.size in
+    let payload = c.args.returned.payload.now in
     let made = c.in_ok-make_payload.ensures.made env at in
-    bad_texts size c.args.status c.args.content_type.now payload c.args.hdrs.now env c.args.reply.now.blocks
+    bad_texts size c.args.returned.status c.args.returned.content_type.now payload c.args.returned.hdrs.now env c.args.reply.now.blocks
     (first_bad (is_good_payload size env payload) _ (made.within ∙ c.if-not-branch.true))
 
 pub returns-clause-written : goal.returns-clause-written
 returns-clause-written c =
-    let size = c.args.msg.now.size in
+    let size = c.args.place.msg.now.size in
     let typed = option_copied c.type_by-content_type.result in
-    let body = body_by c.args.payload.now c.make_payload.new.text.bytes in
-    let told = length_by c.args.status (length body) in
+    let body = body_by c.args.returned.payload.now c.make_payload.new.scratch.text.bytes in
+    let told = length_by c.args.returned.status (length body) in
     let good : is_good_type typed ≡ true = sym c.is_good_type.ensures ∙ c.if-not-is_good_type.false in
     IfOk-weaker c.write_parts.result
-    (λ (step : Stepped). (env : Env) → IsAt c.args.side env c.args.msg.now.blocks c.args.vars.now → IsReply size c.args.reply.now.size env (reply_head c.args.status (option_map trimmed typed) told) c.args.hdrs.now body step c.write_parts.new.reply.blocks)
-    (λ (step : Stepped). (env : Env) → IsAt c.args.side env c.args.msg.now.blocks c.args.vars.now → IsWritten (returned size c.args.status c.args.content_type.now c.args.payload.now c.args.hdrs.now env) step c.write_parts.new.reply.blocks)
+    (λ (step : Stepped). (env : Env) → IsPlaceOf env c.args.place → IsReply size c.args.reply.now.size env (reply_head c.args.returned.status (option_map trimmed typed) told) c.args.returned.hdrs.now body step c.write_parts.new.reply.blocks)
+    (λ (step : Stepped). (env : Env) → IsPlaceOf env c.args.place → IsWritten (returned size c.args.returned.status c.args.returned.content_type.now c.args.returned.payload.now c.args.returned.hdrs.now env) step c.write_parts.new.reply.blocks)
     (λ step h. λ env at.
     let made = c.in_ok-make_payload.ensures.made env at in
-    let begins : Begins size c.args.status env c.args.content_type.now c.args.payload.now typed body told = record {
+    let begins : Begins size c.args.returned.status env c.args.returned.content_type.now c.args.returned.payload.now typed body told = record {
       type_is = c.type_by-content_type.ensures;
       good_type = good;
       body_is = made.holds c.if-not-branch.false;
       good_payload = made.within ∙ c.if-not-branch.false;
       told_is = refl;
     } in
-    reply_is size c.args.status env c.args.content_type.now c.args.payload.now c.args.hdrs.now typed body told step c.write_parts.new.reply.blocks begins
-    (subst (λ (n : ℕ). IsReply size n env (reply_head c.args.status (option_map trimmed typed) told) c.args.hdrs.now body step c.write_parts.new.reply.blocks) c.requires.sizes (h env at)))
+    reply_is size c.args.returned.status env c.args.returned.content_type.now c.args.returned.payload.now c.args.returned.hdrs.now typed body told step c.write_parts.new.reply.blocks begins
+    (subst (λ (n : ℕ). IsReply size n env (reply_head c.args.returned.status (option_map trimmed typed) told) c.args.returned.hdrs.now body step c.write_parts.new.reply.blocks) c.requires.sizes (h env at)))
     c.write_parts.ensures.put
