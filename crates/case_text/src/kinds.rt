@@ -11,8 +11,7 @@ pub fn made(alloc: Global, kind: &str, row: Row<'_>) -> Option<Result<Vec<u8>, F
         "configurations" => Some(lines::configured(alloc, row)),
         "commands" => Some(commands::asked(alloc, row)),
         "help" => Some(commands::help_has(alloc, row)),
-        "records" => Some(records::recorded(alloc, row)),
-        "malformed_records" => Some(records::refused(alloc, row)),
+        "records" | "malformed_records" => Some(records::recorded(alloc, row)),
         "reports" => Some(records::reported(alloc, row)),
         _ => None,
     }

@@ -1,22 +1,59 @@
 //! Records and reports.
 use case_rows::{Answers, Fault, Row, Step, decoded, quoted};
-use px_link::{Bytes, Close, End};
-use rec_format::{RecFault, RecKind, Report, Sent, read_first_record, read_record, write_report};
+use px_link::{Bytes, Close, End, Turn};
+use rec_format::{
+    Connection, RecFault, RecKind, Record, Report, Sent, ServerSpec, Stream, read_record,
+    write_report,
+};
 use std::alloc::Global;
 
-/// NAME, a text, and the client's bytes, the server's and the body of a record of the first form, or `none`.
-pub fn recorded(alloc: Global, row: Row<'_>) -> Result<Vec<u8>, Fault> {
-    let text = decoded(alloc, row.field(1).as_bytes())?;
-    let mut answers = Answers::new(alloc);
-    match read_first_record(&text) {
-        Some(record) => {
-            answers.quote(record.client);
-            answers.quote(record.server);
-            answers.quote(record.body);
-        }
-        None => answers.say(b"none"),
+/// Says how a stream ends, and its bytes.
+fn say_stream(stream: &Stream, answers: &mut Answers) {
+    answers.more_name(&stream.ending);
+    answers.more(b" \"");
+    answers.more(stream.bytes.as_slice());
+    answers.more(b"\"");
+}
+
+/// Says after how many bytes a server stops taking, or `all`, and its stream.
+fn say_served(served: &ServerSpec, answers: &mut Answers) {
+    match served.takes {
+        Some(most) => answers.more_count(most),
+        None => answers.more(b"all"),
     }
-    answers.into_text()
+    answers.more(b" ");
+    say_stream(&served.stream, answers);
+}
+
+/// Says a client, and behind it each of its servers, or `refused`.
+fn say_connection(conn: &Connection, answers: &mut Answers) {
+    answers.say(b"client ");
+    say_stream(&conn.client, answers);
+    for server in &conn.servers {
+        answers.say(b"server ");
+        match server {
+            Some(served) => say_served(served, answers),
+            None => answers.more(b"refused"),
+        }
+    }
+}
+
+/// Says each turn, behind the number of its connection.
+fn say_turns(turns: &[(u32, Turn)], answers: &mut Answers) {
+    for turn in turns {
+        answers.count(u64::from(turn.0));
+        answers.more(b" ");
+        answers.more_name(&turn.1);
+    }
+}
+
+/// Says a record: its format, its connections and its turns.
+fn say_record(record: &Record, answers: &mut Answers) {
+    answers.count(u64::from(record.version));
+    for conn in &record.conns {
+        say_connection(conn, answers);
+    }
+    say_turns(&record.turns, answers);
 }
 
 /// Says where a record is refused, and why.
@@ -26,12 +63,13 @@ fn say_refusal(place: u32, kind: RecKind, answers: &mut Answers) {
     answers.more_name(&kind);
 }
 
-/// NAME, a text, and the place of the refused line and the kind of the refusal, or `read`.
-pub fn refused(alloc: Global, row: Row<'_>) -> Result<Vec<u8>, Fault> {
+/// NAME, a text, and the record that it is: its format, its connections and its turns; or the place of the refused line and
+/// the kind of the refusal.
+pub fn recorded(alloc: Global, row: Row<'_>) -> Result<Vec<u8>, Fault> {
     let text = decoded(alloc, row.field(1).as_bytes())?;
     let mut answers = Answers::new(alloc);
     match read_record(alloc, &text) {
-        Ok(_record) => answers.say(b"read"),
+        Ok(record) => say_record(&record, &mut answers),
         Err(RecFault::Refused { place, kind }) => say_refusal(place, kind, &mut answers),
         Err(RecFault::OutOfMemory) => return Err(Fault::OutOfMemory),
     }

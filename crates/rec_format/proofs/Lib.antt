@@ -1,7 +1,5 @@
 pub mod Digits
 pub mod Formats
-pub mod Fronts
-pub mod Records
 pub mod Reports
 pub mod Capped
 mod Several

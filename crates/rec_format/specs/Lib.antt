@@ -1,6 +1,4 @@
 pub mod Lines
-pub mod Record
-pub mod Front
 pub mod Report
 pub mod ReportParts
 pub mod Reports
