@@ -164,18 +164,22 @@ fn put_turns(text: &mut Vec<u8>, turns: &[(u32, Turn)]) -> Result<(), OutOfMemor
     put_moves(text, turns)
 }
 
+/// About how long the entries of servers are.
+fn room_for_servers(servers: &[Option<ServerSpec>]) -> usize {
+    let mut room = servers.len().saturating_mul(ENTRY_ROOM);
+    for served in servers.iter().flatten() {
+        room = room.saturating_add(served.stream.bytes.as_slice().len());
+    }
+    room
+}
+
 /// About how long the text is, so that its memory is taken at once.
 fn room_for(rec: &Record) -> usize {
     let mut room = rec.turns.len().saturating_mul(ENTRY_ROOM / 2);
     for conn in &rec.conns {
         room = room.saturating_add(ENTRY_ROOM);
         room = room.saturating_add(conn.client.bytes.as_slice().len());
-        for entry in &conn.servers {
-            room = room.saturating_add(ENTRY_ROOM);
-            if let Some(served) = entry {
-                room = room.saturating_add(served.stream.bytes.as_slice().len());
-            }
-        }
+        room = room.saturating_add(room_for_servers(&conn.servers));
     }
     room
 }
