@@ -1,9 +1,8 @@
 -- How many connections an accepted record has, by its format.
-use Rattle.std.proofs.Common.{◌≡◌, ℕ, zero, suc, ◌+◌, ◌-◌, ◌==◌, ◌⊎◌, inl, inr, Bool, true, false, List, [], ◌∷◌, length, refl, sym, ap, ◌∙◌, subst, cond, arith}
+use Rattle.std.proofs.Common.{◌≡◌, ℕ, zero, suc, ◌+◌, ◌-◌, ◌==◌, inl, inr, Bool, true, false, List, length, refl, subst, cond, arith}
 use Rattle.std.specs.Prelude.{Result, Ok, Err, nat_le}
-use Rattle.px_link.specs.declared.turns.Turn.{Turn}
 use Rattle.rec_format.specs.declared.record.RecKind.TheVariants as kinds
-use Rattle.rec_format.specs.Recorded.{Visit, Visited, Visits, Moves, Recorded, Refusal, and_then, or_refuse, visit_of, visits_of, last_visit, last_turns, next_client, with_visit, turn_count, turns_of, end_of, recorded, entries_of, connection_count, in_format, format_of, record_of}
+use Rattle.rec_format.specs.Recorded.{Visited, Visits, Recorded, Refusal, and_then, or_refuse, visit_of, visits_of, last_visit, last_turns, next_client, with_visit, turn_count, turns_of, end_of, recorded, entries_of, connection_count, in_format, format_of, record_of}
 use Rattle.rec_format.specs.Reports.{Reportable}
 
 -- what is read has this property; a refusal says nothing

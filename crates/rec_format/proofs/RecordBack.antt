@@ -1,9 +1,9 @@
 -- A record that was written, read back as a whole.
-use Rattle.std.proofs.Common.{◌≡◌, ℕ, suc, ◌-◌, ◌+◌, ◌<◌, ◌≤◌, Bool, true, false, List, [], ◌∷◌, ◌++◌, length, refl, sym, ap, ◌∙◌, subst, arith, append_assoc, decimal}
-use Rattle.std.specs.Prelude.{Result, Ok, Err, All, codes, sum_by}
+use Rattle.std.proofs.Common.{◌≡◌, ℕ, ◌-◌, ◌+◌, ◌≤◌, true, List, [], ◌∷◌, ◌++◌, length, refl, ap, ◌∙◌, subst, arith, append_assoc, decimal}
+use Rattle.std.specs.Prelude.{Result, Ok, All, codes, sum_by}
 use Rattle.std.specs.List.{flat_map}
 use Rattle.px_link.specs.declared.turns.Turn.{Turn}
-use Rattle.rec_format.specs.Recorded.{Visit, Recorded, Refusal, Visits, Moves, and_then, visits_of, turn_count, turns_of, end_of, recorded, entries_of, connection_count, in_format, format_of, record_of}
+use Rattle.rec_format.specs.Recorded.{Visit, Recorded, Refusal, Visits, Moves, and_then, turn_count, turns_of, end_of, recorded, entries_of, connection_count, format_of, record_of}
 use Rattle.rec_format.specs.Written.{visit_text, turn_text, visits_text, turns_text, written, IsSmallVisit, IsTurnOf, IsWritable}
 use Rattle.rec_format.proofs.Joining.{by_format}
 use Rattle.rec_format.proofs.WrittenBack.{visits_back, turns_back, turn_count_back, connection_count_back}

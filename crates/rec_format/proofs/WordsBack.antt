@@ -1,5 +1,5 @@
 -- The words and entries of a record that was written, read back.
-use Rattle.std.proofs.Common.{◌≡◌, ℕ, ◌-◌, ◌+◌, ◌<◌, ◌≤◌, ◌^◌, min, Bool, true, false, not, ◌&&◌, cond, List, [], ◌∷◌, ◌++◌, length, get_or, take, drop, refl, sym, ap, ◌∙◌, subst, arith, append_assoc, decimal, Some, None, Option}
+use Rattle.std.proofs.Common.{◌≡◌, ℕ, ◌-◌, ◌<◌, ◌≤◌, ◌^◌, min, Bool, true, false, not, ◌&&◌, cond, List, [], ◌∷◌, ◌++◌, length, get_or, refl, sym, ap, ◌∙◌, arith, append_assoc, decimal, Some, None, Option}
 use Rattle.std.specs.Prelude.{◌==◌, codes, option_map}
 use Rattle.std.specs.Option.{option_and_then}
 use Rattle.std.specs.List.{list_all}
@@ -11,12 +11,10 @@ use Rattle.std.proofs.lemmas.Bool.{leb-true, ne_eqb}
 use Rattle.std.proofs.Math.Seq.{take-append_seam, drop-append_seam}
 use Rattle.http_model.specs.declared.Ending.{Ending}
 use Rattle.http_model.specs.declared.Ending.TheVariants.{Closed, Broke}
-use Rattle.px_link.specs.declared.turns.Turn.{Turn}
-use Rattle.px_link.specs.declared.turns.Turn.TheVariants.{ClientGives, ClientTakes, ServerGives, ServerTakes}
 use Rattle.session_model.specs.Stream.{Stream}
 use Rattle.rec_format.specs.Pieces.{before, behind, begins_number, number_of, behind_lf, with_bytes, counted}
-use Rattle.rec_format.specs.Entries.{ServerEntry, ending_of, takes_of, stream_of, client_entry, served, server_entry, turn_by, up_to, moved, turn_words, turn_entry}
-use Rattle.rec_format.specs.Written.{ending_word, takes_word, client_text, server_text, letter_of, moved_of, turn_text, IsSmallServer, IsTurnOf}
+use Rattle.rec_format.specs.Entries.{ServerEntry, ending_of, takes_of, stream_of, client_entry, served, server_entry}
+use Rattle.rec_format.specs.Written.{ending_word, takes_word, client_text, server_text, IsSmallServer}
 use Rattle.rec_format.proofs.Digits.{own, both, and_true, each_digit, no_zero}
 
 -- ---- words

@@ -1,5 +1,5 @@
 -- A record that was written, read back.
-use Rattle.std.proofs.Common.{◌≡◌, ℕ, zero, suc, ◌-◌, ◌+◌, ◌<◌, ◌≤◌, ◌^◌, Bool, true, false, ◌&&◌, cond, List, [], ◌∷◌, ◌++◌, length, refl, sym, ap, ◌∙◌, subst, arith, append_assoc, decimal, Some, None, Option}
+use Rattle.std.proofs.Common.{◌≡◌, ℕ, zero, suc, ◌-◌, ◌<◌, ◌≤◌, ◌^◌, Bool, true, false, ◌&&◌, cond, List, [], ◌∷◌, ◌++◌, length, refl, sym, ap, ◌∙◌, arith, append_assoc, decimal, Some, None, Option}
 use Rattle.std.specs.Prelude.{Result, Ok, Err, All, codes, option_map, nat_le, sum_by}
 use Rattle.std.specs.Option.{option_and_then}
 use Rattle.std.specs.List.{flat_map}
@@ -13,12 +13,10 @@ use Rattle.px_link.specs.declared.turns.Turn.TheVariants.{ClientGives, ClientTak
 use Rattle.session_model.specs.Stream.{Stream}
 use Rattle.rec_format.specs.declared.record.RecKind.TheVariants as kinds
 use Rattle.rec_format.specs.Pieces.{before, behind, number_of}
-use Rattle.rec_format.specs.Entries.{ServerEntry, turn_by, up_to, moved, turn_words, turn_entry, client_entry, server_entry}
-use Rattle.rec_format.specs.Recorded.{Visit, Recorded, Refusal, Servers, Visited, Visits, Moves, and_then, or_refuse, word_of, is_server, client_of, server_of, with_server, servers_of, visit_of, with_visit, next_client, last_turns, last_visit, visits_of, turn_count, within_turns, with_turn, turns_of, end_of, recorded, entries_of, within_connections, some_number, connection_count, in_format, record_of}
-use Rattle.rec_format.specs.Parts.{turns_line, connections_line}
-use Rattle.rec_format.specs.Written.{client_text, server_text, visit_text, letter_of, moved_of, turn_text, visits_text, turns_text, written, IsSmallServer, IsSmallVisit, IsTurnOf, IsWritable}
+use Rattle.rec_format.specs.Entries.{ServerEntry, turn_by, up_to, moved, turn_entry}
+use Rattle.rec_format.specs.Recorded.{Visit, Refusal, Servers, Visited, and_then, or_refuse, word_of, is_server, server_of, with_server, servers_of, visit_of, with_visit, next_client, last_visit, visits_of, turn_count, within_turns, with_turn, turns_of, within_connections, some_number, connection_count}
+use Rattle.rec_format.specs.Written.{client_text, server_text, visit_text, letter_of, moved_of, turn_text, IsSmallServer, IsSmallVisit, IsTurnOf}
 use Rattle.rec_format.proofs.Digits.{and_true}
-use Rattle.rec_format.proofs.Joining.{by_format}
 use Rattle.rec_format.proofs.WordsBack.{before_word, behind_word, free, free_both, number_free, number_back, client_back, server_back}
 
 -- ---- turns

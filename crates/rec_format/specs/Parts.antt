@@ -6,8 +6,6 @@ use Rattle.std.specs.declared.alloc.Global.{Global}
 use Rattle.std.specs.declared.vec.Vec.{Vec}
 use denote.Bor.{Bor}
 use Rattle.px_link.specs.declared.turns.Turn.{Turn}
-use Rattle.rec_format.specs.declared.record.Connection.{Connection}
-use Rattle.rec_format.specs.declared.record.Record.{Record}
 use Rattle.rec_format.specs.declared.parts.ServersRead.{ServersRead}
 use Rattle.rec_format.specs.declared.parts.VisitRead.{VisitRead}
 use Rattle.rec_format.specs.declared.parts.VisitsRead.{VisitsRead}

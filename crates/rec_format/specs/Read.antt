@@ -1,7 +1,6 @@
 -- What was read, in the words of a record's meaning.
-use Rattle.std.specs.Prelude.{◌≡◌, ℕ, List, ◌++◌, map, Option, option_map, Result, Ok, Err, ⊤}
+use Rattle.std.specs.Prelude.{◌≡◌, ℕ, List, map, Option, option_map, Result, Ok, Err, ⊤}
 use denote.Bor.{Bor}
-use Rattle.px_link.specs.declared.turns.Turn.{Turn}
 use Rattle.session_model.specs.Stream as session
 use Rattle.rec_format.specs.declared.record.Stream.{Stream}
 use Rattle.rec_format.specs.declared.record.ServerSpec.{ServerSpec}

@@ -1,4 +1,4 @@
-use Rattle.std.proofs.Common.{◌≡◌, ℕ, List, ◌++◌, length, sym, subst}
+use Rattle.std.proofs.Common.{◌≡◌, ℕ, ◌++◌, length, sym, subst}
 use Rattle.std.specs.Prelude.{OnOk, codes}
 use Rattle.rec_format.specs.Read.{visits}
 use Rattle.rec_format.specs.Written.{numbered_text}
