@@ -3,7 +3,7 @@ ghost use Rattle.std.specs.Prelude.{◌≡◌, ◌<◌, length};
 ghost use Rattle.htx_arena.specs.Blocks.{block_at};
 ghost use Rattle.header_ops.specs.Matching.{begins_with, ends_with, has_part, is_match, is_header_matching};
 
-use crate::framing::is_framing_name;
+use http_model::is_framing_name;
 use htx_arena::{Arena, Kind};
 use px_bytes::eq_fold;
 
