@@ -14,6 +14,7 @@ fn weight_if_named(msg: &Arena, at: u32, name: &[u8]) -> u32
     requires { at < length msg.now.blocks }
     ensures { result ≡ weight_if_named name.now (block_at msg.now.blocks at) }
 {
+    // For its clause: no block weighs more than the load, which is below 2^32.
     let _load = msg.load();
     if is_named(msg, at, name) {
         (8 + msg.name(at).len() + msg.value(at).len()) as u32
@@ -28,6 +29,7 @@ fn load_of_named(msg: &Arena, name: &[u8]) -> u32
     ensures { result + load (without_headers name.now msg.now.blocks) ≡ load msg.now.blocks }
 {
     let mut sum = 0;
+    // For its clause: the sum is within the load, which is below 2^32.
     let _load = msg.load();
     for at in 0..msg.len() {
         sum += weight_if_named(msg, at, name);

@@ -10,6 +10,7 @@ use px_bytes::eq_fold;
 pub fn count_fulls(msg: &Arena, name: &[u8]) -> u32
     ensures { result ≡ length (fulls_named name.now msg.now.blocks) }
 {
+    // For its clause: the number of blocks is below 2^32.
     let _len = msg.len();
     let mut count = 0;
     for (_, field, _) in msg.fields() {

@@ -19,6 +19,7 @@ pub fn count_in(field: &[u8]) -> usize
 pub fn count_values(msg: &Arena, name: &[u8]) -> u32
     ensures { result ≡ length (values_named name.now msg.now.blocks) }
 {
+    // For its clause: there are at most as many values as the load has bytes, and it is below 2^32.
     let _load = msg.load();
     let mut count = 0;
     for (_, field, value) in msg.fields() {
