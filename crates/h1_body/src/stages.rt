@@ -121,17 +121,17 @@ fn feed_line(window: &[u8], room: u32) -> Fed
     ensures { (most : ℕ) → Feeds most stage.Line window.now room result }
 {
     match read_line(window) {
-        LineRead::Line(used, size) => {
+        LineRead::Line { len, size } => {
             if size == 0 {
                 Fed {
                     stage: Stage::Section,
-                    used,
+                    used: len,
                     found: Found::Nothing,
                 }
             } else {
                 Fed {
                     stage: Stage::Data(size),
-                    used,
+                    used: len,
                     found: Found::Nothing,
                 }
             }
