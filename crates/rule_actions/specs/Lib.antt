@@ -17,4 +17,5 @@ pub mod Going
 pub mod Does
 pub mod Answering
 pub mod Written
+pub mod Told
 pub mod TextEdits

@@ -7,6 +7,7 @@ ghost use Rattle.rule_actions.specs.Given.{Env};
 ghost use Rattle.rule_actions.specs.Edits.{by_text};
 ghost use Rattle.rule_actions.specs.Replies as spec;
 ghost use Rattle.rule_actions.specs.Outcome.{IsScratch, IsPlaceOf, IsMade, Answers};
+ghost use Rattle.rule_actions.specs.Told.{redirect_of, location_of};
 ghost use Rattle.rule_actions.specs.Written.{led_target};
 
 use crate::fields::{are_value_bytes, step_of};
@@ -80,7 +81,7 @@ fn lead(
     requires empty { reply.old.blocks ≡ [] }
     requires made { made.old.cap ≡ reply.old.size }
     requires within { length text.now ≤ reply.old.size }
-    ensures came { Answers (by_text reply.old.size (spec.location_by destination.entry.to.now destination.entry.drop_query destination.entry.append_slash text.now (host_in msg.now.blocks) (target_parts (led_target msg.now.blocks))) (spec.led_to reply.old.size destination.entry.code)) result reply.new.blocks }
+    ensures came { Answers (by_text reply.old.size (location_of destination.entry text.now (host_in msg.now.blocks) (target_parts (led_target msg.now.blocks))) (spec.led_to reply.old.size destination.entry.code)) result reply.new.blocks }
     ensures size { reply.new.size ≡ reply.old.size }
     ensures made { made.new.cap ≡ made.old.cap }
 {
@@ -116,7 +117,7 @@ pub(crate) fn redirect(
     requires sizes { reply.old.size ≡ place.msg.now.size }
     requires empty { reply.old.blocks ≡ [] }
     ensures came { IfOk result (λ step. (env : Env) → IsPlaceOf env place.entry
-        → Answers (spec.redirected place.entry.msg.now.size destination.entry.to.now destination.entry.code destination.entry.drop_query destination.entry.append_slash env) step reply.new.blocks) }
+        → Answers (redirect_of place.entry.msg.now.size destination.entry env) step reply.new.blocks) }
     ensures succeeds { location_holds_pattern destination.entry.to.now ≡ false → IsOk result }
     ensures size { reply.new.size ≡ reply.old.size }
     ensures scratch { IsScratch place.entry.msg.now.size scratch.new }

@@ -9,8 +9,8 @@ ghost use Rattle.px_bytes.specs.Blanks.{trimmed};
 ghost use Rattle.rule_model.specs.Actions.{payload_holds_pattern, hdr_holds_pattern};
 ghost use Rattle.rule_model.specs.Valid.{IsMadeName};
 ghost use Rattle.rule_actions.specs.Given.{Env};
-ghost use Rattle.rule_actions.specs.Replies as spec;
 ghost use Rattle.rule_actions.specs.Replies.{length_by};
+ghost use Rattle.rule_actions.specs.Told.{reply_of};
 ghost use Rattle.rule_actions.specs.Outcome.{IsScratch, IsPlaceOf, Answers};
 ghost use Rattle.rule_actions.specs.Written.{IsHead, IsPut, IsEnded, IsReply, IsWritten, body_by};
 
@@ -115,7 +115,7 @@ fn write_reply(
     requires empty { reply.old.blocks ≡ [] }
     requires names { AllByRecursion (λ hdr. IsMadeName hdr.name) returned.hdrs.now }
     ensures written { IfOk result (λ step. (env : Env) → IsPlaceOf env place.entry
-        → IsWritten (spec.returned place.entry.msg.now.size returned.entry.status returned.entry.content_type.now returned.entry.payload.now returned.entry.hdrs.now env) step reply.new.blocks) }
+        → IsWritten (reply_of place.entry.msg.now.size returned.entry env) step reply.new.blocks) }
     ensures succeeds { payload_holds_pattern returned.entry.payload.now || list_any hdr_holds_pattern returned.entry.hdrs.now ≡ false → IsOk result }
     ensures size { reply.new.size ≡ reply.old.size }
     ensures scratch { IsScratch place.entry.msg.now.size scratch.new }
@@ -144,10 +144,7 @@ fn whole(step: Stepped, reply: &mut Arena) -> Stepped
     ensures size { reply.new.size ≡ reply.old.size }
 {
     match step {
-        Stepped::Done => {
-            let _room = reply.room();
-            Stepped::Done
-        }
+        Stepped::Done => Stepped::Done,
         Stepped::Failed(why) => {
             reply.clear();
             Stepped::Failed(why)
@@ -169,7 +166,7 @@ pub(crate) fn return_reply(
     requires empty { reply.old.blocks ≡ [] }
     requires names { AllByRecursion (λ hdr. IsMadeName hdr.name) returned.hdrs.now }
     ensures came { IfOk result (λ step. (env : Env) → IsPlaceOf env place.entry
-        → Answers (spec.returned place.entry.msg.now.size returned.entry.status returned.entry.content_type.now returned.entry.payload.now returned.entry.hdrs.now env) step reply.new.blocks) }
+        → Answers (reply_of place.entry.msg.now.size returned.entry env) step reply.new.blocks) }
     ensures succeeds { payload_holds_pattern returned.entry.payload.now || list_any hdr_holds_pattern returned.entry.hdrs.now ≡ false → IsOk result }
     ensures size { reply.new.size ≡ reply.old.size }
     ensures scratch { IsScratch place.entry.msg.now.size scratch.new }
