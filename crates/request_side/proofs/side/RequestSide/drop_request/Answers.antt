@@ -9,17 +9,17 @@ returns-clause-sound c =
     let e = c.discard.ensures in
     record {
       well = e.well c.requires.sound.well;
-      at = sound_drops c.args.self.now.place c.args.self.now.lane c.discard.new.self c.requires.some e.dropping.1 e.same.0 e.sends c.requires.sound.at;
+      at = sound_drops c.args.self.now.place c.args.self.now.lane c.discard.new.self c.requires.some e.output e.stage e.sends c.requires.sound.at;
       rests = unrested c.args.self.now.place c.discard.new.self;
     }
 
 pub returns-clause-leads : goal.returns-clause-leads
 returns-clause-leads c = λ cfg vars came asking to_server put reply h is.
     let e = c.discard.ensures in
-    let k : Keeps c.args.self.now.lane c.discard.new.self = record { same = record { limits = e.same.4; filters = λ cfg has. e.filters cfg.req_filters has }; ended = e.same.3 } in
+    let k : Keeps c.args.self.now.lane c.discard.new.self = record { same = record { limits = e.limits; filters = λ cfg has. e.filters cfg.req_filters has }; ended = e.ended } in
     record {
       is_for = for_same cfg c.args.self.now.lane c.discard.new.self k.same h.is_for;
-      at = drops c.args.self.now.place cfg c.args.self.now.lane c.discard.new.self vars came asking to_server put reply k c.requires.sound.at e.same.2 c.requires.some e.dropping.0 e.sends
+      at = drops c.args.self.now.place cfg c.args.self.now.lane c.discard.new.self vars came asking to_server put reply k c.requires.sound.at e.input c.requires.some e.dropping e.sends
           (λ p s. c.promise.ensures c.args.self.now.lane p s) is h.at;
     }
 
@@ -28,4 +28,4 @@ returns-clause-seen c =
     let e = c.discard.ensures in
     let old = c.args.self.now.lane in
     let new = c.discard.new.self in
-    seen_dropped old new c.args.self.now.place c.args.self.now.awaits c.args.self.now.at_rest false c.requires.sound.well (e.well c.requires.sound.well) e.same.4 e.same.2 e.same.3 e.dropping.1 e.same.1 e.same.0 e.dropping.0
+    seen_dropped old new c.args.self.now.place c.args.self.now.awaits c.args.self.now.at_rest false c.requires.sound.well (e.well c.requires.sound.well) e.limits e.input e.ended e.output e.source e.stage e.dropping

@@ -10,7 +10,7 @@ returns-clause-sound c =
     let e = c.end.ensures in
     record {
       well = e.well c.requires.sound.well;
-      at = sound_keeps c.args.self.now.place c.args.self.now.lane c.end.new.self e.reading (λ none. e.same.4 ∙ none) e.same.0 e.same.2 (λ p s. (p, e.sends p s)) c.requires.sound.at;
+      at = sound_keeps c.args.self.now.place c.args.self.now.lane c.end.new.self e.reading (λ none. e.output ∙ none) e.stage e.dropping (λ p s. (p, e.sends p s)) c.requires.sound.at;
       rests = unrested c.args.self.now.place c.end.new.self;
     }
 
@@ -18,12 +18,12 @@ pub returns-clause-leads : goal.returns-clause-leads
 returns-clause-leads c = λ cfg vars came asking to_server reply h.
     let e = c.end.ensures in
     let t : EndsSo c.args.self.now.lane c.end.new.self c.args.how = record {
-      same = record { limits = e.same.5; filters = λ cfg has. e.filters cfg.req_filters has };
+      same = record { limits = e.limits; filters = λ cfg has. e.filters cfg.req_filters has };
       open_ = none_is (ended_of c.args.self.now.lane) c.requires.open;
       ended = e.ended;
-      input = e.same.3;
-      output = e.same.4;
-      dropped = e.same.2;
+      input = e.input;
+      output = e.output;
+      dropped = e.dropping;
       sends = e.sends;
     } in
     record { is_for = for_same cfg c.args.self.now.lane c.end.new.self t.same h.is_for; at = ended c.args.self.now.place cfg c.args.self.now.lane c.end.new.self c.args.how vars came asking to_server reply t h.at }

@@ -11,12 +11,11 @@ use Rattle.request_side.proofs.side.RequestSide.read_head.Goals as goal
 
 pub returns-in-More-clause-sound : goal.returns-in-More-clause-sound
 returns-in-More-clause-sound c =
-    let w = c.in-More.ensures.tells in
-    let e = c.in-More.ensures.same in
+    let e = c.in-More.ensures in
     record {
-      well = w.reading.ready.sound;
-      at = still_reading c.args.self.now.place c.args.self.now.lane c.read_head.new.self c.requires.place c.requires.sound.at w.reading e.2;
-      rests = λ rest. more_rests c.args.self.now.place c.args.self.now.lane c.read_head.new.self c.requires.place e.1 e.0 w;
+      well = e.tells.reading.ready.sound;
+      at = still_reading c.args.self.now.place c.args.self.now.lane c.read_head.new.self c.requires.place c.requires.sound.at e.tells.reading e.output;
+      rests = λ rest. more_rests c.args.self.now.place c.args.self.now.lane c.read_head.new.self c.requires.place e.limits e.ended e.tells;
     }
 
 pub returns-in-More-clause-tells : goal.returns-in-More-clause-tells
@@ -26,18 +25,18 @@ returns-in-More-clause-tells c =
     let new = c.read_head.new.self in
     record {
       place = c.requires.place;
-      is_open = ap is_none (e.same.0 ∙ e.tells.ended);
+      is_open = ap is_none (e.ended ∙ e.tells.ended);
       room = some_room (most_of new) (input_of new) e.tells.room;
       rests = refl;
       leads = λ cfg vars came asking to_server reply h. record {
-        is_for = for_same cfg old new (record { limits = e.same.1; filters = λ cfg has. e.filters cfg.req_filters has }) h.is_for;
-        at = on_reading c.args.self.now.place cfg new vars came asking to_server reply c.requires.place (reads_on old new came e.same.0 e.tells (at_reading c.args.self.now.place cfg old vars came asking to_server reply c.requires.place h.at));
+        is_for = for_same cfg old new (record { limits = e.limits; filters = λ cfg has. e.filters cfg.req_filters has }) h.is_for;
+        at = on_reading c.args.self.now.place cfg new vars came asking to_server reply c.requires.place (reads_on old new came e.ended e.tells (at_reading c.args.self.now.place cfg old vars came asking to_server reply c.requires.place h.at));
       };
     }
 
 pub returns-in-Nothing-clause-sound : goal.returns-in-Nothing-clause-sound
 returns-in-Nothing-clause-sound c =
-    record { well = c.in-Nothing.ensures.tells.reading.ready.sound; at = c.in-Nothing.ensures.same.2 ∙ nothing_out c.args.self.now.place c.args.self.now.lane c.requires.place c.requires.sound.at; rests = λ e. tt }
+    record { well = c.in-Nothing.ensures.tells.reading.ready.sound; at = c.in-Nothing.ensures.output ∙ nothing_out c.args.self.now.place c.args.self.now.lane c.requires.place c.requires.sound.at; rests = λ e. tt }
 
 pub returns-in-Nothing-clause-tells : goal.returns-in-Nothing-clause-tells
 returns-in-Nothing-clause-tells c =
@@ -47,7 +46,7 @@ returns-in-Nothing-clause-tells c =
     record {
       place = refl;
       leads = λ cfg vars came asking to_server reply h. record {
-        is_for = for_same cfg old new (record { limits = e.same.1; filters = λ cfg has. e.filters cfg.req_filters has }) h.is_for;
+        is_for = for_same cfg old new (record { limits = e.limits; filters = λ cfg has. e.filters cfg.req_filters has }) h.is_for;
         at = tt;
       };
       asks = λ cfg vars came asking to_server reply h stream on.
@@ -56,7 +55,7 @@ returns-in-Nothing-clause-tells c =
 
 pub returns-in-Head-clause-sound : goal.returns-in-Head-clause-sound
 returns-in-Head-clause-sound c =
-    record { well = c.in-Head.ensures.tells.ready.sound; at = c.in-Head.ensures.same.2 ∙ nothing_out c.args.self.now.place c.args.self.now.lane c.requires.place c.requires.sound.at; rests = λ e. tt }
+    record { well = c.in-Head.ensures.tells.ready.sound; at = c.in-Head.ensures.output ∙ nothing_out c.args.self.now.place c.args.self.now.lane c.requires.place c.requires.sound.at; rests = λ e. tt }
 
 pub returns-in-Head-clause-tells : goal.returns-in-Head-clause-tells
 returns-in-Head-clause-tells c =
@@ -71,12 +70,12 @@ returns-in-Head-clause-tells c =
       is_request = e.tells.received.line;
       came = λ cfg vars came asking to_server reply h.
           head_read cfg old (record { lane = new; place = place.Idle; awaits = c.args.self.now.awaits; at_rest = false }) came h.is_for
-          (for_same cfg old new (record { limits = e.same.1; filters = λ cfg has. e.filters cfg.req_filters has }) h.is_for) e.same.0 (at_reading c.args.self.now.place cfg old vars came asking to_server reply c.requires.place h.at) e.tells;
+          (for_same cfg old new (record { limits = e.limits; filters = λ cfg has. e.filters cfg.req_filters has }) h.is_for) e.ended (at_reading c.args.self.now.place cfg old vars came asking to_server reply c.requires.place h.at) e.tells;
     }
 
 pub returns-in-Refuse-clause-sound : goal.returns-in-Refuse-clause-sound
 returns-in-Refuse-clause-sound c =
-    record { well = c.in-Refuse.ensures.tells.sound; at = c.in-Refuse.ensures.same.2 ∙ nothing_out c.args.self.now.place c.args.self.now.lane c.requires.place c.requires.sound.at; rests = λ e. tt }
+    record { well = c.in-Refuse.ensures.tells.sound; at = c.in-Refuse.ensures.output ∙ nothing_out c.args.self.now.place c.args.self.now.lane c.requires.place c.requires.sound.at; rests = λ e. tt }
 
 pub returns-in-Refuse-clause-tells : goal.returns-in-Refuse-clause-tells
 returns-in-Refuse-clause-tells c =
@@ -86,7 +85,7 @@ returns-in-Refuse-clause-tells c =
     record {
       place = refl;
       leads = λ cfg vars came asking to_server reply h. record {
-        is_for = for_same cfg old new (record { limits = e.same.1; filters = λ cfg has. e.filters cfg.req_filters has }) h.is_for;
+        is_for = for_same cfg old new (record { limits = e.limits; filters = λ cfg has. e.filters cfg.req_filters has }) h.is_for;
         at = tt;
       };
       asks = λ cfg vars came asking to_server reply h stream on.

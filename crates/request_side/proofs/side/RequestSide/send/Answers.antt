@@ -13,10 +13,10 @@ returns-clause-sound c =
     let e = c.send.ensures in
     let old = c.args.self.now.lane in
     let b : IsBegun old c.send.new.self c.args.framing = record {
-      keeps = record { same = record { limits = e.same.3; filters = λ cfg has. e.filters cfg.req_filters has }; ended = e.same.1 };
-      input = e.same.0;
-      output = e.same.2;
-      kept = e.same.4;
+      keeps = record { same = record { limits = e.limits; filters = λ cfg has. e.filters cfg.req_filters has }; ended = e.ended };
+      input = e.input;
+      output = e.output;
+      kept = e.dropping;
       sends = e.sends;
     } in
     let none : output_of old ≡ [] = subst (λ (at : Place). SoundAt at old) c.requires.idle c.requires.sound.at in
@@ -27,10 +27,10 @@ returns-clause-leads c = λ cfg vars came received env reply h framing rules sho
     let e = c.send.ensures in
     let old = c.args.self.now.lane in
     let b : IsBegun old c.send.new.self c.args.framing = record {
-      keeps = record { same = record { limits = e.same.3; filters = λ cfg has. e.filters cfg.req_filters has }; ended = e.same.1 };
-      input = e.same.0;
-      output = e.same.2;
-      kept = e.same.4;
+      keeps = record { same = record { limits = e.limits; filters = λ cfg has. e.filters cfg.req_filters has }; ended = e.ended };
+      input = e.input;
+      output = e.output;
+      kept = e.dropping;
       sends = e.sends;
     } in
     let none : output_of old ≡ [] = subst (λ (at : Place). SoundAt at old) c.requires.idle c.requires.sound.at in

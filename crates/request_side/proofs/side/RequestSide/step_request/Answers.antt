@@ -32,9 +32,9 @@ returns c =
     let new = c.step.new.self in
     let sending = c.is_going_out.ensures.place c.if-not-is_going_out.false in
     let t : Steps old new = record {
-      keeps = record { same = record { limits = e.same.1; filters = λ cfg has. e.filters cfg.req_filters has }; ended = e.same.0 };
-      most = e.same.2;
-      dropped = e.same.3;
+      keeps = record { same = record { limits = e.limits; filters = λ cfg has. e.filters cfg.req_filters has }; ended = e.ended };
+      most = e.capacity;
+      dropped = e.dropping;
       drops = e.drops;
       shrinks = e.shrinks;
       settled = e.settled;
@@ -58,5 +58,5 @@ returns c =
       };
       keeps = step_keeps c.args.self.now.place c.args.self.now.awaits c.args.self.now.at_rest old new sending t c.requires.sound.at;
       place = refl;
-      limits = e.same.1;
+      limits = e.limits;
     }

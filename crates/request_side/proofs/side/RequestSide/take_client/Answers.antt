@@ -12,7 +12,7 @@ returns-clause-sound c =
     let e = c.take.ensures in
     record {
       well = e.well c.requires.sound.well;
-      at = sound_keeps c.args.self.now.place c.args.self.now.lane c.take.new.self e.reading (λ none. e.same.4 ∙ none) e.same.0 e.same.2 (λ p s. (record p { bytes = p.bytes ++ c.args.bytes.now }, e.sends p s)) c.requires.sound.at;
+      at = sound_keeps c.args.self.now.place c.args.self.now.lane c.take.new.self e.reading (λ none. e.output ∙ none) e.stage e.dropping (λ p s. (record p { bytes = p.bytes ++ c.args.bytes.now }, e.sends p s)) c.requires.sound.at;
       rests = unrested c.args.self.now.place c.take.new.self;
     }
 
@@ -20,12 +20,12 @@ pub returns-clause-leads : goal.returns-clause-leads
 returns-clause-leads c = λ cfg vars came asking to_server reply h.
     let e = c.take.ensures in
     let t : Takes c.args.self.now.lane c.take.new.self c.args.bytes.now = record {
-      same = record { limits = e.same.5; filters = λ cfg has. e.filters cfg.req_filters has };
+      same = record { limits = e.limits; filters = λ cfg has. e.filters cfg.req_filters has };
       open_ = none_is (ended_of c.args.self.now.lane) c.requires.open;
-      still = e.same.3;
+      still = e.ended;
       input = e.input;
-      output = e.same.4;
-      dropped = e.same.2;
+      output = e.output;
+      dropped = e.dropping;
       sends = e.sends;
     } in
     record { is_for = for_same cfg c.args.self.now.lane c.take.new.self t.same h.is_for; at = takes c.args.self.now.place cfg c.args.self.now.lane c.take.new.self c.args.bytes.now vars came asking to_server reply t h.at }
@@ -38,5 +38,5 @@ returns-clause-seen c =
     let at = c.args.self.now.place in
     seen_as old new at c.args.self.now.awaits c.args.self.now.at_rest false (is_none (ended_of old)) (is_dropping old)
     (most_of old - length (input_of old) - length c.args.bytes.now) (unread_at at (input_of old) + to_read at (length c.args.bytes.now)) (output_of old)
-    (ap is_none (e.same.3 ∙ sym (none_is (ended_of old) c.requires.open))) (room_less old new c.args.bytes.now c.requires.sound.well (e.well c.requires.sound.well) e.same.5 e.input)
-    (unread_more at old new c.args.bytes.now e.input) e.same.4 e.same.1 e.same.0 e.same.2 e.array
+    (ap is_none (e.ended ∙ sym (none_is (ended_of old) c.requires.open))) (room_less old new c.args.bytes.now c.requires.sound.well (e.well c.requires.sound.well) e.limits e.input)
+    (unread_more at old new c.args.bytes.now e.input) e.output e.source e.stage e.dropping e.array
