@@ -78,10 +78,10 @@ seen_as old new at awaits was now open_ dropped room unread window is_open is_ro
 
 -- what is seen once the text that waits is dropped
 pub seen_dropped : (old new : RequestLane) (at : Place) (awaits was now : Bool) → IsWell old → IsWell new → limits_of new ≡ limits_of old → input_of new ≡ input_of old
-    → ended_of new ≡ ended_of old → output_of new ≡ [] → source_of new ≡ source_of old → stage_of new ≡ stage_of old → is_dropping new ≡ true
+    → ended_of new ≡ ended_of old → output_of new ≡ [] → source_of new ≡ source_of old → stage_of new ≡ stage_of old → is_dropping new ≡ true → blocks_of new ≡ []
     → seen (record { lane = new; place = at; awaits = awaits; at_rest = now })
-    ≡ record (seen (record { lane = old; place = at; awaits = awaits; at_rest = was })) { window = []; dropped = true; at_rest = now; list = blocks_of new }
-seen_dropped old new at awaits was now well_old well_new limits input ended output source stays dropping =
+    ≡ record (seen (record { lane = old; place = at; awaits = awaits; at_rest = was })) { window = []; dropped = true; at_rest = now; list = [] }
+seen_dropped old new at awaits was now well_old well_new limits input ended output source stays dropping blocks =
     let room = room_same old new well_old well_new limits input in
     λ i. record {
       is_open = is_none (ended i);
@@ -93,5 +93,5 @@ seen_dropped old new at awaits was now well_old well_new limits input ended outp
       dropped = dropping i;
       awaits = awaits;
       at_rest = now;
-      list = blocks_of new;
+      list = blocks i;
     }

@@ -117,15 +117,15 @@ impl RequestSide {
         self.at_rest = false;
     }
 
-    /// The server takes nothing more: what waits for it, and all that follows, is dropped. Which blocks are left in the array on
-    /// which rules run isn't said: no rule runs on them, and a head is read over them.
+    /// The server takes nothing more: what waits for it, and all that follows, is dropped. Nothing is left in the array on which
+    /// rules run.
     pub fn drop_request(&mut self)
         requires sound { IsSound self.old }
         requires some { window_of self.old ≢ [] }
         ensures sound { IsSound self.new }
         ensures leads { (cfg : Config) (vars : Variables) (came : Coming) (asking : Asking Variables) (to_server put : List ℕ) (reply : Reply Variables)
             → RequestStands cfg self.old vars came asking to_server reply → put ++ window_of self.old ≡ to_server → RequestStands cfg self.new vars came asking put reply }
-        ensures seen { seen self.new ≡ record (seen self.old) { window = []; dropped = true; at_rest = false; list = list_of self.new } }
+        ensures seen { seen self.new ≡ record (seen self.old) { window = []; dropped = true; at_rest = false; list = [] } }
         ensures place { place_of self.new ≡ place_of self.old }
         ensures limits { limits_of self.new ≡ limits_of self.old }
     {

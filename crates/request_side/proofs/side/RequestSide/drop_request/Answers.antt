@@ -28,4 +28,4 @@ returns-clause-seen c =
     let e = c.discard.ensures in
     let old = c.args.self.now.lane in
     let new = c.discard.new.self in
-    seen_dropped old new c.args.self.now.place c.args.self.now.awaits c.args.self.now.at_rest false c.requires.sound.well (e.well c.requires.sound.well) e.limits e.input e.ended e.output e.source e.stage e.dropping
+    seen_dropped old new c.args.self.now.place c.args.self.now.awaits c.args.self.now.at_rest false c.requires.sound.well (e.well c.requires.sound.well) e.limits e.input e.ended e.output e.source e.stage e.dropping e.blocks
