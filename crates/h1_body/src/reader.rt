@@ -130,8 +130,10 @@ impl BodyReader {
     /// the bytes of the stream that were not used yet.
     pub fn feed(&mut self, window: &[u8], room: u32) -> BodyStep
         ensures used { result.used ≤ length window.now }
-        ensures piece { (result.piece.len ≤ room) × (result.piece.from + result.piece.len ≤ result.used) }
-        ensures section { IfSome result.trailers (λ span. (0 < span.len) × (span.from + span.len ≤ result.used)) }
+        ensures small { result.piece.len ≤ room }
+        ensures piece_within { result.piece.from + result.piece.len ≤ result.used }
+        ensures some { IfSome result.trailers (λ span. 0 < span.len) }
+        ensures section_within { IfSome result.trailers (λ span. span.from + span.len ≤ result.used) }
         ensures fields { IfSome result.trailers (λ span. (fields : List grammar.Field) × BeginsFields (bytes_of window.now (Some span)) fields []) }
         ensures alone { IfSome result.trailers (λ _. result.piece.len ≡ 0) }
         ensures short { IfSome result.trailers (λ span. span.len ≤ limit_of self.old) }
@@ -160,8 +162,10 @@ impl BodyReader {
     pub fn feed_grown(&mut self, window: &[u8], room: u32, scan: &mut SectionScan) -> BodyStep
         requires { IsScanned window.now scan.old }
         ensures used { result.used ≤ length window.now }
-        ensures piece { (result.piece.len ≤ room) × (result.piece.from + result.piece.len ≤ result.used) }
-        ensures section { IfSome result.trailers (λ span. (0 < span.len) × (span.from + span.len ≤ result.used)) }
+        ensures small { result.piece.len ≤ room }
+        ensures piece_within { result.piece.from + result.piece.len ≤ result.used }
+        ensures some { IfSome result.trailers (λ span. 0 < span.len) }
+        ensures section_within { IfSome result.trailers (λ span. span.from + span.len ≤ result.used) }
         ensures fields { IfSome result.trailers (λ span. (fields : List grammar.Field) × BeginsFields (bytes_of window.now (Some span)) fields []) }
         ensures alone { IfSome result.trailers (λ _. result.piece.len ≡ 0) }
         ensures short { IfSome result.trailers (λ span. span.len ≤ limit_of self.old) }

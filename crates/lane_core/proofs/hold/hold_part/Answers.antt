@@ -13,6 +13,6 @@ returns-clause-holds c =
     let old = c.args.reader.now in
     let new = c.feed_grown-step.new.self in
     let h = held old new w c.args.room step.used step.piece (bytes_of w step.trailers) step.state
-    (record { within = e.used; span = e.piece; leads = e.leads; told = e.state; waits = e.waits }) c.requires.room in
+    (record { within = e.used; span = (e.small, e.piece_within); leads = e.leads; told = e.state; waits = e.waits }) c.requires.room in
     subst (λ (p : List ℕ). Holds old new w (drop step.used w) p c.hold.new.self.section.items step.used step.state) (sym (c.hold.ensures.held ∙ c.covered-piece.ensures))
     (subst (λ (s : List ℕ). Holds old new w (drop step.used w) (bytes_of w (Some step.piece)) s step.used step.state) (sym (c.hold.ensures.section ∙ c.covered-section.ensures)) h)
