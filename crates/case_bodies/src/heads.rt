@@ -3,7 +3,7 @@ ghost use Rattle.std.specs.Prelude.{◌≤◌, vec_len, IfOk};
 
 use case_array::say_blocks;
 use case_rows::{Answers, Fault, Row, decoded};
-use h1_head::{HeadRead, is_plain_request, read_request, read_response};
+use h1_head::{HeadRead, read_request, read_response};
 use http_model::{Framing, Limits};
 use htx_arena::Arena;
 use std::alloc::Global;
@@ -97,13 +97,5 @@ pub fn response_read(alloc: Global, row: Row<'_>) -> Result<Vec<u8>, Fault> {
     let read = read_response(&window, whole, row.field(2) == "head", LIMITS, &mut msg);
     let mut answers = Answers::new(alloc);
     say_read(read, &mut answers);
-    answers.into_text()
-}
-
-/// NAME, a window, and whether it is a plain request.
-pub fn plain(alloc: Global, row: Row<'_>) -> Result<Vec<u8>, Fault> {
-    let window = decoded(alloc, row.field(1).as_bytes())?;
-    let mut answers = Answers::new(alloc);
-    answers.truth(is_plain_request(&window, LIMITS));
     answers.into_text()
 }

@@ -10,7 +10,6 @@ pub fn made(alloc: Global, kind: &str, row: Row<'_>) -> Option<Result<Vec<u8>, F
         "filters" => Some(filters::filtered(alloc, row)),
         "heads" => Some(heads::head_read(alloc, row)),
         "response_heads" => Some(heads::response_read(alloc, row)),
-        "plain_requests" => Some(heads::plain(alloc, row)),
         "targets" => Some(targets::cut(alloc, row)),
         "windows" => Some(windows::windowed(alloc, row)),
         _ => None,

@@ -21,4 +21,3 @@ pub mod Soundness
 pub mod Judging
 pub mod Parsed
 pub mod Places
-pub mod Plainly

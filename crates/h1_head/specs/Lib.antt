@@ -17,6 +17,5 @@ pub mod Response
 pub mod Waiting
 pub mod Answers
 pub mod Received
-pub mod Plain
 pub mod Survey
 pub mod Spans
