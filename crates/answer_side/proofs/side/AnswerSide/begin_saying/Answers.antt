@@ -22,7 +22,7 @@ returns-clause-leads c = λ cfg asking server put now saying head body s is.
       asks = s.asks;
       for_it = for_new cfg old.lane c.answer.new.self c.answer.ensures.limits c.answer.ensures.filters s.for_it;
       at = (replies at.0 head body c.args.no_body, c.answer.ensures.answers at.0 head body at.1 is, c.answer.ensures.last, said_at at.0 head body c.args.no_body at.2);
-      heard = heard_said old.heard old.place cfg (asker_in asking) old.lane c.answer.new.self server c.answer.ensures.same.1 s.heard;
+      heard = heard_said old.heard old.place cfg (asker_in asking) old.lane c.answer.new.self server c.answer.ensures.ended s.heard;
       rests = λ _. tt;
     }
 

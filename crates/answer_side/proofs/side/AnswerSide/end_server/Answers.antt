@@ -20,17 +20,17 @@ returns-clause-leads c = λ cfg asking server put now saying s.
       asks = s.asks;
       for_it = for_new cfg old.lane c.end.new.self c.end.ensures.limits c.end.ensures.filters s.for_it;
       at = ends_at old.place cfg (asker_in asking) (answering asking.vars) old.lane c.end.new.self server put now saying c.args.how
-          (record { answers = c.end.ensures.answers; is_open = none_of (ended_of old.lane) c.requires.open; ended = c.end.ensures.ended; phase = c.end.ensures.keeps.1 }) s.at;
+          (record { answers = c.end.ensures.answers; is_open = none_of (ended_of old.lane) c.requires.open; ended = c.end.ensures.ended; phase = c.end.ensures.phase }) s.at;
       heard = heard_ends old.heard old.place cfg (asker_in asking) old.lane c.end.new.self server c.args.how
-          (record { answers = c.end.ensures.answers; is_open = none_of (ended_of old.lane) c.requires.open; ended = c.end.ensures.ended; phase = c.end.ensures.keeps.1 }) s.heard;
+          (record { answers = c.end.ensures.answers; is_open = none_of (ended_of old.lane) c.requires.open; ended = c.end.ensures.ended; phase = c.end.ensures.phase }) s.heard;
       rests = λ rest. absurd (let both : false ≡ true = rest in cc both);
     }
 
 pub returns-clause-seen : goal.returns-clause-seen
 returns-clause-seen c =
     let old = c.args.self.now in
-    seen_same _ _ (ap is_none c.end.ensures.ended) (ap (λ (b : Buffer ℕ). b.capacity - length b.items) c.end.ensures.keeps.0) (ap (λ (b : Buffer ℕ). b.items) c.end.ensures.same.1)
-    (ap (told_at old.place) c.end.ensures.keeps.2) (ap (answered_at old.place) c.end.ensures.same.0) c.end.ensures.same.2 refl refl
+    seen_same _ _ (ap is_none c.end.ensures.ended) (ap (λ (b : Buffer ℕ). b.capacity - length b.items) c.end.ensures.came) (ap (λ (b : Buffer ℕ). b.items) c.end.ensures.window)
+    (ap (told_at old.place) c.end.ensures.source) (ap (answered_at old.place) c.end.ensures.stage) c.end.ensures.begun refl refl
 
 pub returns-clause-sound : goal.returns-clause-sound
 returns-clause-sound c =
@@ -38,5 +38,5 @@ returns-clause-sound c =
     record {
       lane = c.end.ensures.sound c.requires.sound.lane;
       open_is = sym (ap is_none c.end.ensures.ended);
-      at = fits_same old.place old _ refl c.end.ensures.same.0 c.end.ensures.same.2 c.end.ensures.keeps.1 c.end.ensures.keeps.2 c.requires.sound.at;
+      at = fits_same old.place old _ refl c.end.ensures.stage c.end.ensures.begun c.end.ensures.phase c.end.ensures.source c.requires.sound.at;
     }

@@ -21,12 +21,12 @@ returns-clause-leads c = λ cfg asking server put now saying s.
     }
 
 pub returns-clause-window : goal.returns-clause-window
-returns-clause-window c = ap (λ (b : Buffer ℕ). b.items) c.next.ensures.same.0
+returns-clause-window c = ap (λ (b : Buffer ℕ). b.items) c.next.ensures.window
 
 pub returns-clause-sound : goal.returns-clause-sound
 returns-clause-sound c =
     record {
       lane = c.next.ensures.sound;
-      open_is = c.requires.sound.open_is ∙ ap is_none (sym c.next.ensures.same.1);
+      open_is = c.requires.sound.open_is ∙ ap is_none (sym c.next.ensures.ended);
       at = (c.next.ensures.stage, c.next.ensures.begun, refl);
     }

@@ -53,7 +53,7 @@ pub returns-clause-begun : goal.returns-clause-begun
 returns-clause-begun c = c.restart.ensures.begun
 
 pub returns-clause-window : goal.returns-clause-window
-returns-clause-window c = ap (λ (b : Buffer ℕ). b.items) c.restart.ensures.same
+returns-clause-window c = ap (λ (b : Buffer ℕ). b.items) c.restart.ensures.window
 
 pub returns-clause-sound : goal.returns-clause-sound
 returns-clause-sound c =
@@ -62,7 +62,7 @@ returns-clause-sound c =
       open_is = sym (ap is_none c.restart.ensures.open);
       at = (
         c.restart.ensures.begun,
-        c.restart.ensures.phase,
+        c.restart.ensures.last,
         λ done. (let both : stage.Reading ≡ stage.Done = sym c.restart.ensures.stage ∙ done in cc both),
         λ head. (let both : stage.Reading ≡ stage.Head = sym c.restart.ensures.stage ∙ head in cc both),
       );

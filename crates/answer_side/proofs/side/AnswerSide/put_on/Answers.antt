@@ -48,7 +48,7 @@ returns-clause-leads c = λ cfg asking server put now saying s.
     let shows = c.step.ensures.last (last_shows old.place old c.requires.last c.requires.sound.at) in
     let side : AnswerSide = record old { lane = new; at_rest = true } in
     let at = puts_at old.place cfg (asker_in asking) (answering asking.vars) old.lane new server put now saying p.put c.requires.last
-    (record { answers = p.answers; ended = c.step.ensures.keeps; last = c.step.ensures.last }) s.at in
+    (record { answers = p.answers; ended = c.step.ensures.ended; last = c.step.ensures.last }) s.at in
     let fits = last_fits old.place old side c.requires.last c.step.ensures.last c.step.ensures.whole c.requires.sound.at in
     let stage = last_stage new.phase new shows c.step.ensures.sound.at in
     record {
@@ -57,7 +57,7 @@ returns-clause-leads c = λ cfg asking server put now saying s.
         asks = s.asks;
         for_it = for_new cfg old.lane new c.step.ensures.limits c.step.ensures.filters s.for_it;
         at = at;
-        heard = heard_puts old.heard old.place cfg (asker_in asking) old.lane new server p.put (record { answers = p.answers; ended = c.step.ensures.keeps; last = c.step.ensures.last }) s.heard;
+        heard = heard_puts old.heard old.place cfg (asker_in asking) old.lane new server p.put (record { answers = p.answers; ended = c.step.ensures.ended; last = c.step.ensures.last }) s.heard;
         rests = λ _. last_rests old.place side cfg (asker_in asking) (answering asking.vars) server (put ++ p.put) now saying c.requires.last fits at stage
             (c.step.ensures.no_stall h.0 h.1.answers) (c.step.ensures.nothing_back h.0 h.1.answers);
       };
@@ -73,7 +73,7 @@ returns-clause-sound c =
     let old = c.args.self.now in
     record {
       lane = c.step.ensures.sound;
-      open_is = c.requires.sound.open_is ∙ ap is_none (sym c.step.ensures.keeps);
+      open_is = c.requires.sound.open_is ∙ ap is_none (sym c.step.ensures.ended);
       at = last_fits old.place old (record old { lane = c.step.new.self; at_rest = true }) c.requires.last c.step.ensures.last c.step.ensures.whole c.requires.sound.at;
     }
 
@@ -83,4 +83,4 @@ returns-then-is_done-clause-sound c =
     record { lane = c.requires.sound.lane; open_is = c.requires.sound.open_is; at = fits_same old.place old (record old { at_rest = true }) refl refl refl refl refl c.requires.sound.at }
 
 pub returns-clause-open : goal.returns-clause-open
-returns-clause-open c = ap is_none c.step.ensures.keeps
+returns-clause-open c = ap is_none c.step.ensures.ended

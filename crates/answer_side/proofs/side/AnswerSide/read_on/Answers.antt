@@ -21,23 +21,23 @@ returns-in-More-clause-leads c = λ cfg asking server put now saying s.
     let new : AnswerSide = record old { lane = c.read_head.new.self } in
     let h : InHeads cfg old asking server put = in_heads cfg old asking server put now saying c.requires.between.place s in
     let x = c.in-More.ensures.comes h.e h.in_hand.answers (h.in_hand.asked ∙ sym h.asks.head_asked) in
-    hears_none cfg old new asking server put now saying heard.More (ap (λ (b : Buffer ℕ). b.items) c.in-More.ensures.same.0) (
-      stands_in cfg new asking server put now saying c.requires.between.place c.requires.between.stirs (stands_by cfg old new asking server put refl refl c.in-More.ensures.same.1 c.in-More.ensures.limits c.in-More.ensures.filters (λ e asked a. (c.in-More.ensures.comes e a (asked ∙ sym h.asks.head_asked)).0) h),
+    hears_none cfg old new asking server put now saying heard.More (ap (λ (b : Buffer ℕ). b.items) c.in-More.ensures.window) (
+      stands_in cfg new asking server put now saying c.requires.between.place c.requires.between.stirs (stands_by cfg old new asking server put refl refl c.in-More.ensures.ended c.in-More.ensures.limits c.in-More.ensures.filters (λ e asked a. (c.in-More.ensures.comes e a (asked ∙ sym h.asks.head_asked)).0) h),
       inr (ap is_none x.2, omega (arith, x.3)),
       inr (x.1, x.2, subst (λ (b : Bool). MayWait (response_heads b) (limits_of new.lane) false (input_of new.lane)) h.in_hand.asked x.4),
     )
 
 pub returns-in-More-clause-between : goal.returns-in-More-clause-between
 returns-in-More-clause-between c =
-    between_on c.args.self.now (record c.args.self.now { lane = c.read_head.new.self }) c.requires.between refl refl refl c.in-More.ensures.same.1 c.in-More.ensures.sound (ap shows_last c.in-More.ensures.phase ∙ c.requires.between.first)
+    between_on c.args.self.now (record c.args.self.now { lane = c.read_head.new.self }) c.requires.between refl refl refl c.in-More.ensures.ended c.in-More.ensures.sound (ap shows_last c.in-More.ensures.phase ∙ c.requires.between.first)
 
 pub returns-in-More-clause-there : goal.returns-in-More-clause-there
 returns-in-More-clause-there c =
     let new : AnswerSide = record c.args.self.now { lane = c.read_head.new.self } in
-    fits_reading new (between_on c.args.self.now new c.requires.between refl refl refl c.in-More.ensures.same.1 c.in-More.ensures.sound (ap shows_last c.in-More.ensures.phase ∙ c.requires.between.first)) c.in-More.ensures.stands
+    fits_reading new (between_on c.args.self.now new c.requires.between refl refl refl c.in-More.ensures.ended c.in-More.ensures.sound (ap shows_last c.in-More.ensures.phase ∙ c.requires.between.first)) c.in-More.ensures.stands
 
 pub returns-in-More-clause-open : goal.returns-in-More-clause-open
-returns-in-More-clause-open c = ap is_none c.in-More.ensures.same.1
+returns-in-More-clause-open c = ap is_none c.in-More.ensures.ended
 
 pub returns-in-More-clause-size : goal.returns-in-More-clause-size
 returns-in-More-clause-size c = ap (λ (l : Limits). l.bufsize) c.in-More.ensures.limits
@@ -64,15 +64,15 @@ returns-in-Refuse-clause-leads c = λ cfg asking server put now saying s.
     let old = c.args.self.now in
     let new : AnswerSide = record old { lane = c.read_head.new.self } in
     let h : InHeads cfg old asking server put = in_heads cfg old asking server put now saying c.requires.between.place s in
-    hears_none cfg old new asking server put now saying heard.Refused (ap (λ (b : Buffer ℕ). b.items) c.in-Refuse.ensures.same.0)
-    (stands_in cfg new asking server put now saying c.requires.between.place c.requires.between.stirs (stands_by cfg old new asking server put refl refl c.in-Refuse.ensures.same.1 c.in-Refuse.ensures.limits c.in-Refuse.ensures.filters (λ e asked a. (c.in-Refuse.ensures.comes e a (asked ∙ sym h.asks.head_asked)).0) h))
+    hears_none cfg old new asking server put now saying heard.Refused (ap (λ (b : Buffer ℕ). b.items) c.in-Refuse.ensures.window)
+    (stands_in cfg new asking server put now saying c.requires.between.place c.requires.between.stirs (stands_by cfg old new asking server put refl refl c.in-Refuse.ensures.ended c.in-Refuse.ensures.limits c.in-Refuse.ensures.filters (λ e asked a. (c.in-Refuse.ensures.comes e a (asked ∙ sym h.asks.head_asked)).0) h))
 
 pub returns-in-Refuse-clause-between : goal.returns-in-Refuse-clause-between
 returns-in-Refuse-clause-between c =
-    between_on c.args.self.now (record c.args.self.now { lane = c.read_head.new.self }) c.requires.between refl refl refl c.in-Refuse.ensures.same.1 c.in-Refuse.ensures.sound (ap shows_last c.in-Refuse.ensures.phase ∙ c.requires.between.first)
+    between_on c.args.self.now (record c.args.self.now { lane = c.read_head.new.self }) c.requires.between refl refl refl c.in-Refuse.ensures.ended c.in-Refuse.ensures.sound (ap shows_last c.in-Refuse.ensures.phase ∙ c.requires.between.first)
 
 pub returns-in-Refuse-clause-open : goal.returns-in-Refuse-clause-open
-returns-in-Refuse-clause-open c = ap is_none c.in-Refuse.ensures.same.1
+returns-in-Refuse-clause-open c = ap is_none c.in-Refuse.ensures.ended
 
 pub returns-in-Refuse-clause-size : goal.returns-in-Refuse-clause-size
 returns-in-Refuse-clause-size c = ap (λ (l : Limits). l.bufsize) c.in-Refuse.ensures.limits
@@ -81,7 +81,7 @@ returns-in-Refuse-clause-size c = ap (λ (l : Limits). l.bufsize) c.in-Refuse.en
 
 pub tell_head-requires-clause-between : goal.tell_head-requires-clause-between
 tell_head-requires-clause-between c =
-    between_on c.args.self.now (record c.args.self.now { lane = c.read_head.new.self; heard = true }) c.requires.between refl refl refl c.in-Head.ensures.same.1 c.in-Head.ensures.sound (ap shows_last c.in-Head.ensures.phase ∙ c.requires.between.first)
+    between_on c.args.self.now (record c.args.self.now { lane = c.read_head.new.self; heard = true }) c.requires.between refl refl refl c.in-Head.ensures.ended c.in-Head.ensures.sound (ap shows_last c.in-Head.ensures.phase ∙ c.requires.between.first)
 
 pub tell_head-requires-clause-has : goal.tell_head-requires-clause-has
 tell_head-requires-clause-has c = let x = c.in-Head.ensures.stands in record { stage = x.0; head = x.1.0; blocks = x.1.1 }
@@ -92,8 +92,8 @@ returns-in-Head-clause-leads c = λ cfg asking server put now saying s.
     let mid : AnswerSide = record old { lane = c.read_head.new.self; heard = true } in
     let h : InHeads cfg old asking server put = in_heads cfg old asking server put now saying c.requires.between.place s in
     let x = c.in-Head.ensures.comes h.e h.in_hand.answers (h.in_hand.asked ∙ sym h.asks.head_asked) in
-    hears_from cfg old mid c.tell_head.new.self asking server put now saying c.tell_head.result (ap (λ (b : Buffer ℕ). b.items) c.in-Head.ensures.same.0)
-    (c.tell_head.ensures.leads cfg asking server put now saying x.0 (is_read cfg old mid asking server put x.0 refl c.in-Head.ensures.same.1 c.in-Head.ensures.limits c.in-Head.ensures.filters h x.1 c.in-Head.ensures.sound (ap shows_last c.in-Head.ensures.phase ∙ c.requires.between.first) x.2 refl x.4 x.5) x.3)
+    hears_from cfg old mid c.tell_head.new.self asking server put now saying c.tell_head.result (ap (λ (b : Buffer ℕ). b.items) c.in-Head.ensures.window)
+    (c.tell_head.ensures.leads cfg asking server put now saying x.0 (is_read cfg old mid asking server put x.0 refl c.in-Head.ensures.ended c.in-Head.ensures.limits c.in-Head.ensures.filters h x.1 c.in-Head.ensures.sound (ap shows_last c.in-Head.ensures.phase ∙ c.requires.between.first) x.2 refl x.4 x.5) x.3)
 
 pub returns-in-Head-clause-less : goal.returns-in-Head-clause-less
 returns-in-Head-clause-less c = λ interim.
@@ -102,7 +102,7 @@ returns-in-Head-clause-less c = λ interim.
     omega (arith, one, more)
 
 pub returns-in-Head-clause-open : goal.returns-in-Head-clause-open
-returns-in-Head-clause-open c = c.tell_head.ensures.open ∙ ap is_none c.in-Head.ensures.same.1
+returns-in-Head-clause-open c = c.tell_head.ensures.open ∙ ap is_none c.in-Head.ensures.ended
 
 pub returns-in-Head-clause-heard : goal.returns-in-Head-clause-heard
 returns-in-Head-clause-heard c = λ was. c.tell_head.ensures.heard

@@ -59,7 +59,7 @@ returns-clause-leads c = λ cfg asking server put now saying s.
         asks = s.asks;
         for_it = for_new cfg old.lane new c.step.ensures.limits c.step.ensures.filters s.for_it;
         at = subst (λ (pl : Place). StandsAt pl cfg (asker_in asking) (answering asking.vars) new server (put ++ p.put) now g.left) (sym c.requires.says) (with_put at.0 p.put, a, shows, g.is_said);
-        heard = heard_puts old.heard old.place cfg (asker_in asking) old.lane new server p.put (record { answers = p.answers; ended = c.step.ensures.keeps; last = c.step.ensures.last }) s.heard;
+        heard = heard_puts old.heard old.place cfg (asker_in asking) old.lane new server p.put (record { answers = p.answers; ended = c.step.ensures.ended; last = c.step.ensures.last }) s.heard;
         rests = λ _. subst (λ (pl : Place). RestsAt pl (asker_in asking).head_asked new) (sym c.requires.says) tt;
       };
       said = g.said;

@@ -30,9 +30,9 @@ returns-clause-leads c = λ cfg asking server put saying now last head body s is
       asks = s.asks;
       for_it = for_new cfg old.lane new c.answer.ensures.limits c.answer.ensures.filters s.for_it;
       at = subst (λ (p : Place). StandsAt p cfg (asker_in asking) (answering asking.vars) new server put now saying) (sym c.place_when-self.ensures)
-          (instead_stands cfg old new asking server put now saying last head body c.args.replied s spelled told c.answer.ensures.same.1 c.answer.ensures.last (c.answer.ensures.answers s.e head body s.in_hand.answers is));
+          (instead_stands cfg old new asking server put now saying last head body c.args.replied s spelled told c.answer.ensures.ended c.answer.ensures.last (c.answer.ensures.answers s.e head body s.in_hand.answers is));
       heard = subst (λ (p : Place). HeardAt old.heard p cfg (asker_in asking) new server) (sym c.place_when-self.ensures)
-          (heard_last old.heard (place_when c.args.replied) cfg (asker_in asking) old.lane new server (when_last c.args.replied) c.answer.ensures.same.1 s.heard);
+          (heard_last old.heard (place_when c.args.replied) cfg (asker_in asking) old.lane new server (when_last c.args.replied) c.answer.ensures.ended s.heard);
       rests = λ rest. absurd (let both : false ≡ true = rest in cc both);
     }
 
@@ -40,5 +40,5 @@ pub returns-clause-goes_out : goal.returns-clause-goes_out
 returns-clause-goes_out c =
     let old = c.args.self.now in
     let new : AnswerSide = record old { lane = c.answer.new.self; place = c.place_when-self.result; at_rest = false } in
-    goes_out old new (place_when c.args.replied) c.requires.between c.place_when-self.ensures (when_last c.args.replied) (when_fits c.args.replied new c.answer.ensures.last c.answer.ensures.stage.1) refl refl c.answer.ensures.sound
-    c.answer.ensures.same.1 (ap (λ (b : Buffer ℕ). b.items) c.answer.ensures.same.0) c.answer.ensures.limits
+    goes_out old new (place_when c.args.replied) c.requires.between c.place_when-self.ensures (when_last c.args.replied) (when_fits c.args.replied new c.answer.ensures.last c.answer.ensures.source) refl refl c.answer.ensures.sound
+    c.answer.ensures.ended (ap (λ (b : Buffer ℕ). b.items) c.answer.ensures.window) c.answer.ensures.limits

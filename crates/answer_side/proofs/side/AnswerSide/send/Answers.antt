@@ -28,9 +28,9 @@ returns-clause-leads c = λ cfg asking server put now saying received head f edi
     record {
       asks = f.read.asks;
       for_it = for_new cfg old.lane new c.send.ensures.limits c.send.ensures.filters f.read.for_it;
-      at = sends_response cfg old new asking server put now received head c.response_framing-framing.result f edited fits framed c.send.ensures.same.1 c.send.ensures.last
+      at = sends_response cfg old new asking server put now received head c.response_framing-framing.result f edited fits framed c.send.ensures.ended c.send.ensures.last
           (c.send.ensures.answers f.read.e cfg.res_filters (finished_response (meaning_of cfg) (asker_in asking) received head) f.read.in_hand.answers f.read.for_it.filters blocks);
-      heard = heard_last old.heard place.Response cfg (asker_in asking) old.lane new server refl c.send.ensures.same.1
+      heard = heard_last old.heard place.Response cfg (asker_in asking) old.lane new server refl c.send.ensures.ended
           (subst (λ (b : Bool). ReadBefore b cfg (asker_in asking) old.lane server) (sym f.read.is_heard) f.read.has_read);
       rests = λ rest. absurd (let both : false ≡ true = rest in cc both);
     }
@@ -39,4 +39,4 @@ pub returns-clause-goes_out : goal.returns-clause-goes_out
 returns-clause-goes_out c =
     let old = c.args.self.now in
     let new : AnswerSide = record old { lane = c.send.new.self; place = place.Response; at_rest = false } in
-    goes_out old new place.Response c.requires.between refl refl c.send.ensures.last refl refl c.send.ensures.sound c.send.ensures.same.1 (ap (λ (b : Buffer ℕ). b.items) c.send.ensures.same.0) c.send.ensures.limits
+    goes_out old new place.Response c.requires.between refl refl c.send.ensures.last refl refl c.send.ensures.sound c.send.ensures.ended (ap (λ (b : Buffer ℕ). b.items) c.send.ensures.window) c.send.ensures.limits

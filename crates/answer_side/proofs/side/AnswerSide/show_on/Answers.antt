@@ -17,7 +17,7 @@ returns-then-is_showing-clause-leads c = λ cfg asking server put now saying s.
     let p = c.step.ensures.answers in
     let h : InHeads cfg old asking server put = in_heads cfg old asking server put now saying c.requires.between.place s in
     hears_more cfg old new asking server put p.put now saying heard.More p.window c.requires.between.place c.requires.between.stirs
-    (puts_more cfg old new asking server put p.put refl refl (record { answers = p.answers; ended = c.step.ensures.keeps; last = c.step.ensures.last }) c.step.ensures.limits c.step.ensures.filters h)
+    (puts_more cfg old new asking server put p.put refl refl (record { answers = p.answers; ended = c.step.ensures.ended; last = c.step.ensures.last }) c.step.ensures.limits c.step.ensures.filters h)
     (λ stands.
     let sends = c.is_showing.ensures.shows c.if-is_showing.true in
     let goes = c.step.ensures.no_stall h.e h.in_hand.answers sends in
@@ -30,31 +30,31 @@ returns-clause-leads c = λ cfg asking server put now saying s.
     let new : AnswerSide = record old { lane = c.step.new.self } in
     let p = c.step.ensures.answers in
     hears_more cfg old new asking server put p.put now saying heard.Interim p.window c.requires.between.place c.requires.between.stirs
-    (puts_more cfg old new asking server put p.put refl refl (record { answers = p.answers; ended = c.step.ensures.keeps; last = c.step.ensures.last }) c.step.ensures.limits c.step.ensures.filters
+    (puts_more cfg old new asking server put p.put refl refl (record { answers = p.answers; ended = c.step.ensures.ended; last = c.step.ensures.last }) c.step.ensures.limits c.step.ensures.filters
     (in_heads cfg old asking server put now saying c.requires.between.place s))
     (λ stands. stands)
 
 pub returns-then-is_showing-clause-between : goal.returns-then-is_showing-clause-between
 returns-then-is_showing-clause-between c =
-    between_on c.args.self.now (record c.args.self.now { lane = c.step.new.self }) c.requires.between refl refl refl c.step.ensures.keeps c.step.ensures.sound (c.step.ensures.heads c.requires.between.first).first
+    between_on c.args.self.now (record c.args.self.now { lane = c.step.new.self }) c.requires.between refl refl refl c.step.ensures.ended c.step.ensures.sound (c.step.ensures.heads c.requires.between.first).first
 
 pub returns-clause-between : goal.returns-clause-between
 returns-clause-between c =
-    between_on c.args.self.now (record c.args.self.now { lane = c.step.new.self }) c.requires.between refl refl refl c.step.ensures.keeps c.step.ensures.sound (c.step.ensures.heads c.requires.between.first).first
+    between_on c.args.self.now (record c.args.self.now { lane = c.step.new.self }) c.requires.between refl refl refl c.step.ensures.ended c.step.ensures.sound (c.step.ensures.heads c.requires.between.first).first
 
 pub returns-then-is_showing-clause-there : goal.returns-then-is_showing-clause-there
 returns-then-is_showing-clause-there c =
     let new : AnswerSide = record c.args.self.now { lane = c.step.new.self } in
-    fits_sending new (between_on c.args.self.now new c.requires.between refl refl refl c.step.ensures.keeps c.step.ensures.sound (c.step.ensures.heads c.requires.between.first).first) (c.is_showing.ensures.shows c.if-is_showing.true)
+    fits_sending new (between_on c.args.self.now new c.requires.between refl refl refl c.step.ensures.ended c.step.ensures.sound (c.step.ensures.heads c.requires.between.first).first) (c.is_showing.ensures.shows c.if-is_showing.true)
 
 pub returns-clause-there : goal.returns-clause-there
 returns-clause-there c = reads_on c.step.new.self (c.step.ensures.heads c.requires.between.first) (c.is_showing.ensures.rests c.if-is_showing.false)
 
 pub returns-then-is_showing-clause-open : goal.returns-then-is_showing-clause-open
-returns-then-is_showing-clause-open c = ap is_none c.step.ensures.keeps
+returns-then-is_showing-clause-open c = ap is_none c.step.ensures.ended
 
 pub returns-clause-open : goal.returns-clause-open
-returns-clause-open c = ap is_none c.step.ensures.keeps
+returns-clause-open c = ap is_none c.step.ensures.ended
 
 pub returns-then-is_showing-clause-size : goal.returns-then-is_showing-clause-size
 returns-then-is_showing-clause-size c = ap (λ (l : Limits). l.bufsize) c.step.ensures.limits

@@ -21,9 +21,9 @@ returns-clause-leads c = λ cfg asking server put now saying s.
       asks = s.asks;
       for_it = for_new cfg old.lane c.take.new.self c.take.ensures.limits c.take.ensures.filters s.for_it;
       at = takes_at old.place cfg (asker_in asking) (answering asking.vars) old.lane c.take.new.self server put now saying c.args.bytes.now
-          (record { answers = c.take.ensures.answers; is_open = none_of (ended_of old.lane) c.requires.open; ended = c.take.ensures.keeps.0; phase = c.take.ensures.keeps.1 }) s.at;
+          (record { answers = c.take.ensures.answers; is_open = none_of (ended_of old.lane) c.requires.open; ended = c.take.ensures.ended; phase = c.take.ensures.phase }) s.at;
       heard = heard_takes old.heard old.place cfg (asker_in asking) old.lane c.take.new.self server c.args.bytes.now
-          (record { answers = c.take.ensures.answers; is_open = none_of (ended_of old.lane) c.requires.open; ended = c.take.ensures.keeps.0; phase = c.take.ensures.keeps.1 }) s.heard;
+          (record { answers = c.take.ensures.answers; is_open = none_of (ended_of old.lane) c.requires.open; ended = c.take.ensures.ended; phase = c.take.ensures.phase }) s.heard;
       rests = λ rest. absurd (let both : false ≡ true = rest in cc both);
     }
 
@@ -34,14 +34,14 @@ returns-clause-seen c =
     let came : length (input_of new) ≡ length (input_of old.lane) + length c.args.bytes.now = ap length c.take.ensures.input ∙ length-append (input_of old.lane) c.args.bytes.now in
     let most : most_of new ≡ most_of old.lane =
     (c.take.ensures.sound c.requires.sound.lane).sound.sized.input ∙ ap (λ (l : Limits). l.bufsize) c.take.ensures.limits ∙ sym c.requires.sound.lane.sound.sized.input in
-    seen_same _ _ (ap is_none c.take.ensures.keeps.0) (room_less (most_of old.lane) (most_of new) (length (input_of old.lane)) (length (input_of new)) (length c.args.bytes.now) most came)
-    (ap (λ (b : Buffer ℕ). b.items) c.take.ensures.same.1) (ap (told_at old.place) c.take.ensures.keeps.2) (ap (answered_at old.place) c.take.ensures.same.0) c.take.ensures.same.2 refl refl
+    seen_same _ _ (ap is_none c.take.ensures.ended) (room_less (most_of old.lane) (most_of new) (length (input_of old.lane)) (length (input_of new)) (length c.args.bytes.now) most came)
+    (ap (λ (b : Buffer ℕ). b.items) c.take.ensures.window) (ap (told_at old.place) c.take.ensures.source) (ap (answered_at old.place) c.take.ensures.stage) c.take.ensures.begun refl refl
 
 pub returns-clause-sound : goal.returns-clause-sound
 returns-clause-sound c =
     let old = c.args.self.now in
     record {
       lane = c.take.ensures.sound c.requires.sound.lane;
-      open_is = c.requires.sound.open_is ∙ ap is_none (sym c.take.ensures.keeps.0);
-      at = fits_same old.place old _ refl c.take.ensures.same.0 c.take.ensures.same.2 c.take.ensures.keeps.1 c.take.ensures.keeps.2 c.requires.sound.at;
+      open_is = c.requires.sound.open_is ∙ ap is_none (sym c.take.ensures.ended);
+      at = fits_same old.place old _ refl c.take.ensures.stage c.take.ensures.begun c.take.ensures.phase c.take.ensures.source c.requires.sound.at;
     }

@@ -22,11 +22,11 @@ returns-clause-leads c = λ cfg asking server put now saying head body s is.
         asks = s.asks;
         for_it = for_new cfg old.lane new c.answer.ensures.limits c.answer.ensures.filters s.for_it;
         at = (t.e, t.answers, c.answer.ensures.last, t.is_said);
-        heard = heard_said old.heard old.place cfg (asker_in asking) old.lane new server c.answer.ensures.same.1 s.heard;
+        heard = heard_said old.heard old.place cfg (asker_in asking) old.lane new server c.answer.ensures.ended s.heard;
         rests = λ _. tt;
       };
       heads = t.heads;
       begins = t.begins;
       said = t.said;
-      starts = ap is_done c.answer.ensures.stage.0;
+      starts = ap is_done c.answer.ensures.stage;
     }
