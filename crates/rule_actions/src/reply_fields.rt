@@ -40,12 +40,8 @@ fn make_value(
     ensures text { scratch.new.text ≡ scratch.old.text }
     ensures scratch { IsScratch place.entry.msg.now.size scratch.new }
 {
-    let Scratch {
-        made,
-        buf,
-        spare,
-        ..
-    } = scratch;
+    let made = &mut scratch.made;
+    let (buf, spare) = (&mut scratch.buf, &mut scratch.spare);
     if !write_into(alloc, searchers, &hdr.value, place, made, buf, spare)? {
         return Ok(false);
     }

@@ -86,12 +86,7 @@ fn write_parts(
     ensures size { reply.new.size ≡ reply.old.size }
     ensures scratch { IsScratch place.entry.msg.now.size scratch.new }
 {
-    let Returned {
-        status,
-        payload,
-        hdrs,
-        ..
-    } = returned;
+    let (status, payload, hdrs) = (returned.status, returned.payload, returned.hdrs);
     let length = length_by(status, payload, scratch.text.bytes());
     let begun = begin(status, content_type, length, reply);
     let step = put_fields(alloc, searchers, hdrs, place, begun, scratch, reply)?;
