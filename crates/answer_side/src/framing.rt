@@ -4,6 +4,7 @@ ghost use Rattle.http_model.specs.Finish.{response_framing};
 ghost use Rattle.session_model.specs.Meaning.{declares_too_much, is_bodiless};
 ghost use Rattle.proxy_meaning.specs.Product.{filters_of};
 
+use crate::asker::Asker;
 use http_model::Framing;
 use http_rules::Filters;
 use proxy_meaning::passes_limit;
@@ -59,17 +60,17 @@ pub fn declares_too_much(filters: &Filters, declared: Option<u64>, framing: Fram
 
 /// The length that a response without a body tells all the same: the one that was declared to a HEAD, or with status 304.
 pub fn declared_for(
+    asker: Asker,
     replaces: bool,
-    head_asked: bool,
-    not_modified: bool,
     declared: Option<u64>,
+    not_modified: bool,
 ) -> Option<u64>
-    ensures { result ≡ (if not replaces && (head_asked || not_modified) then declared else None) }
+    ensures { result ≡ (if not replaces && (asker.head_asked || not_modified) then declared else None) }
 {
     if replaces {
         return None;
     }
-    if head_asked {
+    if asker.head_asked {
         return declared;
     }
     if not_modified {

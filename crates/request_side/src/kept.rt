@@ -86,7 +86,7 @@ fn is_bodiless(framing: Framing) -> bool
     }
 }
 
-/// Whether all three hold.
+/// Whether all three hold. Written out in `kept_of`, each `&&` is a fork, and its clause a goal behind each way through them.
 fn all(a: bool, b: bool, c: bool) -> bool
     ensures { result ≡ (a && b && c) }
 {

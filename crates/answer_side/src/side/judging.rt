@@ -183,12 +183,7 @@ impl AnswerSide {
         edits_of_heads();
         edited_answer();
         let framing = response_framing(replaced, self.asker.is_http_11, self.lane.framing());
-        let declared = declared_for(
-            replaced,
-            self.asker.head_asked,
-            not_modified,
-            self.lane.declared(),
-        );
+        let declared = declared_for(self.asker, replaced, self.lane.declared(), not_modified);
         let close = !self.asker.keep;
         finish_response(self.lane.head(), framing, declared, close).is_ok()
     }
