@@ -1,5 +1,5 @@
 -- Behind a call of work nothing is held back.
-use Rattle.std.proofs.Common.{◌≡◌, ◌⊎◌, inl, inr, Bool, true, false, List, ℕ, Option, None, sym, ap, ◌∙◌, subst, refl}
+use Rattle.std.proofs.Common.{◌≡◌, ◌⊎◌, inl, inr, Bool, true, false, if◌then◌else◌, List, ℕ, Option, Some, None, sym, ap, ◌∙◌, subst, refl}
 use Rattle.px_sample.specs.Variables.{Variables}
 use Rattle.http_rules.specs.declared.config.Config.{Config}
 use Rattle.http_rules.specs.Lives.{answering}
@@ -7,8 +7,8 @@ use Rattle.proxy_meaning.specs.Product.{meaning_of}
 use Rattle.session_model.specs.Stream.{Stream}
 use Rattle.session_core.specs.History.{Past, Coming, Continues}
 use Rattle.session_core.specs.InHand.{ReadsInHand, ServesInHand}
-use Rattle.session_core.specs.Place.{IsPlaced, place_serving, Serves, Reads}
-use Rattle.session_core.specs.Sided.{asker_in, RequestAsks, IsUncut}
+use Rattle.session_core.specs.Place.{IsPlaced, place_serving, Serves, Says, Reads}
+use Rattle.session_core.specs.Sided.{Sided, asker_in, RequestAsks, IsUncut}
 use Rattle.session_core.specs.Stands.{Serves as ServesSo}
 use Rattle.session_core.specs.Waits.{Settled, RequestWaits, AnswerWaitsAt, is_turned}
 use Rattle.session_core.specs.declared.Phase.{Phase}
@@ -35,18 +35,41 @@ use Rattle.session_sides.specs.declared.directions.Directions.{Directions}
 abbrev pub Served : Config → Directions → At → Past → Type 0
 Served cfg d at past = ServesInHand (meaning_of cfg) (DirectionsStand cfg d) (request_of d) (answer_of d) at past
 
--- where both directions stand, and that they are at rest
-pub record RestsServing (d : Directions) : Type 0 where
+-- where both directions stand, and that the request direction is at rest
+pub record RestsSending (d : Directions) : Type 0 where
   pub is_at : IsAt d Serves
   pub request : (request_of d).at_rest ≡ true
-  pub answer : (answer_of d).at_rest ≡ true
 
-pub rests_serving : (cfg : Config) (d : Directions) (at : At) (past : Past) → HasWorked cfg d at past → at.phase ≡ phase.Serving → at.cut ≡ None → RestsServing d
-rests_serving cfg d at past h is uncut =
+pub rests_sending : (cfg : Config) (d : Directions) (at : At) (past : Past) → HasWorked cfg d at past → at.phase ≡ phase.Serving → at.cut ≡ None → RestsSending d
+rests_sending cfg d at past h is uncut =
     let placed : Placed d (place_serving at.cut) = subst (λ (f : Phase). IsPlaced (Placed d) (answer_of d) f at.cut) is h.placed in
     let there : Placed d Serves = subst (λ (x : Option Bool). Placed d (place_serving x)) uncut placed in
     let settled : RequestWaits (request_of d) × AnswerWaitsAt at.cut (answer_of d) = subst (λ (f : Phase). Settled f at.cut (request_of d) (answer_of d)) is h.settled in
-    record { is_at = there.is_at; request = settled.0.0; answer = settled.1.0 (ap is_turned uncut) }
+    record { is_at = there.is_at; request = settled.0.0 }
+
+-- where both directions stand, and that the answer direction is at rest
+pub record RestsAnswering (d : Directions) : Type 0 where
+  pub is_at : IsAt d Serves
+  pub answer : (answer_of d).at_rest ≡ true
+
+pub rests_answering : (cfg : Config) (d : Directions) (at : At) (past : Past) → HasWorked cfg d at past → at.phase ≡ phase.Serving → is_turned at.cut ≡ false → RestsAnswering d
+rests_answering cfg d at past h is unturned =
+    let placed : Placed d (place_serving at.cut) = subst (λ (f : Phase). IsPlaced (Placed d) (answer_of d) f at.cut) is h.placed in
+    let there : Placed d Serves = subst (λ (b : Bool). Placed d (if b then Says else Serves)) unturned placed in
+    let settled : RequestWaits (request_of d) × AnswerWaitsAt at.cut (answer_of d) = subst (λ (f : Phase). Settled f at.cut (request_of d) (answer_of d)) is h.settled in
+    record { is_at = there.is_at; answer = settled.1.0 unturned }
+
+-- no refusal took the place of an answer that goes on: a refusal closes
+unturned_by : (b : Bool) (d : Directions) → Placed d (if b then Says else Serves) → (answer_of d).told ≡ told.Going → b ≡ false
+unturned_by false d placed tells = refl
+unturned_by true d placed tells =
+    let closes : told_at (place_of d.answer) (source_of d.answer.lane) ≡ told.Closes = ap (λ (pl : Answered). told_at pl (source_of d.answer.lane)) placed.is_at.stand.1 in
+    absurd (let both : told.Closes ≡ told.Going = sym closes ∙ tells in cc both)
+
+pub is_unturned : (cfg : Config) (d : Directions) (at : At) (past : Past) → HasWorked cfg d at past → at.phase ≡ phase.Serving → (answer_of d).told ≡ told.Going → is_turned at.cut ≡ false
+is_unturned cfg d at past h is tells =
+    let placed : Placed d (place_serving at.cut) = subst (λ (f : Phase). IsPlaced (Placed d) (answer_of d) f at.cut) is h.placed in
+    unturned_by (is_turned at.cut) d placed tells
 
 abbrev pub is_served : (cfg : Config) (d : Directions) (at : At) (past : Past) → Served cfg d at past → IsServed cfg past
 is_served cfg d at past s =
@@ -68,6 +91,15 @@ uncut_so A (source.Cut code) u f = absurd u
 
 is_uncut : (cfg : Config) (d : Directions) (at : At) (past : Past) → at.cut ≡ None → (s : Served cfg d at past) → IsUncut (request_of d).source
 is_uncut cfg d at past uncut s = (subst (λ (x : Option Bool). ServesSo (meaning_of cfg) (request_of d) (answer_of d) s.sided x) uncut s.serves).2
+
+-- a request that goes on was not met as cut
+unmet_by : (cfg : Config) (d : Directions) (p : Sided (meaning_of cfg)) (cut : Option Bool) → ServesSo (meaning_of cfg) (request_of d) (answer_of d) p cut → (request_of d).source ≡ source.Going → cut ≡ None
+unmet_by cfg d p None s going = refl
+unmet_by cfg d p (Some true) s going = absurd (let both : source.Cut s.2 ≡ source.Going = sym s.3 ∙ going in cc both)
+unmet_by cfg d p (Some false) s going = absurd (let both : source.Cut s.1 ≡ source.Going = sym s.2 ∙ going in cc both)
+
+pub is_unmet : (cfg : Config) (d : Directions) (at : At) (past : Past) → (s : Served cfg d at past) → (request_of d).source ≡ source.Going → at.cut ≡ None
+is_unmet cfg d at past s going = unmet_by cfg d s.sided at.cut s.serves going
 
 pub uncut_so_far : (cfg : Config) (d : Directions) (at : At) (past : Past) → at.cut ≡ None → (s : Served cfg d at past)
     → ((request_of d).source ≡ source.Going → ShowsNoCut cfg s.sided.came s.sided.asking) → IsUncutSoFar cfg (request_of d).source past

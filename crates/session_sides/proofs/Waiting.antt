@@ -1,5 +1,5 @@
 -- Whether the client waits for a response head, by what its server sent.
-use Rattle.std.proofs.Common.{◌≡◌, ◌⊎◌, inl, inr, ℕ, List, Bool, true, false, not, ◌&&◌, if◌then◌else◌, refl, sym, ap, ◌∙◌, subst}
+use Rattle.std.proofs.Common.{◌≡◌, ◌⊎◌, inl, inr, ℕ, List, Bool, true, false, not, ◌&&◌, refl, sym, ap, ◌∙◌, subst}
 use Rattle.px_sample.specs.Variables.{Variables}
 use Rattle.http_rules.specs.declared.config.Config.{Config}
 use Rattle.proxy_meaning.specs.Product.{meaning_of}
@@ -7,18 +7,16 @@ use Rattle.session_model.specs.Stream.{Stream}
 use Rattle.session_core.specs.Awaits.{awaits_continue}
 use Rattle.session_core.specs.History.{Past, Coming, Continues}
 use Rattle.session_core.specs.InHand.{ExchangesAre}
-use Rattle.session_core.specs.Place as at
-use Rattle.session_core.specs.Place.{IsPlaced, place_serving}
 use Rattle.session_core.specs.Sided.{asker_in, RequestAsks}
 use Rattle.session_core.specs.Stands.{InPhase}
-use Rattle.session_core.specs.Waits.{Settled, RequestWaits, AnswerWaitsAt, is_turned, is_sending, wants_of}
+use Rattle.session_core.specs.Waits.{is_sending, wants_of}
 use Rattle.session_core.specs.declared.Phase.{Phase}
 use Rattle.session_core.specs.declared.Phase.TheVariants as phase
 use Rattle.session_core.specs.declared.machine.At.{At}
 use Rattle.answer_side.specs.HeadsRead.{BeginsWithHead, HeadBegins}
 use Rattle.answer_side.specs.Stands.{AnswerStands}
-use Rattle.session_sides.specs.HeldBack.{HasWorked, IsServed}
-use Rattle.session_sides.specs.Joined.{DirectionsStand, Placed, IsAt, request_of, answer_of}
+use Rattle.session_sides.specs.HeldBack.{IsServed}
+use Rattle.session_sides.specs.Joined.{DirectionsStand, request_of, answer_of}
 use Rattle.session_sides.specs.Waiting.{WaitsForHead, WaitsForNone}
 use Rattle.session_sides.specs.declared.directions.Directions.{Directions}
 
@@ -72,18 +70,6 @@ free_by true false heard is e = inl refl
 free_by true true true is e = inr refl
 free_by true true false is e = absurd (let both : true ≡ false = e in cc both)
 free_by false awaits heard is e = absurd (let both : false ≡ true = is in cc both)
-
--- where the directions stand, and that the answer direction is at rest
-pub record RestsAnswering (d : Directions) : Type 0 where
-  pub is_at : IsAt d at.Serves
-  pub answer : (answer_of d).at_rest ≡ true
-
-pub rests_answering : (cfg : Config) (d : Directions) (core : At) (past : Past) → HasWorked cfg d core past → core.phase ≡ phase.Serving → is_turned core.cut ≡ false → RestsAnswering d
-rests_answering cfg d core past h is uncut =
-    let placed : Placed d (place_serving core.cut) = subst (λ (f : Phase). IsPlaced (Placed d) (answer_of d) f core.cut) is h.placed in
-    let there : Placed d at.Serves = subst (λ (b : Bool). Placed d (if b then at.Says else at.Serves)) uncut placed in
-    let settled : RequestWaits (request_of d) × AnswerWaitsAt core.cut (answer_of d) = subst (λ (f : Phase). Settled f core.cut (request_of d) (answer_of d)) is h.settled in
-    record { is_at = there.is_at; answer = settled.1.0 uncut }
 
 -- a head that came was read
 pub waits_for_head : (cfg : Config) (d : Directions) (core : At) (past : Past) → (h : Hears cfg d past) → (BeginsWithHead cfg (asker_in h.served.asking) h.server.bytes → (answer_of d).heard ≡ true)

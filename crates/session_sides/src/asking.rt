@@ -58,9 +58,11 @@ fn keep_method(method: &mut Buf, msg: &Arena)
     ensures cap { method.new.cap ≡ method.old.cap }
 {
     method.clear();
+    // called for its clause alone: the blocks weigh no more than the array, so the buffer has room for the method
     let _room = msg.room();
     match request_parts(msg) {
         Some(line) => {
+            // so it is all kept
             let _fits = method.push(line.a);
         }
         None => {}

@@ -17,24 +17,25 @@ use answer_side::laws as answers;
 use request_side::laws as requests;
 use session_core::laws::{exchanges_are, reads_in_hand, serves_in_hand};
 
-/// While a server is open and no cut of its request was met: where the server has taken all text, or takes no more, what the client gave shows no
-/// cut (`no_cut`); and a server that has taken all text was sent all that came, but what filters keep back (`sent`).
+/// While a server is open: where no cut of its request was met, and the server has taken all text or takes no more, what the client gave shows no
+/// cut (`no_cut`); and a server that has taken all text of a request that goes on was sent all that came, but what filters keep back (`sent`).
 pub fn request_not_held_back<'c>()
     ensures no_cut { (cfg : Config) (d : Directions) (at : At) (past : Past) → HasWorked cfg d at past → at.phase ≡ phase.Serving → at.cut ≡ None
         → ((request_of d).window ≡ []) ⊎ ((request_of d).dropped ≡ true) → IsUncutSoFar cfg (request_of d).source past }
-    ensures sent { (cfg : Config) (d : Directions) (at : At) (past : Past) → HasWorked cfg d at past → at.phase ≡ phase.Serving → at.cut ≡ None
+    ensures sent { (cfg : Config) (d : Directions) (at : At) (past : Past) → HasWorked cfg d at past → at.phase ≡ phase.Serving
         → (request_of d).source ≡ source.Going → (request_of d).window ≡ [] → (request_of d).dropped ≡ false → IsSentSoFar cfg (request_of d).window past }
 {
     serves_in_hand::<Directions<'c>>();
     requests::nothing_held_back();
 }
 
-/// While a server is open and no cut of its request was met, and the client has taken all text: where the answer hasn't begun, no final head has come,
-/// and the interim heads were put out (`waits`); where it goes on, all that came of it was put out, but what filters keep back (`answered`).
+/// While a server is open and the client has taken all text: where the answer hasn't begun and no refusal took its place, no final head has come, and
+/// the interim heads were put out (`waits`); where it goes on, whether its request was met as cut or not, all that came of it was put out, but what
+/// filters keep back (`answered`).
 pub fn answer_not_held_back<'c>()
-    ensures waits { (cfg : Config) (d : Directions) (at : At) (past : Past) → HasWorked cfg d at past → at.phase ≡ phase.Serving → at.cut ≡ None
+    ensures waits { (cfg : Config) (d : Directions) (at : At) (past : Past) → HasWorked cfg d at past → at.phase ≡ phase.Serving → is_turned at.cut ≡ false
         → (answer_of d).window ≡ [] → (answer_of d).begun ≡ false → AwaitsAnswer cfg (answer_of d).window past }
-    ensures answered { (cfg : Config) (d : Directions) (at : At) (past : Past) → HasWorked cfg d at past → at.phase ≡ phase.Serving → at.cut ≡ None
+    ensures answered { (cfg : Config) (d : Directions) (at : At) (past : Past) → HasWorked cfg d at past → at.phase ≡ phase.Serving
         → (answer_of d).window ≡ [] → (answer_of d).begun ≡ true → (answer_of d).told ≡ told.Going → IsAnsweredSoFar cfg (answer_of d).window past }
 {
     serves_in_hand::<Directions<'c>>();

@@ -39,6 +39,7 @@ pub(crate) fn refuse(
     lists();
     rules.begin_answer();
     rules.say_refusal(code, method)?;
+    // called for its clause alone: the list weighs no more than its array, so the answer direction can take it
     let _room = rules.said.room();
     answer.begin_saying(&mut rules.said, no_body);
     Ok(())
@@ -73,6 +74,7 @@ pub(crate) fn reply(
     lists();
     rules.begin_answer();
     let kept = rules.say_reply(method, keep)?;
+    // called for its clause alone: the list weighs no more than its array, so the answer direction can take it
     let _room = rules.said.room();
     answer.begin_saying(&mut rules.said, no_body);
     Ok(kept)

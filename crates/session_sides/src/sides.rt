@@ -189,6 +189,7 @@ impl<'c> Works for Directions<'c> {
     fn turn(&mut self, code: u16) {
         answer_side::laws::lists();
         self.rules.say_closing(code);
+        // called for its clause alone: the list weighs no more than its array, so the answer direction can take it
         let _room = self.rules.said.room();
         self.answer.turn_to(&mut self.rules.said);
     }

@@ -3,7 +3,8 @@ use Rattle.session_core.specs.Place.{IsPlaced}
 use Rattle.session_core.specs.declared.Phase.{Phase}
 use Rattle.session_sides.specs.Joined.{Placed, answer_of}
 use Rattle.session_sides.proofs.Sending.{idle_heard}
-use Rattle.session_sides.proofs.Waiting.{hears, rests_answering, waits_for_head, waits_for_none, waits_opening}
+use Rattle.session_sides.proofs.HeldBack.{rests_answering}
+use Rattle.session_sides.proofs.Waiting.{hears, waits_for_head, waits_for_none, waits_opening}
 use Rattle.session_sides.proofs.laws.client_waits_in_hand.Goals as goal
 
 pub returns-clause-waits : goal.returns-clause-waits
