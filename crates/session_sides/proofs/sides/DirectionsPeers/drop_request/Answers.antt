@@ -1,4 +1,4 @@
-use Rattle.request_side.specs.Seen.{list_of}
+use Rattle.std.specs.Prelude.{[]}
 use Rattle.session_sides.proofs.Joining.{at_request, stands_request}
 use Rattle.session_sides.proofs.Stepping.{was_put}
 use Rattle.session_sides.proofs.sides.DirectionsPeers.drop_request.Goals as goal
@@ -28,4 +28,4 @@ pub drop_request-requires-clause-sound : goal.drop_request-requires-clause-sound
 drop_request-requires-clause-sound c = c.requires.placed.1.is_at.sound.request
 
 pub returns-clause-request : goal.returns-clause-request
-returns-clause-request c = (list_of c.drop_request.new.self, c.drop_request.ensures.seen)
+returns-clause-request c = ([], c.drop_request.ensures.seen)
