@@ -1,6 +1,7 @@
 #!/usr/bin/env bash
 # gate-price.sh: what the gate costs from nothing. It copies what is committed into a folder of its own, runs `rt ci --anew` there, and
-# looks ten times a second at the processor time of each process of the prover below that run. It prints the minutes of the crates' own
+# looks ten times a second at the processor time of each process of the prover below that run. It runs two checks at a time, of one process
+# each, as a machine of two processors does: with more, each second is dearer (RT_JOBS=N in the environment for N of them). It prints the minutes of the crates' own
 # proofs, of their tests, of the proofs that must-fail edits are tried over (their bases) and of the edits, and the ten dearest of each.
 # It changes nothing here. With the name of a log of samples that an earlier run wrote as its word, it prints that run's table again.
 set -eu
@@ -46,7 +47,8 @@ def kind_of(pid):
 def measured(top):
     """Runs the gate in the folder, and gives the processor seconds of each process of the prover."""
     log = open(f"{top}.log", "w")
-    run = subprocess.Popen(["rt", "ci", "--anew"], cwd=top, stdout=log, stderr=subprocess.STDOUT, stdin=subprocess.DEVNULL, start_new_session=True)
+    jobs = {**os.environ, "RT_JOBS": os.environ.get("RT_JOBS", "2")}
+    run = subprocess.Popen(["rt", "ci", "--anew"], cwd=top, env=jobs, stdout=log, stderr=subprocess.STDOUT, stdin=subprocess.DEVNULL, start_new_session=True)
     seen, kinds, began = {}, {}, time.time()
     # (told to stop, it ends the gate and prints what was seen so far)
     signal.signal(signal.SIGTERM, lambda *_: os.killpg(run.pid, signal.SIGTERM))
