@@ -122,26 +122,26 @@ module _ {L N : Type 0} (seen : L → Seen) (wrote : L → List ℕ → Type 0) 
   out_fault status end is = out_of (at status ended.OutFault end is)
 
   front_of : EndedBy seen wrote net_seen first now input output ended.OutFault
-      → PutsFront input output ⊎ Serving input.words input.files (λ cfg count. Breaks net_seen (ServedBy seen wrote net_seen cfg) (address_of cfg.bind) count first now output.old output.new)
+      → PutsFront input output ⊎ (IsBuilt input.builder × Serving input.words input.files (λ cfg count. Breaks net_seen (ServedBy seen wrote net_seen cfg) (address_of cfg.bind) count first now output.old output.new))
   front_of (inl (told, quiet)) = inl told.1
   front_of (inr (built, (name, count, is, cfg, accepted, (Ok done, serves, same)))) = absurd cc
-  front_of (inr (built, (name, count, is, cfg, accepted, (Err fault, serves, same)))) = inr (name, count, is, cfg, accepted, serves.front)
+  front_of (inr (built, (name, count, is, cfg, accepted, (Err fault, serves, same)))) = inr (built, (name, count, is, cfg, accepted, serves.front))
 
   pub front : (status : Status) → EndedBy seen wrote net_seen first now input output status → status ≡ ended.OutFault
-      → PutsFront input output ⊎ Serving input.words input.files (λ cfg count. Breaks net_seen (ServedBy seen wrote net_seen cfg) (address_of cfg.bind) count first now output.old output.new)
+      → PutsFront input output ⊎ (IsBuilt input.builder × Serving input.words input.files (λ cfg count. Breaks net_seen (ServedBy seen wrote net_seen cfg) (address_of cfg.bind) count first now output.old output.new))
   front status end is = front_of (at status ended.OutFault end is)
 
   memory_of : EndedBy seen wrote net_seen first now input output ended.OutOfMemory
       → (output.new ≡ output.old)
-      ⊎ (PutsFront input output ⊎ Serving input.words input.files (λ cfg count. Breaks net_seen (ServedBy seen wrote net_seen cfg) (address_of cfg.bind) count first now output.old output.new))
+      ⊎ (PutsFront input output ⊎ (IsBuilt input.builder × Serving input.words input.files (λ cfg count. Breaks net_seen (ServedBy seen wrote net_seen cfg) (address_of cfg.bind) count first now output.old output.new)))
   memory_of (inl (inl same, quiet)) = inl same
   memory_of (inl (inr puts, quiet)) = inr (inl puts)
   memory_of (inr (built, (name, count, is, cfg, accepted, (Ok done, serves, same)))) = absurd cc
-  memory_of (inr (built, (name, count, is, cfg, accepted, (Err fault, serves, same)))) = inr (inr (name, count, is, cfg, accepted, serves.front))
+  memory_of (inr (built, (name, count, is, cfg, accepted, (Err fault, serves, same)))) = inr (inr (built, (name, count, is, cfg, accepted, serves.front)))
 
   pub memory : (status : Status) → EndedBy seen wrote net_seen first now input output status → status ≡ ended.OutOfMemory
       → (output.new ≡ output.old)
-      ⊎ (PutsFront input output ⊎ Serving input.words input.files (λ cfg count. Breaks net_seen (ServedBy seen wrote net_seen cfg) (address_of cfg.bind) count first now output.old output.new))
+      ⊎ (PutsFront input output ⊎ (IsBuilt input.builder × Serving input.words input.files (λ cfg count. Breaks net_seen (ServedBy seen wrote net_seen cfg) (address_of cfg.bind) count first now output.old output.new)))
   memory status end is = memory_of (at status ended.OutOfMemory end is)
 
   net_of : EndedBy seen wrote net_seen first now input output ended.NetFault

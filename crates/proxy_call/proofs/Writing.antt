@@ -7,7 +7,7 @@ use Rattle.px_link.specs.declared.fault.Fault.TheVariants as faults
 use Rattle.http_rules.specs.declared.config.Config.{Config}
 use Rattle.serve_run.specs.declared.outcome.ServeFault.{ServeFault}
 use Rattle.proxy_call.specs.Answers.{IsAnswer, IsGood, IsRefusal}
-use Rattle.proxy_call.specs.Ends.{Answered, Output, Ran, Says, Writes, put}
+use Rattle.proxy_call.specs.Ends.{Answered, Output, PutsFront, Ran, Says, Writes, put}
 use Rattle.proxy_call.specs.Stops.{Answers, Input, Replies, StopsBy, stop_of_output}
 use Rattle.proxy_call.specs.declared.reply.Reply.{Reply}
 use Rattle.proxy_call.specs.declared.status.Status.{Status}
@@ -36,13 +36,16 @@ ran_err input output quiet Serves (Err y) s is p = subst (λ (t : Stop). Ran inp
 pub write_ok : (input : Input) (output : Output) (text piece : List ℕ) → piece ≡ text → Answers input (Ok text) → Gains output.old output.new piece → Writes input output (Ok tt)
 write_ok input output text piece same made gains = (text, made.0, subst (λ (t : List ℕ). Gains output.old output.new t) same gains, made.1)
 
+-- a front of it was
+text_front : (input : Input) (writes now : ℕ) (old new : Option (List ℕ)) (text piece : List ℕ) → piece ≡ text → Answers input (Ok text) → GainsFront old new piece → PutsFront input (put writes now old new)
+text_front input writes now old new text piece same made front =
+    (ended.Good, piece, subst (λ (t : List ℕ). IsGood input.words input.files t) (sym same) made.0, (λ is. absurd cc, λ is. made.1), front)
+
 -- it couldn't be
-pub write_stops : (input : Input) (writes now : ℕ) (old new : Option (List ℕ)) (text piece : List ℕ) (fault : Fault) → piece ≡ text → IsGood input.words input.files text
+pub write_stops : (input : Input) (writes now : ℕ) (old new : Option (List ℕ)) (text piece : List ℕ) (fault : Fault) → piece ≡ text → Answers input (Ok text)
     → GainsFront old new piece → Counts {T = Unit {0}} writes now (Err fault) → Writes input (put writes now old new) (Err (stop_of_output fault))
-write_stops input writes now old new text piece faults.Failed same good front count =
-    (count.failed refl, (ended.Good, piece, subst (λ (t : List ℕ). IsGood input.words input.files t) (sym same) good, front))
-write_stops input writes now old new text piece faults.OutOfMemory same good front count =
-    inr (ended.Good, piece, subst (λ (t : List ℕ). IsGood input.words input.files t) (sym same) good, front)
+write_stops input writes now old new text piece faults.Failed same made front count = (count.failed refl, text_front input writes now old new text piece same made front)
+write_stops input writes now old new text piece faults.OutOfMemory same made front count = inr (text_front input writes now old new text piece same made front)
 
 -- the text of a stop was written
 pub say_ok : (input : Input) (output : Output) (reply : Reply) (piece : List ℕ) → piece ≡ reply.text → Replies input (Ok reply) → Gains output.old output.new piece → Answered input output reply.status
@@ -55,13 +58,17 @@ say_ok input output reply piece same replies gains =
       built = λ good. absurd (subst IsRefusal good replies.2);
     }
 
+-- a front of it was
+reply_front : (input : Input) (writes now : ℕ) (old new : Option (List ℕ)) (reply : Reply) (piece : List ℕ) → piece ≡ reply.text → Replies input (Ok reply) → GainsFront old new piece → PutsFront input (put writes now old new)
+reply_front input writes now old new reply piece same replies front =
+    let answer : IsAnswer input.words input.files input.builder input.last reply.status piece = subst (λ (t : List ℕ). IsAnswer input.words input.files input.builder input.last reply.status t) (sym same) replies.0 in
+    (reply.status, piece, answer, (replies.1, λ good. absurd (subst IsRefusal good replies.2)), front)
+
 -- it couldn't be
 pub say_stops : (input : Input) (writes now : ℕ) (old new : Option (List ℕ)) (reply : Reply) (piece : List ℕ) (fault : Fault) → piece ≡ reply.text → Replies input (Ok reply)
     → GainsFront old new piece → Counts {T = Unit {0}} writes now (Err fault) → Says input (put writes now old new) (Err (stop_of_output fault))
-say_stops input writes now old new reply piece faults.Failed same replies front count =
-    (count.failed refl, (reply.status, piece, subst (λ (t : List ℕ). IsAnswer input.words input.files input.builder input.last reply.status t) (sym same) replies.0, front))
-say_stops input writes now old new reply piece faults.OutOfMemory same replies front count =
-    inr (reply.status, piece, subst (λ (t : List ℕ). IsAnswer input.words input.files input.builder input.last reply.status t) (sym same) replies.0, front)
+say_stops input writes now old new reply piece faults.Failed same replies front count = (count.failed refl, reply_front input writes now old new reply piece same replies front)
+say_stops input writes now old new reply piece faults.OutOfMemory same replies front count = inr (reply_front input writes now old new reply piece same replies front)
 
 -- there was no memory for it
 pub say_nothing : (input : Input) (writes : ℕ) (old : Option (List ℕ)) (s : Stop) → s ≡ stops.OutOfMemory → Says input (put writes writes old old) (Err s)

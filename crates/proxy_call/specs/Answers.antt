@@ -1,6 +1,6 @@
 -- What a command is answered: which text is written with which status, by the words and the files.
 use Rattle.std.specs.Prelude.{◌≡◌, ℕ, ◌+◌, List, ◌⊎◌, ⊤, length, Option, None, Ok, Err}
-use Rattle.px_link.specs.Told.{NamedBytes, GainsFront}
+use Rattle.px_link.specs.Told.{NamedBytes, GainsFront, Rose}
 use Rattle.http_rules.specs.declared.config.Config.{Config}
 use Rattle.cfg_parse.specs.Whole.{config_of}
 use Rattle.cfg_parse.specs.declared.fault.CfgKind.{CfgKind}
@@ -13,7 +13,7 @@ use Rattle.rec_format.specs.Recorded.{Recorded}
 use Rattle.rec_format.specs.Written.{written}
 use Rattle.replay_run.specs.Written.{IsReplayOf, IsDrillOf}
 use Rattle.proxy_call.specs.Lines.{accepted_line, refused_line, record_line, file_line}
-use Rattle.proxy_call.specs.Files.{IfTold, Builder, Configured, RecordIs, Refuses, Say}
+use Rattle.proxy_call.specs.Files.{IfTold, Builder, Configured, IsBuilt, RecordIs, Refuses, Say}
 use Rattle.proxy_call.specs.declared.status.Status.{Status}
 use Rattle.proxy_call.specs.declared.status.Status.TheVariants.{Good, Usage, FileFault, OutFault, NetFault, OutOfMemory}
 use Rattle.proxy_call.specs.declared.status.Status.TheVariants as ended
@@ -99,10 +99,14 @@ IsRefusal OutFault = ⊥
 IsRefusal NetFault = ⊥
 IsRefusal OutOfMemory = ⊥
 
--- a front of what some status writes was written
-abbrev pub WritesFront : List (List ℕ) → Option (List NamedBytes) → Builder → (last : List ℕ) → (old new : Option (List ℕ)) → Type 0
-WritesFront words files builder last old new =
-    (status : Status) × (text : List ℕ) × IsAnswer words files builder last status text × GainsFront old new text
+-- the status has its cause: a file's fault in the count of failed reads, which rose; and it is good only where no pattern was refused
+abbrev pub HasCause : Builder → (reads reads_now : ℕ) → Status → Type 0
+HasCause builder reads reads_now status = (status ≡ FileFault → Rose reads reads_now) × (status ≡ Good → IsBuilt builder)
+
+-- a front was written of what some status writes that has its cause
+abbrev pub WritesFront : List (List ℕ) → Option (List NamedBytes) → Builder → (last : List ℕ) → (reads reads_now : ℕ) → (old new : Option (List ℕ)) → Type 0
+WritesFront words files builder last reads reads_now old new =
+    (status : Status) × (text : List ℕ) × IsAnswer words files builder last status text × HasCause builder reads reads_now status × GainsFront old new text
 
 -- the words ask for what no file says: a generated session, or a text of help
 abbrev pub AsksNoFile : List (List ℕ) → Type 0

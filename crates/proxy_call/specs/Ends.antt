@@ -27,9 +27,9 @@ pub record IsUntouched (output : Output) : Type 0 where
   pub written : output.new ≡ output.old
   pub writes : output.writes_now ≡ output.writes
 
--- a front of what some status writes was written
+-- a front was written of what some status writes that has its cause
 abbrev pub PutsFront : Input → Output → Type 0
-PutsFront input output = WritesFront input.words input.files input.builder input.last output.old output.new
+PutsFront input output = WritesFront input.words input.files input.builder input.last input.reads input.reads_now output.old output.new
 
 -- the text that the words ask for was written, and no pattern was refused; or the command stopped before anything was, or while it was
 -- written

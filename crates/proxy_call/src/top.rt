@@ -73,17 +73,18 @@ pub fn htx_proxy<F: Files, N: Net, K: Sink, P: Patterns>(
     ensures net_fault { result ≡ Status.NetFault → Serving (map string_bytes words.now) (F.files files.old)
         (λ cfg count. NetFails N.seen (ServedBy N.Link.seen N.Link.wrote N.seen cfg) (address_of cfg.bind) count net_line net.old net.new (K.written out.old) (K.written out.new)) }
 
-    // With a fault of the output a front of what another status would have written was written.
+    // With a fault of the output a front of what another status would have written was written: the line of a file only where the files'
+    // count rose, a good text, and lines of `serve`, only where the builder refused no pattern.
     ensures front { result ≡ Status.OutFault
-        → WritesFront (map string_bytes words.now) (F.files files.old) (told_by (P.refusals pats.old) (P.refusals pats.new) (P.last_refused pats.new)) (F.last_failed files.new) (K.written out.old) (K.written out.new)
-        ⊎ Serving (map string_bytes words.now) (F.files files.old)
-        (λ cfg count. Breaks N.seen (ServedBy N.Link.seen N.Link.wrote N.seen cfg) (address_of cfg.bind) count net.old net.new (K.written out.old) (K.written out.new)) }
+        → WritesFront (map string_bytes words.now) (F.files files.old) (told_by (P.refusals pats.old) (P.refusals pats.new) (P.last_refused pats.new)) (F.last_failed files.new) (F.faults files.old) (F.faults files.new) (K.written out.old) (K.written out.new)
+        ⊎ ((P.refusals pats.new ≡ P.refusals pats.old) × Serving (map string_bytes words.now) (F.files files.old)
+        (λ cfg count. Breaks N.seen (ServedBy N.Link.seen N.Link.wrote N.seen cfg) (address_of cfg.bind) count net.old net.new (K.written out.old) (K.written out.new))) }
 
     // Where memory ran out, nothing or such a front was written.
     ensures memory { result ≡ Status.OutOfMemory → (K.written out.new ≡ K.written out.old)
-        ⊎ (WritesFront (map string_bytes words.now) (F.files files.old) (told_by (P.refusals pats.old) (P.refusals pats.new) (P.last_refused pats.new)) (F.last_failed files.new) (K.written out.old) (K.written out.new)
-        ⊎ Serving (map string_bytes words.now) (F.files files.old)
-        (λ cfg count. Breaks N.seen (ServedBy N.Link.seen N.Link.wrote N.seen cfg) (address_of cfg.bind) count net.old net.new (K.written out.old) (K.written out.new))) }
+        ⊎ (WritesFront (map string_bytes words.now) (F.files files.old) (told_by (P.refusals pats.old) (P.refusals pats.new) (P.last_refused pats.new)) (F.last_failed files.new) (F.faults files.old) (F.faults files.new) (K.written out.old) (K.written out.new)
+        ⊎ ((P.refusals pats.new ≡ P.refusals pats.old) × Serving (map string_bytes words.now) (F.files files.old)
+        (λ cfg count. Breaks N.seen (ServedBy N.Link.seen N.Link.wrote N.seen cfg) (address_of cfg.bind) count net.old net.new (K.written out.old) (K.written out.new)))) }
 
     // The net gains at most the configuration's address among those of binds, and has it where `serve` answers Good.
     ensures binds { result ≡ Status.Good → NamesServe (map string_bytes words.now) → Serving (map string_bytes words.now) (F.files files.old)

@@ -14,7 +14,7 @@ returns-in_err-write_all g c = λ input made.
     let fault : Fault = c.in_err-write_all.field-0.0 in
     let good : Answers input (Ok c.in_ok-text.text) = subst (Answers input) c.in_ok-text.was made in
     writes_err input output c.from_residual-in_err-write_all.result (stop_of_output fault) c.from_residual-in_err-write_all.ensures.1
-    (write_stops input before now output.old output.new c.in_ok-text.text c.as_slice.result.now fault c.as_slice.ensures good.0 c.in_err-write_all.ensures.err c.in_err-write_all.ensures.count)
+    (write_stops input before now output.old output.new c.in_ok-text.text c.as_slice.result.now fault c.as_slice.ensures good c.in_err-write_all.ensures.err c.in_err-write_all.ensures.count)
 
 pub returns : goal.returns
 returns g c = λ input made.
