@@ -1,5 +1,5 @@
 //! Which interpreter a kind of rows has.
-use crate::runs;
+use crate::{lent, runs};
 use case_rows::{Fault, Row};
 use std::alloc::Global;
 
@@ -9,6 +9,7 @@ pub fn made(alloc: Global, kind: &str, row: Row<'_>) -> Option<Result<Vec<u8>, F
         "request_rules" => Some(runs::of_request(alloc, row)),
         "response_rules" => Some(runs::of_response(alloc, row)),
         "after_rules" => Some(runs::of_after(alloc, row)),
+        "lent_requests" => Some(lent::of_lent(alloc, row)),
         _ => None,
     }
 }

@@ -1,8 +1,9 @@
-//! Rows of rules that run on a head, and what they come to.
+//! Rows of rules that run on a head, and of the array in which a core lends the request that they leave, and what they come to.
 #![tactic(auto)]
 
 mod configs;
 mod kinds;
+mod lent;
 mod runs;
 mod verdicts;
 
