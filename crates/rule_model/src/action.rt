@@ -1,5 +1,6 @@
 //! What rules do: the actions with their words, the lists of rules in which each may stand, and their arguments.
 ghost use Rattle.std.specs.Prelude.{◌≡◌, codes, IfSome};
+ghost use Rattle.std.specs.Str.{bytes_eq};
 ghost use Rattle.rule_model.specs.Actions as spec;
 ghost use Rattle.rule_model.specs.Valid.{IsGoodAction};
 
@@ -147,7 +148,7 @@ impl Action {
 }
 
 /// The list that a rule stands in.
-#[derive(Clone, Copy, Debug, PartialEq, Eq)]
+#[derive(Clone, Copy, PartialEq, Eq)]
 pub enum Direction {
     /// `http-request`.
     Request,
@@ -158,7 +159,7 @@ pub enum Direction {
 }
 
 /// The actions by name (Configuration Manual, section 4.2).
-#[derive(Clone, Copy, Debug, PartialEq, Eq)]
+#[derive(Clone, Copy)]
 pub enum ActionName {
     Allow,
     Deny,
@@ -221,24 +222,31 @@ pub fn takes_pattern(name: ActionName) -> bool
     }
 }
 
+/// Whether a text is a word.
+fn is_word(text: &[u8], word: &[u8]) -> bool
+    ensures { result ≡ bytes_eq text.now word.now }
+{
+    text == word
+}
+
 /// Actions on fields and on the mode, and the end of the rules.
 #[tactic(auto, unfolding(crate::specs::Actions::field_action))]
 fn field_action(word: &[u8]) -> Option<ActionName>
     ensures { result ≡ spec.field_action word.now }
 {
-    if word == b"allow".as_slice() {
+    if is_word(word, b"allow") {
         Some(ActionName::Allow)
-    } else if word == b"add-header".as_slice() {
+    } else if is_word(word, b"add-header") {
         Some(ActionName::AddHeader)
-    } else if word == b"set-header".as_slice() {
+    } else if is_word(word, b"set-header") {
         Some(ActionName::SetHeader)
-    } else if word == b"del-header".as_slice() {
+    } else if is_word(word, b"del-header") {
         Some(ActionName::DelHeader)
-    } else if word == b"replace-header".as_slice() {
+    } else if is_word(word, b"replace-header") {
         Some(ActionName::ReplaceHeader)
-    } else if word == b"replace-value".as_slice() {
+    } else if is_word(word, b"replace-value") {
         Some(ActionName::ReplaceValue)
-    } else if word == b"strict-mode".as_slice() {
+    } else if is_word(word, b"strict-mode") {
         Some(ActionName::StrictMode)
     } else {
         None
@@ -250,21 +258,21 @@ fn field_action(word: &[u8]) -> Option<ActionName>
 fn line_action(word: &[u8]) -> Option<ActionName>
     ensures { result ≡ spec.line_action word.now }
 {
-    if word == b"set-method".as_slice() {
+    if is_word(word, b"set-method") {
         Some(ActionName::SetMethod)
-    } else if word == b"set-path".as_slice() {
+    } else if is_word(word, b"set-path") {
         Some(ActionName::SetPath)
-    } else if word == b"set-pathq".as_slice() {
+    } else if is_word(word, b"set-pathq") {
         Some(ActionName::SetPathq)
-    } else if word == b"set-uri".as_slice() {
+    } else if is_word(word, b"set-uri") {
         Some(ActionName::SetUri)
-    } else if word == b"set-query".as_slice() {
+    } else if is_word(word, b"set-query") {
         Some(ActionName::SetQuery)
-    } else if word == b"replace-path".as_slice() {
+    } else if is_word(word, b"replace-path") {
         Some(ActionName::ReplacePath)
-    } else if word == b"replace-pathq".as_slice() {
+    } else if is_word(word, b"replace-pathq") {
         Some(ActionName::ReplacePathq)
-    } else if word == b"replace-uri".as_slice() {
+    } else if is_word(word, b"replace-uri") {
         Some(ActionName::ReplaceUri)
     } else {
         None
@@ -275,14 +283,14 @@ fn line_action(word: &[u8]) -> Option<ActionName>
 fn is_set_var(word: &[u8]) -> bool
     ensures { result ≡ spec.is_call_of (codes "set-var") word.now }
 {
-    word == b"set-var".as_slice() || word.starts_with(b"set-var(")
+    is_word(word, b"set-var") || word.starts_with(b"set-var(")
 }
 
 /// The same of `unset-var`.
 fn is_unset_var(word: &[u8]) -> bool
     ensures { result ≡ spec.is_call_of (codes "unset-var") word.now }
 {
-    word == b"unset-var".as_slice() || word.starts_with(b"unset-var(")
+    is_word(word, b"unset-var") || word.starts_with(b"unset-var(")
 }
 
 /// Answers, a status, and variables.
@@ -290,13 +298,13 @@ fn is_unset_var(word: &[u8]) -> bool
 fn other_action(word: &[u8]) -> Option<ActionName>
     ensures { result ≡ spec.other_action word.now }
 {
-    if word == b"deny".as_slice() {
+    if is_word(word, b"deny") {
         Some(ActionName::Deny)
-    } else if word == b"redirect".as_slice() {
+    } else if is_word(word, b"redirect") {
         Some(ActionName::Redirect)
-    } else if word == b"return".as_slice() {
+    } else if is_word(word, b"return") {
         Some(ActionName::Return)
-    } else if word == b"set-status".as_slice() {
+    } else if is_word(word, b"set-status") {
         Some(ActionName::SetStatus)
     } else if is_set_var(word) {
         Some(ActionName::SetVar)
