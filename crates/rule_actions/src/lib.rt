@@ -29,6 +29,7 @@ mod target;
 mod text_edits;
 mod texts;
 mod variables;
+mod word;
 
 pub use act::{Acted, run_action};
 pub use part::TargetPart;

@@ -14,6 +14,7 @@ use crate::fields::{hold, step_of};
 use crate::part::TargetPart;
 use crate::stepped::Stepped;
 use crate::target::{around, before_query};
+use crate::word::is_word;
 use http_model::Why;
 use htx_arena::Arena;
 use htx_view::request_parts;
@@ -24,9 +25,9 @@ use px_sample::Buf;
 fn may_become(old: &[u8], new: &[u8]) -> bool
     ensures { result ≡ spec.may_become old.now new.now }
 {
-    let was_head = old == b"HEAD".as_slice();
-    let is_head = new == b"HEAD".as_slice();
-    is_token(new) && new != b"CONNECT".as_slice() && was_head == is_head
+    let was_head = is_word(old, b"HEAD");
+    let is_head = is_word(new, b"HEAD");
+    is_token(new) && !is_word(new, b"CONNECT") && was_head == is_head
 }
 
 /// Whether each byte may stand in a target.

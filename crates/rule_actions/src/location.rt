@@ -7,6 +7,7 @@ ghost use Rattle.rule_actions.specs.Written.{led_target};
 
 use crate::line::join;
 use crate::target::cut_query;
+use crate::word::is_word;
 use htx_arena::Arena;
 use htx_view::request_parts;
 use px_sample::Buf;
@@ -26,7 +27,7 @@ pub(crate) fn led_target(msg: &Arena) -> &[u8]
 fn is_star(target: &[u8]) -> bool
     ensures { result ≡ spec.is_star (target_parts target.now).path }
 {
-    cut_target(target).path == b"*".as_slice()
+    is_word(cut_target(target).path, b"*")
 }
 
 /// The path that a client is led to.
@@ -56,7 +57,7 @@ fn led_query(target: &[u8]) -> &[u8]
 fn led_prefix(text: &[u8]) -> &[u8]
     ensures { result.now ≡ spec.led_prefix text.now }
 {
-    if text == b"/".as_slice() { &[] } else { text }
+    if is_word(text, b"/") { &[] } else { text }
 }
 
 /// A `/` behind a path, where it is asked for and the path does not end with one.

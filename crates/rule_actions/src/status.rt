@@ -9,6 +9,7 @@ ghost use Rattle.rule_actions.specs.Outcome.{IsScratch, IsAt, Came, IsFront};
 use crate::fields::{are_value_bytes, hold, step_of};
 use crate::scratch::Scratch;
 use crate::stepped::Stepped;
+use crate::word::is_word;
 use http_model::Why;
 use htx_arena::Arena;
 use htx_view::response_parts;
@@ -21,7 +22,7 @@ use px_sample::Buf;
 fn is_bodiless(status: &[u8]) -> bool
     ensures { result ≡ spec.is_bodiless_text status.now }
 {
-    status == b"204".as_slice() || status == b"304".as_slice()
+    is_word(status, b"204") || is_word(status, b"304")
 }
 
 /// Another status and reason in a status line.
