@@ -1,14 +1,19 @@
 //! The program of cases: reads the tables and sessions that lie in a folder, runs each row through the public calls of
-//! the crates, and prints the rows that differ, and how many agree.
+//! the crates, and prints the rows that differ, and how many agree. Then comes the run over loopback, for which the program
+//! starts itself twice, with the words of a role.
 #![tactic(auto)]
 
 use case_rows::{Fault, Row, Score, decoded};
 use case_session::session_made;
 use case_windows::windows_made;
+use loop_run::{play_role, run_both};
 use std::alloc::{AllocError, Global};
-use std::env::Env;
+use std::process::{ExitCode, id};
 use std::rt::Files;
 use std::{env, fs, io};
+
+/// The folder whose rows are run where no word names one.
+const HERE: &str = ".";
 
 /// The names in a folder, in their order.
 fn names_in<R: Files + AllocGlobal + Clone + Drop>(
@@ -193,19 +198,41 @@ fn run_folder<R: Files + Print + AllocGlobal + Clone + Drop>(
     Ok(())
 }
 
-/// The folder that the command line names, or the one where the program runs.
-fn top_folder<R: Env + AllocGlobal>(rt: &R) -> io::Result<String> {
-    match env::args(rt)?.nth(1) {
-        Some(folder) => Ok(folder),
-        None => Ok(String::from_str(rt.alloc(), ".")?),
+/// Runs the rows of a folder, and prints how many agree.
+fn run_rows<R: Files + Print + AllocGlobal + Clone + Drop>(rt: &R, top: &str) -> io::Result<Score> {
+    let mut score = Score::new();
+    for folder in names_in(rt, top)? {
+        run_folder(rt, top, folder.as_str(), &mut score)?;
     }
+    score.print(rt)?;
+    Ok(score)
 }
 
-fn main(rt: HostRuntime) -> io::Result<()> {
-    let mut score = Score::new();
-    let top = top_folder(&rt)?;
-    for folder in names_in(&rt, top.as_str())? {
-        run_folder(&rt, top.as_str(), folder.as_str(), &mut score)?;
+/// Runs the rows of a folder, and then the run over loopback, by the program of this name. A failure where a row differs, and
+/// where the run fails.
+fn run_all(rt: &HostRuntime, program: &str, top: &str) -> io::Result<ExitCode> {
+    let score = run_rows(rt, top)?;
+    let ran = run_both(rt, program, id(rt.process()))?;
+    if score.agree != score.rows {
+        return Ok(ExitCode::FAILURE);
     }
-    score.print(&rt)
+    Ok(ran)
+}
+
+fn main(rt: HostRuntime) -> io::Result<ExitCode> {
+    let mut words = env::args(&rt)?;
+    let Some(program) = words.next() else {
+        return Ok(ExitCode::FAILURE);
+    };
+    let Some(first) = words.next() else {
+        return run_all(&rt, program.as_str(), HERE);
+    };
+    let Some(front) = words.next() else {
+        return run_all(&rt, program.as_str(), first.as_str());
+    };
+    // Words that are no role must not begin a run: the run starts this program by such words.
+    let (Some(back), None) = (words.next(), words.next()) else {
+        return Ok(ExitCode::FAILURE);
+    };
+    Ok(play_role(&rt, first.as_str(), front.as_str(), back.as_str()))
 }
