@@ -39,7 +39,7 @@ pub struct Test {
 }
 
 /// How a sample is compared with a value.
-#[derive(Clone, Copy, Debug, PartialEq, Eq)]
+#[derive(Clone, Copy, Debug)]
 pub enum Match {
     /// There is a sample.
     Found,

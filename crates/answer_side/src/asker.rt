@@ -1,7 +1,7 @@
 //! What an answer has to know of its request.
 
 /// What an answer has to know of its request, beside the method.
-#[derive(Clone, Copy, Debug, PartialEq, Eq)]
+#[derive(Clone, Copy)]
 pub struct Asker {
     /// The method is HEAD: no body is written (RFC 9110 section 9.3.2).
     pub head_asked: bool,

@@ -1,7 +1,7 @@
 //! What of an exchange is put out to its client.
 
 /// What is put out.
-#[derive(Clone, Copy, Debug, PartialEq, Eq)]
+#[derive(Clone, Copy, PartialEq, Eq)]
 pub enum Place {
     /// Nothing: no server is open.
     Idle,

@@ -2,7 +2,7 @@
 use px_link::Bytes;
 
 /// A filter over the bytes of a body.
-#[derive(Debug, Drop)]
+#[derive(Drop)]
 pub enum FilterSpec {
     /// The first so many bytes; more are refused with 413.
     Limit(u64),
@@ -14,7 +14,7 @@ pub enum FilterSpec {
 }
 
 /// Where a body stands.
-#[derive(Clone, Copy, Debug, PartialEq, Eq)]
+#[derive(Clone, Copy, PartialEq, Eq)]
 pub enum FedState {
     /// It goes on.
     Going,
@@ -25,7 +25,7 @@ pub enum FedState {
 }
 
 /// What a call used of its piece, and gave.
-#[derive(Clone, Copy, Debug, PartialEq, Eq)]
+#[derive(Clone, Copy)]
 pub struct Fed {
     pub used: usize,
     pub given: usize,

@@ -19,7 +19,7 @@ use std::alloc::Global;
 use wire_buf::Window;
 
 /// How a body ends behind the bytes that are held.
-#[derive(Clone, Copy, Debug, PartialEq, Eq)]
+#[derive(Clone, Copy)]
 pub enum BodyEnd {
     /// More of it may come.
     Open,
@@ -32,7 +32,7 @@ pub enum BodyEnd {
 }
 
 /// What a call of `sift` came to.
-#[derive(Clone, Copy, Debug, PartialEq, Eq)]
+#[derive(Clone, Copy, PartialEq, Eq)]
 pub enum Sifted {
     /// Bytes were used or given, and there may be more.
     Gave,

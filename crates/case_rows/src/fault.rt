@@ -3,7 +3,7 @@ use htx_model::OutOfMemory;
 use std::alloc::{AllocError, AllocFailed};
 
 /// Why a row comes to nothing.
-#[derive(Clone, Copy, Debug, PartialEq, Eq)]
+#[derive(Clone, Copy, Debug)]
 pub enum Fault {
     /// The row is not of its kind.
     Malformed,

@@ -45,7 +45,7 @@ pub fn number_of(text: &[u8]) -> Result<i64, Fault> {
 }
 
 /// A name with arguments.
-#[derive(Clone, Copy, Debug)]
+#[derive(Clone, Copy)]
 pub struct Call<'a> {
     name: &'a [u8],
     args: &'a [u8],

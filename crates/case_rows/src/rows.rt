@@ -2,7 +2,7 @@
 //! it must come to.
 
 /// A row.
-#[derive(Clone, Copy, Debug)]
+#[derive(Clone, Copy)]
 pub struct Row<'a> {
     line: &'a str,
 }

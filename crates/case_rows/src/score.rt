@@ -6,7 +6,7 @@ use crate::fault::Fault;
 use std::io;
 
 /// How many rows there were, and how many agree. Each stays at the last value of a u64.
-#[derive(Clone, Copy, Debug)]
+#[derive(Clone, Copy)]
 pub struct Score {
     pub rows: u64,
     pub agree: u64,

@@ -4,7 +4,7 @@ use px_link::OutOfMemory;
 use std::alloc::AllocError;
 
 /// What is wrong with the words of a rule.
-#[derive(Clone, Copy, Debug, PartialEq, Eq)]
+#[derive(Clone, Copy)]
 pub enum RuleKind {
     /// An unknown action, or one that rules of the direction do not have.
     Keyword,
@@ -21,7 +21,7 @@ pub enum RuleKind {
 }
 
 /// Why a rule was not read.
-#[derive(Clone, Copy, Debug, PartialEq, Eq)]
+#[derive(Clone, Copy)]
 pub enum RuleFault {
     /// By what its words say.
     Refused(RuleKind),

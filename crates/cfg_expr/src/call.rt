@@ -4,7 +4,7 @@ ghost use Rattle.std.specs.List.{list_any};
 ghost use Rattle.cfg_expr.specs.Calls.{argument, quoted_at, bare_at, stop_in, put, arguments, name_len, form_in, args_of, form_of, is_blank, is_quote, ends_argument, ends_name};
 
 /// The arguments in brackets. No fetch or converter has more than three.
-#[derive(Clone, Copy, Debug)]
+#[derive(Clone, Copy)]
 pub enum Args<'t> {
     /// There are no brackets.
     Bare,
@@ -14,7 +14,7 @@ pub enum Args<'t> {
 }
 
 /// A name, its arguments, and what is behind them.
-#[derive(Clone, Copy, Debug)]
+#[derive(Clone, Copy)]
 pub struct Call<'t> {
     pub name: &'t [u8],
     pub args: Args<'t>,

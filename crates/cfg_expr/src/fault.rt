@@ -3,7 +3,7 @@
 use px_link::OutOfMemory;
 
 /// What is wrong with a text, or with the words of a line.
-#[derive(Clone, Copy, Debug, PartialEq, Eq)]
+#[derive(Clone, Copy)]
 pub enum TextKind {
     /// A missing, extra or malformed argument of a line.
     Argument,
@@ -16,7 +16,7 @@ pub enum TextKind {
 }
 
 /// Why a text was not read.
-#[derive(Clone, Copy, Debug, PartialEq, Eq)]
+#[derive(Clone, Copy)]
 pub enum TextFault {
     /// It is refused by what it says.
     Refused(TextKind),

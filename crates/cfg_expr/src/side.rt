@@ -7,7 +7,7 @@ use crate::{Source, TextFault, TextKind};
 use px_sample::Fetch;
 
 /// Whose rules a text stands in.
-#[derive(Clone, Copy, Debug, PartialEq, Eq)]
+#[derive(Clone, Copy)]
 pub enum Side {
     Request,
     Response,

@@ -4,7 +4,7 @@ use px_expr::{ConvList, Text};
 use px_sample::Fetch;
 
 /// A fetch as a text says it.
-#[derive(Debug, Drop)]
+#[derive(Drop)]
 pub enum Source {
     /// `hdr(name[,occ])`: the field of the direction in which it is used.
     Hdr(Text, Option<i64>),
@@ -13,7 +13,7 @@ pub enum Source {
 }
 
 /// A fetch and its converters, as a text says them.
-#[derive(Debug, Drop)]
+#[derive(Drop)]
 pub struct Written {
     pub source: Source,
     pub convs: ConvList,

@@ -4,7 +4,7 @@ use htx_model::OutOfMemory;
 use std::alloc::{AllocError, AllocFailed};
 
 /// Why a line has no words.
-#[derive(Clone, Copy, Debug, PartialEq, Eq)]
+#[derive(Clone, Copy)]
 pub enum LineFault {
     /// A quote without end, `\x` without two hexadecimal digits, a backslash at the end, an unescaped `$` in
     /// double quotes, or a NUL outside a comment.

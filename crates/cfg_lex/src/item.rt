@@ -6,7 +6,7 @@ ghost use Rattle.cfg_lex.specs.Items.{escape_of, hex_escape, behind_backslash, p
 use px_bytes::hex_value;
 
 /// Between which quotes a place of the line lies.
-#[derive(Clone, Copy, Debug, PartialEq, Eq)]
+#[derive(Clone, Copy, PartialEq, Eq)]
 pub enum Quotes {
     Outside,
     Single,
@@ -14,7 +14,7 @@ pub enum Quotes {
 }
 
 /// What a few bytes of the line do to the word that they stand in.
-#[derive(Clone, Copy, Debug, PartialEq, Eq)]
+#[derive(Clone, Copy)]
 pub enum Part {
     /// Words are apart here: a blank, or a comment.
     Gap,
@@ -29,7 +29,7 @@ pub enum Part {
 }
 
 /// A part, how many bytes of the line it takes, and between which quotes what follows lies.
-#[derive(Clone, Copy, Debug, PartialEq, Eq)]
+#[derive(Clone, Copy)]
 pub struct Item {
     pub part: Part,
     pub used: usize,

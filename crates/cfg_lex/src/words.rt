@@ -6,14 +6,14 @@ ghost use Rattle.cfg_lex.specs.Words.{most_words};
 use std::marker::Model;
 
 /// Where the bytes of a word stand.
-#[derive(Clone, Copy, Debug, Drop)]
+#[derive(Clone, Copy, Drop)]
 pub struct Span {
     pub from: usize,
     pub len: usize,
 }
 
 /// The words of a line, at most 64. Contracts see the list of them, each the list of its bytes.
-#[derive(Debug, Drop)]
+#[derive(Drop)]
 pub struct Words {
     bytes: Vec<u8>,
     spans: Vec<Span>,

@@ -8,7 +8,7 @@ use px_link::OutOfMemory;
 use std::alloc::{AllocError, AllocFailed};
 
 /// What is wrong in a configuration. The numbers are those of the product.
-#[derive(Clone, Copy, Debug, PartialEq, Eq)]
+#[derive(Clone, Copy, Debug)]
 pub enum CfgKind {
     /// A malformed word: a quote without end, `\x` without two hexadecimal digits, a backslash at the end of the
     /// line, an unescaped `$` in double quotes, a NUL.
@@ -34,7 +34,7 @@ pub enum CfgKind {
 }
 
 /// Why a text is no configuration.
-#[derive(Clone, Copy, Debug, PartialEq, Eq)]
+#[derive(Clone, Copy)]
 pub enum CfgFault {
     /// The first refused line, counted from 1, and what is wrong there; line 0 is the text as a whole.
     Refused { line: u32, kind: CfgKind },

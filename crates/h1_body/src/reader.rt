@@ -14,7 +14,7 @@ use crate::stages::{Found, Stage, feed_at};
 use http_model::{Framing, Limits};
 
 /// What a step tells of the body.
-#[derive(Clone, Copy, Debug, PartialEq, Eq)]
+#[derive(Clone, Copy)]
 pub enum BodyState {
     /// It is not whole yet.
     More,
@@ -25,14 +25,14 @@ pub enum BodyState {
 }
 
 /// A part of a window.
-#[derive(Clone, Copy, Debug, PartialEq, Eq)]
+#[derive(Clone, Copy)]
 pub struct Span {
     pub from: usize,
     pub len: usize,
 }
 
 /// What a step used, and what it found.
-#[derive(Clone, Copy, Debug, PartialEq, Eq)]
+#[derive(Clone, Copy)]
 pub struct BodyStep {
     /// The bytes used, from the front of the window. The caller drops them.
     pub used: usize,
@@ -92,7 +92,7 @@ fn section_of(found: Found) -> Option<Span>
 }
 
 /// A reader of a body, whose bytes come in any pieces (RFC 9112 sections 6 to 8). It takes no memory.
-#[derive(Clone, Copy, Debug, PartialEq, Eq)]
+#[derive(Clone, Copy)]
 pub struct BodyReader {
     stage: Stage,
     section_limit: u32,

@@ -9,7 +9,7 @@ use crate::stages::Stage;
 use px_bytes::is_token;
 
 /// Where the front of a trailer section ends.
-#[derive(Clone, Copy, Debug, PartialEq, Eq)]
+#[derive(Clone, Copy)]
 pub enum SectionPlace {
     /// Behind whole fields.
     LineStart,
@@ -22,7 +22,7 @@ pub enum SectionPlace {
 }
 
 /// How far a window was looked at for a trailer section: so many bytes, with so many lines among them.
-#[derive(Clone, Copy, Debug, PartialEq, Eq)]
+#[derive(Clone, Copy)]
 pub struct SectionScan {
     len: usize,
     lines: usize,

@@ -7,7 +7,7 @@ use crate::line::{LineRead, read_line};
 use crate::section::{SectionRead, read_section};
 
 /// Where the reader stands, always between two lines, ends of lines or pieces of data.
-#[derive(Clone, Copy, Debug, PartialEq, Eq)]
+#[derive(Clone, Copy)]
 pub enum Stage {
     /// So many bytes are to come.
     Left(u64),

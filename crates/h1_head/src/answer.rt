@@ -5,7 +5,7 @@ ghost use Rattle.h1_head.specs.Rows.{request_code, response_code};
 use http_model::Framing;
 
 /// What a window says of a head.
-#[derive(Clone, Copy, Debug, PartialEq, Eq)]
+#[derive(Clone, Copy)]
 pub enum HeadRead {
     /// The window does not decide yet. Where the stream has ended, it was empty lines alone.
     More {
@@ -32,7 +32,7 @@ pub enum HeadRead {
 }
 
 /// Whose head is read.
-#[derive(Clone, Copy, Debug, PartialEq, Eq)]
+#[derive(Clone, Copy)]
 pub enum Side {
     /// A client's.
     Request,
@@ -41,7 +41,7 @@ pub enum Side {
 }
 
 /// Why a head is refused.
-#[derive(Clone, Copy, Debug, PartialEq, Eq)]
+#[derive(Clone, Copy, Debug)]
 pub enum HeadWhy {
     /// The bytes are no head, or the stream ends within it.
     Grammar = 1,

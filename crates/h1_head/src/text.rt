@@ -17,7 +17,7 @@ pub const FEW_FIELDS: usize = 32;
 pub const MAX_LINES: usize = MAX_FIELDS + 2;
 
 /// What is kept of a head beside its blocks.
-#[derive(Clone, Copy, Debug)]
+#[derive(Clone, Copy)]
 pub struct Kept {
     pub framing: Framing,
     pub declared: Option<u64>,
@@ -25,7 +25,7 @@ pub struct Kept {
 }
 
 /// What becomes of a text in which no head of the grammar stands.
-#[derive(Clone, Copy, Debug, PartialEq, Eq)]
+#[derive(Clone, Copy)]
 pub enum Wait {
     /// A head may still come.
     More,

@@ -8,7 +8,7 @@ use htx_arena::{Arena, Kind};
 use px_bytes::eq_fold;
 
 /// Which names are meant, without regard to case (RFC 9110 section 5.1). No bytes begin, end and are within each name.
-#[derive(Clone, Copy, Debug)]
+#[derive(Clone, Copy)]
 pub enum NameMatch<'a> {
     /// The name is these bytes.
     Str(&'a [u8]),

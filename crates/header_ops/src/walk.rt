@@ -10,7 +10,7 @@ use htx_arena::Arena;
 use px_bytes::first_value;
 
 /// Where the values of a name go on: at a block, and in its value at a byte.
-#[derive(Clone, Copy, Debug, PartialEq, Eq)]
+#[derive(Clone, Copy)]
 pub struct ValuePlace {
     pub at: u32,
     pub within: usize,

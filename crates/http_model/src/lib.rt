@@ -17,7 +17,7 @@ pub const MIN_BUFSIZE: u32 = 1024;
 pub const MAX_NAME: usize = 255;
 
 /// How the body of a message is found (RFC 9112 section 6.3).
-#[derive(Clone, Copy, Debug, PartialEq, Eq)]
+#[derive(Clone, Copy)]
 pub enum Framing {
     /// There is no body.
     Absent,
@@ -30,7 +30,7 @@ pub enum Framing {
 }
 
 /// The sizes of a configuration, in bytes: `tune.bufsize`, and of it what a received head leaves free.
-#[derive(Clone, Copy, Debug, PartialEq, Eq)]
+#[derive(Clone, Copy)]
 pub struct Limits {
     /// 1024 to 262144.
     pub bufsize: u32,
@@ -39,7 +39,7 @@ pub struct Limits {
 }
 
 /// Why a step of a rule failed.
-#[derive(Clone, Copy, Debug, PartialEq, Eq)]
+#[derive(Clone, Copy, Debug)]
 pub enum Why {
     /// The list of blocks after the step would not fit the buffer.
     Room,
@@ -48,7 +48,7 @@ pub enum Why {
 }
 
 /// How a stream of bytes ended.
-#[derive(Clone, Copy, Debug, PartialEq, Eq)]
+#[derive(Clone, Copy, Debug)]
 pub enum Ending {
     /// The peer closed it.
     Closed,
@@ -66,7 +66,7 @@ pub enum Close {
 }
 
 /// How a session ended.
-#[derive(Clone, Copy, Debug, PartialEq, Eq)]
+#[derive(Clone, Copy)]
 pub enum End {
     /// The client sent no further request.
     Done,

@@ -3,7 +3,7 @@ use http_model::Why;
 use rule_model::Action;
 
 /// What rules make of a message.
-#[derive(Clone, Copy, Debug, PartialEq, Eq)]
+#[derive(Clone, Copy)]
 pub enum Verdict {
     /// The edited message goes on.
     Pass,

@@ -17,11 +17,11 @@ use std::alloc::Global;
 use std::marker::Model;
 
 /// The change would not fit.
-#[derive(Clone, Copy, Debug, PartialEq, Eq)]
+#[derive(Clone, Copy)]
 pub struct Full;
 
 /// The parts of a start line.
-#[derive(Clone, Copy, Debug)]
+#[derive(Clone, Copy)]
 pub struct Line<'a> {
     pub a: &'a [u8],
     pub b: &'a [u8],

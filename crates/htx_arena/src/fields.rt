@@ -10,7 +10,7 @@ use htx_model::Kind;
 use std::marker::Model;
 
 /// The headers in turn, each with its index.
-#[derive(Clone, Drop)]
+#[derive(Drop)]
 pub struct Fields<'a> {
     arena: &'a Arena,
     at: u32,

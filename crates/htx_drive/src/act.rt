@@ -7,7 +7,7 @@ use px_link::Turn;
 use session_core::Wants;
 
 /// One read or write of at most so many bytes, or nothing.
-#[derive(Clone, Copy, Debug, PartialEq, Eq)]
+#[derive(Clone, Copy)]
 pub(crate) enum Act {
     Nothing,
     ClientRead(u32),

@@ -18,7 +18,7 @@ pub use session::run_session;
 pub use session_core::Wants;
 
 /// What a session that ended came to.
-#[derive(Clone, Copy, Debug, PartialEq, Eq)]
+#[derive(Clone, Copy)]
 pub struct Ran {
     pub end: End,
     /// The request heads that were read or refused. The count stays at its type's last value.
@@ -28,7 +28,7 @@ pub struct Ran {
 }
 
 /// Why a session was given up.
-#[derive(Clone, Copy, Debug, PartialEq, Eq)]
+#[derive(Clone, Copy)]
 pub enum SessionFault {
     /// A write to the client failed, and its link has counted that.
     ClientWrite,

@@ -5,7 +5,7 @@
 use std::alloc::{AllocError, AllocFailed};
 
 /// The seven types of a block (HTX API, "block types").
-#[derive(Clone, Copy, Debug, PartialEq, Eq)]
+#[derive(Clone, Copy, PartialEq, Eq)]
 pub enum Kind {
     RequestLine,
     ResponseLine,
@@ -17,7 +17,7 @@ pub enum Kind {
 }
 
 /// The machine has no memory left.
-#[derive(Clone, Copy, Debug, PartialEq, Eq)]
+#[derive(Clone, Copy)]
 pub struct OutOfMemory;
 
 impl From<AllocError> for OutOfMemory {

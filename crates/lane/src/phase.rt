@@ -1,7 +1,7 @@
 //! What a lane of answers puts out.
 
 /// What is put out.
-#[derive(Clone, Copy, Debug, PartialEq, Eq)]
+#[derive(Clone, Copy)]
 pub enum Phase {
     /// Nothing: heads are read.
     Heads,

@@ -7,7 +7,7 @@ use h1_body::{BodyReader, BodyState, SectionScan, add_trailers};
 use htx_arena::Arena;
 
 /// How many bytes were used, and what the reader says.
-#[derive(Clone, Copy, Debug)]
+#[derive(Clone, Copy)]
 pub(crate) struct Pulled {
     pub used: usize,
     pub state: BodyState,

@@ -10,7 +10,7 @@ use body_sieve::{BodyEnd, Sieve, Sifted};
 use htx_arena::Arena;
 
 /// What a step of the filters came to.
-#[derive(Clone, Copy, Debug, PartialEq, Eq)]
+#[derive(Clone, Copy)]
 pub(crate) enum Came {
     /// They go on.
     More,

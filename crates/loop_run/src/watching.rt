@@ -22,7 +22,7 @@ const PAUSE_MILLIS: u64 = 10;
 const LINES: &str = "connection 1: end done exchanges 1\nconnection 2: end done exchanges 1\n";
 
 /// How far a process is.
-#[derive(Clone, Copy, Debug, PartialEq, Eq)]
+#[derive(Clone, Copy, PartialEq, Eq)]
 enum Course {
     Runs,
     EndedWell,

@@ -1,7 +1,7 @@
 //! How the program ends.
 
 /// How the program ended. The process ends with the number.
-#[derive(Clone, Copy, Debug, PartialEq, Eq)]
+#[derive(Clone, Copy, Debug)]
 pub enum Status {
     /// The command did what it was asked to.
     Good = 0,

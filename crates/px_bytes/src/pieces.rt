@@ -7,7 +7,7 @@ use crate::blanks::{blanks_in_front, trim, trim_behind};
 use std::marker::Model;
 
 /// Where a byte of a field stands: outside of double quotes, inside, or behind a backslash inside.
-#[derive(Clone, Copy, PartialEq, Eq)]
+#[derive(Clone, Copy)]
 pub enum Place {
     Outside,
     Quoted,
@@ -69,7 +69,7 @@ pub fn first_value(bytes: &[u8]) -> (&[u8], usize)
 }
 
 /// The values of a field in turn, each with its offset in the field.
-#[derive(Clone, Drop)]
+#[derive(Drop)]
 pub struct ValueIndices<'a> {
     field: &'a [u8],
     /// Where the next piece begins; behind the end of the field once none is left.
@@ -122,7 +122,7 @@ impl<'a> Iterator for ValueIndices<'a> {
 }
 
 /// The values of a field in turn.
-#[derive(Clone, Drop)]
+#[derive(Drop)]
 pub struct ValueIter<'a> {
     placed: ValueIndices<'a>,
 }

@@ -8,21 +8,21 @@ use crate::bytes::count_of;
 use px_sample::{Buf, Sample, Text, into_text};
 
 /// Where a part lies: its bytes begin at `from` and end before `to`.
-#[derive(Clone, Copy, Debug)]
+#[derive(Clone, Copy)]
 pub struct Extent {
     pub from: usize,
     pub to: usize,
 }
 
 /// The parts that an index counts: all fields, or those that have bytes.
-#[derive(Clone, Copy, Debug)]
+#[derive(Clone, Copy)]
 pub enum Kind {
     Field,
     Word,
 }
 
 /// Parts in a row, one at least.
-#[derive(Clone, Copy, Debug)]
+#[derive(Clone, Copy)]
 pub struct Row {
     pub first: usize,
     pub len: usize,

@@ -6,7 +6,7 @@ ghost use Rattle.px_expr.specs.MemEnv.{value_of, samples_in};
 use px_sample::{Buf, Env, Fetch, Place, Sample};
 
 /// A sample that is handed in.
-#[derive(Clone, Copy, Debug, PartialEq, Eq)]
+#[derive(Clone, Copy)]
 pub enum Given<'a> {
     Absent,
     Truth(bool),

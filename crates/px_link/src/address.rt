@@ -1,7 +1,7 @@
 use crate::Bytes;
 
 /// Where a server listens.
-#[derive(Debug, Drop)]
+#[derive(Drop)]
 pub struct Address {
     /// A host name or a numeric address, as it was written.
     pub host: Bytes,

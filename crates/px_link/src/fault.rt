@@ -2,11 +2,11 @@ use http_model::OutOfMemory;
 use std::alloc::AllocError;
 
 /// A call did not do what it was asked to, and its object has counted that.
-#[derive(Clone, Copy, Debug, PartialEq, Eq)]
+#[derive(Clone, Copy)]
 pub struct Failed;
 
 /// Why a call did not do what it was asked to.
-#[derive(Clone, Copy, Debug, PartialEq, Eq)]
+#[derive(Clone, Copy)]
 pub enum Fault {
     /// The object could not, and has counted that.
     Failed,

@@ -5,7 +5,7 @@ use crate::{Turn, Turns};
 use std::marker::Model;
 
 /// Turns from a list. Contracts see those that were not given yet.
-#[derive(Debug, Drop)]
+#[derive(Drop)]
 pub struct ListTurns {
     turns: Vec<Turn>,
     at: usize,

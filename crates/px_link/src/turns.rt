@@ -3,7 +3,7 @@ ghost use Rattle.std.specs.Prelude.{◌≡◌, List};
 ghost use Rattle.px_link.specs.Turns.{first_of, rest_of};
 
 /// Who moves next, and at most how many bytes.
-#[derive(Clone, Copy, Debug, PartialEq, Eq)]
+#[derive(Clone, Copy, Debug)]
 pub enum Turn {
     ClientGives(u32),
     ClientTakes(u32),

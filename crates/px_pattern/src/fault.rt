@@ -1,6 +1,6 @@
 //! Why a build failed.
 /// Why a pattern was not built.
-#[derive(Clone, Copy, Debug, PartialEq, Eq)]
+#[derive(Clone, Copy)]
 pub enum PatFault {
     /// The text is no pattern, or one that is too big.
     Refused,

@@ -10,7 +10,7 @@ use std::alloc::Global;
 use std::marker::Model;
 
 /// The groups of a match, from group 0, the match, on. They don't borrow the text.
-#[derive(Debug, Drop)]
+#[derive(Drop)]
 pub struct Groups {
     spans: Vec<Option<Span>>,
 }

@@ -8,7 +8,7 @@ use std::alloc::Global;
 use std::marker::Model;
 
 /// Bytes up to a number of them, in memory that is taken once.
-#[derive(Debug, Drop)]
+#[derive(Drop)]
 pub struct Buf {
     cap: u32,
     bytes: Vec<u8>,

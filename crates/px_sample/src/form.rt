@@ -1,6 +1,6 @@
 //! The forms in which values of variables are kept.
 /// What the bytes of a stored value stand for.
-#[derive(Clone, Copy, PartialEq, Eq)]
+#[derive(Clone, Copy)]
 pub enum Form {
     /// One byte: 1 or 0.
     Truth,

@@ -1,6 +1,6 @@
 //! What a fetch or a converter hands over.
 /// What a fetch or a converter gives (Configuration Manual, section 7.1).
-#[derive(Clone, Copy, Debug, PartialEq, Eq)]
+#[derive(Clone, Copy, PartialEq, Eq)]
 pub enum Sample {
     /// There is none.
     Absent,

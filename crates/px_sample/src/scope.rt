@@ -1,6 +1,6 @@
 //! The lives of variables.
 /// How long a variable lives (Configuration Manual, section 2.8).
-#[derive(Clone, Copy, Debug, PartialEq, Eq)]
+#[derive(Clone, Copy, Debug)]
 pub enum Scope {
     /// For the session.
     Sess,

@@ -8,14 +8,14 @@ use crate::pieces;
 use px_link::{Ending, Turn};
 
 /// A stream, in the bytes of a record.
-#[derive(Clone, Copy, Debug)]
+#[derive(Clone, Copy)]
 pub(crate) struct LentStream<'a> {
     pub(crate) bytes: &'a [u8],
     pub(crate) ending: Ending,
 }
 
 /// A server that is there, in the bytes of a record.
-#[derive(Clone, Copy, Debug)]
+#[derive(Clone, Copy)]
 pub(crate) struct LentServer<'a> {
     pub(crate) stream: LentStream<'a>,
     pub(crate) takes: Option<u64>,

@@ -15,7 +15,7 @@ use std::alloc::Global;
 const MOST_SERVERS: u32 = 65536;
 
 /// Servers, how many more there may be, and what stands behind them.
-#[derive(Debug, Drop)]
+#[derive(Drop)]
 pub(crate) struct ServersRead<'a> {
     pub(crate) servers: Vec<Option<ServerSpec>>,
     pub(crate) room: u32,
@@ -23,7 +23,7 @@ pub(crate) struct ServersRead<'a> {
 }
 
 /// A connection, how many more servers there may be, and what stands behind it.
-#[derive(Debug, Drop)]
+#[derive(Drop)]
 pub(crate) struct VisitRead<'a> {
     pub(crate) conn: Connection,
     pub(crate) room: u32,
@@ -31,14 +31,14 @@ pub(crate) struct VisitRead<'a> {
 }
 
 /// Connections, and what stands behind them.
-#[derive(Debug, Drop)]
+#[derive(Drop)]
 pub(crate) struct VisitsRead<'a> {
     pub(crate) conns: Vec<Connection>,
     pub(crate) rest: &'a [u8],
 }
 
 /// Turns, and what stands behind them.
-#[derive(Debug, Drop)]
+#[derive(Drop)]
 pub(crate) struct TurnsRead<'a> {
     pub(crate) turns: Vec<(u32, Turn)>,
     pub(crate) rest: &'a [u8],

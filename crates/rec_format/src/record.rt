@@ -2,14 +2,14 @@
 use px_link::{Bytes, Ending, Turn};
 
 /// Bytes that come in, and how they end.
-#[derive(Debug, Drop)]
+#[derive(Drop)]
 pub struct Stream {
     pub bytes: Bytes,
     pub ending: Ending,
 }
 
 /// A server that is there.
-#[derive(Debug, Drop)]
+#[derive(Drop)]
 pub struct ServerSpec {
     pub stream: Stream,
     /// After how many bytes it stops taking; none where it takes all.
@@ -17,14 +17,14 @@ pub struct ServerSpec {
 }
 
 /// A client, and the servers in the order of the connects, none for a refused one.
-#[derive(Debug, Drop)]
+#[derive(Drop)]
 pub struct Connection {
     pub client: Stream,
     pub servers: Vec<Option<ServerSpec>>,
 }
 
 /// A record.
-#[derive(Debug, Drop)]
+#[derive(Drop)]
 pub struct Record {
     /// 1 or 2: the format.
     pub version: u32,
@@ -34,7 +34,7 @@ pub struct Record {
 }
 
 /// Why a record is refused.
-#[derive(Clone, Copy, Debug, PartialEq, Eq)]
+#[derive(Clone, Copy, Debug)]
 pub enum RecKind {
     /// The first line names no format.
     Header = 1,
@@ -51,7 +51,7 @@ pub enum RecKind {
 }
 
 /// Why a record was not read.
-#[derive(Clone, Copy, Debug, PartialEq, Eq)]
+#[derive(Clone, Copy)]
 pub enum RecFault {
     /// The place is that of the first byte of the line that is refused.
     Refused { place: u32, kind: RecKind },

@@ -9,14 +9,14 @@ use px_link::{Bytes, Close, End, OutOfMemory};
 use std::alloc::Global;
 
 /// What was sent to one side.
-#[derive(Debug, Drop)]
+#[derive(Drop)]
 pub struct Sent {
     pub bytes: Bytes,
     pub close: Close,
 }
 
 /// What a session came to.
-#[derive(Debug, Drop)]
+#[derive(Drop)]
 pub struct Report {
     /// The number of exchanges.
     pub exchanges: u32,

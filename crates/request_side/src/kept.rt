@@ -14,7 +14,7 @@ use htx_view::request_parts;
 use px_bytes::eq_fold;
 
 /// What is kept of a head.
-#[derive(Clone, Copy, Debug, PartialEq, Eq)]
+#[derive(Clone, Copy)]
 pub struct Kept {
     /// The method is HEAD (RFC 9110 section 9.3.2).
     pub head_asked: bool,

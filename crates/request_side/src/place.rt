@@ -1,7 +1,7 @@
 //! Where the request direction of a session stands.
 
 /// What is made of the client's next request.
-#[derive(Clone, Copy, Debug, PartialEq, Eq)]
+#[derive(Clone, Copy)]
 pub enum Place {
     /// Its head is to be read.
     Reading,

@@ -29,7 +29,7 @@ use rule_model::Action;
 use std::alloc::Global;
 
 /// What an action made of a message.
-#[derive(Clone, Copy, Debug, PartialEq, Eq)]
+#[derive(Clone, Copy)]
 pub enum Acted {
     /// The next rule may run.
     Next,

@@ -1,6 +1,6 @@
 //! The parts of a target that rules set and replace.
 /// A part of a target.
-#[derive(Clone, Copy, Debug, PartialEq, Eq)]
+#[derive(Clone, Copy)]
 pub enum TargetPart {
     /// What stands behind the authority, without the query.
     Path,

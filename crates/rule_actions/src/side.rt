@@ -1,6 +1,6 @@
 //! Which message rules run on.
 /// A request, or what answers a request of this method.
-#[derive(Clone, Copy, Debug)]
+#[derive(Clone, Copy)]
 pub enum Side<'a> {
     Request,
     Answer(&'a [u8]),

@@ -2,7 +2,7 @@
 use http_model::Why;
 
 /// A step was done, or failed and changed nothing.
-#[derive(Clone, Copy, Debug, PartialEq, Eq)]
+#[derive(Clone, Copy)]
 pub enum Stepped {
     Done,
     Failed(Why),

@@ -2,7 +2,7 @@
 use htx_drive::Ran;
 
 /// What one connection came to.
-#[derive(Clone, Copy, Debug, PartialEq, Eq)]
+#[derive(Clone, Copy)]
 pub enum Outcome {
     /// Its session ended.
     Ended(Ran),
@@ -13,7 +13,7 @@ pub enum Outcome {
 }
 
 /// Why serving stopped.
-#[derive(Clone, Copy, Debug, PartialEq, Eq)]
+#[derive(Clone, Copy)]
 pub enum ServeFault {
     /// A bind or an accept failed, and the net has counted that.
     Net,

@@ -14,7 +14,7 @@ pub use machine::{At, Core, Wants};
 pub use sides::{Asked, Lends, Peers, Shows, Sides, Works};
 
 /// How the source of a request stands.
-#[derive(Clone, Copy, Debug, PartialEq, Eq)]
+#[derive(Clone, Copy)]
 pub enum Source {
     /// It goes on.
     Going,
@@ -25,7 +25,7 @@ pub enum Source {
 }
 
 /// How the last that answers stands.
-#[derive(Clone, Copy, Debug, PartialEq, Eq)]
+#[derive(Clone, Copy)]
 pub enum Told {
     /// It goes on.
     Going,
@@ -38,7 +38,7 @@ pub enum Told {
 }
 
 /// Where a core stands in its session.
-#[derive(Clone, Copy, Debug, PartialEq, Eq)]
+#[derive(Clone, Copy)]
 pub enum Phase {
     /// In front of a request head.
     Reading,

@@ -11,7 +11,7 @@ use crate::sides::Works;
 use http_model::{Close, End};
 
 /// Where a core stands beside its directions.
-#[derive(Clone, Copy, Debug, PartialEq, Eq)]
+#[derive(Clone, Copy)]
 pub struct At {
     pub phase: Phase,
     /// Where a request was met as cut, whether the answer had begun.
@@ -21,7 +21,7 @@ pub struct At {
 }
 
 /// What a core wants of its driver.
-#[derive(Clone, Copy, Debug, PartialEq, Eq)]
+#[derive(Clone, Copy)]
 pub struct Wants {
     pub client_read: bool,
     pub client_write: bool,

@@ -16,7 +16,7 @@ use crate::{Source, Told};
 use http_model::{Ending, OutOfMemory};
 
 /// What the client's next request asks for.
-#[derive(Clone, Copy, Debug, PartialEq, Eq)]
+#[derive(Clone, Copy)]
 pub enum Asked {
     /// It hasn't come yet.
     More,

@@ -5,7 +5,7 @@ ghost use Rattle.uri_parts.specs.Target as spec;
 ghost use Rattle.uri_parts.specs.Lent.{shown};
 
 /// The parts of a target, lent from it.
-#[derive(Clone, Copy, Debug)]
+#[derive(Clone, Copy)]
 pub struct Parts<'a> {
     /// Without its `://`.
     pub scheme: Option<&'a [u8]>,
