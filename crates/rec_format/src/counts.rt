@@ -58,7 +58,7 @@ fn connections_line(text: &[u8]) -> Option<(u64, &[u8])>
     let rest = after?;
     let (first, number) = pieces::split(line, b' ');
     let number = number?;
-    if first == b"connections".as_slice() {
+    if pieces::is_word(first, b"connections") {
         let count = some_number(number)?;
         Some((count, rest))
     } else {
@@ -77,7 +77,7 @@ pub(crate) fn connection_count(total: u32, text: &[u8]) -> Result<(u32, &[u8]), 
                 return Err(refusal(total, text, RecKind::Limit));
             }
             let word = word(rest);
-            if word == b"turns".as_slice() {
+            if pieces::is_word(word, b"turns") {
                 return Err(refusal(total, rest, RecKind::Count));
             }
             Ok((count as u32, rest))
@@ -91,7 +91,7 @@ fn end_line(text: &[u8]) -> Option<&[u8]>
 {
     let (line, after) = pieces::split(text, b'\n');
     let rest = after?;
-    if line == b"end".as_slice() {
+    if pieces::is_word(line, b"end") {
         Some(rest)
     } else {
         None
@@ -119,9 +119,9 @@ pub(crate) fn format(text: &[u8]) -> Option<(u32, &[u8])>
 {
     let (line, after) = pieces::split(text, b'\n');
     let rest = after?;
-    if line == b"PXREC 1".as_slice() {
+    if pieces::is_word(line, b"PXREC 1") {
         Some((1, rest))
-    } else if line == b"PXREC 2".as_slice() {
+    } else if pieces::is_word(line, b"PXREC 2") {
         Some((2, rest))
     } else {
         None

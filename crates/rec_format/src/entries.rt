@@ -25,9 +25,9 @@ pub(crate) struct LentServer<'a> {
 fn ending(word: &[u8]) -> Option<Ending>
     ensures { result ≡ ending_of word.now }
 {
-    if word == b"closed".as_slice() {
+    if pieces::is_word(word, b"closed") {
         Some(Ending::Closed)
-    } else if word == b"broke".as_slice() {
+    } else if pieces::is_word(word, b"broke") {
         Some(Ending::Broke)
     } else {
         None
@@ -38,7 +38,7 @@ fn ending(word: &[u8]) -> Option<Ending>
 fn takes(word: &[u8]) -> Option<Option<u64>>
     ensures { result ≡ takes_of word.now }
 {
-    if word == b"all".as_slice() {
+    if pieces::is_word(word, b"all") {
         return Some(None);
     }
     let n = pieces::number(word)?;
@@ -65,7 +65,7 @@ pub(crate) fn client(text: &[u8]) -> Option<(LentStream<'_>, &[u8])>
     let words = words?;
     let (number, last) = pieces::split(words, b' ');
     let last = last?;
-    if word == b"client".as_slice() {
+    if pieces::is_word(word, b"client") {
         stream(number, last, text)
     } else {
         None
@@ -93,7 +93,7 @@ pub(crate) fn server(text: &[u8]) -> Option<(Option<LentServer<'_>>, &[u8])>
     let text = after?;
     let (_, words) = pieces::split(line, b' ');
     let words = words?;
-    if words == b"refused".as_slice() {
+    if pieces::is_word(words, b"refused") {
         Some((None, text))
     } else {
         served(words, text)
@@ -104,13 +104,13 @@ pub(crate) fn server(text: &[u8]) -> Option<(Option<LentServer<'_>>, &[u8])>
 fn turn_by(letter: &[u8], n: u32) -> Option<Turn>
     ensures { result ≡ turn_by letter.now n }
 {
-    if letter == b"c".as_slice() {
+    if pieces::is_word(letter, b"c") {
         Some(Turn::ClientGives(n))
-    } else if letter == b"C".as_slice() {
+    } else if pieces::is_word(letter, b"C") {
         Some(Turn::ClientTakes(n))
-    } else if letter == b"s".as_slice() {
+    } else if pieces::is_word(letter, b"s") {
         Some(Turn::ServerGives(n))
-    } else if letter == b"S".as_slice() {
+    } else if pieces::is_word(letter, b"S") {
         Some(Turn::ServerTakes(n))
     } else {
         None

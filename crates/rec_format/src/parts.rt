@@ -7,7 +7,7 @@ ghost use Rattle.rec_format.specs.Lent.{slice_of};
 
 use crate::read::{client, is_server, refusal, server, word};
 use crate::record::{Connection, RecFault, RecKind, ServerSpec};
-use crate::{counts, entries};
+use crate::{counts, entries, pieces};
 use px_link::Turn;
 use std::alloc::Global;
 
@@ -98,10 +98,10 @@ fn next_client(total: u32, text: &[u8]) -> Result<&[u8], RecFault>
     ensures { Gives slice_of result (next_client total text.now) }
 {
     let word = word(text);
-    if word == b"client".as_slice() {
+    if pieces::is_word(word, b"client") {
         return Ok(text);
     }
-    if word == b"turns".as_slice() {
+    if pieces::is_word(word, b"turns") {
         return Err(refusal(total, text, RecKind::Count));
     }
     Err(refusal(total, text, RecKind::Turn))
@@ -112,10 +112,10 @@ fn last_turns(total: u32, numbered: bool, text: &[u8]) -> Result<&[u8], RecFault
     ensures { Gives slice_of result (last_turns total numbered text.now) }
 {
     let word = word(text);
-    if word == b"turns".as_slice() {
+    if pieces::is_word(word, b"turns") {
         return Ok(text);
     }
-    if numbered && word == b"client".as_slice() {
+    if numbered && pieces::is_word(word, b"client") {
         return Err(refusal(total, text, RecKind::Count));
     }
     Err(refusal(total, text, RecKind::Turn))

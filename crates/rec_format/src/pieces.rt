@@ -2,6 +2,7 @@
 ghost use Rattle.std.specs.Prelude.{◌≡◌, ◌+◌, ◌-◌, ◌*◌, ◌^◌, true, min, option_map};
 ghost use Rattle.std.specs.Char.{digit_value, is_ascii_digit};
 ghost use Rattle.std.specs.Option.{option_copied};
+ghost use Rattle.std.specs.Str.{bytes_eq};
 ghost use Rattle.rec_format.specs.Pieces.{before, behind, begins_number, number_of, counted};
 
 /// The bytes in front of the first of these, or all, and the bytes behind it, if there is one.
@@ -15,6 +16,13 @@ pub(crate) fn split(bytes: &[u8], byte: u8) -> (&[u8], Option<&[u8]>)
         }
     }
     (bytes, None)
+}
+
+/// Whether a text is a word.
+pub(crate) fn is_word(text: &[u8], word: &[u8]) -> bool
+    ensures { result ≡ bytes_eq text.now word.now }
+{
+    text == word
 }
 
 /// Whether there is a byte, and several do not begin with `0`.

@@ -91,5 +91,5 @@ pub(crate) fn server(
 pub(crate) fn is_server(text: &[u8]) -> bool
     ensures { result ≡ is_server text.now }
 {
-    word(text) == b"server".as_slice()
+    pieces::is_word(word(text), b"server")
 }
