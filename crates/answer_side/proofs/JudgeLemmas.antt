@@ -4,7 +4,7 @@ use Rattle.std.specs.Prelude.{nat_le, IsTrue, ◌↔◌, Option, None, not, ◌&
 use Rattle.std.proofs.lemmas.Bool.{cases_Bool, le-leb, leb-true, false≢true}
 use Rattle.htx_model.specs.Blocks.{load}
 use Rattle.body_filter.specs.declared.filter_spec.FilterSpec.{FilterSpec}
-use Rattle.htx_arena.specs.Contents.{Contents}
+use Rattle.htx_arena.specs.Layout.Contents.{Contents}
 use Rattle.http_model.specs.declared.Framing.{Framing}
 use Rattle.http_model.specs.Finish.{finish_response, response_framing}
 use Rattle.http_model.specs.Head.{Head, head_blocks}

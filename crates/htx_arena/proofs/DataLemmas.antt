@@ -8,8 +8,8 @@ use Rattle.htx_model.proofs.Loads.{taken_is}
 use Rattle.std.proofs.lemmas.List.{length-take-le}
 use Rattle.htx_model.specs.declared.Kind.TheVariants as kinds
 use Rattle.htx_model.proofs.Edits.{data_is, overhead-data}
-use Rattle.htx_layout.specs.Contents.{Contents}
-use Rattle.htx_layout.specs.Addresses.{Places, inserted, appended, appended_to, extended, cut_to, removed}
+use Rattle.htx_arena.specs.Layout.Contents.{Contents}
+use Rattle.htx_arena.specs.Layout.Addresses.{Places, inserted, appended, appended_to, extended, cut_to, removed}
 
 -- ---- where appended data goes
 

@@ -1,7 +1,7 @@
 use Rattle.std.specs.Prelude.{ℕ, List}
 use Rattle.std.specs.Borrow.{Lends, MutBor, Fml, Array, u8}
-use Rattle.htx_layout.specs.Contents.{Contents}
-use Rattle.htx_layout.specs.Written.{written}
+use Rattle.htx_arena.specs.Layout.Contents.{Contents}
+use Rattle.htx_arena.specs.Layout.Written.{written}
 use Rattle.htx_arena.specs.contracts.arena.Arena.{the_row}
 
 -- once the borrow r ends, the arena has what r shows last as the value of the block

@@ -1,9 +1,5 @@
-pub use Rattle.htx_layout.specs.Contents
-pub use Rattle.htx_layout.specs.Addresses
-pub use Rattle.htx_layout.specs.Written
 pub use Rattle.htx_model.specs.Block
 pub use Rattle.htx_model.specs.Blocks
-pub use Rattle.htx_layout.specs.Held
-pub use Rattle.htx_layout.specs.Place
 pub mod Lending
 pub mod Fields
+pub mod Layout

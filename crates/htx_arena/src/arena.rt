@@ -1,7 +1,7 @@
 ghost use Rattle.std.specs.Prelude.{◌≡◌, ◌+◌, ◌<◌, ◌≤◌, [], length, slice_index, IfOk};
 ghost use Rattle.htx_model.specs.Block.{kind_of};
 ghost use Rattle.htx_model.specs.Blocks.{load, block_at};
-ghost use Rattle.htx_layout.specs.Held.{held, blocks_of};
+ghost use Rattle.htx_arena.specs.Layout.Held.{held, blocks_of};
 
 mod cut;
 mod data;
@@ -11,7 +11,7 @@ mod lend;
 mod replace;
 mod steps;
 
-use htx_layout::Array;
+use crate::layout::Array;
 use htx_model::{Kind, OutOfMemory};
 use std::alloc::Global;
 use std::marker::Model;
@@ -35,7 +35,7 @@ pub struct Arena {
 }
 
 impl Model for Arena {
-    ghost use Rattle.htx_layout.specs.Contents.{Contents};
+    ghost use Rattle.htx_arena.specs.Layout.Contents.{Contents};
 
     ghost Value = { Contents };
 

@@ -2,6 +2,7 @@
 
 mod arena;
 mod fields;
+pub mod layout;
 
 pub use arena::{Arena, Full, Line};
 pub use fields::Fields;

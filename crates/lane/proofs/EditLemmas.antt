@@ -1,6 +1,6 @@
 -- A lane whose array was edited.
 use Rattle.std.proofs.Common.{◌≡◌, ◌≢◌, ◌⊎◌, inl, inr, sym, ◌∙◌, subst}
-use Rattle.htx_arena.specs.Contents.{Contents}
+use Rattle.htx_arena.specs.Layout.Contents.{Contents}
 use Rattle.lane_core.specs.Lending.{with_msg}
 use Rattle.lane_core.specs.Sends.{IsSound, IsReady}
 use Rattle.lane_core.specs.declared.stage.Stage.{Stage}

@@ -4,7 +4,7 @@ use Rattle.std.specs.List.{flat_map}
 use Rattle.std.specs.Str.{bytes_eq}
 use Rattle.http_model.specs.declared.Ending.{Ending}
 use Rattle.wire_buf.specs.Buffer.{Buffer}
-use Rattle.htx_arena.specs.Contents.{Contents}
+use Rattle.htx_arena.specs.Layout.Contents.{Contents}
 use Rattle.htx_model.specs.Block.{Block}
 use Rattle.htx_model.specs.Blocks.{flow}
 use Rattle.http_model.specs.declared.Framing.{Framing}

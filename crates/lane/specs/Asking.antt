@@ -4,7 +4,7 @@ use Rattle.http_model.specs.declared.Ending.{Ending}
 use Rattle.http_model.specs.declared.Framing.{Framing}
 use Rattle.http_model.specs.declared.Limits.{Limits}
 use Rattle.http_model.specs.Head.{Head}
-use Rattle.htx_arena.specs.Contents.{Contents}
+use Rattle.htx_arena.specs.Layout.Contents.{Contents}
 use Rattle.htx_model.specs.Block.{Block}
 use Rattle.h1_head.specs.declared.answer.Side.TheVariants as side
 use Rattle.body_filter.specs.declared.filter_spec.FilterSpec.{FilterSpec}

@@ -8,7 +8,7 @@ use Rattle.h1_head.specs.Decides.{MayWait, OnEachStream}
 use Rattle.h1_head.specs.Scanned.{IsScanned}
 use Rattle.std.specs.Prelude.{Option, None, is_some}
 use Rattle.wire_buf.specs.Buffer.{Buffer}
-use Rattle.htx_arena.specs.Contents.{Contents}
+use Rattle.htx_arena.specs.Layout.Contents.{Contents}
 use Rattle.http_model.specs.declared.Framing.{Framing}
 use Rattle.http_model.specs.declared.Limits.{Limits}
 use Rattle.http_model.specs.Sizes.{least_size}

@@ -4,7 +4,7 @@ use Rattle.std.specs.Prelude.{Option, None, map}
 use Rattle.std.proofs.lemmas.List.{append-nil, length-append}
 use Rattle.wire_buf.specs.Buffer.{Buffer}
 use Rattle.htx_model.specs.Block.{Block}
-use Rattle.htx_arena.specs.Contents.{Contents}
+use Rattle.htx_arena.specs.Layout.Contents.{Contents}
 use Rattle.http_model.specs.Head.{Field, front_blocks, message_blocks, ended_trailers, trailer_block}
 use Rattle.std.specs.List.{flat_map}
 use Rattle.httparse.specs.Grammar as grammar

@@ -11,7 +11,7 @@ use Rattle.h1_body.proofs.Live.{Live, run_live}
 use Rattle.h1_body.proofs.Runs.{goes_short}
 use Rattle.lane_core.specs.Pulled.{IsWaiting}
 use Rattle.wire_buf.specs.Buffer.{Buffer}
-use Rattle.htx_arena.specs.Contents.{Contents}
+use Rattle.htx_arena.specs.Layout.Contents.{Contents}
 use Rattle.htx_model.specs.Block.{Block}
 use Rattle.http_model.specs.declared.Ending.{Ending}
 use Rattle.http_model.specs.declared.Ending.TheVariants as ending

@@ -3,7 +3,7 @@ use Rattle.std.specs.Prelude.{ℕ, List, length}
 use Rattle.std.specs.Borrow.{Lends, MutBor, Fml, Array, u8}
 use Rattle.std.specs.List.{refill}
 use Rattle.wire_buf.specs.Buffer.{buffer}
-use Rattle.htx_arena.specs.Contents.{Contents}
+use Rattle.htx_arena.specs.Layout.Contents.{Contents}
 use Rattle.htx_arena.specs.contracts.arena.Arena as arena
 use Rattle.lane_core.specs.State.{LaneState}
 use Rattle.lane_core.specs.contracts.lane.Lane.{the_row}

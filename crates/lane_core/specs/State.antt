@@ -3,7 +3,7 @@ use Rattle.std.specs.Prelude.{ℕ, Bool, Option}
 use Rattle.http_model.specs.declared.Ending.{Ending}
 use Rattle.http_model.specs.declared.Framing.{Framing}
 use Rattle.http_model.specs.declared.Limits.{Limits}
-use Rattle.htx_arena.specs.Contents.{Contents}
+use Rattle.htx_arena.specs.Layout.Contents.{Contents}
 use Rattle.wire_buf.specs.Buffer.{Buffer}
 use Rattle.body_sieve.specs.declared.sieve.Sieve.{Sieve}
 use Rattle.h1_body.specs.declared.reader.BodyReader.{BodyReader}

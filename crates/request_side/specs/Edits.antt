@@ -2,7 +2,7 @@
 use Rattle.std.specs.Prelude.{◌≡◌, ℕ, List, Bool, Option}
 use Rattle.std.specs.Borrow.{Lends, MutBor, Fml, Array, u8}
 use Rattle.http_model.specs.declared.Framing.{Framing}
-use Rattle.htx_arena.specs.Contents.{Contents}
+use Rattle.htx_arena.specs.Layout.Contents.{Contents}
 use Rattle.htx_arena.specs.contracts.arena.Arena as arena
 use Rattle.http_model.specs.Reading.{Received}
 use Rattle.session_core.specs.History.{Coming}

@@ -1,6 +1,6 @@
 -- What a core sees of the request direction.
 use Rattle.std.specs.Prelude.{ℕ, ◌-◌, List, Bool, true, false, is_none, length}
-use Rattle.htx_arena.specs.Contents.{Contents}
+use Rattle.htx_arena.specs.Layout.Contents.{Contents}
 use Rattle.htx_model.specs.Block.{Block}
 use Rattle.http_model.specs.declared.Limits.{Limits}
 use Rattle.lane.specs.Asking as lanes

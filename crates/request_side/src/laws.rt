@@ -10,7 +10,7 @@ ghost use Rattle.http_rules.specs.declared.config.Config.{Config};
 ghost use Rattle.proxy_meaning.specs.Product.{meaning_of};
 ghost use Rattle.request_side.specs.Seen.{seen, place_of, source_of, window_of, limits_of};
 ghost use Rattle.request_side.specs.Stands.{IsSound, RequestStands, IsReplied, left_of};
-ghost use Rattle.htx_arena.specs.Contents.{Contents};
+ghost use Rattle.htx_arena.specs.Layout.Contents.{Contents};
 ghost use Rattle.request_side.specs.Reads.{HasHead};
 ghost use Rattle.request_side.specs.Edits.{Edits, array_size_of, with_head};
 ghost use Rattle.request_side.specs.Steps.{RequestsSo, WholeCame};

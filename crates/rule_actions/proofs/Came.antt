@@ -7,7 +7,7 @@ use Rattle.http_model.specs.declared.Why.TheVariants.{Room, Bytes}
 use Rattle.http_model.specs.Block.{Block, Header}
 use Rattle.http_model.specs.Blocks.{load, Fits}
 use Rattle.http_model.specs.Head.{Head, StartLine, RequestLine, StatusLine, line_block, front_blocks}
-use Rattle.htx_arena.specs.Contents.{Contents}
+use Rattle.htx_arena.specs.Layout.Contents.{Contents}
 use Rattle.htx_arena.specs.declared.arena.Full.{Full}
 use Rattle.header_ops.specs.Matching.{is_field_matching, is_header_matching, without_matching}
 use Rattle.header_ops.specs.declared.matching.NameMatch.{NameMatch}

@@ -10,7 +10,7 @@ use Rattle.http_model.specs.Head.{Field, Head, line_block, header_block, front_b
 use Rattle.header_ops.specs.Headers.{is_header_named}
 use Rattle.px_bytes.specs.Blanks.{trimmed}
 use Rattle.px_sample.specs.Variables.{Variables}
-use Rattle.htx_arena.specs.Contents.{Contents}
+use Rattle.htx_arena.specs.Layout.Contents.{Contents}
 use Rattle.htx_arena.specs.declared.arena.Full.{Full}
 use Rattle.rule_actions.specs.declared.side.Side.{Side}
 use Rattle.rule_actions.specs.declared.stepped.Stepped.{Stepped}

@@ -1,7 +1,7 @@
 -- What the two directions of a core have made of one exchange.
 use Rattle.std.specs.Prelude.{◌≡◌, ◌≢◌, ℕ, List, [], ◌∷◌, ◌++◌, Bool, true, false, Option, Some, None, is_none, not, ◌&&◌, ⊤, length}
 use Rattle.htx_model.specs.Block.{Block}
-use Rattle.htx_layout.specs.Held.{blocks_of}
+use Rattle.htx_arena.specs.Layout.Held.{blocks_of}
 use Rattle.http_model.specs.Head.{Head, Message, head_blocks}
 use Rattle.http_model.specs.Finish.{finish_request, request_framing}
 use Rattle.http_model.specs.Reading.{Received, BodyReading}

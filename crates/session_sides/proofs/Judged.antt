@@ -1,7 +1,7 @@
 -- What is made of a head once the rules ran on it.
 use Rattle.std.proofs.Common.{◌≡◌, ℕ, ◌<◌, ◌≤◌, List, [], Bool, true, false, refl, sym, ap, ◌∙◌, subst, arith}
 use Rattle.htx_model.specs.Block.{Block}
-use Rattle.htx_arena.specs.Contents.{Contents}
+use Rattle.htx_arena.specs.Layout.Contents.{Contents}
 use Rattle.http_model.specs.declared.Framing.{Framing}
 use Rattle.http_model.specs.declared.Why.{Why}
 use Rattle.http_model.specs.Finish.{request_framing}

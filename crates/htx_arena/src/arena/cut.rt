@@ -2,7 +2,7 @@ ghost use Rattle.std.specs.Prelude.{◌≡◌, ◌<◌, ◌≤◌, [], length, t
 ghost use Rattle.htx_model.specs.Block.{kind_of, value_of};
 ghost use Rattle.htx_model.specs.Blocks.{block_at, cut_front};
 ghost use Rattle.htx_model.specs.declared.Kind.TheVariants.{Data};
-ghost use Rattle.htx_layout.specs.Addresses.{removed, truncated, cut_to, defragmented};
+ghost use Rattle.htx_arena.specs.Layout.Addresses.{removed, truncated, cut_to, defragmented};
 
 use crate::arena::Arena;
 

@@ -2,10 +2,10 @@ ghost use Rattle.std.specs.Prelude.{◌≡◌, ◌-◌, ◌<◌, suc, length, Is
 ghost use Rattle.htx_model.specs.Block.{kind_of};
 ghost use Rattle.htx_model.specs.Blocks.{block_at, taken, append_data, data_overhead};
 ghost use Rattle.htx_model.specs.declared.Kind.TheVariants.{Data};
-ghost use Rattle.htx_layout.specs.Addresses.{appended};
+ghost use Rattle.htx_arena.specs.Layout.Addresses.{appended};
 
 use crate::arena::Arena;
-use htx_layout::NewBlock;
+use crate::layout::NewBlock;
 use htx_model::Kind;
 
 impl Arena {

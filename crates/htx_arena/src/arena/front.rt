@@ -2,7 +2,7 @@
 ghost use Rattle.std.specs.Prelude.{◌≡◌, ◌<◌, ◌≤◌, ◌↔◌, [], ◌∷◌, ◌++◌, length, drop, OnOk, OnErr, IsOk};
 ghost use Rattle.htx_model.specs.Block.{payload_len};
 ghost use Rattle.htx_model.specs.Blocks.{Fits, block_at};
-ghost use Rattle.htx_layout.specs.Addresses.{inserted, dropped};
+ghost use Rattle.htx_arena.specs.Layout.Addresses.{inserted, dropped};
 
 use crate::arena::{Arena, Full};
 

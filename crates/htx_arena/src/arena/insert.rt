@@ -1,10 +1,10 @@
 ghost use Rattle.std.specs.Prelude.{◌≡◌, ◌+◌, ◌≤◌, ◌↔◌, [], length, insert, OnOk, OnErr, IsOk};
 ghost use Rattle.htx_model.specs.Block.{block, IsLineKind, IsFieldKind, IsEndKind};
 ghost use Rattle.htx_model.specs.Blocks.{Fits};
-ghost use Rattle.htx_layout.specs.Addresses.{inserted};
+ghost use Rattle.htx_arena.specs.Layout.Addresses.{inserted};
 
 use crate::arena::{Arena, Full};
-use htx_layout::{NewBlock, line_head};
+use crate::layout::{NewBlock, line_head};
 use htx_model::Kind;
 
 impl Arena {

@@ -8,7 +8,7 @@ impl Arena {
     ghost use Rattle.std.specs.Borrow.{sem};
     ghost use Rattle.std.specs.Prelude.{ℕ, List, slice_set};
     ghost use Rattle.htx_model.specs.Block.{with_value};
-    ghost use Rattle.htx_layout.specs.Written.{written};
+    ghost use Rattle.htx_arena.specs.Layout.Written.{written};
     ghost use Rattle.htx_arena.specs.Lending.{LendsValue};
 
     /// The name of a field.

@@ -1,10 +1,10 @@
 ghost use Rattle.std.specs.Prelude.{◌≡◌, ◌+◌, ◌<◌, ◌↔◌, length, slice_set, OnOk, OnErr, IsOk};
 ghost use Rattle.htx_model.specs.Block.{block, kind_of, name_of, with_value, IsLineKind, IsFieldKind};
 ghost use Rattle.htx_model.specs.Blocks.{Fits, block_at};
-ghost use Rattle.htx_layout.specs.Addresses.{replaced};
+ghost use Rattle.htx_arena.specs.Layout.Addresses.{replaced};
 
 use crate::arena::{Arena, Full};
-use htx_layout::{NewBlock, line_head};
+use crate::layout::{NewBlock, line_head};
 
 impl Arena {
     /// Gives a field another value.

@@ -4,10 +4,10 @@ ghost use Rattle.htx_model.specs.Block.{Data as DataBlock};
 ghost use Rattle.htx_model.specs.Block.{kind_of, name_of, value_of, payload_len, with_value, IsFieldKind};
 ghost use Rattle.htx_model.specs.Blocks.{load, block_at};
 ghost use Rattle.htx_model.specs.declared.Kind.TheVariants.{Data};
-ghost use Rattle.htx_layout.specs.Addresses.{inserted, replaced, extended};
+ghost use Rattle.htx_arena.specs.Layout.Addresses.{inserted, replaced, extended};
 
 use crate::arena::Arena;
-use htx_layout::NewBlock;
+use crate::layout::NewBlock;
 
 impl Arena {
     /// Puts in a block.

@@ -1,6 +1,6 @@
 //! What is seen of a lane of answers.
 ghost use Rattle.std.specs.Prelude.{◌≡◌, ◌+◌, length};
-ghost use Rattle.htx_layout.specs.Held.{held};
+ghost use Rattle.htx_arena.specs.Layout.Held.{held};
 ghost use Rattle.lane.specs.Answering.{stage_of, source_of, input_of, output_of, most_of, blocks_of, addrs_of, framing_of, declared_of, close_of, has_begun};
 
 use crate::response_lane::ResponseLane;

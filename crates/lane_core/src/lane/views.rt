@@ -1,6 +1,6 @@
 //! What is seen of a lane.
 ghost use Rattle.std.specs.Prelude.{◌≡◌, ◌+◌, length, is_none};
-ghost use Rattle.htx_layout.specs.Held.{held, blocks_of as told};
+ghost use Rattle.htx_arena.specs.Layout.Held.{held, blocks_of as told};
 
 use crate::lane::Lane;
 use crate::stage::{Source, Stage};

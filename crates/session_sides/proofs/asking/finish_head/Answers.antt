@@ -1,5 +1,5 @@
 use Rattle.std.proofs.Common.{ap, ◌∙◌}
-use Rattle.htx_arena.specs.Contents.{Contents}
+use Rattle.htx_arena.specs.Layout.Contents.{Contents}
 use Rattle.session_sides.proofs.Finished.{finishes, finishes_not, has_end}
 use Rattle.session_sides.proofs.asking.finish_head.Goals as goal
 

@@ -1,5 +1,5 @@
 use Rattle.std.proofs.Common.{ap, ◌∙◌}
-use Rattle.htx_arena.specs.Contents.{Contents}
+use Rattle.htx_arena.specs.Layout.Contents.{Contents}
 use Rattle.request_side.specs.Edits.{with_head}
 use Rattle.session_sides.proofs.asking.keep_head.Goals as goal
 

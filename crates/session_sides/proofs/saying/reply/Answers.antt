@@ -1,5 +1,5 @@
 use Rattle.std.proofs.Common.{◌∙◌, ap, subst, sym}
-use Rattle.htx_arena.specs.Contents.{Contents}
+use Rattle.htx_arena.specs.Layout.Contents.{Contents}
 use Rattle.http_rules.specs.Lives.{answering}
 use Rattle.proxy_meaning.specs.Product.{meaning_of}
 use Rattle.session_model.specs.Amending.{reply_sent}

@@ -1,5 +1,5 @@
 use Rattle.std.proofs.Common.{sym, ap, ◌∙◌}
-use Rattle.htx_arena.specs.Contents.{Contents}
+use Rattle.htx_arena.specs.Layout.Contents.{Contents}
 use Rattle.answer_side.proofs.JudgeLemmas.{edits_by}
 use Rattle.answer_side.proofs.side.AnswerSide.run_rules.Goals as goal
 

@@ -2,7 +2,7 @@ use Rattle.std.proofs.Common.{length, ap, ◌∙◌, arith, refl, ℕ}
 use Rattle.std.specs.Prelude.{insert}
 use Rattle.htx_model.specs.Block.{Block, payload_len}
 use Rattle.htx_model.specs.Blocks.{block_at}
-use Rattle.htx_layout.specs.Addresses.{Places, inserted}
+use Rattle.htx_arena.specs.Layout.Addresses.{Places, inserted}
 use Rattle.htx_arena.proofs.CopyLemmas.{insert-end, load-end}
 use Rattle.htx_arena.proofs.DataLemmas.{not_true}
 use Rattle.htx_arena.proofs.arena.Arena.add_copy.Goals as goal

@@ -1,7 +1,7 @@
 use Rattle.std.proofs.Common.{◌∙◌, ap, arith, ℕ}
 use Rattle.htx_model.specs.Block.{payload_len}
-use Rattle.htx_layout.specs.Addresses.{inserted}
-use Rattle.htx_layout.proofs.ReplaceLemmas.{field_len}
+use Rattle.htx_arena.specs.Layout.Addresses.{inserted}
+use Rattle.htx_arena.proofs.LayoutLemmas.ReplaceLemmas.{field_len}
 use Rattle.htx_arena.proofs.arena.Arena.insert_field.Goals as goal
 
 pub put-requires-clause-fits : goal.put-requires-clause-fits

@@ -2,8 +2,8 @@ use Rattle.std.proofs.Common.{◌+◌, ◌∙◌, ap, arith, refl, ℕ, set}
 use Rattle.htx_model.specs.Block.{block, kind_of, payload_len}
 use Rattle.htx_model.specs.declared.Kind.{Kind}
 use Rattle.htx_model.specs.Blocks.{block_at}
-use Rattle.htx_layout.specs.Addresses.{replaced}
-use Rattle.htx_layout.proofs.ReplaceLemmas.{line_len}
+use Rattle.htx_arena.specs.Layout.Addresses.{replaced}
+use Rattle.htx_arena.proofs.LayoutLemmas.ReplaceLemmas.{line_len}
 use Rattle.htx_arena.proofs.ChangeLemmas.{set-fits}
 use Rattle.htx_arena.proofs.DataLemmas.{not_true}
 use Rattle.htx_arena.proofs.arena.Arena.replace_line.Goals.{then-a-most-via-then-a-most, then-a-most-via-else-a-most+then-b-most, then-a-most-via-else-a-most+else-b-most+then-c-most}

@@ -1,6 +1,6 @@
 use Rattle.std.proofs.Common.{ap, arith, refl, length}
 use Rattle.htx_model.specs.Blocks.{block_at}
-use Rattle.htx_layout.proofs.ReplaceLemmas.{field_long, with_value_long}
+use Rattle.htx_arena.proofs.LayoutLemmas.ReplaceLemmas.{field_long, with_value_long}
 use Rattle.htx_arena.proofs.ChangeLemmas.{set-fits}
 use Rattle.htx_arena.proofs.DataLemmas.{not_true}
 use Rattle.htx_arena.proofs.arena.Arena.replace_value.Goals as goal

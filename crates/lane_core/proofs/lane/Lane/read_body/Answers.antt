@@ -1,5 +1,5 @@
 use Rattle.std.proofs.Common.{◌∙◌, ap}
-use Rattle.htx_arena.specs.Contents.{Contents}
+use Rattle.htx_arena.specs.Layout.Contents.{Contents}
 use Rattle.lane_core.specs.Sends.{Waits}
 use Rattle.lane_core.proofs.SendLemmas.{none_rests}
 use Rattle.lane_core.proofs.lane.Lane.read_body.Goals as goal

@@ -1,6 +1,6 @@
 use Rattle.std.proofs.Common.{◌≡◌, ℕ, sym, ap, ◌∙◌, subst, arith, []}
 use Rattle.wire_buf.specs.Buffer.{Buffer}
-use Rattle.htx_arena.specs.Contents.{Contents}
+use Rattle.htx_arena.specs.Layout.Contents.{Contents}
 use Rattle.h1_body.specs.declared.reader.BodyReader.{BodyReader}
 use Rattle.h1_body.specs.Stands.{state_of}
 use Rattle.lane_core.specs.Pulled.{IsWaiting}

@@ -1,5 +1,5 @@
 use Rattle.std.proofs.Common.{◌≡◌, ◌<◌, ◌∙◌, inr, ap, sym, subst, length, rules}
-use Rattle.htx_arena.specs.Contents.{Contents}
+use Rattle.htx_arena.specs.Layout.Contents.{Contents}
 use Rattle.h1_write.specs.Spelled.{IsEven}
 use Rattle.lane_core.specs.Carried.{EndIsOut}
 use Rattle.lane_core.specs.declared.stage.Source.{Source}

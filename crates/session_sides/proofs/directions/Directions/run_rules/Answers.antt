@@ -1,5 +1,5 @@
 use Rattle.std.proofs.Common.{ap, ◌∙◌}
-use Rattle.htx_arena.specs.Contents.{Contents}
+use Rattle.htx_arena.specs.Layout.Contents.{Contents}
 use Rattle.session_sides.proofs.Finished.{array_sized}
 use Rattle.session_sides.proofs.Judged.{rules_ran_on, method_room}
 use Rattle.session_sides.proofs.directions.Directions.run_rules.Goals as goal

@@ -1,7 +1,0 @@
-use Rattle.std.proofs.Common.{◌∙◌, ap, sym}
-use Rattle.htx_space.specs.declared.space.Desc.{Desc}
-use Rattle.htx_layout.proofs.WholeLemmas.{at}
-use Rattle.htx_layout.proofs.array.Array.addr.Goals as goal
-
-pub returns : goal.returns
-returns c = ap (λ (d : Desc). d.addr) c.descriptor.ensures ∙ sym (at c.self.inside c.args.self.now c.args.at c.self.invariant c.self.view_is c.requires).addr

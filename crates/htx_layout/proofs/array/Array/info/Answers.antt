@@ -1,5 +1,0 @@
-use Rattle.htx_layout.proofs.WholeLemmas.{described_at}
-use Rattle.htx_layout.proofs.array.Array.info.Goals as goal
-
-pub returns-clause-is : goal.returns-clause-is
-returns-clause-is c = described_at c.self.inside c.args.self.now c.args.at c.descriptor.result c.self.invariant c.self.view_is c.requires c.descriptor.ensures

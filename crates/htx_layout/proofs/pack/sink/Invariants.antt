@@ -1,5 +1,0 @@
-use Rattle.htx_layout.proofs.SinkLemmas.{Sinking}
-use Rattle.htx_layout.proofs.pack.sink.Given as goal
-
-abbrev pub invariant-loop-i : goal.invariant-loop-i
-invariant-loop-i l = Sinking l.fn.space l.space l.count l.index l.end l.i
