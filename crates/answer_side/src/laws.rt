@@ -27,7 +27,7 @@ ghost use Rattle.answer_side.specs.Stands.{AnswerStands, IsSoundSide, is_serving
 ghost use Rattle.answer_side.specs.declared.place.Place.TheVariants as place;
 ghost use Rattle.answer_side.specs.declared.side.AnswerSide.{AnswerSide};
 
-use body_readings::reading;
+use h1_body::readings::reading;
 
 /// No stream of a server is without a reading, and a head is at least one byte.
 pub fn total()

@@ -18,7 +18,7 @@ ghost use Rattle.request_side.specs.Shown.{ShowsNoCut, PutsAll, NoHeadCame};
 ghost use Rattle.request_side.specs.declared.place.Place.TheVariants as place;
 ghost use Rattle.request_side.specs.declared.side.RequestSide.{RequestSide};
 
-use body_readings::reading;
+use h1_body::readings::reading;
 use h1_head::laws as heads;
 use lane::laws as lanes;
 

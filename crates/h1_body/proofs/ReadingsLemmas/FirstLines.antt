@@ -9,7 +9,7 @@ use Rattle.httparse.specs.Pieces.{Newline, FieldLine, FieldLines}
 use Rattle.httparse.proofs.PieceLemmas.{print_field-append, Section_skip, Section_line, FieldLine_deterministic, front-append}
 use Rattle.httparse.proofs.GrammarLemmas.{section_unique}
 use Rattle.h1_body.specs.Section.{HasShortName}
-use Rattle.body_readings.proofs.Lines.{NoLine}
+use Rattle.h1_body.proofs.ReadingsLemmas.Lines.{NoLine}
 
 -- a section of at most n fields and so many bytes
 pub record Within (n room : ℕ) (text : List ℕ) (fields : List Field) (rest : List ℕ) : Type 0 where

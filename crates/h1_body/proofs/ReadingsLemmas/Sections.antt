@@ -9,8 +9,8 @@ use Rattle.httparse.proofs.PieceLemmas.{print_field-append, Stops-FieldLine, col
 use Rattle.http_model.specs.Sizes.{most_name}
 use Rattle.h1_body.specs.Numbers.{most_trailers}
 use Rattle.h1_body.specs.Section.{HasShortName, BeginsSection, HasNoSectionWithin, IsHopelessSection}
-use Rattle.body_readings.proofs.Lines.{Line, Empty, Whole, Nothing, Return, InName, InValue, AtReturn, Never, name_is, raw_is, token_no_end, line_of}
-use Rattle.body_readings.proofs.FirstLines.{Within, HasNone, IsHopeless, Known, dead, no_line, end_some, section_some, first_field, field_length, line_length, by_empty, section_length, line_hopeless, by_line}
+use Rattle.h1_body.proofs.ReadingsLemmas.Lines.{Line, Empty, Whole, Nothing, Return, InName, InValue, AtReturn, Never, name_is, raw_is, token_no_end, line_of}
+use Rattle.h1_body.proofs.ReadingsLemmas.FirstLines.{Within, HasNone, IsHopeless, Known, dead, no_line, end_some, section_some, first_field, field_length, line_length, by_empty, section_length, line_hopeless, by_line}
 
 -- ---- a line that is still to come
 

@@ -2,7 +2,7 @@
 use Rattle.std.proofs.Common.{ℕ}
 use Rattle.h1_body.specs.Body.{BodyAt, Left, UntilClose, InLine, InData, AtReturn, AtFeed, InSection, Over, Hopeless}
 use Rattle.h1_body.specs.BodyOf.{IsKnownAt}
-use Rattle.body_readings.proofs.Sections.{section_known}
+use Rattle.h1_body.proofs.ReadingsLemmas.Sections.{section_known}
 
 pub known_at : (most : ℕ) (at : BodyAt) → IsKnownAt most at
 known_at most (InSection section) = section_known most section

@@ -1,1 +1,0 @@
-pub use Rattle.h1_body.specs.BodyOf
