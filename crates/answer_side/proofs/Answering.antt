@@ -27,11 +27,11 @@ use Rattle.session_core.proofs.Streams.{Splits}
 use Rattle.session_core.proofs.Consequences.{split_past}
 use Rattle.session_core.proofs.Exists.{over_perhaps}
 use Rattle.session_core.proofs.Passing.{answers_open, answers_last, interims_so, body_is_last}
-use Rattle.lane_core.specs.Promise.{Promise, HasBody}
-use Rattle.lane_core.specs.Sends.{Past, Stands}
-use Rattle.lane_core.specs.declared.lane.Lane.{Lane}
-use Rattle.lane_core.specs.declared.stage.Source.{Source}
-use Rattle.lane_core.specs.declared.stage.Source.TheVariants as source
+use Rattle.lane.specs.Direction.Promise.{Promise, HasBody}
+use Rattle.lane.specs.Direction.Sends.{Past, Stands}
+use Rattle.lane.specs.declared.direction.lane.Lane.{Lane}
+use Rattle.lane.specs.declared.direction.stage.Source.{Source}
+use Rattle.lane.specs.declared.direction.stage.Source.TheVariants as source
 use Rattle.lane.specs.Answering.{Exchange, BeginsWithInterim, Last, Answers, AnswersAt, AnswersLast, AnswerPromise, IsLast, HeadsCame, Reads, NotYet, Serves, Replies, phase_of, has_begun, stage_of, source_of, shows_last}
 use Rattle.lane.specs.declared.phase.Phase.{Phase}
 use Rattle.lane.specs.declared.phase.Phase.TheVariants as phase

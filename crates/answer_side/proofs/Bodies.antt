@@ -28,14 +28,14 @@ use Rattle.session_model.specs.Answering.{Final, Answers as FinalAnswers, answer
 use Rattle.session_model.specs.Session.{SpellsFinal}
 use Rattle.session_core.specs.Sided.{ToldIs, is_cut, goes_on_with}
 use Rattle.session_core.specs.Lanes.{AnswerBody}
-use Rattle.lane_core.specs.Sent.{Sent, SpellsAs, IsFrontOf, is_whole, trailers_in, message_of}
-use Rattle.lane_core.specs.Sends.{Past, put_out}
-use Rattle.lane_core.specs.Promise.{Promise, BodyTaken, GoesOnWith, ends_as, filter_of, finish_of, IsCutWith, IsWholeWith}
-use Rattle.lane_core.specs.declared.lane.Lane.{Lane}
-use Rattle.lane_core.specs.declared.stage.Source.{Source}
-use Rattle.lane_core.specs.declared.stage.Source.TheVariants as source
-use Rattle.lane_core.specs.declared.stage.Stage.TheVariants as stage
-use Rattle.lane_core.specs.declared.stage.Stage.{Stage}
+use Rattle.lane.specs.Direction.Sent.{Sent, SpellsAs, IsFrontOf, is_whole, trailers_in, message_of}
+use Rattle.lane.specs.Direction.Sends.{Past, put_out}
+use Rattle.lane.specs.Direction.Promise.{Promise, BodyTaken, GoesOnWith, ends_as, filter_of, finish_of, IsCutWith, IsWholeWith}
+use Rattle.lane.specs.declared.direction.lane.Lane.{Lane}
+use Rattle.lane.specs.declared.direction.stage.Source.{Source}
+use Rattle.lane.specs.declared.direction.stage.Source.TheVariants as source
+use Rattle.lane.specs.declared.direction.stage.Stage.TheVariants as stage
+use Rattle.lane.specs.declared.direction.stage.Stage.{Stage}
 use Rattle.answer_side.specs.Seen.{told_by, is_done}
 use Rattle.answer_side.proofs.Heads.{More}
 

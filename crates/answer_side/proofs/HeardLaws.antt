@@ -12,7 +12,7 @@ use Rattle.session_model.specs.Asking.{Asker}
 use Rattle.session_core.specs.History.{Coming, broken}
 use Rattle.session_core.specs.Sided.{Asking, asker_in}
 use Rattle.session_core.proofs.Streams.{continues_broken}
-use Rattle.lane_core.specs.declared.stage.Stage.TheVariants as stage
+use Rattle.lane.specs.declared.direction.stage.Stage.TheVariants as stage
 use Rattle.lane.specs.Answering.{Exchange, Answers, AnswersAt, IsSoundAnswer, stage_of, phase_of, shows_last, limits_of, input_of}
 use Rattle.lane.specs.declared.phase.Phase.{Phase}
 use Rattle.lane.specs.declared.phase.Phase.TheVariants as phase

@@ -10,8 +10,8 @@ use Rattle.h1_head.specs.Response.{ResponseOf}
 use Rattle.session_model.specs.Asking.{Asker}
 use Rattle.session_core.specs.History.{Coming, gains, ends}
 use Rattle.session_core.proofs.Streams.{continues_gains, continues_ends}
-use Rattle.lane_core.specs.declared.stage.Stage.{Stage}
-use Rattle.lane_core.specs.declared.stage.Stage.TheVariants as stage
+use Rattle.lane.specs.declared.direction.stage.Stage.{Stage}
+use Rattle.lane.specs.declared.direction.stage.Stage.TheVariants as stage
 use Rattle.lane.specs.Answering.{Exchange, BeginsWithInterim, Answers, AnswersAt, HeadsAt, HeadsCame, Reads, IsSoundAnswer, IsSoundAt, ended_of, phase_of, stage_of, shows_last, with_bytes, with_put}
 use Rattle.lane.specs.declared.phase.Phase.{Phase}
 use Rattle.lane.specs.declared.phase.Phase.TheVariants as phase

@@ -21,7 +21,7 @@ use Rattle.session_model.specs.Answering.{Final, response_declares_too_much, res
 use Rattle.session_model.specs.Session.{SpellsFinal}
 use Rattle.session_core.specs.History.{Coming}
 use Rattle.session_core.specs.Sided.{Asking, asker_in, ToldIs}
-use Rattle.lane_core.specs.declared.stage.Stage.TheVariants as stage
+use Rattle.lane.specs.declared.direction.stage.Stage.TheVariants as stage
 use Rattle.lane.specs.Answering.{Exchange, Answers, Replies as ListReplies, Serves, IsSoundAnswer, ended_of, phase_of, stage_of, array_of, framing_of, declared_of, shows_last, replies, serves}
 use Rattle.lane.specs.Lending.{with_answer_head}
 use Rattle.lane.specs.declared.response_lane.ResponseLane.{ResponseLane}

@@ -7,9 +7,9 @@ use Rattle.http_rules.specs.declared.config.Config.{Config}
 use Rattle.session_model.specs.Asking.{Asker}
 use Rattle.session_core.specs.History.{Coming}
 use Rattle.session_core.specs.declared.Told.TheVariants as told
-use Rattle.lane_core.specs.declared.stage.Stage.{Stage}
-use Rattle.lane_core.specs.declared.stage.Source.{Source}
-use Rattle.lane_core.specs.declared.stage.Source.TheVariants as source
+use Rattle.lane.specs.declared.direction.stage.Stage.{Stage}
+use Rattle.lane.specs.declared.direction.stage.Source.{Source}
+use Rattle.lane.specs.declared.direction.stage.Source.TheVariants as source
 use Rattle.lane.specs.Answering.{Exchange, Answers, MayGoOn, with_put, ended_of, phase_of, source_of, output_of, shows_last}
 use Rattle.lane.specs.declared.response_lane.ResponseLane.{ResponseLane}
 use Rattle.answer_side.specs.Seen.{told_at, answered_at, is_done, is_last, told_by, seen}

@@ -9,9 +9,9 @@ use Rattle.session_model.specs.Answering.{sent_interim}
 use Rattle.session_model.specs.Session.{interim_text}
 use Rattle.session_core.specs.History.{Coming}
 use Rattle.session_core.specs.Sided.{BeginsAlways}
-use Rattle.lane_core.specs.declared.stage.Stage.{Stage}
-use Rattle.lane_core.specs.declared.stage.Stage.TheVariants as stage
-use Rattle.lane_core.specs.declared.stage.Source.TheVariants as source
+use Rattle.lane.specs.declared.direction.stage.Stage.{Stage}
+use Rattle.lane.specs.declared.direction.stage.Stage.TheVariants as stage
+use Rattle.lane.specs.declared.direction.stage.Source.TheVariants as source
 use Rattle.lane.specs.Answering.{Exchange, Answers, AnswerPromise, MayGoOn, replies, with_put, phase_of, stage_of, source_of, output_of, shows_last}
 use Rattle.lane.specs.declared.response_lane.ResponseLane.{ResponseLane}
 use Rattle.answer_side.specs.Seen.{is_done, answered_at}

@@ -13,8 +13,8 @@ use Rattle.session_model.specs.Asking.{Asker}
 use Rattle.session_model.specs.Answering.{Final, Refuses, AnswersReading, AnswersBy}
 use Rattle.session_core.specs.History.{Coming}
 use Rattle.session_core.specs.Sided.{Asking, asker_in}
-use Rattle.lane_core.specs.declared.stage.Stage.{Stage}
-use Rattle.lane_core.specs.declared.stage.Stage.TheVariants as stage
+use Rattle.lane.specs.declared.direction.stage.Stage.{Stage}
+use Rattle.lane.specs.declared.direction.stage.Stage.TheVariants as stage
 use Rattle.lane.specs.Answering.{Exchange, HeadsAt, HeadsCame, Reads, stage_of}
 use Rattle.answer_side.specs.Stands.{IsAsker, IsFor, IsInHand}
 use Rattle.answer_side.specs.HeadsRead.{ReadBefore}

@@ -15,11 +15,11 @@ use Rattle.body_filter.specs.declared.filter_spec.FilterSpec.TheVariants.{Limit,
 use Rattle.body_filter.specs.Filter.{Filtered, searched, ended, joined, through, filtered, filtered_by}
 use Rattle.h1_body.specs.Body.{Over as OverAt, Goes}
 use Rattle.h1_body.specs.BodyOf.{BodyRead, Reads, IsBodyOf}
-use Rattle.lane_core.specs.Sent.{Sent, Ends, SpellsAs, IsFrontOf, message_of}
-use Rattle.lane_core.specs.Sends.{Past, put_out}
-use Rattle.lane_core.specs.Promise.{Promise, BodyTaken, GoesOnWith, ends_as}
-use Rattle.lane_core.specs.declared.lane.Lane.{Lane}
-use Rattle.lane_core.specs.declared.stage.Stage.TheVariants as stage
+use Rattle.lane.specs.Direction.Sent.{Sent, Ends, SpellsAs, IsFrontOf, message_of}
+use Rattle.lane.specs.Direction.Sends.{Past, put_out}
+use Rattle.lane.specs.Direction.Promise.{Promise, BodyTaken, GoesOnWith, ends_as}
+use Rattle.lane.specs.declared.direction.lane.Lane.{Lane}
+use Rattle.lane.specs.declared.direction.stage.Stage.TheVariants as stage
 use Rattle.lane.specs.Answering.{Exchange, Last, Answers, AnswersAt, AnswerPromise, IsLast, HasBegun, Replies, interim_text, phase_of, has_begun, stage_of, shows_last}
 use Rattle.lane.specs.declared.phase.Phase.{Phase}
 use Rattle.lane.specs.declared.phase.Phase.TheVariants as phase

@@ -1,8 +1,8 @@
 -- What is seen of an answer direction.
 use Rattle.std.proofs.Common.{◌≡◌, ◌⊎◌, ℕ, ◌+◌, ◌-◌, arith, inl, true, false, sym, ap, ◌∙◌, subst}
 use Rattle.session_core.specs.Sided.{AnswerSeen}
-use Rattle.lane_core.specs.declared.stage.Stage.{Stage}
-use Rattle.lane_core.specs.declared.stage.Stage.TheVariants as stage
+use Rattle.lane.specs.declared.direction.stage.Stage.{Stage}
+use Rattle.lane.specs.declared.direction.stage.Stage.TheVariants as stage
 use Rattle.lane.specs.Answering.{IsSoundAt, stage_of, source_of, phase_of, has_begun, shows_last}
 use Rattle.lane.specs.declared.phase.Phase.{Phase}
 use Rattle.lane.specs.declared.phase.Phase.TheVariants as phase

@@ -8,7 +8,7 @@ use Rattle.http_rules.specs.declared.config.Config.{Config}
 use Rattle.session_core.specs.History.{Coming}
 use Rattle.session_core.specs.Sided.{Asking, asker_in}
 use Rattle.lane.specs.Answering.{Exchange, NotYet, IsSoundAnswer, stage_of, ended_of, output_of, blocks_of, framing_of, declared_of, phase_of, has_begun, shows_last}
-use Rattle.lane_core.specs.declared.stage.Stage.TheVariants as stage
+use Rattle.lane.specs.declared.direction.stage.Stage.TheVariants as stage
 use Rattle.answer_side.specs.Seen.{seen}
 use Rattle.answer_side.specs.HeadsRead.{HasRead}
 use Rattle.answer_side.specs.Stands.{IsAsker, IsFor, IsInHand, AnswerStands, RestsAt, FitsAt}

@@ -21,7 +21,7 @@ use Rattle.session_core.specs.declared.Told.{Told}
 use Rattle.session_core.specs.declared.Told.TheVariants as told
 use Rattle.session_core.specs.Leads.{AnswerWaits}
 use Rattle.lane.specs.Answering.{Exchange, HeadsCame, stage_of, array_of, blocks_of, framing_of, declared_of}
-use Rattle.lane_core.specs.declared.stage.Stage.TheVariants as stage
+use Rattle.lane.specs.declared.direction.stage.Stage.TheVariants as stage
 use Rattle.answer_side.specs.Hearing.{IsBetween, FinalHead}
 use Rattle.answer_side.specs.HeadsRead.{ReadBefore}
 use Rattle.answer_side.specs.Seen.{seen, place_of, size_of, is_last}

@@ -17,8 +17,8 @@ use Rattle.session_model.specs.Answering.{sent_interim, finished_response}
 use Rattle.session_model.specs.Session.{interim_text}
 use Rattle.session_core.specs.History.{Coming}
 use Rattle.session_core.specs.Sided.{BeginsAlways}
-use Rattle.lane_core.specs.Promise.{body_in}
-use Rattle.lane_core.specs.Sent.{Cut, SpellsAs}
+use Rattle.lane.specs.Direction.Promise.{body_in}
+use Rattle.lane.specs.Direction.Sent.{Cut, SpellsAs}
 use Rattle.lane.specs.Answering.{HeadsCame, Reads}
 use Rattle.lane.specs.Resting.{served}
 

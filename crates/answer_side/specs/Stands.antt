@@ -24,9 +24,9 @@ use Rattle.session_core.specs.Sided.{Asking, asker_in, ToldIs}
 use Rattle.session_core.specs.declared.Told.{Told}
 use Rattle.session_core.specs.declared.Told.TheVariants as told
 use Rattle.lane.specs.Answering.{Exchange, Answers, Serves, Replies, NotYet, HeadsCame, HasFilters, HoldsNothingBack, IsOpen, IsSoundAnswer, interim_text, limits_of, stage_of, source_of, input_of, output_of, ended_of, phase_of, has_begun, shows_last}
-use Rattle.lane_core.specs.declared.stage.Stage.TheVariants as stage
-use Rattle.lane_core.specs.declared.stage.Source.{Source}
-use Rattle.lane_core.specs.declared.stage.Source.TheVariants as source
+use Rattle.lane.specs.declared.direction.stage.Stage.TheVariants as stage
+use Rattle.lane.specs.declared.direction.stage.Source.{Source}
+use Rattle.lane.specs.declared.direction.stage.Source.TheVariants as source
 use Rattle.lane.specs.declared.response_lane.ResponseLane.{ResponseLane}
 use Rattle.answer_side.specs.HeadsRead.{HeardAt}
 use Rattle.answer_side.specs.declared.asker.Asker.{Asker as AskerSeen}

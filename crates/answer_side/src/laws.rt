@@ -46,8 +46,8 @@ pub fn answers()
     total();
     reading();
     lane::laws::answer_promise();
-    lane_core::laws::promise();
-    lane_core::laws::has_body();
+    lane::direction::laws::promise();
+    lane::direction::laws::has_body();
 }
 
 /// While the last that answers hasn't begun, the client got interim heads alone.

@@ -8,19 +8,19 @@ use Rattle.http_model.specs.Reading.{Received, Begins}
 use Rattle.body_filter.specs.declared.filter_spec.FilterSpec.{FilterSpec}
 use Rattle.h1_head.specs.declared.answer.Side.TheVariants.{Response}
 use Rattle.h1_write.specs.Spelled.{is_done}
-use Rattle.lane_core.specs.Sends.{Past, Stands, IsSound, IsReading, put_out, said}
-use Rattle.lane_core.specs.Shown.{Shows, Goes}
+use Rattle.lane.specs.Direction.Sends.{Past, Stands, IsSound, IsReading, put_out, said}
+use Rattle.lane.specs.Direction.Shown.{Shows, Goes}
 use Rattle.lane.specs.Answering.{Exchange, Last, NotYet, Serves, Replies, HeadsCame, Reads, HeadsAt, ShowsLast, AnswersLast, AnswersAt, Answers, IsSoundAt, IsSoundAnswer, IsLast, interim_text, fresh, with_bytes, with_put, is_interim, shows_head, HasBegun, AnswerPromise}
-use Rattle.lane_core.specs.declared.stage.Stage.{Stage}
-use Rattle.lane_core.specs.declared.stage.Stage.TheVariants as stage
-use Rattle.lane_core.specs.declared.stage.Source.TheVariants as source
-use Rattle.lane_core.specs.declared.lane.Lane.{Lane}
+use Rattle.lane.specs.declared.direction.stage.Stage.{Stage}
+use Rattle.lane.specs.declared.direction.stage.Stage.TheVariants as stage
+use Rattle.lane.specs.declared.direction.stage.Source.TheVariants as source
+use Rattle.lane.specs.declared.direction.lane.Lane.{Lane}
 use Rattle.lane.specs.declared.phase.Phase.{Phase}
 use Rattle.lane.specs.declared.phase.Phase.TheVariants as phase
 use Rattle.lane.specs.declared.response_lane.ResponseLane.{ResponseLane}
 use Rattle.lane.proofs.InterimLemmas.{SameStream, came_same, reads_same, came_more, interim_one}
-use Rattle.lane_core.proofs.ShowLemmas.{shown_whole, shown_front}
-use Rattle.lane_core.proofs.PromiseLemmas.{promise}
+use Rattle.lane.proofs.DirectionLemmas.ShowLemmas.{shown_whole, shown_front}
+use Rattle.lane.proofs.DirectionLemmas.PromiseLemmas.{promise}
 
 abbrev pub made : Lane → Phase → Bool → ResponseLane
 made lane ph begun_ = record { lane = lane; phase = ph; begun = begun_ }

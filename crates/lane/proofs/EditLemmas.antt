@@ -1,11 +1,11 @@
 -- A lane whose array was edited.
 use Rattle.std.proofs.Common.{◌≡◌, ◌≢◌, ◌⊎◌, inl, inr, sym, ◌∙◌, subst}
 use Rattle.htx_arena.specs.Layout.Contents.{Contents}
-use Rattle.lane_core.specs.Lending.{with_msg}
-use Rattle.lane_core.specs.Sends.{IsSound, IsReady}
-use Rattle.lane_core.specs.declared.stage.Stage.{Stage}
-use Rattle.lane_core.specs.declared.stage.Stage.TheVariants as stage
-use Rattle.lane_core.specs.declared.lane.Lane.{Lane}
+use Rattle.lane.specs.Direction.Lending.{with_msg}
+use Rattle.lane.specs.Direction.Sends.{IsSound, IsReady}
+use Rattle.lane.specs.declared.direction.stage.Stage.{Stage}
+use Rattle.lane.specs.declared.direction.stage.Stage.TheVariants as stage
+use Rattle.lane.specs.declared.direction.lane.Lane.{Lane}
 use Rattle.lane.specs.Answering.{Exchange, HeadsAt, AnswersAt, Answers, IsSoundAt, IsSoundAnswer}
 use Rattle.lane.specs.Lending.{with_answer_head}
 use Rattle.lane.specs.declared.phase.Phase.{Phase}

@@ -13,12 +13,12 @@ use Rattle.http_model.specs.Spelling.{head_text, Spells}
 use Rattle.body_filter.specs.Filter.{Filtered}
 use Rattle.h1_body.specs.Body.{Over, step, data_in}
 use Rattle.h1_body.specs.BodyOf.{BodyRead, Reads, IsBodyOf}
-use Rattle.lane_core.specs.Promise.{BodyTaken, GoesOnWith, body_sent, finish_of}
-use Rattle.lane_core.specs.Sends.{Past}
-use Rattle.lane_core.specs.Sent.{Sent, Finish, message_of, is_whole, trailers_in}
-use Rattle.lane_core.specs.declared.stage.Stage.TheVariants as stage
-use Rattle.lane_core.proofs.PromiseLemmas.{promise}
-use Rattle.lane_core.proofs.StepLemmas.{nothing_over}
+use Rattle.lane.specs.Direction.Promise.{BodyTaken, GoesOnWith, body_sent, finish_of}
+use Rattle.lane.specs.Direction.Sends.{Past}
+use Rattle.lane.specs.Direction.Sent.{Sent, Finish, message_of, is_whole, trailers_in}
+use Rattle.lane.specs.declared.direction.stage.Stage.TheVariants as stage
+use Rattle.lane.proofs.DirectionLemmas.PromiseLemmas.{promise}
+use Rattle.lane.proofs.DirectionLemmas.StepLemmas.{nothing_over}
 use Rattle.lane.specs.Answering.{Exchange, Last, Replies, Answers, AnswersAt, AnswersLast, IsLast, ReplyPromise, reply_text, interim_text, stage_of}
 use Rattle.lane.specs.declared.phase.Phase.{Phase}
 use Rattle.lane.specs.declared.phase.Phase.TheVariants as phase

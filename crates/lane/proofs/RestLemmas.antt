@@ -12,16 +12,16 @@ use Rattle.h1_write.proofs.Told.{whole_told}
 use Rattle.body_filter.specs.declared.filter_spec.FilterSpec.{FilterSpec}
 use Rattle.body_filter.specs.declared.filter_spec.FedState.TheVariants.{Going}
 use Rattle.body_filter.specs.Filter.{filtered}
-use Rattle.lane_core.specs.Carried.{EndIsOut}
-use Rattle.lane_core.specs.Promise.{BodyTaken, body_in}
-use Rattle.lane_core.specs.Sends.{Past, Stands, put_out}
-use Rattle.lane_core.specs.Sent.{Sent, Cut, SpellsAs, message_of}
-use Rattle.lane_core.specs.declared.stage.Stage.TheVariants as stage
-use Rattle.lane_core.specs.declared.stage.Source.{Source}
-use Rattle.lane_core.specs.declared.stage.Source.TheVariants as source
-use Rattle.lane_core.specs.declared.lane.Lane.{Lane}
-use Rattle.lane_core.proofs.PromiseLemmas.{spelled_cut, text_is}
-use Rattle.lane_core.proofs.RestLemmas as shared
+use Rattle.lane.specs.Direction.Carried.{EndIsOut}
+use Rattle.lane.specs.Direction.Promise.{BodyTaken, body_in}
+use Rattle.lane.specs.Direction.Sends.{Past, Stands, put_out}
+use Rattle.lane.specs.Direction.Sent.{Sent, Cut, SpellsAs, message_of}
+use Rattle.lane.specs.declared.direction.stage.Stage.TheVariants as stage
+use Rattle.lane.specs.declared.direction.stage.Source.{Source}
+use Rattle.lane.specs.declared.direction.stage.Source.TheVariants as source
+use Rattle.lane.specs.declared.direction.lane.Lane.{Lane}
+use Rattle.lane.proofs.DirectionLemmas.PromiseLemmas.{spelled_cut, text_is}
+use Rattle.lane.proofs.DirectionLemmas.RestLemmas as shared
 use Rattle.lane.specs.Answering.{Exchange, Last, Serves, Answers, AnswersLast, IsLast, HasBegun, HoldsNothingBack, Rests, phase_of, source_of, stage_of, has_begun, limits_of, ended_of}
 use Rattle.lane.specs.Resting.{FollowsHead, IsAllServed, ServesUncut, served}
 use Rattle.lane.specs.declared.phase.Phase.TheVariants as phase

@@ -4,11 +4,11 @@ use Rattle.htx_model.specs.Blocks.{flow}
 use Rattle.http_model.specs.Head.{Head, front_blocks}
 use Rattle.body_filter.specs.declared.filter_spec.FilterSpec.{FilterSpec}
 use Rattle.h1_write.specs.Spelled.{is_done}
-use Rattle.lane_core.specs.Filtering.{AreThese}
-use Rattle.lane_core.specs.Sends.{Stands, IsSound, said}
-use Rattle.lane_core.specs.Shown.{Goes}
-use Rattle.lane_core.specs.declared.stage.Stage.TheVariants as stage
-use Rattle.lane_core.specs.declared.lane.Lane.{Lane}
+use Rattle.lane.specs.Direction.Filtering.{AreThese}
+use Rattle.lane.specs.Direction.Sends.{Stands, IsSound, said}
+use Rattle.lane.specs.Direction.Shown.{Goes}
+use Rattle.lane.specs.declared.direction.stage.Stage.TheVariants as stage
+use Rattle.lane.specs.declared.direction.lane.Lane.{Lane}
 use Rattle.lane.specs.Answering.{Exchange, Answers, IsSoundAnswer, with_put}
 use Rattle.lane.specs.declared.phase.Phase.TheVariants as phase
 use Rattle.lane.specs.declared.response_lane.ResponseLane.{ResponseLane}

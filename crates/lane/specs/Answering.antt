@@ -21,17 +21,17 @@ use Rattle.h1_head.specs.Response.{ResponseOf}
 use Rattle.h1_head.specs.Sides.{kind_of}
 use Rattle.h1_head.specs.Stream.{behind}
 use Rattle.h1_head.specs.Decides.{OnEachStream, MayWait}
-use Rattle.lane_core.specs.Filtering.{AreThese}
-use Rattle.lane_core.specs.Promise.{Promise}
-use Rattle.lane_core.specs.Sends.{Past, Stands, IsSound, IsReading, IsAtRest, RestsFor, put_out, GoesOn}
-use Rattle.lane_core.specs.Shown.{Shows}
-use Rattle.lane_core.specs.declared.stage.LaneHead.{LaneHead}
-use Rattle.lane_core.specs.declared.stage.LaneHead.TheVariants as says
-use Rattle.lane_core.specs.declared.stage.Stage.TheVariants as stage
-use Rattle.lane_core.specs.declared.stage.Stage.{Stage}
-use Rattle.lane_core.specs.declared.stage.Source.{Source}
-use Rattle.lane_core.specs.declared.stage.Source.TheVariants as source
-use Rattle.lane_core.specs.declared.lane.Lane.{Lane}
+use Rattle.lane.specs.Direction.Filtering.{AreThese}
+use Rattle.lane.specs.Direction.Promise.{Promise}
+use Rattle.lane.specs.Direction.Sends.{Past, Stands, IsSound, IsReading, IsAtRest, RestsFor, put_out, GoesOn}
+use Rattle.lane.specs.Direction.Shown.{Shows}
+use Rattle.lane.specs.declared.direction.stage.LaneHead.{LaneHead}
+use Rattle.lane.specs.declared.direction.stage.LaneHead.TheVariants as says
+use Rattle.lane.specs.declared.direction.stage.Stage.TheVariants as stage
+use Rattle.lane.specs.declared.direction.stage.Stage.{Stage}
+use Rattle.lane.specs.declared.direction.stage.Source.{Source}
+use Rattle.lane.specs.declared.direction.stage.Source.TheVariants as source
+use Rattle.lane.specs.declared.direction.lane.Lane.{Lane}
 use Rattle.lane.specs.declared.phase.Phase.{Phase}
 use Rattle.lane.specs.declared.phase.Phase.TheVariants as phase
 use Rattle.lane.specs.declared.response_lane.ResponseLane.{ResponseLane}

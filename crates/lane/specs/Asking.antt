@@ -8,13 +8,13 @@ use Rattle.htx_arena.specs.Layout.Contents.{Contents}
 use Rattle.htx_model.specs.Block.{Block}
 use Rattle.h1_head.specs.declared.answer.Side.TheVariants as side
 use Rattle.body_filter.specs.declared.filter_spec.FilterSpec.{FilterSpec}
-use Rattle.lane_core.specs.Filtering.{AreThese}
-use Rattle.lane_core.specs.Heads.{HeadTells}
-use Rattle.lane_core.specs.Promise.{Promise}
-use Rattle.lane_core.specs.Sends.{Past, Stands, IsSound, IsReady, IsReading, IsAtRest, RestsFor, GoesOn, begun}
-use Rattle.lane_core.specs.declared.stage.LaneHead.{LaneHead}
-use Rattle.lane_core.specs.declared.stage.Stage.{Stage}
-use Rattle.lane_core.specs.declared.stage.Source.{Source}
+use Rattle.lane.specs.Direction.Filtering.{AreThese}
+use Rattle.lane.specs.Direction.Heads.{HeadTells}
+use Rattle.lane.specs.Direction.Promise.{Promise}
+use Rattle.lane.specs.Direction.Sends.{Past, Stands, IsSound, IsReady, IsReading, IsAtRest, RestsFor, GoesOn, begun}
+use Rattle.lane.specs.declared.direction.stage.LaneHead.{LaneHead}
+use Rattle.lane.specs.declared.direction.stage.Stage.{Stage}
+use Rattle.lane.specs.declared.direction.stage.Source.{Source}
 use Rattle.lane.specs.declared.request_lane.RequestLane.{RequestLane}
 
 -- ---- what is seen of it

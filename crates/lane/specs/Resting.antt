@@ -7,8 +7,8 @@ use Rattle.h1_body.specs.BodyOf.{BodyRead, More, IsBodyOf}
 use Rattle.body_filter.specs.declared.filter_spec.FilterSpec.{FilterSpec}
 use Rattle.body_filter.specs.declared.filter_spec.FedState.TheVariants.{Going}
 use Rattle.body_filter.specs.Filter.{filtered}
-use Rattle.lane_core.specs.Promise.{InSection, body_in}
-use Rattle.lane_core.specs.Sent.{Sent, Cut, SpellsAs}
+use Rattle.lane.specs.Direction.Promise.{InSection, body_in}
+use Rattle.lane.specs.Direction.Sent.{Sent, Cut, SpellsAs}
 use Rattle.lane.specs.Answering.{Exchange, HeadsCame, Reads, interim_text, limits_of, ended_of}
 use Rattle.lane.specs.declared.response_lane.ResponseLane.{ResponseLane}
 

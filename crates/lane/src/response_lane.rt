@@ -10,13 +10,14 @@ ghost use Rattle.body_filter.specs.declared.filter_spec.FilterSpec.{FilterSpec};
 ghost use Rattle.http_model.specs.Head.{front_blocks};
 ghost use Rattle.lane.specs.Answering.{Exchange, Answers, HeadComes, HeadStands, is_interim, IsOpen, with_bytes, passes, drops, serves, replies, fresh, IsSoundAnswer, HasFilters, shows_head, shows_last, stage_of, source_of, input_of, came_in, most_of, ended_of, output_of, window_of, limits_of, array_of, blocks_of, has_begun, phase_of};
 ghost use Rattle.lane.specs.declared.phase.Phase.TheVariants as phase;
-ghost use Rattle.lane_core.specs.declared.stage.LaneHead.TheVariants as says;
-ghost use Rattle.lane_core.specs.declared.stage.Stage.TheVariants as stage;
-ghost use Rattle.lane_core.specs.declared.stage.Source.TheVariants as source;
+ghost use Rattle.lane.specs.declared.direction.stage.LaneHead.TheVariants as says;
+ghost use Rattle.lane.specs.declared.direction.stage.Stage.TheVariants as stage;
+ghost use Rattle.lane.specs.declared.direction.stage.Source.TheVariants as source;
 
 mod stepping;
 mod views;
 
+use crate::direction::{Lane, LaneHead, Source, Stage};
 use crate::phase::Phase;
 use body_filter::FilterSpec;
 use h1_head::Side;
@@ -24,7 +25,6 @@ use header_ops::laws::edits_of_heads;
 use http_model::{Ending, Framing, Limits};
 use htx_arena::Arena;
 use htx_model::OutOfMemory;
-use lane_core::{Lane, LaneHead, Source, Stage};
 use std::alloc::Global;
 
 /// The direction in which a client is answered.

@@ -13,9 +13,9 @@ use Rattle.session_core.specs.Sided.{Perhaps}
 use Rattle.h1_body.specs.Body.{BodyAt, Left, UntilClose, InLine, InData, AtReturn, AtFeed, InSection, Over, Hopeless}
 use Rattle.h1_body.specs.BodyOf.{BodyRead, Reads, More, IsBodyOf, BodyOf, Tells}
 use Rattle.h1_body.specs.Section.{section_limit}
-use Rattle.lane_core.specs.Sends.{Past}
-use Rattle.lane_core.specs.Promise.{OnEachBody, GoesOnWith}
-use Rattle.lane_core.specs.declared.lane.Lane.{Lane}
+use Rattle.lane.specs.Direction.Sends.{Past}
+use Rattle.lane.specs.Direction.Promise.{OnEachBody, GoesOnWith}
+use Rattle.lane.specs.declared.direction.lane.Lane.{Lane}
 use Rattle.request_side.proofs.Messages.{reading_in}
 
 -- ---- how streams go on

@@ -15,9 +15,9 @@ use Rattle.http_rules.specs.declared.config.Config.{Config}
 use Rattle.proxy_meaning.specs.Product.{meaning_of}
 use Rattle.h1_head.specs.Stream.{behind}
 use Rattle.h1_body.specs.BodyOf.{BodyRead}
-use Rattle.lane_core.specs.Sent.{IsFrontOf}
-use Rattle.lane_core.specs.Sends.{Past, put_out}
-use Rattle.lane_core.specs.Promise.{Promise, OnEachBody, body_sent, finish_of}
+use Rattle.lane.specs.Direction.Sent.{IsFrontOf}
+use Rattle.lane.specs.Direction.Sends.{Past, put_out}
+use Rattle.lane.specs.Direction.Promise.{Promise, OnEachBody, body_sent, finish_of}
 use Rattle.lane.specs.Asking.{input_of, ended_of, output_of, is_dropping, limits_of, HasFilters, Sends}
 use Rattle.lane.specs.declared.request_lane.RequestLane.{RequestLane}
 use Rattle.request_side.specs.declared.place.Place.{Place}

@@ -19,13 +19,13 @@ use Rattle.http_rules.specs.declared.config.Config.{Config}
 use Rattle.proxy_meaning.specs.Product.{meaning_of}
 use Rattle.body_filter.specs.declared.filter_spec.FilterSpec.{FilterSpec}
 use Rattle.h1_body.specs.BodyOf.{BodyRead, Reads, IsBodyOf, BodyOf}
-use Rattle.lane_core.specs.Sent.{Sent, IsFrontOf, SpellsAs}
-use Rattle.lane_core.specs.Sends.{Past, put_out}
-use Rattle.lane_core.specs.Promise.{Promise, BodyTaken, body_sent, finish_of, filter_of, IsCutWith, IsWholeWith}
-use Rattle.lane_core.specs.declared.stage.Stage.{Stage}
-use Rattle.lane_core.specs.declared.stage.Stage.TheVariants as stage
-use Rattle.lane_core.specs.declared.stage.Source.{Source as LaneSource}
-use Rattle.lane_core.specs.declared.stage.Source.TheVariants as came
+use Rattle.lane.specs.Direction.Sent.{Sent, IsFrontOf, SpellsAs}
+use Rattle.lane.specs.Direction.Sends.{Past, put_out}
+use Rattle.lane.specs.Direction.Promise.{Promise, BodyTaken, body_sent, finish_of, filter_of, IsCutWith, IsWholeWith}
+use Rattle.lane.specs.declared.direction.stage.Stage.{Stage}
+use Rattle.lane.specs.declared.direction.stage.Stage.TheVariants as stage
+use Rattle.lane.specs.declared.direction.stage.Source.{Source as LaneSource}
+use Rattle.lane.specs.declared.direction.stage.Source.TheVariants as came
 use Rattle.lane.specs.Asking.{stage_of, source_of, input_of, ended_of, is_dropping}
 use Rattle.lane.specs.Asking as asking
 use Rattle.lane.specs.declared.request_lane.RequestLane.{RequestLane}

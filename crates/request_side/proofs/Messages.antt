@@ -18,8 +18,8 @@ use Rattle.body_filter.specs.declared.filter_spec.FilterSpec.{FilterSpec}
 use Rattle.body_filter.specs.declared.filter_spec.FedState.{FedState}
 use Rattle.body_filter.specs.declared.filter_spec.FedState.TheVariants as state
 use Rattle.body_filter.specs.Filter.{filtered}
-use Rattle.lane_core.specs.Sent.{message_of, is_whole, trailers_in}
-use Rattle.lane_core.specs.Promise.{filter_of, finish_of, ends_as, IsCutWith, IsWholeWith}
+use Rattle.lane.specs.Direction.Sent.{message_of, is_whole, trailers_in}
+use Rattle.lane.specs.Direction.Promise.{filter_of, finish_of, ends_as, IsCutWith, IsWholeWith}
 use Rattle.request_side.specs.Stands.{message_to}
 use Rattle.request_side.proofs.Filters.{IsEnd, whole_ends}
 

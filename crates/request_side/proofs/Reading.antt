@@ -17,10 +17,10 @@ use Rattle.h1_head.specs.Request.{RequestOf}
 use Rattle.httparse.specs.Grammar.{RequestHead, print_request, print_blank}
 use Rattle.httparse.proofs.GrammarLemmas.{print_request-append}
 use Rattle.h1_head.specs.Stream.{behind, BeginsWith, HasNoHead, HeadOf}
-use Rattle.lane_core.specs.Promise.{GoesOnWith}
+use Rattle.lane.specs.Direction.Promise.{GoesOnWith}
 use Rattle.h1_head.specs.Decides.{OnEachStream}
 use Rattle.h1_head.specs.declared.answer.Side.TheVariants as side
-use Rattle.lane_core.specs.Heads.{HasHead as LaneHas, Waits, IsEnd}
+use Rattle.lane.specs.Direction.Heads.{HasHead as LaneHas, Waits, IsEnd}
 use Rattle.lane.specs.Asking.{input_of, ended_of, limits_of, output_of, MayRead}
 use Rattle.lane.specs.declared.request_lane.RequestLane.{RequestLane}
 use Rattle.request_side.specs.declared.place.Place.{Place}

@@ -20,15 +20,15 @@ use Rattle.h1_head.specs.Numbers.{most_lines}
 use Rattle.h1_head.specs.Stream.{behind, HasNone}
 use Rattle.h1_body.specs.BodyOf.{BodyRead, More, IsBodyOf}
 use Rattle.h1_body.specs.Section.{section_limit}
-use Rattle.lane_core.specs.Sent.{Sent, Cut, SpellsAs}
-use Rattle.lane_core.specs.Sends.{Past, put_out}
-use Rattle.lane_core.specs.Heads.{Waits}
-use Rattle.lane_core.specs.Promise.{BodyTaken, InSection, body_in, sent_so_far}
-use Rattle.lane_core.specs.Promise as lanes
-use Rattle.lane_core.specs.declared.stage.Stage.{Stage}
-use Rattle.lane_core.specs.declared.stage.Stage.TheVariants as stage
-use Rattle.lane_core.specs.declared.stage.Source.{Source as LaneSource}
-use Rattle.lane_core.specs.declared.stage.Source.TheVariants as came
+use Rattle.lane.specs.Direction.Sent.{Sent, Cut, SpellsAs}
+use Rattle.lane.specs.Direction.Sends.{Past, put_out}
+use Rattle.lane.specs.Direction.Heads.{Waits}
+use Rattle.lane.specs.Direction.Promise.{BodyTaken, InSection, body_in, sent_so_far}
+use Rattle.lane.specs.Direction.Promise as lanes
+use Rattle.lane.specs.declared.direction.stage.Stage.{Stage}
+use Rattle.lane.specs.declared.direction.stage.Stage.TheVariants as stage
+use Rattle.lane.specs.declared.direction.stage.Source.{Source as LaneSource}
+use Rattle.lane.specs.declared.direction.stage.Source.TheVariants as came
 use Rattle.lane.specs.Asking.{stage_of, source_of, input_of, ended_of, output_of, is_dropping, limits_of, Sends, Rests, HoldsNothingBack}
 use Rattle.lane.specs.declared.request_lane.RequestLane.{RequestLane}
 use Rattle.request_side.specs.declared.place.Place.{Place}

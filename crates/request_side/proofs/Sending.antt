@@ -17,9 +17,9 @@ use Rattle.px_sample.specs.Variables.{Variables}
 use Rattle.http_rules.specs.declared.config.Config.{Config}
 use Rattle.proxy_meaning.specs.Product.{meaning_of, replaces}
 use Rattle.body_filter.specs.declared.filter_spec.FilterSpec.{FilterSpec}
-use Rattle.lane_core.specs.Sent.{Sent}
-use Rattle.lane_core.specs.Sends.{Past}
-use Rattle.lane_core.specs.declared.stage.Stage.TheVariants as stage
+use Rattle.lane.specs.Direction.Sent.{Sent}
+use Rattle.lane.specs.Direction.Sends.{Past}
+use Rattle.lane.specs.declared.direction.stage.Stage.TheVariants as stage
 use Rattle.lane.specs.Asking.{stage_of, input_of, output_of, is_dropping, blocks_of, framing_of, HasFilters, IsWell, Sends, begins}
 use Rattle.lane.specs.declared.request_lane.RequestLane.{RequestLane}
 use Rattle.request_side.specs.Stands.{IsFor, GoesSoundly, GoesOut, HasPut, IsReplied, coming}

@@ -9,11 +9,11 @@ use Rattle.session_core.specs.declared.Source.{Source}
 use Rattle.session_core.specs.declared.Source.TheVariants as source
 use Rattle.px_sample.specs.Variables.{Variables}
 use Rattle.http_rules.specs.declared.config.Config.{Config}
-use Rattle.lane_core.specs.Sends.{Past}
-use Rattle.lane_core.specs.declared.stage.Stage.{Stage}
-use Rattle.lane_core.specs.declared.stage.Stage.TheVariants as stage
-use Rattle.lane_core.specs.declared.stage.Source.{Source as LaneSource}
-use Rattle.lane_core.specs.declared.stage.Source.TheVariants as came
+use Rattle.lane.specs.Direction.Sends.{Past}
+use Rattle.lane.specs.declared.direction.stage.Stage.{Stage}
+use Rattle.lane.specs.declared.direction.stage.Stage.TheVariants as stage
+use Rattle.lane.specs.declared.direction.stage.Source.{Source as LaneSource}
+use Rattle.lane.specs.declared.direction.stage.Source.TheVariants as came
 use Rattle.lane.specs.Asking.{stage_of, source_of, input_of, most_of, ended_of, output_of, is_dropping, Sends, MayGoOn}
 use Rattle.lane.specs.declared.request_lane.RequestLane.{RequestLane}
 use Rattle.request_side.specs.declared.place.Place.{Place}

@@ -17,9 +17,9 @@ use Rattle.http_rules.specs.declared.config.Config.{Config}
 use Rattle.proxy_meaning.specs.Product.{meaning_of}
 use Rattle.body_filter.specs.declared.filter_spec.FilterSpec.{FilterSpec}
 use Rattle.h1_body.specs.BodyOf.{BodyRead, Reads, IsBodyOf}
-use Rattle.lane_core.specs.Sends.{Past}
-use Rattle.lane_core.specs.Promise.{Promise, HasBody, IsWholeWith}
-use Rattle.lane_core.specs.declared.stage.Source.TheVariants as came
+use Rattle.lane.specs.Direction.Sends.{Past}
+use Rattle.lane.specs.Direction.Promise.{Promise, HasBody, IsWholeWith}
+use Rattle.lane.specs.declared.direction.stage.Source.TheVariants as came
 use Rattle.lane.specs.Asking.{stage_of, source_of, input_of, ended_of, is_dropping}
 use Rattle.lane.specs.Asking as asking
 use Rattle.lane.specs.declared.request_lane.RequestLane.{RequestLane}

@@ -16,9 +16,9 @@ use Rattle.session_core.specs.Lanes.{HeadCame}
 use Rattle.px_sample.specs.Variables.{Variables}
 use Rattle.http_rules.specs.declared.config.Config.{Config}
 use Rattle.proxy_meaning.specs.Product.{meaning_of, replaces}
-use Rattle.lane_core.specs.declared.stage.LaneHead.{LaneHead}
-use Rattle.lane_core.specs.declared.stage.LaneHead.TheVariants as says
-use Rattle.lane_core.specs.declared.stage.Stage.TheVariants as stage
+use Rattle.lane.specs.declared.direction.stage.LaneHead.{LaneHead}
+use Rattle.lane.specs.declared.direction.stage.LaneHead.TheVariants as says
+use Rattle.lane.specs.declared.direction.stage.Stage.TheVariants as stage
 use Rattle.lane.specs.Asking.{stage_of, blocks_of, framing_of, declared_of, close_of, MaySend}
 use Rattle.request_side.specs.declared.place.Place.TheVariants as place
 use Rattle.request_side.specs.declared.side.RequestSide.{RequestSide}

@@ -2,7 +2,7 @@
 use Rattle.std.specs.Prelude.{◌≡◌, ◌⊎◌, [], true, false, None, ⊤}
 use Rattle.h1_head.specs.Decides.{MayWait}
 use Rattle.h1_head.specs.Kind.{request_heads}
-use Rattle.lane_core.specs.declared.stage.Source.TheVariants as came
+use Rattle.lane.specs.declared.direction.stage.Source.TheVariants as came
 use Rattle.lane.specs.Asking.{source_of, input_of, ended_of, output_of, is_dropping, limits_of, Rests, HoldsNothingBack}
 use Rattle.lane.specs.declared.request_lane.RequestLane.{RequestLane}
 use Rattle.request_side.specs.declared.place.Place.{Place}

@@ -5,10 +5,10 @@ use Rattle.htx_model.specs.Block.{Block}
 use Rattle.http_model.specs.declared.Limits.{Limits}
 use Rattle.lane.specs.Asking as lanes
 use Rattle.lane.specs.Asking.{stage_of, input_of, most_of, ended_of, output_of, is_dropping}
-use Rattle.lane_core.specs.declared.stage.Stage.{Stage}
-use Rattle.lane_core.specs.declared.stage.Stage.TheVariants as stage
-use Rattle.lane_core.specs.declared.stage.Source.{Source as LaneSource}
-use Rattle.lane_core.specs.declared.stage.Source.TheVariants as came
+use Rattle.lane.specs.declared.direction.stage.Stage.{Stage}
+use Rattle.lane.specs.declared.direction.stage.Stage.TheVariants as stage
+use Rattle.lane.specs.declared.direction.stage.Source.{Source as LaneSource}
+use Rattle.lane.specs.declared.direction.stage.Source.TheVariants as came
 use Rattle.session_core.specs.Sided.{RequestSeen}
 use Rattle.session_core.specs.declared.Source.{Source}
 use Rattle.session_core.specs.declared.Source.TheVariants as source

@@ -14,8 +14,8 @@ use Rattle.session_core.specs.Lanes.{HeadCame}
 use Rattle.px_sample.specs.Variables.{Variables}
 use Rattle.http_rules.specs.declared.config.Config.{Config}
 use Rattle.proxy_meaning.specs.Product.{meaning_of}
-use Rattle.lane_core.specs.Sent.{Cut, SpellsAs}
-use Rattle.lane_core.specs.Promise.{body_in}
+use Rattle.lane.specs.Direction.Sent.{Cut, SpellsAs}
+use Rattle.lane.specs.Direction.Promise.{body_in}
 use Rattle.request_side.specs.Stands.{message_to}
 
 -- the bytes so far behind the head come to this body, by how the head frames it

@@ -11,10 +11,10 @@ use Rattle.session_core.specs.Lanes.{HeadCame}
 use Rattle.px_sample.specs.Variables.{Variables}
 use Rattle.http_rules.specs.declared.config.Config.{Config}
 use Rattle.proxy_meaning.specs.Product.{meaning_of, replaces}
-use Rattle.lane_core.specs.Sent.{Sent, IsFrontOf}
-use Rattle.lane_core.specs.Sends.{Past}
-use Rattle.lane_core.specs.Promise.{OnEachBody, body_sent, finish_of}
-use Rattle.lane_core.specs.declared.stage.Stage.TheVariants as stage
+use Rattle.lane.specs.Direction.Sent.{Sent, IsFrontOf}
+use Rattle.lane.specs.Direction.Sends.{Past}
+use Rattle.lane.specs.Direction.Promise.{OnEachBody, body_sent, finish_of}
+use Rattle.lane.specs.declared.direction.stage.Stage.TheVariants as stage
 use Rattle.lane.specs.Asking.{stage_of, input_of, ended_of, output_of, is_dropping, limits_of, HasFilters, IsWell, MayRead, Sends}
 use Rattle.lane.specs.Answering.{SameLines}
 use Rattle.lane.specs.declared.request_lane.RequestLane.{RequestLane}

@@ -10,7 +10,7 @@ ghost use Rattle.session_core.specs.Sided.{Asking, Reply};
 ghost use Rattle.session_core.specs.Leads.{KeepsRequest};
 ghost use Rattle.session_core.specs.declared.Source.TheVariants as source;
 ghost use Rattle.lane.specs.Asking.{stage_of};
-ghost use Rattle.lane_core.specs.declared.stage.Stage.TheVariants as stage;
+ghost use Rattle.lane.specs.declared.direction.stage.Stage.TheVariants as stage;
 
 mod views;
 

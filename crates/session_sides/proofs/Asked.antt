@@ -9,7 +9,7 @@ use Rattle.session_core.specs.Sided.{Sided, RequestSeen, asker_in}
 use Rattle.session_core.specs.Leads.{AsksTo, AskUses}
 use Rattle.session_core.specs.declared.sides.Asked.{Asked}
 use Rattle.session_core.specs.declared.sides.Asked.TheVariants as asks
-use Rattle.lane_core.specs.declared.stage.LaneHead.TheVariants as says
+use Rattle.lane.specs.declared.direction.stage.LaneHead.TheVariants as says
 use Rattle.lane.specs.Asking.{input_of}
 use Rattle.request_side.specs.Reads.{HeadTells, HeadComes, UsesBytes}
 use Rattle.request_side.specs.Seen as requests

@@ -18,7 +18,7 @@ use Rattle.session_core.specs.declared.Source.TheVariants as source
 use Rattle.session_core.specs.declared.Told.TheVariants as told
 use Rattle.session_core.specs.declared.machine.At.{At}
 use Rattle.lane.specs.Answering.{source_of, has_begun}
-use Rattle.lane_core.specs.declared.stage.Source.{Source as LaneSource}
+use Rattle.lane.specs.declared.direction.stage.Source.{Source as LaneSource}
 use Rattle.request_side.specs.Shown.{ShowsNoCut, PutsAll, NoHeadCame}
 use Rattle.answer_side.specs.Resting.{AwaitsHead, PutsOutBody}
 use Rattle.answer_side.specs.Seen.{seen, told_at, place_of}

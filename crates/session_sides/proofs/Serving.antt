@@ -13,7 +13,7 @@ use Rattle.session_core.specs.Place as at
 use Rattle.session_core.specs.Sided.{Sided, asker_in}
 use Rattle.session_rules.specs.Ruling.{config_of, holds_pattern, IsReady}
 use Rattle.session_rules.specs.declared.rules.SessionRules.{SessionRules}
-use Rattle.lane_core.specs.declared.stage.Stage.{Stage}
+use Rattle.lane.specs.declared.direction.stage.Stage.{Stage}
 use Rattle.request_side.specs.Seen as requests
 use Rattle.request_side.specs.Stands.{IsSound, RequestStands, left_of}
 use Rattle.request_side.specs.Steps.{ReadsNext}

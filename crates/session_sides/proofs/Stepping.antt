@@ -11,9 +11,9 @@ use Rattle.session_core.specs.declared.Source.{Source}
 use Rattle.session_core.specs.declared.Source.TheVariants as source
 use Rattle.lane.specs.Asking.{stage_of, output_of, is_dropping}
 use Rattle.lane.specs.Asking as lanes
-use Rattle.lane_core.specs.Sends.{Past}
-use Rattle.lane_core.specs.declared.stage.Stage.{Stage}
-use Rattle.lane_core.specs.declared.stage.Source.{Source as LaneSource}
+use Rattle.lane.specs.Direction.Sends.{Past}
+use Rattle.lane.specs.declared.direction.stage.Stage.{Stage}
+use Rattle.lane.specs.declared.direction.stage.Source.{Source as LaneSource}
 use Rattle.lane.specs.declared.request_lane.RequestLane.{RequestLane}
 use Rattle.request_side.specs.Seen as requests
 use Rattle.request_side.specs.Seen.{source_at, sent_at, window_of}

@@ -11,7 +11,7 @@ use Rattle.std.specs.List.{refill}
 use Rattle.std.proofs.Math.Seq.{drop-length}
 use Rattle.std.proofs.lemmas.List.{take_all}
 use Rattle.circular_buffer.specs.Buffer.{buffer}
-use Rattle.lane_core.specs.declared.lane.Lane.{Lane}
+use Rattle.lane.specs.declared.direction.lane.Lane.{Lane}
 use Rattle.request_side.specs.declared.side.RequestSide.{RequestSide}
 use Rattle.request_side.specs.Seen.{window_of}
 use Rattle.answer_side.specs.declared.side.AnswerSide.{AnswerSide}

@@ -8,7 +8,7 @@ ghost use Rattle.session_core.specs.History.{Coming};
 ghost use Rattle.session_core.specs.Sided.{Asking};
 ghost use Rattle.session_model.specs.Meaning.{is_interim};
 ghost use Rattle.lane.specs.Answering.{stage_of, input_of, blocks_of};
-ghost use Rattle.lane_core.specs.declared.stage.Stage.TheVariants as stage;
+ghost use Rattle.lane.specs.declared.direction.stage.Stage.TheVariants as stage;
 ghost use Rattle.answer_side.specs.Seen.{seen, place_of, size_of};
 ghost use Rattle.answer_side.specs.Stands.{AnswerStands, IsSoundSide};
 ghost use Rattle.answer_side.specs.Hearing.{IsBetween, HasHead, StandsThere, Hears, IsRead};

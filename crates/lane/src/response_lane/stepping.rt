@@ -3,8 +3,8 @@ ghost use Rattle.std.specs.Prelude.{◌≡◌, ◌≤◌, [], length, true, fals
 ghost use Rattle.body_filter.specs.declared.filter_spec.FilterSpec.{FilterSpec};
 ghost use Rattle.lane.specs.Answering.{Exchange, Answers, PutsOut, IsSoundAnswer, IsAmongHeads, HoldsNothingBack, Rests, MayGoOn, HasFilters, shows_last, stage_of, source_of, input_of, ended_of, output_of, limits_of, has_begun, phase_of};
 ghost use Rattle.lane.specs.declared.phase.Phase.TheVariants as phase;
-ghost use Rattle.lane_core.specs.declared.stage.Source.TheVariants as source;
-ghost use Rattle.lane_core.specs.declared.stage.Stage.TheVariants as stage;
+ghost use Rattle.lane.specs.declared.direction.stage.Source.TheVariants as source;
+ghost use Rattle.lane.specs.declared.direction.stage.Stage.TheVariants as stage;
 
 use crate::phase::Phase;
 use crate::response_lane::ResponseLane;

@@ -4,7 +4,7 @@ use Rattle.wire_buf.specs.Buffer.{Buffer}
 use Rattle.http_rules.specs.Lives.{answering}
 use Rattle.session_core.specs.Sided.{asker_in}
 use Rattle.lane.specs.Answering.{fresh}
-use Rattle.lane_core.specs.declared.stage.Stage.TheVariants as stage
+use Rattle.lane.specs.declared.direction.stage.Stage.TheVariants as stage
 use Rattle.answer_side.specs.Stands.{StandsAt}
 use Rattle.answer_side.specs.declared.place.Place.{Place}
 use Rattle.answer_side.specs.declared.place.Place.TheVariants as place

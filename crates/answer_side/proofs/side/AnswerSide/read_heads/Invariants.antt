@@ -4,7 +4,7 @@ use Rattle.http_rules.specs.declared.config.Config.{Config}
 use Rattle.session_core.specs.History.{Coming}
 use Rattle.session_core.specs.Sided.{Asking}
 use Rattle.lane.specs.Answering.{stage_of, input_of}
-use Rattle.lane_core.specs.declared.stage.Stage.TheVariants as stage
+use Rattle.lane.specs.declared.direction.stage.Stage.TheVariants as stage
 use Rattle.answer_side.specs.Seen.{seen, size_of}
 use Rattle.answer_side.specs.Stands.{AnswerStands}
 use Rattle.answer_side.specs.Hearing.{IsBetween, Hears}

@@ -4,7 +4,7 @@ use Rattle.header_ops.specs.Headers.{without_framing}
 use Rattle.http_model.specs.Finish.{finish_interim}
 use Rattle.http_model.specs.Head.{head_blocks}
 use Rattle.lane.specs.Answering.{HeadsCame, passes}
-use Rattle.lane_core.specs.declared.lane.Lane.{Lane}
+use Rattle.lane.specs.declared.direction.lane.Lane.{Lane}
 use Rattle.lane.proofs.AnswerLemmas.{at_head, head_sound, came_behind, shows_first}
 use Rattle.lane.proofs.InterimLemmas.{came_same}
 use Rattle.lane.proofs.response_lane.ResponseLane.pass.Goals as goal

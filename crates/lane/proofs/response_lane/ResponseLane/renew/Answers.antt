@@ -1,6 +1,6 @@
 use Rattle.std.proofs.Common.{false, ap, ◌∙◌}
 use Rattle.h1_head.specs.declared.answer.Side.TheVariants.{Response}
-use Rattle.lane_core.specs.declared.lane.Lane.{Lane}
+use Rattle.lane.specs.declared.direction.lane.Lane.{Lane}
 use Rattle.lane.proofs.AnswerLemmas.{none_heads, sound_heads}
 use Rattle.lane.proofs.response_lane.ResponseLane.renew.Goals as goal
 

@@ -2,7 +2,7 @@ use Rattle.std.proofs.Common.{◌≡◌, List, ℕ, ◌++◌, sym, ap, ◌∙◌
 use Rattle.wire_buf.specs.Buffer.{Buffer}
 use Rattle.htx_model.specs.Blocks.{flow}
 use Rattle.lane.specs.Answering.{Exchange, Answers, AnswersAt, with_put}
-use Rattle.lane_core.specs.declared.lane.Lane.{Lane}
+use Rattle.lane.specs.declared.direction.lane.Lane.{Lane}
 use Rattle.lane.specs.declared.phase.Phase.{Phase}
 use Rattle.lane.specs.declared.phase.Phase.TheVariants as phase
 use Rattle.lane.proofs.AnswerLemmas.{made, at_turning, sound_turning, shows_more, put_twice}

@@ -1,6 +1,0 @@
-//! Filters over a body that comes in parts and goes into an array, where what they have not used is held.
-#![tactic(auto)]
-
-mod sieve;
-
-pub use sieve::{BodyEnd, Sieve, Sifted};

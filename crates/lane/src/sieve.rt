@@ -1,0 +1,5 @@
+//! Filters over a body that comes in parts and goes into an array, where what they have not used is held.
+
+mod sieve;
+
+pub use sieve::{BodyEnd, Sieve, Sifted};
