@@ -8,12 +8,12 @@ use Rattle.http_model.specs.declared.Why.{Why}
 use Rattle.http_model.specs.Head.{Head, Message, head_blocks, front_blocks, message_blocks, Field}
 use Rattle.http_model.specs.Reading.{Received}
 use Rattle.px_sample.specs.Variables.{Variables}
-use Rattle.rule_actions.specs.declared.side.Side.{Side}
+use Rattle.http_rules.specs.declared.action.side.Side.{Side}
 use Rattle.http_rules.specs.declared.config.Config.{Config}
 use Rattle.http_rules.specs.declared.verdict.Verdict.TheVariants as verdicts
 use Rattle.http_rules.specs.Lives.{answering}
 use Rattle.http_rules.specs.Run.{Leaves}
-use Rattle.rule_actions.specs.Outcome.{IsOn}
+use Rattle.http_rules.specs.Action.Outcome.{IsOn}
 use Rattle.http_rules.specs.Rules.{Comes}
 use Rattle.proxy_meaning.specs.Product.{meaning_of}
 use Rattle.session_rules.specs.Ruling.{AmendsHead, config_of}
@@ -33,7 +33,7 @@ use Rattle.answer_side.specs.declared.side.AnswerSide.{AnswerSide}
 use denote.Ref.{Bor}
 use Rattle.http_model.specs.declared.Framing.TheVariants as framing
 use Rattle.http_model.specs.Spelling.{SpellsBody}
-use Rattle.rule_actions.specs.declared.side.Side.TheVariants.{Answer}
+use Rattle.http_rules.specs.declared.action.side.Side.TheVariants.{Answer}
 use Rattle.http_rules.specs.declared.verdict.Verdict.{Verdict as Told}
 use Rattle.lane.specs.Answering.{blocks_of}
 use Rattle.answer_side.specs.Listed.{IsListed, IsSentAsItIs}

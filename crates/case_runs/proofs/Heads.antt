@@ -8,7 +8,7 @@ use Rattle.http_model.specs.declared.Limits.{Limits}
 use Rattle.h1_head.specs.Answers.{Keeps}
 use Rattle.h1_head.specs.Kind.{HeadKind}
 use Rattle.http_rules.specs.Run.{IsHead}
-use Rattle.rule_actions.specs.Outcome.{IsFront}
+use Rattle.http_rules.specs.Action.Outcome.{IsFront}
 
 -- what was read is a head
 pub kept_head : (K : HeadKind) (limits : Limits) (whole : Bool) (window : List ℕ) (blocks : List Block) (used : ℕ) (framing : Framing) (declared : Option ℕ) (close : Bool)

@@ -3,9 +3,9 @@ use Rattle.std.proofs.Common.{◌≡◌, ℕ, ◌+◌, ◌≤◌, List, [], ◌�
 use Rattle.std.specs.Prelude.{◌&&◌, ◌||◌, IfSome, is_some, unwrap_or}
 use Rattle.std.specs.List.{AllByRecursion}
 use Rattle.log_format.specs.declared.fmt.Fmt.{Fmt}
-use Rattle.rule_model.specs.declared.reply.Hdr.{Hdr}
-use Rattle.rule_model.specs.declared.reply.RedirectTo.TheVariants.{Location, Prefix, Scheme}
-use Rattle.rule_model.specs.Valid.{IsMadeName, IsCode, is_bodiless, is_redirect_code}
+use Rattle.http_rules.specs.declared.rule.reply.Hdr.{Hdr}
+use Rattle.http_rules.specs.declared.rule.reply.RedirectTo.TheVariants.{Location, Prefix, Scheme}
+use Rattle.http_rules.specs.Rule.Valid.{IsMadeName, IsCode, is_bodiless, is_redirect_code}
 use Rattle.cfg_action.specs.declared.redirect.RedirectOptions.{RedirectOptions}
 use Rattle.cfg_action.specs.declared.returns.ReturnOptions.{ReturnOptions}
 use Rattle.cfg_action.specs.Returns.{has_no_body}

@@ -12,7 +12,7 @@ use Rattle.px_sample.specs.declared.scope.Scope.{Scope}
 use Rattle.cfg_expr.specs.Fetches as fetches
 use Rattle.cfg_expr.specs.Fetches.{is_variable_name, is_dot, scope_of, variable_in, variable_at, variable_of}
 use Rattle.cfg_action.specs.Faults.{Read}
-use Rattle.rule_model.specs.Valid.{IsName, IsVariableName, is_variable_byte}
+use Rattle.http_rules.specs.Rule.Valid.{IsName, IsVariableName, is_variable_byte}
 
 lower_twice : (c : ℕ) → to_ascii_lowercase (to_ascii_lowercase c) ≡ to_ascii_lowercase c
 lower_twice c = grind (arith, nat_tests)

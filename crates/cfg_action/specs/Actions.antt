@@ -3,14 +3,14 @@ use Rattle.std.specs.Prelude.{ℕ, List, [], ◌∷◌, length, Bool, false, if�
 use Rattle.std.specs.Str.{bytes_eq}
 use Rattle.log_format.specs.declared.fmt.Fmt.{Fmt}
 use Rattle.px_pattern.specs.Pattern.{Pattern}
-use Rattle.rule_model.specs.declared.action.ActionName.{ActionName}
-use Rattle.rule_model.specs.declared.action.ActionName.TheVariants as names
-use Rattle.rule_model.specs.declared.action.Direction.{Direction}
-use Rattle.rule_model.specs.declared.action.DelBy.{DelBy}
-use Rattle.rule_model.specs.declared.action.DelBy.TheVariants.{Str, Beg, End, Sub, Reg}
-use Rattle.rule_model.specs.declared.action.Action.{Action}
-use Rattle.rule_model.specs.declared.action.Action.TheVariants as actions
-use Rattle.rule_model.specs.Actions.{takes_pattern, by_text, by_pattern}
+use Rattle.http_rules.specs.declared.rule.action.ActionName.{ActionName}
+use Rattle.http_rules.specs.declared.rule.action.ActionName.TheVariants as names
+use Rattle.http_rules.specs.declared.rule.action.Direction.{Direction}
+use Rattle.http_rules.specs.declared.rule.action.DelBy.{DelBy}
+use Rattle.http_rules.specs.declared.rule.action.DelBy.TheVariants.{Str, Beg, End, Sub, Reg}
+use Rattle.http_rules.specs.declared.rule.action.Action.{Action}
+use Rattle.http_rules.specs.declared.rule.action.Action.TheVariants as actions
+use Rattle.http_rules.specs.Rule.Actions.{takes_pattern, by_text, by_pattern}
 use Rattle.cfg_expr.specs.declared.side.Side.{Side}
 use Rattle.cfg_expr.specs.Reading.{Reading, plain, built, ◌>>=◌}
 use Rattle.cfg_expr.specs.Exprs.{expr_of}

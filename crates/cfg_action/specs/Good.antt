@@ -1,11 +1,11 @@
 -- Arguments of actions that a configuration may have, while they are read.
 use Rattle.std.specs.Prelude.{◌≡◌, true, false, not, ◌&&◌, IfSome, is_some}
 use Rattle.std.specs.List.{AllByRecursion}
-use Rattle.rule_model.specs.declared.action.ActionName.{ActionName}
-use Rattle.rule_model.specs.declared.action.ActionName.TheVariants as names
-use Rattle.rule_model.specs.declared.action.Action.{Action}
-use Rattle.rule_model.specs.Actions.{name_of}
-use Rattle.rule_model.specs.Valid.{IsGoodAction, IsMadeName, IsCode, is_redirect_code, may_drop_query, may_append_slash}
+use Rattle.http_rules.specs.declared.rule.action.ActionName.{ActionName}
+use Rattle.http_rules.specs.declared.rule.action.ActionName.TheVariants as names
+use Rattle.http_rules.specs.declared.rule.action.Action.{Action}
+use Rattle.http_rules.specs.Rule.Actions.{name_of}
+use Rattle.http_rules.specs.Rule.Valid.{IsGoodAction, IsMadeName, IsCode, is_redirect_code, may_drop_query, may_append_slash}
 use Rattle.cfg_action.specs.declared.redirect.RedirectOptions.{RedirectOptions}
 use Rattle.cfg_action.specs.declared.returns.ReturnOptions.{ReturnOptions}
 use Rattle.cfg_action.specs.declared.parts.ActionParts.{ActionParts}

@@ -2,11 +2,11 @@
 use Rattle.std.specs.Prelude.{ℕ, List, [], ◌∷◌, ◌++◌, Bool, ◌||◌, nat_eq, if◌then◌else◌, Option, Some, None, Ok, Err, codes}
 use Rattle.std.specs.List.{starts_with}
 use Rattle.std.specs.Str.{bytes_eq}
-use Rattle.rule_model.specs.declared.action.ActionName.{ActionName}
-use Rattle.rule_model.specs.declared.action.ActionName.TheVariants as names
-use Rattle.rule_model.specs.declared.action.Direction.{Direction}
-use Rattle.rule_model.specs.declared.action.Direction.TheVariants as directions
-use Rattle.rule_model.specs.Actions.{stands_in}
+use Rattle.http_rules.specs.declared.rule.action.ActionName.{ActionName}
+use Rattle.http_rules.specs.declared.rule.action.ActionName.TheVariants as names
+use Rattle.http_rules.specs.declared.rule.action.Direction.{Direction}
+use Rattle.http_rules.specs.declared.rule.action.Direction.TheVariants as directions
+use Rattle.http_rules.specs.Rule.Actions.{stands_in}
 use Rattle.cfg_expr.specs.declared.side.Side.{Side}
 use Rattle.cfg_expr.specs.declared.side.Side.TheVariants as sides
 use Rattle.cfg_action.specs.declared.fault.RuleKind.TheVariants.{Keyword}

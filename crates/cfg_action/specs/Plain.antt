@@ -1,11 +1,11 @@
 -- Actions without formats and patterns (Configuration Manual, section 4.2).
 use Rattle.std.specs.Prelude.{ℕ, List, [], ◌∷◌, Bool, true, false, ◌||◌, if◌then◌else◌, Some, None, Ok, Err, codes}
 use Rattle.std.specs.Str.{bytes_eq}
-use Rattle.rule_model.specs.declared.action.Direction.{Direction}
-use Rattle.rule_model.specs.declared.action.Direction.TheVariants as directions
-use Rattle.rule_model.specs.declared.action.Action.{Action}
-use Rattle.rule_model.specs.declared.action.Action.TheVariants.{Deny, SetStatus, UnsetVar, StrictMode}
-use Rattle.rule_model.specs.Valid.{is_bodiless}
+use Rattle.http_rules.specs.declared.rule.action.Direction.{Direction}
+use Rattle.http_rules.specs.declared.rule.action.Direction.TheVariants as directions
+use Rattle.http_rules.specs.declared.rule.action.Action.{Action}
+use Rattle.http_rules.specs.declared.rule.action.Action.TheVariants.{Deny, SetStatus, UnsetVar, StrictMode}
+use Rattle.http_rules.specs.Rule.Valid.{is_bodiless}
 use Rattle.cfg_expr.specs.Steps.{◌>>=◌}
 use Rattle.cfg_action.specs.declared.fault.RuleKind.TheVariants.{Argument}
 use Rattle.cfg_action.specs.Faults.{Read, argument}

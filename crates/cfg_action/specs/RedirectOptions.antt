@@ -1,8 +1,8 @@
 -- The options of `redirect`, in any order, up to a word that is none.
 use Rattle.std.specs.Prelude.{ℕ, zero, suc, List, [], ◌∷◌, Bool, false, ◌||◌, Option, Some, None, Ok, Err}
 use Rattle.log_format.specs.declared.fmt.Fmt.{Fmt}
-use Rattle.rule_model.specs.declared.reply.RedirectTo.{RedirectTo}
-use Rattle.rule_model.specs.declared.reply.RedirectTo.TheVariants.{Location, Prefix, Scheme}
+use Rattle.http_rules.specs.declared.rule.reply.RedirectTo.{RedirectTo}
+use Rattle.http_rules.specs.declared.rule.reply.RedirectTo.TheVariants.{Location, Prefix, Scheme}
 use Rattle.cfg_expr.specs.declared.side.Side.{Side}
 use Rattle.cfg_expr.specs.Reading.{Reading, plain, ◌>>=◌}
 use Rattle.cfg_action.specs.declared.redirect.RedirectOptions.{RedirectOptions}

@@ -1,10 +1,10 @@
 -- The options of `redirect`, but for its location (Configuration Manual, section 4.2).
 use Rattle.std.specs.Prelude.{ℕ, List, Bool, true, false, ◌||◌, if◌then◌else◌, Option, Some, None, is_some, unwrap_or, Ok, Err, codes}
 use Rattle.std.specs.Str.{bytes_eq}
-use Rattle.rule_model.specs.declared.reply.RedirectTo.{RedirectTo}
-use Rattle.rule_model.specs.declared.action.Action.{Action}
-use Rattle.rule_model.specs.declared.action.Action.TheVariants.{Redirect}
-use Rattle.rule_model.specs.Valid.{is_redirect_code, may_drop_query, may_append_slash}
+use Rattle.http_rules.specs.declared.rule.reply.RedirectTo.{RedirectTo}
+use Rattle.http_rules.specs.declared.rule.action.Action.{Action}
+use Rattle.http_rules.specs.declared.rule.action.Action.TheVariants.{Redirect}
+use Rattle.http_rules.specs.Rule.Valid.{is_redirect_code, may_drop_query, may_append_slash}
 use Rattle.px_bytes.specs.Numbers.{decimal_of}
 use Rattle.cfg_expr.specs.Steps.{◌>>=◌}
 use Rattle.cfg_action.specs.declared.fault.RuleKind.TheVariants.{Argument}

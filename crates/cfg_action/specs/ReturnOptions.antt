@@ -1,7 +1,7 @@
 -- The options of `return`, in any order, up to a word that is none.
 use Rattle.std.specs.Prelude.{ℕ, zero, suc, List, [], ◌∷◌, ◌++◌, Option, Some, None, Ok, Err}
-use Rattle.rule_model.specs.declared.reply.Hdr.{Hdr}
-use Rattle.rule_model.specs.declared.reply.Payload.TheVariants as payloads
+use Rattle.http_rules.specs.declared.rule.reply.Hdr.{Hdr}
+use Rattle.http_rules.specs.declared.rule.reply.Payload.TheVariants as payloads
 use Rattle.cfg_expr.specs.declared.side.Side.{Side}
 use Rattle.cfg_expr.specs.Reading.{Reading, plain, ◌>>=◌}
 use Rattle.cfg_action.specs.declared.returns.ReturnOptions.{ReturnOptions}

@@ -1,11 +1,11 @@
 -- The options of `return`, but for those with formats (Configuration Manual, section 4.2).
 use Rattle.std.specs.Prelude.{ℕ, List, [], Bool, false, not, ◌||◌, ◌&&◌, if◌then◌else◌, Option, Some, None, is_some, unwrap_or, Ok, Err, codes}
 use Rattle.std.specs.Str.{bytes_eq}
-use Rattle.rule_model.specs.declared.reply.Payload.{Payload}
-use Rattle.rule_model.specs.declared.reply.Payload.TheVariants as payloads
-use Rattle.rule_model.specs.declared.action.Action.{Action}
-use Rattle.rule_model.specs.declared.action.Action.TheVariants.{Return}
-use Rattle.rule_model.specs.Valid.{is_bodiless}
+use Rattle.http_rules.specs.declared.rule.reply.Payload.{Payload}
+use Rattle.http_rules.specs.declared.rule.reply.Payload.TheVariants as payloads
+use Rattle.http_rules.specs.declared.rule.action.Action.{Action}
+use Rattle.http_rules.specs.declared.rule.action.Action.TheVariants.{Return}
+use Rattle.http_rules.specs.Rule.Valid.{is_bodiless}
 use Rattle.cfg_expr.specs.Steps.{◌>>=◌}
 use Rattle.cfg_action.specs.declared.fault.RuleKind.TheVariants.{Argument}
 use Rattle.cfg_action.specs.declared.returns.ReturnOptions.{ReturnOptions}

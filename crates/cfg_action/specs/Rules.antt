@@ -1,14 +1,14 @@
 -- A rule: an action, and a condition or none.
 use Rattle.std.specs.Prelude.{ℕ, List, Option, Ok}
 use Rattle.acl_eval.specs.declared.condition.Cond.{Cond}
-use Rattle.rule_model.specs.declared.action.Direction.{Direction}
-use Rattle.rule_model.specs.declared.rule.Rule.{Rule}
+use Rattle.http_rules.specs.declared.rule.action.Direction.{Direction}
+use Rattle.http_rules.specs.declared.rule.rule.Rule.{Rule}
 use Rattle.cfg_acl.specs.declared.written.AclLine.{AclLine}
 use Rattle.cfg_acl.specs.Conditions.{rule_end}
 use Rattle.cfg_expr.specs.Reading.{Reading, plain, ◌>>=◌}
 use Rattle.cfg_action.specs.declared.parts.ActionParts.{ActionParts}
 use Rattle.cfg_action.specs.Faults.{RuleReading, of_text, argument}
-use Rattle.rule_model.specs.Actions.{action_named}
+use Rattle.http_rules.specs.Rule.Actions.{action_named}
 use Rattle.cfg_action.specs.Names.{placed, side_of}
 use Rattle.cfg_action.specs.Arguments.{Words}
 use Rattle.cfg_action.specs.Actions.{action_parts, made_of}

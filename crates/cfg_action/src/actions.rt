@@ -1,6 +1,6 @@
 //! One action and its arguments.
 ghost use Rattle.std.specs.Prelude.{IfOk};
-ghost use Rattle.rule_model.specs.declared.action.ActionName.TheVariants as names;
+ghost use Rattle.http_rules.specs.declared.rule.action.ActionName.TheVariants as names;
 ghost use Rattle.cfg_action.specs.Faults.{ReadsRule};
 ghost use Rattle.cfg_action.specs.Good.{IsNamed, AreGoodParts};
 ghost use Rattle.cfg_action.specs.Actions.{variable_set, redirect_parts, return_parts, whole_action, action_parts};
@@ -17,8 +17,8 @@ use crate::returns::{ReturnOptions, return_options};
 use crate::texts::expression;
 use cfg_acl::WordsLeft;
 use cfg_expr::Side;
+use http_rules::rule::{Action, ActionName, Direction, HdrList};
 use px_pattern::Patterns;
-use rule_model::{Action, ActionName, Direction, HdrList};
 use std::alloc::Global;
 
 /// `set-var(SCOPE.NAME)` and its expression.

@@ -2,7 +2,7 @@
 ghost use Rattle.std.specs.Prelude.{◌≡◌, option_map, IfOk, Ok};
 ghost use Rattle.std.specs.List.{list_any};
 ghost use Rattle.std.specs.Str.{bytes_eq, str_to_ascii_lowercase};
-ghost use Rattle.rule_model.specs.Valid.{IsName, IsMadeName, IsCode, IsVariableName};
+ghost use Rattle.http_rules.specs.Rule.Valid.{IsName, IsMadeName, IsCode, IsVariableName};
 ghost use Rattle.cfg_action.specs.Faults.{Gives, ReadsRule, argument};
 ghost use Rattle.cfg_action.specs.Arguments.{name_of, made_name, made_name_at, is_name, is_framing, code_of, variable_behind, bracketed};
 ghost use Rattle.cfg_action.specs.Asked.{format_at, pattern_at};
@@ -12,9 +12,9 @@ use crate::texts::{format, pattern};
 use cfg_acl::WordsLeft;
 use cfg_expr::{Side, variable_of};
 use http_model::{FRAMING_NAMES, MAX_NAME};
+use http_rules::rule::{Fmt, Scope, Text};
 use px_bytes::{fold, is_token, read_decimal};
 use px_pattern::{Pat, Patterns};
-use rule_model::{Fmt, Scope, Text};
 use std::alloc::Global;
 
 /// The most digits of a number.

@@ -1,7 +1,7 @@
 //! The codes of redirects.
 ghost use Rattle.std.specs.Prelude.{◌≡◌, true, IfOk};
 ghost use Rattle.px_bytes.specs.Numbers.{decimal_of};
-ghost use Rattle.rule_model.specs.Valid.{is_redirect_code};
+ghost use Rattle.http_rules.specs.Rule.Valid.{is_redirect_code};
 ghost use Rattle.cfg_action.specs.Faults.{Gives};
 ghost use Rattle.cfg_action.specs.Arguments.{most_digits};
 ghost use Rattle.cfg_action.specs.Redirects.{as_redirect_code, written_code};

@@ -1,8 +1,8 @@
 //! Actions on fields.
 ghost use Rattle.std.specs.Prelude.{◌≡◌, IfOk};
-ghost use Rattle.rule_model.specs.declared.action.Action.TheVariants as actions;
-ghost use Rattle.rule_model.specs.declared.action.ActionName.TheVariants as names;
-ghost use Rattle.rule_model.specs.Valid.{IsMadeName, IsGoodDel};
+ghost use Rattle.http_rules.specs.declared.rule.action.Action.TheVariants as actions;
+ghost use Rattle.http_rules.specs.declared.rule.action.ActionName.TheVariants as names;
+ghost use Rattle.http_rules.specs.Rule.Valid.{IsMadeName, IsGoodDel};
 ghost use Rattle.cfg_action.specs.Faults.{ReadsRule};
 ghost use Rattle.cfg_action.specs.Good.{IsNamed};
 ghost use Rattle.cfg_action.specs.Actions.{named_by, told_by, matched_by, is_match_flag, deleted_matching, deleted_behind, field_deleted, name_and_format, pattern_and_format, made_by, replaced_by, field_at};
@@ -12,8 +12,8 @@ use crate::fault::{RuleFault, RuleKind};
 use crate::texts::pattern;
 use cfg_acl::WordsLeft;
 use cfg_expr::{Side, is_word};
+use http_rules::rule::{Action, ActionName, DelBy, Fmt, Pat, Text};
 use px_pattern::Patterns;
-use rule_model::{Action, ActionName, DelBy, Fmt, Pat, Text};
 use std::alloc::Global;
 
 /// `NAME FMT`, and the words behind them.

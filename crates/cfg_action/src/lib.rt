@@ -18,5 +18,5 @@ mod texts;
 
 pub use cfg_acl::{AclList, WordsLeft};
 pub use fault::{RuleFault, RuleKind};
-pub use rule_model::{Action, Direction, Rule, Rules};
+pub use http_rules::rule::{Action, Direction, Rule, Rules};
 pub use rules::read_rule;

@@ -1,12 +1,12 @@
 //! Which actions rules of a direction have.
 ghost use Rattle.std.specs.Prelude.{◌≡◌, true, IfOk};
-ghost use Rattle.rule_model.specs.Actions.{action_named, stands_in};
+ghost use Rattle.http_rules.specs.Rule.Actions.{action_named, stands_in};
 ghost use Rattle.cfg_action.specs.Faults.{Gives};
 ghost use Rattle.cfg_action.specs.Names.{placed, side_of};
 
 use crate::fault::{RuleFault, RuleKind};
 use cfg_expr::Side;
-use rule_model::{ActionName, Direction, action_named, stands_in};
+use http_rules::rule::{ActionName, Direction, action_named, stands_in};
 
 /// The action of a word, where rules of the direction have it.
 pub fn placed_action(direction: Direction, word: &[u8]) -> Result<ActionName, RuleFault>

@@ -1,12 +1,12 @@
 //! What is known of an action in front of its condition.
 ghost use Rattle.std.specs.Prelude.{IfOk};
-ghost use Rattle.rule_model.specs.declared.action.ActionName.{ActionName};
+ghost use Rattle.http_rules.specs.declared.rule.action.ActionName.{ActionName};
 ghost use Rattle.cfg_action.specs.Faults.{Gives};
 
 use crate::fault::RuleFault;
 use crate::redirect::{RedirectOptions, redirect_of};
 use crate::returns::{ReturnOptions, return_of};
-use rule_model::Action;
+use http_rules::rule::Action;
 
 /// An action, or options that may still lack one.
 #[derive(Drop)]

@@ -1,7 +1,7 @@
 //! Actions without formats and patterns.
 ghost use Rattle.std.specs.Prelude.{◌≡◌, IfOk, false};
-ghost use Rattle.rule_model.specs.declared.action.ActionName.TheVariants as names;
-ghost use Rattle.rule_model.specs.Valid.{IsSetStatus, is_bodiless};
+ghost use Rattle.http_rules.specs.declared.rule.action.ActionName.TheVariants as names;
+ghost use Rattle.http_rules.specs.Rule.Valid.{IsSetStatus, is_bodiless};
 ghost use Rattle.cfg_action.specs.Faults.{Gives};
 ghost use Rattle.cfg_action.specs.Good.{IsNamed};
 ghost use Rattle.cfg_action.specs.Plain.{denial_of, is_status, denied_with, denied, with_body, is_reason, reasoned, reason_behind, status_set, variable_unset, mode_of, mode_set};
@@ -10,7 +10,7 @@ use crate::arguments::{argument, code_of, variable_behind};
 use crate::fault::{RuleFault, RuleKind};
 use cfg_acl::WordsLeft;
 use cfg_expr::is_word;
-use rule_model::{Action, Direction, Text};
+use http_rules::rule::{Action, Direction, Text};
 use std::alloc::Global;
 
 /// The code of a denial where none is written.

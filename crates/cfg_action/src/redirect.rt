@@ -1,8 +1,8 @@
 //! The options of `redirect`, in any order.
 ghost use Rattle.std.specs.Prelude.{◌≡◌, ◌||◌, Some, true, false, IfOk};
-ghost use Rattle.rule_model.specs.declared.action.ActionName.TheVariants as names;
-ghost use Rattle.rule_model.specs.Valid.{may_drop_query, may_append_slash};
-ghost use Rattle.rule_model.specs.declared.reply.RedirectTo.TheVariants.{Location, Prefix, Scheme};
+ghost use Rattle.http_rules.specs.declared.rule.action.ActionName.TheVariants as names;
+ghost use Rattle.http_rules.specs.Rule.Valid.{may_drop_query, may_append_slash};
+ghost use Rattle.http_rules.specs.declared.rule.reply.RedirectTo.TheVariants.{Location, Prefix, Scheme};
 ghost use Rattle.cfg_action.specs.Faults.{Gives, ReadsRule};
 ghost use Rattle.cfg_action.specs.Good.{IsNamed, AreRedirectOptions};
 ghost use Rattle.cfg_action.specs.Redirects.{redirect_word, may_come, may_stand, goes_with, code_at, with_drop_query, with_append_slash, redirect_of};
@@ -13,8 +13,8 @@ use crate::codes::written_code;
 use crate::fault::{RuleFault, RuleKind};
 use cfg_acl::WordsLeft;
 use cfg_expr::{Side, is_word};
+use http_rules::rule::{Action, RedirectTo};
 use px_pattern::Patterns;
-use rule_model::{Action, RedirectTo};
 use std::alloc::Global;
 
 /// The code of a redirect where none is written.

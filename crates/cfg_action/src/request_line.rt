@@ -9,8 +9,8 @@ use crate::fault::{RuleFault, RuleKind};
 use crate::fields::pattern_and_format;
 use cfg_acl::WordsLeft;
 use cfg_expr::Side;
+use http_rules::rule::{Action, ActionName, takes_pattern};
 use px_pattern::Patterns;
-use rule_model::{Action, ActionName, takes_pattern};
 use std::alloc::Global;
 
 /// A part of the line becomes a text.

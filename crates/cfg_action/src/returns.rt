@@ -1,18 +1,18 @@
 //! The options of `return`, in any order.
 ghost use Rattle.std.specs.Prelude.{◌≡◌, ◌+◌, ◌<◌, ◌≤◌, ◌&&◌, Some, false, length, IfOk};
-ghost use Rattle.rule_model.specs.declared.action.ActionName.TheVariants as names;
+ghost use Rattle.http_rules.specs.declared.rule.action.ActionName.TheVariants as names;
 ghost use Rattle.cfg_action.specs.Faults.{Gives, ReadsRule, argument};
 ghost use Rattle.cfg_action.specs.Good.{IsNamed, AreReturnOptions};
 ghost use Rattle.cfg_action.specs.Returns.{return_word, once, has_no_body, may_have_payload, going_with, written_status, status_at, content_type_at, literal_at, return_of};
 ghost use Rattle.cfg_action.specs.ReturnOptions.{payload_format_at, written_hdr, hdr_at, return_option, return_options};
-ghost use Rattle.rule_model.specs.Valid.{IsCode, IsMadeName, is_bodiless};
+ghost use Rattle.http_rules.specs.Rule.Valid.{IsCode, IsMadeName, is_bodiless};
 
 use crate::arguments::{argument, code_of, format_at, made_name_at};
 use crate::fault::{RuleFault, RuleKind};
 use cfg_acl::WordsLeft;
 use cfg_expr::{Side, is_word};
+use http_rules::rule::{Action, Hdr, HdrList, Payload, Text};
 use px_pattern::Patterns;
-use rule_model::{Action, Hdr, HdrList, Payload, Text};
 use std::alloc::Global;
 
 /// The status of a reply where none is written.

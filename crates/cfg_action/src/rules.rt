@@ -1,7 +1,7 @@
 //! A rule: an action, and a condition or none.
 ghost use Rattle.std.specs.Prelude.{IfOk};
-ghost use Rattle.rule_model.specs.declared.action.ActionName.{ActionName};
-ghost use Rattle.rule_model.specs.Valid.{IsGoodRule};
+ghost use Rattle.http_rules.specs.declared.rule.action.ActionName.{ActionName};
+ghost use Rattle.http_rules.specs.Rule.Valid.{IsGoodRule};
 ghost use Rattle.cfg_action.specs.Faults.{Gives, ReadsRule};
 ghost use Rattle.cfg_action.specs.Good.{IsNamed, AreGoodParts};
 ghost use Rattle.cfg_action.specs.Rules.{rule_made, rule_of};
@@ -13,8 +13,8 @@ use crate::names::{placed_action, side_of};
 use crate::parts::{ActionParts, made_of};
 use crate::texts::condition;
 use cfg_acl::{AclList, Cond, WordsLeft};
+use http_rules::rule::{Direction, Rule};
 use px_pattern::Patterns;
-use rule_model::{Direction, Rule};
 use std::alloc::Global;
 
 /// The rule of what is known of its action, in which nothing may lack, and of its condition.

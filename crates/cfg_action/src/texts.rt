@@ -9,8 +9,8 @@ ghost use Rattle.cfg_action.specs.Faults.{of_text, ReadsRule};
 use crate::fault::RuleFault;
 use cfg_acl::{AclList, Cond, WordsLeft, read_rule_end};
 use cfg_expr::{Side, build, read_expr, read_format};
+use http_rules::rule::{Expr, Fmt};
 use px_pattern::{Pat, Patterns};
-use rule_model::{Expr, Fmt};
 use std::alloc::Global;
 
 /// A pattern with case.

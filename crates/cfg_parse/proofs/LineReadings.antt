@@ -14,8 +14,8 @@ use Rattle.cfg_action.specs.Faults.{RuleReading}
 use Rattle.cfg_action.specs.Rules.{rule_of}
 use Rattle.cfg_action.specs.declared.fault.RuleFault.{RuleFault}
 use Rattle.cfg_action.specs.declared.fault.RuleFault.TheVariants as rules
-use Rattle.rule_model.specs.declared.action.Direction.{Direction}
-use Rattle.rule_model.specs.declared.rule.Rule.{Rule}
+use Rattle.http_rules.specs.declared.rule.action.Direction.{Direction}
+use Rattle.http_rules.specs.declared.rule.rule.Rule.{Rule}
 use Rattle.cfg_parse.specs.declared.draft.Draft.{Draft}
 use Rattle.cfg_parse.specs.declared.fault.CfgKind.{CfgKind}
 use Rattle.cfg_parse.specs.declared.fault.LineRefusal.{LineRefusal}

@@ -18,11 +18,11 @@ use Rattle.cfg_parse.specs.declared.fault.CfgKind.TheVariants.{Argument, Section
 use Rattle.cfg_parse.specs.declared.fault.CfgFault.{CfgFault}
 use Rattle.cfg_parse.specs.declared.draft.Draft.{Draft}
 use Rattle.cfg_parse.specs.declared.fault.LineRefusal.{LineRefusal}
-use Rattle.rule_model.specs.declared.rule.Rule.{Rule}
-use Rattle.rule_model.specs.declared.action.Direction.{Direction as Rules}
-use Rattle.rule_model.specs.declared.action.Direction.TheVariants as lists
-use Rattle.rule_model.specs.declared.action.Action.{Action}
-use Rattle.rule_model.specs.Valid.{AreRules, IsGoodRule}
+use Rattle.http_rules.specs.declared.rule.rule.Rule.{Rule}
+use Rattle.http_rules.specs.declared.rule.action.Direction.{Direction as Rules}
+use Rattle.http_rules.specs.declared.rule.action.Direction.TheVariants as lists
+use Rattle.http_rules.specs.declared.rule.action.Action.{Action}
+use Rattle.http_rules.specs.Rule.Valid.{AreRules, IsGoodRule}
 use Rattle.cfg_acl.specs.declared.written.AclLine.{AclLine}
 use Rattle.cfg_parse.specs.Reading.{◌>>=◌, argument, no_more, Leaves}
 use Rattle.cfg_parse.specs.Keywords.{is_timeout_name}

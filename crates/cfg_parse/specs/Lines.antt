@@ -1,6 +1,6 @@
 -- What a line makes of the configuration so far.
 use Rattle.std.specs.Prelude.{ℕ, List, [], ◌∷◌, not, if◌then◌else◌, Result, Ok, Err}
-use Rattle.rule_model.specs.declared.action.Direction.TheVariants.{Request, Response, After}
+use Rattle.http_rules.specs.declared.rule.action.Direction.TheVariants.{Request, Response, After}
 use Rattle.cfg_lex.specs.declared.fault.LineFault.{LineFault}
 use Rattle.cfg_lex.specs.declared.fault.LineFault.TheVariants as faults
 use Rattle.cfg_lex.specs.Words.{words_of}

@@ -1,9 +1,9 @@
 -- The lines of `acl`, `http-request`, `http-response` and `http-after-response`.
 use Rattle.std.specs.Prelude.{ℕ, ◌+◌, ◌++◌, List, [], ◌∷◌, length, Bool, ◌&&◌, nat_le, nat_lt, if◌then◌else◌, Option, Some, None, Result, Ok, Err}
 use Rattle.acl_eval.specs.declared.condition.Cond.{Cond}
-use Rattle.rule_model.specs.declared.action.Direction.{Direction}
-use Rattle.rule_model.specs.declared.action.Direction.TheVariants.{Request, Response, After}
-use Rattle.rule_model.specs.declared.rule.Rule.{Rule}
+use Rattle.http_rules.specs.declared.rule.action.Direction.{Direction}
+use Rattle.http_rules.specs.declared.rule.action.Direction.TheVariants.{Request, Response, After}
+use Rattle.http_rules.specs.declared.rule.rule.Rule.{Rule}
 use Rattle.cfg_acl.specs.Conditions.{acl_line, test_count}
 use Rattle.cfg_action.specs.Rules.{rule_of}
 use Rattle.cfg_expr.specs.Reading.{Reading, plain, ◌>>=◌}

@@ -1,9 +1,9 @@
 -- What lines before this one have set is within its limits.
 use Rattle.std.specs.Prelude.{ℕ, ◌≤◌, IfSome}
 use Rattle.http_model.specs.Sizes.{least_size, most_size}
-use Rattle.rule_model.specs.declared.action.Direction.TheVariants.{Request, Response, After}
+use Rattle.http_rules.specs.declared.rule.action.Direction.TheVariants.{Request, Response, After}
 use Rattle.http_rules.specs.Valid.{HasPort, HasHost, IsChain}
-use Rattle.rule_model.specs.Valid.{AreRules}
+use Rattle.http_rules.specs.Rule.Valid.{AreRules}
 use Rattle.cfg_parse.specs.declared.draft.Draft.{Draft}
 
 pub record IsSound (draft : Draft) : Type 0 where

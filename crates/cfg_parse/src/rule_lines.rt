@@ -2,7 +2,7 @@
 
 ghost use Rattle.std.specs.Prelude.{◌≡◌, ◌-◌, ◌^◌, min, length, IfOk, OnOk};
 ghost use Rattle.cfg_parse.specs.Reading.{Leaves};
-ghost use Rattle.rule_model.specs.Valid.{IsGoodRule};
+ghost use Rattle.http_rules.specs.Rule.Valid.{IsGoodRule};
 ghost use Rattle.cfg_action.specs.Rules.{rule_of};
 ghost use Rattle.cfg_parse.specs.Asking.{ReadsLine, of_rule};
 ghost use Rattle.cfg_parse.specs.Sound.{IsSound};

@@ -7,23 +7,23 @@ use Rattle.acl_eval.proofs.Trying.{not_this_one}
 use Rattle.http_model.specs.declared.Why.{Why}
 use Rattle.http_model.specs.Block.{Block}
 use Rattle.http_model.specs.Head.{Message}
-use Rattle.rule_model.specs.declared.action.Direction.TheVariants as directions
-use Rattle.rule_model.specs.Actions.{stands_in, name_of}
-use Rattle.rule_model.specs.Actions.{action_holds_pattern, cond_holds_pattern, rule_holds_pattern, rules_hold_pattern}
-use Rattle.rule_model.specs.Valid.{IsGoodAction, IsGoodRule}
+use Rattle.http_rules.specs.declared.rule.action.Direction.TheVariants as directions
+use Rattle.http_rules.specs.Rule.Actions.{stands_in, name_of}
+use Rattle.http_rules.specs.Rule.Actions.{action_holds_pattern, cond_holds_pattern, rule_holds_pattern, rules_hold_pattern}
+use Rattle.http_rules.specs.Rule.Valid.{IsGoodAction, IsGoodRule}
 use Rattle.session_model.specs.Env.{Pass, Reply, Deny, Fail}
 use Rattle.px_sample.specs.Variables.{Variables}
-use Rattle.rule_model.specs.declared.action.Action.{Action}
-use Rattle.rule_model.specs.declared.action.Action.TheVariants as actions
-use Rattle.rule_model.specs.declared.rule.Rule.{Rule}
-use Rattle.rule_actions.specs.Given.{Env}
-use Rattle.rule_actions.specs.declared.side.Side.{Side}
-use Rattle.rule_actions.specs.declared.stepped.Stepped.{Stepped}
-use Rattle.rule_actions.specs.declared.stepped.Stepped.TheVariants.{Done, Failed}
-use Rattle.rule_actions.specs.Acts.{Act, Next, Stop, Replies, Denies, Fails, replying, act}
-use Rattle.rule_actions.specs.Does.{Replied}
-use Rattle.rule_actions.specs.Outcome.{IsAt}
-use Rattle.rule_actions.specs.Replies.{redirected, returned}
+use Rattle.http_rules.specs.declared.rule.action.Action.{Action}
+use Rattle.http_rules.specs.declared.rule.action.Action.TheVariants as actions
+use Rattle.http_rules.specs.declared.rule.rule.Rule.{Rule}
+use Rattle.http_rules.specs.Action.Given.{Env}
+use Rattle.http_rules.specs.declared.action.side.Side.{Side}
+use Rattle.http_rules.specs.declared.action.stepped.Stepped.{Stepped}
+use Rattle.http_rules.specs.declared.action.stepped.Stepped.TheVariants.{Done, Failed}
+use Rattle.http_rules.specs.Action.Acts.{Act, Next, Stop, Replies, Denies, Fails, replying, act}
+use Rattle.http_rules.specs.Action.Does.{Replied}
+use Rattle.http_rules.specs.Action.Outcome.{IsAt}
+use Rattle.http_rules.specs.Action.Replies.{redirected, returned}
 use Rattle.http_rules.specs.Rules.{Comes, answers, runs, behind, by_rule, walk, rules_of}
 use Rattle.http_rules.specs.Run.{Leaves, IsAsked, Awaits, IsAnswer, verdict_by}
 use Rattle.http_rules.proofs.Runs.{Reached, at_place, first_rule}

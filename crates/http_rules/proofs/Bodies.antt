@@ -10,20 +10,20 @@ use Rattle.px_bytes.specs.Blanks.{trimmed}
 use Rattle.px_bytes.specs.Values.{values_of}
 use Rattle.px_pattern.specs.Pattern.{Pattern}
 use Rattle.log_format.specs.declared.fmt.Fmt.{Fmt}
-use Rattle.rule_model.specs.declared.action.Action.{Action}
-use Rattle.rule_model.specs.declared.action.Action.TheVariants as actions
-use Rattle.rule_model.specs.declared.rule.Rule.{Rule}
-use Rattle.rule_actions.specs.declared.part.TargetPart.{TargetPart}
-use Rattle.rule_actions.specs.Given.{Env, text_on}
-use Rattle.rule_actions.specs.Edits.{Step, edited, by_text, by_value, are_value_bytes, fits_with}
-use Rattle.rule_actions.specs.Lines.{made_of, made_of_status, with_line, is_target, sent_to, may_become, stated, is_bodiless_text}
-use Rattle.rule_actions.specs.Lines as lines
-use Rattle.rule_actions.specs.Replacing.{places, matches, replaced, by_match, with_value, made_of_field, replace_whole, replaced_values, replace_values}
-use Rattle.rule_actions.specs.Replies.{redirected, returned}
+use Rattle.http_rules.specs.declared.rule.action.Action.{Action}
+use Rattle.http_rules.specs.declared.rule.action.Action.TheVariants as actions
+use Rattle.http_rules.specs.declared.rule.rule.Rule.{Rule}
+use Rattle.http_rules.specs.declared.action.part.TargetPart.{TargetPart}
+use Rattle.http_rules.specs.Action.Given.{Env, text_on}
+use Rattle.http_rules.specs.Action.Edits.{Step, edited, by_text, by_value, are_value_bytes, fits_with}
+use Rattle.http_rules.specs.Action.Lines.{made_of, made_of_status, with_line, is_target, sent_to, may_become, stated, is_bodiless_text}
+use Rattle.http_rules.specs.Action.Lines as lines
+use Rattle.http_rules.specs.Action.Replacing.{places, matches, replaced, by_match, with_value, made_of_field, replace_whole, replaced_values, replace_values}
+use Rattle.http_rules.specs.Action.Replies.{redirected, returned}
 use Rattle.http_model.specs.Fields.{add_field, set_field}
-use Rattle.rule_actions.specs.declared.part.TargetPart.TheVariants as parts
-use Rattle.rule_actions.specs.Steps.{add_step, set_step, without_meant, method_step, part_step, query_step, replace_part, steps_of}
-use Rattle.rule_actions.specs.Acts.{left_by, Act, Next, Stop, Replies, Denies, Fails, after_step, run_steps, replying, act}
+use Rattle.http_rules.specs.declared.action.part.TargetPart.TheVariants as parts
+use Rattle.http_rules.specs.Action.Steps.{add_step, set_step, without_meant, method_step, part_step, query_step, replace_part, steps_of}
+use Rattle.http_rules.specs.Action.Acts.{left_by, Act, Next, Stop, Replies, Denies, Fails, after_step, run_steps, replying, act}
 use Rattle.http_rules.specs.Rules.{Comes, answers, mode_after, runs, behind, by_rule, walk, rules_of}
 
 -- ---- steps in turn

@@ -13,19 +13,19 @@ use Rattle.http_model.specs.Reply.{redirect_reply}
 use Rattle.http_model.specs.Spelling.{SpellsBody}
 use Rattle.session_model.specs.Env.{Pass, Reply, Deny, Fail}
 use Rattle.px_bytes.specs.Blanks.{trimmed}
-use Rattle.rule_model.specs.declared.action.Direction.{Direction}
-use Rattle.rule_model.specs.declared.reply.RedirectTo.{RedirectTo}
-use Rattle.rule_model.specs.declared.reply.Payload.{Payload}
-use Rattle.rule_model.specs.declared.reply.Hdr.{Hdr}
-use Rattle.rule_model.specs.declared.action.Action.{Action}
-use Rattle.rule_model.specs.declared.action.Action.TheVariants as actions
-use Rattle.rule_model.specs.declared.rule.Rule.{Rule}
-use Rattle.rule_model.specs.Valid.{is_bodiless, IsGoodAction, IsGoodRule}
-use Rattle.rule_actions.specs.Given.{Env, text_on}
-use Rattle.rule_actions.specs.Edits.{Step, by_text, are_value_bytes}
-use Rattle.rule_actions.specs.Replies.{fitting, format_of, location_on, led_to, redirected, type_by, payload_text, hdr_field, returning, are_good_texts, returned}
-use Rattle.rule_actions.specs.Steps.{steps_of}
-use Rattle.rule_actions.specs.Acts.{left_by, Act, Next, Stop, Replies, Denies, Fails, after_step, run_steps, replying, act}
+use Rattle.http_rules.specs.declared.rule.action.Direction.{Direction}
+use Rattle.http_rules.specs.declared.rule.reply.RedirectTo.{RedirectTo}
+use Rattle.http_rules.specs.declared.rule.reply.Payload.{Payload}
+use Rattle.http_rules.specs.declared.rule.reply.Hdr.{Hdr}
+use Rattle.http_rules.specs.declared.rule.action.Action.{Action}
+use Rattle.http_rules.specs.declared.rule.action.Action.TheVariants as actions
+use Rattle.http_rules.specs.declared.rule.rule.Rule.{Rule}
+use Rattle.http_rules.specs.Rule.Valid.{is_bodiless, IsGoodAction, IsGoodRule}
+use Rattle.http_rules.specs.Action.Given.{Env, text_on}
+use Rattle.http_rules.specs.Action.Edits.{Step, by_text, are_value_bytes}
+use Rattle.http_rules.specs.Action.Replies.{fitting, format_of, location_on, led_to, redirected, type_by, payload_text, hdr_field, returning, are_good_texts, returned}
+use Rattle.http_rules.specs.Action.Steps.{steps_of}
+use Rattle.http_rules.specs.Action.Acts.{left_by, Act, Next, Stop, Replies, Denies, Fails, after_step, run_steps, replying, act}
 use Rattle.http_rules.specs.Rules.{Comes, answers, mode_after, runs, behind, walk, rules_of}
 
 -- what holds of a reply, and of that of good rules

@@ -8,20 +8,20 @@ use Rattle.http_model.specs.Block.{Block}
 use denote.Ref.{Bor}
 use Rattle.std.proofs.lemmas.List.{append-nil}
 use Rattle.http_model.specs.Head.{Head, head_blocks, front_blocks}
-use Rattle.rule_model.specs.declared.action.Direction.{Direction}
-use Rattle.rule_model.specs.Valid.{IsGoodAction, IsGoodRule}
+use Rattle.http_rules.specs.declared.rule.action.Direction.{Direction}
+use Rattle.http_rules.specs.Rule.Valid.{IsGoodAction, IsGoodRule}
 use Rattle.session_model.specs.Env.{Pass, Reply, Deny, Fail, request_env, response_env}
 use Rattle.px_sample.specs.Variables.{Variables}
-use Rattle.rule_model.specs.declared.action.Action.{Action}
-use Rattle.rule_model.specs.declared.rule.Rule.{Rule}
-use Rattle.rule_actions.specs.Given.{Env}
-use Rattle.rule_actions.specs.declared.side.Side.{Side}
-use Rattle.rule_actions.specs.declared.side.Side.TheVariants.{Request, Answer}
-use Rattle.rule_actions.specs.declared.act.Acted.{Acted}
-use Rattle.rule_actions.specs.declared.act.Acted.TheVariants as acted
-use Rattle.rule_actions.specs.Acts.{Act, Next, Stop, Replies, Denies, Fails, act}
-use Rattle.rule_actions.specs.Does.{Does}
-use Rattle.rule_actions.specs.Outcome.{IsAt, IsOn, IsFront}
+use Rattle.http_rules.specs.declared.rule.action.Action.{Action}
+use Rattle.http_rules.specs.declared.rule.rule.Rule.{Rule}
+use Rattle.http_rules.specs.Action.Given.{Env}
+use Rattle.http_rules.specs.declared.action.side.Side.{Side}
+use Rattle.http_rules.specs.declared.action.side.Side.TheVariants.{Request, Answer}
+use Rattle.http_rules.specs.declared.action.act.Acted.{Acted}
+use Rattle.http_rules.specs.declared.action.act.Acted.TheVariants as acted
+use Rattle.http_rules.specs.Action.Acts.{Act, Next, Stop, Replies, Denies, Fails, act}
+use Rattle.http_rules.specs.Action.Does.{Does}
+use Rattle.http_rules.specs.Action.Outcome.{IsAt, IsOn, IsFront}
 use Rattle.http_rules.specs.declared.verdict.Ruled.{Ruled}
 use Rattle.http_rules.specs.declared.verdict.Ruled.TheVariants.{Goes, Ends}
 use Rattle.http_rules.specs.declared.verdict.Verdict.{Verdict as Answered}

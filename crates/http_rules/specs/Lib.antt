@@ -4,13 +4,9 @@ pub use Rattle.http_model.specs.Finish
 pub use Rattle.session_model.specs.Env
 pub use Rattle.session_model.specs.Meaning
 pub use Rattle.body_filter.specs.Filter
-pub use Rattle.rule_model.specs.Actions
-pub use Rattle.rule_actions.specs.Given
-pub use Rattle.rule_actions.specs.Edits
-pub use Rattle.rule_actions.specs.Steps
-pub use Rattle.rule_actions.specs.Acts
-pub use Rattle.rule_actions.specs.Outcome
 pub mod Rules
 pub mod Lives
 pub mod Valid
 pub mod Run
+pub mod Rule
+pub mod Action

@@ -3,12 +3,12 @@ use Rattle.std.specs.Prelude.{ℕ, List, [], ◌∷◌, Bool, true, false, not, 
 use Rattle.px_sample.specs.Variables.{Variables}
 use Rattle.session_model.specs.Env.{Verdict, Pass, Reply, Deny, Fail, Amended, Edited, Plain}
 use Rattle.acl_eval.specs.declared.condition.Cond.{Cond}
-use Rattle.rule_model.specs.declared.action.Action.{Action}
-use Rattle.rule_model.specs.declared.action.Action.TheVariants as actions
-use Rattle.rule_model.specs.declared.rule.Rule.{Rule}
-use Rattle.rule_actions.specs.Given.{Env, holds_on}
-use Rattle.rule_actions.specs.Acts.{Act, Next, Stop, Replies, Denies, Fails, act}
-pub use Rattle.rule_actions.specs.Answering.{answers}
+use Rattle.http_rules.specs.declared.rule.action.Action.{Action}
+use Rattle.http_rules.specs.declared.rule.action.Action.TheVariants as actions
+use Rattle.http_rules.specs.declared.rule.rule.Rule.{Rule}
+use Rattle.http_rules.specs.Action.Given.{Env, holds_on}
+use Rattle.http_rules.specs.Action.Acts.{Act, Next, Stop, Replies, Denies, Fails, act}
+pub use Rattle.http_rules.specs.Action.Answering.{answers}
 
 -- the mode behind an action
 abbrev pub mode_after : (strict : Bool) → Action → Bool

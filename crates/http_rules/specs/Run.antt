@@ -4,17 +4,17 @@ use Rattle.http_model.specs.Block.{Block}
 use Rattle.http_model.specs.Head.{message_blocks}
 use Rattle.session_model.specs.Env.{Verdict, Pass, Reply, Deny, Fail}
 use Rattle.px_sample.specs.Variables.{Variables}
-use Rattle.rule_model.specs.declared.action.Action.{Action}
-use Rattle.rule_model.specs.declared.rule.Rule.{Rule}
-use Rattle.rule_actions.specs.declared.act.Acted.{Acted}
-use Rattle.rule_actions.specs.declared.act.Acted.TheVariants as acted
-use Rattle.rule_actions.specs.declared.stepped.Stepped.{Stepped}
-use Rattle.rule_actions.specs.declared.stepped.Stepped.TheVariants.{Done, Failed}
-use Rattle.rule_actions.specs.Acts.{act}
-use Rattle.rule_actions.specs.Given.{Env}
-use Rattle.rule_actions.specs.Outcome.{IsAt}
-use Rattle.rule_actions.specs.declared.side.Side.{Side}
-pub use Rattle.rule_actions.specs.Written.{IsHead}
+use Rattle.http_rules.specs.declared.rule.action.Action.{Action}
+use Rattle.http_rules.specs.declared.rule.rule.Rule.{Rule}
+use Rattle.http_rules.specs.declared.action.act.Acted.{Acted}
+use Rattle.http_rules.specs.declared.action.act.Acted.TheVariants as acted
+use Rattle.http_rules.specs.declared.action.stepped.Stepped.{Stepped}
+use Rattle.http_rules.specs.declared.action.stepped.Stepped.TheVariants.{Done, Failed}
+use Rattle.http_rules.specs.Action.Acts.{act}
+use Rattle.http_rules.specs.Action.Given.{Env}
+use Rattle.http_rules.specs.Action.Outcome.{IsAt}
+use Rattle.http_rules.specs.declared.action.side.Side.{Side}
+pub use Rattle.http_rules.specs.Action.Written.{IsHead}
 use Rattle.http_rules.specs.declared.verdict.Verdict.{Verdict as Answer}
 use Rattle.http_rules.specs.declared.verdict.Verdict.TheVariants as verdicts
 use Rattle.http_rules.specs.declared.verdict.Ruled.{Ruled}

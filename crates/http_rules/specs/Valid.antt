@@ -7,8 +7,8 @@ use Rattle.px_link.specs.declared.address.Address.{Address}
 use Rattle.body_filter.specs.declared.filter_spec.FilterSpec.{FilterSpec}
 use Rattle.body_filter.specs.declared.filter_spec.FilterSpec.TheVariants.{Limit, Deny, Replace}
 use Rattle.body_filter.specs.Valid.{AreFilters}
-use Rattle.rule_model.specs.declared.action.Direction.TheVariants as directions
-use Rattle.rule_model.specs.Valid.{AreRules}
+use Rattle.http_rules.specs.declared.rule.action.Direction.TheVariants as directions
+use Rattle.http_rules.specs.Rule.Valid.{AreRules}
 use Rattle.http_rules.specs.declared.config.Config.{Config}
 
 -- sizes within their limits, of which a received head leaves at least 512 bytes

@@ -1,9 +1,9 @@
 ghost use Rattle.std.specs.Prelude.{◌≡◌, ◌+◌, length};
 
+use crate::rule::Rules;
 use body_filter::FilterSpec;
 use http_model::Limits;
 use px_link::{Address, ItemList};
-use rule_model::Rules;
 
 /// The filters of one direction, in the order in which bodies pass through them.
 pub type Filters = ItemList<FilterSpec>;

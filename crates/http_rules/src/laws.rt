@@ -6,10 +6,10 @@ ghost use Rattle.http_model.specs.Head.{Message, message_blocks};
 ghost use Rattle.http_model.specs.Refusal.{closing};
 ghost use Rattle.http_model.specs.Spelling.{SpellsBody};
 ghost use Rattle.session_model.specs.Env.{Pass, Reply};
-ghost use Rattle.rule_model.specs.declared.action.Direction.{Direction};
-ghost use Rattle.rule_model.specs.declared.rule.Rule.{Rule};
-ghost use Rattle.rule_model.specs.Valid.{AreRules};
-ghost use Rattle.rule_actions.specs.Given.{Env};
+ghost use Rattle.http_rules.specs.declared.rule.action.Direction.{Direction};
+ghost use Rattle.http_rules.specs.declared.rule.rule.Rule.{Rule};
+ghost use Rattle.http_rules.specs.Rule.Valid.{AreRules};
+ghost use Rattle.http_rules.specs.Action.Given.{Env};
 ghost use Rattle.http_rules.specs.Rules.{rules_of};
 
 /// Rules that pass leave the body behind the head.

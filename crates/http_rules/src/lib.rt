@@ -1,12 +1,19 @@
 //! A configuration as the proxy holds it, and its rules. What the rules make of a head is in `specs/`.
 #![tactic(auto)]
 
+pub mod action;
 mod config;
 mod laws;
 mod lives;
+pub mod rule;
 mod run;
 mod verdict;
 
+pub use crate::action::Scratch;
+pub use crate::rule::{
+    Action, ActionName, Cond, DelBy, Direction, Expr, Fmt, Hdr, HdrList, Part, PartList, Pat,
+    Payload, RedirectTo, Rule, Rules, Scope, Text, stands_in,
+};
 pub use body_filter::FilterSpec;
 pub use config::{Config, Filters};
 pub use http_model::{Limits, Why};
@@ -15,10 +22,5 @@ pub use lives::{begin_answer, begin_exchange};
 pub use px_expr::Searchers;
 pub use px_link::{Address, OutOfMemory};
 pub use px_sample::Vars;
-pub use rule_actions::Scratch;
-pub use rule_model::{
-    Action, ActionName, Cond, DelBy, Direction, Expr, Fmt, Hdr, HdrList, Part, PartList, Pat,
-    Payload, RedirectTo, Rule, Rules, Scope, Text, stands_in,
-};
 pub use run::{run_after, run_request, run_response};
 pub use verdict::Verdict;

@@ -4,21 +4,21 @@ ghost use Rattle.std.specs.List.{AllByRecursion};
 ghost use Rattle.http_model.specs.Head.{Head, head_blocks, front_blocks};
 ghost use Rattle.session_model.specs.Env.{request_env, response_env};
 ghost use Rattle.std.specs.Prelude.{List, ℕ};
-ghost use Rattle.rule_model.specs.Valid.{IsGoodAction, AreRules};
-ghost use Rattle.rule_model.specs.Actions.{rules_hold_pattern, rule_holds_pattern, cond_holds_pattern};
-ghost use Rattle.rule_model.specs.declared.action.Direction.TheVariants as directions;
-ghost use Rattle.rule_actions.specs.Given.{Env};
-ghost use Rattle.rule_actions.specs.Outcome.{IsScratch, IsAt, IsFront};
+ghost use Rattle.http_rules.specs.Rule.Valid.{IsGoodAction, AreRules};
+ghost use Rattle.http_rules.specs.Rule.Actions.{rules_hold_pattern, rule_holds_pattern, cond_holds_pattern};
+ghost use Rattle.http_rules.specs.declared.rule.action.Direction.TheVariants as directions;
+ghost use Rattle.http_rules.specs.Action.Given.{Env};
+ghost use Rattle.http_rules.specs.Action.Outcome.{IsScratch, IsAt, IsFront};
 ghost use Rattle.http_rules.specs.Rules as spec;
 ghost use Rattle.http_rules.specs.Run.{Leaves, RuleLeaves, EndsAt, AnswersAt, ruled_by, verdict_by, IsHead};
-ghost use Rattle.rule_actions.specs.declared.side.Side.TheVariants as sides;
+ghost use Rattle.http_rules.specs.declared.action.side.Side.TheVariants as sides;
 
+use crate::action::{Acted, Scratch, Side, Stepped, answers, is_met, run_action, run_reply};
+use crate::rule::{Action, Rule, Rules};
 use crate::verdict::{Ended, Ruled, Verdict};
 use htx_arena::Arena;
 use px_expr::Searchers;
 use px_sample::{OutOfMemory, Vars};
-use rule_actions::{Acted, Scratch, Side, Stepped, answers, is_met, run_action, run_reply};
-use rule_model::{Action, Rule, Rules};
 use std::alloc::Global;
 
 /// The mode behind an action.

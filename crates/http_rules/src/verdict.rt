@@ -1,6 +1,6 @@
 //! What rules come to.
+use crate::rule::Action;
 use http_model::Why;
-use rule_model::Action;
 
 /// What rules make of a message.
 #[derive(Clone, Copy)]

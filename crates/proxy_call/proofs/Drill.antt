@@ -4,7 +4,7 @@ use Rattle.std.specs.Prelude.{[], ◌∷◌, Option, Some, None, Result, Ok, Err
 use Rattle.px_bytes.specs.Tokens.{is_token_byte}
 use Rattle.px_pattern.specs.Pattern.{Pattern}
 use Rattle.px_pattern.specs.Refusals.{Kept}
-use Rattle.rule_model.specs.Actions.{field_action}
+use Rattle.http_rules.specs.Rule.Actions.{field_action}
 use Rattle.http_rules.specs.declared.config.Config.{Config}
 use Rattle.cfg_lex.specs.Items as items
 use Rattle.cfg_lex.specs.Words.{verdict, words_of}

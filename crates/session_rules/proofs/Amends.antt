@@ -15,9 +15,9 @@ use Rattle.session_model.specs.Env.{Pass, Reply, Deny, Fail, Amended, Edited, Pl
 use Rattle.session_model.specs.Meaning.{Meaning}
 use Rattle.session_model.specs.Amending.{amended, behind_reply, closing_fits, plain_refusal}
 use Rattle.px_sample.specs.Variables.{Variables}
-use Rattle.rule_model.specs.declared.rule.Rule.{Rule}
-use Rattle.rule_actions.specs.Given.{Env}
-use Rattle.rule_actions.specs.declared.side.Side.{Side}
+use Rattle.http_rules.specs.declared.rule.rule.Rule.{Rule}
+use Rattle.http_rules.specs.Action.Given.{Env}
+use Rattle.http_rules.specs.declared.action.side.Side.{Side}
 use Rattle.http_rules.specs.declared.verdict.Verdict.{Verdict}
 use Rattle.http_rules.specs.declared.verdict.Verdict.TheVariants as verdicts
 use Rattle.http_rules.specs.Rules.{Comes, rules_of, amended_by, after_of}

@@ -6,8 +6,8 @@ use Rattle.session_model.specs.Env.{Amended, Edited, Plain}
 use Rattle.session_model.specs.Amending.{reply_sent, behind_reply}
 use Rattle.proxy_meaning.specs.Product.{meaning_of}
 use Rattle.px_sample.specs.Variables.{Variables}
-use Rattle.rule_model.specs.Actions.{rules_hold_pattern}
-use Rattle.rule_actions.specs.Outcome.{IsScratch}
+use Rattle.http_rules.specs.Rule.Actions.{rules_hold_pattern}
+use Rattle.http_rules.specs.Action.Outcome.{IsScratch}
 use Rattle.http_rules.specs.declared.config.Config.{Config}
 use Rattle.http_rules.specs.Valid.{IsValid}
 use Rattle.http_rules.specs.declared.verdict.Verdict.{Verdict}

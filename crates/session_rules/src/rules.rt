@@ -3,7 +3,7 @@ ghost use Rattle.std.specs.Prelude.{◌≡◌, [], false, true, List, ℕ, IfOk,
 ghost use Rattle.http_model.specs.Head.{Head, head_blocks, front_blocks};
 ghost use Rattle.session_model.specs.Env.{request_env, response_env};
 ghost use Rattle.px_sample.specs.Variables.{no_variables};
-ghost use Rattle.rule_actions.specs.declared.side.Side.TheVariants as sides;
+ghost use Rattle.http_rules.specs.declared.action.side.Side.TheVariants as sides;
 ghost use Rattle.http_rules.specs.Lives.{renewed, answering};
 ghost use Rattle.http_rules.specs.Run.{IsHead, Leaves};
 ghost use Rattle.http_rules.specs.Valid.{IsValid};

@@ -9,9 +9,9 @@ use Rattle.http_model.specs.Head.{Head, Message, head_blocks}
 use Rattle.http_model.specs.Reading.{Received}
 use Rattle.px_sample.specs.Buffer.{Buffer}
 use Rattle.px_sample.specs.Variables.{Variables}
-use Rattle.rule_model.specs.declared.rule.Rule.{Rule}
-use Rattle.rule_actions.specs.declared.side.Side.TheVariants as sides
-use Rattle.rule_actions.specs.Given.{Env}
+use Rattle.http_rules.specs.declared.rule.rule.Rule.{Rule}
+use Rattle.http_rules.specs.declared.action.side.Side.TheVariants as sides
+use Rattle.http_rules.specs.Action.Given.{Env}
 use Rattle.http_rules.specs.declared.config.Config.{Config}
 use Rattle.http_rules.specs.declared.verdict.Verdict.{Verdict}
 use Rattle.http_rules.specs.declared.verdict.Verdict.TheVariants as verdicts

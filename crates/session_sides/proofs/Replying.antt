@@ -6,11 +6,11 @@ use Rattle.http_model.specs.Head.{Message, message_blocks}
 use Rattle.http_model.specs.Reading.{Received}
 use Rattle.http_model.specs.Spelling.{SpellsBody}
 use Rattle.px_sample.specs.Variables.{Variables}
-use Rattle.rule_model.specs.declared.action.Direction.{Direction}
-use Rattle.rule_model.specs.declared.action.Direction.TheVariants as directions
-use Rattle.rule_model.specs.declared.rule.Rule.{Rule}
-use Rattle.rule_model.specs.Valid.{AreRules}
-use Rattle.rule_actions.specs.Given.{Env}
+use Rattle.http_rules.specs.declared.rule.action.Direction.{Direction}
+use Rattle.http_rules.specs.declared.rule.action.Direction.TheVariants as directions
+use Rattle.http_rules.specs.declared.rule.rule.Rule.{Rule}
+use Rattle.http_rules.specs.Rule.Valid.{AreRules}
+use Rattle.http_rules.specs.Action.Given.{Env}
 use Rattle.http_rules.specs.declared.config.Config.{Config}
 use Rattle.http_rules.specs.declared.verdict.Verdict.TheVariants as verdicts
 use Rattle.http_rules.specs.Lives.{answering}

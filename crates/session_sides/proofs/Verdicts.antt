@@ -4,9 +4,9 @@ use Rattle.htx_model.specs.Block.{Block}
 use Rattle.http_model.specs.declared.Why.{Why}
 use Rattle.http_model.specs.Head.{Message, message_blocks}
 use Rattle.px_sample.specs.Variables.{Variables}
-use Rattle.rule_actions.specs.declared.side.Side.TheVariants as sides
-use Rattle.rule_actions.specs.Given.{Env}
-use Rattle.rule_actions.specs.Outcome.{IsAt}
+use Rattle.http_rules.specs.declared.action.side.Side.TheVariants as sides
+use Rattle.http_rules.specs.Action.Given.{Env}
+use Rattle.http_rules.specs.Action.Outcome.{IsAt}
 use Rattle.http_rules.specs.declared.verdict.Verdict.TheVariants as verdicts
 use Rattle.http_rules.specs.Run.{Leaves}
 use Rattle.http_rules.specs.Rules.{Comes}

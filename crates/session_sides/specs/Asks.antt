@@ -20,7 +20,7 @@ use Rattle.session_core.specs.declared.sides.Asked.{Asked}
 use Rattle.session_core.specs.declared.sides.Asked.TheVariants as asks
 use Rattle.session_core.specs.Consequences.{IsTotal}
 use Rattle.px_sample.specs.Variables.{Variables}
-use Rattle.rule_actions.specs.declared.side.Side.TheVariants as sides
+use Rattle.http_rules.specs.declared.action.side.Side.TheVariants as sides
 use Rattle.http_rules.specs.declared.config.Config.{Config}
 use Rattle.http_rules.specs.declared.verdict.Verdict.{Verdict}
 use Rattle.http_rules.specs.declared.verdict.Verdict.TheVariants as verdicts

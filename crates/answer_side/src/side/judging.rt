@@ -4,7 +4,7 @@ ghost use Rattle.http_model.specs.Finish.{finish_response, response_framing};
 ghost use Rattle.http_model.specs.Head.{Head, head_blocks};
 ghost use Rattle.http_model.specs.Reading.{Received};
 ghost use Rattle.px_sample.specs.Variables.{Variables};
-ghost use Rattle.rule_actions.specs.declared.side.Side.TheVariants as sides;
+ghost use Rattle.http_rules.specs.declared.action.side.Side.TheVariants as sides;
 ghost use Rattle.http_rules.specs.declared.config.Config.{Config};
 ghost use Rattle.http_rules.specs.Lives.{answering};
 ghost use Rattle.http_rules.specs.Run.{Leaves};

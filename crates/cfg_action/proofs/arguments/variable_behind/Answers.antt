@@ -1,5 +1,5 @@
 use Rattle.std.proofs.Common.{sym, subst}
-use Rattle.rule_model.specs.Valid.{IsVariableName}
+use Rattle.http_rules.specs.Rule.Valid.{IsVariableName}
 use Rattle.cfg_action.proofs.NameLemmas.{variable_named}
 use Rattle.cfg_action.proofs.arguments.variable_behind.Goals as goal
 

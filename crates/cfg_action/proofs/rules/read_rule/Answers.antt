@@ -1,15 +1,15 @@
 use Rattle.std.proofs.Common.{◌≡◌, ◌∙◌, Ok, ap, refl, List, ℕ}
 use Rattle.std.specs.Prelude.{Option}
 use Rattle.acl_eval.specs.declared.condition.Cond.{Cond}
-use Rattle.rule_model.specs.declared.action.ActionName.{ActionName}
-use Rattle.rule_model.specs.declared.rule.Rule.{Rule}
-use Rattle.rule_model.specs.Actions.{stands_in}
+use Rattle.http_rules.specs.declared.rule.action.ActionName.{ActionName}
+use Rattle.http_rules.specs.declared.rule.rule.Rule.{Rule}
+use Rattle.http_rules.specs.Rule.Actions.{stands_in}
 use Rattle.cfg_acl.specs.Conditions.{rule_end}
 use Rattle.cfg_expr.specs.Reading.{plain, ◌>>=◌}
 use Rattle.cfg_expr.proofs.Readings.{fails_behind, fails_first}
 use Rattle.cfg_action.specs.declared.parts.ActionParts.{ActionParts}
 use Rattle.cfg_action.specs.Faults.{RuleReading, of_text, argument}
-use Rattle.rule_model.specs.Actions.{action_named}
+use Rattle.http_rules.specs.Rule.Actions.{action_named}
 use Rattle.cfg_action.specs.Names.{placed, side_of}
 use Rattle.cfg_action.specs.Arguments.{Words}
 use Rattle.cfg_action.specs.Actions.{action_parts, made_of}

@@ -1,4 +1,4 @@
-use Rattle.rule_model.specs.declared.action.Direction.TheVariants as directions
+use Rattle.http_rules.specs.declared.rule.action.Direction.TheVariants as directions
 use Rattle.http_rules.proofs.Replies.{replied}
 use Rattle.http_rules.proofs.laws.replies_are_plain.Goals as goal
 

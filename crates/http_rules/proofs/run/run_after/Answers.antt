@@ -1,7 +1,7 @@
 use Rattle.std.proofs.Common.{false, subst}
-use Rattle.rule_model.specs.declared.action.Direction.TheVariants as directions
-use Rattle.rule_actions.specs.declared.side.Side.TheVariants as sides
-use Rattle.rule_actions.specs.Given.{Env}
+use Rattle.http_rules.specs.declared.rule.action.Direction.TheVariants as directions
+use Rattle.http_rules.specs.declared.action.side.Side.TheVariants as sides
+use Rattle.http_rules.specs.Action.Given.{Env}
 use Rattle.http_rules.specs.declared.verdict.Ended.{Ended}
 use Rattle.http_rules.specs.Run.{EndsAt, AnswersAt}
 use Rattle.http_rules.proofs.Asked.{no_answer}

@@ -1,8 +1,8 @@
 use Rattle.std.proofs.Common.{ℕ, List, [], sym, subst}
 use Rattle.std.proofs.lemmas.Bool.{false≢true}
 use Rattle.http_model.specs.Block.{Block}
-use Rattle.rule_actions.specs.Acts.{act}
-use Rattle.rule_actions.specs.Does.{Replied}
+use Rattle.http_rules.specs.Action.Acts.{act}
+use Rattle.http_rules.specs.Action.Does.{Replied}
 use Rattle.http_rules.specs.declared.verdict.Ended.{Ended}
 use Rattle.http_rules.specs.declared.verdict.Verdict.{Verdict}
 use Rattle.http_rules.specs.Rules.{rules_of}

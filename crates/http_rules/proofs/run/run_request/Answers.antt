@@ -1,13 +1,13 @@
 use Rattle.std.specs.Prelude.{◌≡◌}
 use Rattle.http_model.specs.Head.{Head, head_blocks}
-use Rattle.rule_actions.specs.Given.{Env}
-use Rattle.rule_actions.specs.Outcome.{IsAt}
+use Rattle.http_rules.specs.Action.Given.{Env}
+use Rattle.http_rules.specs.Action.Outcome.{IsAt}
 use Rattle.http_rules.specs.declared.verdict.Verdict.{Verdict}
 use Rattle.http_rules.specs.Run.{Leaves}
 use Rattle.std.proofs.lemmas.Result.{IfOk-weaker}
 use Rattle.session_model.specs.Env.{request_env}
-use Rattle.rule_model.specs.declared.action.Direction.TheVariants as directions
-use Rattle.rule_actions.specs.declared.side.Side.TheVariants as sides
+use Rattle.http_rules.specs.declared.rule.action.Direction.TheVariants as directions
+use Rattle.http_rules.specs.declared.action.side.Side.TheVariants as sides
 use Rattle.http_rules.specs.Rules.{rules_of}
 use Rattle.http_rules.proofs.Runs.{on_request, head_front, good_actions}
 use Rattle.http_rules.proofs.run.run_request.Goals as goal

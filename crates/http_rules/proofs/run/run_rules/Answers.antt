@@ -1,12 +1,12 @@
 use Rattle.std.proofs.Common.{◌≡◌, ℕ, ◌+◌, List, [], arith, sym, ap, ◌∙◌, refl, subst}
 use Rattle.std.specs.List.{AllByRecursion}
-use Rattle.rule_model.specs.declared.rule.Rule.{Rule}
-use Rattle.rule_model.specs.Valid.{IsGoodAction}
-use Rattle.rule_actions.specs.Given.{Env}
-use Rattle.rule_actions.specs.Outcome.{IsAt, IsScratch}
+use Rattle.http_rules.specs.declared.rule.rule.Rule.{Rule}
+use Rattle.http_rules.specs.Rule.Valid.{IsGoodAction}
+use Rattle.http_rules.specs.Action.Given.{Env}
+use Rattle.http_rules.specs.Action.Outcome.{IsAt, IsScratch}
 use Rattle.std.proofs.lemmas.Bool.{false≢true}
 use Rattle.acl_eval.proofs.Trying.{not_this_one}
-use Rattle.rule_model.specs.Actions.{rule_holds_pattern}
+use Rattle.http_rules.specs.Rule.Actions.{rule_holds_pattern}
 use Rattle.http_rules.specs.declared.verdict.Ruled.{Ruled}
 use Rattle.http_rules.specs.Run.{RuleLeaves}
 use Rattle.http_rules.proofs.Asked.{awaits}

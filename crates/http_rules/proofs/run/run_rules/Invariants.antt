@@ -1,6 +1,6 @@
 use Rattle.std.proofs.Common.{◌≡◌}
-use Rattle.rule_actions.specs.Given.{Env}
-use Rattle.rule_actions.specs.Outcome.{IsScratch, IsAt, IsFront}
+use Rattle.http_rules.specs.Action.Given.{Env}
+use Rattle.http_rules.specs.Action.Outcome.{IsScratch, IsAt, IsFront}
 use Rattle.http_rules.proofs.Runs.{Reached}
 use Rattle.http_rules.proofs.run.run_rules.Given as goal
 

@@ -1,0 +1,173 @@
+-- The values of a field that holds a list, each in its place.
+use Rattle.std.proofs.Common.{inl, inr, ◌≡◌, ℕ, ◌+◌, ◌-◌, ◌<◌, ◌≤◌, List, [], ◌∷◌, ◌++◌, Bool, true, false, cond, refl, sym, ap, ◌∙◌, subst, length, drop, arith, append_assoc, length-append, length-drop}
+use Rattle.std.specs.Prelude.{slice_range, All, IsTrue, ◌↔◌, ◌⊎◌, Option, Some, None, Result, Ok, Err}
+use Rattle.std.specs.Bool.{OnTrue}
+use Rattle.std.specs.List.{list_any, prefix_len, suffix_len}
+use Rattle.std.proofs.lemmas.Bool.{false≢true, cases_lt}
+use Rattle.std.proofs.lemmas.List.{length-take}
+use Rattle.std.proofs.lemmas.List.Sums.{prefix_len-le-length}
+use Rattle.std.proofs.lemmas.List.Elements.{All-head, All-tail}
+use Rattle.http_model.specs.declared.Why.{Why}
+use Rattle.http_model.specs.declared.Why.TheVariants.{Bytes}
+use Rattle.px_bytes.specs.Blanks.{is_blank, trimmed}
+use Rattle.px_bytes.specs.Values.{LiesIn, placed_from, pieces_of, placed_values, values_of}
+use Rattle.regex.specs.Patterns.{Match, find}
+use Rattle.px_pattern.specs.Pattern.{Pattern}
+use Rattle.px_pattern.specs.Meaning.{pattern_of}
+use Rattle.px_pattern.specs.Groups.{AreGroupsOf}
+use Rattle.px_pattern.specs.declared.span.Span.{Span}
+use Rattle.px_conv.specs.Template.{expanded}
+use Rattle.px_sample.specs.Buffer.{Buffer}
+use Rattle.log_format.specs.declared.fmt.Fmt.{Fmt}
+use Rattle.http_rules.specs.declared.action.filled.Filled.{Filled}
+use Rattle.http_rules.specs.Action.Given.{Env, text_on}
+use Rattle.http_rules.specs.Action.Edits.{by_text}
+use Rattle.http_rules.specs.Action.Replacing.{matches, filled_by, replaced, rebuilt, replaced_values, by_matches}
+use Rattle.http_rules.specs.Action.Filling.{edited_by, IsHeld, IsAll, IsPut}
+use Rattle.http_rules.specs.Action.Outcome.{IsMade}
+use Rattle.http_rules.proofs.ActionLemmas.Groups.{by_groups}
+use Rattle.http_rules.proofs.ActionLemmas.Filling.{long_is, short_is, held_is}
+
+-- placed values stand in the field one behind the other, from a place on
+abbrev pub Spread : (field : List ℕ) → ℕ → List (ℕ × List ℕ) → Type 0
+Spread field from [] = from ≤ length field
+Spread field from (placed ∷ others) = (from ≤ placed.0) × (placed.0 + length placed.1 ≤ length field) × Spread field (placed.0 + length placed.1) others
+
+short_value : (piece : List ℕ) → prefix_len is_blank piece + length (trimmed piece) ≤ length piece
+short_value piece =
+    let rest = drop (prefix_len is_blank piece) piece in
+    let cut = length-take (length rest - suffix_len is_blank rest) rest in
+    omega (arith, cut, length-drop (prefix_len is_blank piece) piece, prefix_len-le-length is_blank piece)
+
+spread_from : (field : List ℕ) (at from : ℕ) (pieces : List (List ℕ)) → from ≤ at → from ≤ length field → All (LiesIn field) (placed_from at pieces) → Spread field from (placed_from at pieces)
+spread_from field at from [] order within lie = within
+spread_from field at from (p ∷ ps) order within lie =
+    let here : LiesIn field (at + prefix_len is_blank p, trimmed p) = All-head (LiesIn field) (at + prefix_len is_blank p, trimmed p) (placed_from (at + length p + 1) ps) lie in
+    let short = short_value p in (
+      omega arith,
+      here.within,
+      spread_from field (at + length p + 1) (at + prefix_len is_blank p + length (trimmed p)) ps (omega (arith, short)) here.within
+          (All-tail (LiesIn field) (at + prefix_len is_blank p, trimmed p) (placed_from (at + length p + 1) ps) lie),
+    )
+
+-- those of a field do
+pub spread : (field : List ℕ) → All (LiesIn field) (placed_values field) → Spread field 0 (placed_values field)
+spread field lie = spread_from field 0 0 (pieces_of field) (omega arith) (omega arith) lie
+
+-- the rest of the field begins within it
+pub within : (field : List ℕ) (from : ℕ) (placed : List (ℕ × List ℕ)) → Spread field from placed → from ≤ length field
+within field from [] s = s
+within field from (p ∷ ps) s = omega (arith, s.0, s.1)
+
+-- the next of them
+pub next_of : (field : List ℕ) (from at : ℕ) (value : List ℕ) (left behind : List (ℕ × List ℕ)) → left ≡ (at, value) ∷ behind → Spread field from left
+    → (from ≤ at) × (at + length value ≤ length field) × Spread field (at + length value) behind
+next_of field from at value left behind is s = subst (λ (ps : List (ℕ × List ℕ)). Spread field from ps) is s
+
+-- one more value was put
+pub put_on : (make : List ℕ → List ℕ) (field : List ℕ) (from at : ℕ) (value front old new all : List ℕ) (left behind : List (ℕ × List ℕ)) → left ≡ (at, value) ∷ behind → front ≡ slice_range field from at
+    → new ≡ old ++ (front ++ make value) → old ++ rebuilt make field from left ≡ all → new ++ rebuilt make field (at + length value) behind ≡ all
+put_on make field from at value front old new all left behind is cut put whole =
+    let rest = rebuilt make field (at + length value) behind in
+    ap (λ (bs : List ℕ). bs ++ rest) put
+    ∙ append_assoc old (front ++ make value) rest
+    ∙ ap (λ (bs : List ℕ). old ++ bs) (append_assoc front (make value) rest)
+    ∙ ap (λ (bs : List ℕ). old ++ (bs ++ (make value ++ rest))) cut
+    ∙ ap (λ (ps : List (ℕ × List ℕ)). old ++ rebuilt make field from ps) (sym is)
+    ∙ whole
+
+-- one that does not fit
+pub put_off : (make : List ℕ → List ℕ) (field : List ℕ) (from at size : ℕ) (value front old all : List ℕ) (left behind : List (ℕ × List ℕ)) → left ≡ (at, value) ∷ behind → front ≡ slice_range field from at
+    → size < length old + length (front ++ make value) → old ++ rebuilt make field from left ≡ all → size < length all
+put_off make field from at size value front old all left behind is cut far whole =
+    let rest = rebuilt make field (at + length value) behind in
+    let parts : old ++ ((front ++ make value) ++ rest) ≡ all =
+    ap (λ (bs : List ℕ). old ++ bs) (append_assoc front (make value) rest)
+    ∙ ap (λ (bs : List ℕ). old ++ (bs ++ (make value ++ rest))) cut
+    ∙ ap (λ (ps : List (ℕ × List ℕ)). old ++ rebuilt make field from ps) (sym is) ∙ whole
+    in
+    omega (arith, far, ap (λ (bs : List ℕ). length bs) parts, length-append old ((front ++ make value) ++ rest), length-append (front ++ make value) rest)
+
+-- what stands behind the last
+pub put_out : (make : List ℕ → List ℕ) (field : List ℕ) (from cap : ℕ) (fits : Bool) (behind all : List ℕ) (old new : Buffer) (left : List (ℕ × List ℕ)) → left ≡ [] → behind ≡ drop from field → old.cap ≡ cap
+    → (IsTrue fits ↔ (length old.bytes + length behind ≤ old.cap)) → OnTrue fits (new.bytes ≡ old.bytes ++ behind) → old.bytes ++ rebuilt make field from left ≡ all → IsAll cap all fits new
+put_out make field from cap fits behind all old new left none cut caps within put whole = by fits within put
+  where
+    whole_is : old.bytes ++ behind ≡ all
+    whole_is = ap (λ (bs : List ℕ). old.bytes ++ bs) cut ∙ ap (λ (ps : List (ℕ × List ℕ)). old.bytes ++ rebuilt make field from ps) (sym none) ∙ whole
+
+    len : length old.bytes + length behind ≡ length all
+    len = sym (length-append old.bytes behind) ∙ ap (λ (bs : List ℕ). length bs) whole_is
+
+    by : (t : Bool) → (IsTrue t ↔ (length old.bytes + length behind ≤ old.cap)) → OnTrue t (new.bytes ≡ old.bytes ++ behind) → IsAll cap all t new
+    by true w p = (p ∙ whole_is, subst (λ (n : ℕ). length all ≤ n) caps (subst (λ (n : ℕ). n ≤ old.cap) len (w.0 refl)))
+    by false w p = by_order (cases_lt cap (length all))
+      where
+        by_order : (cap < length all) ⊎ (length all ≤ cap) → cap < length all
+        by_order (inl h) = h
+        by_order (inr h) = absurd (false≢true (w.1 (subst (λ (n : ℕ). n ≤ old.cap) (sym len) (subst (λ (n : ℕ). length all ≤ n) (sym caps) h))))
+
+-- no value matches
+pub none_match : (size : ℕ) (env : Env) (pat : Pattern) (fmt : Fmt) (field : List ℕ) (make : List ℕ → Result Env Why) (one : Bool) → one ≡ list_any (matches pat) (values_of field) → one ≡ false
+    → by_matches size env pat fmt field make ≡ Ok env
+none_match size env pat fmt field make one is bad =
+    ap (λ (t : Bool). cond t (by_text size (text_on size env fmt) (λ template. by_text size (replaced_values pat template field) make)) (Ok env)) (sym is ∙ bad)
+
+some_match : (size : ℕ) (env : Env) (pat : Pattern) (fmt : Fmt) (field : List ℕ) (make : List ℕ → Result Env Why) (one : Bool) → one ≡ list_any (matches pat) (values_of field) → one ≡ true
+    → by_matches size env pat fmt field make ≡ by_text size (text_on size env fmt) (λ template. by_text size (replaced_values pat template field) make)
+some_match size env pat fmt field make one is good =
+    ap (λ (t : Bool). cond t (by_text size (text_on size env fmt) (λ template. by_text size (replaced_values pat template field) make)) (Ok env)) (sym is ∙ good)
+
+-- one does, and the text of the format is longer than the buffer
+pub text_too_long : (size : ℕ) (env : Env) (pat : Pattern) (fmt : Fmt) (field held : List ℕ) (make : List ℕ → Result Env Why) (one fits : Bool) → one ≡ list_any (matches pat) (values_of field) → one ≡ true
+    → IsMade size (text_on size env fmt) fits held → fits ≡ false → by_matches size env pat fmt field make ≡ Err Bytes
+text_too_long size env pat fmt field held make one fits is good made bad =
+    some_match size env pat fmt field make one is good
+    ∙ long_is size (text_on size env fmt) held (λ template. by_text size (replaced_values pat template field) make) (subst (λ (t : Bool). IsMade size (text_on size env fmt) t held) bad made)
+
+-- it is not
+pub listed : (size cap : ℕ) (env : Env) (pat : Pattern) (fmt : Fmt) (field held template done : List ℕ) (make : List ℕ → Result Env Why) (one fits : Bool) (f : Filled) → one ≡ list_any (matches pat) (values_of field) → one ≡ true
+    → IsMade size (text_on size env fmt) fits held → fits ≡ true → template ≡ held → cap ≡ size → IsHeld cap (replaced_values pat template field) f done
+    → by_matches size env pat fmt field make ≡ edited_by f done env make
+listed size cap env pat fmt field held template done make one fits f is good made short lent caps h =
+    some_match size env pat fmt field make one is good
+    ∙ short_is size (text_on size env fmt) held (λ t. by_text size (replaced_values pat t field) make) (subst (λ (t : Bool). IsMade size (text_on size env fmt) t held) short made)
+    ∙ ap (λ (t : List ℕ). by_text size (replaced_values pat t field) make) (sym lent)
+    ∙ held_is size env (replaced_values pat template field) done f make (subst (λ (n : ℕ). IsHeld n (replaced_values pat template field) f done) caps h)
+
+-- ---- one value
+
+-- the value itself, without a match
+pub replaced_none : (pat : Pattern) (template text : List ℕ) → find (pattern_of pat) text 0 ≡ None → text ≡ replaced pat template text
+replaced_none pat template text none = sym (ap (λ (o : Option Match). filled_by text template o) none)
+
+-- the template with the groups of the match
+pub replaced_some : (pat : Pattern) (template text : List ℕ) (m : Match) (groups : List (Option Span)) → find (pattern_of pat) text 0 ≡ Some m → AreGroupsOf m groups → expanded groups text template ≡ replaced pat template text
+replaced_some pat template text m groups found are = by_groups m groups text template are ∙ sym (ap (λ (o : Option Match). filled_by text template o) found)
+
+-- a front that does not fit
+pub front_off : (front wanted : List ℕ) (old new : Buffer) (fits : Bool) → (IsTrue fits ↔ (length old.bytes + length front ≤ old.cap)) → fits ≡ false → old.cap < length old.bytes + length (front ++ wanted)
+front_off front wanted old new fits within bad = by_order (cases_lt old.cap (length old.bytes + length front))
+  where
+    by_order : (old.cap < length old.bytes + length front) ⊎ (length old.bytes + length front ≤ old.cap) → old.cap < length old.bytes + length (front ++ wanted)
+    by_order (inl h) = omega (arith, h, length-append front wanted)
+    by_order (inr h) = absurd (false≢true (sym bad ∙ within.1 h))
+
+-- what was put behind a front
+pub put_both : (front more wanted : List ℕ) (old mid new : Buffer) (fits : Bool) → mid.bytes ≡ old.bytes ++ front → mid.cap ≡ old.cap → more ≡ wanted
+    → (IsTrue fits ↔ (length mid.bytes + length more ≤ mid.cap)) → OnTrue fits (new.bytes ≡ mid.bytes ++ more) → IsPut old (front ++ wanted) fits new
+put_both front more wanted old mid new fits put caps is within done = by fits within done
+  where
+    len : length mid.bytes + length more ≡ length old.bytes + length (front ++ wanted)
+    len = omega (arith, ap (λ (bs : List ℕ). length bs) put, ap (λ (bs : List ℕ). length bs) is, length-append old.bytes front, length-append front wanted)
+
+    by : (t : Bool) → (IsTrue t ↔ (length mid.bytes + length more ≤ mid.cap)) → OnTrue t (new.bytes ≡ mid.bytes ++ more) → IsPut old (front ++ wanted) t new
+    by true w p = (
+      p ∙ ap (λ (bs : List ℕ). bs ++ more) put ∙ append_assoc old.bytes front more ∙ ap (λ (bs : List ℕ). old.bytes ++ (front ++ bs)) is,
+      omega (arith, len, caps, w.0 refl),
+    )
+    by false w p = by_order (cases_lt mid.cap (length mid.bytes + length more))
+      where
+        by_order : (mid.cap < length mid.bytes + length more) ⊎ (length mid.bytes + length more ≤ mid.cap) → old.cap < length old.bytes + length (front ++ wanted)
+        by_order (inl h) = omega (arith, len, caps, h)
+        by_order (inr h) = absurd (false≢true (w.1 h))
