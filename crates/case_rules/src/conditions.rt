@@ -4,7 +4,7 @@ ghost use Rattle.std.specs.Prelude.{◌≤◌, vec_len, IfOk};
 use crate::lines::{RuleEnd, rule_end};
 use crate::messages::{holds_for_request, holds_for_response};
 use case_rows::{Fault, Row, decoded};
-use cfg_acl::Side;
+use cfg_expr::condition::Side;
 use std::alloc::Global;
 
 /// The head whose lines a text says, with the empty line behind them.

@@ -1,6 +1,8 @@
 //! The words of a line, the `acl` lines that stand above a rule, and what ends the rule.
 use case_rows::{Fault, split_at_first};
-use cfg_acl::{AclList, Cond, Side, TextFault, TextKind, WordsLeft, read_acl, read_rule_end};
+use cfg_expr::condition::{
+    AclList, Cond, Side, TextFault, TextKind, WordsLeft, read_acl, read_rule_end,
+};
 use cfg_lex::{LineFault, Words, words_of_line};
 use px_pattern::RealPatterns;
 use std::alloc::Global;

@@ -2,7 +2,7 @@
 use crate::lines::{lines_in, refused, words_in};
 use crate::sayings::{say_convs, say_expr, say_source, say_value};
 use case_rows::{Answers, Fault, Row, decoded};
-use cfg_acl::{AclList, TextFault, WordsLeft, WrittenTest, read_acl};
+use cfg_expr::condition::{AclList, TextFault, WordsLeft, WrittenTest, read_acl};
 use cfg_expr::{Side, read_expr, read_format};
 use log_format::{Part, PartList};
 use px_pattern::RealPatterns;

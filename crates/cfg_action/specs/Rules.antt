@@ -3,8 +3,8 @@ use Rattle.std.specs.Prelude.{ℕ, List, Option, Ok}
 use Rattle.acl_eval.specs.declared.condition.Cond.{Cond}
 use Rattle.http_rules.specs.declared.rule.action.Direction.{Direction}
 use Rattle.http_rules.specs.declared.rule.rule.Rule.{Rule}
-use Rattle.cfg_acl.specs.declared.written.AclLine.{AclLine}
-use Rattle.cfg_acl.specs.Conditions.{rule_end}
+use Rattle.cfg_expr.specs.declared.condition.written.AclLine.{AclLine}
+use Rattle.cfg_expr.specs.Condition.Conditions.{rule_end}
 use Rattle.cfg_expr.specs.Reading.{Reading, plain, ◌>>=◌}
 use Rattle.cfg_action.specs.declared.parts.ActionParts.{ActionParts}
 use Rattle.cfg_action.specs.Faults.{RuleReading, of_text, argument}

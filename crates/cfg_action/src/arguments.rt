@@ -9,7 +9,7 @@ ghost use Rattle.cfg_action.specs.Asked.{format_at, pattern_at};
 
 use crate::fault::{RuleFault, RuleKind};
 use crate::texts::{format, pattern};
-use cfg_acl::WordsLeft;
+use cfg_expr::condition::WordsLeft;
 use cfg_expr::{Side, variable_of};
 use http_model::{FRAMING_NAMES, MAX_NAME};
 use http_rules::rule::{Fmt, Scope, Text};

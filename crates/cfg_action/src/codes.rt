@@ -8,7 +8,7 @@ ghost use Rattle.cfg_action.specs.Redirects.{as_redirect_code, written_code};
 
 use crate::arguments::{MAX_DIGITS, argument};
 use crate::fault::{RuleFault, RuleKind};
-use cfg_acl::WordsLeft;
+use cfg_expr::condition::WordsLeft;
 use px_bytes::read_decimal;
 
 /// One of the codes of redirects.

@@ -10,7 +10,7 @@ ghost use Rattle.cfg_action.specs.Actions.{named_by, told_by, matched_by, is_mat
 use crate::arguments::{argument, format_at, made_name_at, name_of, pattern_at};
 use crate::fault::{RuleFault, RuleKind};
 use crate::texts::pattern;
-use cfg_acl::WordsLeft;
+use cfg_expr::condition::WordsLeft;
 use cfg_expr::{Side, is_word};
 use http_rules::rule::{Action, ActionName, DelBy, Fmt, Pat, Text};
 use px_pattern::Patterns;

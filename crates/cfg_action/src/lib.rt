@@ -16,7 +16,7 @@ mod returns;
 mod rules;
 mod texts;
 
-pub use cfg_acl::{AclList, WordsLeft};
+pub use cfg_expr::condition::{AclList, WordsLeft};
 pub use fault::{RuleFault, RuleKind};
 pub use http_rules::rule::{Action, Direction, Rule, Rules};
 pub use rules::read_rule;

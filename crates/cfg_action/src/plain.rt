@@ -8,7 +8,7 @@ ghost use Rattle.cfg_action.specs.Plain.{denial_of, is_status, denied_with, deni
 
 use crate::arguments::{argument, code_of, variable_behind};
 use crate::fault::{RuleFault, RuleKind};
-use cfg_acl::WordsLeft;
+use cfg_expr::condition::WordsLeft;
 use cfg_expr::is_word;
 use http_rules::rule::{Action, Direction, Text};
 use std::alloc::Global;

@@ -11,7 +11,7 @@ ghost use Rattle.cfg_action.specs.RedirectOptions.{with_location, alone, redirec
 use crate::arguments::format_at;
 use crate::codes::written_code;
 use crate::fault::{RuleFault, RuleKind};
-use cfg_acl::WordsLeft;
+use cfg_expr::condition::WordsLeft;
 use cfg_expr::{Side, is_word};
 use http_rules::rule::{Action, RedirectTo};
 use px_pattern::Patterns;

@@ -9,7 +9,7 @@ ghost use Rattle.http_rules.specs.Rule.Valid.{IsCode, IsMadeName, is_bodiless};
 
 use crate::arguments::{argument, code_of, format_at, made_name_at};
 use crate::fault::{RuleFault, RuleKind};
-use cfg_acl::WordsLeft;
+use cfg_expr::condition::WordsLeft;
 use cfg_expr::{Side, is_word};
 use http_rules::rule::{Action, Hdr, HdrList, Payload, Text};
 use px_pattern::Patterns;

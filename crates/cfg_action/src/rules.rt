@@ -12,7 +12,7 @@ use crate::fault::RuleFault;
 use crate::names::{placed_action, side_of};
 use crate::parts::{ActionParts, made_of};
 use crate::texts::condition;
-use cfg_acl::{AclList, Cond, WordsLeft};
+use cfg_expr::condition::{AclList, Cond, WordsLeft};
 use http_rules::rule::{Direction, Rule};
 use px_pattern::Patterns;
 use std::alloc::Global;

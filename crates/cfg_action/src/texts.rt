@@ -3,11 +3,11 @@ ghost use Rattle.std.specs.Prelude.{false};
 ghost use Rattle.cfg_expr.specs.Reading.{built};
 ghost use Rattle.cfg_expr.specs.Exprs.{expr_of};
 ghost use Rattle.cfg_expr.specs.Formats.{format_of};
-ghost use Rattle.cfg_acl.specs.Conditions.{rule_end};
+ghost use Rattle.cfg_expr.specs.Condition.Conditions.{rule_end};
 ghost use Rattle.cfg_action.specs.Faults.{of_text, ReadsRule};
 
 use crate::fault::RuleFault;
-use cfg_acl::{AclList, Cond, WordsLeft, read_rule_end};
+use cfg_expr::condition::{AclList, Cond, WordsLeft, read_rule_end};
 use cfg_expr::{Side, build, read_expr, read_format};
 use http_rules::rule::{Expr, Fmt};
 use px_pattern::{Pat, Patterns};

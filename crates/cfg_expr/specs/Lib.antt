@@ -7,3 +7,4 @@ pub mod Fetches
 pub mod Convs
 pub mod Exprs
 pub mod Formats
+pub mod Condition

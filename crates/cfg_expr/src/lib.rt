@@ -3,6 +3,7 @@
 #![tactic(auto)]
 
 mod call;
+pub mod condition;
 mod converters;
 mod expressions;
 mod fault;

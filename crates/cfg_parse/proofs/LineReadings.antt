@@ -7,8 +7,8 @@ use Rattle.cfg_expr.specs.Faults.{TextReading}
 use Rattle.cfg_expr.specs.declared.fault.TextFault.{TextFault}
 use Rattle.cfg_expr.specs.declared.fault.TextFault.TheVariants as texts
 use Rattle.cfg_expr.proofs.Readings.{fails_first, fails_behind}
-use Rattle.cfg_acl.specs.declared.written.AclLine.{AclLine}
-use Rattle.cfg_acl.specs.Conditions.{acl_line}
+use Rattle.cfg_expr.specs.declared.condition.written.AclLine.{AclLine}
+use Rattle.cfg_expr.specs.Condition.Conditions.{acl_line}
 use Rattle.cfg_action.specs.Faults as rule_faults
 use Rattle.cfg_action.specs.Faults.{RuleReading}
 use Rattle.cfg_action.specs.Rules.{rule_of}

@@ -23,7 +23,7 @@ use Rattle.http_rules.specs.declared.rule.action.Direction.{Direction as Rules}
 use Rattle.http_rules.specs.declared.rule.action.Direction.TheVariants as lists
 use Rattle.http_rules.specs.declared.rule.action.Action.{Action}
 use Rattle.http_rules.specs.Rule.Valid.{AreRules, IsGoodRule}
-use Rattle.cfg_acl.specs.declared.written.AclLine.{AclLine}
+use Rattle.cfg_expr.specs.declared.condition.written.AclLine.{AclLine}
 use Rattle.cfg_parse.specs.Reading.{◌>>=◌, argument, no_more, Leaves}
 use Rattle.cfg_parse.specs.Keywords.{is_timeout_name}
 use Rattle.cfg_parse.specs.Draft.{start, has_listen}

@@ -2,7 +2,7 @@ ghost use Rattle.std.specs.Prelude.{◌≡◌, ◌∷◌, [], MatchOption};
 ghost use Rattle.cfg_parse.specs.Reading.{Gives, argument, no_more};
 
 use crate::fault::{CfgKind, LineRefusal};
-use cfg_acl::WordsLeft;
+use cfg_expr::condition::WordsLeft;
 use cfg_lex::Words;
 use std::marker::Model;
 

@@ -1,6 +1,6 @@
 //! The configuration so far, while lines are read.
 
-use cfg_acl::AclList;
+use cfg_expr::condition::AclList;
 use http_rules::{Filters, Rules};
 use px_link::Address;
 

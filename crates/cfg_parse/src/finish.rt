@@ -8,7 +8,7 @@ ghost use Rattle.cfg_parse.specs.Whole.{limits_of, whole};
 use crate::draft::{Draft, Listen, Section};
 use crate::fault::{CfgKind, LineRefusal};
 use crate::limits::{DEFAULT_BUFSIZE, DEFAULT_MAXREWRITE, MIN_HEAD};
-use cfg_acl::AclList;
+use cfg_expr::condition::AclList;
 use http_rules::{Config, Filters, Limits, Rules};
 use std::alloc::Global;
 

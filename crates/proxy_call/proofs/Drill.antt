@@ -12,7 +12,7 @@ use Rattle.cfg_expr.specs.Calls as calls
 use Rattle.cfg_expr.specs.Exprs as exprs
 use Rattle.cfg_expr.specs.Fetches as fetches
 use Rattle.cfg_expr.specs.Formats as formats
-use Rattle.cfg_acl.specs.Conditions.{rule_end}
+use Rattle.cfg_expr.specs.Condition.Conditions.{rule_end}
 use Rattle.cfg_action.specs.Actions as actions
 use Rattle.cfg_action.specs.Arguments as arguments
 use Rattle.cfg_action.specs.Asked.{format_at}

@@ -4,7 +4,7 @@ use Rattle.acl_eval.specs.declared.condition.Cond.{Cond}
 use Rattle.http_rules.specs.declared.rule.action.ActionName.{ActionName}
 use Rattle.http_rules.specs.declared.rule.rule.Rule.{Rule}
 use Rattle.http_rules.specs.Rule.Actions.{stands_in}
-use Rattle.cfg_acl.specs.Conditions.{rule_end}
+use Rattle.cfg_expr.specs.Condition.Conditions.{rule_end}
 use Rattle.cfg_expr.specs.Reading.{plain, ◌>>=◌}
 use Rattle.cfg_expr.proofs.Readings.{fails_behind, fails_first}
 use Rattle.cfg_action.specs.declared.parts.ActionParts.{ActionParts}

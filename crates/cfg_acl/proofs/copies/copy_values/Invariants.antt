@@ -1,5 +1,0 @@
-use Rattle.std.proofs.Common.{◌≡◌, take}
-use Rattle.cfg_acl.proofs.copies.copy_values.Given as goal
-
-abbrev pub invariant-each : goal.invariant-each
-invariant-each l = l.copied ≡ take l.at l.values
