@@ -6,3 +6,4 @@ pub mod SoundLemmas
 pub mod LineReadings
 mod StepLemmas
 mod FilterLemmas
+pub mod ActionLemmas

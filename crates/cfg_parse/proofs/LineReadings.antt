@@ -9,11 +9,11 @@ use Rattle.cfg_expr.specs.declared.fault.TextFault.TheVariants as texts
 use Rattle.cfg_expr.proofs.Readings.{fails_first, fails_behind}
 use Rattle.cfg_expr.specs.declared.condition.written.AclLine.{AclLine}
 use Rattle.cfg_expr.specs.Condition.Conditions.{acl_line}
-use Rattle.cfg_action.specs.Faults as rule_faults
-use Rattle.cfg_action.specs.Faults.{RuleReading}
-use Rattle.cfg_action.specs.Rules.{rule_of}
-use Rattle.cfg_action.specs.declared.fault.RuleFault.{RuleFault}
-use Rattle.cfg_action.specs.declared.fault.RuleFault.TheVariants as rules
+use Rattle.cfg_parse.specs.Action.Faults as rule_faults
+use Rattle.cfg_parse.specs.Action.Faults.{RuleReading}
+use Rattle.cfg_parse.specs.Action.Rules.{rule_of}
+use Rattle.cfg_parse.specs.declared.action.fault.RuleFault.{RuleFault}
+use Rattle.cfg_parse.specs.declared.action.fault.RuleFault.TheVariants as rules
 use Rattle.http_rules.specs.declared.rule.action.Direction.{Direction}
 use Rattle.http_rules.specs.declared.rule.rule.Rule.{Rule}
 use Rattle.cfg_parse.specs.declared.draft.Draft.{Draft}

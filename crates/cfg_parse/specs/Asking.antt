@@ -7,11 +7,11 @@ use Rattle.cfg_expr.specs.declared.fault.TextFault.{TextFault}
 use Rattle.cfg_expr.specs.declared.fault.TextFault.TheVariants as text_faults
 use Rattle.cfg_expr.specs.Reading.{Reading, in_kinds, Cause, Refused, Unbuilt, NoMemory, Reads}
 use Rattle.cfg_expr.specs.Faults.{TextReading}
-use Rattle.cfg_action.specs.declared.fault.RuleKind.{RuleKind}
-use Rattle.cfg_action.specs.declared.fault.RuleKind.TheVariants as rules
-use Rattle.cfg_action.specs.declared.fault.RuleFault.{RuleFault}
-use Rattle.cfg_action.specs.declared.fault.RuleFault.TheVariants as rule_faults
-use Rattle.cfg_action.specs.Faults.{RuleReading}
+use Rattle.cfg_parse.specs.declared.action.fault.RuleKind.{RuleKind}
+use Rattle.cfg_parse.specs.declared.action.fault.RuleKind.TheVariants as rules
+use Rattle.cfg_parse.specs.declared.action.fault.RuleFault.{RuleFault}
+use Rattle.cfg_parse.specs.declared.action.fault.RuleFault.TheVariants as rule_faults
+use Rattle.cfg_parse.specs.Action.Faults.{RuleReading}
 use Rattle.cfg_parse.specs.declared.fault.CfgKind.{CfgKind}
 use Rattle.cfg_parse.specs.declared.fault.CfgKind.TheVariants as kinds
 use Rattle.cfg_parse.specs.declared.fault.LineRefusal.{LineRefusal}

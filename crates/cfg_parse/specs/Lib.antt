@@ -10,3 +10,4 @@ pub mod Rules
 pub mod Lines
 pub mod Sound
 pub mod Whole
+pub mod Action

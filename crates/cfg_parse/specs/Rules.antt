@@ -5,7 +5,7 @@ use Rattle.http_rules.specs.declared.rule.action.Direction.{Direction}
 use Rattle.http_rules.specs.declared.rule.action.Direction.TheVariants.{Request, Response, After}
 use Rattle.http_rules.specs.declared.rule.rule.Rule.{Rule}
 use Rattle.cfg_expr.specs.Condition.Conditions.{acl_line, test_count}
-use Rattle.cfg_action.specs.Rules.{rule_of}
+use Rattle.cfg_parse.specs.Action.Rules.{rule_of}
 use Rattle.cfg_expr.specs.Reading.{Reading, plain, ◌>>=◌}
 use Rattle.cfg_parse.specs.declared.fault.CfgKind.{CfgKind}
 use Rattle.cfg_parse.specs.declared.fault.CfgKind.TheVariants.{Limit}

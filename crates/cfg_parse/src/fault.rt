@@ -1,7 +1,7 @@
 ghost use Rattle.std.specs.Prelude.{◌≡◌};
 ghost use Rattle.cfg_parse.specs.Asking.{kind_of_text, kind_of_rule};
 
-use cfg_action::{RuleFault, RuleKind};
+use crate::action::{RuleFault, RuleKind};
 use cfg_expr::condition::{TextFault, TextKind};
 use cfg_lex::LineFault;
 use px_link::OutOfMemory;

@@ -2,6 +2,7 @@
 //! filters. Nothing here runs a rule.
 #![tactic(auto)]
 
+pub mod action;
 mod address;
 mod arguments;
 mod draft;

@@ -3,16 +3,16 @@
 ghost use Rattle.std.specs.Prelude.{◌≡◌, ◌-◌, ◌^◌, min, length, IfOk, OnOk};
 ghost use Rattle.cfg_parse.specs.Reading.{Leaves};
 ghost use Rattle.http_rules.specs.Rule.Valid.{IsGoodRule};
-ghost use Rattle.cfg_action.specs.Rules.{rule_of};
+ghost use Rattle.cfg_parse.specs.Action.Rules.{rule_of};
 ghost use Rattle.cfg_parse.specs.Asking.{ReadsLine, of_rule};
 ghost use Rattle.cfg_parse.specs.Sound.{IsSound};
 ghost use Rattle.cfg_parse.specs.Rules.{tests_of, rules_in, has_room, rule_added, rule_line, acl_setting};
 
+use crate::action::read_rule;
 use crate::arguments::Arguments;
 use crate::draft::Draft;
 use crate::fault::{CfgKind, LineRefusal};
 use crate::limits::{MAX_RULES, MAX_TESTS};
-use cfg_action::read_rule;
 use cfg_expr::condition::{AclList, count_tests, read_acl};
 use http_rules::{Cond, Direction, Rule};
 use px_pattern::Patterns;

@@ -13,10 +13,10 @@ use Rattle.cfg_expr.specs.Exprs as exprs
 use Rattle.cfg_expr.specs.Fetches as fetches
 use Rattle.cfg_expr.specs.Formats as formats
 use Rattle.cfg_expr.specs.Condition.Conditions.{rule_end}
-use Rattle.cfg_action.specs.Actions as actions
-use Rattle.cfg_action.specs.Arguments as arguments
-use Rattle.cfg_action.specs.Asked.{format_at}
-use Rattle.cfg_action.specs.Rules.{rule_of}
+use Rattle.cfg_parse.specs.Action.Actions as actions
+use Rattle.cfg_parse.specs.Action.Arguments as arguments
+use Rattle.cfg_parse.specs.Action.Asked.{format_at}
+use Rattle.cfg_parse.specs.Action.Rules.{rule_of}
 use Rattle.cfg_parse.specs.Keywords as keywords
 use Rattle.cfg_parse.specs.Lines as lines
 use Rattle.cfg_parse.specs.Numbers as numbers
