@@ -14,7 +14,7 @@ use Rattle.session_model.specs.Asking.{Asked, Nothing, Refused, Replied, Sends, 
 use Rattle.session_model.specs.Answering.{Final, Refuses, Replies, Answers, Plain}
 use Rattle.session_model.specs.Session.{Exchange, After, Over, Next, Serves, ClientGets, Goes, GoesOn, Follow, after_final, after_reply}
 use Rattle.session_core.specs.Consequences.{IsTotal}
-use Rattle.session_laws.specs.Bound.{IsBounded}
+use Rattle.session_core.specs.MeaningLaws.Bound.{IsBounded}
 use Rattle.htx_drive.specs.Budget.{HasRequests}
 
 -- ---- what is left behind a head

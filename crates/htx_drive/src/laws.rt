@@ -1,7 +1,7 @@
 //! What follows for every core.
 ghost use Rattle.std.specs.Prelude.{ℕ, ◌≡◌, ◌≤◌, List, Option, Some, length, sum_by};
 ghost use Rattle.session_core.specs.Consequences.{IsTotal};
-ghost use Rattle.session_laws.specs.Bound.{IsBounded};
+ghost use Rattle.session_core.specs.MeaningLaws.Bound.{IsBounded};
 ghost use Rattle.px_link.specs.Net.{Coming, Kept, Place};
 ghost use Rattle.htx_drive.specs.Budget.{HasRequests, coming_size, enough};
 ghost use Rattle.htx_drive.specs.Ran.{RanSo, GaveUp};

@@ -4,7 +4,7 @@ use Rattle.http_rules.specs.declared.config.Config.{Config}
 use Rattle.http_rules.specs.Valid.{IsValid}
 use Rattle.proxy_meaning.specs.Product.{meaning_of}
 use Rattle.session_core.specs.Consequences.{IsTotal}
-use Rattle.session_laws.specs.Bound.{IsBounded}
+use Rattle.session_core.specs.MeaningLaws.Bound.{IsBounded}
 
 -- It is valid, and an output window has room for the shortest text that isn't split; no stream is without a reading, and what is put out is bounded.
 pub record IsReady (cfg : Config) (window : ℕ) : Type 0 where

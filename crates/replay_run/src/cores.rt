@@ -2,7 +2,7 @@
 ghost use Rattle.std.specs.Prelude.{◌≡◌, ◌≤◌, IfOk, false};
 ghost use Rattle.session_core.specs.History.{nothing_yet};
 ghost use Rattle.session_core.specs.Consequences.{IsTotal};
-ghost use Rattle.session_laws.specs.Bound.{IsBounded};
+ghost use Rattle.session_core.specs.MeaningLaws.Bound.{IsBounded};
 
 use htx_drive::{Machine, OutOfMemory};
 use std::alloc::Global;

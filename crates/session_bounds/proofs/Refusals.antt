@@ -4,7 +4,7 @@ use Rattle.std.specs.Prelude.{decimal}
 use Rattle.std.proofs.lemmas.Fmt.{length-decimal-le}
 use Rattle.http_model.specs.Refusal.{reason_of, refusal_body, refusal, closing}
 use Rattle.http_model.specs.Spelling.{head_text, SpellsBodyUnless}
-use Rattle.session_laws.specs.Bound.{IsShort}
+use Rattle.session_core.specs.MeaningLaws.Bound.{IsShort}
 
 body_size : (code : ℕ) → length (refusal_body code) ≡ 37 + (length (decimal code) + length (reason_of code))
 unfolding refusal_body

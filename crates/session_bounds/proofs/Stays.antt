@@ -18,7 +18,7 @@ use Rattle.h1_body.specs.Body.{BodyAt, Left, UntilClose, InLine, InData, AtRetur
 use Rattle.h1_body.specs.Section.{section_limit, BeginsSection, IsHopelessSection}
 use Rattle.h1_body.specs.Stands.{start_of}
 use Rattle.h1_body.specs.BodyOf.{BodyRead, Reads, More, Tells, SectionTells, unfinished, closes, IsBodyOf}
-use Rattle.session_laws.specs.Decided.{body_bytes}
+use Rattle.session_core.specs.MeaningLaws.Decided.{body_bytes}
 use Rattle.session_bounds.specs.Decided.{DecidesRefusal, DecidesBody, HasBodySoFar, with_more}
 
 -- ---- heads

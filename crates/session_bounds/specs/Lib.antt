@@ -1,2 +1,2 @@
-pub use Rattle.session_laws.specs.Bound
+pub use Rattle.session_core.specs.MeaningLaws.Bound
 pub mod Decided

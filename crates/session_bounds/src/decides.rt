@@ -12,7 +12,7 @@ ghost use Rattle.session_model.specs.Env.{request_env, response_env};
 ghost use Rattle.session_model.specs.Meaning.{HoldsOn, is_interim};
 ghost use Rattle.session_model.specs.Asking.{Asker, Refused, Asks, asked_by, request_by};
 ghost use Rattle.session_model.specs.Answering.{Final, Refuses, Answered, AnswersBy, AnswersFrom, answer_by, sent_interim};
-ghost use Rattle.session_laws.specs.Decided.{behind, RefusesHead, IsRequestHead, IsResponseHead, RefusesSoFar, IsCutRequest, IsCutAnswer};
+ghost use Rattle.session_core.specs.MeaningLaws.Decided.{behind, RefusesHead, IsRequestHead, IsResponseHead, RefusesSoFar, IsCutRequest, IsCutAnswer};
 ghost use Rattle.session_bounds.specs.Decided.{DecidesRefusal, DecidesBody, HasBodySoFar, RefusesResponse, IsBody, IsSameRequest};
 
 use h1_body::laws::{joins, one_reading};

@@ -5,7 +5,7 @@
 ghost use Rattle.http_rules.specs.declared.config.Config.{Config};
 ghost use Rattle.http_rules.specs.Valid.{IsValid};
 ghost use Rattle.proxy_meaning.specs.Product.{meaning_of};
-ghost use Rattle.session_laws.specs.Bound.{IsBounded};
+ghost use Rattle.session_core.specs.MeaningLaws.Bound.{IsBounded};
 
 mod decides;
 

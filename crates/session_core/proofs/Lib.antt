@@ -20,3 +20,4 @@ pub mod InHand
 pub mod Driving
 pub mod Heads
 pub mod Passing
+pub mod MeaningLaws

@@ -16,3 +16,4 @@ pub mod Lending
 pub mod Leads
 pub mod Waits
 pub mod Lanes
+pub mod MeaningLaws

@@ -4,6 +4,7 @@
 mod calls;
 pub mod laws;
 mod machine;
+pub mod meaning_laws;
 mod sides;
 mod turns;
 mod wants;

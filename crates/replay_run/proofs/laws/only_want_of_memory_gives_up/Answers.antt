@@ -1,6 +1,6 @@
 use Rattle.std.proofs.Common.{[], length, map, sym, refl}
 use Rattle.session_model.specs.Meaning.{Meaning}
-use Rattle.session_laws.specs.Bound.{IsBounded}
+use Rattle.session_core.specs.MeaningLaws.Bound.{IsBounded}
 use Rattle.replay_run.specs.Memory.{answer_of}
 use Rattle.replay_run.proofs.Whole.{told_bytes, told_answers, told_kept, enough_by, never_refuses}
 use Rattle.replay_run.proofs.laws.only_want_of_memory_gives_up.Goals as goal

@@ -4,7 +4,7 @@ use Rattle.http_model.specs.Reading.{Refused, Begins}
 use Rattle.h1_head.specs.declared.answer.Side.TheVariants as sides
 use Rattle.h1_body.specs.BodyOf.{Reads}
 use Rattle.proxy_meaning.specs.Product.{meaning_of}
-use Rattle.session_laws.proofs.Decides as decides
+use Rattle.session_core.proofs.MeaningLaws.Decides as decides
 use Rattle.session_bounds.specs.Decided.{with_more}
 use Rattle.session_bounds.proofs.Stays.{front_of}
 use Rattle.session_bounds.proofs.Made.{interim_more, request_made, answer_made}

@@ -1,7 +1,7 @@
 use Rattle.std.proofs.Common.{[], refl}
 use Rattle.http_model.specs.Reading.{Refused, Begins}
-use Rattle.session_laws.proofs.Decides as decides
-use Rattle.session_laws.proofs.laws.stays_decided.Goals as goal
+use Rattle.session_core.proofs.MeaningLaws.Decides as decides
+use Rattle.session_core.proofs.meaning_laws.laws.stays_decided.Goals as goal
 
 pub returns-clause-refused : goal.returns-clause-refused
 returns-clause-refused g c = λ cfg vars bytes code h rest. record { head = Refused code; reads = h rest.bytes; asks = refl }

@@ -14,9 +14,9 @@ use Rattle.session_model.specs.Meaning.{Meaning, declares_too_much, is_head_requ
 use Rattle.session_model.specs.Asking.{Asked, Nothing, Refused, Replied, Sends, asked_by, asked_of, forwards, request_fits}
 use Rattle.session_model.specs.Amending.{behind_reply}
 use Rattle.session_model.specs.Session.{Exchange, After, Over, Next, IsSaid, Goes, GoesOn, Follow, Session, Out}
-use Rattle.session_laws.specs.Bound.{sent_size, server_size, exchange_size, rest_size, IsBounded}
-use Rattle.session_laws.proofs.Exchanges.{reply_rest, serves_by, mul_suc}
-use Rattle.session_laws.proofs.Replies.{reply_within, refusal_within}
+use Rattle.session_core.specs.MeaningLaws.Bound.{sent_size, server_size, exchange_size, rest_size, IsBounded}
+use Rattle.session_core.proofs.MeaningLaws.Exchanges.{reply_rest, serves_by, mul_suc}
+use Rattle.session_core.proofs.MeaningLaws.Replies.{reply_within, refusal_within}
 
 -- ---- what was asked
 

@@ -14,10 +14,10 @@ use Rattle.session_model.specs.Meaning.{Meaning, sent_body}
 use Rattle.session_model.specs.Asking.{Asker, Request, request_by, request_fits}
 use Rattle.session_model.specs.Answering.{Final, Refuses, Replies, Answers, Plain, AnswersReading, AnswersBy, AnswersWith, AnswersAmended, BeginsWithInterim, sent_interim, answer_by, response_fits, response_declares_too_much}
 use Rattle.session_model.specs.Session.{Exchange, After, SpellsFinal, ServerGets, ClientGets, ClientIsRefused, Serves, after_final, after_reply, interim_text}
-use Rattle.session_laws.specs.Bound.{sent_size, exchange_size, rest_size, IsShort, IsBounded}
-use Rattle.session_laws.proofs.Filtered.{sent_output}
-use Rattle.session_laws.proofs.Spelled.{spelled_within}
-use Rattle.session_laws.proofs.Replies.{reply_within, refusal_within}
+use Rattle.session_core.specs.MeaningLaws.Bound.{sent_size, exchange_size, rest_size, IsShort, IsBounded}
+use Rattle.session_core.proofs.MeaningLaws.Filtered.{sent_output}
+use Rattle.session_core.proofs.MeaningLaws.Spelled.{spelled_within}
+use Rattle.session_core.proofs.MeaningLaws.Replies.{reply_within, refusal_within}
 
 -- ---- the request
 

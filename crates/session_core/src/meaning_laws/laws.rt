@@ -9,10 +9,10 @@ ghost use Rattle.session_model.specs.Meaning.{HoldsOn, is_interim};
 ghost use Rattle.session_model.specs.Asking.{Asker, Refused, Asks, asked_by, request_by};
 ghost use Rattle.session_model.specs.Answering.{Final, AnswersBy, AnswersFrom, answer_by};
 ghost use Rattle.session_model.specs.Session.{Session, Out};
-ghost use Rattle.session_laws.specs.Decided.{behind, RefusesHead, IsRequestHead, IsResponseHead, body_bytes, RefusesSoFar, IsCutRequest, IsCutAnswer};
-ghost use Rattle.session_laws.specs.Bound.{IsBounded, sent_size, server_size};
+ghost use Rattle.session_core.specs.MeaningLaws.Decided.{behind, RefusesHead, IsRequestHead, IsResponseHead, body_bytes, RefusesSoFar, IsCutRequest, IsCutAnswer};
+ghost use Rattle.session_core.specs.MeaningLaws.Bound.{IsBounded, sent_size, server_size};
 
-use crate::Means;
+use crate::meaning_laws::Means;
 
 /// The texts of all sides together have at most so many bytes: 1536 for one that came, and three buffers an exchange.
 pub fn text_bound<C: Means>()

@@ -1,5 +1,4 @@
 //! Laws over what a session means, whatever reads, rules and filters give it.
-#![tactic(auto)]
 
 pub mod laws;
 mod means;

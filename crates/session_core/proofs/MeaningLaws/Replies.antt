@@ -14,8 +14,8 @@ use Rattle.http_model.specs.Spelling.{head_text, SpellsBody, SpellsBodyUnless, S
 use Rattle.session_model.specs.Env.{Amended, Edited, Plain, reply_env}
 use Rattle.session_model.specs.Meaning.{Meaning}
 use Rattle.session_model.specs.Amending.{closing_fits, amended, plain_refusal, reply_sent, refusal_sent}
-use Rattle.session_laws.specs.Bound.{IsShort, IsBounded}
-use Rattle.session_laws.proofs.Spelled.{head_within}
+use Rattle.session_core.specs.MeaningLaws.Bound.{IsShort, IsBounded}
+use Rattle.session_core.proofs.MeaningLaws.Spelled.{head_within}
 
 -- ---- a message whose framing is not chunked
 

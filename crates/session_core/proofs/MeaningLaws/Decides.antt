@@ -8,8 +8,8 @@ use Rattle.http_model.specs.Reading as reading
 use Rattle.session_model.specs.Meaning.{Meaning, Filters, Filtered, HoldsOn, sent_body}
 use Rattle.session_model.specs.Asking.{Asker, request_by}
 use Rattle.session_model.specs.Answering.{answer_by, sent_interim}
-use Rattle.session_laws.specs.Decided.{body_bytes, RefusesSoFar, IsCutRequest, IsCutAnswer}
-use Rattle.session_laws.proofs.Filtered.{sent_output, sent_refused}
+use Rattle.session_core.specs.MeaningLaws.Decided.{body_bytes, RefusesSoFar, IsCutRequest, IsCutAnswer}
+use Rattle.session_core.proofs.MeaningLaws.Filtered.{sent_output, sent_refused}
 
 -- filters that refuse the bytes so far refuse the whole body so
 pub record Cuts (filters : Filters) (cut : Option ℕ) (body : List ℕ) (code : ℕ) (output : List ℕ) : Type 0 where
