@@ -2,14 +2,14 @@
 //! these, or that no server is to be opened.
 ghost use Rattle.http_rules.specs.Valid.{IsValid};
 ghost use Rattle.session_core.specs.Place.{IsPlaced};
-ghost use Rattle.session_sides.specs.Joined.{Placed, answer_of};
+ghost use Rattle.forward_core.specs.Joined.Joined.{Placed, answer_of};
 
 use crate::configs::config_of;
 use case_rows::{Answers, Fault, Row, count_of, decoded};
+use forward_core::joined::Directions;
 use http_rules::{Config, OutOfMemory};
 use session_core::Core;
 use session_core::laws::wants_mean;
-use session_sides::Directions;
 use std::alloc::Global;
 
 /// The size of the least output windows.

@@ -5,7 +5,7 @@ use Rattle.http_rules.specs.declared.config.Config.{Config}
 use Rattle.cfg_parse.specs.Whole.{config_of}
 use Rattle.cfg_parse.specs.declared.fault.CfgKind.{CfgKind}
 use Rattle.drill_session.specs.Drill.{configuration}
-use Rattle.proxy_meaning.specs.Product.{meaning_of}
+use Rattle.forward_core.specs.Meaning.Product.{meaning_of}
 use Rattle.px_command.specs.Command.{IsCheck, IsCheckRecord, IsReplay, IsServe, IsDrill, IsHelp, IsVersion, IsUsage, NamesConfig}
 use Rattle.px_command.specs.Texts.{EndsLine}
 use Rattle.rec_format.specs.declared.record.RecKind.{RecKind}

@@ -2,7 +2,7 @@
 use Rattle.std.specs.Prelude.{ℕ, ◌≤◌}
 use Rattle.http_rules.specs.declared.config.Config.{Config}
 use Rattle.http_rules.specs.Valid.{IsValid}
-use Rattle.proxy_meaning.specs.Product.{meaning_of}
+use Rattle.forward_core.specs.Meaning.Product.{meaning_of}
 use Rattle.session_core.specs.Consequences.{IsTotal}
 use Rattle.session_core.specs.MeaningLaws.Bound.{IsBounded}
 

@@ -1,12 +1,12 @@
 -- Directions that are left for the next session.
 use Rattle.std.specs.Prelude.{Option, Some, None, ⊤}
 use Rattle.http_rules.specs.declared.config.Config.{Config}
-use Rattle.proxy_meaning.specs.Product.{meaning_of}
+use Rattle.forward_core.specs.Meaning.Product.{meaning_of}
 use Rattle.session_core.specs.Leads.{IsFresh}
 use Rattle.session_core.specs.Place as place
 use Rattle.session_core.specs.Sided.{Sided}
-use Rattle.session_sides.specs.Joined.{DirectionsStand, Placed, request_of, answer_of}
-use Rattle.session_sides.specs.declared.directions.Directions.{Directions}
+use Rattle.forward_core.specs.Joined.Joined.{DirectionsStand, Placed, request_of, answer_of}
+use Rattle.forward_core.specs.declared.joined.directions.Directions.{Directions}
 
 -- nothing has happened to them, under this configuration
 pub record IsNew (cfg : Config) (d : Directions) : Type 0 where

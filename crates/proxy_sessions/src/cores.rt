@@ -1,22 +1,22 @@
 //! What makes the cores of a configuration.
 ghost use Rattle.std.specs.Prelude.{◌≡◌, ◌≤◌, IfOk, false};
 ghost use Rattle.http_rules.specs.Valid.{IsValid};
-ghost use Rattle.proxy_meaning.specs.Product.{meaning_of};
+ghost use Rattle.forward_core.specs.Meaning.Product.{meaning_of};
 ghost use Rattle.session_core.specs.History.{Past, nothing_yet};
 ghost use Rattle.session_core.specs.Leads.{Stands};
 ghost use Rattle.session_core.specs.Place.{IsPlaced};
 ghost use Rattle.session_core.specs.Place as place;
 ghost use Rattle.session_core.specs.Waits.{is_serving};
-ghost use Rattle.session_sides.specs.Joined.{DirectionsStand, Placed, request_of, answer_of};
+ghost use Rattle.forward_core.specs.Joined.Joined.{DirectionsStand, Placed, request_of, answer_of};
 ghost use Rattle.http_rules.specs.declared.config.Config.{Config};
 ghost use Rattle.proxy_sessions.specs.Spare.{IsNew};
 
+use forward_core::joined::Directions;
 use http_model::OutOfMemory;
 use http_rules::Config;
 use replay_run::Cores;
 use serve_run::Opens;
 use session_core::Core;
-use session_sides::Directions;
 use std::alloc::Global;
 use std::marker::Model;
 

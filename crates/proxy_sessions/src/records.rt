@@ -1,7 +1,7 @@
 //! The sessions of a record, and a generated one.
 ghost use Rattle.std.specs.Prelude.{◌≤◌, vec_len, IfOk};
 ghost use Rattle.http_rules.specs.Valid.{IsValid};
-ghost use Rattle.proxy_meaning.specs.Product.{meaning_of};
+ghost use Rattle.forward_core.specs.Meaning.Product.{meaning_of};
 ghost use Rattle.rec_format.specs.Read as read;
 ghost use Rattle.rec_format.specs.ReportParts.{out_of};
 ghost use Rattle.rec_format.specs.Reports.{Reportable};
@@ -9,13 +9,13 @@ ghost use Rattle.replay_run.specs.Replayed.{Replays};
 ghost use Rattle.replay_run.specs.Written.{IsReplayOf, IsDrillOf};
 
 use crate::cores::RecordCores;
+use forward_core::bounds::bounded;
+use forward_core::request::laws::total;
 use http_model::OutOfMemory;
 use http_rules::Config;
 use px_link::{Bytes, Turn};
 use rec_format::{Connection, Record, Report};
 use replay_run::{drill_text, replay_connection, replay_text};
-use request_side::laws::total;
-use session_bounds::bounded;
 use std::alloc::Global;
 
 /// The report of a record, in its format: the sessions of its connections are run one after another. Want of memory is the only error.

@@ -4,7 +4,7 @@ ghost use Rattle.http_rules.specs.Valid.{IsValid};
 ghost use Rattle.htx_drive.specs.Dialled.{Dialled};
 ghost use Rattle.px_link.specs.Net.{Coming, Kept, address_of};
 ghost use Rattle.px_link.specs.Told.{Rose};
-ghost use Rattle.proxy_meaning.specs.Product.{meaning_of};
+ghost use Rattle.forward_core.specs.Meaning.Product.{meaning_of};
 ghost use Rattle.proxy_sessions.specs.Connections.{ServesClient};
 ghost use Rattle.serve_run.specs.Lines.{net_line};
 ghost use Rattle.serve_run.specs.Served.{Breaks, NetFails, ServedAll, ServedOne};
@@ -25,7 +25,7 @@ struct ConfigSessions<'c> {
 
 impl<'c, N: Net> Sessions<N> for ConfigSessions<'c> {
     ghost use Rattle.px_link.specs.Net.{address_of};
-    ghost use Rattle.proxy_meaning.specs.Product.{meaning_of};
+    ghost use Rattle.forward_core.specs.Meaning.Product.{meaning_of};
     ghost use Rattle.proxy_sessions.specs.Connections.{ServesClient};
 
     type Settings = (Config, Address);

@@ -1,5 +1,5 @@
-use Rattle.proxy_meaning.specs.Product.{meaning_of}
-use Rattle.session_sides.specs.Joined.{request_of, answer_of}
+use Rattle.forward_core.specs.Meaning.Product.{meaning_of}
+use Rattle.forward_core.specs.Joined.Joined.{request_of, answer_of}
 use Rattle.proxy_sessions.proofs.Idle.{idle_core}
 use Rattle.proxy_sessions.proofs.cores.core_of.Goals as goal
 

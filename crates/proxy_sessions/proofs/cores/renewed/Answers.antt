@@ -1,4 +1,4 @@
-use Rattle.session_sides.specs.Joined.{Placed, answer_of}
+use Rattle.forward_core.specs.Joined.Joined.{Placed, answer_of}
 use Rattle.proxy_sessions.proofs.Spare.{somewhere}
 use Rattle.proxy_sessions.proofs.cores.renewed.Goals as goal
 

@@ -1,7 +1,7 @@
 use Rattle.std.proofs.Common.{sym, subst}
 use Rattle.std.specs.Prelude.{Option}
 use Rattle.http_rules.specs.declared.config.Config.{Config}
-use Rattle.session_sides.specs.declared.directions.Directions.{Directions}
+use Rattle.forward_core.specs.declared.joined.directions.Directions.{Directions}
 use Rattle.proxy_sessions.specs.Spare.{IsNew, IsSpare}
 use Rattle.proxy_sessions.proofs.cores.ClientCoresOpensConfigCore.keep.Goals as goal
 

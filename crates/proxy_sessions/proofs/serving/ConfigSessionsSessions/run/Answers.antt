@@ -1,8 +1,8 @@
 use Rattle.px_link.specs.Net.{address_of}
 use Rattle.htx_drive.specs.Cores.{core_seen}
-use Rattle.proxy_meaning.specs.Product.{meaning_of}
+use Rattle.forward_core.specs.Meaning.Product.{meaning_of}
 use Rattle.session_core.specs.Leads.{Stands}
-use Rattle.session_sides.specs.Joined.{DirectionsStand, request_of, answer_of}
+use Rattle.forward_core.specs.Joined.Joined.{DirectionsStand, request_of, answer_of}
 use Rattle.proxy_sessions.proofs.Clients.{serves}
 use Rattle.proxy_sessions.proofs.serving.ConfigSessionsSessions.run.Goals as goal
 

@@ -1,0 +1,102 @@
+-- Directions to which nothing has happened.
+use Rattle.std.proofs.Common.{◌≡◌, [], true, false, None, refl, sym, ap, ◌∙◌, subst}
+use Rattle.http_model.specs.Head.{Head, Message, RequestLine}
+use Rattle.http_model.specs.Reading.{Received}
+use Rattle.http_model.specs.declared.Framing.TheVariants.{Absent}
+use Rattle.px_sample.specs.Variables.{Variables, no_variables}
+use Rattle.http_rules.specs.declared.config.Config.{Config}
+use Rattle.forward_core.specs.Meaning.Product.{meaning_of}
+use Rattle.session_core.specs.Consequences.{IsTotal}
+use Rattle.session_core.specs.History.{no_stream}
+use Rattle.session_core.specs.Place as at
+use Rattle.session_core.specs.Sided.{Sided, Asking, Reply, asker_in}
+use Rattle.session_core.specs.Leads.{IsFresh}
+use Rattle.forward_core.specs.Rules.Ruling.{IsReady}
+use Rattle.forward_core.specs.Request.Seen as requests
+use Rattle.forward_core.specs.Request.Stands.{IsSound, RequestStands}
+use Rattle.forward_core.specs.declared.request.side.RequestSide.{RequestSide}
+use Rattle.forward_core.specs.declared.answer.side.AnswerSide.{AnswerSide}
+use Rattle.forward_core.specs.declared.request.place.Place.{Place as Asked}
+use Rattle.forward_core.specs.declared.request.place.Place.TheVariants as asked
+use Rattle.forward_core.specs.Answer.Seen as answers
+use Rattle.forward_core.specs.Answer.Stands.{IsSoundSide, AnswerStands, IsAsker}
+use Rattle.forward_core.specs.declared.answer.place.Place.TheVariants as answered
+use Rattle.forward_core.specs.declared.answer.asker.Asker.{Asker}
+use Rattle.forward_core.specs.Joined.Joined.{IsAt, Holds, KeepsMethod, DirectionsStand, settings_of, request_of, answer_of}
+use Rattle.forward_core.specs.declared.joined.directions.Directions.{Directions}
+
+abbrev pub no_head : Head
+no_head = record { line = RequestLine [] [] []; fields = [] }
+
+abbrev pub no_received : Received
+no_received = record { head = no_head; framing = Absent; declared = None; close = false }
+
+abbrev pub no_asking : Asking Variables
+no_asking = record { received = no_received; head = no_head; vars = no_variables }
+
+abbrev pub no_message : Message
+no_message = record { head = no_head; framing = Absent; body = []; trailers = [] }
+
+abbrev pub no_reply : Reply Variables
+no_reply = record { message = no_message; no_body = false; keep = false; method = []; vars = no_variables }
+
+abbrev pub no_past : (cfg : Config) → Sided (meaning_of cfg)
+no_past cfg =
+    record { vars = no_variables; came = no_stream; asking = no_asking; to_server = []; server = no_stream; to_client = []; now = no_variables; reply = no_reply; saying = [] }
+
+asked_nothing : (seen : Asker) → seen ≡ answers.nobody → IsAsker seen (asker_in no_asking)
+asked_nothing seen h = record { head_asked = ap (λ (a : Asker). a.head_asked) h; is_http_11 = ap (λ (a : Asker). a.is_http_11) h; keep = ap (λ (a : Asker). a.keep) h }
+
+-- new directions stand for nothing
+pub fresh_stand : (cfg : Config) (d : Directions) → settings_of d ≡ cfg → IsTotal (meaning_of cfg) → d.rules.vars ≡ no_variables → requests.place_of d.request ≡ asked.Reading
+    → RequestStands cfg d.request no_variables no_stream no_asking [] no_reply
+    → (IsAsker (answers.asker_of d.answer) (asker_in no_asking) → AnswerStands cfg d.answer no_asking no_stream [] no_variables [])
+    → answers.asker_of d.answer ≡ answers.nobody
+    → DirectionsStand cfg d (no_past cfg)
+fresh_stand cfg d config total vars reads request answer nobody =
+    record {
+      config = config;
+      total = total;
+      request = request;
+      answer = answer (asked_nothing (answers.asker_of d.answer) nobody);
+      vars = subst (λ (x : Asked). Holds x (answers.place_of d.answer) d.rules.vars no_variables no_asking.vars no_variables) (sym reads) vars;
+      method = subst (λ (x : Asked). KeepsMethod x d.method.bytes (asker_in no_asking).method) (sym reads) tt;
+    }
+
+pub fresh_new : (cfg : Config) (d : Directions) (r : RequestSide) (a : AnswerSide) → d.request ≡ r → d.answer ≡ a → settings_of d ≡ cfg → IsTotal (meaning_of cfg) → d.rules.vars ≡ no_variables
+    → requests.place_of r ≡ asked.Reading → RequestStands cfg r no_variables no_stream no_asking [] no_reply
+    → (IsAsker (answers.asker_of a) (asker_in no_asking) → AnswerStands cfg a no_asking no_stream [] no_variables [])
+    → answers.asker_of a ≡ answers.nobody
+    → DirectionsStand cfg d (no_past cfg)
+fresh_new cfg d r a is_r is_a config total vars reads request answer nobody =
+    fresh_stand cfg d config total vars (ap (λ (x : RequestSide). requests.place_of x) is_r ∙ reads)
+    (subst (λ (x : RequestSide). RequestStands cfg x no_variables no_stream no_asking [] no_reply) (sym is_r) request)
+    (subst (λ (x : AnswerSide). IsAsker (answers.asker_of x) (asker_in no_asking) → AnswerStands cfg x no_asking no_stream [] no_variables []) (sym is_a) answer)
+    (subst (λ (x : AnswerSide). answers.asker_of x ≡ answers.nobody) (sym is_a) nobody)
+
+pub fresh_at : (cfg : Config) (d : Directions) (r : RequestSide) (a : AnswerSide) → d.request ≡ r → d.answer ≡ a → settings_of d ≡ cfg → IsSound r → requests.limits_of r ≡ cfg.limits
+    → requests.place_of r ≡ asked.Reading → IsSoundSide a → answers.size_of a ≡ cfg.limits.bufsize → answers.place_of a ≡ answered.Idle → IsReady d.rules → d.method.cap ≡ cfg.limits.bufsize → IsAt d at.Reads
+fresh_at cfg d r a is_r is_a config sound limits reads sound_a size idle ready method =
+    record {
+      sound = record {
+        request = subst (λ (x : RequestSide). IsSound x) (sym is_r) sound;
+        answer = subst (λ (x : AnswerSide). IsSoundSide x) (sym is_a) sound_a;
+        rules = ready;
+        request_limits = ap (λ (x : RequestSide). requests.limits_of x) is_r ∙ limits ∙ ap (λ (x : Config). x.limits) (sym config);
+        answer_size = ap (λ (x : AnswerSide). answers.size_of x) is_a ∙ size ∙ ap (λ (x : Config). x.limits.bufsize) (sym config);
+        method = method ∙ ap (λ (x : Config). x.limits.bufsize) (sym config);
+      };
+      stand = (ap (λ (x : RequestSide). requests.place_of x) is_r ∙ reads, ap (λ (x : AnswerSide). answers.place_of x) is_a ∙ idle);
+    }
+
+pub fresh_is : (cfg : Config) (d : Directions) (r : RequestSide) (a : AnswerSide) → d.request ≡ r → d.answer ≡ a → requests.is_open r ≡ true → requests.window_of r ≡ [] → (answers.seen a).window ≡ []
+    → IsFresh (meaning_of cfg) (request_of d) (answer_of d) (no_past cfg)
+fresh_is cfg d r a is_r is_a opened window window_a =
+    record {
+      vars = refl;
+      came = refl;
+      to_client = refl;
+      is_open = ap (λ (x : RequestSide). requests.is_open x) is_r ∙ opened;
+      to_server_window = ap (λ (x : RequestSide). requests.window_of x) is_r ∙ window;
+      to_client_window = ap (λ (x : AnswerSide). (answers.seen x).window) is_a ∙ window_a;
+    }

@@ -1,0 +1,203 @@
+-- What was put out to the server, against the request that the client's stream brings.
+use Rattle.std.proofs.Common.{◌≡◌, ◌≢◌, ℕ, ◌+◌, List, [], ◌∷◌, ◌++◌, Bool, true, false, refl, ap, sym, ◌∙◌, subst, append_assoc, length, arith}
+use Rattle.std.specs.Prelude.{Option, Some, not, ◌&&◌}
+use Rattle.std.proofs.lemmas.List.{append-nil, length-append}
+use Rattle.http_model.specs.declared.Ending.{Ending}
+use Rattle.http_model.specs.declared.Framing.{Framing}
+use Rattle.http_model.specs.declared.Limits.{Limits}
+use Rattle.http_model.specs.Reading.{BodyReading}
+use Rattle.session_model.specs.Stream.{Stream}
+use Rattle.session_model.specs.Meaning.{Meaning}
+use Rattle.session_model.specs.Asking.{Asks, Sends, asked_by}
+use Rattle.session_model.specs.Env.{request_env}
+use Rattle.session_core.specs.History.{Coming, Continues, IsPrefix}
+use Rattle.session_core.specs.Sided.{Asking, Reply, BodyGoes, RequestGoes, SourceIs, forwarded_to, request_to}
+use Rattle.session_core.specs.declared.Source.TheVariants as source
+use Rattle.session_core.proofs.Heads.{HeadAsks, head_asks, sends_head}
+use Rattle.px_sample.specs.Variables.{Variables}
+use Rattle.http_rules.specs.declared.config.Config.{Config}
+use Rattle.forward_core.specs.Meaning.Product.{meaning_of}
+use Rattle.body_filter.specs.declared.filter_spec.FilterSpec.{FilterSpec}
+use Rattle.h1_body.specs.BodyOf.{BodyRead, Reads, IsBodyOf, BodyOf}
+use Rattle.lane.specs.Direction.Sent.{Sent, IsFrontOf, SpellsAs}
+use Rattle.lane.specs.Direction.Sends.{Past, put_out}
+use Rattle.lane.specs.Direction.Promise.{Promise, BodyTaken, body_sent, finish_of, filter_of, IsCutWith, IsWholeWith}
+use Rattle.lane.specs.declared.direction.stage.Stage.{Stage}
+use Rattle.lane.specs.declared.direction.stage.Stage.TheVariants as stage
+use Rattle.lane.specs.declared.direction.stage.Source.{Source as LaneSource}
+use Rattle.lane.specs.declared.direction.stage.Source.TheVariants as came
+use Rattle.lane.specs.Asking.{stage_of, source_of, input_of, ended_of, is_dropping}
+use Rattle.lane.specs.Asking as asking
+use Rattle.lane.specs.declared.request_lane.RequestLane.{RequestLane}
+use Rattle.forward_core.specs.Request.Seen.{source_by, source_at, is_done, sent_at}
+use Rattle.forward_core.specs.Request.Stands.{IsFor, coming, HasPut, GoesOut, StandsAt, message_to}
+use Rattle.forward_core.specs.declared.request.place.Place.{Place}
+use Rattle.forward_core.specs.declared.request.place.Place.TheVariants as place
+use Rattle.forward_core.proofs.RequestLemmas.Bodies.{Follows, follows, is_read}
+use Rattle.forward_core.proofs.RequestLemmas.Messages.{LaneSpells, SessionSpells, spelled, cut_code, uncut, reading_in}
+
+-- ---- text
+
+-- of a request's text so much was put out
+record Texts (cfg : Config) (asks : Asking Variables) (rest : Stream) (b : BodyReading) (all dropped : Bool) (put : List ℕ) : Type 0 where
+  text : List ℕ
+  spells : SessionSpells cfg asks rest b text
+  front : IsPrefix put text
+  sent : all ≡ true → put ≡ text
+  lacks : dropped ≡ true → put ≢ text
+
+-- what the lane says of the text of its message, in the words of the configuration
+fronts : (cfg : Config) (asks : Asking Variables) (p : Past) (b : BodyReading) (put : List ℕ) → p.sent ≡ message_to cfg asks → p.filters ≡ cfg.req_filters
+    → IsFrontOf p.sent (body_sent p (Reads b)) (finish_of p.filters (Reads b)) put → (more : List ℕ) × LaneSpells cfg asks b (put ++ more)
+fronts cfg asks p b put message filters h =
+    let k : IsFrontOf p.sent (p.sent.given ++ (filter_of cfg.req_filters (Reads b)).output) (finish_of cfg.req_filters (Reads b)) put =
+    subst (λ (fs : List FilterSpec). IsFrontOf p.sent (p.sent.given ++ (filter_of fs (Reads b)).output) (finish_of fs (Reads b)) put) filters h in
+    let l : IsFrontOf (message_to cfg asks) (filter_of cfg.req_filters (Reads b)).output (finish_of cfg.req_filters (Reads b)) put =
+    subst (λ (s : Sent). IsFrontOf s (s.given ++ (filter_of cfg.req_filters (Reads b)).output) (finish_of cfg.req_filters (Reads b)) put) message k in
+    (l.1, subst (λ (text : List ℕ). LaneSpells cfg asks b (text ++ l.1)) (sym l.2) l.3)
+
+spells_all : (cfg : Config) (asks : Asking Variables) (p : Past) (b : BodyReading) (put : List ℕ) → p.sent ≡ message_to cfg asks → p.filters ≡ cfg.req_filters
+    → SpellsAs p.sent (body_sent p (Reads b)) (finish_of p.filters (Reads b)) put → LaneSpells cfg asks b put
+spells_all cfg asks p b put message filters h =
+    let k : SpellsAs p.sent (p.sent.given ++ (filter_of cfg.req_filters (Reads b)).output) (finish_of cfg.req_filters (Reads b)) put =
+    subst (λ (fs : List FilterSpec). SpellsAs p.sent (p.sent.given ++ (filter_of fs (Reads b)).output) (finish_of fs (Reads b)) put) filters h in
+    let l : SpellsAs (message_to cfg asks) (filter_of cfg.req_filters (Reads b)).output (finish_of cfg.req_filters (Reads b)) put =
+    subst (λ (s : Sent). SpellsAs s (s.given ++ (filter_of cfg.req_filters (Reads b)).output) (finish_of cfg.req_filters (Reads b)) put) message k in
+    subst (λ (text : List ℕ). LaneSpells cfg asks b text) (sym l.1) l.2
+
+done_is : (st : Stage) → is_done st ≡ true → st ≡ stage.Done
+done_is stage.Reading e = absurd (cc)
+done_is stage.Head e = absurd (cc)
+done_is stage.Sending e = absurd (cc)
+done_is stage.Done e = refl
+
+-- text that is a front of a longer one isn't all of it
+lacks_more : (put text more : List ℕ) → text ≢ [] → put ≢ (put ++ text) ++ more
+lacks_more put [] more some e = some refl
+lacks_more put (x ∷ xs) more some e =
+    let long : length put ≡ length put + length (x ∷ xs) + length more = ap length e ∙ length-append (put ++ x ∷ xs) more ∙ ap (λ (n : ℕ). n + length more) (length-append put (x ∷ xs)) in
+    let one : length (x ∷ xs) ≡ 1 + length xs = omega arith in
+    omega (arith, long, one)
+
+-- what the lane was given of the stream, and what follows
+record Reading (cfg : Config) (lane : RequestLane) (p : Past) (b : BodyReading) (rest : Stream) : Type 0 where
+  follows : Follows (ended_of lane) p.bytes rest
+  taken : BodyTaken lane.lane p follows.more (Some rest.ending) (Reads b)
+
+texts : (cfg : Config) (lane : RequestLane) (vars : Variables) (came : Coming) (asks : Asking Variables) (to_server : List ℕ) (g : GoesOut cfg lane vars came asks to_server) (rest : Stream) (b : BodyReading)
+    → Reading cfg lane g.past b rest → Promise lane.lane g.past → (d done : Bool) → is_dropping lane ≡ d → is_done (stage_of lane) ≡ done → HasPut d lane g.past to_server
+    → Texts cfg asks rest b (done && not d) d to_server
+texts cfg lane vars came asks to_server g rest b r promise false true dropped done put =
+    let all : LaneSpells cfg asks b to_server = subst (λ (text : List ℕ). LaneSpells cfg asks b text) (sym put)
+    (spells_all cfg asks g.past b (put_out lane.lane g.past) g.message g.filters (promise.spelled (done_is (stage_of lane) done) dropped r.follows.more (Some rest.ending) r.follows.goes (Reads b) r.taken)) in
+    record { text = to_server; spells = spelled cfg asks rest b to_server all; front = ([], append-nil to_server); sent = λ e. refl; lacks = λ e. absurd (cc) }
+texts cfg lane vars came asks to_server g rest b r promise false false dropped done put =
+    let h = fronts cfg asks g.past b (put_out lane.lane g.past) g.message g.filters (promise.front dropped r.follows.more (Some rest.ending) r.follows.goes (Reads b) r.taken) in
+    let some : LaneSpells cfg asks b (to_server ++ h.0) = subst (λ (text : List ℕ). LaneSpells cfg asks b (text ++ h.0)) (sym put) h.1 in
+    record { text = to_server ++ h.0; spells = spelled cfg asks rest b (to_server ++ h.0) some; front = (h.0, refl); sent = λ e. absurd (cc); lacks = λ e. absurd (cc) }
+texts cfg lane vars came asks to_server g rest b r promise true done dropped is put =
+    let l = put.1 in
+    let h = fronts cfg asks g.past b (g.past.took ++ l.text) g.message g.filters (l.front r.follows.more (Some rest.ending) r.follows.goes (Reads b) r.taken) in
+    let whole : List ℕ = (to_server ++ l.text) ++ h.0 in
+    let some : LaneSpells cfg asks b whole = subst (λ (text : List ℕ). LaneSpells cfg asks b ((text ++ l.text) ++ h.0)) (sym put.0) h.1 in
+    record { text = whole; spells = spelled cfg asks rest b whole some; front = (l.text ++ h.0, sym (append_assoc to_server l.text h.0)); sent = λ e. absurd (never done e); lacks = λ e. lacks_more to_server l.text h.0 l.some }
+  where
+    never : (done : Bool) → (done && not true) ≡ true → ⊥
+    never true e = cc
+    never false e = cc
+
+-- ---- the source
+
+source_is : (cfg : Config) (lane : RequestLane) (vars : Variables) (came_ : Coming) (asks : Asking Variables) (to_server : List ℕ) (g : GoesOut cfg lane vars came_ asks to_server) (rest : Stream) (b : BodyReading)
+    → Reading cfg lane g.past b rest → Promise lane.lane g.past → (so : LaneSource) → source_of lane ≡ so → SourceIs (source_by so) (request_to (meaning_of cfg) asks rest b).cut
+source_is cfg lane vars came_ asks to_server g rest b r promise came.Going e = tt
+source_is cfg lane vars came_ asks to_server g rest b r promise came.Whole e =
+    let w : IsWholeWith cfg.req_filters (input_of lane ++ r.follows.more) (Reads b) =
+    subst (λ (fs : List FilterSpec). IsWholeWith fs (input_of lane ++ r.follows.more) (Reads b)) g.filters (promise.whole e r.follows.more (Some rest.ending) r.follows.goes (Reads b) r.taken) in
+    (uncut cfg asks rest b (input_of lane ++ r.follows.more) w).cut
+source_is cfg lane vars came_ asks to_server g rest b r promise (came.Cut code) e =
+    cut_code cfg asks rest b code (subst (λ (fs : List FilterSpec). IsCutWith code fs (Reads b)) g.filters (promise.cut code e r.follows.more (Some rest.ending) r.follows.goes (Reads b) r.taken))
+
+-- ---- the body
+
+pub reads_of : (cfg : Config) (lane : RequestLane) (vars : Variables) (came_ : Coming) (asks : Asking Variables) (to_server : List ℕ) (g : GoesOut cfg lane vars came_ asks to_server) → IsFor cfg lane → (rest : Stream) (read : BodyRead)
+    → (f : Follows (ended_of lane) g.past.bytes rest) → BodyTaken lane.lane g.past f.more (Some rest.ending) read → IsBodyOf cfg.limits asks.received.framing rest.bytes (Some rest.ending) read
+reads_of cfg lane vars came_ asks to_server g is rest read f x =
+    subst (λ (bytes : List ℕ). IsBodyOf cfg.limits asks.received.framing bytes (Some rest.ending) read) (sym f.is)
+    (subst (λ (framing : Framing). IsBodyOf cfg.limits framing (g.past.bytes ++ f.more) (Some rest.ending) read) g.reads
+    (subst (λ (l : Limits). IsBodyOf l g.past.reads (g.past.bytes ++ f.more) (Some rest.ending) read) is.limits x))
+
+taken_of : (cfg : Config) (lane : RequestLane) (vars : Variables) (came_ : Coming) (asks : Asking Variables) (to_server : List ℕ) (g : GoesOut cfg lane vars came_ asks to_server) → IsFor cfg lane → (rest : Stream) (read : BodyRead)
+    → (f : Follows (ended_of lane) g.past.bytes rest) → IsBodyOf cfg.limits asks.received.framing rest.bytes (Some rest.ending) read → BodyTaken lane.lane g.past f.more (Some rest.ending) read
+taken_of cfg lane vars came_ asks to_server g is rest read f x =
+    subst (λ (l : Limits). IsBodyOf l g.past.reads (g.past.bytes ++ f.more) (Some rest.ending) read) (sym is.limits)
+    (subst (λ (framing : Framing). IsBodyOf cfg.limits framing (g.past.bytes ++ f.more) (Some rest.ending) read) (sym g.reads)
+    (subst (λ (bytes : List ℕ). IsBodyOf cfg.limits asks.received.framing bytes (Some rest.ending) read) f.is x))
+
+-- of a reading of what follows the head, what was put out is a front
+pub body_goes : (cfg : Config) (lane : RequestLane) (vars : Variables) (came_ : Coming) (asks : Asking Variables) (to_server : List ℕ) (g : GoesOut cfg lane vars came_ asks to_server) → IsFor cfg lane → Promise lane.lane g.past
+    → (rest : Stream) → Follows (ended_of lane) g.past.bytes rest → (b : BodyReading) → BodyOf cfg.limits asks.received.framing rest.bytes rest.ending b
+    → BodyGoes (meaning_of cfg) asks (source_by (source_of lane)) (is_done (stage_of lane) && not (is_dropping lane)) (is_dropping lane) to_server rest
+body_goes cfg lane vars came_ asks to_server g is promise rest f b reads =
+    let r : Reading cfg lane g.past b rest = record { follows = f; taken = taken_of cfg lane vars came_ asks to_server g is rest (Reads b) f reads } in
+    let t : Texts cfg asks rest b (is_done (stage_of lane) && not (is_dropping lane)) (is_dropping lane) to_server =
+    texts cfg lane vars came_ asks to_server g rest b r promise (is_dropping lane) (is_done (stage_of lane)) refl refl g.put in
+    record {
+      body = b;
+      reads = reads;
+      text = t.text;
+      spelled = t.spells;
+      front = t.front;
+      source = source_is cfg lane vars came_ asks to_server g rest b r promise (source_of lane) refl;
+      sent = t.sent;
+      lacks = t.lacks;
+    }
+
+-- of this reading
+pub body_is : (cfg : Config) (lane : RequestLane) (vars : Variables) (came_ : Coming) (asks : Asking Variables) (to_server : List ℕ) (g : GoesOut cfg lane vars came_ asks to_server) (is : IsFor cfg lane) (promise : Promise lane.lane g.past)
+    (rest : Stream) (f : Follows (ended_of lane) g.past.bytes rest) (b : BodyReading) (reads : BodyOf cfg.limits asks.received.framing rest.bytes rest.ending b)
+    → (body_goes cfg lane vars came_ asks to_server g is promise rest f b reads).body ≡ b
+unfolding body_goes
+body_is cfg lane vars came_ asks to_server g is promise rest f b reads = refl
+
+-- ---- the request
+
+-- the head asks for a server
+pub asks_for : (cfg : Config) (lane : RequestLane) (vars : Variables) (came_ : Coming) (asks : Asking Variables) (to_server : List ℕ) (g : GoesOut cfg lane vars came_ asks to_server) (stream rest : Stream)
+    → Asks (meaning_of cfg) vars stream (asked_by (meaning_of cfg) asks.received rest ((meaning_of cfg).request_rules (request_env vars asks.received.head)))
+    → Asks (meaning_of cfg) vars stream (Sends (forwarded_to asks rest))
+asks_for cfg lane vars came_ asks to_server g stream rest a =
+    subst (λ (x : Asking Variables). Asks (meaning_of cfg) vars stream (Sends (forwarded_to x rest))) (sym g.asks)
+    (sends_head (meaning_of cfg) vars asks.received g.env stream rest g.rules g.short g.fits a)
+
+pub whole_source : (so : LaneSource) → source_by so ≡ source.Whole → so ≡ came.Whole
+whole_source came.Going e = absurd (cc)
+whole_source came.Whole e = refl
+whole_source (came.Cut code) e = absurd (cc)
+
+pub requests : (cfg : Config) (lane : RequestLane) (vars : Variables) (came_ : Coming) (asks : Asking Variables) (to_server : List ℕ) (g : GoesOut cfg lane vars came_ asks to_server) → IsFor cfg lane → Promise lane.lane g.past
+    → ((bytes : List ℕ) (end : Option Ending) → (read : BodyRead) × IsBodyOf cfg.limits asks.received.framing bytes end read)
+    → (stream : Stream) → Continues came_ stream
+    → RequestGoes (meaning_of cfg) (source_by (source_of lane)) (is_done (stage_of lane) && not (is_dropping lane)) (is_dropping lane) vars asks to_server stream
+requests cfg lane vars came_ asks to_server g is promise reading stream c =
+    let M : Meaning = meaning_of cfg in
+    let a : HeadAsks M vars (coming lane g.past.bytes) asks.received stream = head_asks M vars came_ (coming lane g.past.bytes) asks.received g.used g.head stream c in
+    let f : Follows (ended_of lane) g.past.bytes a.rest = follows (ended_of lane) g.past.bytes a.rest a.continues in
+    let h = reading a.rest.bytes (Some a.rest.ending) in
+    let x : BodyOf cfg.limits asks.received.framing a.rest.bytes a.rest.ending (reading_in h.0) =
+    subst (IsBodyOf cfg.limits asks.received.framing a.rest.bytes (Some a.rest.ending)) (is_read cfg.limits asks.received.framing a.rest.bytes a.rest.ending h.0 h.1) h.1 in
+    record {
+      rest = a.rest;
+      asks = asks_for cfg lane vars came_ asks to_server g stream a.rest a.asks;
+      goes = body_goes cfg lane vars came_ asks to_server g is promise a.rest f (reading_in h.0) x;
+    }
+
+pub requests_at : (at : Place) (cfg : Config) (lane : RequestLane) (vars : Variables) (came_ : Coming) (asks : Asking Variables) (to_server : List ℕ) (reply : Reply Variables) → at ≡ place.Sending → StandsAt at cfg lane vars came_ asks to_server reply
+    → IsFor cfg lane → ((p : Past) → asking.Sends lane p → Promise lane.lane p)
+    → ((bytes : List ℕ) (end : Option Ending) → (read : BodyRead) × IsBodyOf cfg.limits asks.received.framing bytes end read)
+    → (stream : Stream) → Continues came_ stream
+    → RequestGoes (meaning_of cfg) (source_at at (source_of lane)) (sent_at at (stage_of lane) && not (is_dropping lane)) (is_dropping lane) vars asks to_server stream
+requests_at place.Reading cfg lane vars came_ asks to_server reply e h is promise reading stream c = absurd (cc)
+requests_at place.Sending cfg lane vars came_ asks to_server reply e h is promise reading stream c = requests cfg lane vars came_ asks to_server h is (promise h.past h.sends) reading stream c
+requests_at place.Idle cfg lane vars came_ asks to_server reply e h is promise reading stream c = absurd (cc)
+requests_at place.Replied cfg lane vars came_ asks to_server reply e h is promise reading stream c = absurd (cc)

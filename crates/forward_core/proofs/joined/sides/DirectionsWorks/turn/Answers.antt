@@ -1,0 +1,67 @@
+use Rattle.forward_core.proofs.JoinedLemmas.SayLemmas.{said_fits, said_size}
+use Rattle.forward_core.specs.Answer.Seen.{size_of}
+use Rattle.std.proofs.Common.{◌≡◌, true, false, sym, ◌∙◌}
+use Rattle.http_model.specs.Refusal.{refusal, closing}
+use Rattle.forward_core.specs.Request.Seen as requests
+use Rattle.forward_core.proofs.JoinedLemmas.Serving.{turns, sound_both, begun_sending}
+use Rattle.forward_core.proofs.joined.sides.DirectionsWorks.turn.Goals as goal
+
+pub returns-clause-placed : goal.returns-clause-placed
+returns-clause-placed c =
+    let d = c.args.self.now in
+    let a = c.turn_to.new.self in
+    let rules = record c.say_closing.new.self { said = c.turn_to.new.list } in
+    let e = c.turn_to.ensures in
+    let x = c.requires.placed in
+    let p = x.past.1 in
+    let m = closing (refusal c.args.code) in
+    let t = e.leads x.past.0 p.asking p.server p.to_client p.now p.saying m.head m.body x.past.2.answer (c.say_closing.ensures.said ∙ c.lists.ensures.blocks m (c.lists.ensures.closing c.args.code)) in
+    let ready = c.say_closing.ensures.ready in
+    record {
+      is_at = record {
+        sound = sound_both d a rules e.sound e.size (record { valid = ready.valid; scratch = ready.scratch; said = e.list_size ∙ ready.said }) c.say_closing.ensures.config x.is_at.sound;
+        stand = (begun_sending (requests.place_of d.request) x.is_at.stand.0, e.place);
+      };
+      past = (x.past.0, record p { saying = t.saying }, turns x.past.0 d a rules p t.saying x.is_at.stand.0 e.place c.say_closing.ensures.config x.past.2 t.stands);
+    }
+
+pub returns-clause-leads : goal.returns-clause-leads
+returns-clause-leads c = λ cfg p s before.
+    let d = c.args.self.now in
+    let a = c.turn_to.new.self in
+    let rules = record c.say_closing.new.self { said = c.turn_to.new.list } in
+    let e = c.turn_to.ensures in
+    let x = c.requires.placed in
+    let m = closing (refusal c.args.code) in
+    let t = e.leads cfg p.asking p.server p.to_client p.now p.saying m.head m.body s.answer (c.say_closing.ensures.said ∙ c.lists.ensures.blocks m (c.lists.ensures.closing c.args.code)) in
+    record {
+      saying = t.saying;
+      stands = turns cfg d a rules p t.saying x.is_at.stand.0 e.place c.say_closing.ensures.config s t.stands;
+      turned = record {
+        heads = t.heads;
+        begins = t.begins;
+        refused = _;
+        spelled = c.lists.ensures.spelled m _ (c.lists.ensures.closing c.args.code);
+        said = t.said;
+        sent = λ done. absurd (let off : true ≡ false = sym done ∙ t.starts in cc off);
+      };
+    }
+
+pub say_closing-requires : goal.say_closing-requires
+say_closing-requires c = record { ready = c.requires.placed.is_at.sound.rules }
+
+pub turn_to-requires-clause-sound : goal.turn_to-requires-clause-sound
+turn_to-requires-clause-sound c = c.requires.placed.is_at.sound.answer
+
+pub turn_to-requires-clause-serving : goal.turn_to-requires-clause-serving
+turn_to-requires-clause-serving c = c.requires.placed.is_at.stand.1
+
+pub turn_to-requires-clause-begun : goal.turn_to-requires-clause-begun
+turn_to-requires-clause-begun c = c.requires.begun
+
+pub turn_to-requires-clause-fits : goal.turn_to-requires-clause-fits
+turn_to-requires-clause-fits c =
+    let d = c.args.self.now in
+    let new = c.say_closing.new.self in
+    said_fits new.said.blocks c.room-room.result new.said.size (size_of d.answer) c.room-room.ensures
+    (said_size d.rules new (size_of d.answer) c.say_closing.ensures.ready c.say_closing.ensures.config c.requires.placed.is_at.sound.answer_size)

@@ -1,0 +1,14 @@
+pub use Rattle.session_core.specs.Sided
+pub use Rattle.session_core.specs.Leads
+pub use Rattle.session_core.specs.Lanes
+pub use Rattle.lane.specs.Answering
+pub mod Seen
+pub mod HeadsRead
+pub mod Stands
+pub mod Said
+pub mod Listed
+pub mod Lent
+pub mod Stepping
+pub mod Hearing
+pub mod Judging
+pub mod Resting

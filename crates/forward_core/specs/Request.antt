@@ -1,0 +1,10 @@
+pub use Rattle.session_core.specs.Sided
+pub use Rattle.session_core.specs.Leads
+pub mod Seen
+pub mod Rests
+pub mod Stands
+pub mod Steps
+pub mod Shown
+pub mod Reads
+pub mod Kept
+pub mod Edits

@@ -1,0 +1,130 @@
+-- What the request direction stands for: its part of the past of the exchange in hand.
+use Rattle.std.specs.Prelude.{◌≡◌, ◌≢◌, ◌⊎◌, ℕ, List, [], ◌++◌, Bool, true, false, ⊤}
+use Rattle.http_model.specs.Finish.{finish_request, request_framing}
+use Rattle.session_model.specs.Stream.{Stream}
+use Rattle.session_model.specs.Env.{Env, Pass, request_env}
+use Rattle.session_model.specs.Meaning.{declares_too_much}
+use Rattle.session_model.specs.Asking.{Asks, request_fits}
+use Rattle.session_core.specs.History.{Coming, Continues, prepend, prepended}
+use Rattle.session_core.specs.Sided.{Asking, Reply, replied_to}
+use Rattle.session_core.specs.Lanes.{HeadCame}
+use Rattle.px_sample.specs.Variables.{Variables}
+use Rattle.http_rules.specs.declared.config.Config.{Config}
+use Rattle.forward_core.specs.Meaning.Product.{meaning_of, replaces}
+use Rattle.lane.specs.Direction.Sent.{Sent, IsFrontOf}
+use Rattle.lane.specs.Direction.Sends.{Past}
+use Rattle.lane.specs.Direction.Promise.{OnEachBody, body_sent, finish_of}
+use Rattle.lane.specs.declared.direction.stage.Stage.TheVariants as stage
+use Rattle.lane.specs.Asking.{stage_of, input_of, ended_of, output_of, is_dropping, limits_of, HasFilters, IsWell, MayRead, Sends}
+use Rattle.lane.specs.Answering.{SameLines}
+use Rattle.lane.specs.declared.request_lane.RequestLane.{RequestLane}
+use Rattle.forward_core.specs.declared.request.place.Place.{Place}
+use Rattle.forward_core.specs.declared.request.place.Place.TheVariants as place
+use Rattle.forward_core.specs.declared.request.side.RequestSide.{RequestSide}
+use Rattle.forward_core.specs.Request.Rests.{RestsAt}
+
+-- ---- at any moment
+
+-- a request goes out, or has gone out; nothing waits for a server that stopped
+pub record GoesSoundly (lane : RequestLane) : Type 0 where
+  pub past : Past
+  pub sends : Sends lane past
+  pub stage : (stage_of lane ≡ stage.Sending) ⊎ (stage_of lane ≡ stage.Done)
+  pub drops : is_dropping lane ≡ true → output_of lane ≡ []
+
+-- where the lane stands, by what is made of the next request
+abbrev pub SoundAt : Place → RequestLane → Type 0
+SoundAt place.Reading lane = MayRead lane × (output_of lane ≡ [])
+SoundAt place.Sending lane = GoesSoundly lane
+SoundAt place.Idle lane = output_of lane ≡ []
+SoundAt place.Replied lane = output_of lane ≡ []
+
+-- its lane has the sizes that it was made with, and stands where the place says; at rest it has left nothing undone
+pub record IsSound (side : RequestSide) : Type 0 where
+  pub well : IsWell side.lane
+  pub at : SoundAt side.place side.lane
+  pub rests : side.at_rest ≡ true → RestsAt side.place side.lane
+
+-- ---- for a past
+
+-- the lane is for this configuration
+pub record IsFor (cfg : Config) (lane : RequestLane) : Type 0 where
+  pub limits : limits_of lane ≡ cfg.limits
+  pub filters : HasFilters lane cfg.req_filters
+
+-- these bytes, and the ending that the lane has
+abbrev pub coming : RequestLane → List ℕ → Coming
+coming lane bytes = record { bytes = bytes; ending = ended_of lane }
+
+-- what is left of the client's stream
+abbrev pub left_of : RequestSide → Coming
+left_of side = coming side.lane (input_of side.lane)
+
+-- what came stands in the window, but for empty lines in front
+pub record ReadsOn (lane : RequestLane) (came : Coming) : Type 0 where
+  pub ending : came.ending ≡ ended_of lane
+  pub lines : SameLines came.bytes (input_of lane)
+
+-- the message that goes to the server, as its head tells
+abbrev pub message_to : Config → Asking Variables → Sent
+message_to cfg asking =
+    record {
+      head = finish_request asking.head (request_framing (replaces cfg.req_filters) asking.received.framing);
+      given = [];
+      framing = request_framing (replaces cfg.req_filters) asking.received.framing;
+      no_body = false;
+      before = [];
+    }
+
+-- behind what the server took some text more is a front of whatever the request comes to
+pub record Lacks (lane : RequestLane) (past : Past) : Type 0 where
+  pub text : List ℕ
+  pub some : text ≢ []
+  pub front : OnEachBody lane.lane past (λ read. IsFrontOf past.sent (body_sent past read) (finish_of past.filters read) (past.took ++ text))
+
+-- what was put out: taken or in the window; once text is dropped, what the server took, which is not all
+abbrev pub HasPut : (dropped : Bool) → RequestLane → Past → (to_server : List ℕ) → Type 0
+HasPut false lane past to_server = to_server ≡ past.took ++ output_of lane
+HasPut true lane past to_server = (to_server ≡ past.took) × Lacks lane past
+
+-- a head came, the rules let it pass, its length is within the limits and its finished list fits, and the lane sends it
+pub record GoesOut (cfg : Config) (lane : RequestLane) (vars : Variables) (came : Coming) (asking : Asking Variables) (to_server : List ℕ) : Type 0 where
+  pub past : Past
+  pub sends : Sends lane past
+  pub used : List ℕ
+  pub env : Env Variables
+  pub head : HeadCame (meaning_of cfg) came asking.received used (coming lane past.bytes)
+  pub rules : (meaning_of cfg).request_rules (request_env vars asking.received.head) ≡ Pass env
+  pub asks : asking ≡ record { received = asking.received; head = env.head; vars = env.vars }
+  pub short : declares_too_much (meaning_of cfg).request_filters asking.received.declared ≡ false
+  pub fits : request_fits (meaning_of cfg) asking.received env.head ≡ true
+  pub message : past.sent ≡ message_to cfg asking
+  pub filters : past.filters ≡ cfg.req_filters
+  pub reads : past.reads ≡ asking.received.framing
+  pub put : HasPut (is_dropping lane) lane past to_server
+
+-- a head came, and the rules reply to it
+pub record IsReplied (cfg : Config) (vars : Variables) (came : Coming) (reply : Reply Variables) (left : Coming) : Type 0 where
+  pub used : List ℕ
+  pub came_is : came ≡ prepended used left
+  pub asks : (rest : Stream) → Continues left rest → Asks (meaning_of cfg) vars (prepend used rest) (replied_to reply rest)
+
+abbrev pub StandsAt : Place → Config → RequestLane → (vars : Variables) → (came : Coming) → Asking Variables → (to_server : List ℕ) → Reply Variables → Type 0
+StandsAt place.Reading cfg lane vars came asking to_server reply = ReadsOn lane came
+StandsAt place.Sending cfg lane vars came asking to_server reply = GoesOut cfg lane vars came asking to_server
+StandsAt place.Idle cfg lane vars came asking to_server reply = ⊤
+StandsAt place.Replied cfg lane vars came asking to_server reply = IsReplied cfg vars came reply (coming lane (input_of lane))
+
+-- The request direction of this configuration stands for this past: the variables in front of the exchange, the client's stream
+-- from there on, the request that goes to a server and its text so far, and the reply of its rules.
+pub record RequestStands (cfg : Config) (side : RequestSide) (vars : Variables) (came : Coming) (asking : Asking Variables) (to_server : List ℕ) (reply : Reply Variables) : Type 0 where
+  pub is_for : IsFor cfg side.lane
+  pub at : StandsAt side.place cfg side.lane vars came asking to_server reply
+
+-- ---- from one side to another
+
+-- each past is led to another by a call
+abbrev pub Leads : RequestSide → RequestSide → (Coming → Coming) → (List ℕ → List ℕ) → Type 0
+Leads old new comes puts =
+    (cfg : Config) (vars : Variables) (came : Coming) (asking : Asking Variables) (to_server : List ℕ) (reply : Reply Variables)
+    → RequestStands cfg old vars came asking to_server reply → RequestStands cfg new vars (comes came) asking (puts to_server) reply

@@ -1,0 +1,3 @@
+pub use Rattle.session_model.specs.Amending
+pub use Rattle.http_rules.specs.Run
+pub mod Ruling

@@ -1,0 +1,96 @@
+//! Both directions of a session, and the rules between them.
+ghost use Rattle.std.specs.Prelude.{◌≡◌, ◌≤◌, IfOk};
+ghost use Rattle.http_rules.specs.Valid.{IsValid};
+
+use crate::answer::AnswerSide;
+use crate::request::RequestSide;
+use crate::request::laws::total;
+use crate::rules::SessionRules;
+use http_model::OutOfMemory;
+use http_rules::Config;
+use px_sample::Buf;
+use std::alloc::Global;
+
+/// Both directions of a session, and the rules between them.
+#[derive(Drop)]
+pub struct Directions<'c> {
+    pub(crate) request: RequestSide,
+    pub(crate) answer: AnswerSide,
+    pub(crate) rules: SessionRules<'c>,
+    /// The method of the request in hand, as its rules left it (RFC 9110 section 9). Where no head was read it is empty.
+    pub(crate) method: Buf,
+}
+
+ghost use Rattle.session_core.specs.Place as at;
+ghost use Rattle.session_core.specs.Place.{IsSomewhere};
+ghost use Rattle.http_rules.specs.declared.config.Config.{Config};
+ghost use Rattle.session_core.specs.Sided.{Sided};
+ghost use Rattle.session_core.specs.Leads.{IsFresh};
+ghost use Rattle.forward_core.specs.Meaning.Product.{meaning_of};
+ghost use Rattle.forward_core.specs.Joined.Joined.{DirectionsStand, Placed, request_of, answer_of, settings_of};
+
+impl<'c> Directions<'c> {
+    /// Directions to which nothing has happened. Their arrays and input windows have `tune.bufsize` bytes, their output windows
+    /// `window`. Beside rules with patterns, this call alone takes memory.
+    pub fn new(
+        alloc: Global,
+        config: &'c Config,
+        window: u32,
+    ) -> Result<Directions<'c>, OutOfMemory>
+        requires valid { IsValid config.now }
+        requires window { 64 ≤ window }
+        ensures stands { IfOk result (λ d. (p : Sided (meaning_of config.now)) × DirectionsStand config.now d p × IsFresh (meaning_of config.now) (request_of d) (answer_of d) p) }
+        ensures placed { IfOk result (λ d. Placed d at.Reads) }
+        ensures settings { IfOk result (λ d. settings_of d ≡ config.now) }
+    {
+        total();
+        let method = Buf::new(alloc, config.limits.bufsize)?;
+        let request = RequestSide::new(
+            alloc,
+            config.limits,
+            window,
+            config.req_filters.as_slice(),
+        )?;
+        let answer = match AnswerSide::new(
+            alloc,
+            config.limits,
+            window,
+            config.res_filters.as_slice(),
+        ) {
+            Ok(answer) => answer,
+            Err(fault) => {
+                drop(request);
+                return Err(fault);
+            }
+        };
+        let rules = match SessionRules::new(alloc, config) {
+            Ok(rules) => rules,
+            Err(fault) => {
+                drop(request);
+                drop(answer);
+                return Err(fault);
+            }
+        };
+        Ok(Directions {
+            request,
+            answer,
+            rules,
+            method,
+        })
+    }
+
+    /// As new ones, in the same memory, for the same configuration: by what they stand for nothing has happened yet. The memory
+    /// isn't overwritten.
+    pub fn renew(&mut self)
+        requires placed { IsSomewhere (Placed self.old) }
+        ensures stands { (cfg : Config) (p : Sided (meaning_of cfg)) → DirectionsStand cfg self.old p
+            → (q : Sided (meaning_of cfg)) × DirectionsStand cfg self.new q × IsFresh (meaning_of cfg) (request_of self.new) (answer_of self.new) q }
+        ensures placed { Placed self.new at.Reads }
+        ensures settings { settings_of self.new ≡ settings_of self.old }
+    {
+        self.request.renew();
+        self.answer.renew();
+        self.rules.renew();
+        self.method.clear();
+    }
+}

@@ -1,0 +1,214 @@
+//! Both directions as a core sees them.
+ghost use Rattle.std.specs.Prelude.{◌≡◌};
+
+use crate::joined::directions::Directions;
+use crate::joined::saying;
+use http_model::{Ending, OutOfMemory};
+use http_rules::Config;
+use session_core::{Asked, Lends, Peers, Shows, Sides, Source, Told, Works};
+
+impl<'c> Sides for Directions<'c> {
+    type Settings = Config;
+
+    ghost use Rattle.forward_core.specs.Meaning.Product.{meaning_of};
+    ghost use Rattle.forward_core.specs.Rules.Ruling.{holds_pattern};
+    ghost use Rattle.forward_core.specs.Joined.Joined.{DirectionsStand, Placed, request_of, answer_of};
+    ghost use Rattle.forward_core.specs.Joined.Lent.{with_to_client, with_to_server, client_lent, server_lent};
+
+    ghost meaning = { meaning_of };
+
+    ghost total = { λ cfg d p s. s.total };
+
+    ghost needs = { holds_pattern };
+
+    ghost request = { request_of };
+
+    ghost answer = { answer_of };
+
+    ghost stands = { DirectionsStand };
+
+    ghost placed = { Placed };
+
+    ghost with_to_client = { with_to_client };
+
+    ghost with_to_server = { with_to_server };
+
+    fn source(&self) -> Source {
+        self.request.source()
+    }
+
+    fn is_sent(&self) -> bool {
+        self.request.is_sent()
+    }
+
+    fn told(&self) -> Told {
+        self.answer.told()
+    }
+
+    fn is_answered(&self) -> bool {
+        self.answer.is_answered()
+    }
+
+    fn is_begun(&self) -> bool {
+        self.answer.is_begun()
+    }
+
+    fn keeps(&self) -> bool {
+        self.answer.keeps()
+    }
+
+    fn awaits_continue(&self) -> bool {
+        self.request.awaits_continue()
+    }
+
+    fn has_heard(&self) -> bool {
+        self.answer.has_heard()
+    }
+
+    ghost lends_to_client = { client_lent };
+
+    ghost lends_to_server = { server_lent };
+}
+
+impl<'c> Shows for Directions<'c> {
+    fn client_is_open(&self) -> bool {
+        self.request.client_is_open()
+    }
+
+    fn client_room(&self) -> usize {
+        self.request.client_room()
+    }
+
+    fn server_is_open(&self) -> bool {
+        self.answer.is_open()
+    }
+
+    fn server_room(&self) -> usize {
+        self.answer.room()
+    }
+
+    fn has_to_client(&self) -> bool {
+        self.answer.has_to_client()
+    }
+
+    fn has_to_server(&self) -> bool {
+        self.request.has_to_server()
+    }
+
+    fn request_raw(&self) -> &[u8] {
+        self.request.request_raw()
+    }
+}
+
+impl<'c> Lends for Directions<'c> {
+    ghost use Rattle.forward_core.specs.Joined.Joined.{request_of, answer_of};
+    ghost use Rattle.forward_core.specs.Joined.Lent.{LendsToClient, LendsToServer};
+    ghost use Rattle.std.specs.Borrow.{sem};
+
+    fn to_client(&mut self) -> &mut [u8]
+        ensures* back { sem 𝓛 (LendsToClient self.entry result) }
+        ensures value { result.now ≡ (answer_of self.old).window }
+    {
+        self.answer.to_client()
+    }
+
+    fn to_server(&mut self) -> &mut [u8]
+        ensures* back { sem 𝓛 (LendsToServer self.entry result) }
+        ensures value { result.now ≡ (request_of self.old).window }
+    {
+        self.request.to_server()
+    }
+}
+
+impl<'c> Peers for Directions<'c> {
+    fn take_client(&mut self, bytes: &[u8]) {
+        self.request.take_client(bytes);
+    }
+
+    fn end_client(&mut self, how: Ending) {
+        self.request.end_client(how);
+    }
+
+    fn client_took(&mut self, n: usize) {
+        self.answer.client_took(n);
+    }
+
+    fn take_server(&mut self, bytes: &[u8]) {
+        self.answer.take_server(bytes);
+    }
+
+    fn end_server(&mut self, how: Ending) {
+        self.answer.end_server(how);
+    }
+
+    fn server_took(&mut self, n: usize) {
+        self.request.server_took(n);
+    }
+
+    fn drop_request(&mut self) {
+        self.request.drop_request();
+    }
+
+    fn open_server(&mut self) {
+        crate::answer::laws::answers();
+        self.rules.begin_answer();
+        self.answer.open_server();
+    }
+}
+
+impl<'c> Works for Directions<'c> {
+    fn ask(&mut self) -> Result<Asked, OutOfMemory> {
+        self.ask_next()
+    }
+
+    fn step_request(&mut self) {
+        crate::request::laws::requests();
+        self.request.step_request();
+    }
+
+    fn step_answer(&mut self) -> Result<(), OutOfMemory> {
+        crate::answer::laws::answers();
+        crate::answer::laws::comes_before();
+        self.answer
+            .step_answer(&mut self.rules, self.method.bytes())?;
+        Ok(())
+    }
+
+    fn refuse(&mut self, code: u16) -> Result<(), OutOfMemory> {
+        let no_body = self.answer.asks_head();
+        saying::refuse(
+            &mut self.answer,
+            &mut self.rules,
+            self.method.bytes(),
+            code,
+            no_body,
+        )?;
+        Ok(())
+    }
+
+    fn turn(&mut self, code: u16) {
+        crate::answer::laws::lists();
+        self.rules.say_closing(code);
+        // called for its clause alone: the list weighs no more than its array, so the answer direction can take it
+        let _room = self.rules.said.room();
+        self.answer.turn_to(&mut self.rules.said);
+    }
+
+    fn say(&mut self) {
+        self.answer.say();
+    }
+
+    fn next(&mut self) {
+        crate::request::laws::came_whole();
+        self.request.next();
+        self.answer.next();
+        self.rules.begin_exchange();
+    }
+
+    fn next_replied(&mut self) {
+        crate::request::laws::came_replied();
+        self.request.next();
+        self.answer.next();
+        self.rules.begin_exchange();
+    }
+}

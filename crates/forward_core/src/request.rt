@@ -1,0 +1,10 @@
+//! The request direction of a session: from the client's bytes to the text that its server gets.
+
+mod kept;
+pub mod laws;
+mod place;
+mod side;
+
+pub use kept::{Kept, kept_of};
+pub use place::Place;
+pub use side::RequestSide;

@@ -1,0 +1,203 @@
+//! The rules of a session on the heads of its messages, and the lives of its variables.
+ghost use Rattle.std.specs.Prelude.{◌≡◌, [], false, true, List, ℕ, IfOk, IsOk};
+ghost use Rattle.http_model.specs.Head.{Head, head_blocks, front_blocks};
+ghost use Rattle.session_model.specs.Env.{request_env, response_env};
+ghost use Rattle.px_sample.specs.Variables.{no_variables};
+ghost use Rattle.http_rules.specs.declared.action.side.Side.TheVariants as sides;
+ghost use Rattle.http_rules.specs.Lives.{renewed, answering};
+ghost use Rattle.http_rules.specs.Run.{IsHead, Leaves};
+ghost use Rattle.http_rules.specs.Valid.{IsValid};
+ghost use Rattle.forward_core.specs.Meaning.Product.{meaning_of};
+
+use http_model::OutOfMemory;
+use http_rules::{
+    Config, Scratch, Searchers, Vars, Verdict, begin_answer, begin_exchange, body_stays, run_after,
+    run_request, run_response,
+};
+use htx_arena::Arena;
+use px_sample::Scope;
+use std::alloc::Global;
+
+/// The rules of a configuration in one session.
+#[derive(Drop)]
+pub struct SessionRules<'c> {
+    /// The variables of the four scopes.
+    pub vars: Vars,
+    /// What is said to the client in place of a server's answer.
+    pub said: Arena,
+    alloc: Global,
+    config: &'c Config,
+    searchers: Searchers,
+    scratch: Scratch,
+}
+
+ghost use Rattle.forward_core.specs.Rules.Ruling.{IsReady, config_of, size_of, holds_pattern, is_pass, AmendsHead, AmendsFront};
+
+/// Whether rules passed.
+fn passed(verdict: Verdict) -> bool
+    ensures { result ≡ is_pass verdict }
+{
+    match verdict {
+        Verdict::Pass => true,
+        Verdict::Reply | Verdict::Deny(_) | Verdict::Fail(_) => false,
+    }
+}
+
+impl<'c> SessionRules<'c> {
+    /// The rules of a session that begins: no variable is set, nothing is said. Beside rules with patterns, this call alone
+    /// takes memory.
+    pub fn new(alloc: Global, config: &'c Config) -> Result<SessionRules<'c>, OutOfMemory>
+        requires { IsValid config.now }
+        ensures ready { IfOk result IsReady }
+        ensures config { IfOk result (λ rules. config_of rules ≡ config.now) }
+        ensures vars { IfOk result (λ rules. rules.vars ≡ no_variables) }
+        ensures said { IfOk result (λ rules. rules.said.blocks ≡ []) }
+    {
+        Ok(SessionRules {
+            said: Arena::new(alloc, config.limits.bufsize)?,
+            scratch: Scratch::new(alloc, config.limits.bufsize)?,
+            vars: Vars::new(alloc)?,
+            alloc,
+            config,
+            searchers: Searchers::new(alloc),
+        })
+    }
+
+    /// As new ones, in the same memory and with the searchers that were made: no variable is set, nothing is said.
+    pub fn renew(&mut self)
+        requires ready { IsReady self.old }
+        ensures ready { IsReady self.new }
+        ensures config { config_of self.new ≡ config_of self.old }
+        ensures vars { self.new.vars ≡ no_variables }
+        ensures said { self.new.said.blocks ≡ [] }
+    {
+        self.begin_exchange();
+        self.vars.clear(Scope::Sess);
+        self.said.clear();
+    }
+
+    /// The configuration.
+    pub fn config(&self) -> &'c Config
+        ensures { result.now ≡ config_of self.now }
+    {
+        self.config
+    }
+
+    /// Before the rules of a request: the variables of the session go on, the others are gone.
+    pub fn begin_exchange(&mut self)
+        ensures vars { self.new.vars ≡ renewed self.old.vars }
+        ensures said { self.new.said ≡ self.old.said }
+        ensures config { config_of self.new ≡ config_of self.old }
+        ensures ready { IsReady self.old → IsReady self.new }
+    {
+        begin_exchange(&mut self.vars);
+    }
+
+    /// Before the first rules on an answer, a reply or a refusal: the variables of the request's rules are gone.
+    pub fn begin_answer(&mut self)
+        ensures vars { self.new.vars ≡ answering self.old.vars }
+        ensures said { self.new.said ≡ self.old.said }
+        ensures config { config_of self.new ≡ config_of self.old }
+        ensures ready { IsReady self.old → IsReady self.new }
+    {
+        begin_answer(&mut self.vars);
+    }
+
+    /// Runs the rules of requests on a head. A reply of theirs is what is said, without a field that speaks of the connection.
+    pub fn on_request(&mut self, msg: &mut Arena) -> Result<Verdict, OutOfMemory>
+        requires ready { IsReady self.old }
+        requires size { msg.old.size ≡ size_of self.old }
+        requires head { IsHead msg.old.blocks }
+        ensures runs { IfOk result (λ verdict. (head : Head) → msg.old.blocks ≡ head_blocks head → Leaves sides.Request ((meaning_of (config_of self.old)).request_rules (request_env self.old.vars head)) verdict msg.new.blocks self.new.vars self.new.said.blocks) }
+        ensures succeeds { holds_pattern (config_of self.old) ≡ false → IsOk result }
+        ensures ready { IsReady self.new }
+        ensures config { config_of self.new ≡ config_of self.old }
+        ensures size { msg.new.size ≡ msg.old.size }
+    {
+        self.said.clear();
+        let config = self.config;
+        run_request(
+            self.alloc,
+            &mut self.searchers,
+            &config.request,
+            msg,
+            &mut self.vars,
+            &mut self.scratch,
+            &mut self.said,
+        )
+    }
+
+    /// Runs the rules of responses on a head, which answers a request of this method. As `on_request`.
+    pub fn on_response(&mut self, method: &[u8], msg: &mut Arena) -> Result<Verdict, OutOfMemory>
+        requires ready { IsReady self.old }
+        requires size { msg.old.size ≡ size_of self.old }
+        requires head { IsHead msg.old.blocks }
+        ensures runs { IfOk result (λ verdict. (head : Head) → msg.old.blocks ≡ head_blocks head → Leaves (sides.Answer method.entry) ((meaning_of (config_of self.old)).response_rules (response_env self.old.vars method.now head)) verdict msg.new.blocks self.new.vars self.new.said.blocks) }
+        ensures succeeds { holds_pattern (config_of self.old) ≡ false → IsOk result }
+        ensures ready { IsReady self.new }
+        ensures config { config_of self.new ≡ config_of self.old }
+        ensures size { msg.new.size ≡ msg.old.size }
+    {
+        self.said.clear();
+        let config = self.config;
+        run_response(
+            self.alloc,
+            &mut self.searchers,
+            &config.response,
+            method,
+            msg,
+            &mut self.vars,
+            &mut self.scratch,
+            &mut self.said,
+        )
+    }
+
+    /// Runs the rules on all that the client is sent on a server's head; false where a rule fails.
+    pub fn on_sent_head(&mut self, method: &[u8], msg: &mut Arena) -> Result<bool, OutOfMemory>
+        requires ready { IsReady self.old }
+        requires size { msg.old.size ≡ size_of self.old }
+        requires head { IsHead msg.old.blocks }
+        ensures amends { IfOk result (λ edited. (head : Head) → msg.old.blocks ≡ head_blocks head → AmendsHead ((meaning_of (config_of self.old)).after_rules (response_env self.old.vars method.now head)) edited msg.new.blocks self.new.vars) }
+        ensures succeeds { holds_pattern (config_of self.old) ≡ false → IsOk result }
+        ensures said { self.new.said ≡ self.old.said }
+        ensures ready { IsReady self.new }
+        ensures config { config_of self.new ≡ config_of self.old }
+        ensures size { msg.new.size ≡ msg.old.size }
+    {
+        body_stays();
+        let config = self.config;
+        let verdict = run_after(
+            self.alloc,
+            &mut self.searchers,
+            &config.after,
+            method,
+            msg,
+            &mut self.vars,
+            &mut self.scratch,
+        )?;
+        Ok(passed(verdict))
+    }
+
+    /// Runs the rules on all that the client is sent on what is said; false where a rule fails.
+    pub(crate) fn on_said(&mut self, method: &[u8]) -> Result<bool, OutOfMemory>
+        requires ready { IsReady self.old }
+        requires front { (head : Head) × (body : List ℕ) × (self.old.said.blocks ≡ front_blocks head body) }
+        ensures amends { IfOk result (λ edited. (head : Head) (body : List ℕ) → self.old.said.blocks ≡ front_blocks head body → AmendsFront body ((meaning_of (config_of self.old)).after_rules (record { is_request = false; head = head; body = body; method = method.now; vars = self.old.vars })) edited self.new.said.blocks self.new.vars) }
+        ensures succeeds { holds_pattern (config_of self.old) ≡ false → IsOk result }
+        ensures ready { IsReady self.new }
+        ensures config { config_of self.new ≡ config_of self.old }
+    {
+        body_stays();
+        let config = self.config;
+        let verdict = run_after(
+            self.alloc,
+            &mut self.searchers,
+            &config.after,
+            method,
+            &mut self.said,
+            &mut self.vars,
+            &mut self.scratch,
+        )?;
+        Ok(passed(verdict))
+    }
+}

@@ -1,7 +1,0 @@
-use Rattle.std.proofs.Common.{◌≡◌, drop}
-use Rattle.proxy_meaning.specs.Product as spec
-use Rattle.proxy_meaning.proofs.filters.passes_limit.Given as goal
-
--- the filters that are left decide as all of them
-abbrev pub invariant-loop-at : goal.invariant-loop-at
-invariant-loop-at l = spec.passes_limit (drop l.at l.filters) l.length ≡ spec.passes_limit l.filters l.length

@@ -1,7 +1,0 @@
-use Rattle.std.proofs.Common.{◌≡◌, drop}
-use Rattle.proxy_meaning.specs.Product as spec
-use Rattle.proxy_meaning.proofs.filters.replaces.Given as goal
-
--- the filters that are left replace as all of them
-abbrev pub invariant-loop-at : goal.invariant-loop-at
-invariant-loop-at l = spec.replaces (drop l.at l.filters) ≡ spec.replaces l.filters

@@ -1,8 +1,0 @@
-//! What a configuration means for a session: its readers, rules, filters and variables as one meaning, and what the code asks
-//! of a configuration for it.
-#![tactic(auto)]
-
-mod filters;
-pub mod laws;
-
-pub use filters::{passes_limit, replaces};

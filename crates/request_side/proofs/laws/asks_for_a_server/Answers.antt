@@ -1,5 +1,0 @@
-use Rattle.request_side.proofs.Wholes.{asks_at}
-use Rattle.request_side.proofs.laws.asks_for_a_server.Goals as goal
-
-pub returns : goal.returns
-returns c = λ cfg side vars came asking to_server reply at stands stream goes. asks_at side.place cfg side.lane vars came asking to_server reply at stands.at stream goes

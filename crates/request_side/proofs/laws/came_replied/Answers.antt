@@ -1,5 +1,0 @@
-use Rattle.request_side.proofs.Wholes.{replied_at}
-use Rattle.request_side.proofs.laws.came_replied.Goals as goal
-
-pub returns : goal.returns
-returns c = λ cfg side vars came asking to_server reply at stands. replied_at side.place cfg side.lane vars came asking to_server reply at stands.at

@@ -1,8 +1,0 @@
-use Rattle.h1_head.specs.declared.answer.Side.TheVariants as side
-use Rattle.request_side.proofs.laws.total.Goals as goal
-
-pub returns : goal.returns
-returns c = λ cfg. record {
-  heads = λ bytes none. c.some_reading.ensures side.Request cfg.limits bytes (λ r h. none (r, h));
-  shorter = λ bytes received rest h. c.has_bytes.ensures side.Request cfg.limits bytes received rest h;
-}

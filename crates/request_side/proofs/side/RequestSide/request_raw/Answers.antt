@@ -1,6 +1,0 @@
-use Rattle.session_core.specs.Sided.{HoldsList}
-use Rattle.request_side.proofs.side.RequestSide.request_raw.Goals as goal
-
-pub returns : goal.returns
-unfolding HoldsList
-returns c = c.raw.ensures.gives_back

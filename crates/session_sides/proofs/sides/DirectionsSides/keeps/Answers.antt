@@ -1,5 +1,0 @@
-use Rattle.std.proofs.Common.{◌∙◌}
-use Rattle.session_sides.proofs.sides.DirectionsSides.keeps.Goals as goal
-
-pub returns : goal.returns
-returns c = λ cfg p s. c.keeps.ensures ∙ s.answer.asks.keep

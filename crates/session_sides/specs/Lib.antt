@@ -1,8 +1,0 @@
-pub use Rattle.session_core.specs.Sided
-pub use Rattle.session_core.specs.Leads
-pub use Rattle.proxy_meaning.specs.Product
-pub mod Joined
-pub mod Asks
-pub mod Lent
-pub mod HeldBack
-pub mod Waiting
