@@ -11,3 +11,5 @@ pub mod Writing
 pub mod Turning
 pub mod Stepping
 pub mod Requests
+pub mod ReplayLemmas
+pub mod DrillLemmas

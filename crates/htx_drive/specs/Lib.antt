@@ -8,3 +8,5 @@ pub mod Headline
 pub mod Acts
 pub mod Turned
 pub mod Cores
+pub mod Replay
+pub mod Drill

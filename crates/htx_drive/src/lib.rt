@@ -4,9 +4,11 @@
 mod act;
 mod client_side;
 mod core_machine;
+pub mod drill;
 mod exchange;
 pub mod laws;
 mod machine;
+pub mod replay;
 mod resources;
 mod serve;
 mod server_side;

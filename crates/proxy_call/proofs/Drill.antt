@@ -26,7 +26,7 @@ use Rattle.cfg_parse.specs.Whole.{Builds, Loads, Refusal, config_of, lines_from,
 use Rattle.cfg_parse.specs.declared.fault.CfgKind.{CfgKind}
 use Rattle.cfg_parse.specs.declared.fault.CfgFault.{CfgFault}
 use Rattle.cfg_parse.specs.declared.fault.CfgFault.TheVariants as faults
-use Rattle.drill_session.specs.Drill.{configuration}
+use Rattle.htx_drive.specs.Drill.Drill.{configuration}
 use Rattle.proxy_call.specs.Stops.{Input, StopsBy, stop_of_configuration}
 
 abbrev asks_none : List (ℕ × Pattern) → Bool

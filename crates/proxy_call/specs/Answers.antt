@@ -4,14 +4,14 @@ use Rattle.px_link.specs.Told.{NamedBytes, GainsFront, Rose}
 use Rattle.http_rules.specs.declared.config.Config.{Config}
 use Rattle.cfg_parse.specs.Whole.{config_of}
 use Rattle.cfg_parse.specs.declared.fault.CfgKind.{CfgKind}
-use Rattle.drill_session.specs.Drill.{configuration}
+use Rattle.htx_drive.specs.Drill.Drill.{configuration}
 use Rattle.forward_core.specs.Meaning.Product.{meaning_of}
 use Rattle.px_command.specs.Command.{IsCheck, IsCheckRecord, IsReplay, IsServe, IsDrill, IsHelp, IsVersion, IsUsage, NamesConfig}
 use Rattle.px_command.specs.Texts.{EndsLine}
 use Rattle.rec_format.specs.declared.record.RecKind.{RecKind}
 use Rattle.rec_format.specs.Recorded.{Recorded}
 use Rattle.rec_format.specs.Written.{written}
-use Rattle.replay_run.specs.Written.{IsReplayOf, IsDrillOf}
+use Rattle.htx_drive.specs.Replay.Written.{IsReplayOf, IsDrillOf}
 use Rattle.proxy_call.specs.Lines.{accepted_line, refused_line, record_line, file_line}
 use Rattle.proxy_call.specs.Files.{IfTold, Builder, Configured, IsBuilt, RecordIs, Refuses, Say}
 use Rattle.proxy_call.specs.declared.status.Status.{Status}

@@ -116,6 +116,6 @@ pub fn drill<'a, P: Patterns>(
     ensures { (words : List (List ℕ)) (files : Option (List NamedBytes)) (last : List ℕ) (reads reads_now : ℕ) → IsDrill words seed exchanges
         → Answers (given words files (told_by (P.refusals pats.old) (P.refusals pats.new) (P.last_refused pats.new)) last reads reads_now) result }
 {
-    let cfg = load(alloc, drill_session::configuration(), pats)?;
+    let cfg = load(alloc, htx_drive::drill::configuration(), pats)?;
     Ok(drill_lines(alloc, &cfg, seed, exchanges)?)
 }

@@ -14,7 +14,7 @@ ghost use Rattle.proxy_sessions.specs.Spare.{IsNew};
 use forward_core::joined::Directions;
 use http_model::OutOfMemory;
 use http_rules::Config;
-use replay_run::Cores;
+use htx_drive::replay::Cores;
 use serve_run::Opens;
 use session_core::Core;
 use std::alloc::Global;

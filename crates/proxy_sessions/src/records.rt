@@ -5,17 +5,17 @@ ghost use Rattle.forward_core.specs.Meaning.Product.{meaning_of};
 ghost use Rattle.rec_format.specs.Read as read;
 ghost use Rattle.rec_format.specs.ReportParts.{out_of};
 ghost use Rattle.rec_format.specs.Reports.{Reportable};
-ghost use Rattle.replay_run.specs.Replayed.{Replays};
-ghost use Rattle.replay_run.specs.Written.{IsReplayOf, IsDrillOf};
+ghost use Rattle.htx_drive.specs.Replay.Replayed.{Replays};
+ghost use Rattle.htx_drive.specs.Replay.Written.{IsReplayOf, IsDrillOf};
 
 use crate::cores::RecordCores;
 use forward_core::bounds::bounded;
 use forward_core::request::laws::total;
 use http_model::OutOfMemory;
 use http_rules::Config;
+use htx_drive::replay::{drill_text, replay_connection, replay_text};
 use px_link::{Bytes, Turn};
 use rec_format::{Connection, Record, Report};
-use replay_run::{drill_text, replay_connection, replay_text};
 use std::alloc::Global;
 
 /// The report of a record, in its format: the sessions of its connections are run one after another. Want of memory is the only error.

@@ -1,7 +1,7 @@
 use Rattle.std.proofs.Common.{ℕ, List, inl, inr, subst}
 use Rattle.std.specs.Prelude.{Ok, Err}
 use Rattle.px_pattern.specs.Refusals.{Kept}
-use Rattle.drill_session.specs.Drill.{configuration}
+use Rattle.htx_drive.specs.Drill.Drill.{configuration}
 use Rattle.cfg_parse.specs.Whole.{Loads}
 use Rattle.cfg_parse.specs.declared.fault.CfgFault.{CfgFault}
 use Rattle.proxy_call.specs.Files.{told_by}

@@ -1,7 +1,0 @@
--- What was drawn, in the words of a generated session.
-use Rattle.std.specs.Prelude.{ℕ, List}
-use Rattle.drill_session.specs.Plan as plans
-use Rattle.drill_session.specs.declared.plan.Plan.{Plan}
-
-abbrev pub plan : Plan → plans.Plan
-plan drawn = record { fields = drawn.fields.items; request = drawn.request; response = drawn.response }

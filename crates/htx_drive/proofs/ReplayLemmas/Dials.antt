@@ -1,0 +1,225 @@
+-- From the connects of a session to the entries of a record, and to what the net kept.
+use Rattle.std.proofs.Common.{◌≡◌, ℕ, zero, suc, inl, inr, List, [], ◌∷◌, ◌++◌, Bool, true, false, ◌&&◌, Option, Some, None, is_some, map, if◌then◌else◌, sym, ap, subst, ◌∙◌, refl, arith}
+use Rattle.std.specs.Prelude.{unwrap_or}
+use Rattle.std.specs.List.{flat_map, AllByRecursion, AllZip}
+use Rattle.std.proofs.lemmas.Bool.{false≢true}
+use Rattle.http_model.specs.declared.Close.{Close}
+use Rattle.http_model.specs.declared.Close.TheVariants.{Failed}
+use Rattle.px_link.specs.Told.{Rose}
+use Rattle.px_link.specs.Net.{Coming, Kept, RefusesOnly, new_link}
+use Rattle.px_link.specs.MemLink.{MemLinkSeen}
+use Rattle.px_link.specs.MemNet.{keeping}
+use Rattle.session_model.specs.Stream.{Stream, Server, NotThere, Open, Sent}
+use Rattle.session_core.specs.History.{Connect, sent_of, closed_so}
+use Rattle.htx_drive.specs.Driven.{IsOver}
+use Rattle.htx_drive.specs.Dialled.{Dial, IsServed, IsRefused, IsDial, IsDialBy, KeptSo, Chain, CountsRefused, all_there, closed_how}
+use Rattle.htx_drive.specs.Headline.{IsServerOf, stream_of}
+use Rattle.rec_format.specs.Entries.{ServerEntry}
+use Rattle.htx_drive.specs.Replay.Memory.{coming_of, answer_of}
+use Rattle.htx_drive.specs.Replay.Outcome.{sent_on, refused_by}
+use Rattle.htx_drive.specs.Replay.Replayed.{ServesAs, IsFound, Finds}
+use Rattle.htx_drive.proofs.ReplayLemmas.Lasts.{OnlyLast}
+use Rattle.htx_drive.proofs.ReplayLemmas.Streams.{served_so}
+
+abbrev pub connects : List Dial → List Connect
+connects ds = map (λ (d : Dial). d.connect) ds
+
+abbrev pub sents : List Dial → List (Option Sent)
+sents ds = map sent_of (connects ds)
+
+no_sents : (ds : List Dial) → sents ds ≡ [] → ds ≡ []
+no_sents [] e = refl
+no_sents (d ∷ ds) e = absurd cc
+
+sent_there : (c : Connect) → c.there ≡ true → sent_of c ≡ Some (record { bytes = c.taken; close = closed_so c.closed })
+sent_there c e = ap (λ (b : Bool). if b then Some (record { bytes = c.taken; close = closed_so c.closed }) else None) e
+
+sent_refused : (c : Connect) → c.there ≡ false → sent_of c ≡ None
+sent_refused c e = ap (λ (b : Bool). if b then Some (record { bytes = c.taken; close = closed_so c.closed }) else None) e
+
+only_more : (s : Option Sent) (sent : Sent) (others : List (Option Sent)) → s ≡ Some sent → OnlyLast (s ∷ others) → OnlyLast others
+only_more s sent others e h = let P : Option Sent → Type 0 = λ s. OnlyLast (s ∷ others) in subst P e h
+
+only_one : (s : Option Sent) (others : List (Option Sent)) → s ≡ None → OnlyLast (s ∷ others) → others ≡ []
+only_one s others e h = let P : Option Sent → Type 0 = λ s. OnlyLast (s ∷ others) in subst P e h
+
+served : (plain : Type 0) (d : Dial) → d.connect.there ≡ true → IsDial plain d → IsServed d
+served plain d e h = let P : Bool → Type 0 = λ b. IsDialBy b plain d in subst P e h
+
+refused : (plain : Type 0) (d : Dial) → d.connect.there ≡ false → IsDial plain d → IsRefused plain d
+refused plain d e h = let P : Bool → Type 0 = λ b. IsDialBy b plain d in subst P e h
+
+-- ---- what was kept
+
+abbrev close_in : Option (Option Close) → Close
+close_in None = Failed
+close_in (Some closed) = unwrap_or closed Failed
+
+abbrev pub kept_sent : Kept → Option Sent
+kept_sent k = Some (record { bytes = k.wrote; close = close_in k.seen.closed })
+
+abbrev pub refused_if_not : Bool → List (Option Sent)
+refused_if_not true = []
+refused_if_not false = None ∷ []
+
+same_close : (closed : Option Close) → is_some closed ≡ true → closed_how closed ≡ closed_so closed
+same_close None e = absurd (false≢true e)
+same_close (Some how) e = refl
+
+abbrev sent_with : List ℕ → Close → Option Sent
+sent_with bytes close = Some (record { bytes = bytes; close = close })
+
+same_sent : (a b : List ℕ) (y z : Close) → a ≡ b → y ≡ z → sent_with a y ≡ sent_with b z
+same_sent a b y z p q = cc
+
+kept_is : (first : Kept → Type 0) (d : Dial) (k : Kept) (c : Connect) → c.there ≡ true → IsOver c → k.wrote ≡ c.taken → k.seen.closed ≡ Some (Some (closed_how c.closed)) → sent_of c ≡ kept_sent k
+kept_is first d k c there over wrote closed =
+    sent_there c there
+    ∙ same_sent c.taken k.wrote (closed_so c.closed) (close_in k.seen.closed) (sym wrote) (sym (ap close_in closed ∙ same_close c.closed (over there)))
+
+there_first : (c : Connect) (cs : List Connect) (b : Bool) → c.there ≡ b → all_there (c ∷ cs) ≡ (b && all_there cs)
+there_first c cs b e = ap (λ (x : Bool). x && all_there cs) e
+
+abbrev kept_of : List Dial → List Kept
+kept_of ds = flat_map (λ (d : Dial). d.kept) ds
+
+abbrev Sends : List Dial → Type 0
+Sends ds = sents ds ≡ map kept_sent (kept_of ds) ++ refused_if_not (all_there (connects ds))
+
+sends_served : (d : Dial) (ds : List Dial) (k : Kept) → d.connect.there ≡ true → d.kept ≡ k ∷ [] → sent_of d.connect ≡ kept_sent k → Sends ds → Sends (d ∷ ds)
+sends_served d ds k there kept is rest =
+    let a : kept_of (d ∷ ds) ≡ k ∷ kept_of ds = ap (λ (l : List Kept). l ++ kept_of ds) kept in
+    let b : all_there (connects (d ∷ ds)) ≡ all_there (connects ds) = there_first d.connect (connects ds) true there in
+    ap (λ (s : Option Sent). s ∷ sents ds) is
+    ∙ ap (λ (l : List (Option Sent)). kept_sent k ∷ l) rest
+    ∙ ap (λ (l : List Kept). map kept_sent l ++ refused_if_not (all_there (connects ds))) (sym a)
+    ∙ ap (λ (x : Bool). map kept_sent (kept_of (d ∷ ds)) ++ refused_if_not x) (sym b)
+
+sends_refused : (d : Dial) (ds : List Dial) → d.connect.there ≡ false → d.kept ≡ [] → ds ≡ [] → Sends (d ∷ ds)
+sends_refused d ds there kept none =
+    let P : List Dial → Type 0 = λ l. Sends (d ∷ l) in
+    let a : kept_of (d ∷ []) ≡ [] = ap (λ (l : List Kept). l ++ []) kept in
+    let b : all_there (connects (d ∷ [])) ≡ false = there_first d.connect [] false there in
+    let one : Sends (d ∷ []) = ap (λ (s : Option Sent). s ∷ []) (sent_refused d.connect there)
+    ∙ ap (λ (l : List Kept). map kept_sent l ++ refused_if_not false) (sym a)
+    ∙ ap (λ (x : Bool). map kept_sent (kept_of (d ∷ [])) ++ refused_if_not x) (sym b) in
+    subst P (sym none) one
+
+sends_more : (plain : Type 0) (d : Dial) (ds : List Dial) (there : Bool) → d.connect.there ≡ there → IsDial plain d → IsOver d.connect → OnlyLast (sents (d ∷ ds)) → (OnlyLast (sents ds) → Sends ds) → Sends (d ∷ ds)
+sends_more plain d ds true there is over last rest =
+    let s = served plain d there is in
+    sends_served d ds s.link there s.keeps (kept_is (λ k. Unit {0}) d s.link d.connect there over s.so.wrote s.so.closed)
+    (rest (only_more (sent_of d.connect) _ (sents ds) (sent_there d.connect there) last))
+sends_more plain d ds false there is over last rest =
+    let r = refused plain d there is in
+    sends_refused d ds there r.keeps (no_sents ds (only_one (sent_of d.connect) (sents ds) (sent_refused d.connect there) last))
+
+-- what was sent to servers is what the kept links were written, with their closes, and behind them one that was refused, if any was
+pub sends : (plain : Type 0) (ds : List Dial) → AllByRecursion (IsDial plain) ds → AllByRecursion IsOver (connects ds) → OnlyLast (sents ds) → Sends ds
+sends plain [] all over last = refl
+sends plain (d ∷ ds) all over last = sends_more plain d ds d.connect.there refl all.0 over.0 last (λ l. sends plain ds all.1 over.1 l)
+
+counts_by : (cs : List Connect) (n : ℕ) (all : Bool) → all_there cs ≡ all → CountsRefused cs 0 n → refused_by n ≡ refused_if_not all
+counts_by cs n true e h = ap refused_by (h.found e)
+counts_by cs zero false e h = none (h.refused e)
+  where
+    none : Rose 0 0 → refused_by 0 ≡ refused_if_not false
+    none (inl less) = absurd (omega arith)
+    none (inr full) = absurd (omega arith)
+counts_by cs (suc n) false e h = refl
+
+pub counts : (cs : List Connect) (n : ℕ) → CountsRefused cs 0 n → refused_by n ≡ refused_if_not (all_there cs)
+counts cs n h = counts_by cs n (all_there cs) refl h
+
+pub kept_links : (ls : List MemLinkSeen) → map kept_sent (map keeping ls) ≡ map (λ (l : MemLinkSeen). Some (sent_on l)) ls
+kept_links [] = refl
+kept_links (l ∷ ls) = ap (λ (sent : List (Option Sent)). Some (sent_on l) ∷ sent) (kept_links ls)
+
+-- ---- the entries that the connects found
+
+no_refused : (d : Dial) (stream : Stream) (stopped : Bool) → IsServerOf d (Open stream stopped) → d.answers ≡ [] → ⊥
+no_refused d stream stopped is none = absurd (never is.2 d.left (sym none ∙ is.3))
+  where
+    never : (coming : Coming) (left : List (Option Coming)) → [] ≡ Some coming ∷ left → ⊥
+    never coming left e = cc
+
+none_first : (coming : Coming) (left later : List (Option Coming)) → None ∷ later ≡ Some coming ∷ left → ⊥
+none_first coming left later e = cc
+
+first_coming : (a b : Coming) (xs ys : List (Option Coming)) → Some a ∷ xs ≡ Some b ∷ ys → a ≡ b
+first_coming a b xs ys e = cc
+
+rest_coming : (a b : Coming) (xs ys : List (Option Coming)) → Some a ∷ xs ≡ Some b ∷ ys → xs ≡ ys
+rest_coming a b xs ys e = cc
+
+-- the entry of a server that a connect found, and those behind it
+record Entry (entries : List (Option ServerEntry)) (left : List (Option Coming)) (coming : Coming) : Type 0 where
+  entry : ServerEntry
+  others : List (Option ServerEntry)
+  first : entries ≡ Some entry ∷ others
+  same : coming ≡ coming_of entry
+  rest : left ≡ map answer_of others
+
+entry_of : (entries : List (Option ServerEntry)) (coming : Coming) (left : List (Option Coming)) → map answer_of entries ≡ Some coming ∷ left → Entry entries left coming
+entry_of [] coming left e = absurd cc
+entry_of (None ∷ others) coming left e = absurd (none_first coming left (map answer_of others) e)
+entry_of (Some entry ∷ others) coming left e =
+    record {
+      entry = entry;
+      others = others;
+      first = refl;
+      same = sym (first_coming (coming_of entry) coming (map answer_of others) left e);
+      rest = sym (rest_coming (coming_of entry) coming (map answer_of others) left e);
+    }
+
+found_sent : (entry : ServerEntry) (stream : Stream) (stopped : Bool) (s : Option Sent) (sent : Sent) → s ≡ Some sent → ServesAs entry stream stopped sent.bytes → IsFound (Some entry) (Open stream stopped) s
+found_sent entry stream stopped s sent e h = let P : Option Sent → Type 0 = λ s. IsFound (Some entry) (Open stream stopped) s in subst P (sym e) h
+
+none_found : (s : Option Sent) → s ≡ None → IsFound None NotThere s
+none_found s e = let P : Option Sent → Type 0 = λ s. IsFound None NotThere s in subst P (sym e) tt
+
+ends_there : (entries : List (Option ServerEntry)) (ds : List Dial) (servers : List Server) → ds ≡ [] → AllZip IsServerOf ds servers → Finds entries servers (sents ds)
+ends_there entries [] [] none zip = tt
+ends_there entries [] (server ∷ servers) none zip = absurd zip
+ends_there entries (d ∷ ds) servers none zip = absurd cc
+
+-- a refused connect is the last: past all entries, or at a refused one
+refused_last : (entries : List (Option ServerEntry)) (d : Dial) (ds : List Dial) (servers : List Server) → d.connect.there ≡ false → RefusesOnly (Some (map answer_of entries)) → ds ≡ [] → AllZip IsServerOf ds servers
+    → Finds entries (NotThere ∷ servers) (sents (d ∷ ds))
+refused_last [] d ds servers there only none zip = (none_found (sent_of d.connect) (sent_refused d.connect there), ends_there [] ds servers none zip)
+refused_last (None ∷ entries) d ds servers there only none zip = (none_found (sent_of d.connect) (sent_refused d.connect there), ends_there entries ds servers none zip)
+refused_last (Some entry ∷ entries) d ds servers there only none zip = absurd only
+
+served_first : (entries : List (Option ServerEntry)) (d : Dial) (ds : List Dial) (servers : List Server) (stream : Stream) (stopped : Bool) → d.answers ≡ map answer_of entries → IsServerOf d (Open stream stopped) → IsServed d
+    → ((others : List (Option ServerEntry)) → d.left ≡ map answer_of others → Finds others servers (sents ds)) → Finds entries (Open stream stopped ∷ servers) (sents (d ∷ ds))
+served_first entries d ds servers stream stopped at is s rest =
+    let found = entry_of entries s.coming d.left (sym at ∙ s.first) in
+    let coming : is.2 ≡ s.coming = first_coming is.2 s.coming d.left d.left (sym is.3 ∙ s.first) in
+    let own : stream ≡ stream_of d.connect.stream (coming_of found.entry).bytes (coming_of found.entry).ending =
+    is.4 ∙ ap (λ (c : Coming). stream_of d.connect.stream c.bytes c.ending) (coming ∙ found.same) in
+    let K : Coming → Type 0 = λ c. KeptSo (new_link c) d.connect s.link in
+    let so = served_so found.entry d.connect s.link stream (subst K found.same s.so) own in
+    let S : Bool → Type 0 = λ b. ServesAs found.entry stream b d.connect.taken in
+    let P : List (Option ServerEntry) → Type 0 = λ l. Finds l (Open stream stopped ∷ servers) (sents (d ∷ ds)) in
+    subst P (sym found.first)
+    (found_sent found.entry stream stopped (sent_of d.connect) _ (sent_there d.connect is.0) (subst S (sym is.1) so), rest found.others found.rest)
+
+finds_more : (plain : Type 0) → plain → (entries : List (Option ServerEntry)) (d : Dial) (ds : List Dial) (server : Server) (servers : List Server) → d.answers ≡ map answer_of entries → IsDial plain d → IsServerOf d server → OnlyLast (sents (d ∷ ds)) → AllZip IsServerOf ds servers
+    → ((others : List (Option ServerEntry)) → d.left ≡ map answer_of others → OnlyLast (sents ds) → Finds others servers (sents ds)) → Finds entries (server ∷ servers) (sents (d ∷ ds))
+finds_more plain proof entries d ds NotThere servers at is of last zip rest =
+    let r = refused plain d of is in
+    let P : List (Option Coming) → Type 0 = λ l. RefusesOnly (Some l) in
+    refused_last entries d ds servers of (subst P at (r.only proof)) (no_sents ds (only_one (sent_of d.connect) (sents ds) (sent_refused d.connect of) last)) zip
+finds_more plain proof entries d ds (Open stream stopped) servers at is of last zip rest =
+    let s = served plain d of.0 is in
+    served_first entries d ds servers stream stopped at of s (λ others e. rest others e (only_more (sent_of d.connect) _ (sents ds) (sent_there d.connect of.0) last))
+
+-- the connects found the entries in their order
+pub finds : (plain : Type 0) → plain → (entries : List (Option ServerEntry)) (answers left : List (Option Coming)) (ds : List Dial) (servers : List Server) → answers ≡ map answer_of entries → Chain answers ds left → AllByRecursion (IsDial plain) ds → OnlyLast (sents ds) → AllZip IsServerOf ds servers
+    → Finds entries servers (sents ds)
+finds plain proof entries answers left [] [] at chain all last zip = tt
+finds plain proof entries answers left [] (server ∷ servers) at chain all last zip = absurd zip
+finds plain proof entries answers left (d ∷ ds) [] at chain all last zip = absurd zip
+finds plain proof entries answers left (d ∷ ds) (server ∷ servers) at chain all last zip =
+    finds_more plain proof entries d ds server servers (chain.0 ∙ at) all.0 zip.0 last zip.1
+    (λ others e l. finds plain proof others d.left left ds servers e chain.1 all.1 l zip.1)

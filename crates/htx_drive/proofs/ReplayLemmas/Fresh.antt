@@ -1,0 +1,115 @@
+-- A link in memory before its first call.
+use Rattle.std.proofs.Common.{◌≡◌, ℕ, List, [], Bool, true, false, ◌&&◌, ◌==◌, Option, Some, None, length, ap, ◌∙◌, refl}
+use Rattle.std.specs.Prelude.{Result, Ok, Err, IfOk}
+use Rattle.std.proofs.lemmas.Bool.{false≢true, eqb-true}
+use Rattle.std.proofs.lemmas.List.{nil_from_length}
+use Rattle.http_model.specs.declared.Close.{Close}
+use Rattle.http_model.specs.declared.Ending.{Ending}
+use Rattle.px_link.specs.Link.{Seen}
+use Rattle.px_link.specs.Net.{Coming, new_link}
+use Rattle.px_link.specs.MemLink.{MemLinkSeen, link_of, limit_of, is_open, is_unused}
+use Rattle.px_link.specs.MemNet.{coming}
+use Rattle.session_model.specs.Stream.{Stream}
+use Rattle.htx_drive.specs.Replay.Seen.{IsFresh}
+
+first_true : (a b : Bool) → (a && b) ≡ true → a ≡ true
+first_true true b e = refl
+first_true false b e = e
+
+second_true : (a b : Bool) → (a && b) ≡ true → b ≡ true
+second_true true b e = e
+second_true false b e = absurd (false≢true e)
+
+open_is : (o : Option Close) → is_open o ≡ true → o ≡ None
+open_is None e = refl
+open_is (Some how) e = absurd (false≢true e)
+
+-- what is seen of a link with these parts
+seen_with : (to_come : List ℕ) (ending : Ending) (closed : Option Close) (reads writes : List ℕ) (takes : Option ℕ) (taken read_faults write_faults : ℕ) → Seen
+seen_with to_come ending closed reads writes takes taken read_faults write_faults =
+    link_of (record {
+      to_come = to_come;
+      ending = ending;
+      taken = taken;
+      written = [];
+      takes = takes;
+      closed = closed;
+      failing_reads = reads;
+      failing_writes = writes;
+      reads = 0;
+      writes = 0;
+      read_faults = read_faults;
+      write_faults = write_faults;
+    })
+
+same_parts : (a x : List ℕ) (b y : Ending) (closed : Option Close) (reads writes : List ℕ) (t u : Option ℕ) (taken read_faults write_faults : ℕ)
+    → a ≡ x → b ≡ y → closed ≡ None → reads ≡ [] → writes ≡ [] → t ≡ u → taken ≡ 0 → read_faults ≡ 0 → write_faults ≡ 0
+    → seen_with a b closed reads writes t taken read_faults write_faults ≡ seen_with x y None [] [] u 0 0 0
+same_parts a x b y closed reads writes t u taken read_faults write_faults p q r s v w z f g = cc
+
+seen_new : (x : List ℕ) (y : Ending) (u : Option ℕ) → seen_with x y None [] [] u 0 0 0 ≡ new_link (record { bytes = x; ending = y; plain = true; takes = limit_of u })
+unfolding seen_with
+seen_new x y u = refl
+
+seen_parts : (l : MemLinkSeen) → link_of l ≡ seen_with l.to_come l.ending l.closed l.failing_reads l.failing_writes l.takes l.taken l.read_faults l.write_faults
+unfolding seen_with
+seen_parts l = refl
+
+record Unused (l : MemLinkSeen) : Type 0 where
+  closed : l.closed ≡ None
+  taken : l.taken ≡ 0
+  written : l.written ≡ []
+  read_faults : l.read_faults ≡ 0
+  write_faults : l.write_faults ≡ 0
+
+unused_parts : (l : MemLinkSeen) → is_unused l ≡ true → Unused l
+unused_parts l e =
+    let a = second_true (l.reads == 0) _ e in
+    let b = second_true (l.writes == 0) _ a in
+    let c = second_true (is_open l.closed) _ b in
+    let d = second_true (l.taken == 0) _ c in
+    let f = second_true (length l.written == 0) _ d in
+    record {
+      closed = open_is l.closed (first_true (is_open l.closed) _ b);
+      taken = eqb-true l.taken 0 (first_true (l.taken == 0) _ c);
+      written = nil_from_length l.written (eqb-true (length l.written) 0 (first_true (length l.written == 0) _ d));
+      read_faults = eqb-true l.read_faults 0 (first_true (l.read_faults == 0) _ f);
+      write_faults = eqb-true l.write_faults 0 (second_true (l.read_faults == 0) _ f);
+    }
+
+pub fresh : (s : Stream) (takes : Option ℕ) (l : MemLinkSeen) → l.to_come ≡ s.bytes → l.ending ≡ s.ending → l.takes ≡ takes → (l.failing_reads ≡ []) × (l.failing_writes ≡ []) → is_unused l ≡ true → IsFresh s takes l
+fresh s takes l to_come ending limit failing unused =
+    let u = unused_parts l unused in
+    record {
+      seen = seen_parts l
+          ∙ same_parts l.to_come s.bytes l.ending s.ending l.closed l.failing_reads l.failing_writes l.takes takes l.taken l.read_faults l.write_faults to_come ending u.closed failing.0 failing.1 limit u.taken u.read_faults u.write_faults
+          ∙ seen_new s.bytes s.ending takes;
+      written = u.written;
+      unused = unused;
+    }
+
+pub fresh_made : {E : Type 0} (s : Stream) (takes : Option ℕ) (bytes : List ℕ) (r : Result MemLinkSeen E) → bytes ≡ s.bytes → IfOk r (λ (l : MemLinkSeen). l.to_come ≡ bytes) → IfOk r (λ (l : MemLinkSeen). l.ending ≡ s.ending)
+    → IfOk r (λ (l : MemLinkSeen). l.takes ≡ takes) → IfOk r (λ (l : MemLinkSeen). (l.failing_reads ≡ []) × (l.failing_writes ≡ [])) → IfOk r (λ (l : MemLinkSeen). is_unused l ≡ true) → IfOk r (λ (l : MemLinkSeen). IsFresh s takes l)
+fresh_made s takes bytes (Ok l) own to_come ending limit failing unused = fresh s takes l (to_come ∙ own) ending limit failing unused
+fresh_made s takes bytes (Err e) own to_come ending limit failing unused = tt
+
+-- what is to come over a link that is seen so
+coming_of_seen : Seen → List ℕ → Ending → Coming
+coming_of_seen s bytes ending = record { bytes = bytes; ending = ending; plain = s.plain; takes = s.takes }
+
+told_is : (a b : List ℕ) → Some a ≡ Some b → a ≡ b
+told_is a b e = cc
+
+ending_is : (a b : Ending) → Some a ≡ Some b → a ≡ b
+ending_is a b e = cc
+
+same_coming : (s t : Seen) (a b : List ℕ) (y z : Ending) → s ≡ t → a ≡ b → y ≡ z → coming_of_seen s a y ≡ coming_of_seen t b z
+same_coming s t a b y z p q r = cc
+
+-- what is to come over a fresh link
+pub fresh_coming : (s : Stream) (takes : Option ℕ) (l : MemLinkSeen) → IsFresh s takes l → coming l ≡ record { bytes = s.bytes; ending = s.ending; plain = true; takes = limit_of takes }
+unfolding coming_of_seen
+fresh_coming s takes l f =
+    let bytes = told_is l.to_come s.bytes (ap (λ (s : Seen). s.to_come) f.seen) in
+    let ending = ending_is l.ending s.ending (ap (λ (s : Seen). s.ending) f.seen) in
+    same_coming (link_of l) (new_link (record { bytes = s.bytes; ending = s.ending; plain = true; takes = limit_of takes })) l.to_come s.bytes l.ending s.ending f.seen bytes ending

@@ -1,0 +1,52 @@
+-- What comes over a plain link is its own stream.
+use Rattle.std.proofs.Common.{◌≡◌, ℕ, List, [], ◌++◌, Bool, true, false, Option, Some, None, length, sym, ap, ◌∙◌, refl}
+use Rattle.std.proofs.lemmas.List.{append-nil}
+use Rattle.http_model.specs.declared.Ending.{Ending}
+use Rattle.http_model.specs.declared.Ending.TheVariants.{Closed, Broke}
+use Rattle.px_link.specs.Link.{Seen, WithinTakes, MayRefuse}
+use Rattle.px_link.specs.Net.{Kept, Coming, new_link}
+use Rattle.px_link.specs.MemLink.{limit_of}
+use Rattle.session_model.specs.Stream.{Stream}
+use Rattle.session_core.specs.History.{Connect}
+use Rattle.session_core.specs.History as history
+use Rattle.htx_drive.specs.Came.{Came, EndsSo}
+use Rattle.htx_drive.specs.Dialled.{KeptSo}
+use Rattle.htx_drive.specs.Headline.{stream_by, stream_of}
+use Rattle.rec_format.specs.Entries.{ServerEntry}
+use Rattle.htx_drive.specs.Replay.Memory.{coming_of}
+use Rattle.htx_drive.specs.Replay.Replayed.{TakesSo, ServesAs}
+use Rattle.htx_drive.proofs.ReplayLemmas.Stops.{stops_so}
+
+abbrev stream_with : List ℕ → Ending → Stream
+stream_with bytes ending = record { bytes = bytes; ending = ending }
+
+same_stream : (a b : List ℕ) (d e : Ending) → a ≡ b → d ≡ e → stream_with a d ≡ stream_with b e
+same_stream a b d e p q = ap (λ (l : List ℕ). stream_with l d) p ∙ ap (λ (f : Ending). stream_with b f) q
+
+all_came : (came own rest : List ℕ) → own ≡ came ++ rest → rest ≡ [] → came ≡ own
+all_came came own rest e none = sym (e ∙ ap (λ (l : List ℕ). came ++ l) none ∙ append-nil came)
+
+-- over a plain link only a stream that broke off of itself ends by a read that failed
+plain_by : (coming : Coming) (now : Seen) (how : Option Ending) (came rest : List ℕ) → coming.plain ≡ true → coming.bytes ≡ came ++ rest → (how ≡ Some Broke → rest ≡ []) → EndsSo (new_link coming) now how
+    → stream_by how came coming.bytes coming.ending ≡ stream_with coming.bytes coming.ending
+plain_by coming now None came rest plain e over ended = refl
+plain_by coming now (Some Closed) came rest plain e over ended = refl
+plain_by coming now (Some Broke) came rest plain e over ended =
+    same_stream came coming.bytes Broke coming.ending (all_came came coming.bytes rest e (over refl)) (sym (ended.1 plain))
+
+own_stream : (coming : Coming) (now : Seen) (came : history.Coming) → coming.plain ≡ true → Came (new_link coming) now came → stream_of came coming.bytes coming.ending ≡ stream_with coming.bytes coming.ending
+own_stream coming now came plain h =
+    let of = h.bytes coming.bytes refl in plain_by coming now came.ending came.bytes of.rest plain of.bytes (of.broke plain) h.ended
+
+takes_so : (takes : Option ℕ) (stopped : Bool) (taken : List ℕ) → WithinTakes (limit_of takes) (length taken) → (stopped ≡ true → MayRefuse (limit_of takes) (length taken)) → TakesSo takes stopped taken
+takes_so None true taken within full = absurd (full refl)
+takes_so None false taken within full = refl
+takes_so (Some n) true taken within full = full refl
+takes_so (Some n) false taken within full = within
+
+-- a server of a record that was connected gave its own stream, and took what it takes
+pub served_so : (entry : ServerEntry) (c : Connect) (k : Kept) (stream : Stream) → KeptSo (new_link (coming_of entry)) c k → stream ≡ stream_of c.stream entry.stream.bytes entry.stream.ending
+    → ServesAs entry stream c.stopped c.taken
+served_so entry c k stream h is =
+    let takes = takes_so entry.takes c.stopped c.taken h.limit h.full in
+    record { own = is ∙ own_stream (coming_of entry) k.seen c.stream refl h.came; takes = takes; stops = stops_so entry.takes c.stopped c.taken takes }

@@ -1,0 +1,17 @@
+use Rattle.std.proofs.Common.{◌≤◌, drop, length, map, ap, arith}
+use Rattle.std.proofs.lemmas.Grind.{common_steps}
+use Rattle.std.proofs.Math.ListN.{drop_of_length-le}
+use Rattle.rec_format.specs.Read.{visits}
+use Rattle.rec_format.specs.ReportParts.{out_of}
+use Rattle.htx_drive.proofs.ReplayLemmas.Reported.{reports_done}
+use Rattle.htx_drive.proofs.replay.sessions.replay.Goals as goal
+
+pub returns : goal.returns
+returns g c =
+    let all = c.args.recorded.now.conns.items in
+    let at = c.loop-conn.conn-index in
+    let past : length all ≤ at = omega (arith, c.loop-conn-test.false, c.deref-conn-items.ensures.len) in
+    reports_done (g.C.Machine.meaning (g.K.Cores.settings c.args.cores.now)) (visits all) (visits (drop at all)) (map out_of c.loop-conn.reports.items) (ap visits (drop_of_length-le all past)) c.loop-conn.invariant
+
+pub loop-conn-preserved : goal.loop-conn-preserved
+loop-conn-preserved g c = grind (arith, common_steps)

@@ -1,0 +1,20 @@
+use Rattle.std.proofs.Common.{List, Option, subst}
+use Rattle.std.proofs.lemmas.Result.{IfOk-weaker}
+use Rattle.px_link.specs.Net.{address_of}
+use Rattle.rec_format.specs.declared.record.ServerSpec.{ServerSpec}
+use Rattle.rec_format.specs.Read.{visit, servers}
+use Rattle.rec_format.specs.ReportParts.{out_of}
+use Rattle.htx_drive.specs.Replay.Seen.{IsFreshNet}
+use Rattle.htx_drive.proofs.ReplayLemmas.Whole.{replays}
+use Rattle.htx_drive.proofs.replay.sessions.replay_connection.Goals as goal
+
+pub returns : goal.returns
+returns g c =
+    let v = visit c.args.conn.now in
+    let net = c.in_ok-net.net in
+    let after = c.run_over.new.net in
+    let N : List (Option ServerSpec) → Type 0 = λ entries. IsFreshNet (servers entries) net.net net.refused in
+    let fresh = subst N c.deref.ensures.value c.in_ok-net.ensures in
+    IfOk-weaker c.report_of.result _ _
+    (λ report is. replays (g.C.Machine.meaning (g.K.Cores.settings c.args.cores.now)) v (address_of c.args.to.now) c.in_ok-client.client c.run_over.new.client net.net net.refused after.net after.refused c.in_ok-ran.ran (out_of report) c.in_ok-client.ensures fresh c.in_ok-ran.ensures is)
+    c.report_of.ensures

@@ -1,0 +1,16 @@
+//! Runs the sessions of a record: each connection over links and a net in memory, with a core and turns of its own.
+
+mod budget;
+mod cores;
+pub mod laws;
+mod links;
+mod outcome;
+mod record_net;
+mod sessions;
+mod texts;
+mod turns;
+
+pub use cores::Cores;
+pub use sessions::{replay, replay_connection};
+pub use texts::{drill_text, replay_text};
+pub use turns::turns_of;

@@ -1,0 +1,39 @@
+//! How many turns the session of a connection may take.
+ghost use Rattle.std.specs.Prelude.{◌≡◌, IfSome, sum_by, length};
+ghost use Rattle.htx_drive.specs.Budget.{enough};
+ghost use Rattle.rec_format.specs.Read.{visit, servers};
+ghost use Rattle.htx_drive.specs.Replay.Memory.{size_of};
+
+use rec_format::{Connection, ServerSpec};
+
+/// How many bytes servers give together; none where it is more than a number can say.
+fn servers_size(entries: &[Option<ServerSpec>]) -> Option<u64>
+    ensures { IfSome result (λ size. size ≡ sum_by size_of (servers entries.now)) }
+{
+    let mut size = 0u64;
+    for entry in entries {
+        if let Some(server) = entry {
+            size = size.checked_add(server.stream.bytes.as_slice().len() as u64)?;
+        }
+    }
+    Some(size)
+}
+
+/// So many turns are enough for so many bytes of a client and of servers, with buffers of this size; none where it is more than a
+/// number can say.
+fn turns_for(client: u64, servers: u64, bufsize: u32) -> Option<u64>
+    ensures { IfSome result (λ budget. budget ≡ enough client servers client bufsize) }
+{
+    let buffers = client.checked_add(1)?.checked_mul(u64::from(bufsize))?;
+    let bytes = client.checked_add(servers)?;
+    let room = bytes.checked_add(buffers)?;
+    room.checked_mul(2048)
+}
+
+/// So many turns are enough for the session of a connection. The client's bytes stand in the place of its requests.
+pub(crate) fn budget_of(conn: &Connection, bufsize: u32) -> Option<u64>
+    ensures { IfSome result (λ budget. budget ≡ enough (length (visit conn.now).client.bytes) (sum_by size_of (visit conn.now).servers) (length (visit conn.now).client.bytes) bufsize) }
+{
+    let servers = servers_size(&conn.servers)?;
+    turns_for(conn.client.bytes.as_slice().len() as u64, servers, bufsize)
+}

@@ -1,0 +1,106 @@
+//! The sessions of a record.
+ghost use Rattle.std.specs.Prelude.{◌≡◌, None, false, map, IfOk};
+ghost use Rattle.session_core.specs.History.{nothing_yet};
+ghost use Rattle.px_link.specs.Net.{address_of};
+ghost use Rattle.rec_format.specs.Read.{visit, visits};
+ghost use Rattle.rec_format.specs.ReportParts.{out_of};
+ghost use Rattle.htx_drive.specs.Replay.Replayed.{Replays, ReplaysAll};
+ghost use Rattle.htx_drive.specs.Replay.Seen.{IsFresh, IsFreshNet, RanOver};
+
+use crate::replay::budget::budget_of;
+use crate::replay::cores::Cores;
+use crate::replay::laws::only_want_of_memory_gives_up;
+use crate::replay::links::{client_link, net_for};
+use crate::replay::outcome::report_of;
+use crate::replay::record_net::RecordNet;
+use crate::replay::turns::turns_of;
+use crate::{Address, Machine, OutOfMemory, Ran, SessionFault, Turn, laws, run_session};
+use px_link::{ListTurns, MemLink};
+use rec_format::{Connection, Record, Report};
+use std::alloc::Global;
+
+/// The one fault that a session over links in memory has: with a budget that is enough it is never spent, and no write to the client
+/// fails.
+fn only_memory(fault: SessionFault) -> OutOfMemory
+    requires { fault ≡ SessionFault.OutOfMemory }
+{
+    let _ = fault;
+    OutOfMemory
+}
+
+/// Runs the session of a connection over its link and its net.
+fn run_over<C: Machine, K: Cores<C>>(
+    cores: &K,
+    core: &mut C,
+    to: &Address,
+    conn: &Connection,
+    client: &mut MemLink,
+    net: &mut RecordNet,
+    turns: &mut ListTurns,
+) -> Result<Ran, OutOfMemory>
+    requires ready { K.ready cores.now }
+    requires stands { C.stands (K.settings cores.now) core.old nothing_yet }
+    requires idle { (C.seen core.old).serving ≡ false }
+    requires sound { C.sound core.old }
+    requires client { IsFresh (visit conn.now).client None client.old }
+    requires net { IsFreshNet (visit conn.now).servers net.old.net net.old.refused }
+    ensures { IfOk result (RanOver (C.meaning (K.settings cores.now)) (visit conn.now) (address_of to.now) client.old client.new net.old.net net.old.refused net.new.net net.new.refused) }
+{
+    let Some(budget) = budget_of(conn, cores.bufsize()) else {
+        return Err(OutOfMemory);
+    };
+    laws::ran_is_the_session::<C, MemLink, RecordNet>();
+    only_want_of_memory_gives_up::<C, K>();
+    match run_session(core, to, client, net, turns, budget) {
+        Ok(ran) => Ok(ran),
+        Err(fault) => Err(only_memory(fault)),
+    }
+}
+
+/// Runs the session of a connection, and reports it. Want of memory is the only error.
+pub fn replay_connection<C: Machine + Drop, K: Cores<C>>(
+    alloc: Global,
+    cores: &K,
+    to: &Address,
+    conn: &Connection,
+    turns: Vec<Turn>,
+) -> Result<Report, OutOfMemory>
+    requires ready { K.ready cores.now }
+    ensures { IfOk result (λ report. Replays (C.meaning (K.settings cores.now)) (visit conn.now) (out_of report)) }
+{
+    let mut client = client_link(alloc, &conn.client)?;
+    let mut net = net_for(alloc, &conn.servers)?;
+    let mut turns = ListTurns::new(turns);
+    let mut core = cores.core(alloc)?;
+    let ran = run_over(
+        cores,
+        &mut core,
+        to,
+        conn,
+        &mut client,
+        &mut net,
+        &mut turns,
+    )?;
+    report_of(alloc, ran, &client, &net)
+}
+
+/// Runs the sessions of a record one after another, each with a core and with turns of its own. Want of memory is the only error.
+pub fn replay<C: Machine + Drop, K: Cores<C>>(
+    alloc: Global,
+    cores: &K,
+    to: &Address,
+    recorded: &Record,
+) -> Result<Vec<Report>, OutOfMemory>
+    requires ready { K.ready cores.now }
+    ensures { IfOk result (λ reports. ReplaysAll (C.meaning (K.settings cores.now)) (visits recorded.now.conns.items) (map out_of reports.items)) }
+{
+    let mut reports = Vec::new(alloc);
+    let mut owner = 0u32;
+    for conn in &recorded.conns {
+        owner = owner.saturating_add(1);
+        let turns = turns_of(alloc, owner, &recorded.turns)?;
+        let report = replay_connection(alloc, cores, to, conn, turns)?;
+        reports.push(report)?;
+    }
+    Ok(reports)
+}
