@@ -2,6 +2,8 @@
 #![tactic(auto)]
 
 mod answers;
+pub mod array;
+pub mod bodies;
 mod escapes;
 mod fault;
 mod held;
@@ -9,6 +11,7 @@ mod reading;
 mod rows;
 mod score;
 mod steps;
+pub mod writing;
 
 pub use answers::Answers;
 pub use escapes::{count_of, decoded, quoted, split_at_first};

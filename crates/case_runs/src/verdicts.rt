@@ -1,6 +1,6 @@
 //! What rules come to: `pass` and the edited list, `reply` and the reply's list, `deny` and the code, or `fail` and why.
-use case_array::say_blocks;
 use case_rows::Answers;
+use case_rows::array::say_blocks;
 use http_rules::Verdict;
 use htx_arena::Arena;
 

@@ -34,15 +34,15 @@ fn names_in<R: Files + AllocGlobal + Clone + Drop>(
 fn made_of_parts(alloc: Global, kind: &str, row: Row<'_>) -> Option<Result<Vec<u8>, Fault>> {
     match case_values::made(alloc, kind, row) {
         Some(made) => Some(made),
-        None => case_array::made(alloc, kind, row),
+        None => case_rows::array::made(alloc, kind, row),
     }
 }
 
 /// What a row of bodies or of whole messages comes to.
 fn made_of_messages(alloc: Global, kind: &str, row: Row<'_>) -> Option<Result<Vec<u8>, Fault>> {
-    match case_bodies::made(alloc, kind, row) {
+    match case_rows::bodies::made(alloc, kind, row) {
         Some(made) => Some(made),
-        None => case_writing::made(alloc, kind, row),
+        None => case_rows::writing::made(alloc, kind, row),
     }
 }
 

@@ -1,8 +1,0 @@
-//! Rows of messages that are written as text or go from one array to another, and what they come to.
-#![tactic(auto)]
-
-mod kinds;
-mod spellings;
-mod transfers;
-
-pub use kinds::made;
