@@ -6,6 +6,9 @@ mod kinds;
 mod lines;
 mod messages;
 mod readings;
+pub mod runs;
 mod sayings;
+pub mod text;
+pub mod values;
 
 pub use kinds::made;

@@ -32,7 +32,7 @@ fn names_in<R: Files + AllocGlobal + Clone + Drop>(
 
 /// What a row of samples or of edits comes to.
 fn made_of_parts(alloc: Global, kind: &str, row: Row<'_>) -> Option<Result<Vec<u8>, Fault>> {
-    match case_values::made(alloc, kind, row) {
+    match case_rules::values::made(alloc, kind, row) {
         Some(made) => Some(made),
         None => case_rows::array::made(alloc, kind, row),
     }
@@ -50,7 +50,7 @@ fn made_of_messages(alloc: Global, kind: &str, row: Row<'_>) -> Option<Result<Ve
 fn made_of_rules(alloc: Global, kind: &str, row: Row<'_>) -> Option<Result<Vec<u8>, Fault>> {
     match case_rules::made(alloc, kind, row) {
         Some(made) => Some(made),
-        None => case_runs::made(alloc, kind, row),
+        None => case_rules::runs::made(alloc, kind, row),
     }
 }
 
@@ -72,7 +72,7 @@ fn made_of_runs(alloc: Global, kind: &str, row: Row<'_>) -> Option<Result<Vec<u8
 
 /// What a row of texts or of messages comes to.
 fn made_of_texts(alloc: Global, kind: &str, row: Row<'_>) -> Option<Result<Vec<u8>, Fault>> {
-    match case_text::made(alloc, kind, row) {
+    match case_rules::text::made(alloc, kind, row) {
         Some(made) => Some(made),
         None => made_of_messages(alloc, kind, row),
     }

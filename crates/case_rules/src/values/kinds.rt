@@ -1,5 +1,5 @@
 //! Which interpreter a kind of rows has.
-use crate::{expressions, formats, patterns, values};
+use crate::values::{expressions, formats, patterns, values};
 use case_rows::{Fault, Row};
 use std::alloc::Global;
 

@@ -1,5 +1,4 @@
 //! Rows of texts: bytes, lines, configurations, words of the command line, records and reports, and what they come to.
-#![tactic(auto)]
 
 mod commands;
 mod kinds;

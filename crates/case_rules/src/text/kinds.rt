@@ -1,5 +1,5 @@
 //! Which interpreter a kind of rows has.
-use crate::{commands, lines, records, texts};
+use crate::text::{commands, lines, records, texts};
 use case_rows::{Fault, Row};
 use std::alloc::Global;
 

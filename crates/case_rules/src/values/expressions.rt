@@ -2,8 +2,8 @@
 //! samples.
 ghost use Rattle.std.specs.Prelude.{◌≡◌, ◌≤◌, IfOk};
 
-use crate::convs::{conv_of, fetch_of};
-use crate::samples::{given_list, say_sample};
+use crate::values::convs::{conv_of, fetch_of};
+use crate::values::samples::{given_list, say_sample};
 use case_rows::{Answers, Call, Fault, Held, Row, count_of, held_list};
 use px_expr::{Buf, ConvList, Expr, MemEnv, eval, eval_nth};
 use px_pattern::Searchers;

@@ -1,5 +1,5 @@
 //! Which interpreter a kind of rows has.
-use crate::{lent, runs};
+use crate::runs::{lent, runs};
 use case_rows::{Fault, Row};
 use std::alloc::Global;
 

@@ -5,8 +5,8 @@ ghost use Rattle.http_model.specs.Sizes.{least_size, most_size, least_head};
 ghost use Rattle.http_rules.specs.Run.{IsHead};
 ghost use Rattle.http_rules.specs.Valid.{IsValid};
 
-use crate::configs::config_of;
-use crate::verdicts::say_verdict;
+use crate::runs::configs::config_of;
+use crate::runs::verdicts::say_verdict;
 use case_rows::{Answers, Fault, Row, decoded};
 use h1_head::{HeadRead, Side, read_head};
 use http_model::Limits;
@@ -31,7 +31,7 @@ fn head_of(alloc: Global, text: &str, most: u32) -> Result<Vec<u8>, Fault>
 }
 
 /// The head of a request or of an answer in an array.
-#[tactic(auto, using(crate::proofs::Heads::heads))]
+#[tactic(auto, using(crate::proofs::RunsLemmas::Heads::heads))]
 fn head_in(alloc: Global, text: &str, side: Side, limits: Limits) -> Result<Arena, Fault>
     requires least { least_size ≤ limits.bufsize }
     requires most { limits.bufsize ≤ most_size }
@@ -56,7 +56,7 @@ enum Run<'a> {
 }
 
 /// Runs the rules of a configuration on a head.
-#[tactic(auto, using(crate::proofs::Heads::heads))]
+#[tactic(auto, using(crate::proofs::RunsLemmas::Heads::heads))]
 fn run_rules(
     alloc: Global,
     cfg: &Config,

@@ -1,5 +1,4 @@
 //! Rows of samples: expressions, formats, templates, patterns, casts, buffers and variables, and what they come to.
-#![tactic(auto)]
 
 mod convs;
 mod expressions;

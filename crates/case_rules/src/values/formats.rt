@@ -1,9 +1,9 @@
 //! Formats and templates.
 ghost use Rattle.std.specs.Prelude.{◌≡◌};
 
-use crate::convs::{pattern_of, text_of};
-use crate::expressions::{buffer_of, expr_of};
-use crate::samples::given_list;
+use crate::values::convs::{pattern_of, text_of};
+use crate::values::expressions::{buffer_of, expr_of};
+use crate::values::samples::given_list;
 use case_rows::{Answers, Call, Fault, Held, Row, decoded, held_list};
 use log_format::{Fmt, Part, PartList, format};
 use px_conv::expand;

@@ -1,5 +1,4 @@
 //! Rows of rules that run on a head, and of the array in which a core lends the request that they leave, and what they come to.
-#![tactic(auto)]
 
 mod configs;
 mod kinds;

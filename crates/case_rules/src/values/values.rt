@@ -1,6 +1,6 @@
 //! Casts of samples, buffers and variables.
-use crate::expressions::buffer_of;
-use crate::samples::say_sample;
+use crate::values::expressions::buffer_of;
+use crate::values::samples::say_sample;
 use case_rows::{Answers, Fault, Held, Row, Step, held_in};
 use px_expr::{Buf, Sample, Scope};
 use px_sample::{Vars, into_text, number_in, truth_in};

@@ -4,7 +4,7 @@ ghost use Rattle.http_rules.specs.Valid.{IsValid};
 ghost use Rattle.session_core.specs.Place.{IsPlaced};
 ghost use Rattle.forward_core.specs.Joined.Joined.{Placed, answer_of};
 
-use crate::configs::config_of;
+use crate::runs::configs::config_of;
 use case_rows::{Answers, Fault, Row, count_of, decoded};
 use forward_core::joined::Directions;
 use http_rules::{Config, OutOfMemory};
