@@ -4,8 +4,8 @@
 #![tactic(auto)]
 
 use case_rows::{Fault, Row, Score, decoded};
-use case_session::session_made;
-use case_windows::windows_made;
+use case_sessions::session::session_made;
+use case_sessions::windows::windows_made;
 use loop_run::{play_role, run_both};
 use std::alloc::{AllocError, Global};
 use std::process::{ExitCode, id};
@@ -56,9 +56,9 @@ fn made_of_rules(alloc: Global, kind: &str, row: Row<'_>) -> Option<Result<Vec<u
 
 /// What a row of the program comes to.
 fn made_of_program(alloc: Global, kind: &str, row: Row<'_>) -> Option<Result<Vec<u8>, Fault>> {
-    match case_session::made(alloc, kind, row) {
+    match case_sessions::session::made(alloc, kind, row) {
         Some(made) => Some(made),
-        None => case_served::made(alloc, kind, row),
+        None => case_sessions::served::made(alloc, kind, row),
     }
 }
 

@@ -2,8 +2,8 @@
 ghost use Rattle.std.specs.Prelude.{◌≤◌, IfOk};
 ghost use Rattle.http_rules.specs.Valid.{IsValid};
 
+use crate::session::{facts_of, record_in};
 use case_rows::{Answers, Fault};
-use case_session::{facts_of, record_in};
 use cfg_parse::{CfgFault, load};
 use http_rules::Config;
 use proxy_sessions::session_report;

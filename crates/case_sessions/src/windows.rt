@@ -1,5 +1,4 @@
 //! Sessions of files at output windows of several sizes, with all bytes at once and with one or seven bytes a turn.
-#![tactic(auto)]
 
 mod windows;
 

@@ -3,7 +3,7 @@ ghost use Rattle.std.specs.Prelude.{◌≡◌, true, IfOk};
 ghost use Rattle.std.specs.List.{list_all};
 ghost use Rattle.px_link.specs.MemLink.{is_unused, is_unused_or_none};
 
-use crate::failing::{calls_of, calls_of_link};
+use crate::served::failing::{calls_of, calls_of_link};
 use case_rows::{Call, Fault};
 use px_link::{MemLink, MemNet};
 use rec_format::{Connection, Record, ServerSpec, Stream};

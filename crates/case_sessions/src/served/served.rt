@@ -1,8 +1,8 @@
 //! `serve` over links and a net in memory, one of whose calls may fail.
-use crate::failing::calls_of;
-use crate::links::net_of;
+use crate::served::failing::calls_of;
+use crate::served::links::net_of;
+use crate::session::record_in;
 use case_rows::{Answers, Call, Fault, Row, decoded, words_of};
-use case_session::record_in;
 use proxy_call::{Status, htx_proxy};
 use px_link::{MemFiles, MemNet, MemSink};
 use px_pattern::RealPatterns;

@@ -1,6 +1,6 @@
 //! Sessions: rows of the program's words over the files `c` and `r`, and files of a configuration and a record with
 //! what must be written. Each goes through the program's one call.
-use crate::facts::facts_of;
+use crate::session::facts::facts_of;
 use case_rows::{Answers, Call, Fault, Row, decoded, words_of};
 use proxy_call::{Status, htx_proxy};
 use px_link::{MemFiles, MemNet, MemSink};

@@ -1,5 +1,4 @@
 //! Rows of clients that `serve` serves over links and a net in memory, one call of which may fail.
-#![tactic(auto)]
 
 mod failing;
 mod links;
