@@ -6,7 +6,7 @@
 use case_rows::{Fault, Row, Score, decoded};
 use case_sessions::session::session_made;
 use case_sessions::windows::windows_made;
-use loop_run::{play_role, run_both};
+use px_loop::visit::{play_role, run_both};
 use std::alloc::{AllocError, Global};
 use std::process::{ExitCode, id};
 use std::rt::Files;

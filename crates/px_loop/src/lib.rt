@@ -3,6 +3,7 @@
 
 mod play;
 mod texts;
+pub mod visit;
 mod visits;
 
 pub use play::{PlayFault, expect, send};

@@ -1,10 +1,10 @@
 //! The clients and the origin, played against a process that serves.
 ghost use Rattle.std.specs.Prelude.{◌≡◌, ◌<◌, IfOk};
 
-use crate::ports::{Ports, loopback};
+use crate::visit::ports::{Ports, loopback};
+use crate::{PlayFault, connect_patiently, forwarded, redirected};
 use proxy_call::Status;
 use px_link::{Address, Close, Fault, Link, Net, OutOfMemory};
-use px_loop::{PlayFault, connect_patiently, forwarded, redirected};
 use px_sock::RealNet;
 use std::io::Eprint;
 use std::process::ExitCode;

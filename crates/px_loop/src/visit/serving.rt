@@ -1,8 +1,8 @@
 //! What serves: the program's one call, with a configuration in memory, over sockets.
-use crate::ports::Ports;
+use crate::RULES;
+use crate::visit::ports::Ports;
 use proxy_call::{Status, htx_proxy};
 use px_link::{MemFiles, OutOfMemory};
-use px_loop::RULES;
 use px_pattern::RealPatterns;
 use px_sock::{RealNet, RealSink};
 use std::alloc::Global;

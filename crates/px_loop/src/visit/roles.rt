@@ -1,7 +1,7 @@
 //! The roles of a run, each by three words: `serve FRONT BACK` and `play FRONT BACK`, of two ports.
-use crate::playing::{self, play};
-use crate::ports::Ports;
-use crate::serving::{self, serve};
+use crate::visit::playing::{self, play};
+use crate::visit::ports::Ports;
+use crate::visit::serving::{self, serve};
 use std::io::Eprint;
 use std::net::Net;
 use std::process::ExitCode;

@@ -1,6 +1,6 @@
 //! Both processes of a run, watched to their ends: neither is left running, whatever the other does.
-use crate::ports::Ports;
-use crate::{playing, serving};
+use crate::visit::ports::Ports;
+use crate::visit::{playing, serving};
 use proxy_call::Status;
 use std::alloc::Global;
 use std::io::Eprint;
