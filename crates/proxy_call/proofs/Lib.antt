@@ -6,3 +6,4 @@ pub mod Stopped
 pub mod Told
 pub mod Words
 pub mod Writing
+pub mod SessionsLemmas

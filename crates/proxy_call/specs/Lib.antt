@@ -4,3 +4,4 @@ pub mod Files
 pub mod Lines
 pub mod Serving
 pub mod Stops
+pub mod Sessions

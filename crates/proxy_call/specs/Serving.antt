@@ -6,7 +6,7 @@ use Rattle.px_link.specs.Net.{Coming, Kept, NetSeen, address_of}
 use Rattle.http_rules.specs.declared.config.Config.{Config}
 use Rattle.htx_drive.specs.Dialled.{Dialled}
 use Rattle.forward_core.specs.Meaning.Product.{meaning_of}
-use Rattle.proxy_sessions.specs.Connections.{ServesClient}
+use Rattle.proxy_call.specs.Sessions.Connections.{ServesClient}
 use Rattle.px_command.specs.Command.{IsServe}
 use Rattle.serve_run.specs.Lines.{net_line}
 use Rattle.serve_run.specs.Served.{Breaks, NetFails, ServedAll, ServedOne}

@@ -8,9 +8,9 @@ ghost use Rattle.proxy_call.specs.Files.{IfTold, Builder, Configured, IsBuilt, t
 ghost use Rattle.proxy_call.specs.Stops.{Answers, ReadStops, StopsBy, given};
 
 use crate::lines::accepted_line;
+use crate::sessions::{drill_lines, replay_report};
 use crate::stop::Stop;
 use cfg_parse::{Config, MAX_TEXT, load};
-use proxy_sessions::{drill_lines, replay_report};
 use px_link::{Bytes, Fault, Files};
 use px_pattern::Patterns;
 use rec_format::laws::reportable;

@@ -1,5 +1,4 @@
 //! The sessions of a configuration: those of a record, a generated one, and those of clients that connect, each over a core of its own.
-#![tactic(auto)]
 
 mod cores;
 mod records;

@@ -1,6 +1,6 @@
 use Rattle.forward_core.specs.Joined.Joined.{Placed, answer_of}
-use Rattle.proxy_sessions.proofs.Spare.{somewhere}
-use Rattle.proxy_sessions.proofs.cores.renewed.Goals as goal
+use Rattle.proxy_call.proofs.SessionsLemmas.Spare.{somewhere}
+use Rattle.proxy_call.proofs.sessions.cores.renewed.Goals as goal
 
 pub renew-requires : goal.renew-requires
 renew-requires c = let core = c.args.core in record { placed = somewhere (Placed core.sides) (answer_of core.sides) core.at.phase core.at.cut c.requires.placed }

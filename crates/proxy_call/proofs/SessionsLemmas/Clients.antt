@@ -12,7 +12,7 @@ use Rattle.htx_drive.specs.Headline.{IsSessionOf}
 use Rattle.htx_drive.specs.declared.Ran.{Ran}
 use Rattle.htx_drive.specs.declared.SessionFault.{SessionFault}
 use Rattle.serve_run.specs.Drove.{Drove}
-use Rattle.proxy_sessions.specs.Connections.{ServesClient}
+use Rattle.proxy_call.specs.Sessions.Connections.{ServesClient}
 
 -- a session that ran is that of its links, where they tell
 abbrev pub IsLaw : {C L : Type 0} (M : Meaning) (stands : C → Past → Type 0) (seen : L → Seen) (wrote : L → List ℕ → Type 0) (to : Place) (first client : L) (first_net net : NetSeen) → Type 0

@@ -3,8 +3,8 @@ use Rattle.htx_drive.specs.Cores.{core_seen}
 use Rattle.forward_core.specs.Meaning.Product.{meaning_of}
 use Rattle.session_core.specs.Leads.{Stands}
 use Rattle.forward_core.specs.Joined.Joined.{DirectionsStand, request_of, answer_of}
-use Rattle.proxy_sessions.proofs.Clients.{serves}
-use Rattle.proxy_sessions.proofs.serving.ConfigSessionsSessions.run.Goals as goal
+use Rattle.proxy_call.proofs.SessionsLemmas.Clients.{serves}
+use Rattle.proxy_call.proofs.sessions.serving.ConfigSessionsSessions.run.Goals as goal
 
 pub returns-clause-session : goal.returns-clause-session
 returns-clause-session g c =

@@ -5,12 +5,12 @@ ghost use Rattle.htx_drive.specs.Dialled.{Dialled};
 ghost use Rattle.px_link.specs.Net.{Coming, Kept, address_of};
 ghost use Rattle.px_link.specs.Told.{Rose};
 ghost use Rattle.forward_core.specs.Meaning.Product.{meaning_of};
-ghost use Rattle.proxy_sessions.specs.Connections.{ServesClient};
+ghost use Rattle.proxy_call.specs.Sessions.Connections.{ServesClient};
 ghost use Rattle.serve_run.specs.Lines.{net_line};
 ghost use Rattle.serve_run.specs.Served.{Breaks, NetFails, ServedAll, ServedOne};
 ghost use Rattle.serve_run.specs.Told.{Visited};
 
-use crate::cores::{ClientCores, ConfigCore};
+use crate::sessions::cores::{ClientCores, ConfigCore};
 use http_rules::Config;
 use htx_drive::laws::ran_is_the_session;
 use px_link::{Address, Net, Sink};
@@ -26,7 +26,7 @@ struct ConfigSessions<'c> {
 impl<'c, N: Net> Sessions<N> for ConfigSessions<'c> {
     ghost use Rattle.px_link.specs.Net.{address_of};
     ghost use Rattle.forward_core.specs.Meaning.Product.{meaning_of};
-    ghost use Rattle.proxy_sessions.specs.Connections.{ServesClient};
+    ghost use Rattle.proxy_call.specs.Sessions.Connections.{ServesClient};
 
     type Settings = (Config, Address);
 

@@ -1,7 +1,7 @@
 use Rattle.forward_core.specs.Meaning.Product.{meaning_of}
 use Rattle.forward_core.specs.Joined.Joined.{request_of, answer_of}
-use Rattle.proxy_sessions.proofs.Idle.{idle_core}
-use Rattle.proxy_sessions.proofs.cores.core_of.Goals as goal
+use Rattle.proxy_call.proofs.SessionsLemmas.Idle.{idle_core}
+use Rattle.proxy_call.proofs.sessions.cores.core_of.Goals as goal
 
 pub returns-clause-stands : goal.returns-clause-stands
 returns-clause-stands c = λ cfg h. c.new.ensures.stands cfg h.sided h.stand h.fresh

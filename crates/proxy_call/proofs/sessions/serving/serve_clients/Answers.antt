@@ -1,4 +1,4 @@
-use Rattle.proxy_sessions.proofs.serving.serve_clients.Goals as goal
+use Rattle.proxy_call.proofs.sessions.serving.serve_clients.Goals as goal
 
 pub returns-clause-good : goal.returns-clause-good
 returns-clause-good g c = rw (c.new-2.ensures.opener, c.new-2.ensures.to, c.new.ensures) at c.serve-served.ensures.good

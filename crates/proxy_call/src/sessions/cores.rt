@@ -9,7 +9,7 @@ ghost use Rattle.session_core.specs.Place as place;
 ghost use Rattle.session_core.specs.Waits.{is_serving};
 ghost use Rattle.forward_core.specs.Joined.Joined.{DirectionsStand, Placed, request_of, answer_of};
 ghost use Rattle.http_rules.specs.declared.config.Config.{Config};
-ghost use Rattle.proxy_sessions.specs.Spare.{IsNew};
+ghost use Rattle.proxy_call.specs.Sessions.Spare.{IsNew};
 
 use forward_core::joined::Directions;
 use http_model::OutOfMemory;
@@ -69,7 +69,7 @@ pub(crate) struct RecordCores<'c> {
 }
 
 impl<'c> Cores<ConfigCore<'c>> for RecordCores<'c> {
-    ghost use Rattle.proxy_sessions.specs.Ready.{IsReady};
+    ghost use Rattle.proxy_call.specs.Sessions.Ready.{IsReady};
 
     ghost settings = { λ cores. cores.config.now };
 
@@ -102,7 +102,7 @@ pub(crate) struct ClientCores<'c> {
 impl<'c> Model for ClientCores<'c> {
     ghost use Rattle.http_rules.specs.declared.config.Config.{Config};
     ghost use Rattle.http_rules.specs.Valid.{IsValid};
-    ghost use Rattle.proxy_sessions.specs.Spare.{IsSpare};
+    ghost use Rattle.proxy_call.specs.Sessions.Spare.{IsSpare};
 
     ghost Value = { Config };
 

@@ -8,7 +8,7 @@ ghost use Rattle.rec_format.specs.Reports.{Reportable};
 ghost use Rattle.htx_drive.specs.Replay.Replayed.{Replays};
 ghost use Rattle.htx_drive.specs.Replay.Written.{IsReplayOf, IsDrillOf};
 
-use crate::cores::RecordCores;
+use crate::sessions::cores::RecordCores;
 use forward_core::bounds::bounded;
 use forward_core::request::laws::total;
 use http_model::OutOfMemory;

@@ -1,5 +1,5 @@
-use Rattle.proxy_sessions.specs.Spare.{IsNew}
-use Rattle.proxy_sessions.proofs.cores.open_core.Goals as goal
+use Rattle.proxy_call.specs.Sessions.Spare.{IsNew}
+use Rattle.proxy_call.proofs.sessions.cores.open_core.Goals as goal
 
 pub returns-clause-stands : goal.returns-clause-stands
 returns-clause-stands c =

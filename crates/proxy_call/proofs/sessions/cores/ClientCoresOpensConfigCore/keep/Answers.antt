@@ -2,8 +2,8 @@ use Rattle.std.proofs.Common.{sym, subst}
 use Rattle.std.specs.Prelude.{Option}
 use Rattle.http_rules.specs.declared.config.Config.{Config}
 use Rattle.forward_core.specs.declared.joined.directions.Directions.{Directions}
-use Rattle.proxy_sessions.specs.Spare.{IsNew, IsSpare}
-use Rattle.proxy_sessions.proofs.cores.ClientCoresOpensConfigCore.keep.Goals as goal
+use Rattle.proxy_call.specs.Sessions.Spare.{IsNew, IsSpare}
+use Rattle.proxy_call.proofs.sessions.cores.ClientCoresOpensConfigCore.keep.Goals as goal
 
 pub invariant_of-self : goal.invariant_of-self
 invariant_of-self c =
