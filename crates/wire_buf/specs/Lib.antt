@@ -1,4 +1,5 @@
 -- The words of windows: the list that contracts see, and what is lent.
 pub use Rattle.circular_buffer.specs.Buffer
 pub mod Lends
-pub mod Inside
+pub mod Stored
+pub mod ItemsLends

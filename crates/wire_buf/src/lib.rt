@@ -2,6 +2,9 @@
 #![tactic(auto)]
 
 ghost use Rattle.std.specs.Prelude.{◌≡◌, ◌≤◌, ◌<◌, ◌+◌, ◌-◌, ◌^◌, ◌++◌, [], length, take, drop, min, IfOk, List, ℕ};
+ghost use Rattle.wire_buf.specs.Stored.{overwritten};
+
+mod lent;
 
 use circular_buffer::HeapCircularBuffer;
 use htx_model::OutOfMemory;
@@ -11,54 +14,75 @@ use std::marker::Model;
 /// A window. Contracts see its bytes as `items`, and the most that it holds as `capacity`.
 #[derive(Drop)]
 pub struct Window {
+    /// A ring that is always full: its block is what the window's bytes stand in.
     ring: HeapCircularBuffer<u8>,
-    /// Where in the ring the bytes begin. Only speed rests on it.
+    /// Where in the ring the bytes begin.
     begin: usize,
+    /// How many there are.
+    len: usize,
 }
 
 impl Model for Window {
     ghost use Rattle.std.specs.Prelude.{ℕ};
     ghost use Rattle.circular_buffer.specs.Buffer.{Buffer};
+    ghost use Rattle.wire_buf.specs.Stored.{shown, IsStored};
 
     ghost Value = { Buffer ℕ };
 
-    ghost use Rattle.wire_buf.specs.Inside.{IsPlaced};
+    ghost view = { shown };
 
-    ghost view = { λ w. w.ring };
-
-    ghost invariant = { IsPlaced };
+    ghost invariant = { IsStored };
 }
 
-/// How many bytes are moved at once.
+/// How many bytes are cleared at once.
 const BLOCK: usize = 256;
 
-/// Moves up to `left` bytes, and at most a block, from the front of a ring to its end, and answers their number.
-fn turn_block(ring: &mut HeapCircularBuffer<u8>, left: usize) -> usize
-    requires left { left ≤ length ring.old.items }
-    requires held { length ring.old.items ≤ ring.old.capacity }
-    ensures some { 0 < left → 0 < result }
-    ensures within { result ≤ left }
-    ensures items { ring.new.items ≡ drop result ring.old.items ++ take result ring.old.items }
+/// Fills a ring up with zeros.
+fn fill_up(ring: &mut HeapCircularBuffer<u8>)
+    ensures full { length ring.new.items ≡ ring.old.capacity }
     ensures capacity { ring.new.capacity ≡ ring.old.capacity }
 {
-    let mut block = [0; BLOCK];
-    let part = &mut block[..left.min(BLOCK)];
-    let count = ring.read_into(part);
-    ring.fill_from_slice(part);
-    count
+    while ring.len() < ring.capacity() {
+        ring.fill_from_slice(&[0; BLOCK]);
+    }
 }
 
-/// Moves the first `len` bytes of a ring to its end.
-fn turn(ring: &mut HeapCircularBuffer<u8>, len: usize)
-    requires len { len ≤ length ring.old.items }
-    requires held { length ring.old.items ≤ ring.old.capacity }
-    ensures items { ring.new.items ≡ drop len ring.old.items ++ take len ring.old.items }
+/// Writes a piece over the items from a place on.
+fn write(ring: &mut HeapCircularBuffer<u8>, at: usize, piece: &[u8])
+    requires { at + length piece.now ≤ length ring.old.items }
+    ensures items { ring.new.items ≡ overwritten ring.old.items at piece.now }
     ensures capacity { ring.new.capacity ≡ ring.old.capacity }
 {
-    let mut left = len;
-    while left > 0 {
-        left -= turn_block(ring, left);
+    ring.make_contiguous()[at..at + piece.len()].copy_from_slice(piece);
+}
+
+/// Copies the items from `begin` to `end` to the front.
+fn bring_front(ring: &mut HeapCircularBuffer<u8>, begin: usize, end: usize)
+    requires order { begin ≤ end }
+    requires within { end ≤ length ring.old.items }
+    ensures front { take (end - begin) ring.new.items ≡ take (end - begin) (drop begin ring.old.items) }
+    ensures len { length ring.new.items ≡ length ring.old.items }
+    ensures capacity { ring.new.capacity ≡ ring.old.capacity }
+{
+    ring.make_contiguous().copy_within(begin..end, 0);
+}
+
+/// Makes room for so many bytes behind the `len` from `begin` on, and answers where these begin then.
+fn make_room(ring: &mut HeapCircularBuffer<u8>, begin: usize, len: usize, more: usize) -> usize
+    requires within { begin + len ≤ length ring.old.items }
+    requires fits { len + more ≤ length ring.old.items }
+    ensures room { result + len + more ≤ length ring.old.items }
+    ensures kept { take len (drop result ring.new.items) ≡ take len (drop begin ring.old.items) }
+    ensures len { length ring.new.items ≡ length ring.old.items }
+    ensures capacity { ring.new.capacity ≡ ring.old.capacity }
+{
+    let size = ring.len();
+    let end = begin + len;
+    if more <= size - end {
+        return begin;
     }
+    bring_front(ring, begin, end);
+    0
 }
 
 impl Window {
@@ -70,9 +94,12 @@ impl Window {
         ensures empty { IfOk result (λ window. window.items ≡ []) }
         ensures capacity { IfOk result (λ window. window.capacity ≡ cap) }
     {
+        let mut ring = HeapCircularBuffer::with_capacity(alloc, cap as usize)?;
+        fill_up(&mut ring);
         Ok(Window {
-            ring: HeapCircularBuffer::with_capacity(alloc, cap as usize)?,
+            ring,
             begin: 0,
+            len: 0,
         })
     }
 
@@ -82,14 +109,14 @@ impl Window {
         ensures within { result ≤ self.now.capacity }
         ensures small { self.now.capacity < 2 ^ 32 }
     {
-        self.ring.len()
+        self.len
     }
 
     /// How many more bytes it can hold.
     pub fn room(&self) -> usize
         ensures { result + length self.now.items ≡ self.now.capacity }
     {
-        self.ring.capacity() - self.len()
+        self.ring.capacity() - self.len
     }
 
     /// Takes the longest prefix that fits, and answers its length. Where the bytes would reach past the end of the ring,
@@ -99,27 +126,13 @@ impl Window {
         ensures items { self.new.items ≡ self.old.items ++ take result bytes.now }
         ensures capacity { self.new.capacity ≡ self.old.capacity }
     {
-        let (len, capacity, begin) = (self.ring.len(), self.ring.capacity(), self.begin);
-        if begin <= capacity - len {
-            let behind = capacity - len - begin;
-            if behind < bytes.len() && behind < capacity - len {
-                self.rewind(&bytes[..behind]);
-            }
-        }
-        self.ring.fill_from_slice(bytes)
-    }
-
-    /// Moves the bytes to the front of the ring: `run_up` fills it to its end, and the bytes follow behind it.
-    fn rewind(&mut self, run_up: &[u8])
-        requires { length self.old.items + length run_up.now ≤ self.old.capacity }
-        ensures items { self.new.items ≡ self.old.items }
-        ensures capacity { self.new.capacity ≡ self.old.capacity }
-    {
-        let len = self.len();
-        self.ring.fill_from_slice(run_up);
-        turn(&mut self.ring, len);
-        self.ring.truncate_front(len);
-        self.begin = 0;
+        let count = bytes.len().min(self.room());
+        let (begin, len) = (self.begin, self.len);
+        let begin = make_room(&mut self.ring, begin, len, count);
+        write(&mut self.ring, begin + len, &bytes[..count]);
+        self.begin = begin;
+        self.len = len + count;
+        count
     }
 
     /// Drops the first `n` bytes.
@@ -128,14 +141,9 @@ impl Window {
         ensures items { self.new.items ≡ drop n self.old.items }
         ensures capacity { self.new.capacity ≡ self.old.capacity }
     {
-        let left = self.ring.len() - n;
-        self.ring.truncate_front(left);
-        let (begin, capacity) = (self.begin + n, self.ring.capacity());
-        self.begin = if begin < capacity {
-            begin
-        } else {
-            begin - capacity
-        };
+        let left = self.len - n;
+        self.begin = if left > 0 { self.begin + n } else { 0 };
+        self.len = left;
     }
 
     /// All the bytes, in one slice. A caller hands the slice on at once, or keeps it as a `&[u8]`; what is written into
@@ -144,6 +152,7 @@ impl Window {
         ensures* back { sem 𝓛 (LendsBytes self.entry result) }
         ensures value { result.now ≡ self.old.items }
     {
-        self.ring.make_contiguous()
+        let (begin, end) = (self.begin, self.begin + self.len);
+        lent::run(&mut self.ring, begin, end)
     }
 }
