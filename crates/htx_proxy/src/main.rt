@@ -30,7 +30,7 @@ fn words_of<R: Env + AllocGlobal>(rt: &R) -> Result<Vec<String>, AllocError> {
 
 fn main(rt: HostRuntime) -> ExitCode {
     let Ok(words) = words_of(&rt) else {
-        return ExitCode::from(Status::OutOfMemory as u8);
+        return ExitCode::from(Status::OutOfMemory.number());
     };
     let mut files = RealFiles::new(rt.alloc(), &rt);
     let mut net = RealNet::new(rt.alloc(), &rt);
@@ -44,5 +44,5 @@ fn main(rt: HostRuntime) -> ExitCode {
         &mut out,
         &mut pats,
     );
-    ExitCode::from(status as u8)
+    ExitCode::from(status.number())
 }

@@ -5,3 +5,4 @@ pub mod Lines
 pub mod Serving
 pub mod Stops
 pub mod Sessions
+pub mod Numbers

@@ -43,7 +43,7 @@ impl Stop {
     /// What the process ends with: where a port is taken, what the program ends with too.
     fn status(self) -> ExitCode {
         match self {
-            Stop::Taken => ExitCode::from(Status::NetFault as u8),
+            Stop::Taken => ExitCode::from(Status::NetFault.number()),
             Stop::Stopped(_) => ExitCode::FAILURE,
             Stop::Output => ExitCode::FAILURE,
         }

@@ -45,11 +45,11 @@ fn files(alloc: Global, ports: Ports) -> Result<MemFiles, OutOfMemory> {
 pub fn serve<R: Net + Print + AllocGlobal>(rt: &R, ports: Ports) -> ExitCode {
     let alloc = rt.alloc();
     let (Ok(words), Ok(mut files)) = (words(alloc), files(alloc, ports)) else {
-        return ExitCode::from(Status::OutOfMemory as u8);
+        return ExitCode::from(Status::OutOfMemory.number());
     };
     let mut net = RealNet::new(alloc, rt);
     let mut out = RealSink::new(rt);
     let mut pats = RealPatterns::new();
     let status = htx_proxy(alloc, &words, &mut files, &mut net, &mut out, &mut pats);
-    ExitCode::from(status as u8)
+    ExitCode::from(status.number())
 }

@@ -111,7 +111,7 @@ fn start<R: Processes + AllocGlobal>(
 
 /// What statuses and lines come to.
 fn outcome_of(served: Option<i32>, played: Option<i32>, lines: &str) -> Outcome {
-    let taken = Some(i32::from(Status::NetFault as u8));
+    let taken = Some(i32::from(Status::NetFault.number()));
     if served == taken || played == taken {
         Outcome::Taken
     } else if served == Some(0) && played == Some(0) && lines == LINES {
