@@ -1,4 +1,5 @@
-//! Rows of tables: their fields, the bytes, calls and steps that these say, what a row comes to, and how many agree.
+//! Rows of tables: their fields, the bytes, calls and steps that these say, what a row comes to, and how many agree; in
+//! folders, rows of arrays of blocks, of heads and bodies, and of messages as text.
 #![tactic(auto)]
 
 mod answers;

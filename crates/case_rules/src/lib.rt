@@ -1,4 +1,5 @@
-//! Rows of conditions, and of expressions, formats and `acl` lines that are read, and what they come to.
+//! Rows of conditions, and of expressions, formats and `acl` lines that are read, and what they come to; in folders, rows of samples, of
+//! texts and of rules that run.
 #![tactic(auto)]
 
 mod conditions;

@@ -1,3 +1,4 @@
+//! The addresses of `bind` and `server` lines: `HOST:PORT`, a port of 1 to 65535. Nothing here looks a host up.
 ghost use Rattle.std.specs.Prelude.{◌≡◌, ◌<◌, length, position, IfSome};
 ghost use Rattle.cfg_parse.specs.Reading.{Gives};
 ghost use Rattle.cfg_parse.specs.Numbers.{is_colon, port_of, address_of, server_address_of};

@@ -1,3 +1,4 @@
+//! The words of a line that are still to be read: the next one, one that has to be there, or none. Nothing here knows what a word means.
 ghost use Rattle.std.specs.Prelude.{◌≡◌, ◌∷◌, [], MatchOption};
 ghost use Rattle.cfg_parse.specs.Reading.{Gives, argument, no_more};
 

@@ -1,3 +1,4 @@
+//! Why a configuration, or one of its lines, is refused: the kinds, and how the faults of expressions, conditions and rules become them.
 ghost use Rattle.std.specs.Prelude.{◌≡◌};
 ghost use Rattle.cfg_parse.specs.Asking.{kind_of_text, kind_of_rule};
 

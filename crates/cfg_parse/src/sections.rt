@@ -1,3 +1,4 @@
+//! The lines that begin a section: `global`, `defaults`, and one `listen`; any other is refused as a section.
 ghost use Rattle.cfg_parse.specs.Reading.{Leaves};
 ghost use Rattle.cfg_parse.specs.Settings.{section_line};
 

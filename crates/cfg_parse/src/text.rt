@@ -1,3 +1,5 @@
+//! A configuration's text: its lines in turn, and what they come to, or the first refused line with its number. Nothing here knows what
+//! a line says.
 ghost use Rattle.std.specs.Prelude.{◌≡◌, ◌∷◌, ◌==◌, ◌<◌, ◌≤◌, length, IfOk};
 ghost use Rattle.std.specs.List.{position_or_len};
 ghost use Rattle.std.specs.Str.Lines.{lines, strip_carriage_return};

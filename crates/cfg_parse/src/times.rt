@@ -1,3 +1,4 @@
+//! Whether a word is a time: digits, and a unit or nothing. Its value is not asked for, since timeouts have no effect.
 ghost use Rattle.std.specs.Prelude.{◌≡◌, ◌≤◌, length};
 ghost use Rattle.std.specs.List.{prefix_len};
 ghost use Rattle.std.specs.Char.{is_ascii_digit};

@@ -1,4 +1,5 @@
-//! The request direction of a session: from the client's bytes to the text that its server gets.
+//! The request direction of a session: from the client's bytes to the text that its server gets. It runs no rule and finishes
+//! no head.
 
 mod kept;
 pub mod laws;

@@ -1,3 +1,4 @@
+//! What a configuration holds: sizes, addresses, three lists of rules and the filters of both directions. Nothing here reads or runs it.
 ghost use Rattle.std.specs.Prelude.{◌≡◌, ◌+◌, length};
 
 use crate::rule::Rules;

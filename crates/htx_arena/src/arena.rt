@@ -1,3 +1,5 @@
+//! The array of blocks as its callers see it: what it weighs, its room, and what each block is. It knows no rule of placement: blocks, addresses
+//! and `front` are those of the laid-out array below it.
 ghost use Rattle.std.specs.Prelude.{◌≡◌, ◌+◌, ◌<◌, ◌≤◌, [], length, slice_index, IfOk};
 ghost use Rattle.htx_model.specs.Block.{kind_of};
 ghost use Rattle.htx_model.specs.Blocks.{load, block_at};

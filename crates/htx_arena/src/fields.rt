@@ -1,3 +1,4 @@
+//! The header fields of an array in turn, each with the index of its block. Trailers and other blocks are passed over.
 ghost use Rattle.std.specs.Prelude.{◌≡◌, ◌+◌, ◌<◌, [], ◌∷◌, ◌^◌, length, IfSome, MatchOption};
 ghost use Rattle.std.specs.Iterator.{YieldsFirstBy, item_count};
 ghost use Rattle.htx_model.specs.Block.{kind_of, name_of, value_of};

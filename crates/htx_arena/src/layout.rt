@@ -1,3 +1,6 @@
+//! How blocks lie in the bytes of an array: descriptors at the end, payloads from the front, the rule of placement, and the edits of a
+//! list. It asks that an edit fits, and knows no message.
+
 mod array;
 mod change;
 mod edits;

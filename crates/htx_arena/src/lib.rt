@@ -1,3 +1,5 @@
+//! The blocks of one message in one array of bytes of a fixed size: an edit succeeds exactly where the list then fits, and one that is
+//! refused changes nothing. It knows no rule of HTTP, and only `Arena::new` takes memory.
 #![tactic(auto)]
 
 mod arena;

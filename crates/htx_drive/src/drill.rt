@@ -1,4 +1,5 @@
 //! A generated session: a long valid one that two numbers name, as a connection of a record, and the lines that are written of it.
+//! Nothing here runs a session.
 
 mod draws;
 mod lines;

@@ -1,4 +1,5 @@
 //! The driver: it runs the session of a core over a client's link, a net and a list of turns. It knows no message and no rule.
+//! In folders, over links and a net in memory: the sessions of a record, and a generated one.
 #![tactic(auto)]
 
 mod act;

@@ -1,4 +1,5 @@
 //! Runs the sessions of a record: each connection over links and a net in memory, with a core and turns of its own.
+//! What makes the cores is handed in; it knows no rule.
 
 mod budget;
 mod cores;

@@ -1,3 +1,4 @@
+//! The bytes, of a fixed number: written, lent, moved and rotated; and descriptors of eight bytes among them, read, written and moved.
 ghost use Rattle.std.specs.Prelude.{◌≡◌, ◌+◌, ◌-◌, ◌*◌, ◌^◌, ◌<◌, ◌≤◌, length, IfOk, IsTrue, IsFalse, replicate, ◌++◌, take, drop};
 ghost use Rattle.htx_space.specs.Windows.{window, overwritten, rotated, desc_at, desc_bytes, desc_place, shifted};
 

@@ -1,4 +1,5 @@
-//! One direction of a connection.
+//! The two directions of a connection, each over any cut of its stream: a head is read, rules may edit it, and it goes out with its body.
+//! Which rules these are, and what the other direction does, is not known here.
 #![tactic(auto)]
 
 pub mod direction;

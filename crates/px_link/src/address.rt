@@ -1,3 +1,5 @@
+//! Where a server listens: a host as it was written, and a port. Nothing here looks a host up.
+
 use crate::Bytes;
 
 /// Where a server listens.

@@ -1,3 +1,4 @@
+//! Bytes on the heap, which contracts see as a list: copied, put together, lent. Where memory runs out they stay as they were.
 ghost use Rattle.std.specs.Prelude.{◌≡◌, ◌++◌, [], IfOk, OnOk, OnErr};
 
 use http_model::OutOfMemory;

@@ -1,3 +1,5 @@
+//! Why a call of an object that is handed in did not do what it was asked to: the object counted it, or memory ran out.
+
 use http_model::OutOfMemory;
 use std::alloc::AllocError;
 

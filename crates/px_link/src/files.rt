@@ -1,3 +1,4 @@
+//! What reads files: the first bytes of one, with a count of failed reads and the name of the last that failed.
 ghost use Rattle.std.specs.Prelude.{◌≡◌, ℕ, List, Option, IfOk};
 ghost use Rattle.px_link.specs.Told.{Counts, NamedBytes, Reads, last_name};
 

@@ -1,3 +1,4 @@
+//! A list that grows at its end, which contracts see as the list of its items. Where memory runs out it stays as it was.
 ghost use Rattle.std.specs.Prelude.{◌≡◌, ◌<◌, ◌++◌, ◌∷◌, [], length, slice_get, ◌↔◌, IsTrue, OnOk, OnErr};
 
 use http_model::OutOfMemory;

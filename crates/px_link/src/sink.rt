@@ -1,3 +1,4 @@
+//! Where bytes are written: all of a piece, or after an error a front of it, with a count of failed writes.
 ghost use Rattle.std.specs.Prelude.{ℕ, List, Option, OnOk, OnErr};
 ghost use Rattle.px_link.specs.Told.{Counts, Gains, GainsFront};
 

@@ -1,4 +1,4 @@
-//! The client and the origin of a run over loopback, as functions over any link and net.
+//! The client and the origin of a run over loopback, as functions over any link and net; and the run, by sockets and processes.
 #![tactic(auto)]
 
 mod play;

@@ -1,4 +1,5 @@
-//! A core that stands for its history: the machine of a session over two directions that run side by side.
+//! A core that stands for its history: the machine of a session over two directions that run side by side. It knows neither the bytes of a
+//! head nor a rule.
 #![tactic(auto)]
 
 mod calls;

@@ -1,3 +1,4 @@
+//! What makes the list shorter: blocks are taken out, dropped or cut, or laid close together. None of these can fail.
 ghost use Rattle.std.specs.Prelude.{◌≡◌, ◌<◌, ◌≤◌, [], length, take, remove};
 ghost use Rattle.htx_model.specs.Block.{kind_of, value_of};
 ghost use Rattle.htx_model.specs.Blocks.{block_at, cut_front};

@@ -1,3 +1,4 @@
+//! Data behind the last block: as much of it as fits, in a last block of data where there is one, else in one of its own.
 ghost use Rattle.std.specs.Prelude.{◌≡◌, ◌-◌, ◌<◌, suc, length, IsTrue, IsFalse, take};
 ghost use Rattle.htx_model.specs.Block.{kind_of};
 ghost use Rattle.htx_model.specs.Blocks.{block_at, taken, append_data, data_overhead};

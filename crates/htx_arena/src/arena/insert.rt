@@ -1,3 +1,4 @@
+//! Fields, start lines and ends put in anywhere: each exactly where the list with it fits, else nothing changes.
 ghost use Rattle.std.specs.Prelude.{◌≡◌, ◌+◌, ◌≤◌, ◌↔◌, [], length, insert, OnOk, OnErr, IsOk};
 ghost use Rattle.htx_model.specs.Block.{block, IsLineKind, IsFieldKind, IsEndKind};
 ghost use Rattle.htx_model.specs.Blocks.{Fits};

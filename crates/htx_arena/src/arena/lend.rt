@@ -1,3 +1,4 @@
+//! The parts of a block, lent: name, value, the parts of a start line; and a value for writing, which keeps its length.
 ghost use Rattle.std.specs.Prelude.{◌≡◌, ◌<◌, length};
 ghost use Rattle.htx_model.specs.Block.{kind_of, name_of, value_of, line_of, HasValue, IsLineKind, IsFieldKind};
 ghost use Rattle.htx_model.specs.Blocks.{block_at};

@@ -1,3 +1,4 @@
+//! Other text in a block: a field's value, or the parts of a start line, exactly where the list with it fits, else nothing changes.
 ghost use Rattle.std.specs.Prelude.{◌≡◌, ◌+◌, ◌<◌, ◌↔◌, length, slice_set, OnOk, OnErr, IsOk};
 ghost use Rattle.htx_model.specs.Block.{block, kind_of, name_of, with_value, IsLineKind, IsFieldKind};
 ghost use Rattle.htx_model.specs.Blocks.{Fits, block_at};

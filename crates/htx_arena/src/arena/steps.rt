@@ -1,4 +1,4 @@
-//! The array's calls that this crate's own go through, once it is known that they fit.
+//! The calls of the laid-out array that those of an arena go through, once it is known that they fit.
 ghost use Rattle.std.specs.Prelude.{◌≡◌, ◌+◌, ◌<◌, ◌≤◌, ◌++◌, length, drop, insert, slice_index, slice_set};
 ghost use Rattle.htx_model.specs.Block.{Data as DataBlock};
 ghost use Rattle.htx_model.specs.Block.{kind_of, name_of, value_of, payload_len, with_value, IsFieldKind};

@@ -1,3 +1,4 @@
+//! A payload rewritten where it stands, shortened at its front, or laid behind all others with more bytes. Here nothing looks for a place.
 ghost use Rattle.std.specs.Prelude.{◌≡◌, ◌+◌, ◌-◌, ◌*◌, ◌^◌, ◌<◌, ◌≤◌, length, ◌++◌, take, drop, sum_by, insert, remove, slice_set};
 ghost use Rattle.htx_model.specs.Block.{payload_len};
 ghost use Rattle.htx_arena.specs.Layout.Raw.{blocks_of, addrs_of, block_of, info_len, addr_in, len_in, payload_in, Tells};

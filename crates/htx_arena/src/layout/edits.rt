@@ -1,3 +1,4 @@
+//! The list of descriptors: some go and the others close up, or one comes in. Payloads of other blocks stay where they are.
 ghost use Rattle.std.specs.Prelude.{ℕ, ◌≡◌, ◌+◌, ◌-◌, ◌*◌, ◌^◌, ◌<◌, ◌≤◌, ◌++◌, length, take, drop, insert, remove};
 ghost use Rattle.htx_arena.specs.Layout.Raw.{blocks_of, addrs_of, block_of, info_len, info_kind};
 ghost use Rattle.htx_arena.specs.Layout.Sound.{IsSound, IsLaid, end_of};

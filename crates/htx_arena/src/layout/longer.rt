@@ -1,3 +1,4 @@
+//! A payload that becomes longer: its first bytes with others behind them, placed by the four cases. Its old place counts as free.
 ghost use Rattle.std.specs.Prelude.{◌≡◌, ◌+◌, ◌-◌, ◌*◌, ◌^◌, ◌<◌, ◌≤◌, length, sum_by, insert, remove, slice_set};
 ghost use Rattle.htx_model.specs.Block.{payload_len};
 ghost use Rattle.htx_arena.specs.Layout.Raw.{blocks_of, addrs_of, block_of, info_len, addr_in, len_in};

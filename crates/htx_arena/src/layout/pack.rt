@@ -1,3 +1,4 @@
+//! Payloads laid one after another from the beginning, in the order of their addresses, or one of them behind all others. Each keeps its bytes.
 ghost use Rattle.std.specs.Prelude.{◌≡◌, ◌+◌, ◌-◌, ◌*◌, ◌^◌, ◌<◌, ◌≤◌, length, MatchOption, nat_le, if◌then◌else◌, sum_by, insert, remove};
 ghost use Rattle.htx_model.specs.Block.{payload_len};
 ghost use Rattle.htx_arena.specs.Layout.Raw.{blocks_of, addrs_of, addr_in};

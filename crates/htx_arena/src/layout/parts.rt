@@ -1,3 +1,4 @@
+//! The parts of a payload, lent: all of it, a field's name and value, a start line's parts. Nothing is changed or copied.
 ghost use Rattle.std.specs.Prelude.{◌≡◌, ◌+◌, ◌*◌, ◌<◌, ◌≤◌, length, take};
 ghost use Rattle.htx_model.specs.Block.{IsFieldKind};
 ghost use Rattle.htx_arena.specs.Layout.Raw.{payload_in, info_kind, name_len};

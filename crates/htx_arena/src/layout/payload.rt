@@ -1,3 +1,4 @@
+//! A payload in up to four pieces, and how it is written, without joining them first. It knows no kind of block.
 ghost use Rattle.std.specs.Prelude.{◌≡◌, ◌+◌, ◌≤◌, ◌++◌, length};
 ghost use Rattle.htx_space.specs.Windows.{overwritten};
 

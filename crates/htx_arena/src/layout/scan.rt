@@ -1,3 +1,4 @@
+//! What a look at descriptors tells: where the bytes in use end, where a payload goes, and what blocks weigh. Nothing is moved.
 ghost use Rattle.std.specs.Prelude.{ℕ, Option, Some, ◌≡◌, ◌+◌, ◌-◌, ◌*◌, ◌^◌, ◌<◌, ◌≤◌, length, drop, max, min, IfSome};
 ghost use Rattle.std.specs.Option.{option_map_or};
 ghost use Rattle.htx_arena.specs.Layout.Raw.{blocks_of, addrs_of, addr_in, len_in, block_in};

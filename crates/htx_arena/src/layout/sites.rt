@@ -1,3 +1,4 @@
+//! A new payload finds its place by the four cases, and a block comes in with it. Only the last case moves other payloads.
 ghost use Rattle.std.specs.Prelude.{◌≡◌, ◌+◌, ◌*◌, ◌≤◌, length, nat_lt, if◌then◌else◌, sum_by, insert};
 ghost use Rattle.htx_model.specs.Block.{payload_len};
 ghost use Rattle.htx_arena.specs.Layout.Raw.{blocks_of, addrs_of};

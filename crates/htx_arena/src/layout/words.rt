@@ -1,3 +1,4 @@
+//! The words that describe a payload: the packed word of a descriptor, and the lengths of a start line's parts.
 ghost use Rattle.std.specs.Prelude.{◌≡◌, ◌+◌, ◌*◌, ◌^◌, ◌<◌, ◌≤◌, length};
 ghost use Rattle.htx_arena.specs.Layout.Raw.{info_len, info_kind, name_len, value_len, code_of, line_head as head_bytes};
 ghost use Rattle.htx_space.specs.Windows.{desc_at};

@@ -1,3 +1,4 @@
+//! A block put into the laid-out array, by the rule of placement. The caller has made sure that it fits.
 ghost use Rattle.std.specs.Prelude.{◌≡◌, ◌+◌, ◌≤◌, length, insert};
 ghost use Rattle.htx_model.specs.Block.{payload_len};
 ghost use Rattle.htx_model.specs.Blocks.{load};

@@ -1,3 +1,4 @@
+//! What makes the laid-out array's list shorter, and its payloads laid close together. None of these needs room.
 ghost use Rattle.std.specs.Prelude.{◌≡◌, ◌+◌, ◌<◌, ◌≤◌, [], length, take, drop, remove, slice_index, slice_set};
 ghost use Rattle.htx_model.specs.Block.{Data as DataBlock};
 ghost use Rattle.htx_model.specs.Block.{kind_of, value_of};

@@ -1,3 +1,4 @@
+//! The parts of a block in the laid-out array, lent; a value for writing; and a block as one that can be put into another array.
 ghost use Rattle.std.specs.Prelude.{◌≡◌, ◌<◌, length};
 ghost use Rattle.htx_model.specs.Block.{kind_of, name_of, value_of, line_of, HasValue, IsLineKind, IsFieldKind};
 ghost use Rattle.htx_model.specs.Blocks.{block_at};

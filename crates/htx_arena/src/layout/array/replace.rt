@@ -1,3 +1,5 @@
+//! Other bytes in a block of the laid-out array, or more of them: written where the payload stands if there is room, else placed anew.
+//! The caller has made sure that they fit.
 ghost use Rattle.std.specs.Prelude.{◌≡◌, ◌+◌, ◌<◌, ◌≤◌, ◌++◌, Some, length, take, slice_index, slice_set};
 ghost use Rattle.htx_model.specs.Block.{Data as DataBlock};
 ghost use Rattle.htx_model.specs.Block.{kind_of, name_of, value_of, payload_len, with_value, IsFieldKind};
