@@ -35,7 +35,7 @@ use Rattle.forward_core.specs.Joined.Asks.{HasRead, FinishesHead, asker_for, fit
 use Rattle.forward_core.specs.declared.joined.directions.Directions.{Directions}
 use Rattle.forward_core.proofs.JoinedLemmas.Joining.{sound_request, sound_answer}
 
--- what request_side says of edits
+-- what the request direction says of edits
 pub record AreEdits : Type 0 where
   pub size : (side : RequestSide) → HasHead side → array_size_of side ≡ (requests.limits_of side).bufsize
   pub edits : (side : RequestSide) (msg : Contents) → msg.size ≡ array_size_of side → requests.place_of side ≡ asked.Idle → HasHead side → Edits side (with_head side msg)
@@ -165,7 +165,7 @@ pub record SendsSo (old new : Directions) (framing : Framing) (kept : Kept) : Ty
   pub begins : Begins (request_of new) kept.awaits (list_of old.request)
   pub answer : answer_of new ≡ answer_of old
 
--- what request_side says of a request that goes out
+-- what the request direction says of a request that goes out
 abbrev pub AreRequests : Type 0
 AreRequests = (cfg : Config) (side : RequestSide) (vars : Variables) (came : Coming) (asking : Asking Variables) (to_server : List ℕ) (reply : Reply Variables)
     → requests.place_of side ≡ asked.Sending → RequestStands cfg side vars came asking to_server reply → RequestsSo cfg side vars came asking to_server
