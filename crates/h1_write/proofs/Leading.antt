@@ -4,7 +4,7 @@ use Rattle.std.proofs.lemmas.List.{append-nil, take-take, take-append-drop, take
 use Rattle.std.proofs.lemmas.List.Elements.{All-cons, All-nil}
 use Rattle.htx_model.specs.Block.{Block, RequestLine, ResponseLine, Header, EndHeaders, Data, Trailer, EndTrailers, kind_of}
 use Rattle.htx_model.specs.Blocks.{flow}
-use Rattle.htx_model.proofs.Flows.{flow-parted, flow-append}
+use Rattle.htx_model.proofs.PublicLaws.{flow-parted, flow-append}
 use Rattle.http_model.specs.declared.Framing.{Framing}
 use Rattle.http_model.specs.Spelling.{SpellsChunks, chunk_line, chunk_text, line_end}
 use Rattle.h1_write.specs.declared.units.Coding.{Coding}

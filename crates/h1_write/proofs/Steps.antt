@@ -6,7 +6,7 @@ use Rattle.std.proofs.lemmas.Bool.{lt-ltb}
 use Rattle.wire_buf.specs.Buffer.{Buffer}
 use Rattle.htx_model.specs.Block.{Block, RequestLine, ResponseLine, Header, EndHeaders, Data, Trailer, EndTrailers, kind_of, value_of, payload_len}
 use Rattle.htx_model.specs.declared.Kind.TheVariants as kinds
-use Rattle.htx_model.proofs.Edits.{data_is}
+use Rattle.htx_model.proofs.PublicLaws.{data_is}
 use Rattle.htx_model.specs.Blocks.{block_at, cut_front}
 use Rattle.http_model.specs.declared.Framing.{Framing}
 use Rattle.h1_write.specs.declared.text.Put.{Put}

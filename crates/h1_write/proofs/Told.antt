@@ -16,7 +16,7 @@ use Rattle.h1_write.specs.declared.writer.Writer.{Writer}
 use Rattle.h1_write.specs.Units.{coding_of, behind, end_text, unit_text, data_text, IsPart}
 use Rattle.h1_write.specs.Spelled.{SpellsBlock, SpellsBlocks, BeginsBlock, Begins, HasWritten, EvenAt, done_at, ended_at, IsEven, is_done, has_ended}
 use Rattle.h1_write.specs.Kept.{IsKept, KeepsFront}
-use Rattle.htx_model.proofs.Flows.{flow-append, flow-parted}
+use Rattle.htx_model.proofs.PublicLaws.{flow-append, flow-parted}
 use Rattle.h1_write.proofs.Leading.{not_true, spells-push, chunk_spelled}
 use Rattle.h1_write.proofs.Messages.{message_spelled, cut_spelled, some_blocks, spells-append}
 

@@ -4,10 +4,9 @@ use Rattle.std.specs.Prelude.{nat_eq, if◌then◌else◌, Bool, true, false}
 use Rattle.std.proofs.lemmas.Bool.{eq-eqb, ne_eqb, lt-ltb, le-ltb}
 use Rattle.htx_model.specs.Block.{Block, RequestLine, ResponseLine, Header, EndHeaders, Data, Trailer, EndTrailers, kind_of, value_of, payload_len}
 use Rattle.htx_model.specs.Blocks.{load, block_at, taken, data_overhead}
-use Rattle.htx_model.proofs.Loads.{taken_is}
+use Rattle.htx_model.proofs.PublicLaws.{taken_is, data_is, overhead-data}
 use Rattle.std.proofs.lemmas.List.{length-take-le}
 use Rattle.htx_model.specs.declared.Kind.TheVariants as kinds
-use Rattle.htx_model.proofs.Edits.{data_is, overhead-data}
 use Rattle.htx_arena.specs.Layout.Contents.{Contents}
 use Rattle.htx_arena.specs.Layout.Addresses.{Places, inserted, appended, appended_to, extended, cut_to, removed}
 

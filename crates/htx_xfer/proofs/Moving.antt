@@ -7,10 +7,8 @@ use Rattle.std.proofs.lemmas.List.Sums.{sum_by-append}
 use Rattle.htx_model.specs.Block.{Block, RequestLine, ResponseLine, Header, EndHeaders, Data, Trailer, EndTrailers, kind_of, payload_len}
 use Rattle.htx_model.specs.Blocks.{load, append_data, extend_last, followed, data_overhead, block_at, taken, flow, joined, cut_front, cut_data}
 use Rattle.htx_model.specs.declared.Kind.TheVariants as kinds
-use Rattle.htx_model.proofs.Edits.{data_is}
-use Rattle.htx_model.proofs.Loads.{load-append_data, taken_is}
+use Rattle.htx_model.proofs.PublicLaws.{data_is, load-append_data, taken_is, joined_twice, flow-append, added_flows}
 use Rattle.htx_model.specs.Flow.{added, AreFilled}
-use Rattle.htx_model.proofs.Flows.{joined_twice, flow-append, added_flows}
 use Rattle.htx_xfer.specs.Moved.{payload, front_of, rest_of, Stays, MovesBlock}
 
 -- ---- fronts

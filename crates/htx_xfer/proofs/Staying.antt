@@ -5,7 +5,7 @@ use Rattle.std.proofs.lemmas.List.Sums.{sum_by-append, sum_by-cons, sum_by-take-
 use Rattle.htx_model.specs.Block.{Block, RequestLine, ResponseLine, Header, EndHeaders, Data, Trailer, EndTrailers, kind_of, payload_len, weight}
 use Rattle.htx_model.specs.Blocks.{load, append_data, data_overhead, block_at}
 use Rattle.htx_model.specs.declared.Kind.TheVariants as kinds
-use Rattle.htx_model.proofs.Loads.{load-append_data}
+use Rattle.htx_model.proofs.PublicLaws.{load-append_data}
 use Rattle.htx_xfer.specs.declared.Copied.{Copied}
 use Rattle.htx_model.specs.Flow.{put_behind, added}
 use Rattle.htx_xfer.specs.Moved.{payload, front_of, rest_of, Stays, Copies}

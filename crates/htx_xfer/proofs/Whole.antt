@@ -6,7 +6,7 @@ use Rattle.htx_model.specs.Block.{Block, RequestLine, ResponseLine, Header, EndH
 use Rattle.htx_model.specs.Blocks.{load, append_data, extend_last, data_overhead, flow}
 use Rattle.htx_model.specs.declared.Kind.TheVariants as kinds
 use Rattle.htx_model.specs.Flow.{put_behind, added}
-use Rattle.htx_model.proofs.Flows.{added-append}
+use Rattle.htx_model.proofs.PublicLaws.{added-append}
 use Rattle.htx_xfer.specs.Moved.{payload, front_of, rest_of, Stays, Moves}
 use Rattle.htx_xfer.proofs.Moving.{front_none, rest_none}
 

@@ -6,7 +6,7 @@ use Rattle.std.proofs.Math.Seq.{take-length}
 use Rattle.http_model.specs.Block.{Block, EndHeaders, Data, weight}
 use Rattle.http_model.specs.Blocks.{load, Fits, append_data, extend_last, taken}
 use Rattle.http_model.specs.Head.{Head, line_block, header_block, head_blocks, front_blocks}
-use Rattle.htx_model.proofs.Loads.{load-append_data, taken_is}
+use Rattle.htx_model.proofs.PublicLaws.{load-append_data, taken_is}
 
 -- all of the bytes are taken where the list with them fits
 pub all_taken : (bs : List Block) (size : ℕ) (p : List ℕ) → Fits (append_data bs p) size → taken bs size p ≡ length p

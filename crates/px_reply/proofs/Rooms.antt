@@ -7,7 +7,7 @@ use Rattle.http_model.specs.Block.{Block, RequestLine, ResponseLine, Header, End
 use Rattle.http_model.specs.Blocks.{load, Fits, append_data, data_overhead}
 use Rattle.http_model.specs.Head.{Head, head_blocks, front_blocks, message_blocks}
 use Rattle.http_model.specs.Refusal.{reason_of, refusal, refusal_body, closing}
-use Rattle.htx_model.proofs.Loads.{load-append_data}
+use Rattle.htx_model.proofs.PublicLaws.{load-append_data}
 use Rattle.px_reply.specs.Refused.{refusal_head}
 use Rattle.px_reply.proofs.Bodies.{payload-head_blocks, payload-front_blocks}
 

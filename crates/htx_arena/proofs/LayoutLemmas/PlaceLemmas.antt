@@ -5,7 +5,7 @@ use Rattle.std.proofs.lemmas.List.{take_all, take-take}
 use Rattle.std.proofs.lemmas.List.Sums.{sum_by-remove}
 use Rattle.htx_model.specs.Block.{Data, EndHeaders, kind_of, value_of, payload_len}
 use Rattle.htx_model.specs.declared.Kind.TheVariants as kinds
-use Rattle.htx_model.proofs.Edits.{data_is}
+use Rattle.htx_model.proofs.PublicLaws.{data_is}
 use Rattle.htx_model.specs.Blocks.{load, block_at}
 use Rattle.htx_space.specs.declared.space.Desc.{Desc}
 use Rattle.htx_space.specs.Windows.{desc_at, window}

@@ -6,8 +6,7 @@ use Rattle.htx_model.specs.Block.{Block, RequestLine, ResponseLine, Header, EndH
 use Rattle.htx_model.specs.Blocks.{load, block_at}
 use Rattle.htx_model.specs.declared.Kind.{Kind}
 use Rattle.htx_model.specs.declared.Kind.TheVariants as kinds
-use Rattle.htx_model.proofs.Loads.{load-remove}
-use Rattle.htx_model.proofs.Edits.{data_is}
+use Rattle.htx_model.proofs.PublicLaws.{load-remove, data_is}
 use Rattle.htx_arena.specs.Layout.Raw.{Tells, Describes, code_of, info_of, info_kind, info_len, len_by, name_len, payload_of, block_of}
 use Rattle.htx_arena.proofs.LayoutLemmas.CodeLemmas.{IsMade, data_made, field_made, described_len, payload_long}
 use Rattle.htx_arena.proofs.LayoutLemmas.TellLemmas.{kind_told, name_told}

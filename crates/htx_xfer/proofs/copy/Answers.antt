@@ -3,7 +3,7 @@ use Rattle.std.proofs.lemmas.List.{take_more, take_all}
 use Rattle.htx_model.specs.Block.{Block, EndHeaders, payload_len}
 use Rattle.htx_model.specs.Blocks.{block_at, load}
 use Rattle.htx_model.specs.Flow.{added, AreFilled}
-use Rattle.htx_model.proofs.Flows.{added-append}
+use Rattle.htx_model.proofs.PublicLaws.{added-append}
 use Rattle.htx_xfer.specs.Moved.{payload, front_of, rest_of, Stays}
 use Rattle.htx_xfer.proofs.Moving.{front_none, front_parts, stays_at, stays_past, filled-append, payload-append, one_payload, one_filled}
 use Rattle.htx_xfer.proofs.Staying.{one_stuck}

@@ -7,7 +7,7 @@ use Rattle.htx_model.specs.Blocks.{flow, joined, append_data}
 use Rattle.http_model.specs.Head.{Field, Head, StartLine, head_blocks, header_block, line_block}
 use Rattle.http_model.specs.Head as head
 use Rattle.http_model.specs.Head.{front_blocks, ended_trailers, trailer_block}
-use Rattle.htx_model.proofs.Flows.{flow-append, flow-front}
+use Rattle.htx_model.proofs.PublicLaws.{flow-append, flow-front}
 use Rattle.h1_body.specs.Trailers as body
 
 -- in the middle

@@ -28,7 +28,7 @@ use Rattle.lane.specs.Direction.Promise.{Promise, BodyTaken, HasBody, OnEachBody
 use Rattle.lane.specs.declared.direction.stage.Source.{Source}
 use Rattle.lane.specs.declared.direction.stage.Source.TheVariants as source
 use Rattle.lane.specs.Direction.State.{LaneState}
-use Rattle.htx_model.proofs.Flows.{flow-front}
+use Rattle.htx_model.proofs.PublicLaws.{flow-front}
 use Rattle.lane.proofs.DirectionLemmas.FlowLemmas.{front_flow, front_more, front_ended}
 use Rattle.lane.proofs.DirectionLemmas.ReadLemmas.{no_trailers}
 use Rattle.lane.proofs.DirectionLemmas.BodyLemmas.{grows, whole_stays, bad_stays, waiting_body, waiting_cut}

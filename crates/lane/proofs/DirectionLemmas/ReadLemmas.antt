@@ -24,7 +24,7 @@ use Rattle.htx_model.specs.Blocks.{flow, append_data}
 use Rattle.h1_write.specs.declared.writer.Writer.{Writer}
 use Rattle.lane.specs.Direction.Sent.{Sent, message_of}
 use Rattle.lane.specs.Direction.Carried.{Carried, CarriesFront, Carries}
-use Rattle.htx_model.proofs.Flows.{flow-front}
+use Rattle.htx_model.proofs.PublicLaws.{flow-front}
 use Rattle.lane.proofs.DirectionLemmas.FlowLemmas.{front_flow, front_more, front_ended, same_trailers}
 use Rattle.lane.specs.Direction.Pulled.{Pulls, IsWaiting}
 use Rattle.lane.specs.Direction.Sends.{Past, Sends, SourceIs, put_out}

@@ -1,7 +1,7 @@
 use Rattle.std.proofs.Common.{◌+◌, ◌∙◌, ap, sym, arith, refl, get_or, take}
 use Rattle.htx_model.specs.Block.{payload_len}
 use Rattle.htx_model.specs.Blocks.{block_at}
-use Rattle.htx_model.proofs.Edits.{append-set, overhead-data}
+use Rattle.htx_model.proofs.PublicLaws.{append-set, overhead-data}
 use Rattle.htx_arena.specs.Layout.Addresses.{Places, extended}
 use Rattle.htx_arena.proofs.DataLemmas.{takes, appended-data}
 use Rattle.htx_arena.proofs.arena.Arena.add_behind.Goals as goal

@@ -1,7 +1,7 @@
 use Rattle.std.proofs.Common.{◌≡◌, ◌∙◌, ap, sym, arith, refl, take}
 use Rattle.std.specs.Prelude.{insert}
 use Rattle.htx_model.specs.Block.{payload_len}
-use Rattle.htx_model.proofs.Edits.{append-insert}
+use Rattle.htx_model.proofs.PublicLaws.{append-insert}
 use Rattle.htx_arena.specs.Layout.Addresses.{Places, inserted, appended}
 use Rattle.htx_arena.proofs.DataLemmas.{takes, appended-other}
 use Rattle.htx_arena.proofs.arena.Arena.add_block.Goals as goal

@@ -1,7 +1,7 @@
 use Rattle.std.proofs.Common.{◌∙◌, ap, sym, arith}
 use Rattle.htx_model.specs.Block.{payload_len}
 use Rattle.htx_model.specs.Blocks.{block_at}
-use Rattle.htx_model.proofs.Edits.{data_is, cut-set, cut-remove}
+use Rattle.htx_model.proofs.PublicLaws.{data_is, cut-set, cut-remove}
 use Rattle.htx_arena.specs.Layout.Addresses.{Places}
 use Rattle.htx_arena.proofs.DataLemmas.{cut_to-part, cut_to-all}
 use Rattle.htx_arena.proofs.arena.Arena.cut_front.Goals as goal

@@ -1,7 +1,7 @@
 use Rattle.std.proofs.Common.{◌≡◌, ◌-◌, ◌∙◌, ap, sym, arith, suc, ℕ, length}
 use Rattle.htx_model.specs.Block.{kind_of}
 use Rattle.htx_model.specs.Blocks.{block_at}
-use Rattle.htx_model.proofs.Edits.{overhead-other, overhead-none}
+use Rattle.htx_model.proofs.PublicLaws.{overhead-other, overhead-none}
 use Rattle.htx_arena.proofs.DataLemmas.{not_true, not_false}
 use Rattle.htx_arena.proofs.arena.Arena.ends_in_data.Goals as goal
 

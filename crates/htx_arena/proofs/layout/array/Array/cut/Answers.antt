@@ -1,7 +1,7 @@
 use Rattle.std.proofs.Common.{◌-◌, ◌∙◌, ap, arith, set}
 use Rattle.htx_model.specs.Block.{payload_len}
 use Rattle.htx_model.specs.Blocks.{block_at}
-use Rattle.htx_model.proofs.Edits.{data_is}
+use Rattle.htx_model.proofs.PublicLaws.{data_is}
 use Rattle.htx_arena.specs.Layout.Contents.{Contents}
 use Rattle.htx_arena.proofs.LayoutLemmas.ReplaceLemmas.{data_code}
 use Rattle.htx_arena.proofs.LayoutLemmas.WholeLemmas.{at}

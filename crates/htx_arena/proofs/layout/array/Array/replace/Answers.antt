@@ -3,7 +3,7 @@ use Rattle.std.specs.Prelude.{insert, remove}
 use Rattle.std.proofs.lemmas.List.Edits.{length-remove}
 use Rattle.htx_model.specs.Block.{Block, payload_len}
 use Rattle.htx_model.specs.Blocks.{load}
-use Rattle.htx_model.proofs.Loads.{load-remove}
+use Rattle.htx_model.proofs.PublicLaws.{load-remove}
 use Rattle.htx_arena.specs.Layout.Contents.{Contents}
 use Rattle.htx_arena.specs.Layout.Addresses.{Places, inserted}
 use Rattle.htx_arena.proofs.LayoutLemmas.AddressLemmas.{replaced-shorter, replaced-longer}

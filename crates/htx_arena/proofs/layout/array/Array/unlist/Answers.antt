@@ -1,6 +1,6 @@
 use Rattle.std.proofs.Common.{◌∙◌, ap, arith}
 use Rattle.htx_model.specs.Blocks.{load}
-use Rattle.htx_model.proofs.Loads.{load-remove}
+use Rattle.htx_model.proofs.PublicLaws.{load-remove}
 use Rattle.htx_arena.specs.Layout.Raw.{block_in, blocks_of}
 use Rattle.htx_arena.proofs.LayoutLemmas.RawLemmas.{length-listed}
 use Rattle.htx_arena.proofs.LayoutLemmas.TellLemmas.{len_told}
