@@ -7,7 +7,7 @@ use Rattle.std.proofs.lemmas.Fmt.{digits_is_IsNumeral}
 use Rattle.std.proofs.lemmas.List.{append-nil, length-map}
 use Rattle.std.proofs.lemmas.List.Elements.{All-cons, All-nil, All-head, All-tail}
 use Rattle.httparse.specs.Grammar.{crlf}
-use Rattle.px_bytes.proofs.HexLemmas.{length-hex-le}
+use Rattle.px_bytes.proofs.PublicLaws.{length-hex-le}
 use Rattle.http_model.specs.declared.Framing.{Framing}
 use Rattle.http_model.specs.declared.Framing.TheVariants.{Absent, Length, Chunked, ToClose}
 use Rattle.http_model.specs.declared.Ending.TheVariants.{Closed}

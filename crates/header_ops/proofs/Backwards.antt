@@ -12,7 +12,7 @@ use Rattle.http_model.specs.Blocks.{block_at}
 use Rattle.px_bytes.specs.declared.pieces.Place.TheVariants.{Outside}
 use Rattle.px_bytes.specs.Blanks.{trimmed}
 use Rattle.px_bytes.specs.Values.{pieces_from, values_of}
-use Rattle.px_bytes.proofs.ValueLemmas.{some_pieces}
+use Rattle.px_bytes.proofs.PublicLaws.{some_pieces}
 use Rattle.header_ops.specs.Headers.{is_header_named}
 use Rattle.header_ops.specs.Lists.{values_named, fulls_named}
 use Rattle.header_ops.specs.Walk.{from_back}

@@ -9,7 +9,7 @@ use Rattle.htx_arena.specs.Fields.{fields_from, fields_of}
 use Rattle.px_bytes.specs.declared.pieces.Place.TheVariants.{Outside}
 use Rattle.px_bytes.specs.Blanks.{trimmed}
 use Rattle.px_bytes.specs.Values.{pieces_of, values_of, values_in}
-use Rattle.px_bytes.proofs.ValueLemmas.{length-pieces_from}
+use Rattle.px_bytes.proofs.PublicLaws.{length-pieces_from}
 use Rattle.header_ops.specs.Headers.{is_header_named}
 use Rattle.header_ops.specs.Lists.{values_named}
 

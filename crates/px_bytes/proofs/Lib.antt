@@ -1,5 +1,6 @@
-pub mod BlankLemmas
-pub mod DigitLemmas
-pub mod HexLemmas
-pub mod PieceLemmas
-pub mod ValueLemmas
+pub mod PublicLaws
+mod BlankLemmas
+mod DigitLemmas
+mod HexLemmas
+mod PieceLemmas
+mod ValueLemmas
