@@ -3,7 +3,7 @@ use Rattle.std.proofs.Common.{subst, ◌≡◌, ℕ, ◌+◌, ◌-◌, ◌^◌, 
 use Rattle.std.proofs.lemmas.List.{take_all}
 use Rattle.htx_space.specs.declared.space.Desc.{Desc}
 use Rattle.htx_space.specs.Windows.{desc_at, window}
-use Rattle.htx_space.proofs.WindowLemmas.{window-overwritten_within}
+use Rattle.htx_space.proofs.PublicLaws.{window-overwritten_within}
 use Rattle.htx_arena.specs.Layout.Raw.{info_len, payload_in, Tells}
 use Rattle.htx_arena.specs.Layout.Steps.{unlisted, placed, listed_at}
 use Rattle.htx_arena.specs.Layout.Sound.{IsSound, end_of, IsTold, IsFilled, IsLaid}

@@ -4,7 +4,7 @@ use Rattle.std.specs.Prelude.{insert, remove}
 use Rattle.std.proofs.lemmas.Bool.{cases_lt}
 use Rattle.htx_space.specs.declared.space.Desc.{Desc}
 use Rattle.htx_space.specs.Windows.{window, desc_at}
-use Rattle.htx_space.proofs.WindowLemmas.{length-window, window-overwritten_below}
+use Rattle.htx_space.proofs.PublicLaws.{length-window, window-overwritten_below}
 use Rattle.htx_arena.specs.Layout.Raw.{Tells, addr_in, len_in, block_in, block_of, info_len, blocks_of, addrs_of, payload_in}
 use Rattle.htx_arena.specs.Layout.Steps.{unlisted, placed}
 use Rattle.htx_arena.specs.Layout.Sound.{IsSound, end_of, IsTold, IsFilled, IsLaid}
