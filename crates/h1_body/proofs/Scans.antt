@@ -13,7 +13,8 @@ use Rattle.px_bytes.specs.Tokens as tokens
 use Rattle.http_model.specs.declared.Framing.{Framing}
 use Rattle.http_model.specs.declared.Limits.{Limits}
 use Rattle.h1_head.specs.Decides.{is_line_feed}
-use Rattle.h1_head.proofs.Heads.{feeds, feeds-append}
+use Rattle.h1_head.specs.Feeds.{feeds}
+use Rattle.h1_head.proofs.PublicLaws.{feeds-append}
 use Rattle.h1_body.specs.Numbers.{most_lines}
 use Rattle.h1_body.specs.declared.reader.BodyReader.{BodyReader}
 use Rattle.h1_body.specs.Stands.{HasRead, bytes_of}

@@ -12,7 +12,8 @@ use Rattle.httparse.specs.Grammar as grammar
 use Rattle.httparse.specs.Grammar.{LineEnd, print_end, print_field, print_section, ReadsSection, HasNoSection}
 use Rattle.httparse.specs.Spans.{AreFieldsAt, IsSectionOf, IsSectionAt, SectionOverflows, header_bytes, name_and_value}
 use Rattle.httparse.proofs.GrammarLemmas.{section_unique, ReadsSection-append}
-use Rattle.h1_head.proofs.Heads.{feeds, feeds-append, feeds-print_end, feeds-fields, tail_ends, feeds-before, front_in}
+use Rattle.h1_head.specs.Feeds.{feeds}
+use Rattle.h1_head.proofs.PublicLaws.{feeds-append, feeds-print_end, feeds-fields, tail_ends, feeds-before, front_in}
 use Rattle.h1_body.specs.Numbers.{most_trailers, most_lines}
 use Rattle.h1_body.specs.Read.{is_short}
 use Rattle.h1_body.specs.Section.{HasShortName, BeginsSection, IsHopelessSection}

@@ -1,6 +1,6 @@
 -- Line feeds, and empty lines in front, of both kinds of heads.
 use Rattle.std.proofs.Common.{◌≡◌, ◌≢◌, ℕ, ◌+◌, ◌<◌, ◌≤◌, true, false, Bool, List, [], ◌∷◌, ◌++◌, length, get_or, take, drop, refl, sym, ap, ◌∙◌, subst, zero-add, arith, append_assoc, length-append}
-use Rattle.std.specs.Prelude.{◌==◌, codes, count_by, IsTrue, All, ◌&&◌, cond}
+use Rattle.std.specs.Prelude.{◌==◌, codes, IsTrue, All, ◌&&◌, cond}
 use Rattle.std.specs.List.{flat_map}
 use Rattle.std.proofs.lemmas.List.Elements.{All-head, All-tail}
 use Rattle.std.proofs.lemmas.List.Sums.{sum_by-append}
@@ -10,9 +10,7 @@ use Rattle.std.proofs.lemmas.Bool.{false_from_ne_true, both_ways, eqb-true, eq-e
 use Rattle.httparse.specs.Grammar.{LineEnd, crlf, lf, print_end, print_blank, print_version, Field, print_field, IsField, AllPass, is_token_byte, is_value_byte}
 use Rattle.h1_head.specs.Stream.{behind}
 use Rattle.h1_head.specs.Decides.{is_line_feed}
-
-abbrev pub feeds : List ℕ → ℕ
-feeds bytes = count_by is_line_feed bytes
+use Rattle.h1_head.specs.Feeds.{feeds}
 
 pub feeds-append : (xs ys : List ℕ) → feeds (xs ++ ys) ≡ feeds xs + feeds ys
 feeds-append xs ys = sum_by-append (λ x. cond (is_line_feed x) 1 0) xs ys

@@ -10,7 +10,7 @@ use Rattle.h1_head.specs.declared.answer.HeadWhy.TheVariants as why
 use Rattle.h1_head.specs.Kind.{HeadKind}
 use Rattle.h1_head.specs.Stream.{behind, BeginsWith, HasNone, HasNoHead}
 use Rattle.h1_head.specs.Decides.{Overflows}
-use Rattle.h1_head.proofs.Heads.{feeds}
+use Rattle.h1_head.specs.Feeds.{feeds}
 
 -- the rows name neither Grammar nor Long
 abbrev pub is_row : HeadWhy → Bool

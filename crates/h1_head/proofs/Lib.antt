@@ -1,23 +1,24 @@
-pub mod Heads
-pub mod Lawful
-pub mod Rowed
-pub mod Requests
-pub mod Responses
-pub mod Fields
-pub mod Spanned
-pub mod EachSide
-pub mod Waits
-pub mod Scans
-pub mod Fronts
-pub mod Classes
-pub mod Adds
-pub mod Surveyed
-pub mod Keeping
-pub mod Streams
+pub mod PublicLaws
+mod Heads
+mod Lawful
+mod Rowed
+mod Requests
+mod Responses
+mod Fields
+mod Spanned
+mod EachSide
+mod Waits
+mod Scans
+mod Fronts
+mod Classes
+mod Adds
+mod Surveyed
+mod Keeping
+mod Streams
 mod Totals
-pub mod Told
-pub mod Trimmed
-pub mod Soundness
-pub mod Judging
-pub mod Parsed
-pub mod Places
+mod Told
+mod Trimmed
+mod Soundness
+mod Judging
+mod Parsed
+mod Places

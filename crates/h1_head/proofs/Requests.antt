@@ -11,7 +11,8 @@ use Rattle.h1_head.specs.declared.answer.HeadWhy.TheVariants as why
 use Rattle.h1_head.specs.Kind.{request_heads, parts_of}
 use Rattle.h1_head.specs.Rows.{Parts, has_long_name, host_is_good, framing_is_bad, coding_is_unknown, request_line, refusal_of}
 use Rattle.h1_head.specs.Stream.{behind}
-use Rattle.h1_head.proofs.Heads.{feeds, feeds-append, feeds-cons, no_feeds, token_feeds, feeds-print_end, feeds-print_version, feeds-fields, tail_ends, feeds-before, front_in, no_blank}
+use Rattle.h1_head.specs.Feeds.{feeds}
+use Rattle.h1_head.proofs.Heads.{feeds-append, feeds-cons, no_feeds, token_feeds, feeds-print_end, feeds-print_version, feeds-fields, tail_ends, feeds-before, front_in, no_blank}
 use Rattle.h1_head.proofs.Lawful.{IsLawful, row_or_none, row_or_kept}
 use Rattle.h1_head.proofs.Rowed.{decides_row}
 

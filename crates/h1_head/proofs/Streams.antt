@@ -10,7 +10,8 @@ use Rattle.h1_head.specs.declared.answer.HeadWhy.TheVariants as why
 use Rattle.h1_head.specs.Kind.{HeadKind}
 use Rattle.h1_head.specs.Stream.{behind, BeginsWith, HasNone, HasNoHead, HasRefusedHead, IsHeadless, HeadOf}
 use Rattle.h1_head.specs.Decides.{OnEachStream, is_line_feed, MayWait, IsHopeless, Overflows, IsTooLong, WhereLong, RefusesFor}
-use Rattle.h1_head.proofs.Heads.{feeds, behind-append}
+use Rattle.h1_head.specs.Feeds.{feeds}
+use Rattle.h1_head.proofs.Heads.{behind-append}
 use Rattle.h1_head.proofs.Lawful.{IsLawful, BeginsWith-append, no_room_left, overflowing, no_short_head}
 
 -- ---- a stream is read by what stands behind its empty lines

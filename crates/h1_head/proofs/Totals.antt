@@ -10,7 +10,8 @@ use Rattle.h1_head.specs.declared.answer.HeadWhy.TheVariants as why
 use Rattle.h1_head.specs.Kind.{HeadKind}
 use Rattle.h1_head.specs.Stream.{behind, BeginsWith, HasNone, HasNoHead, IsHeadless, IsKnown, HeadOf}
 use Rattle.h1_head.specs.Decides.{MayWait, is_line_feed}
-use Rattle.h1_head.proofs.Heads.{feeds, behind-append}
+use Rattle.h1_head.specs.Feeds.{feeds}
+use Rattle.h1_head.proofs.Heads.{behind-append}
 use Rattle.h1_head.proofs.Lawful.{IsLawful}
 use Rattle.h1_head.proofs.Streams.{refused_on, waits_short}
 

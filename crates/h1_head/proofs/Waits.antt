@@ -9,7 +9,8 @@ use Rattle.h1_head.specs.Numbers.{most_lines}
 use Rattle.h1_head.specs.Kind.{HeadKind}
 use Rattle.h1_head.specs.Stream.{behind, HasNone}
 use Rattle.h1_head.specs.Decides.{MayWait, is_line_feed}
-use Rattle.h1_head.proofs.Heads.{feeds, feeds-append, behind-append}
+use Rattle.h1_head.specs.Feeds.{feeds}
+use Rattle.h1_head.proofs.Heads.{feeds-append, behind-append}
 use Rattle.h1_head.proofs.Lawful.{IsLawful}
 
 -- no empty line stands behind the empty lines

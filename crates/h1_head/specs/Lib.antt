@@ -10,6 +10,7 @@ pub mod Kind
 pub mod Sides
 pub mod Stream
 pub mod Decides
+pub mod Feeds
 pub mod Scanned
 pub mod Request
 pub mod Window
