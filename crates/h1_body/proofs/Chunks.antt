@@ -11,10 +11,11 @@ use Rattle.h1_body.specs.Body.{BodyAt, Left, UntilClose, InLine, InData, AtRetur
 use Rattle.h1_body.specs.Section.{section_limit, BeginsSection, trailers_of}
 use Rattle.h1_body.specs.Stands.{section_at}
 use Rattle.h1_body.specs.BodyOf.{BodyRead, Reads, More, IsBodyOf, Tells, unfinished, IsChunkedBody, HasNoChunkedBody}
+use Rattle.h1_body.specs.Live.{Live}
 use Rattle.h1_body.proofs.Runs.{goes_both}
 use Rattle.h1_body.proofs.Lines.{text_reads, never_reads, section_goes}
 use Rattle.h1_body.proofs.Back.{text_back}
-use Rattle.h1_body.proofs.Live.{Live, run_live}
+use Rattle.h1_body.proofs.Live.{run_live}
 
 abbrev is_whole : BodyRead → Bool
 is_whole (Reads (Whole body trailers rest)) = true

@@ -20,8 +20,7 @@ use Rattle.h1_body.specs.Body.{BodyAt, Left, UntilClose, Over, Goes}
 use Rattle.h1_body.specs.BodyOf.{Reads, BodyOf, IsChunkedBody}
 use Rattle.h1_body.specs.Chunked.{IsChunk, IsChunkLine, print_chunk}
 use Rattle.h1_body.specs.Section.{HasShortName}
-use Rattle.h1_body.proofs.Chunks.{chunks_whole}
-use Rattle.h1_body.proofs.Runs.{goes_both, left_ends, close_goes}
+use Rattle.h1_body.proofs.PublicLaws.{chunks_whole, goes_both, left_ends, close_goes}
 use Rattle.h1_write.specs.ReadBack.{IsFramed, IsFinished, IsChunkedWithin, IsWithin, IsRead}
 use Rattle.h1_write.proofs.ReadHeads.{line_of}
 use Rattle.h1_body.specs.Stands.{start_of}

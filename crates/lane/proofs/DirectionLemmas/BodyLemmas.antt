@@ -20,9 +20,7 @@ use Rattle.h1_body.specs.declared.stages.Stage.{Stage}
 use Rattle.h1_body.specs.declared.stages.Stage.TheVariants as stage
 use Rattle.h1_body.specs.declared.reader.BodyReader.{BodyReader}
 use Rattle.h1_body.specs.declared.reader.BodyState.TheVariants as state
-use Rattle.h1_body.proofs.Runs.{goes_both}
-use Rattle.h1_body.proofs.Lines.{section_goes}
-use Rattle.h1_body.proofs.Told.{tells_at}
+use Rattle.h1_body.proofs.PublicLaws.{goes_both, section_goes, tells_at}
 use Rattle.lane.specs.Direction.Pulled.{IsWaiting}
 use Rattle.lane.specs.Direction.Promise.{body_in, IsCut}
 use Rattle.lane.proofs.DirectionLemmas.ReadLemmas.{no_trailers, no_section}

@@ -10,7 +10,7 @@ use Rattle.http_model.specs.declared.Ending.{Ending}
 use Rattle.http_model.specs.declared.Ending.TheVariants as ending
 use Rattle.h1_body.specs.BodyOf.{BodyRead, Reads, More, IsBodyOf}
 use Rattle.h1_body.specs.Section.{HasTrailers}
-use Rattle.h1_body.proofs.Told.{one_reading, closed_whole}
+use Rattle.h1_body.proofs.PublicLaws.{one_reading, closed_whole}
 use Rattle.body_filter.specs.declared.filter_spec.FilterSpec.{FilterSpec}
 use Rattle.body_filter.specs.declared.filter_spec.FedState.{FedState}
 use Rattle.body_filter.specs.declared.filter_spec.FedState.TheVariants as state

@@ -19,7 +19,7 @@ use Rattle.h1_body.specs.BodyOf.{StateTells}
 use Rattle.h1_body.specs.Section.{HasTrailers, BeginsFields}
 use Rattle.h1_body.specs.Trailers.{trailer_blocks}
 use Rattle.h1_body.specs.Stands.{HasRead, state_at, section_in}
-use Rattle.h1_body.proofs.Told.{told}
+use Rattle.h1_body.proofs.PublicLaws.{told}
 use Rattle.htx_model.specs.Blocks.{flow, append_data}
 use Rattle.h1_write.specs.declared.writer.Writer.{Writer}
 use Rattle.lane.specs.Direction.Sent.{Sent, message_of}

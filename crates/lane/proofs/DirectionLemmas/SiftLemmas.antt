@@ -19,7 +19,7 @@ use Rattle.h1_body.specs.declared.reader.BodyState.{BodyState}
 use Rattle.h1_body.specs.declared.reader.BodyState.TheVariants as state
 use Rattle.h1_body.specs.declared.stages.Stage.{Stage}
 use Rattle.h1_body.specs.declared.stages.Stage.TheVariants as stage
-use Rattle.h1_body.proofs.Told.{told}
+use Rattle.h1_body.proofs.PublicLaws.{told}
 use Rattle.body_filter.specs.declared.filter_spec.FilterSpec.{FilterSpec}
 use Rattle.lane.specs.Sieve.Sieved.{HasSieved, SievedAt, is_ended, Sifts, end_of, section_in, is_open, sift_left}
 use Rattle.lane.specs.declared.sieve.sieve.BodyEnd.{BodyEnd}

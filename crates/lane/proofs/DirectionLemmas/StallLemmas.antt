@@ -7,8 +7,8 @@ use Rattle.h1_body.specs.declared.stages.Stage.TheVariants as at
 use Rattle.h1_body.specs.declared.reader.BodyState.TheVariants as state
 use Rattle.h1_body.specs.Section.{section_limit}
 use Rattle.h1_body.specs.Stands.{WaitsAt, state_at, state_of}
-use Rattle.h1_body.proofs.Live.{Live, run_live}
-use Rattle.h1_body.proofs.Runs.{goes_short}
+use Rattle.h1_body.specs.Live.{Live}
+use Rattle.h1_body.proofs.PublicLaws.{run_live, goes_short}
 use Rattle.lane.specs.Direction.Pulled.{IsWaiting}
 use Rattle.wire_buf.specs.Buffer.{Buffer}
 use Rattle.htx_arena.specs.Layout.Contents.{Contents}
