@@ -8,7 +8,7 @@ use Rattle.http_model.specs.Head.{Head, Message, StartLine, RequestLine, StatusL
 use Rattle.http_model.specs.Spelling.{Spells, line_text, fields_text}
 use Rattle.h1_body.specs.BodyOf.{BodyRead, IsBodyOf}
 use Rattle.h1_write.specs.Spelled.{IsEven}
-use Rattle.h1_write.proofs.Told.{whole_told}
+use Rattle.h1_write.proofs.PublicLaws.{whole_told}
 use Rattle.body_filter.specs.declared.filter_spec.FilterSpec.{FilterSpec}
 use Rattle.body_filter.specs.declared.filter_spec.FedState.TheVariants.{Going}
 use Rattle.body_filter.specs.Filter.{filtered}

@@ -8,7 +8,7 @@ use Rattle.h1_write.specs.declared.writer.Writer.{Writer}
 use Rattle.h1_write.specs.Spelled.{HasWritten, Writes, has_ended, is_done, IsEven}
 use Rattle.http_model.specs.Head.{front_blocks, message_blocks}
 use Rattle.htx_model.proofs.PublicLaws.{flow-append}
-use Rattle.h1_write.proofs.Told.{grown_told}
+use Rattle.h1_write.proofs.PublicLaws.{grown_told}
 use Rattle.lane.specs.Direction.Sent.{Sent, message_of}
 use Rattle.lane.specs.Direction.Carried.{Carried, CarriesFront, Carries, EndIsOut}
 use Rattle.lane.specs.declared.direction.stage.Source.{Source}

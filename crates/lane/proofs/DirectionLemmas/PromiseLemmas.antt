@@ -19,7 +19,7 @@ use Rattle.h1_write.specs.declared.writer.Stage.{Stage}
 use Rattle.h1_write.specs.declared.writer.Stage.TheVariants as at
 use Rattle.h1_write.specs.declared.writer.Writer.{Writer}
 use Rattle.h1_write.specs.Spelled.{IsEven, done_at, ended_at}
-use Rattle.h1_write.proofs.Told.{front_told, cut_front_told, whole_told, cut_told}
+use Rattle.h1_write.proofs.PublicLaws.{front_told, cut_front_told, whole_told, cut_told}
 use Rattle.lane.specs.Direction.Sent.{Sent, Finish, Cut, Ends, SpellsAs, IsFrontOf, message_of}
 use Rattle.lane.specs.Direction.Carried.{Carried, CarriesFront, Carries, EndIsOut}
 use Rattle.lane.specs.Direction.Sends.{Past, Sends, Stands, SourceIs, IsAllOut, put_out}

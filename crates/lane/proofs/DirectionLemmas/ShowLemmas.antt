@@ -20,7 +20,7 @@ use Rattle.h1_write.specs.declared.units.Coding.{Coding}
 use Rattle.h1_write.specs.declared.units.Place.{Place}
 use Rattle.h1_write.specs.Spelled.{Writes, Begins, is_done, done_at}
 use Rattle.http_model.specs.Head.{message_blocks}
-use Rattle.h1_write.proofs.Told.{front_told, whole_told}
+use Rattle.h1_write.proofs.PublicLaws.{front_told, whole_told}
 use Rattle.htx_model.proofs.PublicLaws.{flow-append}
 use Rattle.lane.specs.Direction.Shown.{Shows}
 
