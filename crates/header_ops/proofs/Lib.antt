@@ -1,10 +1,11 @@
-pub mod Loads
-pub mod Ends
-pub mod Removals
-pub mod Listed
-pub mod Whole
-pub mod Parts
-pub mod Frames
+pub mod PublicLaws
+mod Loads
+mod Ends
+mod Removals
+mod Listed
+mod Whole
+mod Parts
+mod Frames
 mod Heads
-pub mod Walking
-pub mod Backwards
+mod Walking
+mod Backwards

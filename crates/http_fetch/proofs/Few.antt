@@ -4,8 +4,7 @@ use Rattle.std.proofs.lemmas.List.{length-map}
 use Rattle.htx_model.specs.Block.{Block}
 use Rattle.http_model.specs.Blocks.{load}
 use Rattle.header_ops.specs.Lists.{values_named, fulls_named}
-use Rattle.header_ops.proofs.Listed.{few_values}
-use Rattle.header_ops.proofs.Whole.{few_fulls}
+use Rattle.header_ops.proofs.PublicLaws.{few_values, few_fulls}
 use Rattle.px_sample.specs.Sample.{Bytes}
 use Rattle.px_sample.specs.declared.fetch.Fetch.{Fetch}
 use Rattle.px_sample.specs.declared.fetch.Fetch.TheVariants as fetches

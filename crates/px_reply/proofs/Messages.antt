@@ -6,7 +6,7 @@ use Rattle.http_model.specs.Head.{Head, Message, head_blocks, front_blocks, mess
 use Rattle.http_model.specs.Finish.{close_field}
 use Rattle.http_model.specs.Refusal.{closing}
 use Rattle.header_ops.specs.Headers.{with_header, HasEnd}
-use Rattle.header_ops.proofs.Ends.{load-with_header}
+use Rattle.header_ops.proofs.PublicLaws.{load-with_header}
 use Rattle.px_reply.proofs.Sent.{Adds}
 
 -- what a list weighs with `connection: close`

@@ -8,7 +8,7 @@ use Rattle.http_model.specs.Blocks.{load, Fits, block_at}
 use Rattle.http_model.specs.Head.{Field}
 use Rattle.header_ops.specs.Headers.{is_framing_header, without_framing, with_header, HasEnd}
 use Rattle.http_model.specs.Finish.{close_fields}
-use Rattle.header_ops.proofs.Ends.{load-with_header, HasEnd-with_header}
+use Rattle.header_ops.proofs.PublicLaws.{load-with_header, HasEnd-with_header}
 use Rattle.px_reply.specs.Finished.{weight_if_framing, with_headers, finished, fields_load}
 
 -- a block is within the load of its list
