@@ -1,11 +1,12 @@
-pub mod Keeping
-pub mod Searching
-pub mod Tables
-pub mod Holding
-pub mod Machines
-pub mod Limits
-pub mod Pairing
-pub mod Chains
-pub mod Later
-pub mod Ending
-pub mod KeptBack
+pub mod PublicLaws
+mod Keeping
+mod Searching
+mod Tables
+mod Holding
+mod Machines
+mod Limits
+mod Pairing
+mod Chains
+mod Later
+mod Ending
+mod KeptBack

@@ -16,7 +16,7 @@ use Rattle.body_filter.specs.declared.filter_spec.FedState.TheVariants.{Going, O
 use Rattle.body_filter.specs.declared.filter_spec.FilterSpec.{FilterSpec}
 use Rattle.body_filter.specs.declared.filter_spec.FilterSpec.TheVariants.{Limit, Deny, Replace}
 use Rattle.body_filter.specs.Filter.{Filtered, begins, searched, is_over, joined, filtered, filtered_by}
-use Rattle.body_filter.proofs.Searching.{here, passes}
+use Rattle.body_filter.proofs.PublicLaws.{here, passes}
 use Rattle.h1_body.specs.BodyOf.{BodyRead, Reads, IsBodyOf, BodyOf}
 use Rattle.px_sample.specs.Variables.{Variables}
 use Rattle.http_rules.specs.declared.config.Config.{Config}
