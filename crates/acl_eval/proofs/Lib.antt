@@ -1,4 +1,5 @@
-pub mod Trying
-pub mod Literals
-pub mod Casting
-pub mod Walking
+pub mod PublicLaws
+mod Trying
+mod Literals
+mod Casting
+mod Walking

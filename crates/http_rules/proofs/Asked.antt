@@ -3,7 +3,7 @@ use Rattle.std.proofs.Common.{◌≡◌, ℕ, suc, List, [], Bool, true, false, 
 use Rattle.std.specs.Prelude.{Result, Ok, Err, ◌||◌, slice_get, Some, not, ◌&&◌}
 use Rattle.std.specs.List.{AllByRecursion}
 use Rattle.std.proofs.lemmas.Bool.{false≢true}
-use Rattle.acl_eval.proofs.Trying.{not_this_one}
+use Rattle.acl_eval.proofs.PublicLaws.{not_this_one}
 use Rattle.http_model.specs.declared.Why.{Why}
 use Rattle.http_model.specs.Block.{Block}
 use Rattle.http_model.specs.Head.{Message}

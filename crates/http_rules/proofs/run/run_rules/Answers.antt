@@ -5,7 +5,7 @@ use Rattle.http_rules.specs.Rule.Valid.{IsGoodAction}
 use Rattle.http_rules.specs.Action.Given.{Env}
 use Rattle.http_rules.specs.Action.Outcome.{IsAt, IsScratch}
 use Rattle.std.proofs.lemmas.Bool.{false≢true}
-use Rattle.acl_eval.proofs.Trying.{not_this_one}
+use Rattle.acl_eval.proofs.PublicLaws.{not_this_one}
 use Rattle.http_rules.specs.Rule.Actions.{rule_holds_pattern}
 use Rattle.http_rules.specs.declared.verdict.Ruled.{Ruled}
 use Rattle.http_rules.specs.Run.{RuleLeaves}
