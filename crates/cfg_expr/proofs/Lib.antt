@@ -1,4 +1,5 @@
-pub mod Readings
-pub mod Steps
-pub mod Texts
-pub mod ConditionLemmas
+pub mod PublicLaws
+mod Readings
+mod Steps
+mod Texts
+mod ConditionLemmas

@@ -6,7 +6,7 @@ use Rattle.cfg_expr.specs.Faults as text_faults
 use Rattle.cfg_expr.specs.Faults.{TextReading}
 use Rattle.cfg_expr.specs.declared.fault.TextFault.{TextFault}
 use Rattle.cfg_expr.specs.declared.fault.TextFault.TheVariants as texts
-use Rattle.cfg_expr.proofs.Readings.{fails_first, fails_behind}
+use Rattle.cfg_expr.proofs.PublicLaws.{fails_first, fails_behind}
 use Rattle.cfg_expr.specs.declared.condition.written.AclLine.{AclLine}
 use Rattle.cfg_expr.specs.Condition.Conditions.{acl_line}
 use Rattle.cfg_parse.specs.Action.Faults as rule_faults

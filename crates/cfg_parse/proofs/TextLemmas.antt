@@ -8,7 +8,7 @@ use Rattle.http_rules.specs.declared.config.Config.{Config}
 use Rattle.px_pattern.specs.Pattern.{Pattern}
 use Rattle.px_pattern.specs.Refusals.{Kept, Rose}
 use Rattle.cfg_expr.specs.Reading.{Fails}
-use Rattle.cfg_expr.proofs.Readings.{found_behind, found_before}
+use Rattle.cfg_expr.proofs.PublicLaws.{found_behind, found_before}
 use Rattle.cfg_parse.specs.declared.fault.CfgKind.{CfgKind}
 use Rattle.cfg_parse.specs.declared.fault.CfgKind.TheVariants.{Limit}
 use Rattle.cfg_parse.specs.declared.fault.CfgFault.{CfgFault}

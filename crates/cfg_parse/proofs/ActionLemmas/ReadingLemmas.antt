@@ -2,7 +2,7 @@
 use Rattle.std.proofs.Common.{◌≡◌, ℕ, Result, Ok, Err, ap, ◌∙◌, sym, subst}
 use Rattle.px_pattern.specs.Refusals.{Kept}
 use Rattle.cfg_expr.specs.Reading.{◌>>=◌, given_by, Cause, Fails}
-use Rattle.cfg_expr.proofs.Readings.{fails_behind, fails_first}
+use Rattle.cfg_expr.proofs.PublicLaws.{fails_behind, fails_first}
 use Rattle.cfg_parse.specs.declared.action.fault.RuleKind.{RuleKind}
 use Rattle.cfg_parse.specs.declared.action.fault.RuleFault.{RuleFault}
 use Rattle.cfg_parse.specs.Action.Faults.{RuleReading, ReadsRule, cause_of}

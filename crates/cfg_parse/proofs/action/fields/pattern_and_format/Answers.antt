@@ -2,7 +2,7 @@ use Rattle.std.proofs.Common.{Ok, rules}
 use Rattle.px_pattern.specs.Pattern.{Pattern}
 use Rattle.log_format.specs.declared.fmt.Fmt.{Fmt}
 use Rattle.cfg_expr.specs.Reading.{plain, ◌>>=◌}
-use Rattle.cfg_expr.proofs.Readings.{fails_behind, fails_first}
+use Rattle.cfg_expr.proofs.PublicLaws.{fails_behind, fails_first}
 use Rattle.cfg_parse.specs.Action.Faults.{RuleReading}
 use Rattle.cfg_parse.specs.Action.Arguments.{Words}
 use Rattle.cfg_parse.specs.Action.Asked.{pattern_at, format_at}

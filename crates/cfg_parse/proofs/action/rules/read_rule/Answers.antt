@@ -6,7 +6,7 @@ use Rattle.http_rules.specs.declared.rule.rule.Rule.{Rule}
 use Rattle.http_rules.specs.Rule.Actions.{stands_in}
 use Rattle.cfg_expr.specs.Condition.Conditions.{rule_end}
 use Rattle.cfg_expr.specs.Reading.{plain, ◌>>=◌}
-use Rattle.cfg_expr.proofs.Readings.{fails_behind, fails_first}
+use Rattle.cfg_expr.proofs.PublicLaws.{fails_behind, fails_first}
 use Rattle.cfg_parse.specs.declared.action.parts.ActionParts.{ActionParts}
 use Rattle.cfg_parse.specs.Action.Faults.{RuleReading, of_text, argument}
 use Rattle.http_rules.specs.Rule.Actions.{action_named}
