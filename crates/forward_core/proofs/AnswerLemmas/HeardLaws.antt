@@ -17,7 +17,8 @@ use Rattle.lane.specs.Answering.{Exchange, Answers, AnswersAt, IsSoundAnswer, st
 use Rattle.lane.specs.declared.phase.Phase.{Phase}
 use Rattle.lane.specs.declared.phase.Phase.TheVariants as phase
 use Rattle.lane.specs.declared.response_lane.ResponseLane.{ResponseLane}
-use Rattle.lane.proofs.ComeLemmas.{AtReading, at_reading}
+use Rattle.lane.specs.AtReading.{AtReading}
+use Rattle.lane.proofs.PublicLaws.{at_reading}
 use Rattle.forward_core.specs.Answer.Stands.{IsFor, AnswerStands, IsSoundSide, FitsAt, HeadRests, RestsAt, is_serving}
 use Rattle.forward_core.specs.Answer.HeadsRead.{BeginsWithHead, BeginsWithNone, HeadBegins, ReadsNone, IsUnread, HeardAt}
 use Rattle.forward_core.specs.declared.answer.place.Place.{Place}

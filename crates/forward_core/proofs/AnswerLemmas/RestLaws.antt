@@ -33,7 +33,7 @@ use Rattle.lane.specs.Resting.{IsAllServed}
 use Rattle.lane.specs.declared.phase.Phase.{Phase}
 use Rattle.lane.specs.declared.phase.Phase.TheVariants as phase
 use Rattle.lane.specs.declared.response_lane.ResponseLane.{ResponseLane}
-use Rattle.lane.proofs.ComeLemmas.{at_reading, may_wait}
+use Rattle.lane.proofs.PublicLaws.{at_reading, may_wait}
 use Rattle.forward_core.specs.Answer.Seen.{seen, told_by, told_at}
 use Rattle.forward_core.specs.Answer.Stands.{IsFor, IsInHand, IsResponse, StandsAt, AnswerStands, HeadRests, IsPutOut, RestsAt, is_serving}
 use Rattle.forward_core.specs.Answer.Resting.{AwaitsHead, PutsOutBody}
