@@ -14,7 +14,7 @@ use Rattle.htx_drive.specs.Driven.{moved, moved_by}
 use Rattle.htx_drive.specs.Dialled.{Dial, IsDial, IsDialBy, IsServed, IsRefused, Chain}
 use Rattle.session_core.specs.MeaningLaws.Bound.{IsBounded, sent_size, server_size}
 use Rattle.htx_drive.specs.Budget.{coming_size, HasRequests, enough}
-use Rattle.session_core.proofs.MeaningLaws.Bounds.{session_size}
+use Rattle.session_core.proofs.PublicLaws.{session_size}
 
 abbrev stream_size : Connect → ℕ
 stream_size c = length c.stream.bytes

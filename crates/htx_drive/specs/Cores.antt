@@ -9,9 +9,7 @@ use Rattle.session_core.specs.Consequences.{IsTotal, IsFinal, IsFront, out_of_pa
 use Rattle.session_core.specs.Drives.{WantsSay}
 use Rattle.session_core.specs.Leads.{Stands}
 use Rattle.session_core.specs.declared.machine.At.{At}
-use Rattle.session_core.proofs.Consequences.{front}
-use Rattle.session_core.proofs.Driving.{mean, says, final_taken, front_taken}
-use Rattle.session_core.proofs.Exists.{over_perhaps}
+use Rattle.session_core.proofs.PublicLaws.{front, mean, says, final_taken, front_taken, over_perhaps}
 use Rattle.htx_drive.specs.Machine.{CoreSeen, WantsMean}
 
 -- a window with bytes is one that isn't empty

@@ -17,7 +17,8 @@ use Rattle.session_core.specs.Consequences.{IsTotal, IsFront, IsFinal, out_of_pa
 use Rattle.session_core.specs.declared.Phase.{Phase}
 use Rattle.session_core.specs.declared.machine.At.{At}
 use Rattle.session_core.specs.declared.Phase.TheVariants as phase
-use Rattle.session_core.proofs.Streams.{Falls, falls, Splits, splits, continue_broken, continues_broken}
+use Rattle.session_core.specs.Splits.{Splits}
+use Rattle.session_core.proofs.Streams.{Falls, falls, splits, continue_broken, continues_broken}
 use Rattle.session_core.proofs.Puts.{puts_both, first_of_both}
 use Rattle.session_core.proofs.Said.{unserved_sent, not_there, replied_exchange, reply_one}
 use Rattle.session_core.proofs.Exists.{sure, further, over_perhaps, spelling_exists}

@@ -10,15 +10,10 @@ use Rattle.session_core.specs.History.{Coming, Continues}
 use Rattle.session_core.specs.Sided.{Asking, BodyGoes, RequestGoes, IfSettled}
 use Rattle.session_core.specs.Lanes.{HeadCame}
 use Rattle.session_core.specs.declared.Source.{Source}
-use Rattle.session_core.proofs.Streams.{Splits}
+use Rattle.session_core.specs.Splits.{Splits}
+use Rattle.session_core.specs.HeadAsks.{HeadAsks}
 use Rattle.session_core.proofs.Events.{if_settled}
 use Rattle.session_core.proofs.Consequences.{split_past}
-
--- the stream begins with a head: what the rules make of it is asked, with what follows
-pub record HeadAsks (M : Meaning) (vars : M.Vars) (left : Coming) (received : Received) (stream : Stream) : Type 0 where
-  pub rest : Stream
-  pub continues : Continues left rest
-  pub asks : Asks M vars stream (asked_by M received rest (M.request_rules (request_env vars received.head)))
 
 -- a head that came is asked by, however the stream goes on
 pub head_asks : (M : Meaning) (vars : M.Vars) (came left : Coming) (received : Received) (used : List ℕ)

@@ -1,23 +1,24 @@
-pub mod Placing
-pub mod Streams
-pub mod Puts
-pub mod Behind
-pub mod Said
-pub mod Exists
-pub mod Serving
-pub mod Fronts
-pub mod Consequences
-pub mod Events
-pub mod Opening
-pub mod Working
-pub mod Answering
-pub mod Turning
-pub mod Finals
-pub mod Served
-pub mod Noting
-pub mod Stalls
-pub mod InHand
-pub mod Driving
-pub mod Heads
-pub mod Passing
-pub mod MeaningLaws
+pub mod PublicLaws
+mod Placing
+mod Streams
+mod Puts
+mod Behind
+mod Said
+mod Exists
+mod Serving
+mod Fronts
+mod Consequences
+mod Events
+mod Opening
+mod Working
+mod Answering
+mod Turning
+mod Finals
+mod Served
+mod Noting
+mod Stalls
+mod InHand
+mod Driving
+mod Heads
+mod Passing
+mod MeaningLaws

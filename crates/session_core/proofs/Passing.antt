@@ -21,7 +21,8 @@ use Rattle.session_core.specs.Sided.{Asking, asker_in, AnswerGoes, Interims, Per
 use Rattle.session_core.specs.Lanes.{HeadsPassed, LastSo, AnswerBody, IsTotalAnswers}
 use Rattle.session_core.specs.declared.Told.{Told}
 use Rattle.session_core.specs.declared.Told.TheVariants as told
-use Rattle.session_core.proofs.Streams.{Splits, continues_prepend}
+use Rattle.session_core.specs.Splits.{Splits}
+use Rattle.session_core.proofs.Streams.{continues_prepend}
 use Rattle.session_core.proofs.Consequences.{split_past}
 use Rattle.session_core.proofs.Exists.{spelling_exists, sure, further, over_perhaps}
 

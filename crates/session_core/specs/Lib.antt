@@ -5,6 +5,8 @@ pub use Rattle.session_model.specs.Amending
 pub use Rattle.session_model.specs.Answering
 pub use Rattle.session_model.specs.Session
 pub mod History
+pub mod Splits
+pub mod HeadAsks
 pub mod Awaits
 pub mod Sided
 pub mod Stands

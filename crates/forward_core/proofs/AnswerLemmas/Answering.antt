@@ -23,10 +23,8 @@ use Rattle.session_core.specs.Sided.{Asking, asker_in, AnswerGoes, Interims, IfT
 use Rattle.session_core.specs.Lanes.{LastSo, IsTotalAnswers}
 use Rattle.session_core.specs.declared.Told.{Told}
 use Rattle.session_core.specs.declared.Told.TheVariants as told
-use Rattle.session_core.proofs.Streams.{Splits}
-use Rattle.session_core.proofs.Consequences.{split_past}
-use Rattle.session_core.proofs.Exists.{over_perhaps}
-use Rattle.session_core.proofs.Passing.{answers_open, answers_last, interims_so, body_is_last}
+use Rattle.session_core.specs.Splits.{Splits}
+use Rattle.session_core.proofs.PublicLaws.{split_past, over_perhaps, answers_open, answers_last, interims_so, body_is_last}
 use Rattle.lane.specs.Direction.Promise.{Promise, HasBody}
 use Rattle.lane.specs.Direction.Sends.{Past, Stands}
 use Rattle.lane.specs.declared.direction.lane.Lane.{Lane}

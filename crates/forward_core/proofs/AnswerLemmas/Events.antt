@@ -12,7 +12,7 @@ use Rattle.http_model.specs.Finish.{finish_interim}
 use Rattle.session_model.specs.Answering.{sent_interim}
 use Rattle.session_core.specs.History.{Coming, gains, ends}
 use Rattle.session_core.specs.declared.Told.{Told}
-use Rattle.session_core.proofs.Streams.{continues_gains, continues_ends}
+use Rattle.session_core.proofs.PublicLaws.{continues_gains, continues_ends}
 use Rattle.lane.specs.Answering.{Exchange, Answers, HeadsCame, BeginsWithInterim, HasFilters, with_bytes, ended_of, phase_of, limits_of, shows_last}
 use Rattle.lane.specs.declared.response_lane.ResponseLane.{ResponseLane}
 use Rattle.forward_core.specs.Answer.Stands.{IsInHand, IsResponse, IsInstead, IsFor, StandsAt}

@@ -11,7 +11,7 @@ use Rattle.http_rules.specs.declared.config.Config.{Config}
 use Rattle.session_model.specs.Asking.{Asker}
 use Rattle.session_core.specs.History.{Coming, broken}
 use Rattle.session_core.specs.Sided.{Asking, asker_in}
-use Rattle.session_core.proofs.Streams.{continues_broken}
+use Rattle.session_core.proofs.PublicLaws.{continues_broken}
 use Rattle.lane.specs.declared.direction.stage.Stage.TheVariants as stage
 use Rattle.lane.specs.Answering.{Exchange, Answers, AnswersAt, IsSoundAnswer, stage_of, phase_of, shows_last, limits_of, input_of}
 use Rattle.lane.specs.declared.phase.Phase.{Phase}

@@ -9,7 +9,7 @@ use Rattle.http_rules.specs.declared.config.Config.{Config}
 use Rattle.h1_head.specs.Response.{ResponseOf}
 use Rattle.session_model.specs.Asking.{Asker}
 use Rattle.session_core.specs.History.{Coming, gains, ends}
-use Rattle.session_core.proofs.Streams.{continues_gains, continues_ends}
+use Rattle.session_core.proofs.PublicLaws.{continues_gains, continues_ends}
 use Rattle.lane.specs.declared.direction.stage.Stage.{Stage}
 use Rattle.lane.specs.declared.direction.stage.Stage.TheVariants as stage
 use Rattle.lane.specs.Answering.{Exchange, BeginsWithInterim, Answers, AnswersAt, HeadsAt, HeadsCame, Reads, IsSoundAnswer, IsSoundAt, ended_of, phase_of, stage_of, shows_last, with_bytes, with_put}

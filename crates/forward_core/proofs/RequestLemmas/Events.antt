@@ -9,7 +9,7 @@ use Rattle.session_model.specs.Meaning.{Meaning}
 use Rattle.session_core.specs.History.{Coming, Continues, gains, ends, prepended}
 use Rattle.session_core.specs.Sided.{Asking, Reply}
 use Rattle.session_core.specs.Lanes.{HeadCame}
-use Rattle.session_core.proofs.Streams.{continues_gains, continues_ends}
+use Rattle.session_core.proofs.PublicLaws.{continues_gains, continues_ends}
 use Rattle.px_sample.specs.Variables.{Variables}
 use Rattle.http_rules.specs.declared.config.Config.{Config}
 use Rattle.forward_core.specs.Meaning.Product.{meaning_of}

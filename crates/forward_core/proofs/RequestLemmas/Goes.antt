@@ -13,7 +13,8 @@ use Rattle.session_model.specs.Env.{request_env}
 use Rattle.session_core.specs.History.{Coming, Continues, IsPrefix}
 use Rattle.session_core.specs.Sided.{Asking, Reply, BodyGoes, RequestGoes, SourceIs, forwarded_to, request_to}
 use Rattle.session_core.specs.declared.Source.TheVariants as source
-use Rattle.session_core.proofs.Heads.{HeadAsks, head_asks, sends_head}
+use Rattle.session_core.specs.HeadAsks.{HeadAsks}
+use Rattle.session_core.proofs.PublicLaws.{head_asks, sends_head}
 use Rattle.px_sample.specs.Variables.{Variables}
 use Rattle.http_rules.specs.declared.config.Config.{Config}
 use Rattle.forward_core.specs.Meaning.Product.{meaning_of}

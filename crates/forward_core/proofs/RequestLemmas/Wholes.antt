@@ -10,8 +10,8 @@ use Rattle.session_core.specs.History.{Coming, Continues, prepend, prepended}
 use Rattle.session_core.specs.Sided.{Asking, Reply, BodyGoes, RequestGoes, RequestAsks, forwarded_to, request_to}
 use Rattle.session_core.specs.declared.Source.{Source}
 use Rattle.session_core.specs.declared.Source.TheVariants as source
-use Rattle.session_core.proofs.Streams.{continues_prepend}
-use Rattle.session_core.proofs.Heads.{HeadAsks, head_asks}
+use Rattle.session_core.specs.HeadAsks.{HeadAsks}
+use Rattle.session_core.proofs.PublicLaws.{continues_prepend, head_asks}
 use Rattle.px_sample.specs.Variables.{Variables}
 use Rattle.http_rules.specs.declared.config.Config.{Config}
 use Rattle.forward_core.specs.Meaning.Product.{meaning_of}

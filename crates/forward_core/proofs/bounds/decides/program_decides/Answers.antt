@@ -4,7 +4,7 @@ use Rattle.http_model.specs.Reading.{Refused, Begins}
 use Rattle.h1_head.specs.declared.answer.Side.TheVariants as sides
 use Rattle.h1_body.specs.BodyOf.{Reads}
 use Rattle.forward_core.specs.Meaning.Product.{meaning_of}
-use Rattle.session_core.proofs.MeaningLaws.Decides as decides
+use Rattle.session_core.proofs.PublicLaws.{cut_request, cut_answer, interim_none}
 use Rattle.forward_core.specs.Bounds.Decided.{with_more}
 use Rattle.forward_core.proofs.BoundsLemmas.Stays.{front_of}
 use Rattle.forward_core.proofs.BoundsLemmas.Made.{interim_more, request_made, answer_made}
@@ -21,7 +21,7 @@ returns-clause-asked c = λ cfg vars window more received h rest.
 pub returns-clause-unanswered : goal.returns-clause-unanswered
 returns-clause-unanswered c = λ cfg valid asker vars window code h rest. record {
   heads = [];
-  interim = decides.interim_none asker;
+  interim = interim_none asker;
   final = (Refused code, c.readings_stay.ensures.response_refused cfg valid asker.head_asked window code h rest.bytes, refl);
 }
 
@@ -35,7 +35,7 @@ returns-clause-interim c = λ cfg asker vars window more received h interim rest
 pub returns-clause-answered : goal.returns-clause-answered
 returns-clause-answered c = λ cfg asker vars window more received h last rest final answers. record {
   heads = [];
-  interim = decides.interim_none asker;
+  interim = interim_none asker;
   final = (Begins received (more ++ rest.bytes), c.head_stays.ensures (sides.Response asker.head_asked) cfg.limits window rest.bytes received more h, (last, answers));
 }
 
@@ -54,9 +54,9 @@ returns-clause-answer_body c = λ cfg asker received head vars bytes body h rest
 pub returns-clause-cut_request : goal.returns-clause-cut_request
 returns-clause-cut_request c = λ cfg received head vars bytes front code so_far refuses rest read reads.
     let on = front_of c.joins.ensures cfg.limits received.framing bytes front rest.bytes (Some rest.ending) read so_far reads in
-    decides.cut_request (meaning_of cfg) received head vars front on.0 code (c.readings_stay.ensures.request_filters cfg) refuses rest.ending read on.1
+    cut_request (meaning_of cfg) received head vars front on.0 code (c.readings_stay.ensures.request_filters cfg) refuses rest.ending read on.1
 
 pub returns-clause-cut_answer : goal.returns-clause-cut_answer
 returns-clause-cut_answer c = λ cfg asker received head vars bytes front code so_far refuses rest read reads.
     let on = front_of c.joins.ensures cfg.limits received.framing bytes front rest.bytes (Some rest.ending) read so_far reads in
-    decides.cut_answer (meaning_of cfg) asker received head vars front on.0 code (c.readings_stay.ensures.response_filters cfg) refuses read on.1
+    cut_answer (meaning_of cfg) asker received head vars front on.0 code (c.readings_stay.ensures.response_filters cfg) refuses read on.1
