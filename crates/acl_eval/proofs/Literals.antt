@@ -1,11 +1,9 @@
 -- Texts and their parts, with the case of letters ignored or not.
-use Rattle.std.proofs.Common.{inl, inr, ◌≡◌, ℕ, zero, suc, Bool, true, false, ◌+◌, ◌-◌, ◌<◌, ◌≤◌, ◌||◌, List, [], ◌∷◌, length, take, drop, refl, sym, ap, ap₂, ◌∙◌, add-one, arith}
+use Rattle.std.proofs.Common.{◌≡◌, ℕ, zero, suc, Bool, true, false, ◌+◌, ◌-◌, ◌<◌, ◌≤◌, ◌||◌, List, [], ◌∷◌, length, take, drop, refl, sym, ap, ap₂, ◌∙◌, add-one, arith}
 use Rattle.std.specs.Prelude.{nat_eq}
 use Rattle.std.specs.Char.{to_ascii_lowercase}
 use Rattle.std.specs.Str.{bytes_eq}
 use Rattle.std.specs.List.{starts_with, ends_with}
-use Rattle.std.proofs.lemmas.Bool.{cases_Bool}
-use Rattle.std.proofs.lemmas.Slice.Eq.{bytes_eq-Decides}
 use Rattle.std.proofs.lemmas.List.{take-map, drop-map, length-map, length-drop, take_all}
 use Rattle.std.proofs.Math.ListN.{drop_of_length-le}
 use Rattle.std.proofs.Math.Seq.{drop-length}
@@ -26,31 +24,6 @@ length-compared false text = refl
 -- a text from a place to its end
 pub to_end : (text : List ℕ) (at : ℕ) → take (length text - at) (drop at text) ≡ drop at text
 to_end text at = take_all (length text - at) (drop at text) (omega (arith, length-drop at text))
-
--- texts of other lengths differ
-differ : (xs ys : List ℕ) → (length xs ≡ length ys → ⊥) → false ≡ bytes_eq xs ys
-differ xs ys other =
-    elim (cases_Bool (bytes_eq xs ys)) [
-      | inl same ↦ absurd (other (ap (λ (zs : List ℕ). length zs) ((bytes_eq-Decides xs ys).0 same)))
-      | inr no' ↦ sym no'
-    ]
-
--- a text that is shorter than the literal doesn't begin with it
-pub too_short : (icase : Bool) (text literal : List ℕ) → length text < length literal → false ≡ starts_with nat_eq (compared icase text) (compared icase literal)
-too_short icase text literal short =
-    let t = length-compared icase text in
-    let l = length-compared icase literal in
-    let whole = take_all (length (compared icase literal)) (compared icase text) (omega (arith, t, l)) in
-    differ (compared icase literal) (take (length (compared icase literal)) (compared icase text))
-    (λ same. omega (arith, same, t, l, ap (λ (xs : List ℕ). length xs) whole))
-
--- nor ends with it
-pub too_short_end : (icase : Bool) (text literal : List ℕ) → length text < length literal → false ≡ ends_with nat_eq (compared icase text) (compared icase literal)
-too_short_end icase text literal short =
-    let t = length-compared icase text in
-    let l = length-compared icase literal in
-    differ (compared icase literal) (drop (length (compared icase text) - length (compared icase literal)) (compared icase text))
-    (λ same. omega (arith, same, t, l, length-drop (length (compared icase text) - length (compared icase literal)) (compared icase text)))
 
 -- the front of a text is equal to the literal where the text begins with it
 pub at_front : (icase : Bool) (text literal : List ℕ) → bytes_eq (compared icase literal) (compared icase (take (length literal) text)) ≡ starts_with nat_eq (compared icase text) (compared icase literal)

@@ -60,8 +60,3 @@ all_decides {A} f xs at x whole is fails left =
     let here = ap (λ (ys : List A). list_all f ys) (drop_get xs at x is) in
     let first = ap (λ (b : Bool). b && list_all f (drop (suc at) xs)) fails in
     first ∙ (sym here ∙ left)
-
--- behind the last item all have passed
-pub all_passed : {A : Type 0} (f : A → Bool) (xs : List A) (at : ℕ) (whole : Bool) → length xs ≤ at
-    → list_all f (drop at xs) ≡ whole → true ≡ whole
-all_passed {A} f xs at whole all left = sym (ap (λ (ys : List A). list_all f ys) (drop_of_length-le xs all)) ∙ left

@@ -3,15 +3,13 @@ use Rattle.std.proofs.Common.{◌≡◌, ℕ, ◌+◌, ◌-◌, ◌<◌, ◌≤�
 use Rattle.std.specs.Prelude.{Option, slice_index}
 use Rattle.std.proofs.lemmas.List.{get_or-take, append-nil, take-append-drop, length-take-le, take-append-le}
 use Rattle.std.proofs.Math.Seq.{take-length, take-append_seam}
-use Rattle.body_filter.specs.declared.filter_spec.FedState.{FedState}
-use Rattle.body_filter.specs.declared.filter_spec.FedState.TheVariants.{Going, Over, Refused}
-use Rattle.body_filter.specs.Filter.{is_over, searched, behind, ended, matched, Filtered}
+use Rattle.body_filter.specs.declared.filter_spec.FedState.TheVariants.{Going, Over}
+use Rattle.body_filter.specs.Filter.{searched, behind, ended, matched, Filtered}
 use Rattle.body_filter.specs.Kept.{kept, settled}
 use Rattle.body_filter.specs.Machines.{while, searching, closed, SearchAt, searcher_meaning}
 use Rattle.body_filter.proofs.Keeping.{begins-take, kept-is, settled-kept}
 use Rattle.body_filter.proofs.Searching.{found, gives, at_end, kept_back, runs}
 use Rattle.body_filter.specs.Feeding.{Meaning, Feeds}
-use Rattle.body_filter.specs.declared.filter_spec.Fed.{Fed}
 use Rattle.std.proofs.lemmas.Bool.{false≢true, both_ways, eqb-true}
 use Rattle.std.proofs.Math.Dec.{eqb}
 
@@ -105,29 +103,6 @@ passes_front n to whole piece room len first rest some in_room in_piece is free 
     let at : slice_index (take room piece) k ≡ slice_index (take len piece) k = get_or-take room piece k 0 (omega arith) ∙ sym (get_or-take len piece k 0 below) in
     free k below (at ∙ same ∙ sym is))
 
-same_end : (state : FedState) (m : Bool → List ℕ → Filtered) (whole : Bool) (rest : List ℕ) → while state (closed true m) whole rest ≡ while state (closed true m) true []
-same_end Going m whole rest = refl
-same_end Over m whole rest = refl
-same_end (Refused code) m whole rest = refl
-
--- a body that is known to be whole
-pub constant : (s : SearchAt) (whole : Bool) (rest : List ℕ) → s.whole ≡ true → searcher_meaning s whole rest ≡ searcher_meaning s true []
-constant s whole rest is =
-    ap (λ b. behind s.held.items (while s.state (closed b (searching s.needle s.to s.kept)) whole rest)) is
-    ∙ ap (behind s.held.items) (same_end s.state (searching s.needle s.to s.kept) whole rest)
-    ∙ sym (ap (λ b. behind s.held.items (while s.state (closed b (searching s.needle s.to s.kept)) true [])) is)
-
-over_while : (state : FedState) (m : Bool → List ℕ → Filtered) (whole : Bool) (rest : List ℕ) → is_over state ≡ true → while state m whole rest ≡ ended state
-over_while Going m whole rest h = absurd (false≢true h)
-over_while Over m whole rest h = refl
-over_while (Refused code) m whole rest h = refl
-
--- an end that is told
-pub tells : (s : SearchAt) → is_over s.state ≡ true → s.held.items ≡ [] → (whole : Bool) (rest : List ℕ) → searcher_meaning s whole rest ≡ ended s.state
-tells s over empty whole rest =
-    ap (λ xs. behind xs (while s.state (closed s.whole (searching s.needle s.to s.kept)) whole rest)) empty
-    ∙ over_while s.state (closed s.whole (searching s.needle s.to s.kept)) whole rest over
-
 -- a search that waits has given all but what it keeps back
 pub waiting : (s : SearchAt) → s.state ≡ Going → s.held.items ≡ [] → s.whole ≡ false → s.kept < length s.needle → searcher_meaning s false [] ≡ ended Going
 waiting s on empty more fits =
@@ -135,39 +110,6 @@ waiting s on empty more fits =
     ∙ kept_back s.needle s.to (take s.kept s.needle) (omega (arith, length-take-le s.kept s.needle (omega arith))) (begins-take s.kept s.needle)
 
 -- ---- the exits of a call
-
-pub exit_flush : (old new : Meaning) (piece : List ℕ) (last : Bool) (fed : Fed) (out : List ℕ) → fed.used ≡ 0 → fed.given ≤ length out
-    → ((whole : Bool) (rest : List ℕ) → old whole rest ≡ behind (take fed.given out) (new whole rest))
-    → (is_over fed.state ≡ true → (whole : Bool) (rest : List ℕ) → new whole rest ≡ ended fed.state)
-    → (fed.state ≡ Going → fed.given ≡ 0 → ⊥)
-    → (last ≡ true → 0 ≡ length piece → ⊥)
-    → Feeds old piece last fed out new
-exit_flush old new piece last fed out none given meaning told some more = record {
-  used = omega (arith, none);
-  given = given;
-  goes_on = λ _ whole rest. ap (λ k. old whole (take k piece ++ rest)) none ∙ meaning whole rest;
-  ends = λ is all. absurd (more is (sym none ∙ all));
-  told = told;
-  idle = λ on _ no. absurd (some on no);
-}
-
-pub exit_finish : (old new : Meaning) (piece : List ℕ) (last : Bool) (fed : Fed) (out : List ℕ) → fed.used ≡ 0 → fed.given ≤ length out
-    → ((whole : Bool) (rest : List ℕ) → old true [] ≡ behind (take fed.given out) (new whole rest))
-    → (is_over fed.state ≡ true → (whole : Bool) (rest : List ℕ) → new whole rest ≡ ended fed.state)
-    → (fed.state ≡ Going → fed.given ≡ 0 → ⊥)
-    → ((last ≡ true → 0 < length piece) → (whole : Bool) (rest : List ℕ) → old whole rest ≡ old true [])
-    → (last ≡ true → 0 ≡ length piece → old true piece ≡ old true [])
-    → Feeds old piece last fed out new
-exit_finish old new piece last fed out none given meaning told some const const2 = record {
-  used = omega (arith, none);
-  given = given;
-  goes_on = λ h whole rest.
-      let h2 : last ≡ true → 0 < length piece = λ is. let h3 : fed.used < length piece = h is in omega (arith, h3) in
-      ap (λ k. old whole (take k piece ++ rest)) none ∙ const h2 whole rest ∙ meaning whole rest;
-  ends = λ is all. const2 is (sym none ∙ all) ∙ meaning true [];
-  told = told;
-  idle = λ on _ no. absurd (some on no);
-}
 
 pub exit_wait : (old : Meaning) (piece : List ℕ) (last : Bool) (out : List ℕ) → piece ≡ [] → last ≡ false → old false [] ≡ ended Going
     → Feeds old piece last (record { used = 0; given = 0; state = Going }) out old

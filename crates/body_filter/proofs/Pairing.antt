@@ -1,7 +1,7 @@
 -- Two machines as one.
 use Rattle.std.proofs.Common.{◌≡◌, ℕ, ◌+◌, ◌*◌, ◌<◌, ◌≤◌, inl, inr, Bool, true, false, List, [], ◌∷◌, ◌++◌, refl, sym, ap, ◌∙◌, arith, length, take, drop, append_assoc, length-append}
 use Rattle.std.proofs.lemmas.Bool.{cases_Bool, cases_lt, false≢true, both_ways}
-use Rattle.std.proofs.lemmas.List.{append-nil, take-append-drop, take-take, length-take-le, take_all}
+use Rattle.std.proofs.lemmas.List.{append-nil, take-append-drop, take_all}
 use Rattle.std.proofs.Math.ListN.{drop_of_length-le}
 use Rattle.body_filter.specs.declared.filter_spec.FedState.{FedState}
 use Rattle.body_filter.specs.declared.filter_spec.FedState.TheVariants.{Going, Over, Refused}
@@ -63,19 +63,6 @@ cleared first mid next state tells h whole rest =
 pub filled : (first first' : Meaning) (next : Meaning) (given xs ys : List ℕ) (whole whole' : Bool) → first whole xs ≡ behind given (first' whole' ys) → paired first [] next whole xs ≡ paired first' given next whole' ys
 filled first first' next given xs ys whole whole' is = ap (λ f. through f next) is
 
--- the bytes behind what was given are of no interest
-pub given_alone : (old new : Meaning) (piece : List ℕ) (last : Bool) (fed : Fed) (out : List ℕ) → Feeds old piece last fed out new → Feeds old piece last fed (take fed.given out) new
-given_alone old new piece last fed out h =
-    let same : take fed.given out ≡ take fed.given (take fed.given out) = sym (take-take fed.given fed.given out (omega arith)) in
-    record {
-      used = h.used;
-      given = omega (arith, length-take-le fed.given out h.given);
-      goes_on = λ goes whole rest. h.goes_on goes whole rest ∙ ap (λ xs. behind xs (new whole rest)) same;
-      ends = λ is all. h.ends is all ∙ ap (λ xs. behind xs (new true [])) same;
-      told = h.told;
-      idle = h.idle;
-    }
-
 -- ---- a call that works on both
 
 no_bytes_in : (xs : List ℕ) → 0 ≡ length xs → xs ≡ []
@@ -86,10 +73,6 @@ pub not_over : (state : FedState) → is_over state ≡ false → state ≡ Goin
 not_over Going h = refl
 not_over Over h = absurd (both_ways true h refl)
 not_over (Refused code) h = absurd (both_ways true h refl)
-
-pub still_going : (next : Meaning) (state : FedState) → next false [] ≡ ended state → joined Going state ≡ Going → through (ended Going) next ≡ ended Going
-still_going next state is on =
-    ap (λ l. record { output = l.output; state = joined Going l.state }) is ∙ ap (λ s. ended s) on
 
 pub silent_pull : (m0 m1 m2 : Meaning) (piece : List ℕ) (last : Bool) (given : ℕ) (out : List ℕ) → Silent m0 m1 piece last → given ≡ 0
     → ((whole : Bool) (rest : List ℕ) → m1 whole rest ≡ behind (take given out) (m2 whole rest)) → Silent m0 m2 piece last
@@ -131,39 +114,6 @@ exit_pull m0 m1 m2 piece last given state out silent step tells fits busy = reco
   told = tells;
   idle = λ on _ no. absurd (busy on no);
 }
-
-pub exit_used : (m0 F F' N : Meaning) (piece : List ℕ) (last : Bool) (fed : Fed) (items out : List ℕ) → Silent m0 (paired F [] N) piece last → Feeds F piece last fed items F' → 0 < fed.used → length items ≡ fed.given
-    → Feeds m0 piece last (record { used = fed.used; given = 0; state = Going }) out (paired F' items N)
-exit_used m0 F F' N piece last fed items out silent h some size =
-    let all : take fed.given items ≡ items = given_is fed items size in
-    let never : last ≡ true → 0 ≡ length piece → ⊥ = λ _ zero. let fits : fed.used ≤ length piece = h.used in omega (arith, fits, some, zero) in
-    record {
-      used = h.used;
-      given = omega arith;
-      goes_on = λ goes whole rest.
-          silent whole (take fed.used piece ++ rest) (λ is zero. absurd (never is zero))
-          ∙ filled F F' N items (take fed.used piece ++ rest) rest whole whole (h.goes_on goes whole rest ∙ ap (λ xs. behind xs (F' whole rest)) all);
-      ends = λ is end.
-          silent true piece (λ is zero. absurd (never is zero))
-          ∙ filled F F' N items piece [] true true (h.ends is end ∙ ap (λ xs. behind xs (F' true [])) all);
-      told = λ e. absurd (false≢true e);
-      idle = λ _ none _. absurd (omega (arith, none, some));
-    }
-
-pub exit_idle : (m0 F F' N : Meaning) (piece : List ℕ) (last : Bool) (fed : Fed) (items out : List ℕ) → Silent m0 (paired F [] N) piece last → Feeds F piece last fed items F' → fed.used ≡ 0 → fed.given ≡ 0 → fed.state ≡ Going → length items ≡ fed.given
-    → through (ended Going) N ≡ ended Going → Feeds m0 piece last (record { used = 0; given = 0; state = Going }) out (paired F' items N)
-exit_idle m0 F F' N piece last fed items out silent h none nought on size waits =
-    let idle : (piece ≡ []) × (last ≡ false) × (F' false [] ≡ ended Going) = h.idle on none nought in
-    let now : Silent m0 (paired F' items N) piece last = silent_fill m0 F F' N piece last fed items silent h none size in
-    let empty : items ≡ [] = no_bytes_in items (sym (size ∙ nought)) in
-    record {
-      used = omega arith;
-      given = omega arith;
-      goes_on = λ _ whole rest. now whole rest (λ is _. absurd (both_ways last idle.1 is));
-      ends = λ is _. absurd (both_ways last idle.1 is);
-      told = λ e. absurd (false≢true e);
-      idle = λ _ _ _. (idle.0, idle.1, ap (λ xs. paired F' xs N false []) empty ∙ ap (λ f. through f N) idle.2 ∙ waits);
-    }
 
 -- the first machine's silent steps end
 pub less_to_give : (F F' : Meaning) (piece : List ℕ) (last : Bool) (fed : Fed) (items : List ℕ) → Feeds F piece last fed items F' → fed.used ≡ 0 → length items ≡ fed.given

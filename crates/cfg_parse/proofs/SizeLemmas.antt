@@ -16,9 +16,6 @@ digits_value_after-grows n (c ∷ digits) = omega (arith, digits_value_after-gro
 pub digit_value-decimal : (c : ℕ) → is_ascii_digit c ≡ true → digit_value c ≡ c - 48
 digit_value-decimal c is = grind (arith, nat_tests)
 
-pub decimal_small : (c : ℕ) → is_ascii_digit c ≡ true → c ≤ 57
-decimal_small c is = grind (arith, nat_tests)
-
 -- one digit is read
 pub digits_value_after-more : (size : ℕ) (word : List ℕ) (i : ℕ) → i < length word → is_ascii_digit (get_or word i 0) ≡ true
     → digits_value_after 10 size (drop i word) ≡ digits_value_after 10 (size * 10 + (get_or word i 0 - 48)) (drop (i + 1) word)

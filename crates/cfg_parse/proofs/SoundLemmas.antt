@@ -1,27 +1,23 @@
 -- Each line keeps the configuration so far sound, and a sound one is valid in the end.
-use Rattle.std.proofs.Common.{inl, inr, ◌≡◌, ℕ, ◌+◌, ◌-◌, ◌≤◌, ◌<◌, Bool, true, false, cond, ltb, leb, eqb, List, [], ◌∷◌, ◌++◌, length, take, drop, Option, Some, None, Result, Ok, Err, refl, ap, subst, ◌∙◌, arith, length-append}
-use Rattle.std.specs.Prelude.{not, ◌&&◌, ◌||◌, ◌⊎◌, IfOk, OnOk, IfSome, is_some, unwrap_or, codes, position}
-use Rattle.std.specs.List.{list_all, AllByRecursion}
-use Rattle.std.specs.Char.{to_ascii_lowercase, is_ascii_alphanumeric}
-use Rattle.std.specs.Str.{bytes_eq, str_to_ascii_lowercase}
+use Rattle.std.proofs.Common.{◌≡◌, ℕ, ◌+◌, ◌-◌, ◌≤◌, ◌<◌, Bool, true, false, cond, ltb, leb, eqb, List, [], ◌∷◌, ◌++◌, length, take, drop, Option, Some, None, Result, Ok, Err, refl, ap, subst, ◌∙◌, arith, length-append}
+use Rattle.std.specs.Prelude.{◌&&◌, ◌||◌, ◌⊎◌, OnOk, IfSome, is_some, unwrap_or, codes, position}
+use Rattle.std.specs.List.{AllByRecursion}
+use Rattle.std.specs.Str.{bytes_eq}
 use Rattle.std.specs.Str.Lines.{lines}
 use Rattle.std.proofs.lemmas.Bool.Decides.{nat_tests}
-use Rattle.std.proofs.lemmas.List.{length-map}
-use Rattle.std.proofs.lemmas.Bool.{cases_lt, ltb-false}
+use Rattle.std.proofs.lemmas.Bool.{ltb-false}
 use Rattle.http_model.specs.Sizes.{most_size}
 use Rattle.px_bytes.specs.Numbers.{decimal_of}
 use Rattle.px_link.specs.declared.address.Address.{Address}
 use Rattle.http_rules.specs.declared.config.Config.{Config}
-use Rattle.http_rules.specs.Valid.{AreLimits, HasPort, HasHost, IsChain, IsValid}
+use Rattle.http_rules.specs.Valid.{AreLimits, HasPort, HasHost, IsValid}
 use Rattle.cfg_parse.specs.declared.fault.CfgKind.{CfgKind}
 use Rattle.cfg_parse.specs.declared.fault.CfgKind.TheVariants.{Argument, Section, Limit, Missing}
-use Rattle.cfg_parse.specs.declared.fault.CfgFault.{CfgFault}
 use Rattle.cfg_parse.specs.declared.draft.Draft.{Draft}
 use Rattle.cfg_parse.specs.declared.fault.LineRefusal.{LineRefusal}
 use Rattle.http_rules.specs.declared.rule.rule.Rule.{Rule}
 use Rattle.http_rules.specs.declared.rule.action.Direction.{Direction as Rules}
 use Rattle.http_rules.specs.declared.rule.action.Direction.TheVariants as lists
-use Rattle.http_rules.specs.declared.rule.action.Action.{Action}
 use Rattle.http_rules.specs.Rule.Valid.{AreRules, IsGoodRule}
 use Rattle.cfg_expr.specs.declared.condition.written.AclLine.{AclLine}
 use Rattle.cfg_parse.specs.Reading.{◌>>=◌, argument, no_more, Leaves}
@@ -30,7 +26,7 @@ use Rattle.cfg_parse.specs.Draft.{start, has_listen}
 use Rattle.cfg_parse.specs.Settings.{section_line, bufsize_line, maxrewrite_line, mode_line, timeout_line, bind_line, server_line}
 use Rattle.cfg_parse.specs.Rules.{tests_of, rules_in, has_room, with_rule, rule_added}
 use Rattle.cfg_parse.specs.Sound.{IsSound}
-use Rattle.cfg_parse.specs.Whole.{bufsize_of, maxrewrite_of, limits_of, made_config, with_addresses, whole, of_text, Configures}
+use Rattle.cfg_parse.specs.Whole.{bufsize_of, maxrewrite_of, limits_of, made_config, with_addresses, whole}
 use Rattle.cfg_parse.specs.declared.keywords.SectionWord.{SectionWord}
 use Rattle.cfg_parse.specs.declared.keywords.SectionWord.TheVariants.{Global, Defaults, Listen, Other}
 use Rattle.cfg_parse.specs.Numbers.{number_up_to, size_of, is_time, is_colon, as_port, port_of, address_at, address_of, server_address_of}
@@ -39,7 +35,7 @@ use Rattle.body_filter.specs.Valid.{IsFilter}
 use Rattle.cfg_parse.specs.declared.filters.Direction.{Direction}
 use Rattle.cfg_parse.specs.declared.filters.Direction.TheVariants.{Request, Response}
 use Rattle.cfg_parse.specs.Filters.{with_filter, filter_line, filter_added, filter_setting}
-use Rattle.cfg_parse.proofs.StepLemmas.{bind_ok, guard_ok, passed, given, ok_is, or_false, and_true, not_false}
+use Rattle.cfg_parse.proofs.StepLemmas.{bind_ok, guard_ok, passed, given, ok_is, or_false, and_true}
 use Rattle.cfg_parse.proofs.FilterLemmas.{none_chain, chain_more, filter_line-good}
 
 -- ---- sizes and addresses
@@ -234,8 +230,6 @@ rule_left draft left direction rule result leaves good s = leaves_sound result l
 pub acls_left : (draft : Draft) (lines : List AclLine) → IsSound draft → IsSound (record draft { acls = lines })
 acls_left draft lines s = record { bufsize = s.bufsize; bind = s.bind; server = s.server; request = s.request; response = s.response; after = s.after; req_filters = s.req_filters; res_filters = s.res_filters }
 
-pub ruleset lefts = (section_left, bufsize_left, maxrewrite_left, mode_left, timeout_left, bind_left, server_left, filter_left, rule_left, acls_left)
-
 -- ---- all lines
 
 no_rules : (direction : Rules) → AreRules direction []
@@ -265,12 +259,3 @@ unfolding whole
 whole-valid draft config s e =
     let test = guard_ok (ltb (bufsize_of draft - 512) (maxrewrite_of draft)) Limit (with_addresses draft draft.bind draft.server) config e in
     with_addresses-valid draft draft.bind draft.server config s (ltb-false _ _ test.0) s.bind s.server test.1
-
--- what a sound draft comes to is valid
-pub configures-valid : (draft : Draft) (result : Result Config CfgFault) → IsSound draft → Configures result (of_text (whole draft)) → IfOk result IsValid
-configures-valid draft result s configures = by_whole (whole draft) (whole-valid draft) result configures
-  where
-    by_whole : (made : Result Config CfgKind) → ((config : Config) → IsSound draft → made ≡ Ok config → IsValid config) → (result : Result Config CfgFault) → Configures result (of_text made) → IfOk result IsValid
-    by_whole (Ok found) valid (Ok config) c = valid config s cc
-    by_whole (Err kind) valid (Ok config) c = absurd cc
-    by_whole made valid (Err fault) c = tt

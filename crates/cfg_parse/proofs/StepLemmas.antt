@@ -1,6 +1,6 @@
 -- Steps that gave a value, and tests that let pass.
 use Rattle.std.proofs.Common.{◌≡◌, Bool, true, false, cond, Result, Ok, Err, refl}
-use Rattle.std.specs.Prelude.{not, ◌&&◌, ◌||◌}
+use Rattle.std.specs.Prelude.{◌&&◌, ◌||◌}
 use Rattle.cfg_parse.specs.declared.fault.CfgKind.{CfgKind}
 use Rattle.cfg_parse.specs.Reading.{◌>>=◌}
 
@@ -32,7 +32,3 @@ or_false false b e = (refl, e)
 pub and_true : (a b : Bool) → (a && b) ≡ true → (a ≡ true) × (b ≡ true)
 and_true true b e = (refl, e)
 and_true false b e = absurd cc
-
-pub not_false : (a : Bool) → not a ≡ false → a ≡ true
-not_false true e = refl
-not_false false e = absurd cc

@@ -1,13 +1,13 @@
 -- The front of a trailer section goes on byte by byte, and may become one.
 use Rattle.std.proofs.Common.{◌≡◌, ℕ, ◌+◌, ◌<◌, Bool, true, false, List, [], ◌∷◌, ◌++◌, length, take, refl, sym, ap, ◌∙◌, subst, arith, append_assoc, length-append, get_or, if◌then◌else◌}
-use Rattle.std.specs.Prelude.{All, IsTrue, ◌&&◌, count_by, Some, None}
+use Rattle.std.specs.Prelude.{IsTrue, ◌&&◌, count_by, Some, None}
 use Rattle.std.specs.List.{flat_map}
 use Rattle.std.proofs.lemmas.Grind.{flat_map-append}
 use Rattle.std.proofs.lemmas.List.{append-nil, take-append-le, take_all, take_more}
 use Rattle.std.proofs.lemmas.List.Sums.{sum_by-cons}
 use Rattle.std.proofs.lemmas.List.Elements.{All-cons, All-nil, All-push}
 use Rattle.httparse.specs.Grammar as grammar
-use Rattle.httparse.specs.Grammar.{IsField, IsToken, AllPass, is_token_byte, is_value_byte, print_field, print_section, LineEnd, crlf, lf, ReadsSection, HasNoSection}
+use Rattle.httparse.specs.Grammar.{IsField, IsToken, is_token_byte, is_value_byte, print_field, print_section, LineEnd, crlf, lf, ReadsSection, HasNoSection}
 use Rattle.httparse.proofs.GrammarLemmas.{section_unique, ReadsSection-append}
 use Rattle.px_bytes.specs.Tokens as tokens
 use Rattle.http_model.specs.declared.Framing.{Framing}
@@ -42,9 +42,6 @@ one_token b is = (omega arith, All-cons (λ (x : ℕ). IsTrue (is_token_byte x))
 token_more : (name : List ℕ) (b : ℕ) → IsToken name → IsTrue (is_token_byte b) → IsToken (name ++ b ∷ [])
 token_more name b is more = (omega (arith, is.0, length-append name (b ∷ [])), All-push (λ (x : ℕ). IsTrue (is_token_byte x)) name b is.1 more)
 
-value_more : (raw : List ℕ) (b : ℕ) → AllPass is_value_byte raw → IsTrue (is_value_byte b) → AllPass is_value_byte (raw ++ b ∷ [])
-value_more raw b is more = All-push (λ (x : ℕ). IsTrue (is_value_byte x)) raw b is more
-
 -- the front of a field goes on
 further : (at next : SectionPlace) (bytes : List ℕ) (b : ℕ) → (f : IsFront at bytes) → EndsAt next (f.tail ++ b ∷ []) → IsFront next (bytes ++ b ∷ [])
 further at next bytes b f ends =
@@ -68,22 +65,6 @@ begins_name bytes b is f = further place.LineStart place.Name bytes b f (subst (
 
 pub goes_on_name : (bytes : List ℕ) (b : ℕ) → IsTrue (is_token_byte b) → IsFront place.Name bytes → IsFront place.Name (bytes ++ b ∷ [])
 goes_on_name bytes b is f = further place.Name place.Name bytes b f (token_more f.tail b f.ends is)
-
-pub ends_name : (bytes : List ℕ) (b : ℕ) → b ≡ 58 → IsFront place.Name bytes → IsFront place.Value (bytes ++ b ∷ [])
-ends_name bytes b is f = further place.Name place.Value bytes b f
-    (f.tail, [], record { token = f.ends; clean = All-nil (λ (x : ℕ). IsTrue (is_value_byte x)) }, ap (λ (x : ℕ). f.tail ++ x ∷ []) is)
-
-pub goes_on_value : (bytes : List ℕ) (b : ℕ) → IsTrue (is_value_byte b) → IsFront place.Value bytes → IsFront place.Value (bytes ++ b ∷ [])
-goes_on_value bytes b is f =
-    let e = f.ends in
-    further place.Value place.Value bytes b f
-    (e.0, e.1 ++ b ∷ [], record { token = e.2.token; clean = value_more e.1 b e.2.clean is }, ap (λ (l : List ℕ). l ++ b ∷ []) e.3 ∙ append_assoc e.0 (58 ∷ e.1) (b ∷ []))
-
-pub returns_value : (bytes : List ℕ) (b : ℕ) → b ≡ 13 → IsFront place.Value bytes → IsFront place.Return (bytes ++ b ∷ [])
-returns_value bytes b is f =
-    let e = f.ends in
-    further place.Value place.Return bytes b f
-    (e.0, e.1, e.2, ap (λ (l : List ℕ). l ++ b ∷ []) e.3 ∙ append_assoc e.0 (58 ∷ e.1) (b ∷ []) ∙ ap (λ (x : ℕ). e.0 ++ 58 ∷ (e.1 ++ x ∷ [])) is)
 
 pub ends_value : (bytes : List ℕ) (b : ℕ) → b ≡ 10 → IsFront place.Value bytes → IsFront place.LineStart (bytes ++ b ∷ [])
 ends_value bytes b is f =
@@ -170,14 +151,6 @@ scanned_more window more scan s =
       few = s.few;
       front = subst (IsFront scan.place) same s.front;
     }
-
-pub scanned_none : (window : List ℕ) → IsScanned window (record { len = 0; lines = 0; place = place.LineStart })
-scanned_none window = record {
-  within = omega arith;
-  lines = refl;
-  few = omega arith;
-  front = record { fields = []; tail = []; valid = All-nil IsField; is = refl; ends = refl };
-}
 
 -- one byte more was looked at
 pub scanned_next : (w : List ℕ) (at lines behind : ℕ) (here next : SectionPlace) → at < length w → IsScanned w (record { len = at; lines = lines; place = here })

@@ -77,9 +77,6 @@ told limits framing bytes found section reader read = told_at limits framing byt
 
 -- ---- one reading
 
-pub unread : (a b : BodyRead) (found : List ℕ) (end : Option Ending) → unfinished found end ≡ a → unfinished found end ≡ b → a ≡ b
-unread a b found end x y = sym x ∙ y
-
 one_section : (most : ℕ) (bytes found : List ℕ) (end : Option Ending) (a b : BodyRead) → SectionTells most bytes found end a → SectionTells most bytes found end b → a ≡ b
 one_section most bytes found end (Reads (Whole body trailers rest)) (Reads (Whole body2 trailers2 rest2)) x y =
     let same = section_unique bytes x.1.0 y.1.0 x.1.1.begins.last y.1.1.begins.last rest rest2 x.1.1.begins.reads y.1.1.begins.reads in

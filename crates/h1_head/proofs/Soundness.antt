@@ -26,7 +26,7 @@ use Rattle.h1_head.specs.Kind.{HeadKind, request_heads, response_heads, parts_of
 use Rattle.h1_head.specs.Sides.{kind_of}
 use Rattle.h1_head.specs.Stream.{BeginsWith, HeadOf}
 use Rattle.http_model.specs.declared.Framing.{Framing}
-use Rattle.httparse.specs.Grammar.{ResponseHead, status_code, reason_phrase, AllPass}
+use Rattle.httparse.specs.Grammar.{ResponseHead, status_code, reason_phrase}
 use Rattle.h1_head.specs.Rows.{Parts, has_long_name, is_kept, folded, kept_head, kept_reading, refusal_of, request_line, ResponseParts, response_refusal_of, status_line, is_over, unless_refused, decided}
 use Rattle.httparse.proofs.TrimLemmas.{AllPass-trim_ows}
 use Rattle.h1_head.proofs.Trimmed.{trimmed_twice}
@@ -64,12 +64,6 @@ response_names_passed p e = row_passed (has_long_name p.fields) why.Name _ e
 
 pub at_most : (n m : ℕ) → nat_lt n m ≡ false → m ≤ n
 at_most n m e = elim (cases_lt n m) [ inl lt ↦ absurd (both_ways (nat_lt n m) e (lt-ltb n m lt)) | inr le ↦ le ]
-
-pub short_names : (fs : List Field) → has_long_name fs ≡ false → All (λ f. length f.0 ≤ most_name) fs
-short_names [] e = All-nil (λ f. length f.0 ≤ most_name)
-short_names (f ∷ fs) e =
-    let parts = or_parts (nat_lt most_name (length f.0)) (has_long_name fs) e in
-    All-cons (λ f. length f.0 ≤ most_name) f fs (at_most most_name (length f.0) parts.0) (short_names fs parts.1)
 
 lower_twice : (bs : List ℕ) → str_to_ascii_lowercase (str_to_ascii_lowercase bs) ≡ str_to_ascii_lowercase bs
 lower_twice [] = refl

@@ -101,13 +101,6 @@ hopeless K laws limits whole text is never more ends = record {
   none = subst (λ (bytes : List ℕ). HasNoHead K limits bytes) (sym (text_goes_on text more is)) (never more ends);
 }
 
-pub hopeless_whole : (K : HeadKind) → IsLawful K → (limits : Limits) (text : List ℕ) → behind text ≡ text → text ≢ [] → HasNone K text → IsHopeless K limits true text
-hopeless_whole K laws limits text same some none more ends =
-    let is : text ++ more ≡ text = ap (λ m. text ++ m) (ends refl) ∙ append-nil text in record {
-      some = λ e. some (sym same ∙ sym (ap behind is) ∙ e);
-      none = λ h rest b. none h rest (laws.parses text h rest (subst (λ (bytes : List ℕ). K.Reads bytes h rest) (ap behind is ∙ same) b.reads));
-    }
-
 pub hopeless_long : (K : HeadKind) → IsLawful K → (limits : Limits) (whole : Bool) (text : List ℕ) → behind text ≡ text → text ≢ [] → text ≢ 13 ∷ [] → HasNone K text
     → (limits.bufsize ≤ length text) ⊎ (most_lines ≤ feeds text) → IsHopeless K limits whole text
 hopeless_long K laws limits whole text same some other none full =

@@ -13,7 +13,6 @@ pub mod Decides
 pub mod Feeds
 pub mod Scanned
 pub mod Request
-pub mod Window
 pub mod Response
 pub mod Waiting
 pub mod Answers

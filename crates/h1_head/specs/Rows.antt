@@ -174,22 +174,6 @@ refusal_of p =
     else if bytes_eq p.method (codes "CONNECT") then Some why.Method
     else framing_refusal p.minor p.fields
 
--- the request head without the fields that Connection names, with names in lower case
-abbrev pub received_head : Parts → Head
-received_head p = kept_head (request_line p) p.fields
-
--- a request that tells no length has no body
-abbrev pub framing_by : (coded : Bool) → (declared : Option ℕ) → Framing
-framing_by coded declared = framing_told framing.Absent coded declared
-
--- what is kept of a request head that no row refuses
-abbrev pub received : Parts → Received
-received p = kept_reading (request_line p) (framing_of framing.Absent p.fields) p.fields
-
--- it weighs more than it may
-abbrev pub is_heavy : Limits → Parts → Bool
-is_heavy limits p = is_over limits (request_line p) p.fields
-
 -- the rows in their order: the first that applies decides. A request that tells no length has no body.
 abbrev pub decision : Limits → Parts → Result Received HeadWhy
 decision limits p = decided (refusal_of p) (framing_of framing.Absent p.fields) limits (request_line p) p.fields

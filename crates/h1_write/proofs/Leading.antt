@@ -29,18 +29,6 @@ not_true e = subst IsT (sym e) tt
 
 -- ---- steps join
 
-pub writes_none : (w : Writer) (bs : List Block) (window : List ℕ) → Writes w bs window w bs window
-writes_none w bs window = record {
-  more = [];
-  items = sym (append-nil window);
-  leads = λ framing no_body taken text h. (
-    [],
-    refl,
-    let P : List Block → Type 0 = λ ts. HasWritten framing no_body ts bs (text ++ []) w in
-        subst P (sym (append-nil taken)) (let Q : List ℕ → Type 0 = λ t. HasWritten framing no_body taken bs t w in subst Q (sym (append-nil text)) h),
-  );
-}
-
 pub writes_on : (u v w : Writer) (ls bs cs : List Block) (x y z : List ℕ) → Writes u ls x v bs y → Writes v bs y w cs z → Writes u ls x w cs z
 writes_on u v w ls bs cs x y z f g = record {
   more = f.more ++ g.more;
@@ -69,10 +57,6 @@ begun_within c at (suc pos) size b bs front text h = h.1
 pub begun_part : (c : Coding) (at : Place) (pos size : ℕ) (b : Block) (bs : List Block) (front text : List ℕ) → BeginsBlock c at pos size (b ∷ bs) front text → 0 < pos → IsPart size b
 begun_part c at zero size b bs front text h some = absurd (omega arith)
 begun_part c at (suc pos) size b bs front text h some = h.0
-
-pub begun_some : (c : Coding) (at : Place) (pos size : ℕ) (front text : List ℕ) → BeginsBlock c at pos size [] front text → 0 < pos → ⊥
-begun_some c at zero size front text h some = omega arith
-begun_some c at (suc pos) size front text h some = h
 
 to_begun : (c : Coding) (at : Place) (pos size : ℕ) (b : Block) (bs : List Block) (front text : List ℕ) → IsPart size b → pos ≤ length (unit_text c at size b) → text ≡ front ++ take pos (unit_text c at size b)
     → BeginsBlock c at pos size (b ∷ bs) front text

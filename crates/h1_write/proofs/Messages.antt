@@ -39,9 +39,6 @@ data-append Chunks p q x y a b = chunks-append p q x y a b
 as_text : (c : Coding) (at to : Place) (bs : List Block) (x y : List ℕ) → x ≡ y → SpellsBlocks c at bs x to → SpellsBlocks c at bs y to
 as_text c at to bs x y e h = subst (λ (t : List ℕ). SpellsBlocks c at bs t to) e h
 
-pub spells-cons : (c : Coding) (at to : Place) (b : Block) (bs : List Block) (x y : List ℕ) → SpellsBlock c at b x → SpellsBlocks c (behind at (kind_of b)) bs y to → SpellsBlocks c at (b ∷ bs) (x ++ y) to
-spells-cons c at to b bs x y s h = (x, y, refl, s, h)
-
 spells-joined_data : (c : Coding) (at to : Place) (p : List ℕ) (fs : List Block) (x y : List ℕ) → SpellsData c p x → SpellsBlocks c at fs y to → SpellsBlocks c at (joined (Data p) fs) (x ++ y) to
 spells-joined_data c at to p [] x y s h = (x, y, refl, s, h)
 spells-joined_data c at to p (Data q ∷ fs) x y s h =
@@ -151,12 +148,6 @@ trailers_spelled to (t ∷ ts) text h =
     ∙ append_assoc (chunk_line 0) (field_text t) (fields_text ts ++ line_end)
     ∙ ap (λ (l : List ℕ). chunk_line 0 ++ l) (sym (append_assoc (field_text t) (fields_text ts) line_end))
     ∙ sym (append_assoc (chunk_line 0) (field_text t ++ fields_text ts) line_end)
-
--- no trailer is written of a body that isn't in chunks
-IsChunked : Coding → Type 0
-IsChunked Chunks = Unit {0}
-IsChunked Silent = ⊥
-IsChunked Plain = ⊥
 
 trailers_silent_by : (at to : Place) (ts : List Field) (text : List ℕ) → SpellsBlocks Silent at (map trailer_block ts ++ EndTrailers ∷ []) text to → text ≡ []
 trailers_silent_by at to [] text h = h.2 ∙ (λ i. h.3 i ++ h.4.0 i)

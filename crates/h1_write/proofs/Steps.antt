@@ -1,6 +1,6 @@
 -- The steps of a call.
 use Rattle.std.proofs.Common.{◌≡◌, ℕ, zero, suc, ◌+◌, ◌<◌, ◌≤◌, List, [], ◌∷◌, ◌++◌, Bool, true, false, length, take, drop, refl, ap, sym, ◌∙◌, subst, arith}
-use Rattle.std.proofs.lemmas.List.{append-nil, take_all, drop_more, drop_all}
+use Rattle.std.proofs.lemmas.List.{append-nil, take_all, drop_more}
 use Rattle.std.specs.Prelude.{if◌then◌else◌}
 use Rattle.std.proofs.lemmas.Bool.{lt-ltb}
 use Rattle.wire_buf.specs.Buffer.{Buffer}
@@ -20,7 +20,7 @@ use Rattle.h1_write.specs.declared.writer.Writer.{Writer}
 use Rattle.h1_write.specs.Put.{IsPut}
 use Rattle.h1_write.specs.Units.{coding_of, behind, end_text, unit_text, data_text, IsPart}
 use Rattle.h1_write.specs.Spelled.{SpellsBlocks, BeginsBlock, Begins, HasWritten, Writes, EvenAt, EndAt, ended_at}
-use Rattle.h1_write.proofs.Leading.{not_true, begun_text, begun_within, begun_part, begun_some, text_on, IsAll, writer, Goes, cut, whole, parted}
+use Rattle.h1_write.proofs.Leading.{not_true, begun_text, begun_within, begun_part, text_on, IsAll, writer, Goes, cut, whole, parted}
 
 -- ---- the steps of a call
 
@@ -170,15 +170,6 @@ pub cut_first : (bs cs : List Block) (p : List ℕ) (size : ℕ) → bs ≡ Data
 cut_first bs cs p size e less =
     ap (λ (ls : List Block). cut_front ls 0 size) e ∙ ap (λ (t : Bool). (if t then Data (drop size p) ∷ [] else []) ++ cs) (lt-ltb size (length p) less)
 
--- nothing is begun where no block is left
-pub resets : (old : Writer) (pos size : ℕ) (bs : List Block) (window : List ℕ) → old.stage ≡ stage.Block pos size → 0 < pos → length bs ≡ 0 → Writes old bs window (writer old.coding old.place (stage.Block 0 0)) bs window
-resets old pos size [] window at some none = record {
-  more = [];
-  items = sym (append-nil window);
-  leads = λ framing no_body taken text h. absurd (begun_some old.coding old.place pos size h.front text (subst (λ (s : Stage). Begins old.coding old.place s [] h.front text) at h.begins) some);
-}
-resets old pos size (b ∷ bs) window at some none = absurd (omega arith)
-
 -- ---- the end
 
 ends : (framing : Framing) (no_body : Bool) (taken : List Block) (c : Coding) (at : Place) (pos to : ℕ) (front text : List ℕ)
@@ -253,19 +244,4 @@ end_whole old pos put w w' left at none p e = record {
       let b = end_begun old.coding old.place old.stage pos h.front text at (subst (λ (ls : List Block). Begins old.coding old.place old.stage ls h.front text) empty h.begins) in
       let P : List Block → Type 0 = λ ls. Goes framing no_body taken ls (text ++ drop pos (take put.pos (end_text old.coding old.place))) (writer old.coding old.place stage.Done) ls in
       subst P (sym empty) (ended framing no_body taken old.coding old.place pos put.pos h.front text h.coding h.spells b.0 p.from (p.whole e));
-}
-
--- behind the end blocks are dropped: there are none
-pub drops : (old : Writer) (first : ℕ) (bs : List Block) (window : List ℕ) → ended_at old.stage ≡ true → Writes old (drop first bs) window old (drop (length bs) bs) window
-drops old first bs window is_end = record {
-  more = [];
-  items = sym (append-nil window);
-  leads = λ framing no_body taken text h.
-      let empty : drop first bs ≡ [] = none_left old (drop first bs) h.front text h.begins (λ going. absurd (not_true (sym going ∙ is_end))) in
-      let past : drop (length bs) bs ≡ [] = drop_all (length bs) bs (omega arith) in
-      let P : List Block → List Block → Type 0 = λ ls rs. Goes framing no_body taken ls (text ++ []) old rs in
-      let Q : List Block → List ℕ → Type 0 = λ ts t. HasWritten framing no_body ts [] t old in
-      let same : HasWritten framing no_body (taken ++ []) [] (text ++ []) old =
-      subst (λ (t : List ℕ). Q (taken ++ []) t) (sym (append-nil text)) (subst (λ (ts : List Block). Q ts text) (sym (append-nil taken)) (subst (λ (ls : List Block). HasWritten framing no_body taken ls text old) empty h)) in
-      subst (λ (ls : List Block). P ls (drop (length bs) bs)) (sym empty) (subst (λ (rs : List Block). P [] rs) (sym past) ([], refl, same));
 }

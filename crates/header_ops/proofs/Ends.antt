@@ -1,6 +1,5 @@
 -- The end of the headers, and what a header in front of it weighs.
-use Rattle.std.proofs.Common.{◌≡◌, ℕ, zero, suc, ◌+◌, List, [], ◌∷◌, Bool, true, false, cond, not, filter, length, refl, arith}
-use Rattle.std.specs.Prelude.{insert}
+use Rattle.std.proofs.Common.{◌≡◌, ℕ, ◌+◌, List, [], ◌∷◌, Bool, true, false, cond, not, filter, length, refl, arith}
 use Rattle.std.proofs.lemmas.List.Sums.{sum_by-cons}
 use Rattle.http_model.specs.Block.{Block, RequestLine, ResponseLine, Header, EndHeaders, Data, Trailer, EndTrailers, weight}
 use Rattle.http_model.specs.Blocks.{load}
@@ -77,12 +76,3 @@ load-set_header name value bs h =
     omega (arith, load-with_header (Header name value) (without_headers name bs) (HasEnd-without name bs h))
 
 pub ruleset ends = (HasEnd-without, HasEnd-with_header, load-set_header)
-
--- an end that is put in is there
-pub HasEnd-insert_end : (bs : List Block) (i : ℕ) → HasEnd (insert bs i EndHeaders)
-HasEnd-insert_end [] zero = tt
-HasEnd-insert_end [] (suc i) = tt
-HasEnd-insert_end (b ∷ bs) zero = tt
-HasEnd-insert_end (b ∷ bs) (suc i) = in_front b (insert bs i EndHeaders) (HasEnd-insert_end bs i)
-
-pub ruleset made = (HasEnd-insert_end)

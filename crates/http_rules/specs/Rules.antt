@@ -1,5 +1,5 @@
 -- What rules make of an environment, in their order, with the mode of failures.
-use Rattle.std.specs.Prelude.{ℕ, List, [], ◌∷◌, Bool, true, false, not, ◌&&◌, Option, Some, None, if◌then◌else◌}
+use Rattle.std.specs.Prelude.{ℕ, List, [], ◌∷◌, Bool, true, not, ◌&&◌, Option, Some, None, if◌then◌else◌}
 use Rattle.px_sample.specs.Variables.{Variables}
 use Rattle.session_model.specs.Env.{Verdict, Pass, Reply, Deny, Fail, Amended, Edited, Plain}
 use Rattle.acl_eval.specs.declared.condition.Cond.{Cond}
@@ -57,12 +57,3 @@ amended_by (Fail why left) = Plain
 -- what the rules on all that the client is sent come to; they neither reply nor deny
 abbrev pub after_of : (size : ℕ) → List Rule → Env → Amended Variables
 after_of size rules env = amended_by (rules_of size rules env)
-
--- ---- words of the laws
-
--- what further rules make of a verdict
-abbrev pub on_pass : Comes → (Env → Comes) → Comes
-on_pass (Pass env) others = others env
-on_pass (Reply message env) others = Reply message env
-on_pass (Deny code env) others = Deny code env
-on_pass (Fail why env) others = Fail why env

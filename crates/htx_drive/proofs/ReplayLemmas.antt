@@ -1,7 +1,6 @@
 pub mod Dials
 pub mod Fresh
 pub mod Lasts
-pub mod Nets
 pub mod Reported
 pub mod Stops
 pub mod Streams

@@ -1,6 +1,6 @@
 -- The flow of a list counts alone, in front of other blocks and behind them; blocks put behind others leave it.
 use Rattle.std.proofs.Common.{◌≡◌, ℕ, ◌<◌, List, [], ◌∷◌, ◌++◌, length, take, drop, refl, ap, sym, ◌∙◌, arith, append_assoc}
-use Rattle.std.proofs.lemmas.List.{append-nil, take-append-drop}
+use Rattle.std.proofs.lemmas.List.{take-append-drop}
 use Rattle.htx_model.specs.Block.{Block, RequestLine, ResponseLine, Header, EndHeaders, Data, Trailer, EndTrailers, payload_len}
 use Rattle.htx_model.specs.Blocks.{append_data, extend_last, followed, flow, joined}
 use Rattle.htx_model.specs.Flow.{put_behind, added, AreFilled}
@@ -71,21 +71,6 @@ extended_flows (b ∷ c ∷ bs) p ys = ap (joined b) (extended_flows (c ∷ bs) 
 pub data_flows : (to : List Block) (p : List ℕ) (ys : List Block) → 0 < length p → flow (append_data to p ++ ys) ≡ flow (to ++ (Data p ∷ ys))
 data_flows to [] ys some = absurd (omega arith)
 data_flows to (x ∷ p) ys some = extended_flows to (x ∷ p) ys
-
-extended_alone : (to : List Block) (p : List ℕ) → flow (extend_last to p) ≡ flow (to ++ (Data p ∷ []))
-extended_alone to p = ap flow (sym (append-nil (extend_last to p))) ∙ extended_flows to p []
-
--- appended data counts by its flow alone
-pub data-flow : (xs ys : List Block) (p : List ℕ) → flow xs ≡ flow ys → flow (append_data xs p) ≡ flow (append_data ys p)
-data-flow xs ys [] e = e
-data-flow xs ys (x ∷ p) e = extended_alone xs (x ∷ p) ∙ flow-front xs ys (Data (x ∷ p) ∷ []) e ∙ sym (extended_alone ys (x ∷ p))
-
--- data appended to the last part is appended to the whole
-pub data-last : (xs ys : List Block) (p : List ℕ) → flow (xs ++ append_data ys p) ≡ flow (append_data (xs ++ ys) p)
-data-last xs ys [] = refl
-data-last xs ys (x ∷ p) =
-    flow-append xs (extend_last ys (x ∷ p)) (ys ++ (Data (x ∷ p) ∷ [])) (extended_alone ys (x ∷ p))
-    ∙ ap flow (sym (append_assoc xs ys (Data (x ∷ p) ∷ []))) ∙ sym (extended_alone (xs ++ ys) (x ∷ p))
 
 -- ---- blocks behind others
 

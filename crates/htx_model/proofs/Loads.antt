@@ -1,8 +1,8 @@
 -- The load after data was appended, and how much of it fits.
-use Rattle.std.proofs.Common.{◌≡◌, ℕ, zero, suc, ◌+◌, ◌-◌, ◌*◌, ◌<◌, ◌≤◌, inl, inr, List, [], ◌∷◌, ◌++◌, length, take, drop, set, sum_by, ◌∙◌, arith, length-append, min}
-use Rattle.std.specs.Prelude.{insert, remove}
+use Rattle.std.proofs.Common.{◌≡◌, ℕ, zero, suc, ◌+◌, ◌-◌, ◌*◌, ◌<◌, ◌≤◌, inl, inr, List, [], ◌∷◌, length, take, drop, set, sum_by, ◌∙◌, arith, length-append, min}
+use Rattle.std.specs.Prelude.{remove}
 use Rattle.std.proofs.lemmas.List.{length-take-le}
-use Rattle.std.proofs.lemmas.List.Sums.{sum_by-cons, sum_by-append, sum_by-insert, sum_by-remove, sum_by-set, sum_by-take-drop}
+use Rattle.std.proofs.lemmas.List.Sums.{sum_by-cons, sum_by-remove, sum_by-set, sum_by-take-drop}
 use Rattle.std.proofs.lemmas.Bool.{cases_lt, le-leb, lt-leb}
 use Rattle.htx_model.specs.Block.{Block, RequestLine, ResponseLine, Header, EndHeaders, Data, Trailer, EndTrailers, weight, payload_len}
 use Rattle.htx_model.specs.Blocks.{load, block_at, append_data, extend_last, followed, data_overhead, taken, taken_of}
@@ -46,12 +46,6 @@ taken_is bs size p = taken_of_is (length p) bs size p (omega arith)
 pub load-payloads : (bs : List Block) → load bs ≡ sum_by payload_len bs + 8 * length bs
 load-payloads [] = omega arith
 load-payloads (b ∷ bs) = omega (arith, sum_by-cons weight b bs, sum_by-cons payload_len b bs, load-payloads bs)
-
-pub load-append : (bs cs : List Block) → load (bs ++ cs) ≡ load bs + load cs
-load-append bs cs = sum_by-append weight bs cs
-
-pub load-insert : (bs : List Block) (at : ℕ) (b : Block) → load (insert bs at b) ≡ load bs + weight b
-load-insert bs at b = sum_by-insert weight bs at b
 
 pub load-remove : (bs : List Block) (at : ℕ) → at < length bs → load (remove bs at) + weight (block_at bs at) ≡ load bs
 load-remove bs at h = sum_by-remove weight bs at EndHeaders h

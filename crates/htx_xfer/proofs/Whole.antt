@@ -1,9 +1,9 @@
 -- Blocks that an empty array takes as they are, all at once.
 use Rattle.std.proofs.Common.{◌≡◌, ◌≢◌, ℕ, ◌+◌, ◌-◌, ◌*◌, ◌<◌, ◌≤◌, List, [], ◌∷◌, ◌++◌, length, refl, ap, sym, ◌∙◌, subst, arith}
-use Rattle.std.proofs.lemmas.List.{take_all, drop_all, append-nil}
+use Rattle.std.proofs.lemmas.List.{take_all, drop_all}
 use Rattle.std.proofs.lemmas.List.Sums.{sum_by-cons}
 use Rattle.htx_model.specs.Block.{Block, RequestLine, ResponseLine, Header, EndHeaders, Data, Trailer, EndTrailers, kind_of, payload_len, weight}
-use Rattle.htx_model.specs.Blocks.{load, append_data, extend_last, data_overhead, flow}
+use Rattle.htx_model.specs.Blocks.{load, append_data, extend_last, data_overhead}
 use Rattle.htx_model.specs.declared.Kind.TheVariants as kinds
 use Rattle.htx_model.specs.Flow.{put_behind, added}
 use Rattle.htx_model.proofs.PublicLaws.{added-append}
@@ -76,7 +76,3 @@ all_move bs size limit to moved empty apart bytes within =
       within = within;
       most = subst (Stays size (limit - moved) bs) (sym empty) tt;
     }
-
--- and leave the flow as it was
-pub all_flow : (bs to : List Block) → to ≡ [] → flow (bs ++ to) ≡ flow (to ++ bs)
-all_flow bs to empty = ap (λ (t : List Block). flow (bs ++ t)) empty ∙ ap flow (append-nil bs) ∙ ap (λ (t : List Block). flow (t ++ bs)) (sym empty)

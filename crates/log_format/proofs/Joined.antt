@@ -5,8 +5,6 @@ use Rattle.std.specs.List.{flat_map, list_any}
 use Rattle.std.proofs.lemmas.Bool.{cases_Bool, false≢true}
 use Rattle.std.proofs.lemmas.Option.{slice_get_within, get_or_from_slice_get}
 use Rattle.std.proofs.lemmas.List.Folds.{list_any_at}
-use Rattle.std.proofs.lemmas.List.{append-nil}
-use Rattle.std.proofs.Math.ListN.{drop_of_length-le}
 use Rattle.log_format.specs.declared.fmt.Part.{Part}
 use Rattle.log_format.specs.Format.{part_holds_pattern}
 
@@ -29,12 +27,6 @@ pub part_fits : (f : Part → List ℕ) (parts : List Part) (at : ℕ) (part : P
 part_fits f parts at part done piece whole limit now is text joined same fits =
     let all = next_part f parts at part done piece (done ++ piece) whole is text refl joined in
     omega (arith, ap length all, length-append (done ++ piece) (flat_map f (drop (at + 1) parts)), length-append done piece)
-
--- all parts are joined
-pub all_joined : (f : Part → List ℕ) (parts : List Part) (at : ℕ) (done whole : List ℕ) → length parts ≤ at → done ++ flat_map f (drop at parts) ≡ whole → done ≡ whole
-all_joined f parts at done whole all joined =
-    let none = ap (λ (ps : List Part). done ++ flat_map f ps) (drop_of_length-le parts all) in
-    sym (append-nil done) ∙ (sym none ∙ joined)
 
 -- where none of them holds a pattern, this one doesn't
 pub not_this_part : (parts : List Part) (at : ℕ) (part : Part) → slice_get parts at ≡ Some part → list_any part_holds_pattern parts ≡ false → part_holds_pattern part ≡ false

@@ -1,7 +1,7 @@
 -- What a step that stops says of the whole command.
-use Rattle.std.proofs.Common.{◌≡◌, ℕ, ◌≤◌, List, inl, inr, sym, subst, arith}
+use Rattle.std.proofs.Common.{◌≡◌, ℕ, List, sym, subst}
 use Rattle.std.specs.Prelude.{Option, Result, Ok, Err, IfErr, IsErrAnd}
-use Rattle.px_link.specs.Told.{NamedBytes, Reads, Rose}
+use Rattle.px_link.specs.Told.{NamedBytes, Reads}
 use Rattle.http_rules.specs.declared.config.Config.{Config}
 use Rattle.cfg_parse.specs.Whole.{Loads}
 use Rattle.cfg_parse.specs.declared.fault.CfgFault.{CfgFault}
@@ -11,21 +11,11 @@ use Rattle.rec_format.specs.declared.record.RecFault.TheVariants as records
 use Rattle.rec_format.specs.Parts.{Refuses}
 use Rattle.rec_format.specs.Recorded.{record_of}
 use Rattle.px_command.specs.Command.{NamesConfig}
-use Rattle.proxy_call.specs.Answers.{DecidesBy, DecidesRecord, IsAccepted}
+use Rattle.proxy_call.specs.Answers.{DecidesRecord, IsAccepted}
 use Rattle.proxy_call.specs.Files.{IfTold, Configured}
-use Rattle.proxy_call.specs.Stops.{Input, Answers, ReadStops, StopsBy, stop_of_configuration, stop_of_record}
+use Rattle.proxy_call.specs.Stops.{Input, Answers, StopsBy, stop_of_configuration, stop_of_record}
 use Rattle.proxy_call.specs.declared.stop.Stop.{Stop}
-use Rattle.proxy_call.specs.declared.stop.Stop.TheVariants as stops
 use Rattle.proxy_call.proofs.Told.{recorded, refused, weaker}
-
--- a count that rose before or after rose in all
-pub rose_before : (a b d : ℕ) → Rose a b → b ≤ d → Rose a d
-rose_before a b d (inl up) grows = inl (omega arith)
-rose_before a b d (inr full) grows = inr (omega arith)
-
-pub rose_behind : (a b d : ℕ) → a ≤ b → Rose b d → Rose a d
-rose_behind a b d grows (inl up) = inl (omega arith)
-rose_behind a b d grows (inr full) = inr full
 
 -- ---- what a `?` passes on
 
@@ -38,18 +28,6 @@ answers_err input (Ok x) s is p = absurd is
 answers_err input (Err y) s is p = subst (StopsBy input) (sym is) p
 
 -- ---- why a step stops
-
--- a read that stops, of a file whose read decides
-pub read_stops : (input : Input) (name : List ℕ) (from : ℕ) (s : Stop) → (Rose from input.reads_now → Rose input.reads input.reads_now) → DecidesBy input.words input.files name
-    → ReadStops name input.last from input.reads_now s → StopsBy input s
-read_stops input name from (stops.Usage text) rose decides given = absurd given
-read_stops input name from (stops.Refused line kind) rose decides given = absurd given
-read_stops input name from (stops.Record place kind) rose decides given = absurd given
-read_stops input name from (stops.File failed) rose decides given =
-    (rose given.0, given.1, subst (DecidesBy input.words input.files) (sym given.2) decides)
-read_stops input name from stops.Output rose decides given = absurd given
-read_stops input name from stops.Net rose decides given = absurd given
-read_stops input name from stops.OutOfMemory rose decides given = tt
 
 -- a configuration that is refused
 pub load_stops : (input : Input) (name bytes : List ℕ) (fault : CfgFault) → NamesConfig input.words name → Reads input.files name 1048577 bytes

@@ -1,5 +1,5 @@
 -- What was read in front of the first piece of what is left.
-use Rattle.std.proofs.Common.{◌≡◌, ℕ, List, [], ◌∷◌, ◌++◌, sym, ap, refl, append_assoc}
+use Rattle.std.proofs.Common.{◌≡◌, ℕ, List, [], ◌∷◌, ◌++◌, refl}
 use Rattle.std.proofs.Common.{Bool, true, false, cond}
 use Rattle.std.specs.List.{onto_first}
 use Rattle.px_bytes.specs.declared.pieces.Place.{Place}
@@ -10,10 +10,6 @@ use Rattle.px_bytes.specs.Values.{pieces_from, separates, next_place}
 abbrev pub in_front : List ℕ → List (List ℕ) → List (List ℕ)
 in_front front [] = front ∷ []
 in_front front (piece ∷ pieces) = (front ++ piece) ∷ pieces
-
-pub in_front-onto_first : (front : List ℕ) (b : ℕ) (pieces : List (List ℕ)) → in_front front (onto_first b pieces) ≡ in_front (front ++ b ∷ []) pieces
-in_front-onto_first front b [] = refl
-in_front-onto_first front b (piece ∷ pieces) = ap (λ p. p ∷ pieces) (sym (append_assoc front (b ∷ []) piece))
 
 -- nothing in front changes no pieces, since there is always one
 pub in_front-nil : (place : Place) (bytes : List ℕ) → pieces_from place bytes ≡ in_front [] (pieces_from place bytes)

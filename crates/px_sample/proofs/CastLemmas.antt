@@ -1,9 +1,9 @@
 -- Digits, read from the left.
-use Rattle.std.proofs.Common.{◌≡◌, ℕ, zero, suc, ◌+◌, ◌-◌, ◌*◌, ◌^◌, ◌<◌, ◌≤◌, Bool, true, false, ◌&&◌, ltb, leb, ◌/◌, List, [], ◌∷◌, length, get_or, take, refl, arith, add-one, Some, None}
+use Rattle.std.proofs.Common.{◌≡◌, ℕ, zero, suc, ◌+◌, ◌-◌, ◌*◌, ◌^◌, ◌<◌, Bool, true, false, ◌&&◌, ltb, leb, ◌/◌, List, [], ◌∷◌, length, get_or, take, refl, arith, add-one, None}
 use Rattle.std.specs.Str.{all_ascii_digits}
 use Rattle.std.specs.Str.Parse.{digits_value}
 use Rattle.std.specs.Char.{is_ascii_digit, digit_value}
-use Rattle.std.proofs.lemmas.Bool.{and_parts, and_from, and_left, and_right, cond-true, lt-leb, le-leb, lt-ltb}
+use Rattle.std.proofs.lemmas.Bool.{and_parts, and_from, and_left, and_right, lt-leb}
 use Rattle.std.proofs.lemmas.Int.Digits.{digits_value_more}
 use Rattle.std.proofs.lemmas.Str.Parse.{digits_value-take-le}
 use Rattle.std.proofs.lemmas.Bool.Decides.{nat_tests}
@@ -58,14 +58,3 @@ magnitude_passed ds i inside large =
     let more = digits_value_more 10 ds i inside in
     let within = digits_value-take-le 10 ds (i + 1) (omega arith) in
     magnitude_large ds (omega arith)
-
--- no digit at all
-pub magnitude_nil : (ds : List ℕ) → length ds ≡ 0 → magnitude_of ds ≡ None
-magnitude_nil [] h = refl
-magnitude_nil (d ∷ ds) h = absurd (omega arith)
-
--- digits within the limit
-pub magnitude_small : (ds : List ℕ) → 0 < length ds → all_ascii_digits ds ≡ true → digits_value 10 ds ≤ 2 ^ 63 → magnitude_of ds ≡ Some (digits_value 10 ds)
-magnitude_small ds some digits small =
-    cond-true (test ds) (Some (digits_value 10 ds)) None
-    (and_from (ltb 0 (length ds) && all_ascii_digits ds) (leb (digits_value 10 ds) (2 ^ 63)) (and_from (ltb 0 (length ds)) (all_ascii_digits ds) (lt-ltb 0 (length ds) some) digits) (le-leb (digits_value 10 ds) (2 ^ 63) small))

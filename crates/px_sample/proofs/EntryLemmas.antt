@@ -132,9 +132,6 @@ without-found name (e ∷ es) (suc i) d h inside named =
 
 -- ---- how many there are
 
-size_least : (e : Entry) → length e.0 ≤ weight e
-size_least e = omega arith
-
 named_or_empty : (name : List ℕ) → (name ≡ []) ⊎ (1 ≤ length name)
 named_or_empty [] = inl refl
 named_or_empty (b ∷ name) = inr (omega arith)

@@ -1,14 +1,14 @@
 -- Connections one after another, and what they leave of a net.
-use Rattle.std.proofs.Common.{◌≡◌, ℕ, ◌+◌, inl, List, [], ◌∷◌, ◌++◌, length, Option, Some, Result, sym, ap, subst, ◌∙◌, refl, append_assoc, arith}
+use Rattle.std.proofs.Common.{◌≡◌, ℕ, List, [], ◌∷◌, ◌++◌, length, Option, Some, Result, sym, ap, subst, ◌∙◌, refl, append_assoc, arith}
 use Rattle.std.proofs.lemmas.List.{append-nil}
 use Rattle.std.specs.List.{flat_map}
 use Rattle.htx_drive.specs.declared.Ran.{Ran}
 use Rattle.htx_drive.specs.declared.SessionFault.{SessionFault}
 use Rattle.px_link.specs.Link.{Seen}
-use Rattle.px_link.specs.Net.{Place, Coming, Kept, NetSeen, Accepted, IsNext, IsNew, Keeps, KeepsMore}
+use Rattle.px_link.specs.Net.{Place, Coming, Kept, NetSeen, IsNext, IsNew, KeepsMore}
 use Rattle.serve_run.specs.declared.outcome.Outcome.{Outcome}
 use Rattle.serve_run.specs.Lines.{answer_of}
-use Rattle.serve_run.specs.Visits.{Leaves, Visits}
+use Rattle.serve_run.specs.Visits.{Leaves}
 use Rattle.serve_run.specs.Served.{Connection, ServedOne, Serves}
 use Rattle.serve_run.specs.Told.{Visit, Visited, kept_of}
 use Rattle.serve_run.proofs.Addresses.{dialled_then}
@@ -20,9 +20,6 @@ serves_more One first (x ∷ outcomes) last now outcome h one = (h.0, h.1, serve
 
 -- ---- what stays
 
-pub leaves_none : (to : Place) (net : NetSeen) → Leaves to net net
-leaves_none to net = record { lent = refl; plain = refl; bound = refl; dialled = inl refl }
-
 pub leaves_then : (to : Place) (first old new : NetSeen) → Leaves to first old → Leaves to old new → Leaves to first new
 leaves_then to first old new h k =
     record {
@@ -31,22 +28,6 @@ leaves_then to first old new h k =
       bound = k.bound ∙ h.bound;
       dialled = dialled_then first.dialled old.dialled new.dialled to h.dialled k.dialled;
     }
-
--- a link was accepted, visited and kept
-pub kept_leaves : (to : Place) (before lent given after : NetSeen) (link : Seen) (unwritten : Type 0) (wrote : List ℕ → Type 0) (closed : Seen)
-    → Accepted before lent link unwritten → Visits to lent given → Keeps wrote given after closed → Leaves to before after
-kept_leaves to before lent given after link unwritten wrote closed a v k =
-    record {
-      lent = let e : after.lent + 1 ≡ before.lent + 1 = k.lent ∙ v.lent ∙ a.lent in omega (e, arith);
-      plain = k.plain ∙ v.plain ∙ a.behind.plain;
-      bound = k.bound ∙ v.bound ∙ a.behind.bound;
-      dialled = dialled_then before.dialled lent.dialled after.dialled to (inl a.behind.dialled) (dialled_then lent.dialled given.dialled after.dialled to v.dialled (inl k.dialled));
-    }
-
-pub connection_leaves : {L N : Type 0} (seen : L → Seen) (wrote : L → List ℕ → Type 0) (net_seen : N → NetSeen) (does : L → L → N → N → Result Ran SessionFault → Type 0) (to : Place) (before after : N) (result : Result Ran SessionFault)
-    → Connection seen wrote net_seen does to before after result → Leaves to (net_seen before) (net_seen after)
-connection_leaves seen wrote net_seen does to before after result c =
-    kept_leaves to (net_seen before) (net_seen c.lent_net) (net_seen c.given_net) (net_seen after) (seen c.first) (wrote c.first []) (wrote c.client) (seen c.client) c.accepted c.visits c.kept
 
 -- ---- what a net tells
 

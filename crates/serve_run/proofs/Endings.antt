@@ -12,7 +12,7 @@ use Rattle.serve_run.specs.Lines.{lines_from, net_line}
 use Rattle.serve_run.specs.Served.{ServedOne, Serves, ServedAll, NetFails, Breaks}
 use Rattle.serve_run.specs.Told.{Visited}
 use Rattle.serve_run.proofs.Chain.{visited}
-use Rattle.serve_run.proofs.Outputs.{gains_none, gains_then, gains_as, front_then, front_as}
+use Rattle.serve_run.proofs.Outputs.{gains_none, gains_as, front_then, front_as}
 
 pub rose_from : (a b c : ℕ) → b ≡ a → Rose b c → Rose a c
 rose_from a b c e h = let P : ℕ → Type 0 = λ n. Rose n c in subst P e h
@@ -22,16 +22,6 @@ rose_from a b c e h = let P : ℕ → Type 0 = λ n. Rose n c in subst P e h
 seam : (outcomes : List Outcome) → (lines_from 1 outcomes ++ []) ++ net_line ≡ lines_from 1 outcomes ++ net_line
 seam outcomes = ap (λ l. l ++ net_line) (append-nil (lines_from 1 outcomes))
 
-pub net_said : {N : Type 0} (net_seen : N → NetSeen) (One : N → N → Outcome → Type 0) (at : Place) (count : ℕ) (first now : N) (old mid new : Option (List ℕ))
-    → NetFails net_seen One at count [] first now old mid → Gains mid new net_line → NetFails net_seen One at count net_line first now old new
-net_said net_seen One at count first now old mid new h g =
-    record {
-      outcomes = h.outcomes;
-      fails = h.fails;
-      rose = h.rose;
-      written = gains_as old new ((lines_from 1 h.outcomes ++ []) ++ net_line) (lines_from 1 h.outcomes ++ net_line) (seam h.outcomes) (gains_then old mid new (lines_from 1 h.outcomes ++ []) net_line h.written g);
-    }
-
 pub net_front : {N : Type 0} (net_seen : N → NetSeen) (One : N → N → Outcome → Type 0) (at : Place) (count : ℕ) (first now : N) (old mid new : Option (List ℕ))
     → NetFails net_seen One at count [] first now old mid → GainsFront mid new net_line → Breaks net_seen One at count first now old new
 net_front net_seen One at count first now old mid new h g =
@@ -40,17 +30,6 @@ net_front net_seen One at count first now old mid new h g =
       fails = h.fails;
       rose = h.rose;
       written = front_as old new ((lines_from 1 h.outcomes ++ []) ++ net_line) (lines_from 1 h.outcomes ++ net_line) (seam h.outcomes) (front_then old mid new (lines_from 1 h.outcomes ++ []) net_line h.written g);
-    }))
-
--- where only the lines of connections were written yet
-pub net_breaks : {N : Type 0} (net_seen : N → NetSeen) (One : N → N → Outcome → Type 0) (at : Place) (count : ℕ) (first now : N) (old new : Option (List ℕ))
-    → NetFails net_seen One at count [] first now old new → Breaks net_seen One at count first now old new
-net_breaks net_seen One at count first now old new h =
-    inr (inl (record {
-      outcomes = h.outcomes;
-      fails = h.fails;
-      rose = h.rose;
-      written = (lines_from 1 h.outcomes ++ [], net_line, sym (seam h.outcomes), h.written);
     }))
 
 -- a connection, or more, and then an accept that failed

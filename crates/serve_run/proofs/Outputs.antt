@@ -1,5 +1,5 @@
 -- Pieces that are written one after another.
-use Rattle.std.proofs.Common.{◌≡◌, ℕ, ◌+◌, List, [], ◌∷◌, ◌++◌, length, Option, Some, None, sym, ap, subst, ◌∙◌, refl, append_assoc, arith}
+use Rattle.std.proofs.Common.{◌≡◌, ℕ, ◌+◌, List, [], ◌∷◌, ◌++◌, length, Option, Some, None, sym, ap, subst, ◌∙◌, append_assoc, arith}
 use Rattle.std.proofs.lemmas.List.{append-nil}
 use Rattle.px_link.specs.Told.{Gains, GainsFront}
 use Rattle.serve_run.specs.declared.outcome.Outcome.{Outcome}
@@ -8,9 +8,6 @@ use Rattle.serve_run.specs.Lines.{line_of, lines_from}
 pub gains_none : (old : Option (List ℕ)) → Gains old old []
 gains_none None = tt
 gains_none (Some bytes) = ap (λ b. Some b) (sym (append-nil bytes))
-
-pub gains_same : (old new : Option (List ℕ)) → new ≡ old → Gains old new []
-gains_same old new e = let P : Option (List ℕ) → Type 0 = λ o. Gains old o [] in subst P (sym e) (gains_none old)
 
 pub gains_then : (old mid new : Option (List ℕ)) (xs ys : List ℕ) → Gains old mid xs → Gains mid new ys → Gains old new (xs ++ ys)
 gains_then None mid new xs ys g h = tt
@@ -23,9 +20,6 @@ gains_as old new xs ys e g = let P : List ℕ → Type 0 = λ b. Gains old new b
 
 pub front_whole : (old new : Option (List ℕ)) (xs : List ℕ) → Gains old new xs → GainsFront old new xs
 front_whole old new xs g = (xs, [], sym (append-nil xs), g)
-
-pub front_same : (old new : Option (List ℕ)) (xs : List ℕ) → new ≡ old → GainsFront old new xs
-front_same old new xs e = ([], xs, refl, gains_same old new e)
 
 pub front_then : (old mid new : Option (List ℕ)) (xs ys : List ℕ) → Gains old mid xs → GainsFront mid new ys → GainsFront old new (xs ++ ys)
 front_then old mid new xs ys g h =

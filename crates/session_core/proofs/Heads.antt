@@ -1,5 +1,5 @@
 -- What a lane's head and body make of the request direction.
-use Rattle.std.proofs.Common.{◌≡◌, ℕ, List, Bool, true, false, sym, subst, ◌∙◌, refl}
+use Rattle.std.proofs.Common.{◌≡◌, ℕ, List, true, false, sym, subst, ◌∙◌, refl}
 use Rattle.http_model.specs.Reading.{Received}
 use Rattle.http_model.specs.Reading as reading
 use Rattle.session_model.specs.Stream.{Stream}
@@ -7,12 +7,9 @@ use Rattle.session_model.specs.Env.{Env, Pass, request_env}
 use Rattle.session_model.specs.Meaning.{Meaning, declares_too_much}
 use Rattle.session_model.specs.Asking.{Asks, Sends, asked_by, request_fits}
 use Rattle.session_core.specs.History.{Coming, Continues}
-use Rattle.session_core.specs.Sided.{Asking, BodyGoes, RequestGoes, IfSettled}
 use Rattle.session_core.specs.Lanes.{HeadCame}
-use Rattle.session_core.specs.declared.Source.{Source}
 use Rattle.session_core.specs.Splits.{Splits}
 use Rattle.session_core.specs.HeadAsks.{HeadAsks}
-use Rattle.session_core.proofs.Events.{if_settled}
 use Rattle.session_core.proofs.Consequences.{split_past}
 
 -- a head that came is asked by, however the stream goes on
@@ -37,15 +34,3 @@ sends_head M vars received env stream rest rules short fits a =
   where
     sent : Sends (record { received = received; head = env.head; vars = env.vars; rest = rest }) ≡ asked_by M received rest (M.request_rules (request_env vars received.head))
     sent = rw rules (rw short (rw fits refl))
-
--- and a body makes it the request
-pub request_goes : (M : Meaning) (vars : M.Vars) (env : Env M.Vars) (came left : Coming) (received : Received) (used put : List ℕ) (so : Source) (all dropped : Bool)
-    → HeadCame M came received used left → M.request_rules (request_env vars received.head) ≡ Pass env
-    → declares_too_much M.request_filters received.declared ≡ false → request_fits M received env.head ≡ true
-    → ((rest : Stream) → Continues left rest → IfSettled so (BodyGoes M (record { received = received; head = env.head; vars = env.vars }) so all dropped put rest))
-    → (stream : Stream) → Continues came stream → IfSettled so (RequestGoes M so all dropped vars (record { received = received; head = env.head; vars = env.vars }) put stream)
-request_goes M vars env came left received used put so all dropped h rules short fits body stream c =
-    let a : HeadAsks M vars left received stream = head_asks M vars came left received used h stream c in
-    let asking : Asking M.Vars = record { received = received; head = env.head; vars = env.vars } in
-    if_settled so (λ (b : BodyGoes M asking so all dropped put a.rest).
-    record { rest = a.rest; asks = sends_head M vars received env stream a.rest rules short fits a.asks; goes = b }) (body a.rest a.continues)

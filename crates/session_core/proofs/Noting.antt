@@ -6,11 +6,6 @@ use Rattle.session_core.specs.Sided.{Sided, RequestSeen, AnswerSeen}
 use Rattle.session_core.specs.Leads.{Stands, Leads, Keeps, IsNote, Meets}
 use Rattle.session_core.specs.declared.machine.At.{At}
 
--- one part behind another
-pub keeps_on : {C : Type 0} (meaning : C → Meaning) {D : Type 0} (request : D → RequestSeen) (answer : D → AnswerSeen) (stands : (cfg : C) → D → Sided (meaning cfg) → Type 0) (a b c : D) (s t u : At)
-    → Keeps meaning request answer stands a s b t → Keeps meaning request answer stands b t c u → Keeps meaning request answer stands a s c u
-keeps_on meaning request answer stands a b c s t u f g cfg past h = g cfg (record past { note = t.cut }) (f cfg past h)
-
 pub meets_on : (old mid new : Option Bool) (begun : Bool) → Meets old mid begun → new ≡ mid → Meets old new begun
 meets_on old mid new begun (inl e) f = inl (f ∙ e)
 meets_on old mid new begun (inr e) f = inr (e.0, f ∙ e.1)

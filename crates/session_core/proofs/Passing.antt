@@ -5,7 +5,7 @@ use Rattle.std.proofs.lemmas.List.{map-append}
 use Rattle.http_model.specs.declared.Ending.{Ending}
 use Rattle.http_model.specs.Head.{Head}
 use Rattle.http_model.specs.Finish.{finish_interim}
-use Rattle.http_model.specs.Reading.{Received, HeadReading, BodyReading}
+use Rattle.http_model.specs.Reading.{Received, HeadReading}
 use Rattle.http_model.specs.Reading as reading
 use Rattle.http_model.specs.Spelling.{head_text}
 use Rattle.session_model.specs.Stream.{Stream}
@@ -16,13 +16,12 @@ use Rattle.session_model.specs.Asking.{Asker}
 use Rattle.session_model.specs.Amending.{refusal_sent, reply_sent, plain_refusal}
 use Rattle.session_model.specs.Answering.{Final, Refuses, Replies, Answers, Plain, Answered, AnswersFrom, AnswersReading, AnswersBy, AnswersWith, AnswersAmended, BeginsWithInterim, sent_interim, answer_by, response_declares_too_much, response_fits}
 use Rattle.session_model.specs.Session.{SpellsFinal, interim_text}
-use Rattle.session_core.specs.History.{Coming, Continues, IsPrefix, prepend, prepended}
+use Rattle.session_core.specs.History.{Coming, Continues, IsPrefix, prepend}
 use Rattle.session_core.specs.Sided.{Asking, asker_in, AnswerGoes, Interims, Perhaps, IfTold}
 use Rattle.session_core.specs.Lanes.{HeadsPassed, LastSo, AnswerBody, IsTotalAnswers}
 use Rattle.session_core.specs.declared.Told.{Told}
 use Rattle.session_core.specs.declared.Told.TheVariants as told
 use Rattle.session_core.specs.Splits.{Splits}
-use Rattle.session_core.proofs.Streams.{continues_prepend}
 use Rattle.session_core.proofs.Consequences.{split_past}
 use Rattle.session_core.proofs.Exists.{spelling_exists, sure, further, over_perhaps}
 
@@ -110,27 +109,6 @@ interim_on asker heads more = by asker.is_http_11
     by : (eleven : Bool) → interim_text (if eleven then map finish_interim (heads ++ more) else []) ≡ interim_text (if eleven then map finish_interim heads else []) ++ interim_text (if eleven then map finish_interim more else [])
     by true = ap (λ hs. interim_text hs) (map-append finish_interim heads more) ∙ flat_map-append head_text (map finish_interim heads) (map finish_interim more)
     by false = refl
-
--- the first head
-pub none_passed : (M : Meaning) (asker : Asker) (server : Coming) → HeadsPassed M asker server [] [] server
-none_passed M asker server = record { server_is = refl; begins = λ rest c. refl }
-
--- one more interim head
-pub one_passed : (M : Meaning) (asker : Asker) (server left next : Coming) (heads : List Head) (received : Received) (used more : List ℕ)
-    → HeadsPassed M asker server heads used left → left ≡ prepended more next → is_interim received.head ≡ true
-    → ((rest : Stream) → Continues next rest → M.reads_response asker.head_asked (more ++ rest.bytes) (reading.Begins received rest.bytes))
-    → HeadsPassed M asker server (heads ++ received.head ∷ []) (used ++ more) next
-one_passed M asker server left next heads received used more h is interim reads =
-    record {
-      server_is = h.server_is ∙ ap (λ c. prepended used c) is ∙ ap (λ (xs : List ℕ). let c : Coming = record { bytes = xs; ending = next.ending } in c) (sym (append_assoc used more next.bytes));
-      begins = λ rest c.
-          let P : List ℕ → Type 0 = λ bytes. BeginsWithInterim M asker (heads ++ received.head ∷ []) bytes (λ bytes. bytes ≡ rest.bytes) in
-          let L : Coming → Type 0 = λ l. Continues l (prepend more rest) in
-          subst P (sym (append_assoc used more rest.bytes))
-          (begins_on M asker heads (received.head ∷ []) (used ++ (more ++ rest.bytes)) (more ++ rest.bytes) (λ bytes. bytes ≡ rest.bytes)
-          (h.begins (prepend more rest) (subst L (sym is) (continues_prepend more next rest c)))
-          (received, rest.bytes, reads rest c, interim, refl, refl));
-    }
 
 -- ---- the answer
 

@@ -1,7 +1,7 @@
 -- Once all that can be done is done, some want stands.
 use Rattle.std.proofs.Common.{◌≡◌, ◌≢◌, ℕ, ◌<◌, nat_lt, List, [], ◌∷◌, Bool, true, false, not, ◌&&◌, ◌||◌, Option, Some, None, is_some, sym, ap, subst, ◌∙◌, refl, ◌⊎◌, inl, inr, arith, if◌then◌else◌}
 use Rattle.session_core.specs.Sided.{RequestSeen, AnswerSeen}
-use Rattle.session_core.specs.Leads.{AnswerWaits, KeepsRequest}
+use Rattle.session_core.specs.Leads.{AnswerWaits}
 use Rattle.session_core.specs.History.{close_by}
 use Rattle.session_core.specs.Waits.{is_empty, is_serving, is_opening, takes_client, is_turned, has_ended, SayWaits, wants_of, wants_any, RequestWaits, AnswerWaitsAt, Stepped, Answered, Ready, IsSaying, refused_phase, Settled}
 use Rattle.session_core.specs.declared.Source.TheVariants as source
@@ -140,9 +140,6 @@ waits_unturned cut a e w = (λ _. w.0, λ unanswered. by (w.1 unanswered))
 -- what is said in the answer's place
 pub waits_said : (cut : Option Bool) (a : AnswerSeen) → cut ≡ Some false → SayWaits a → AnswerWaitsAt cut a
 waits_said cut a e w = (λ t. let no : true ≡ false = ap is_turned (sym e) ∙ t in absurd (grind (arith, no)), λ un. inl (w un))
-
-pub waits_kept : (q r s : RequestSeen) → KeepsRequest q r → s ≡ r → RequestWaits s
-waits_kept q r s k e = let P : RequestSeen → Type 0 = λ x. RequestWaits x in subst P (sym e) (k.rests, k.waits)
 
 pub ready_first : (ph was now : Phase) (cut : Option Bool) (q r s : RequestSeen) (a : AnswerSeen)
     → Stepped ph q → was ≡ refused_phase ph → r ≡ q → now ≡ was → s ≡ r → Answered now cut a → Ready now cut s a

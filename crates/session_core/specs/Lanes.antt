@@ -1,11 +1,11 @@
 -- What a lane tells of the stream that it has taken, and what that makes of a direction.
-use Rattle.std.specs.Prelude.{◌≡◌, ℕ, ◌<◌, List, ◌∷◌, ◌++◌, Bool, true, false, length}
+use Rattle.std.specs.Prelude.{◌≡◌, ℕ, ◌<◌, List, ◌∷◌, ◌++◌, Bool, true, length}
 use Rattle.http_model.specs.declared.Ending.{Ending}
 use Rattle.http_model.specs.declared.Framing.{Framing}
 use Rattle.http_model.specs.Head.{Head}
 use Rattle.http_model.specs.Reading.{Received, HeadReading, Begins, BodyReading}
 use Rattle.session_model.specs.Stream.{Stream}
-use Rattle.session_model.specs.Meaning.{Meaning, is_interim}
+use Rattle.session_model.specs.Meaning.{Meaning}
 use Rattle.session_model.specs.Asking.{Asker}
 use Rattle.session_model.specs.Answering.{Final, AnswersReading, answer_by, BeginsWithInterim}
 use Rattle.session_model.specs.Session.{SpellsFinal}
@@ -22,12 +22,6 @@ pub record HeadCame (M : Meaning) (came : Coming) (received : Received) (used : 
 pub record HeadsPassed (M : Meaning) (asker : Asker) (server : Coming) (heads : List Head) (used : List ℕ) (left : Coming) : Type 0 where
   pub server_is : server ≡ prepended used left
   pub begins : (rest : Stream) → Continues left rest → BeginsWithInterim M asker heads (used ++ rest.bytes) (λ bytes. bytes ≡ rest.bytes)
-
--- what follows the interim heads begins with this final head, however it goes on
-pub record FinalCame (M : Meaning) (asker : Asker) (came : Coming) (received : Received) (used : List ℕ) (left : Coming) : Type 0 where
-  pub came_is : came ≡ prepended used left
-  pub is_final : is_interim received.head ≡ false
-  pub reads : (rest : Stream) → Continues left rest → M.reads_response asker.head_asked (used ++ rest.bytes) (Begins received rest.bytes)
 
 -- What follows the interim heads answers this last, and what was put out is a front of the interim heads and of its text, or all
 -- of it: a refusal or a reply of the rules, a response, or the plain refusal.

@@ -88,12 +88,6 @@ impl<S: Works> Core<S> {
         self.at.exchanges
     }
 
-    pub fn is_lost(&self) -> bool
-        ensures { result ≡ self.now.lost }
-    {
-        self.lost
-    }
-
     /// The bytes that wait for the client, to be read alone.
     pub fn to_client(&mut self) -> &mut [u8]
         requires placed { IsPlaced (S.placed self.old.sides) (S.answer self.old.sides) self.old.at.phase self.old.at.cut }

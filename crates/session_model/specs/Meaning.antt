@@ -32,16 +32,6 @@ pub record HoldsOn (filters : Filters) : Type 0 where
   pub refuses : (front rest : List ℕ) (code : ℕ)
       → (filters.filter_so_far front).refused ≡ Some code → filters.filter (front ++ rest) ≡ filters.filter_so_far front
 
--- no filter at all
-abbrev pub no_filters : Filters
-no_filters =
-    record {
-      filter = λ body. record { output = body; refused = None };
-      filter_so_far = λ front. record { output = front; refused = None };
-      replaces = false;
-      passes_limit = λ n. false;
-    }
-
 -- The meaning that a configuration and the layers below give. Readers are relations between a whole stream and its one
 -- reading; the variables are those that live as long as the session and those of one exchange.
 pub record Meaning : Type 1 where

@@ -15,10 +15,8 @@ use Rattle.cfg_expr.specs.Steps as steps
 use Rattle.cfg_expr.specs.Reading.{built, ◌>>=◌, given_by, Cause, Fails}
 use Rattle.cfg_expr.specs.Faults.{Told, TextReading, cause_of, FailsPlainly, Gives, ReadsText}
 use Rattle.cfg_expr.proofs.Readings.{Leads, leads_on, leads_out, fails_behind}
-use Rattle.cfg_expr.specs.declared.condition.values.Ranges.{Ranges}
 use Rattle.cfg_expr.specs.declared.condition.conditions.Groups.{Groups}
 use Rattle.cfg_expr.specs.declared.condition.written.AclLine.{AclLine}
-use Rattle.cfg_expr.specs.Condition.Values as ranges
 use Rattle.cfg_expr.specs.Condition.Lines.{is_named, test_on, tests_from}
 use Rattle.cfg_expr.specs.Condition.Tests.{patterns_from}
 use Rattle.cfg_expr.specs.Condition.Conditions.{with_group, with_word, groups_from}
@@ -39,10 +37,6 @@ reads_behind view r f x before mid after kept (Err fault) is same reads = fails_
 
 -- ---- numbers
 
-pub ranges_on : (so_far : Ranges) (word : List ℕ) (others : List (List ℕ)) (next : Ranges) → ranges.with_word so_far word ≡ Ok next →
-    ranges.ranges_from so_far (word ∷ others) ≡ ranges.ranges_from next others
-ranges_on so_far word others next is = ap (λ (told : Told Ranges). steps.◌>>=◌ told (λ (after : Ranges). ranges.ranges_from after others)) is
-
 -- a step fails as what leads to it
 pub fails_so : {A B : Type 0} (fault : TextFault) (step : Told A) (more : A → Told B) → FailsPlainly fault step → FailsPlainly fault (steps.◌>>=◌ step more)
 fails_so {A = A} {B = B} (faults.Refused kind) step more h = ap (λ (told : Told A). steps.◌>>=◌ told more) h
@@ -51,16 +45,6 @@ fails_so faults.OutOfMemory step more h = tt
 
 pub fails_as : {A : Type 0} (fault : TextFault) (one other : Told A) → other ≡ one → FailsPlainly fault one → FailsPlainly fault other
 fails_as {A = A} fault one other is h = let P : Told A → Type 0 = λ told. FailsPlainly fault told in subst P (sym is) h
-
-pub ranges_out : (so_far : Ranges) (word : List ℕ) (others : List (List ℕ)) (fault : TextFault) → FailsPlainly fault (ranges.with_word so_far word) →
-    FailsPlainly fault (ranges.ranges_from so_far (word ∷ others))
-ranges_out so_far word others fault h = fails_so fault (ranges.with_word so_far word) (λ (after : Ranges). ranges.ranges_from after others) h
-
-pub ranges_end : (so_far : Ranges) → so_far.lacking ≡ false → ranges.ranges_from so_far [] ≡ Ok so_far.values
-ranges_end so_far enough = ap (λ (b : Bool). steps.◌>>=◌ (ranges.unless_lacking b) (λ (ok : Unit {0}). Ok so_far.values)) enough
-
-pub ranges_lack : (so_far : Ranges) → so_far.lacking ≡ true → ranges.ranges_from so_far [] ≡ Err Acl
-ranges_lack so_far lacks = ap (λ (b : Bool). steps.◌>>=◌ (ranges.unless_lacking b) (λ (ok : Unit {0}). Ok so_far.values)) lacks
 
 -- ---- lines of a name
 

@@ -1,7 +1,7 @@
 -- Some words of a line.
 use Rattle.std.proofs.Common.{◌≡◌, ℕ, ◌+◌, ◌-◌, ◌<◌, ◌≤◌, ◌∙◌, List, ◌∷◌, length, take, drop, Some, sym, ap, arith}
 use Rattle.std.specs.Prelude.{slice_get}
-use Rattle.std.proofs.lemmas.List.{drop_more, drop-drop, drop-take, take-take, get_or-take, length-take-le, length-drop, get_or-drop}
+use Rattle.std.proofs.lemmas.List.{drop_more, drop-take, take-take, get_or-take, length-take-le, length-drop}
 use Rattle.std.proofs.lemmas.Option.{slice_get_within, get_or_from_slice_get, slice_get-get_or}
 
 -- the element at an index, in front of those behind it
@@ -14,23 +14,12 @@ slice_get-take xs end i x inside within is =
     let len = length-take-le end xs within in
     slice_get-get_or (take end xs) i x (omega arith) ∙ ap Some (get_or-take end xs i x inside ∙ get_or_from_slice_get xs i x x is)
 
--- and behind a beginning
-pub slice_get-drop : {X : Type 0} (xs : List X) (at k : ℕ) (x : X) → slice_get xs (at + k) ≡ Some x → slice_get (drop at xs) k ≡ Some x
-slice_get-drop xs at k x is =
-    let inside = slice_get_within xs (at + k) x is in
-    let len = length-drop at xs in
-    slice_get-get_or (drop at xs) k x (omega arith) ∙ ap Some (get_or-drop at xs k x ∙ get_or_from_slice_get xs (at + k) x x is)
-
 -- the words in front of one
 pub window_front : {X : Type 0} (xs : List X) (at k end : ℕ) → at + k ≤ end → drop at (take (at + k) xs) ≡ take k (drop at (take end xs))
 window_front xs at k end inside =
     let m = end - at in
     let whole : at + m ≡ end = omega arith in
     drop-take at k xs ∙ sym (take-take k m (drop at xs) (omega arith)) ∙ ap (take k) (sym (drop-take at m xs) ∙ ap (λ n. drop at (take n xs)) whole)
-
--- and those behind it
-pub window_behind : {X : Type 0} (xs : List X) (at k end : ℕ) → drop (at + k + 1) (take end xs) ≡ drop (k + 1) (drop at (take end xs))
-window_behind xs at k end = let sum : at + (k + 1) ≡ at + k + 1 = omega arith in sym (drop-drop (k + 1) at (take end xs) ∙ ap (λ n. drop n (take end xs)) sum)
 
 -- how many there are
 pub window_len : {X : Type 0} (xs : List X) (at end : ℕ) → end ≤ length xs → length (drop at (take end xs)) ≡ end - at

@@ -1,7 +1,6 @@
 -- A server's final head, and the last that answers.
-use Rattle.std.proofs.Common.{inl, inr, ◌≤◌, ◌≡◌, ℕ, List, [], Bool, true, false, refl, sym, ap, ◌∙◌}
-use Rattle.std.specs.Prelude.{nat_le, IsTrue, ◌↔◌, Option, None, not, ◌&&◌, ◌||◌, if◌then◌else◌}
-use Rattle.std.proofs.lemmas.Bool.{cases_Bool, le-leb, leb-true, false≢true}
+use Rattle.std.proofs.Common.{◌≡◌, ℕ, List, [], Bool, true, false, refl, sym, ap, ◌∙◌}
+use Rattle.std.specs.Prelude.{nat_le, Option, None, not, ◌&&◌, ◌||◌, if◌then◌else◌}
 use Rattle.htx_model.specs.Blocks.{load}
 use Rattle.body_filter.specs.declared.filter_spec.FilterSpec.{FilterSpec}
 use Rattle.htx_arena.specs.Layout.Contents.{Contents}
@@ -188,12 +187,3 @@ pub fits_as : (cfg : Config) (asker : Asker) (received : Received) (head done : 
     → response_fits (meaning_of cfg) asker received head ≡ fits
 fits_as cfg asker received head done size fits is sized e =
     ap (λ (n : ℕ). nat_le (load (head_blocks (finished_response (meaning_of cfg) asker received head))) n) (sym sized) ∙ ap (λ (h : Head). nat_le (load (head_blocks h)) size) (sym is) ∙ e
-
--- whether a list fits, as a call tells that found room for it or not
-pub fits_so : (load size : ℕ) (fits : Bool) → (IsTrue fits ↔ (load ≤ size)) → nat_le load size ≡ fits
-fits_so load size true h = le-leb load size (h.0 refl)
-fits_so load size false h =
-    elim (cases_Bool (nat_le load size)) [
-      | inl within ↦ absurd (false≢true (h.1 (leb-true load size within)))
-      | inr past ↦ past
-    ]

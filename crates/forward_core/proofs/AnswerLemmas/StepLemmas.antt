@@ -24,15 +24,6 @@ use Rattle.forward_core.proofs.AnswerLemmas.Views.{at_place}
 
 -- ---- places
 
--- where a server answers, heads are read or the last goes out
-pub serves_last : (at : Place) → is_serving at ≡ true → at ≢ place.Heads → is_last at ≡ true
-serves_last place.Idle e off = absurd (let both : false ≡ true = e in cc both)
-serves_last place.Heads e off = absurd (off refl)
-serves_last place.Response e off = refl
-serves_last place.Closing e off = refl
-serves_last place.Keeping e off = refl
-serves_last place.Saying e off = absurd (let both : false ≡ true = e in cc both)
-
 serves_heads : (at : Place) → is_serving at ≡ true → is_last at ≡ false → at ≡ place.Heads
 serves_heads place.Idle e off = absurd (let both : false ≡ true = e in cc both)
 serves_heads place.Heads e off = refl

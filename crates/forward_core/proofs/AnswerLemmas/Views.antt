@@ -7,7 +7,7 @@ use Rattle.lane.specs.Answering.{IsSoundAt, stage_of, source_of, phase_of, has_b
 use Rattle.lane.specs.declared.phase.Phase.{Phase}
 use Rattle.lane.specs.declared.phase.Phase.TheVariants as phase
 use Rattle.lane.specs.declared.response_lane.ResponseLane.{ResponseLane}
-use Rattle.forward_core.specs.Answer.Seen.{answered_at, is_done}
+use Rattle.forward_core.specs.Answer.Seen.{answered_at}
 use Rattle.forward_core.specs.Answer.Stands.{FitsAt}
 use Rattle.forward_core.specs.declared.answer.place.Place.{Place}
 use Rattle.forward_core.specs.declared.answer.place.Place.TheVariants as place
@@ -42,16 +42,7 @@ fits_same place.Closing old new heard st begun ph src f = (ap shows_last ph ∙ 
 fits_same place.Keeping old new heard st begun ph src f = (ap shows_last ph ∙ f.0, src ∙ f.1)
 fits_same place.Saying old new heard st begun ph src f = (ap shows_last ph ∙ f.0, src ∙ f.1)
 
--- what is done is answered
-pub done_answered : (at : Place) (side : AnswerSide) → FitsAt at side → stage_of side.lane ≡ stage.Done → answered_at at (stage_of side.lane) ≡ true
-done_answered place.Idle side f done = absurd (let both : stage.Reading ≡ stage.Done = sym f.0 ∙ done in cc both)
-done_answered place.Heads side f done = absurd (f.2 done)
-done_answered place.Response side f done = ap is_done done
-done_answered place.Closing side f done = ap is_done done
-done_answered place.Keeping side f done = ap is_done done
-done_answered place.Saying side f done = ap is_done done
-
--- and what is answered is done
+-- what is answered is done
 pub answered_done : (at : Place) (st : Stage) → answered_at at st ≡ true → st ≡ stage.Done
 answered_done place.Idle st e = absurd (let both : false ≡ true = e in cc both)
 answered_done place.Heads st e = absurd (let both : false ≡ true = e in cc both)

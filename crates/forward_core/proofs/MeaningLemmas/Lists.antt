@@ -16,9 +16,6 @@ pub first_replaces : (filters : List FilterSpec) (at : ℕ) (filter : FilterSpec
     → replaces filters ≡ (is_replace filter || replaces (drop (at + 1) filters))
 first_replaces filters at filter is left = sym left ∙ ap replaces (drop_get filters at filter is) ∙ ap (λ n. is_replace filter || replaces (drop n filters)) (sym (add-one at))
 
-pub none_replaces : (filters : List FilterSpec) (at : ℕ) → length filters ≤ at → replaces (drop at filters) ≡ replaces filters → replaces filters ≡ false
-none_replaces filters at past left = sym left ∙ ap replaces (drop_of_length-le filters past)
-
 pub first_decides : (filters : List FilterSpec) (n at : ℕ) (filter : FilterSpec) → slice_get filters at ≡ Some filter → passes_limit (drop at filters) n ≡ passes_limit filters n
     → passes_limit filters n ≡ or_else (decided_by filter n) (passes_limit (drop (at + 1) filters) n)
 unfolding passes_limit

@@ -6,12 +6,11 @@ use Rattle.http_model.specs.declared.Ending.{Ending}
 use Rattle.http_model.specs.declared.Ending.TheVariants as ending
 use Rattle.http_model.specs.declared.Limits.{Limits}
 use Rattle.http_model.specs.declared.Framing.{Framing}
-use Rattle.http_model.specs.Reading.{BodyReading, Broke}
+use Rattle.http_model.specs.Reading.{Broke}
 use Rattle.session_model.specs.Stream.{Stream}
 use Rattle.session_core.specs.History.{ContinuesBy}
-use Rattle.session_core.specs.Sided.{Perhaps}
 use Rattle.h1_body.specs.Body.{BodyAt, Left, UntilClose, InLine, InData, AtReturn, AtFeed, InSection, Over, Hopeless}
-use Rattle.h1_body.specs.BodyOf.{BodyRead, Reads, More, IsBodyOf, BodyOf, Tells}
+use Rattle.h1_body.specs.BodyOf.{BodyRead, Reads, More, IsBodyOf, Tells}
 use Rattle.h1_body.specs.Section.{section_limit}
 use Rattle.lane.specs.Direction.Sends.{Past}
 use Rattle.lane.specs.Direction.Promise.{OnEachBody, GoesOnWith}
@@ -69,8 +68,3 @@ no_more most AtFeed found how body h = cc
 pub is_read : (limits : Limits) (framing : Framing) (bytes : List ℕ) (how : Ending) (read : BodyRead) → IsBodyOf limits framing bytes (Some how) read → read ≡ Reads (reading_in read)
 is_read limits framing bytes how (Reads b) x = refl
 is_read limits framing bytes how (More body) x = absurd (no_more (section_limit limits) x.at x.found how body x.tells)
-
--- a stream that has ended has a reading, for all that is known
-pub perhaps_read : (limits : Limits) (framing : Framing) (bytes : List ℕ) (how : Ending) → (((read : BodyRead) → ¬ (IsBodyOf limits framing bytes (Some how) read)) → ⊥)
-    → Perhaps ((b : BodyReading) × BodyOf limits framing bytes how b)
-perhaps_read limits framing bytes how some none = some (λ read x. none (reading_in read, subst (IsBodyOf limits framing bytes (Some how)) (is_read limits framing bytes how read x) x))

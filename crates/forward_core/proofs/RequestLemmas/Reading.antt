@@ -164,10 +164,6 @@ nothing_out place.Replied lane e s = absurd (cc)
 
 -- ---- bytes that are used
 
-front_nil : (xs ys : List ℕ) → xs ++ ys ≡ [] → xs ≡ []
-front_nil [] ys e = refl
-front_nil (x ∷ xs) ys e = absurd (cc)
-
 back_nil : (xs ys : List ℕ) → xs ++ ys ≡ [] → ys ≡ []
 back_nil [] ys e = e
 back_nil (x ∷ xs) ys e = absurd (cc)

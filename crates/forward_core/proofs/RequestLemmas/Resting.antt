@@ -44,13 +44,6 @@ use Rattle.forward_core.specs.Request.Shown.{EndsInSection, ShowsNoCut, PutsAll,
 pub unrested : (at : Place) (lane : RequestLane) → false ≡ true → RestsAt at lane
 unrested at lane e = absurd (cc)
 
--- nor does one that reads nothing and puts nothing out
-pub idle_rests : (at : Place) (lane : RequestLane) → at ≡ place.Idle → RestsAt at lane
-idle_rests place.Reading lane e = absurd (cc)
-idle_rests place.Sending lane e = absurd (cc)
-idle_rests place.Idle lane e = tt
-idle_rests place.Replied lane e = absurd (cc)
-
 done_at : (st : Stage) → (st ≡ stage.Sending) ⊎ (st ≡ stage.Done) → st ≢ stage.Sending → st ≡ stage.Done
 done_at st (inl is) over = absurd (over is)
 done_at st (inr is) over = is

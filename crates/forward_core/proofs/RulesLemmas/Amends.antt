@@ -9,54 +9,13 @@ use Rattle.http_model.specs.Finish.{close_field}
 use Rattle.header_ops.specs.Headers.{HasEnd, with_header}
 use Rattle.http_rules.specs.declared.config.Config.{Config}
 use Rattle.forward_core.specs.Meaning.Product.{meaning_of}
-use Rattle.http_model.specs.Head.{Head, Message, with_head, head_blocks, front_blocks, message_blocks, ended_trailers, trailer_block}
+use Rattle.http_model.specs.Head.{Head, Message, with_head, front_blocks, message_blocks, ended_trailers, trailer_block}
 use Rattle.http_model.specs.Refusal.{closing}
-use Rattle.session_model.specs.Env.{Pass, Reply, Deny, Fail, Amended, Edited, Plain, reply_env}
+use Rattle.session_model.specs.Env.{Amended, Edited, Plain, reply_env}
 use Rattle.session_model.specs.Meaning.{Meaning}
 use Rattle.session_model.specs.Amending.{amended, behind_reply, closing_fits, plain_refusal}
 use Rattle.px_sample.specs.Variables.{Variables}
-use Rattle.http_rules.specs.declared.rule.rule.Rule.{Rule}
-use Rattle.http_rules.specs.Action.Given.{Env}
-use Rattle.http_rules.specs.declared.action.side.Side.{Side}
-use Rattle.http_rules.specs.declared.verdict.Verdict.{Verdict}
-use Rattle.http_rules.specs.declared.verdict.Verdict.TheVariants as verdicts
-use Rattle.http_rules.specs.Rules.{Comes, rules_of, amended_by, after_of}
-use Rattle.http_rules.specs.Run.{Leaves}
-use Rattle.forward_core.specs.Rules.Ruling.{is_pass, AmendsFront, AmendsHead, IsReply, AmendsReply, SaysReply}
-
--- a body that stays behind the head
-abbrev pub Stays : Type 0
-Stays = (size : ℕ) (rules : List Rule) (env left : Env) → rules_of size rules env ≡ Pass left → left.body ≡ env.body
-
--- a run of rules on a head with its body
-pub amends_front : (side : Side) (size : ℕ) (rules : List Rule) (env : Env) (verdict : Verdict) (blocks : List Block) (vars : Variables) → Stays
-    → Leaves side (rules_of size rules env) verdict blocks vars [] → AmendsFront env.body (after_of size rules env) (is_pass verdict) blocks vars
-amends_front side size rules env verdict blocks vars stays h = by (rules_of size rules env) verdict refl h
-  where
-    by : (c : Comes) (v : Verdict) → rules_of size rules env ≡ c → Leaves side c v blocks vars [] → AmendsFront env.body (amended_by c) (is_pass v) blocks vars
-    by (Pass left) verdicts.Pass e h = (h.0.blocks_are ∙ ap (front_blocks left.head) (stays size rules env left e), h.0.vars_are)
-    by (Pass left) verdicts.Reply e h = absurd h
-    by (Pass left) (verdicts.Deny told) e h = absurd h
-    by (Pass left) (verdicts.Fail told) e h = absurd h
-    by (Reply m left) verdicts.Pass e h = absurd h
-    by (Reply m left) verdicts.Reply e h = tt
-    by (Reply m left) (verdicts.Deny told) e h = absurd h
-    by (Reply m left) (verdicts.Fail told) e h = absurd h
-    by (Deny code left) verdicts.Pass e h = absurd h
-    by (Deny code left) verdicts.Reply e h = absurd h
-    by (Deny code left) (verdicts.Deny told) e h = tt
-    by (Deny code left) (verdicts.Fail told) e h = absurd h
-    by (Fail why left) verdicts.Pass e h = absurd h
-    by (Fail why left) verdicts.Reply e h = absurd h
-    by (Fail why left) (verdicts.Deny told) e h = absurd h
-    by (Fail why left) (verdicts.Fail told) e h = tt
-
--- and on a head alone
-pub head_of_front : (amended : Amended Variables) (edited : Bool) (blocks : List Block) (vars : Variables) → AmendsFront [] amended edited blocks vars → AmendsHead amended edited blocks vars
-head_of_front (Edited head after) true blocks vars h = (h.0 ∙ append-nil (head_blocks head), h.1)
-head_of_front (Edited head after) false blocks vars h = absurd h
-head_of_front Plain true blocks vars h = absurd h
-head_of_front Plain false blocks vars h = tt
+use Rattle.forward_core.specs.Rules.Ruling.{AmendsFront, IsReply, AmendsReply, SaysReply}
 
 -- ---- replies
 

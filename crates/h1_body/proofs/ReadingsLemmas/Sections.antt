@@ -105,9 +105,6 @@ run_within test (x ∷ xs) (y ∷ ys) more c zs all stops e =
     let l = run_within test xs ys more c zs (All-tail (λ v. test v ≡ true) x xs all) stops tail in
     omega (arith, l)
 
-one_field : (name : List ℕ) → Field
-one_field name = record { name = name; raw = []; end = lf }
-
 short_or_long : (f : Field) → All HasShortName (f ∷ []) ⊎ (¬ (All HasShortName (f ∷ [])))
 short_or_long f =
     elim (cases_lt most_name (length f.name)) [

@@ -1,5 +1,5 @@
 -- What a step came to, by its edit and by its text.
-use Rattle.std.proofs.Common.{◌≡◌, ℕ, ◌≤◌, List, [], ◌∷◌, Bool, true, false, cond, not, filter, refl, sym, ap, ◌∙◌, subst, length}
+use Rattle.std.proofs.Common.{◌≡◌, ℕ, ◌≤◌, List, ◌∷◌, Bool, true, false, cond, not, filter, refl, sym, ap, ◌∙◌, subst, length}
 use Rattle.std.specs.Prelude.{◌↔◌, Result, Ok, Err, OnOk, OnErr, IsOk, nat_le}
 use Rattle.std.proofs.lemmas.Bool.{le-leb, leb-true, false≢true}
 use Rattle.http_model.specs.declared.Why.{Why}
@@ -14,7 +14,7 @@ use Rattle.header_ops.specs.declared.matching.NameMatch.{NameMatch}
 use Rattle.http_model.specs.Fields.{add_field, set_field}
 use Rattle.session_model.specs.Env.{env_with_head}
 use Rattle.px_bytes.specs.Blanks.{trimmed}
-use Rattle.px_sample.specs.Variables.{Variables, no_variables}
+use Rattle.px_sample.specs.Variables.{Variables}
 use Rattle.header_ops.specs.Headers.{with_header, set_header, HasEnd}
 use Rattle.http_rules.specs.declared.action.side.Side.{Side}
 use Rattle.http_rules.specs.declared.action.side.Side.TheVariants.{Request, Answer}
@@ -63,16 +63,7 @@ edit_came side env vars head size old new wanted (Err x) step at is made fits sa
     subst (λ (s : Stepped). Came side env (edited size env head) s new.blocks vars) (sym by)
     (full side env vars head size new.blocks (record { on = at.on; blocks_are = ap (λ (x : Contents). x.blocks) same ∙ at.blocks_are; vars_are = at.vars_are }) bad)
 
--- a text that is no field value
-pub bad_value : (side : Side) (env : Env) (vars : Variables) (size : ℕ) (text : List ℕ) (edit : List ℕ → Head) (blocks : List Block) → are_value_bytes text ≡ false → IsAt side env blocks vars
-    → Came side env (by_value size env text edit) (Failed Bytes) blocks vars
-bad_value side env vars size text edit blocks bad at = by (are_value_bytes text) bad
-  where
-    by : (t : Bool) → t ≡ false → Came side env (cond t (edited size env (edit (trimmed text))) (Err Bytes)) (Failed Bytes) blocks vars
-    by true e = absurd cc
-    by false e = (refl, at)
-
--- one that is
+-- a value of good bytes
 pub good_value : (side : Side) (env : Env) (vars : Variables) (size : ℕ) (text : List ℕ) (edit : List ℕ → Head) (step : Stepped) (blocks : List Block) → are_value_bytes text ≡ true
     → Came side env (edited size env (edit (trimmed text))) step blocks vars → Came side env (by_value size env text edit) step blocks vars
 good_value side env vars size text edit step blocks good came = by (are_value_bytes text) good
@@ -81,16 +72,7 @@ good_value side env vars size text edit step blocks good came = by (are_value_by
     by true e = came
     by false e = absurd cc
 
--- a text that is longer than the buffer
-pub long_text : (side : Side) (env : Env) (vars : Variables) (size : ℕ) (text held : List ℕ) (make : List ℕ → Result Env Why) (blocks : List Block) → IsMade size text false held → IsAt side env blocks vars
-    → Came side env (by_text size text make) (Failed Bytes) blocks vars
-long_text side env vars size text held make blocks made at = by (nat_le (length text) size) made.within
-  where
-    by : (t : Bool) → t ≡ false → Came side env (cond t (make text) (Err Bytes)) (Failed Bytes) blocks vars
-    by true e = absurd cc
-    by false e = (refl, at)
-
--- one that is not
+-- a text that is not longer than the buffer
 pub short_text : (side : Side) (env : Env) (vars : Variables) (size : ℕ) (text held : List ℕ) (make : List ℕ → Result Env Why) (step : Stepped) (blocks : List Block) → IsMade size text true held
     → Came side env (make held) step blocks vars → Came side env (by_text size text make) step blocks vars
 short_text side env vars size text held make step blocks made came = by (nat_le (length text) size) made.within
@@ -132,26 +114,6 @@ taken side env vars which size old new at gone fits =
     line_stays : (w : NameMatch) (line : StartLine) → not (is_header_matching w (line_block line)) ≡ true
     line_stays w (RequestLine a b c) = refl
     line_stays w (StatusLine a b c) = refl
-
--- blocks that a step left have the form of those that it began with
-pub front_left : (side : Side) (vars left : Variables) (old new : List Block) (make : Env → Result Env Why) (step : Stepped) → IsFront old
-    → ((env : Env) → IsAt side env old vars → Came side env (make env) step new left) → IsFront new
-front_left side vars left old new make step front came =
-    by_side side (λ env at. came env at)
-  where
-    of_came : (env : Env) (r : Result Env Why) (s : Stepped) (on : Side) → Came on env r s new left → IsFront new
-    of_came env (Ok next) Done on c = (next.head, env.body, c.blocks_are)
-    of_came env (Ok next) (Failed why) on c = absurd c
-    of_came env (Err why) Done on c = absurd c
-    of_came env (Err why) (Failed reason) on c = (env.head, env.body, c.1.blocks_are)
-
-    by_side : (on : Side) → ((env : Env) → IsAt on env old vars → Came on env (make env) step new left) → IsFront new
-    by_side Request h =
-        let env : Env = record { is_request = true; head = front.0; body = front.1; method = []; vars = vars } in
-        of_came env (make env) step Request (h env (record { on = refl; blocks_are = front.2; vars_are = refl }))
-    by_side (Answer method) h =
-        let env : Env = record { is_request = false; head = front.0; body = front.1; method = method.now; vars = vars } in
-        of_came env (make env) step (Answer method) (h env (record { on = (refl, refl); blocks_are = front.2; vars_are = refl }))
 
 -- a text that was made and is not longer than the buffer, as it is lent
 pub short_made : (side : Side) (env : Env) (vars : Variables) (size : ℕ) (text held lent : List ℕ) (fits : Bool) (make : List ℕ → Result Env Why) (step : Stepped) (blocks : List Block) → IsMade size text fits held

@@ -1,6 +1,6 @@
 -- What is made of a text in which a pattern matches.
-use Rattle.std.proofs.Common.{◌≡◌, ℕ, List, Bool, true, false, cond, refl, sym, ap, ◌∙◌, subst, length}
-use Rattle.std.specs.Prelude.{is_some, Option, Some, None, Result, Ok, Err}
+use Rattle.std.proofs.Common.{◌≡◌, ℕ, List, Bool, true, cond, refl, sym, ap, ◌∙◌, subst, length}
+use Rattle.std.specs.Prelude.{is_some, Option, Some, Result, Ok, Err}
 use Rattle.std.proofs.lemmas.Bool.{le-leb, lt-leb}
 use Rattle.http_model.specs.declared.Why.{Why}
 use Rattle.http_model.specs.declared.Why.TheVariants.{Bytes}
@@ -20,11 +20,7 @@ use Rattle.http_rules.specs.Action.Filling.{edited_by, IsHeld}
 use Rattle.http_rules.specs.Action.Outcome.{IsMade}
 use Rattle.http_rules.proofs.ActionLemmas.Groups.{by_groups}
 
--- a text that is longer than the buffer
-pub long_is : (size : ℕ) (text held : List ℕ) (make : List ℕ → Result Env Why) → IsMade size text false held → by_text size text make ≡ Err Bytes
-long_is size text held make made = ap (λ (t : Bool). cond t (make text) (Err Bytes)) made.within
-
--- one that is not
+-- a text that is not longer than the buffer
 pub short_is : (size : ℕ) (text held : List ℕ) (make : List ℕ → Result Env Why) → IsMade size text true held → by_text size text make ≡ make held
 short_is size text held make made =
     ap (λ (t : Bool). cond t (make text) (Err Bytes)) made.within ∙ ap make (sym (made.holds refl))
@@ -35,25 +31,13 @@ held_is size env wanted held Unmatched make h = absurd h
 held_is size env wanted held Made make h = ap (λ (t : Bool). cond t (make wanted) (Err Bytes)) (le-leb (length wanted) size h.0) ∙ ap make (sym h.1)
 held_is size env wanted held TooLong make h = ap (λ (t : Bool). cond t (make wanted) (Err Bytes)) (lt-leb (length wanted) size h)
 
--- nothing without a match
-pub unmatched : (size : ℕ) (env : Env) (pat : Pattern) (fmt : Fmt) (text : List ℕ) (make : List ℕ → Result Env Why) → find (pattern_of pat) text 0 ≡ None → by_match size env pat fmt text make ≡ Ok env
-unmatched size env pat fmt text make none =
-    ap (λ (o : Option Match). cond (is_some o) (by_text size (text_on size env fmt) (λ template. by_text size (filled_by text template o) make)) (Ok env)) none
-
 -- where there is one, what the template with the groups makes
 pub matched : (size : ℕ) (env : Env) (pat : Pattern) (fmt : Fmt) (text : List ℕ) (make : List ℕ → Result Env Why) (m : Match) → find (pattern_of pat) text 0 ≡ Some m
     → by_match size env pat fmt text make ≡ by_text size (text_on size env fmt) (λ template. by_text size (filled text template m) make)
 matched size env pat fmt text make m found =
     ap (λ (o : Option Match). cond (is_some o) (by_text size (text_on size env fmt) (λ template. by_text size (filled_by text template o) make)) (Ok env)) found
 
--- the text of the format is longer than the buffer
-pub too_long : (size : ℕ) (env : Env) (pat : Pattern) (fmt : Fmt) (text held : List ℕ) (make : List ℕ → Result Env Why) (m : Match) (fits : Bool) → find (pattern_of pat) text 0 ≡ Some m
-    → IsMade size (text_on size env fmt) fits held → fits ≡ false → by_match size env pat fmt text make ≡ Err Bytes
-too_long size env pat fmt text held make m fits found made bad =
-    matched size env pat fmt text make m found
-    ∙ long_is size (text_on size env fmt) held (λ template. by_text size (filled text template m) make) (subst (λ (t : Bool). IsMade size (text_on size env fmt) t held) bad made)
-
--- it is not, and the groups were put in
+-- the text of the format is not longer than the buffer, and the groups were put in
 pub filled_up : (size cap : ℕ) (env : Env) (pat : Pattern) (fmt : Fmt) (text held template done : List ℕ) (make : List ℕ → Result Env Why) (m : Match) (groups : List (Option Span)) (fits : Bool) (f : Filled)
     → find (pattern_of pat) text 0 ≡ Some m → AreGroupsOf m groups → IsMade size (text_on size env fmt) fits held → fits ≡ true → template ≡ held → cap ≡ size
     → IsHeld cap (expanded groups text template) f done → by_match size env pat fmt text make ≡ edited_by f done env make

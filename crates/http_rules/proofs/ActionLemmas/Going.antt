@@ -1,8 +1,7 @@
 -- Fields that go by their names, in a pass over the blocks.
 use Rattle.std.proofs.Common.{◌≡◌, ℕ, zero, suc, ◌<◌, ◌≤◌, List, [], ◌∷◌, ◌++◌, Bool, true, false, cond, not, filter, refl, sym, ap, ◌∙◌, subst, length, take, drop, arith}
 use Rattle.std.specs.Prelude.{remove}
-use Rattle.std.proofs.lemmas.List.Sums.{get_or-le-sum_by}
-use Rattle.http_model.specs.Block.{Block, RequestLine, ResponseLine, Header, EndHeaders, Data, Trailer, EndTrailers, weight, name_of}
+use Rattle.http_model.specs.Block.{Block}
 use Rattle.http_model.specs.Blocks.{load, block_at}
 use Rattle.http_model.specs.Head.{StartLine, RequestLine as Asked, StatusLine, line_block, front_blocks}
 use Rattle.px_sample.specs.Variables.{Variables}
@@ -27,19 +26,6 @@ pub gone_within : (bs : List Block) (i : ℕ) → i < length bs → i ≤ length
 gone_within [] i h = absurd (omega arith)
 gone_within (b ∷ bs) zero h = omega arith
 gone_within (b ∷ bs) (suc i) h = omega (arith, gone_within bs i (omega arith))
-
-short_name : (b : Block) → length (name_of b) ≤ weight b
-short_name (RequestLine x y z) = omega arith
-short_name (ResponseLine x y z) = omega arith
-short_name (Header n v) = omega arith
-short_name EndHeaders = omega arith
-short_name (Data p) = omega arith
-short_name (Trailer n v) = omega arith
-short_name EndTrailers = omega arith
-
--- a name weighs no more than the blocks
-pub name_within : (bs : List Block) (at : ℕ) → at < length bs → length (name_of (block_at bs at)) ≤ load bs
-name_within bs at h = omega (arith, short_name (block_at bs at), get_or-le-sum_by weight bs at EndHeaders h)
 
 -- fields that went
 pub taken_out : (side : Side) (env : Env) (vars : Variables) (by : DelBy) (size : ℕ) (old new : List Block) → IsAt side env old vars → new ≡ without_going by old → load new ≤ size

@@ -1,6 +1,6 @@
 -- Start lines in the blocks of a head.
-use Rattle.std.proofs.Common.{◌≡◌, ℕ, List, [], ◌∷◌, ◌++◌, Bool, true, false, cond, refl, sym, ap, ◌∙◌, subst}
-use Rattle.std.specs.Prelude.{Option, Some, None, unwrap_or, Result, Ok, Err}
+use Rattle.std.proofs.Common.{◌≡◌, ℕ, List, ◌∷◌, ◌++◌, Bool, true, false, cond, sym, ap, ◌∙◌, subst}
+use Rattle.std.specs.Prelude.{Option, Some, unwrap_or, Result, Err}
 use Rattle.http_model.specs.declared.Why.{Why}
 use Rattle.http_model.specs.declared.Why.TheVariants.{Bytes}
 use Rattle.std.proofs.lemmas.Bool.{false≢true}
@@ -10,23 +10,10 @@ use Rattle.px_sample.specs.Variables.{Variables}
 use Rattle.htx_view.specs.Lines.{request_in}
 use Rattle.http_rules.specs.declared.action.side.Side.{Side}
 use Rattle.http_rules.specs.declared.action.stepped.Stepped.{Stepped}
-use Rattle.http_rules.specs.declared.action.stepped.Stepped.TheVariants.{Done}
 use Rattle.http_rules.specs.Action.Given.{Env}
 use Rattle.http_rules.specs.Action.Edits.{edited}
 use Rattle.http_rules.specs.Action.Lines.{made_of, on_request, with_line, is_target, sent_to, retargeted}
 use Rattle.http_rules.specs.Action.Outcome.{IsAt, Came}
-
-no_request : (line : StartLine) (rest : List Block) (env : Env) (make : (method target version : List ℕ) → Result Env Why)
-    → request_in (line_block line ∷ rest) ≡ None → made_of line env make ≡ Ok env
-no_request (RequestLine a b c) rest env make none = absurd cc
-no_request (StatusLine a b c) rest env make none = refl
-
--- nothing is made where there is no request line
-pub unasked : (side : Side) (env : Env) (vars : Variables) (make : (method target version : List ℕ) → Result Env Why) (old : List Block)
-    → IsAt side env old vars → request_in old ≡ None → Came side env (on_request env make) Done old vars
-unasked side env vars make old at none =
-    let r : on_request env make ≡ Ok env = no_request env.head.line _ env make (sym (ap request_in at.blocks_are) ∙ none) in
-    subst (λ (x : Result Env Why). Came side env x Done old vars) (sym r) at
 
 a_request : (line : StartLine) (rest : List Block) (m t v : List ℕ) → request_in (line_block line ∷ rest) ≡ Some (m, t, v) → line ≡ RequestLine m t v
 a_request (RequestLine a b c) rest m t v is =

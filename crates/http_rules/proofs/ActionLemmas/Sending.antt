@@ -49,24 +49,7 @@ load_fields fields head =
 pub bare_fits : (head : Head) (body : List ℕ) (size : ℕ) → Fits (front_blocks head body) size → Fits (head_blocks head) size
 bare_fits head body size fits = omega (arith, fits, sum_by-append weight (head_blocks head) (append_data [] body))
 
--- and where it fits with more fields
-pub fewer_fits : (fields : List Field) (head : Head) (size : ℕ) → Fits (head_blocks (with_fields fields head)) size → Fits (head_blocks head) size
-fewer_fits fields head size fits = omega (arith, fits, load_fields fields head)
-
 -- ---- fields behind a head
-
-same_head : (head : Head) (fields : List Field) → head.fields ≡ fields → head_blocks head ≡ head_blocks (record { line = head.line; fields = fields })
-same_head head fields is = ap (λ (fs : List Field). head_blocks (record { line = head.line; fields = fs })) is
-
--- none yet
-pub none_put : (head : Head) → head_blocks (with_fields [] head) ≡ head_blocks head
-none_put head = sym (same_head head (head.fields ++ []) (sym (append-nil head.fields)))
-
-pub begun : (size : ℕ) (head : Head) (blocks : List Block) → blocks ≡ head_blocks head → IsPut size head [] true blocks
-begun size head blocks is = is ∙ sym (none_put head)
-
-pub not_begun : (size : ℕ) (head : Head) (blocks : List Block) → (Fits (head_blocks head) size → ⊥) → IsPut size head [] false blocks
-not_begun size head blocks too fits = too (subst (λ (bs : List Block). Fits bs size) (none_put head) fits)
 
 -- one more behind fields
 pub one_more : (fields : List Field) (field : Field) (head : Head) → head_blocks (with_fields (field ∷ []) (with_fields fields head)) ≡ head_blocks (with_fields (fields ++ field ∷ []) head)
@@ -91,11 +74,6 @@ put size name value fields head old new is made = made ∙ put_blocks name value
 pub not_put : (size : ℕ) (name value : List ℕ) (fields : List Field) (head : Head) (old new : List Block) → IsPut size head fields true old
     → (Fits (with_header (Header name value) old) size → ⊥) → IsPut size head (fields ++ (name, value) ∷ []) false new
 not_put size name value fields head old new is too fits = too (subst (λ (bs : List Block). Fits bs size) (sym (put_blocks name value fields head old is)) fits)
-
--- those in front of it do not
-pub still_full : (size : ℕ) (field : Field) (fields : List Field) (head : Head) (old new : List Block) → IsPut size head fields false old → IsPut size head (fields ++ field ∷ []) false new
-still_full size field fields head old new too fits =
-    too (fewer_fits (field ∷ []) (with_fields fields head) size (subst (λ (bs : List Block). Fits bs size) (sym (one_more fields field head)) fits))
 
 -- the blocks of a head with one more field are those of a head
 pub head_with : (name value : List ℕ) (old new : List Block) → IsHead old → new ≡ with_header (Header name value) old → IsHead new

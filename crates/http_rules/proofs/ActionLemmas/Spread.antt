@@ -1,6 +1,6 @@
 -- The values of a field that holds a list, each in its place.
-use Rattle.std.proofs.Common.{inl, inr, ◌≡◌, ℕ, ◌+◌, ◌-◌, ◌<◌, ◌≤◌, List, [], ◌∷◌, ◌++◌, Bool, true, false, cond, refl, sym, ap, ◌∙◌, subst, length, drop, arith, append_assoc, length-append, length-drop}
-use Rattle.std.specs.Prelude.{slice_range, All, IsTrue, ◌↔◌, ◌⊎◌, Option, Some, None, Result, Ok, Err}
+use Rattle.std.proofs.Common.{inl, inr, ◌≡◌, ℕ, ◌+◌, ◌-◌, ◌<◌, ◌≤◌, List, [], ◌∷◌, ◌++◌, Bool, true, false, cond, refl, sym, ap, ◌∙◌, length, drop, arith, append_assoc, length-append, length-drop}
+use Rattle.std.specs.Prelude.{All, IsTrue, ◌↔◌, ◌⊎◌, Option, Some, None, Result, Ok}
 use Rattle.std.specs.Bool.{OnTrue}
 use Rattle.std.specs.List.{list_any, prefix_len, suffix_len}
 use Rattle.std.proofs.lemmas.Bool.{false≢true, cases_lt}
@@ -8,7 +8,6 @@ use Rattle.std.proofs.lemmas.List.{length-take}
 use Rattle.std.proofs.lemmas.List.Sums.{prefix_len-le-length}
 use Rattle.std.proofs.lemmas.List.Elements.{All-head, All-tail}
 use Rattle.http_model.specs.declared.Why.{Why}
-use Rattle.http_model.specs.declared.Why.TheVariants.{Bytes}
 use Rattle.px_bytes.specs.Blanks.{is_blank, trimmed}
 use Rattle.px_bytes.specs.Values.{LiesIn, placed_from, pieces_of, placed_values, values_of}
 use Rattle.regex.specs.Patterns.{Match, find}
@@ -19,14 +18,11 @@ use Rattle.px_pattern.specs.declared.span.Span.{Span}
 use Rattle.px_conv.specs.Template.{expanded}
 use Rattle.px_sample.specs.Buffer.{Buffer}
 use Rattle.log_format.specs.declared.fmt.Fmt.{Fmt}
-use Rattle.http_rules.specs.declared.action.filled.Filled.{Filled}
 use Rattle.http_rules.specs.Action.Given.{Env, text_on}
 use Rattle.http_rules.specs.Action.Edits.{by_text}
-use Rattle.http_rules.specs.Action.Replacing.{matches, filled_by, replaced, rebuilt, replaced_values, by_matches}
-use Rattle.http_rules.specs.Action.Filling.{edited_by, IsHeld, IsAll, IsPut}
-use Rattle.http_rules.specs.Action.Outcome.{IsMade}
+use Rattle.http_rules.specs.Action.Replacing.{matches, filled_by, replaced, replaced_values, by_matches}
+use Rattle.http_rules.specs.Action.Filling.{IsPut}
 use Rattle.http_rules.proofs.ActionLemmas.Groups.{by_groups}
-use Rattle.http_rules.proofs.ActionLemmas.Filling.{long_is, short_is, held_is}
 
 -- placed values stand in the field one behind the other, from a place on
 abbrev pub Spread : (field : List ℕ) → ℕ → List (ℕ × List ℕ) → Type 0
@@ -59,81 +55,11 @@ pub within : (field : List ℕ) (from : ℕ) (placed : List (ℕ × List ℕ)) �
 within field from [] s = s
 within field from (p ∷ ps) s = omega (arith, s.0, s.1)
 
--- the next of them
-pub next_of : (field : List ℕ) (from at : ℕ) (value : List ℕ) (left behind : List (ℕ × List ℕ)) → left ≡ (at, value) ∷ behind → Spread field from left
-    → (from ≤ at) × (at + length value ≤ length field) × Spread field (at + length value) behind
-next_of field from at value left behind is s = subst (λ (ps : List (ℕ × List ℕ)). Spread field from ps) is s
-
--- one more value was put
-pub put_on : (make : List ℕ → List ℕ) (field : List ℕ) (from at : ℕ) (value front old new all : List ℕ) (left behind : List (ℕ × List ℕ)) → left ≡ (at, value) ∷ behind → front ≡ slice_range field from at
-    → new ≡ old ++ (front ++ make value) → old ++ rebuilt make field from left ≡ all → new ++ rebuilt make field (at + length value) behind ≡ all
-put_on make field from at value front old new all left behind is cut put whole =
-    let rest = rebuilt make field (at + length value) behind in
-    ap (λ (bs : List ℕ). bs ++ rest) put
-    ∙ append_assoc old (front ++ make value) rest
-    ∙ ap (λ (bs : List ℕ). old ++ bs) (append_assoc front (make value) rest)
-    ∙ ap (λ (bs : List ℕ). old ++ (bs ++ (make value ++ rest))) cut
-    ∙ ap (λ (ps : List (ℕ × List ℕ)). old ++ rebuilt make field from ps) (sym is)
-    ∙ whole
-
--- one that does not fit
-pub put_off : (make : List ℕ → List ℕ) (field : List ℕ) (from at size : ℕ) (value front old all : List ℕ) (left behind : List (ℕ × List ℕ)) → left ≡ (at, value) ∷ behind → front ≡ slice_range field from at
-    → size < length old + length (front ++ make value) → old ++ rebuilt make field from left ≡ all → size < length all
-put_off make field from at size value front old all left behind is cut far whole =
-    let rest = rebuilt make field (at + length value) behind in
-    let parts : old ++ ((front ++ make value) ++ rest) ≡ all =
-    ap (λ (bs : List ℕ). old ++ bs) (append_assoc front (make value) rest)
-    ∙ ap (λ (bs : List ℕ). old ++ (bs ++ (make value ++ rest))) cut
-    ∙ ap (λ (ps : List (ℕ × List ℕ)). old ++ rebuilt make field from ps) (sym is) ∙ whole
-    in
-    omega (arith, far, ap (λ (bs : List ℕ). length bs) parts, length-append old ((front ++ make value) ++ rest), length-append (front ++ make value) rest)
-
--- what stands behind the last
-pub put_out : (make : List ℕ → List ℕ) (field : List ℕ) (from cap : ℕ) (fits : Bool) (behind all : List ℕ) (old new : Buffer) (left : List (ℕ × List ℕ)) → left ≡ [] → behind ≡ drop from field → old.cap ≡ cap
-    → (IsTrue fits ↔ (length old.bytes + length behind ≤ old.cap)) → OnTrue fits (new.bytes ≡ old.bytes ++ behind) → old.bytes ++ rebuilt make field from left ≡ all → IsAll cap all fits new
-put_out make field from cap fits behind all old new left none cut caps within put whole = by fits within put
-  where
-    whole_is : old.bytes ++ behind ≡ all
-    whole_is = ap (λ (bs : List ℕ). old.bytes ++ bs) cut ∙ ap (λ (ps : List (ℕ × List ℕ)). old.bytes ++ rebuilt make field from ps) (sym none) ∙ whole
-
-    len : length old.bytes + length behind ≡ length all
-    len = sym (length-append old.bytes behind) ∙ ap (λ (bs : List ℕ). length bs) whole_is
-
-    by : (t : Bool) → (IsTrue t ↔ (length old.bytes + length behind ≤ old.cap)) → OnTrue t (new.bytes ≡ old.bytes ++ behind) → IsAll cap all t new
-    by true w p = (p ∙ whole_is, subst (λ (n : ℕ). length all ≤ n) caps (subst (λ (n : ℕ). n ≤ old.cap) len (w.0 refl)))
-    by false w p = by_order (cases_lt cap (length all))
-      where
-        by_order : (cap < length all) ⊎ (length all ≤ cap) → cap < length all
-        by_order (inl h) = h
-        by_order (inr h) = absurd (false≢true (w.1 (subst (λ (n : ℕ). n ≤ old.cap) (sym len) (subst (λ (n : ℕ). length all ≤ n) (sym caps) h))))
-
 -- no value matches
 pub none_match : (size : ℕ) (env : Env) (pat : Pattern) (fmt : Fmt) (field : List ℕ) (make : List ℕ → Result Env Why) (one : Bool) → one ≡ list_any (matches pat) (values_of field) → one ≡ false
     → by_matches size env pat fmt field make ≡ Ok env
 none_match size env pat fmt field make one is bad =
     ap (λ (t : Bool). cond t (by_text size (text_on size env fmt) (λ template. by_text size (replaced_values pat template field) make)) (Ok env)) (sym is ∙ bad)
-
-some_match : (size : ℕ) (env : Env) (pat : Pattern) (fmt : Fmt) (field : List ℕ) (make : List ℕ → Result Env Why) (one : Bool) → one ≡ list_any (matches pat) (values_of field) → one ≡ true
-    → by_matches size env pat fmt field make ≡ by_text size (text_on size env fmt) (λ template. by_text size (replaced_values pat template field) make)
-some_match size env pat fmt field make one is good =
-    ap (λ (t : Bool). cond t (by_text size (text_on size env fmt) (λ template. by_text size (replaced_values pat template field) make)) (Ok env)) (sym is ∙ good)
-
--- one does, and the text of the format is longer than the buffer
-pub text_too_long : (size : ℕ) (env : Env) (pat : Pattern) (fmt : Fmt) (field held : List ℕ) (make : List ℕ → Result Env Why) (one fits : Bool) → one ≡ list_any (matches pat) (values_of field) → one ≡ true
-    → IsMade size (text_on size env fmt) fits held → fits ≡ false → by_matches size env pat fmt field make ≡ Err Bytes
-text_too_long size env pat fmt field held make one fits is good made bad =
-    some_match size env pat fmt field make one is good
-    ∙ long_is size (text_on size env fmt) held (λ template. by_text size (replaced_values pat template field) make) (subst (λ (t : Bool). IsMade size (text_on size env fmt) t held) bad made)
-
--- it is not
-pub listed : (size cap : ℕ) (env : Env) (pat : Pattern) (fmt : Fmt) (field held template done : List ℕ) (make : List ℕ → Result Env Why) (one fits : Bool) (f : Filled) → one ≡ list_any (matches pat) (values_of field) → one ≡ true
-    → IsMade size (text_on size env fmt) fits held → fits ≡ true → template ≡ held → cap ≡ size → IsHeld cap (replaced_values pat template field) f done
-    → by_matches size env pat fmt field make ≡ edited_by f done env make
-listed size cap env pat fmt field held template done make one fits f is good made short lent caps h =
-    some_match size env pat fmt field make one is good
-    ∙ short_is size (text_on size env fmt) held (λ t. by_text size (replaced_values pat t field) make) (subst (λ (t : Bool). IsMade size (text_on size env fmt) t held) short made)
-    ∙ ap (λ (t : List ℕ). by_text size (replaced_values pat t field) make) (sym lent)
-    ∙ held_is size env (replaced_values pat template field) done f make (subst (λ (n : ℕ). IsHeld n (replaced_values pat template field) f done) caps h)
 
 -- ---- one value
 

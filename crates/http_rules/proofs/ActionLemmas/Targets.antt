@@ -1,5 +1,5 @@
 -- Pieces of a target.
-use Rattle.std.proofs.Common.{◌≡◌, ℕ, ◌+◌, ◌-◌, ◌≤◌, List, [], ◌∷◌, ◌++◌, Bool, true, false, refl, sym, ap, ◌∙◌, subst, length, take, drop, arith, append_assoc, length-append}
+use Rattle.std.proofs.Common.{◌≡◌, ℕ, ◌+◌, ◌-◌, List, [], ◌∷◌, ◌++◌, refl, sym, ap, ◌∙◌, length, take, drop, arith, length-append}
 use Rattle.std.specs.Prelude.{Option, Some, None}
 use Rattle.std.proofs.Math.Seq.{take-append_seam, drop-append_seam}
 use Rattle.uri_parts.specs.Cut.{query_text}
@@ -16,11 +16,6 @@ back_piece t a q n is size =
     let len : length t ≡ length a + length q = sym (ap (λ (x : List ℕ). length x) is) ∙ length-append a q in
     let at : length t - n ≡ length a = omega (arith, len, size) in
     ap (λ (k : ℕ). drop k t) at ∙ ap (λ (x : List ℕ). drop (length a) x) (sym is) ∙ drop-append_seam a q
-
-pub short_piece : (t a q : List ℕ) (n : ℕ) → a ++ q ≡ t → n ≡ length q → n ≤ length t
-short_piece t a q n is size =
-    let len : length t ≡ length a + length q = sym (ap (λ (x : List ℕ). length x) is) ∙ length-append a q in
-    omega (arith, len, size)
 
 -- the same where what is behind the piece has two parts
 pub front_of_two : (t a p q : List ℕ) (n m : ℕ) → a ++ (p ++ q) ≡ t → n ≡ length p → m ≡ length q → take (length t - n - m) t ≡ a

@@ -1,14 +1,13 @@
 -- Fields of a name in turn, each with its own step.
-use Rattle.std.proofs.Common.{◌≡◌, ℕ, zero, suc, ◌≤◌, List, [], ◌∷◌, Bool, true, false, cond, map, refl, sym, ap, ◌∙◌, subst, length, drop, arith, length-append}
+use Rattle.std.proofs.Common.{◌≡◌, ℕ, zero, suc, List, [], ◌∷◌, Bool, true, false, cond, map, refl, sym, ap, ◌∙◌, subst, length, drop, arith}
 use Rattle.std.specs.Prelude.{nat_le, Option, Some, None, Result, Ok, Err}
 use Rattle.std.specs.List.{slice_get, list_any}
-use Rattle.std.proofs.lemmas.List.{drop-set-lt, length-map}
+use Rattle.std.proofs.lemmas.List.{drop-set-lt}
 use Rattle.std.proofs.Math.Seq.{drop-nil}
-use Rattle.std.proofs.Math.ListN.{drop_of_length-le}
 use Rattle.http_model.specs.declared.Why.{Why}
 use Rattle.http_model.specs.declared.Why.TheVariants.{Room, Bytes}
 use Rattle.http_model.specs.Block.{Block}
-use Rattle.http_model.specs.Head.{Field, front_blocks}
+use Rattle.http_model.specs.Head.{Field}
 use Rattle.http_model.specs.Fields.{is_named}
 use Rattle.px_bytes.specs.Values.{values_of}
 use Rattle.px_bytes.specs.Blanks.{trimmed}
@@ -176,15 +175,3 @@ turned_off side all extent size here name pat fmt place why step old new vars si
     in
     let made = failed_is side had.now (named_step name extent size pat fmt place had.now) why new vars told in
     subst (λ (a : Act). Ran side a (Failed why) new vars) (sym (had.left ∙ stopped extent size name pat fmt place had.now why made.0)) (refl, made.1)
-
-long_front : (env : Env) → suc (length env.head.fields) ≤ length (front_blocks env.head env.body)
-long_front env = simp (length-append, length-map) (omega arith)
-
--- each had
-pub turned_out : (side : Side) (all : Act) (extent : Extent) (size : ℕ) (name : List ℕ) (pat : Pattern) (fmt : Fmt) (place : ℕ) (blocks : List Block) (vars : Variables) → length blocks ≤ suc place
-    → HadTurns side all extent size name pat fmt place blocks vars → Ran side all Done blocks vars
-turned_out side all extent size name pat fmt place blocks vars far had =
-    let long = long_front had.now in
-    let none : drop place had.now.head.fields ≡ [] = drop_of_length-le had.now.head.fields (omega (arith, long, ap (λ (bs : List Block). length bs) had.at.blocks_are)) in
-    subst (λ (a : Act). Ran side a Done blocks vars)
-    (sym (had.left ∙ ap (λ (fs : List Field). run_steps (map (replace_in extent size pat fmt) (places name fs place)) had.now) none)) had.at

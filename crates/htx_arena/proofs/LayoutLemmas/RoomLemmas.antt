@@ -1,12 +1,11 @@
--- When a last block of data grows where it stands, and some layouts by the four cases, computed.
-use Rattle.std.proofs.Common.{refl, ◌≡◌, ℕ, ◌+◌, ◌*◌, ◌<◌, ◌≤◌, inl, inr, List, [], ◌∷◌, length, sym, arith, replicate}
+-- When a last block of data grows where it stands.
+use Rattle.std.proofs.Common.{◌≡◌, ℕ, ◌+◌, ◌*◌, ◌<◌, ◌≤◌, inl, inr, List, length, sym, arith}
 use Rattle.std.proofs.lemmas.Bool.{cases_lt}
-use Rattle.htx_model.specs.Block.{Block, Header, RequestLine, EndHeaders}
 use Rattle.htx_space.specs.declared.space.Desc.{Desc}
 use Rattle.htx_space.specs.Windows.{desc_at}
 use Rattle.htx_arena.specs.Layout.Raw.{addr_in, len_in, info_len, blocks_of, addrs_of}
 use Rattle.htx_arena.specs.Layout.Sound.{IsSound, end_of, IsLaid}
-use Rattle.htx_arena.specs.Layout.Place.{top, layout}
+use Rattle.htx_arena.specs.Layout.Place.{top}
 use Rattle.htx_arena.specs.Layout.Moves.{CanRenew}
 use Rattle.htx_arena.proofs.LayoutLemmas.PackLemmas.{behind_other}
 use Rattle.htx_arena.proofs.LayoutLemmas.SpotLemmas.{LowAt, end_le_top}
@@ -65,27 +64,3 @@ within_own raw n i d sound most small from to =
         | inr ge ↦ elim (sound.apart j i (omega arith) small) [ inl h ↦ inr (omega arith) | inr h ↦ inl (omega arith) ]
       ];
     }
-
--- ---- layouts, computed
-
-field : ℕ → Block
-field n = Header (98 ∷ []) (replicate n 0)
-
-line : Block
-line = RequestLine (71 ∷ 69 ∷ 84 ∷ []) (47 ∷ []) (replicate 8 0)
-
-wraps : layout 1024 (field 300 ∷ []) (501 ∷ []) 0 300 ≡ record { addrs = 501 ∷ []; addr = 0; front = 300 }
-unfolding field
-wraps = refl
-
-grows_front : layout 1024 (field 300 ∷ field 299 ∷ []) (501 ∷ 0 ∷ []) 300 201 ≡ record { addrs = 501 ∷ 0 ∷ []; addr = 300; front = 501 }
-unfolding field
-grows_front = refl
-
-moves_nothing : layout 1024 (field 300 ∷ field 299 ∷ field 200 ∷ []) (501 ∷ 0 ∷ 300 ∷ []) 501 100 ≡ record { addrs = 501 ∷ 0 ∷ 300 ∷ []; addr = 802; front = 0 }
-unfolding field
-moves_nothing = refl
-
-closes_up : layout 1024 (line ∷ EndHeaders ∷ []) (0 ∷ 726 ∷ []) 0 975 ≡ record { addrs = 0 ∷ 24 ∷ []; addr = 25; front = 0 }
-unfolding line
-closes_up = refl

@@ -1,7 +1,6 @@
 -- Draws in turn.
-use Rattle.std.proofs.Common.{◌≡◌, ℕ, zero, suc, ◌+◌, ◌-◌, ◌<◌, ◌%◌, List, [], ◌∷◌, ◌++◌, sym, ap, ◌∙◌, refl, append_assoc, arith}
-use Rattle.std.proofs.lemmas.List.{append-nil}
-use Rattle.htx_drive.specs.Drill.Plan.{Plan, next_state, draw_of, lengths_of, plan_of, plans_of}
+use Rattle.std.proofs.Common.{◌≡◌, ℕ, suc, ◌+◌, ◌-◌, ◌<◌, ◌%◌, List, [], ◌∷◌, ◌++◌, sym, ap, ◌∙◌, refl, append_assoc, arith}
+use Rattle.htx_drive.specs.Drill.Plan.{next_state, draw_of, lengths_of, plan_of, plans_of}
 
 abbrev behind : List ℕ → List ℕ × ℕ → List ℕ × ℕ
 behind front rest = (front ++ rest.0, rest.1)
@@ -24,16 +23,6 @@ lengths_more front count at state next drawn all less to is so =
     ∙ ap (behind front) (sym (lengths_step (count - (at + 1)) state))
     ∙ ap (λ (n : ℕ). behind front (lengths_of n state)) (sym left)
     ∙ so
-
-lengths_none : (state : ℕ) → lengths_of 0 state ≡ ([], state)
-unfolding lengths_of
-lengths_none state = refl
-
--- none is left
-pub lengths_all : (front : List ℕ) (count at state : ℕ) (all : List ℕ × ℕ) → count - at ≡ 0 → behind front (lengths_of (count - at) state) ≡ all → (front, state) ≡ all
-lengths_all front count at state all none so =
-    let last : behind front ([], state) ≡ (front, state) = ap (λ (l : List ℕ). (l, state)) (append-nil front) in
-    sym last ∙ ap (behind front) (sym (lengths_none state)) ∙ ap (λ (n : ℕ). behind front (lengths_of n state)) (sym none) ∙ so
 
 plans_suc : (more state : ℕ) → plans_of (suc more) state ≡ (plan_of state).0 ∷ plans_of more (plan_of state).1
 unfolding plans_of

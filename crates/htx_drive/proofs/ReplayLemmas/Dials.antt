@@ -137,12 +137,6 @@ kept_links (l ∷ ls) = ap (λ (sent : List (Option Sent)). Some (sent_on l) ∷
 
 -- ---- the entries that the connects found
 
-no_refused : (d : Dial) (stream : Stream) (stopped : Bool) → IsServerOf d (Open stream stopped) → d.answers ≡ [] → ⊥
-no_refused d stream stopped is none = absurd (never is.2 d.left (sym none ∙ is.3))
-  where
-    never : (coming : Coming) (left : List (Option Coming)) → [] ≡ Some coming ∷ left → ⊥
-    never coming left e = cc
-
 none_first : (coming : Coming) (left later : List (Option Coming)) → None ∷ later ≡ Some coming ∷ left → ⊥
 none_first coming left later e = cc
 

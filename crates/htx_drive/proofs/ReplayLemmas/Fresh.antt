@@ -1,14 +1,13 @@
 -- A link in memory before its first call.
-use Rattle.std.proofs.Common.{◌≡◌, ℕ, List, [], Bool, true, false, ◌&&◌, ◌==◌, Option, Some, None, length, ap, ◌∙◌, refl}
+use Rattle.std.proofs.Common.{◌≡◌, ℕ, List, [], Bool, true, false, ◌&&◌, ◌==◌, Option, Some, None, length, ◌∙◌, refl}
 use Rattle.std.specs.Prelude.{Result, Ok, Err, IfOk}
 use Rattle.std.proofs.lemmas.Bool.{false≢true, eqb-true}
 use Rattle.std.proofs.lemmas.List.{nil_from_length}
 use Rattle.http_model.specs.declared.Close.{Close}
 use Rattle.http_model.specs.declared.Ending.{Ending}
 use Rattle.px_link.specs.Link.{Seen}
-use Rattle.px_link.specs.Net.{Coming, new_link}
+use Rattle.px_link.specs.Net.{new_link}
 use Rattle.px_link.specs.MemLink.{MemLinkSeen, link_of, limit_of, is_open, is_unused}
-use Rattle.px_link.specs.MemNet.{coming}
 use Rattle.session_model.specs.Stream.{Stream}
 use Rattle.htx_drive.specs.Replay.Seen.{IsFresh}
 
@@ -92,24 +91,3 @@ pub fresh_made : {E : Type 0} (s : Stream) (takes : Option ℕ) (bytes : List �
     → IfOk r (λ (l : MemLinkSeen). l.takes ≡ takes) → IfOk r (λ (l : MemLinkSeen). (l.failing_reads ≡ []) × (l.failing_writes ≡ [])) → IfOk r (λ (l : MemLinkSeen). is_unused l ≡ true) → IfOk r (λ (l : MemLinkSeen). IsFresh s takes l)
 fresh_made s takes bytes (Ok l) own to_come ending limit failing unused = fresh s takes l (to_come ∙ own) ending limit failing unused
 fresh_made s takes bytes (Err e) own to_come ending limit failing unused = tt
-
--- what is to come over a link that is seen so
-coming_of_seen : Seen → List ℕ → Ending → Coming
-coming_of_seen s bytes ending = record { bytes = bytes; ending = ending; plain = s.plain; takes = s.takes }
-
-told_is : (a b : List ℕ) → Some a ≡ Some b → a ≡ b
-told_is a b e = cc
-
-ending_is : (a b : Ending) → Some a ≡ Some b → a ≡ b
-ending_is a b e = cc
-
-same_coming : (s t : Seen) (a b : List ℕ) (y z : Ending) → s ≡ t → a ≡ b → y ≡ z → coming_of_seen s a y ≡ coming_of_seen t b z
-same_coming s t a b y z p q r = cc
-
--- what is to come over a fresh link
-pub fresh_coming : (s : Stream) (takes : Option ℕ) (l : MemLinkSeen) → IsFresh s takes l → coming l ≡ record { bytes = s.bytes; ending = s.ending; plain = true; takes = limit_of takes }
-unfolding coming_of_seen
-fresh_coming s takes l f =
-    let bytes = told_is l.to_come s.bytes (ap (λ (s : Seen). s.to_come) f.seen) in
-    let ending = ending_is l.ending s.ending (ap (λ (s : Seen). s.ending) f.seen) in
-    same_coming (link_of l) (new_link (record { bytes = s.bytes; ending = s.ending; plain = true; takes = limit_of takes })) l.to_come s.bytes l.ending s.ending f.seen bytes ending

@@ -5,12 +5,12 @@ use Rattle.htx_model.specs.Block.{Block}
 use Rattle.htx_model.specs.Blocks.{flow}
 use Rattle.http_model.specs.Head.{Head, head_blocks}
 use Rattle.h1_write.specs.declared.writer.Writer.{Writer}
-use Rattle.h1_write.specs.Spelled.{HasWritten, Writes, has_ended, is_done, IsEven}
+use Rattle.h1_write.specs.Spelled.{HasWritten, Writes, has_ended}
 use Rattle.http_model.specs.Head.{front_blocks, message_blocks}
 use Rattle.htx_model.proofs.PublicLaws.{flow-append}
 use Rattle.h1_write.proofs.PublicLaws.{grown_told}
 use Rattle.lane.specs.Direction.Sent.{Sent, message_of}
-use Rattle.lane.specs.Direction.Carried.{Carried, CarriesFront, Carries, EndIsOut}
+use Rattle.lane.specs.Direction.Carried.{Carried, CarriesFront, Carries}
 use Rattle.lane.specs.declared.direction.stage.Source.{Source}
 use Rattle.lane.specs.declared.direction.stage.Source.TheVariants as source
 use Rattle.lane.proofs.DirectionLemmas.FlowLemmas.{head_flow, flow-middle, flow_none, none_first, none_second}
@@ -124,11 +124,6 @@ carries_closed w s found put left msg c = (
   record { taken = c.1.taken; text = c.1.text; put_is = c.1.put_is; has = c.1.has; flows = c.1.flows ∙ sym (append-nil (front_blocks s.head found)) },
   λ e. let both : true ≡ false = sym e ∙ c.0 in absurd (cc both),
 )
-
-pub end_is_out : (src : Source) (w : Writer) → (src ≡ source.Whole → is_done w ≡ true) → IsEven w → EndIsOut src w
-end_is_out source.Going w done rests = tt
-end_is_out source.Whole w done rests = done refl
-end_is_out (source.Cut code) w done rests = rests
 
 -- a head that stands in the first array, with the front of its body, is carried
 pub carries_head : (w : Writer) (s : Sent) (put : List ℕ) (left msg : List Block) → has_ended w ≡ false → ((bs : List Block) → HasWritten s.framing s.no_body [] bs [] w) → put ≡ s.before → left ≡ [] → flow msg ≡ front_blocks s.head s.given

@@ -77,9 +77,6 @@ pub going_on : (l : LaneState) (p : Past) → Sends l p → RestsFor l → l.sou
 going_on l p s (IsOver is) going = absurd (is going)
 going_on l p s (Waits going ended waits more still) is = inr (going, waiting_room l p s waits more, ended)
 
-pub rests_done : (l : LaneState) (x : LaneStage) → RestsFor l → RestsFor (record l { stage = x })
-rests_done l x r = rests_stage l x r
-
 -- the same lane at another stage
 pub stands_at : (l : LaneState) (x : LaneStage) (p : Past) → Sends l p → (x ≡ stage.Done → IsAllOut l) → Stands (record l { stage = x }) p
 stands_at l x p s out = record {

@@ -165,17 +165,6 @@ impl Sieve {
         self.end
     }
 
-    /// Whether nothing is held and more of the body may come.
-    pub fn is_idle(&self) -> bool
-        ensures idle { result ≡ true → IsIdle self.now }
-        ensures only { IsIdle self.now → result ≡ true }
-    {
-        match self.end {
-            BodyEnd::Open => self.held.len() == 0,
-            BodyEnd::Whole | BodyEnd::Cut | BodyEnd::Accepted => false,
-        }
-    }
-
     /// The next part of the body is held, and the section behind it where it has come.
     pub fn hold(&mut self, piece: &[u8], section: &[u8])
         requires idle { IsIdle self.old }
