@@ -1,2 +1,2 @@
-pub mod ArrayLemmas
-pub mod BodiesLemmas
+mod ArrayLemmas
+mod BodiesLemmas

@@ -1,1 +1,1 @@
-pub mod RunsLemmas
+mod RunsLemmas

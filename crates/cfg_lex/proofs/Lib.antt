@@ -1,2 +1,2 @@
-pub mod SpanLemmas
-pub mod PartLemmas
+mod SpanLemmas
+mod PartLemmas

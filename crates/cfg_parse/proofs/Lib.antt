@@ -1,9 +1,9 @@
-pub mod ListLemmas
-pub mod SizeLemmas
-pub mod LineLemmas
-pub mod TextLemmas
-pub mod SoundLemmas
-pub mod LineReadings
+mod ListLemmas
+mod SizeLemmas
+mod LineLemmas
+mod TextLemmas
+mod SoundLemmas
+mod LineReadings
 mod StepLemmas
 mod FilterLemmas
-pub mod ActionLemmas
+mod ActionLemmas

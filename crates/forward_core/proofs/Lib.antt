@@ -1,6 +1,6 @@
-pub mod MeaningLemmas
-pub mod BoundsLemmas
-pub mod RulesLemmas
-pub mod RequestLemmas
-pub mod AnswerLemmas
-pub mod JoinedLemmas
+mod MeaningLemmas
+mod BoundsLemmas
+mod RulesLemmas
+mod RequestLemmas
+mod AnswerLemmas
+mod JoinedLemmas

@@ -1,7 +1,7 @@
-pub mod Few
-pub mod Places
-pub mod Params
-pub mod Joins
-pub mod Lasts
-pub mod Starts
-pub mod FieldSamples
+mod Few
+mod Places
+mod Params
+mod Joins
+mod Lasts
+mod Starts
+mod FieldSamples

@@ -1,5 +1,5 @@
-pub mod Runs
-pub mod Bodies
-pub mod Asked
-pub mod Replies
-pub mod ActionLemmas
+mod Runs
+mod Bodies
+mod Asked
+mod Replies
+mod ActionLemmas

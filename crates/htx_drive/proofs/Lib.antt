@@ -1,15 +1,15 @@
-pub mod Reading
-pub mod Refusals
-pub mod Resting
-pub mod Headlines
-pub mod Budgets
-pub mod Running
-pub mod Dialling
-pub mod Handing
-pub mod Last
-pub mod Writing
-pub mod Turning
-pub mod Stepping
-pub mod Requests
-pub mod ReplayLemmas
-pub mod DrillLemmas
+mod Reading
+mod Refusals
+mod Resting
+mod Headlines
+mod Budgets
+mod Running
+mod Dialling
+mod Handing
+mod Last
+mod Writing
+mod Turning
+mod Stepping
+mod Requests
+mod ReplayLemmas
+mod DrillLemmas

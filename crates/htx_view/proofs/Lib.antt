@@ -1,2 +1,2 @@
-pub mod FirstLines
-pub mod FirstValues
+mod FirstLines
+mod FirstValues

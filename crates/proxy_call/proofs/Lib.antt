@@ -1,9 +1,9 @@
-pub mod Causes
-pub mod Drill
-pub mod Due
-pub mod Endings
-pub mod Stopped
-pub mod Told
-pub mod Words
-pub mod Writing
-pub mod SessionsLemmas
+mod Causes
+mod Drill
+mod Due
+mod Endings
+mod Stopped
+mod Told
+mod Words
+mod Writing
+mod SessionsLemmas

@@ -1,3 +1,3 @@
-pub mod Accepted
-pub mod Items
-pub mod Passes
+mod Accepted
+mod Items
+mod Passes

@@ -1,5 +1,5 @@
-pub mod TemplateLemmas
-pub mod RegsubLemmas
-pub mod ReplacingLemmas
-pub mod FieldsLemmas
-pub mod EncodeLemmas
+mod TemplateLemmas
+mod RegsubLemmas
+mod ReplacingLemmas
+mod FieldsLemmas
+mod EncodeLemmas

@@ -1,2 +1,2 @@
-pub mod Through
-pub mod GivenLemmas
+mod Through
+mod GivenLemmas

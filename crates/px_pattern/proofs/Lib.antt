@@ -1,2 +1,2 @@
-pub mod GroupLemmas
-pub mod Alike
+mod GroupLemmas
+mod Alike

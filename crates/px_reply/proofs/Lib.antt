@@ -1,6 +1,6 @@
-pub mod Weights
-pub mod Messages
-pub mod Sent
-pub mod Bodies
-pub mod Replies
-pub mod Rooms
+mod Weights
+mod Messages
+mod Sent
+mod Bodies
+mod Replies
+mod Rooms

@@ -1,5 +1,5 @@
-pub mod EntryLemmas
-pub mod SlotLemmas
-pub mod FoundLemmas
-pub mod CastLemmas
-pub mod FetchedLemmas
+mod EntryLemmas
+mod SlotLemmas
+mod FoundLemmas
+mod CastLemmas
+mod FetchedLemmas

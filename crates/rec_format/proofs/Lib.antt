@@ -1,9 +1,9 @@
-pub mod Digits
-pub mod Formats
-pub mod Reports
-pub mod Capped
+mod Digits
+mod Formats
+mod Reports
+mod Capped
 mod Several
-pub mod Joining
-pub mod WordsBack
-pub mod WrittenBack
-pub mod RecordBack
+mod Joining
+mod WordsBack
+mod WrittenBack
+mod RecordBack

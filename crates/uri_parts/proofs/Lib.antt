@@ -1,1 +1,1 @@
-pub mod Cuts
+mod Cuts

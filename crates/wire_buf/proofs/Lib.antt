@@ -1,2 +1,2 @@
-pub mod Parts
-pub mod Storing
+mod Parts
+mod Storing
