@@ -10,3 +10,4 @@ pub mod Resting
 pub mod Reading
 pub mod Sending
 pub mod Keeping
+pub mod Open

@@ -1,19 +1,19 @@
 -- What a lane of answers that waits says of the exchange in hand.
-use Rattle.std.proofs.Common.{◌≡◌, ◌≢◌, ℕ, List, [], ◌∷◌, ◌++◌, Bool, true, false, refl, sym, ap, ◌∙◌, subst}
+use Rattle.std.proofs.Common.{◌≡◌, ◌≢◌, ◌⊎◌, ℕ, List, [], ◌∷◌, ◌++◌, Bool, true, false, refl, sym, ap, ◌∙◌, subst}
 use Rattle.std.specs.Prelude.{codes}
 use Rattle.std.proofs.lemmas.List.{append-nil, append_cancel_left}
 use Rattle.htx_model.specs.Blocks.{flow}
 use Rattle.http_model.specs.declared.Framing.{Framing}
 use Rattle.http_model.specs.Head.{Head, Message, StartLine, RequestLine, StatusLine}
 use Rattle.http_model.specs.Spelling.{Spells, line_text, fields_text}
-use Rattle.h1_body.specs.BodyOf.{BodyRead, IsBodyOf}
+use Rattle.h1_body.specs.BodyOf.{BodyRead, More, IsBodyOf}
 use Rattle.h1_write.specs.Spelled.{IsEven}
 use Rattle.h1_write.proofs.PublicLaws.{whole_told}
 use Rattle.body_filter.specs.declared.filter_spec.FilterSpec.{FilterSpec}
 use Rattle.body_filter.specs.declared.filter_spec.FedState.TheVariants.{Going}
 use Rattle.body_filter.specs.Filter.{filtered}
 use Rattle.lane.specs.Direction.Carried.{EndIsOut}
-use Rattle.lane.specs.Direction.Promise.{BodyTaken, body_in}
+use Rattle.lane.specs.Direction.Promise.{BodyTaken, EndsInSection, body_in}
 use Rattle.lane.specs.Direction.Sends.{Past, Stands, put_out}
 use Rattle.lane.specs.Direction.Sent.{Sent, Cut, SpellsAs, message_of}
 use Rattle.lane.specs.declared.direction.stage.Stage.TheVariants as stage
@@ -78,7 +78,7 @@ uncut lane p filters head framed no_body a at last going rest =
       bytes = q.bytes;
       follows = follows lane p filters head framed no_body q is;
       ended = shows.ended;
-      still = λ read x. shows.still read (taken lane q is.0.framing read is.5 x);
+      still = λ read x. subst (λ (framing : Framing). (read ≡ More (body_in read)) ⊎ EndsInSection (limits_of lane) framing q.bytes) is.5 (shows.still read (taken lane q is.0.framing read is.5 x));
       accepted = λ read x. subst (λ (f : List FilterSpec). (filtered f false (body_in read)).state ≡ Going) is.7 (shows.accepted read (taken lane q is.0.framing read is.5 x));
     }
 

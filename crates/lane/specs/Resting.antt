@@ -7,7 +7,7 @@ use Rattle.h1_body.specs.BodyOf.{BodyRead, More, IsBodyOf}
 use Rattle.body_filter.specs.declared.filter_spec.FilterSpec.{FilterSpec}
 use Rattle.body_filter.specs.declared.filter_spec.FedState.TheVariants.{Going}
 use Rattle.body_filter.specs.Filter.{filtered}
-use Rattle.lane.specs.Direction.Promise.{InSection, body_in}
+use Rattle.lane.specs.Direction.Promise.{EndsInSection, body_in}
 use Rattle.lane.specs.Direction.Sent.{Sent, Cut, SpellsAs}
 use Rattle.lane.specs.Answering.{Exchange, HeadsCame, Reads, interim_text, limits_of, ended_of}
 use Rattle.lane.specs.declared.response_lane.ResponseLane.{ResponseLane}
@@ -34,12 +34,12 @@ pub record IsAllServed (lane : ResponseLane) (p : Exchange) (filters : List Filt
   pub spells : (read : BodyRead) → IsBodyOf (limits_of lane) got.framing bytes (ended_of lane) read
       → SpellsAs (served head framed no_body) (filtered filters false (body_in read)).output Cut text
 
--- The server's stream hasn't ended, the filters refused nothing of the body, and its bytes show no cut of it: it is still to be whole, or a
--- trailer section stands there that is not whole.
+-- The server's stream hasn't ended, the filters refused nothing of the body, and its bytes show no cut of it: it is still to be whole, or they
+-- end in a trailer section that is not whole and not past its limit.
 pub record ServesUncut (lane : ResponseLane) (p : Exchange) (filters : List FilterSpec) : Type 0 where
   pub got : Received
   pub bytes : List ℕ
   pub follows : FollowsHead lane p got bytes
   pub ended : ended_of lane ≡ None
-  pub still : (read : BodyRead) → IsBodyOf (limits_of lane) got.framing bytes (ended_of lane) read → (read ≡ More (body_in read)) ⊎ InSection lane.lane
+  pub still : (read : BodyRead) → IsBodyOf (limits_of lane) got.framing bytes (ended_of lane) read → (read ≡ More (body_in read)) ⊎ EndsInSection (limits_of lane) got.framing bytes
   pub accepted : (read : BodyRead) → IsBodyOf (limits_of lane) got.framing bytes (ended_of lane) read → (filtered filters false (body_in read)).state ≡ Going

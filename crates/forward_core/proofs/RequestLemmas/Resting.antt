@@ -19,11 +19,10 @@ use Rattle.h1_head.specs.Kind.{request_heads}
 use Rattle.h1_head.specs.Numbers.{most_lines}
 use Rattle.h1_head.specs.Stream.{behind, HasNone}
 use Rattle.h1_body.specs.BodyOf.{BodyRead, More, IsBodyOf}
-use Rattle.h1_body.specs.Section.{section_limit}
 use Rattle.lane.specs.Direction.Sent.{Sent, Cut, SpellsAs}
 use Rattle.lane.specs.Direction.Sends.{Past, put_out}
 use Rattle.lane.specs.Direction.Heads.{Waits}
-use Rattle.lane.specs.Direction.Promise.{BodyTaken, InSection, body_in, sent_so_far}
+use Rattle.lane.specs.Direction.Promise.{BodyTaken, EndsInSection, body_in, sent_so_far}
 use Rattle.lane.specs.Direction.Promise as lanes
 use Rattle.lane.specs.declared.direction.stage.Stage.{Stage}
 use Rattle.lane.specs.declared.direction.stage.Stage.TheVariants as stage
@@ -36,7 +35,7 @@ use Rattle.forward_core.specs.declared.request.place.Place.TheVariants as place
 use Rattle.forward_core.specs.Request.Seen.{source_by, source_at}
 use Rattle.forward_core.specs.Request.Rests.{IsStill, WaitsForHead, RestsAt}
 use Rattle.forward_core.specs.Request.Stands.{IsFor, ReadsOn, SoundAt, HasPut, GoesOut, StandsAt, coming, message_to}
-use Rattle.forward_core.specs.Request.Shown.{EndsInSection, ShowsNoCut, PutsAll, NoHeadCame}
+use Rattle.forward_core.specs.Request.Shown.{ShowsNoCut, PutsAll, NoHeadCame}
 
 -- ---- where calls leave it
 
@@ -117,11 +116,11 @@ taken cfg lane asks p read limits reads ended x =
     (subst (λ (framing : Framing). IsBodyOf (limits_of lane) framing p.bytes None read) (sym reads)
     (subst (λ (l : Limits). IsBodyOf l asks.received.framing p.bytes None read) (sym limits) x)))
 
-in_section : (limits : Limits) (lane : RequestLane) (bytes front : List ℕ) (read : BodyRead) → limits_of lane ≡ limits → bytes ≡ front ++ input_of lane
-    → (read ≡ More (body_in read)) ⊎ InSection lane.lane → (read ≡ More (body_in read)) ⊎ EndsInSection limits bytes
-in_section limits lane bytes front read e is (inl more) = inl more
-in_section limits lane bytes front read e is (inr section) =
-    inr (record { front = front; section = input_of lane; bytes_are = is; open_ = section.0; short = subst (λ (l : Limits). length (input_of lane) < section_limit l) e section.1 })
+in_section : (limits : Limits) (lane : RequestLane) (reads framing : Framing) (bytes : List ℕ) (read : BodyRead) → limits_of lane ≡ limits → reads ≡ framing
+    → (read ≡ More (body_in read)) ⊎ EndsInSection (limits_of lane) reads bytes → (read ≡ More (body_in read)) ⊎ EndsInSection limits framing bytes
+in_section limits lane reads framing bytes read e same h =
+    subst (λ (f : Framing). (read ≡ More (body_in read)) ⊎ EndsInSection limits f bytes) same
+    (subst (λ (l : Limits). (read ≡ More (body_in read)) ⊎ EndsInSection l reads bytes) e h)
 
 -- what the lane shows, in the words of the configuration
 shows : (cfg : Config) (lane : RequestLane) (vars : Variables) (came_ : Coming) (asks : Asking Variables) (to_server : List ℕ) (g : GoesOut cfg lane vars came_ asks to_server) → IsFor cfg lane → lanes.ShowsNoCut lane.lane g.past
@@ -133,7 +132,7 @@ shows cfg lane vars came_ asks to_server g is h =
       left = coming lane p.bytes;
       head = g.head;
       ended = h.ended;
-      still = λ read x. in_section cfg.limits lane p.bytes g.sends.sends.used read is.limits g.sends.sends.bytes (h.still read (taken cfg lane asks p read is.limits g.reads h.ended x));
+      still = λ read x. in_section cfg.limits lane p.reads asks.received.framing p.bytes read is.limits g.reads (h.still read (taken cfg lane asks p read is.limits g.reads h.ended x));
       accepted = λ read x. subst (λ (fs : List FilterSpec). (filtered fs false (body_in read)).state ≡ state.Going) g.filters (h.accepted read (taken cfg lane asks p read is.limits g.reads h.ended x));
     }
 

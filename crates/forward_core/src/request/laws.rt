@@ -1,5 +1,10 @@
 //! What the definitions say together.
-ghost use Rattle.std.specs.Prelude.{◌≡◌, ◌⊎◌, ℕ, List, [], true, false};
+ghost use Rattle.std.specs.Prelude.{◌≡◌, ◌≢◌, ◌⊎◌, ℕ, List, [], true, false};
+ghost use Rattle.http_model.specs.Head.{Field};
+ghost use Rattle.http_model.specs.Reading.{Whole};
+ghost use Rattle.h1_body.specs.Body.{Hopeless};
+ghost use Rattle.h1_body.specs.BodyOf as bodies;
+ghost use Rattle.h1_body.specs.BodyOf.{Reads};
 ghost use Rattle.session_core.specs.Consequences.{IsTotal};
 ghost use Rattle.session_model.specs.Stream.{Stream};
 ghost use Rattle.session_core.specs.History.{Coming, Continues};
@@ -14,7 +19,7 @@ ghost use Rattle.htx_arena.specs.Layout.Contents.{Contents};
 ghost use Rattle.forward_core.specs.Request.Reads.{HasHead};
 ghost use Rattle.forward_core.specs.Request.Edits.{Edits, array_size_of, with_head};
 ghost use Rattle.forward_core.specs.Request.Steps.{RequestsSo, WholeCame};
-ghost use Rattle.forward_core.specs.Request.Shown.{ShowsNoCut, PutsAll, NoHeadCame};
+ghost use Rattle.forward_core.specs.Request.Shown.{ReadsSoFar, ShowsNoCut, PutsAll, NoHeadCame};
 ghost use Rattle.forward_core.specs.declared.request.place.Place.TheVariants as place;
 ghost use Rattle.forward_core.specs.declared.request.side.RequestSide.{RequestSide};
 
@@ -82,6 +87,13 @@ pub fn nothing_held_back()
     lanes::nothing_held_back();
     lanes::no_cut_shown();
 }
+
+/// What shows no cut is open: no byte in front of a trailer section is malformed, and the bytes don't reach the end of a body.
+pub fn uncut_is_open()
+    ensures malformed { (cfg : Config) (came : Coming) (asking : Asking Variables) (shows : ShowsNoCut cfg came asking) → bodies.place_of asking.received.framing shows.left.bytes ≢ Hopeless }
+    ensures whole { (cfg : Config) (came : Coming) (asking : Asking Variables) (shows : ShowsNoCut cfg came asking) (body : List ℕ) (trailers : List Field) (rest : List ℕ)
+        → ¬ (ReadsSoFar cfg asking shows.left (Reads (Whole body trailers rest))) }
+{}
 
 /// Where a head is to be read and the direction is at rest, none came, and the client may still give one.
 pub fn waits_for_a_head()

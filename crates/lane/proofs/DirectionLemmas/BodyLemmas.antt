@@ -22,7 +22,7 @@ use Rattle.h1_body.specs.declared.reader.BodyReader.{BodyReader}
 use Rattle.h1_body.specs.declared.reader.BodyState.TheVariants as state
 use Rattle.h1_body.proofs.PublicLaws.{goes_both, section_goes, tells_at}
 use Rattle.lane.specs.Direction.Pulled.{IsWaiting}
-use Rattle.lane.specs.Direction.Promise.{body_in, IsCut}
+use Rattle.lane.specs.Direction.Promise.{body_in, IsCut, EndsInSection}
 use Rattle.lane.proofs.DirectionLemmas.ReadLemmas.{no_trailers, no_section}
 
 -- from a place on, some data is found
@@ -157,7 +157,7 @@ record Waiting (most : ℕ) (st : Stage) (at : BodyAt) (rest : List ℕ) : Type 
   pub to : BodyAt
   pub goes : Goes at rest to []
   pub cut : (found : List ℕ) (how : Ending) (read : BodyRead) → (how ≡ ending.Closed → ends_at st ≡ false) → Tells most to found (Some how) read → IsCut read
-  pub still : (found : List ℕ) (read : BodyRead) → Tells most to found None read → (read ≡ More found) ⊎ (HasNoSection rest × (length rest < most))
+  pub still : (found : List ℕ) (read : BodyRead) → Tells most to found None read → (read ≡ More found) ⊎ ((to ≡ InSection rest) × HasNoSection rest × (length rest < most))
 
 stays_at : (at other : BodyAt) (rest : List ℕ) → at ≡ other → rest ≡ [] → Goes at rest other []
 stays_at at other rest e none = subst (λ (xs : List ℕ). Goes at xs other []) (sym none) (record { place = e; piece = refl })
@@ -195,7 +195,7 @@ waiting most stage.LineEnd at rest more s (inr one) =
       still = λ found read t. inl t;
     }
 waiting most stage.Section at rest more s w =
-    record { to = InSection rest; goes = subst (λ (p : BodyAt). Goes p rest (InSection rest) []) (sym s) (section_goes rest []); cut = λ found how read _ t. section_cut most rest found how read w.none t; still = λ found read t. inr (w.none, w.short) }
+    record { to = InSection rest; goes = subst (λ (p : BodyAt). Goes p rest (InSection rest) []) (sym s) (section_goes rest []); cut = λ found how read _ t. section_cut most rest found how read w.none t; still = λ found read t. inr (refl, w.none, w.short) }
 waiting most stage.Over at rest more s w = absurd (cc)
 waiting most stage.Dead at rest more s w = absurd (cc)
 
@@ -218,10 +218,17 @@ waiting_cut limits framing used found section rest reader how read h more w ends
     let r = waiting (section_limit limits) reader.stage h.at rest more h.stands here in
     r.cut found how read ends (tells_at limits framing (used ++ rest) found r.to (Some how) read (goes_on limits framing used found rest h.at r.to h.goes r.goes) x)
 
+-- more is to come, or the bytes end in a section
+opened : (limits : Limits) (framing : Framing) (bytes found rest : List ℕ) (to : BodyAt) (read : BodyRead) → Goes (start_of framing) bytes to found
+    → (read ≡ More found) ⊎ ((to ≡ InSection rest) × HasNoSection rest × (length rest < section_limit limits)) → (read ≡ More found) ⊎ EndsInSection limits framing bytes
+opened limits framing bytes found rest to read g (inl more) = inl more
+opened limits framing bytes found rest to read g (inr (is, none, short)) = inr (record { section = rest; place = g.place ∙ is; none = none; short = short })
+
 -- while the stream goes on, it is not cut there, but for a section that is not whole
 pub waiting_open : (limits : Limits) (framing : Framing) (used found section rest : List ℕ) (reader : BodyReader) (read : BodyRead) → HasRead limits framing used found section reader
-    → state_of reader ≡ state.More → IsWaiting reader rest → IsBodyOf limits framing (used ++ rest) None read → (read ≡ More found) ⊎ (HasNoSection rest × (length rest < section_limit limits))
+    → state_of reader ≡ state.More → IsWaiting reader rest → IsBodyOf limits framing (used ++ rest) None read → (read ≡ More found) ⊎ EndsInSection limits framing (used ++ rest)
 waiting_open limits framing used found section rest reader read h more w x =
     let here : WaitsAt (section_limit limits) reader.stage rest 1 = subst (λ (k : ℕ). WaitsAt k reader.stage rest 1) h.limit w in
     let r = waiting (section_limit limits) reader.stage h.at rest more h.stands here in
-    r.still found read (tells_at limits framing (used ++ rest) found r.to None read (goes_on limits framing used found rest h.at r.to h.goes r.goes) x)
+    let g = goes_on limits framing used found rest h.at r.to h.goes r.goes in
+    opened limits framing (used ++ rest) found rest r.to read g (r.still found read (tells_at limits framing (used ++ rest) found r.to None read g x))

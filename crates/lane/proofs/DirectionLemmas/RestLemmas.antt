@@ -17,7 +17,7 @@ use Rattle.lane.specs.Direction.Sent.{Cut, SpellsAs}
 use Rattle.lane.specs.Direction.Pulled.{IsWaiting}
 use Rattle.lane.specs.Direction.Sends.{Past, Sends, Stands, IsAtRest, RestsFor, IsOver, Waits, put_out}
 use Rattle.lane.specs.Direction.Filtering.{HasPassed, SieveRests}
-use Rattle.lane.specs.Direction.Promise.{BodyTaken, body_in, sent_so_far, ShowsNoCut, InSection}
+use Rattle.lane.specs.Direction.Promise.{BodyTaken, body_in, sent_so_far, ShowsNoCut, EndsInSection}
 use Rattle.lane.specs.declared.direction.stage.Source.TheVariants as source
 use Rattle.lane.specs.Direction.State.{LaneState}
 use Rattle.lane.proofs.DirectionLemmas.BodyLemmas.{waiting_body, waiting_open}
@@ -37,7 +37,7 @@ settled_by (Some sieve) filters found passed rests h =
 -- what is known of the bytes taken where the lane waits
 record AtRest (l : LaneState) (p : Past) (s : Sends l p) (read : BodyRead) : Type 0 where
   pub body : body_in read ≡ s.found
-  pub open_ : (read ≡ More s.found) ⊎ InSection l
+  pub open_ : (read ≡ More s.found) ⊎ EndsInSection l.limits p.reads p.bytes
   pub passed : filtered p.filters false (body_in read) ≡ record { output = s.passed; state = state.Going }
 
 taken_here : (l : LaneState) (p : Past) (s : Sends l p) (read : BodyRead) → BodyTaken l p [] l.ended read → IsBodyOf l.limits p.reads (s.used ++ l.input.items) l.ended read
@@ -49,7 +49,7 @@ at_rest l p s ended waits more still read x =
     let body = waiting_body l.limits p.reads s.used s.found s.section l.input.items l.reader None read s.has_read more waits here in
     record {
       body = body;
-      open_ = waiting_open l.limits p.reads s.used s.found s.section l.input.items l.reader read s.has_read more waits here;
+      open_ = subst (λ (bytes : List ℕ). (read ≡ More s.found) ⊎ EndsInSection l.limits p.reads bytes) (sym s.bytes) (waiting_open l.limits p.reads s.used s.found s.section l.input.items l.reader read s.has_read more waits here);
       passed = ap (filtered p.filters false) body ∙ settled_by l.sieve p.filters s.found s.passed still s.has_passed;
     }
 
@@ -74,6 +74,6 @@ no_cut_shown l p st e (Waits going ended waits more still) =
       accepted = λ read x. ap (λ (f : Filtered). f.state) (at_rest l p s ended waits more still read x).passed;
     }
   where
-    either : (read : BodyRead) (found : List ℕ) → body_in read ≡ found → (read ≡ More found) ⊎ InSection l → (read ≡ More (body_in read)) ⊎ InSection l
+    either : (read : BodyRead) (found : List ℕ) → body_in read ≡ found → (read ≡ More found) ⊎ EndsInSection l.limits p.reads p.bytes → (read ≡ More (body_in read)) ⊎ EndsInSection l.limits p.reads p.bytes
     either read found body (inl is) = inl (is ∙ ap More (sym body))
     either read found body (inr section) = inr section

@@ -1,9 +1,12 @@
 -- The contract of a lane that sends a message: its text, against the bytes that came behind the head and all that may follow them.
 use Rattle.std.specs.Prelude.{◌≡◌, ℕ, ◌<◌, length, Option, Some, None, List, [], ◌++◌, true, false, ◌⊎◌, ⊤}
+use Rattle.http_model.specs.declared.Limits.{Limits}
+use Rattle.http_model.specs.declared.Framing.{Framing}
 use Rattle.http_model.specs.declared.Ending.{Ending}
 use Rattle.http_model.specs.Head.{Field}
 use Rattle.http_model.specs.Reading.{Whole, Broke, Bad}
-use Rattle.h1_body.specs.BodyOf.{BodyRead, Reads, More, IsBodyOf}
+use Rattle.h1_body.specs.Body.{InSection}
+use Rattle.h1_body.specs.BodyOf.{BodyRead, Reads, More, IsBodyOf, place_of}
 use Rattle.httparse.specs.Grammar.{HasNoSection}
 use Rattle.h1_body.specs.Section.{section_limit}
 use Rattle.body_filter.specs.declared.filter_spec.FilterSpec.{FilterSpec}
@@ -94,13 +97,16 @@ pub record Promise (lane : LaneState) (p : Past) : Type 0 where
   -- it is cut with a code only where the body is cut for it
   pub cut : (code : ℕ) → lane.source ≡ source.Cut code → OnEachBody lane p (IsCutWith code p.filters)
 
--- a trailer section that is not whole, and not past its limit
-abbrev pub InSection : LaneState → Type 0
-InSection lane = HasNoSection lane.input.items × (length lane.input.items < section_limit lane.limits)
+-- the bytes of a body lead into a trailer section, which is not whole and not past its limit
+pub record EndsInSection (limits : Limits) (framing : Framing) (bytes : List ℕ) : Type 0 where
+  pub section : List ℕ
+  pub place : place_of framing bytes ≡ InSection section
+  pub none : HasNoSection section
+  pub short : length section < section_limit limits
 
--- No ending came, the filters refused nothing, and the bytes taken show no cut: the body is still to be whole, or a trailer section
--- stands there that is not whole.
+-- No ending came, the filters refused nothing, and the bytes taken show no cut: the body is still to be whole, or they end in a trailer
+-- section that is not whole and not past its limit.
 pub record ShowsNoCut (lane : LaneState) (p : Past) : Type 0 where
   pub ended : lane.ended ≡ None
-  pub still : (read : BodyRead) → BodyTaken lane p [] lane.ended read → (read ≡ More (body_in read)) ⊎ InSection lane
+  pub still : (read : BodyRead) → BodyTaken lane p [] lane.ended read → (read ≡ More (body_in read)) ⊎ EndsInSection lane.limits p.reads p.bytes
   pub accepted : (read : BodyRead) → BodyTaken lane p [] lane.ended read → (filtered p.filters false (body_in read)).state ≡ Going
