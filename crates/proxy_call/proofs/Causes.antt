@@ -36,7 +36,7 @@ load_stops input name bytes (configurations.Refused line kind) named read loads 
 load_stops input name bytes configurations.OutOfMemory named read loads = tt
 
 -- a record that is refused
-pub record_stops : (input : Input) (name bytes : List ℕ) (fault : RecFault) → DecidesRecord input.words input.files name → Reads input.files name 67108865 bytes
+pub record_stops : (input : Input) (name bytes : List ℕ) (fault : RecFault) → DecidesRecord input.words input.files input.builder name → Reads input.files name 67108865 bytes
     → Refuses (record_of bytes) fault → StopsBy input (stop_of_record fault)
 record_stops input name bytes (records.Refused place kind) decides read refuses =
     (name, decides, recorded input.files name bytes (Err (record { place = place; kind = kind })) read refuses)

@@ -151,13 +151,13 @@ pub refused_due : (words : List (List ℕ)) (files : Option (List NamedBytes)) (
 refused_due words files fs builder name line kind told never named refused =
     (name, named, line, kind, unbuilt fs builder name line kind never (subst (λ (f : Option (List NamedBytes)). IsRefused f builder name line kind) told refused))
 
-decided : (words : List (List ℕ)) (files : Option (List NamedBytes)) (fs : List NamedBytes) (rec : List ℕ) → files ≡ Some fs → DecidesRecord words files rec
+decided : (words : List (List ℕ)) (files : Option (List NamedBytes)) (builder : Builder) (fs : List NamedBytes) (rec : List ℕ) → files ≡ Some fs → DecidesRecord words files builder rec
     → IsCheckRecord words rec ⊎ ((cfg_name : List ℕ) × IsReplay words cfg_name rec × (cfg : Config) × Configured fs cfg_name (Ok cfg))
-decided words files fs rec told (inl is) = inl is
-decided words files fs rec told (inr (cfg_name, is, accepted)) =
+decided words files builder fs rec told (inl is) = inl is
+decided words files builder fs rec told (inr (cfg_name, is, accepted, built)) =
     let said = of_told files fs (λ f. (cfg : Config) × Configured f cfg_name (Ok cfg)) told accepted in inr (cfg_name, is, said.0, said.1)
 
-pub record_due : (words : List (List ℕ)) (files : Option (List NamedBytes)) (fs : List NamedBytes) (rec : List ℕ) (refusal : records.Refusal) → files ≡ Some fs → DecidesRecord words files rec
+pub record_due : (words : List (List ℕ)) (files : Option (List NamedBytes)) (builder : Builder) (fs : List NamedBytes) (rec : List ℕ) (refusal : records.Refusal) → files ≡ Some fs → DecidesRecord words files builder rec
     → IfTold files (λ f. RecordIs f rec (Err refusal)) → IsDue words fs ended.Record
-record_due words files fs rec refusal told decides refused =
-    (rec, refusal.place, refusal.kind, of_told files fs _ told refused, decided words files fs rec told decides)
+record_due words files builder fs rec refusal told decides refused =
+    (rec, refusal.place, refusal.kind, of_told files fs _ told refused, decided words files builder fs rec told decides)

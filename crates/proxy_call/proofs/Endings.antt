@@ -15,7 +15,7 @@ use Rattle.proxy_call.specs.Answers.{DecidesBy, DecidesRecord, IsDue, IsGood, Is
 use Rattle.proxy_call.specs.Ends.{Ended, Output, PutsFront, Tells, status_after}
 use Rattle.proxy_call.specs.Files.{IsBuilt}
 use Rattle.proxy_call.specs.Lines.{file_line}
-use Rattle.proxy_call.specs.Serving.{GainsBind, ServedBy, Serves, Serving}
+use Rattle.proxy_call.specs.Serving.{GainsBind, LostBy, ServedBy, Serves, Serving}
 use Rattle.proxy_call.specs.Stops.{Input}
 use Rattle.proxy_call.specs.declared.status.Status.{Status}
 use Rattle.proxy_call.specs.declared.status.Status.TheVariants as ended
@@ -57,7 +57,7 @@ module _ {L N : Type 0} (seen : L → Seen) (wrote : L → List ℕ → Type 0) 
       (a.answer.0, a.answer.1, a.text, a.answer.2, a.gains)
 
   pub record_refused : (status : Status) → EndedBy seen wrote net_seen first now input output status → status ≡ ended.Record
-      → (name : List ℕ) × DecidesRecord input.words input.files name × (text : List ℕ) × IsRecordRefusedOf input.files name text × Gains output.old output.new text
+      → (name : List ℕ) × DecidesRecord input.words input.files input.builder name × (text : List ℕ) × IsRecordRefusedOf input.files name text × Gains output.old output.new text
   record_refused status end is =
       let a = only_told ended.Record tt (at status ended.Record end is) in
       (a.answer.0, a.answer.1, a.text, a.answer.2, a.gains)
@@ -65,7 +65,7 @@ module _ {L N : Type 0} (seen : L → Seen) (wrote : L → List ℕ → Type 0) 
   pub file_fault : (status : Status) → EndedBy seen wrote net_seen first now input output status → status ≡ ended.FileFault → Rose input.reads input.reads_now
   file_fault status end is = (only_told ended.FileFault tt (at status ended.FileFault end is)).cause refl
 
-  pub file_name : (status : Status) → EndedBy seen wrote net_seen first now input output status → status ≡ ended.FileFault → DecidesBy input.words input.files input.last
+  pub file_name : (status : Status) → EndedBy seen wrote net_seen first now input output status → status ≡ ended.FileFault → DecidesBy input.words input.files input.builder input.last
   file_name status end is = (only_told ended.FileFault tt (at status ended.FileFault end is)).answer.0
 
   pub file_told : (status : Status) → EndedBy seen wrote net_seen first now input output status → status ≡ ended.FileFault → Gains output.old output.new (file_line input.last)
@@ -122,26 +122,25 @@ module _ {L N : Type 0} (seen : L → Seen) (wrote : L → List ℕ → Type 0) 
   out_fault status end is = out_of (at status ended.OutFault end is)
 
   front_of : EndedBy seen wrote net_seen first now input output ended.OutFault
-      → PutsFront input output ⊎ (IsBuilt input.builder × Serving input.words input.files (λ cfg count. Breaks net_seen (ServedBy seen wrote net_seen cfg) (address_of cfg.bind) count first now output.old output.new))
-  front_of (inl (told, quiet)) = inl told.1
+      → (PutsFront input output × (now ≡ first)) ⊎ (IsBuilt input.builder × Serving input.words input.files (λ cfg count. Breaks net_seen (ServedBy seen wrote net_seen cfg) (LostBy seen wrote net_seen cfg) (address_of cfg.bind) count first now output.old output.new))
+  front_of (inl (told, quiet)) = inl (told.1, quiet)
   front_of (inr (built, (name, count, is, cfg, accepted, (Ok done, serves, same)))) = absurd cc
   front_of (inr (built, (name, count, is, cfg, accepted, (Err fault, serves, same)))) = inr (built, (name, count, is, cfg, accepted, serves.front))
 
   pub front : (status : Status) → EndedBy seen wrote net_seen first now input output status → status ≡ ended.OutFault
-      → PutsFront input output ⊎ (IsBuilt input.builder × Serving input.words input.files (λ cfg count. Breaks net_seen (ServedBy seen wrote net_seen cfg) (address_of cfg.bind) count first now output.old output.new))
+      → (PutsFront input output × (now ≡ first)) ⊎ (IsBuilt input.builder × Serving input.words input.files (λ cfg count. Breaks net_seen (ServedBy seen wrote net_seen cfg) (LostBy seen wrote net_seen cfg) (address_of cfg.bind) count first now output.old output.new))
   front status end is = front_of (at status ended.OutFault end is)
 
   memory_of : EndedBy seen wrote net_seen first now input output ended.OutOfMemory
-      → (output.new ≡ output.old)
-      ⊎ (PutsFront input output ⊎ (IsBuilt input.builder × Serving input.words input.files (λ cfg count. Breaks net_seen (ServedBy seen wrote net_seen cfg) (address_of cfg.bind) count first now output.old output.new)))
-  memory_of (inl (inl same, quiet)) = inl same
-  memory_of (inl (inr puts, quiet)) = inr (inl puts)
+      → (((output.new ≡ output.old) ⊎ PutsFront input output) × (now ≡ first))
+      ⊎ (IsBuilt input.builder × Serving input.words input.files (λ cfg count. Breaks net_seen (ServedBy seen wrote net_seen cfg) (LostBy seen wrote net_seen cfg) (address_of cfg.bind) count first now output.old output.new))
+  memory_of (inl (told, quiet)) = inl (told, quiet)
   memory_of (inr (built, (name, count, is, cfg, accepted, (Ok done, serves, same)))) = absurd cc
-  memory_of (inr (built, (name, count, is, cfg, accepted, (Err fault, serves, same)))) = inr (inr (built, (name, count, is, cfg, accepted, serves.front)))
+  memory_of (inr (built, (name, count, is, cfg, accepted, (Err fault, serves, same)))) = inr (built, (name, count, is, cfg, accepted, serves.front))
 
   pub memory : (status : Status) → EndedBy seen wrote net_seen first now input output status → status ≡ ended.OutOfMemory
-      → (output.new ≡ output.old)
-      ⊎ (PutsFront input output ⊎ (IsBuilt input.builder × Serving input.words input.files (λ cfg count. Breaks net_seen (ServedBy seen wrote net_seen cfg) (address_of cfg.bind) count first now output.old output.new)))
+      → (((output.new ≡ output.old) ⊎ PutsFront input output) × (now ≡ first))
+      ⊎ (IsBuilt input.builder × Serving input.words input.files (λ cfg count. Breaks net_seen (ServedBy seen wrote net_seen cfg) (LostBy seen wrote net_seen cfg) (address_of cfg.bind) count first now output.old output.new))
   memory status end is = memory_of (at status ended.OutOfMemory end is)
 
   net_of : EndedBy seen wrote net_seen first now input output ended.NetFault
@@ -215,7 +214,7 @@ module _ {L N : Type 0} (seen : L → Seen) (wrote : L → List ℕ → Type 0) 
   told_due fs ended.Config files reads writes builds a =
       inl (refused_due input.words input.files fs input.builder a.answer.0 a.answer.2.0 a.answer.2.1 files builds a.answer.1 a.answer.2.2)
   told_due fs ended.Record files reads writes builds a =
-      inl (record_due input.words input.files fs a.answer.0 (record { place = a.answer.2.0; kind = a.answer.2.1 }) files a.answer.1 a.answer.2.2)
+      inl (record_due input.words input.files input.builder fs a.answer.0 (record { place = a.answer.2.0; kind = a.answer.2.1 }) files a.answer.1 a.answer.2.2)
   told_due fs ended.FileFault files reads writes builds a = absurd (reads (a.cause refl))
   told_due fs ended.OutFault files reads writes builds told = absurd (writes told.0)
   told_due fs ended.NetFault files reads writes builds told = absurd told

@@ -54,14 +54,15 @@ IsReportOf files cfg_name rec_name text =
 abbrev pub IsDrilled : (seed exchanges : ℕ) → (text : List ℕ) → Type 0
 IsDrilled seed exchanges text = (cfg : Config) × (config_of configuration None ≡ Ok cfg) × IsDrillOf (meaning_of cfg) seed exchanges text
 
--- The name is that of the record: `check --record` reads it at once, and `replay` only where the configuration is accepted.
-abbrev pub DecidesRecord : List (List ℕ) → Option (List NamedBytes) → (name : List ℕ) → Type 0
-DecidesRecord words files name =
-    IsCheckRecord words name ⊎ ((cfg_name : List ℕ) × IsReplay words cfg_name name × IsAccepted files cfg_name)
+-- The name is that of the record: `check --record` reads it at once, and `replay` only where the configuration is accepted and each of its patterns
+-- was built.
+abbrev pub DecidesRecord : List (List ℕ) → Option (List NamedBytes) → Builder → (name : List ℕ) → Type 0
+DecidesRecord words files builder name =
+    IsCheckRecord words name ⊎ ((cfg_name : List ℕ) × IsReplay words cfg_name name × IsAccepted files cfg_name × IsBuilt builder)
 
 -- the name is that of a file whose read decides: the configuration's, which is read first, or the record's
-abbrev pub DecidesBy : List (List ℕ) → Option (List NamedBytes) → (name : List ℕ) → Type 0
-DecidesBy words files name = NamesConfig words name ⊎ DecidesRecord words files name
+abbrev pub DecidesBy : List (List ℕ) → Option (List NamedBytes) → Builder → (name : List ℕ) → Type 0
+DecidesBy words files builder name = NamesConfig words name ⊎ DecidesRecord words files builder name
 
 -- the words are `serve`
 abbrev pub NamesServe : List (List ℕ) → Type 0
@@ -82,8 +83,8 @@ abbrev pub IsAnswer : List (List ℕ) → Option (List NamedBytes) → Builder �
 IsAnswer words files builder last Good text = IsGood words files text
 IsAnswer words files builder last Usage text = IsUsage words × EndsLine text
 IsAnswer words files builder last ended.Config text = (cfg_name : List ℕ) × NamesConfig words cfg_name × IsRefusedOf files builder cfg_name text
-IsAnswer words files builder last ended.Record text = (rec_name : List ℕ) × DecidesRecord words files rec_name × IsRecordRefusedOf files rec_name text
-IsAnswer words files builder last FileFault text = DecidesBy words files last × (text ≡ file_line last)
+IsAnswer words files builder last ended.Record text = (rec_name : List ℕ) × DecidesRecord words files builder rec_name × IsRecordRefusedOf files rec_name text
+IsAnswer words files builder last FileFault text = DecidesBy words files builder last × (text ≡ file_line last)
 IsAnswer words files builder last OutFault text = ⊥
 IsAnswer words files builder last NetFault text = ⊥
 IsAnswer words files builder last OutOfMemory text = ⊥

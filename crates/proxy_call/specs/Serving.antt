@@ -9,7 +9,7 @@ use Rattle.forward_core.specs.Meaning.Product.{meaning_of}
 use Rattle.proxy_call.specs.Sessions.Connections.{ServesClient}
 use Rattle.px_command.specs.Command.{IsServe}
 use Rattle.serve_run.specs.Lines.{net_line}
-use Rattle.serve_run.specs.Served.{Breaks, NetFails, ServedAll, ServedOne}
+use Rattle.serve_run.specs.Served.{Breaks, LostOne, NetFails, ServedAll, ServedOne}
 use Rattle.serve_run.specs.Told.{Visited}
 use Rattle.serve_run.specs.declared.outcome.Outcome.{Outcome}
 use Rattle.serve_run.specs.declared.outcome.ServeFault.{ServeFault}
@@ -26,6 +26,11 @@ abbrev pub ServedBy : {L N : Type 0} (seen : L → Seen) (wrote : L → List ℕ
 ServedBy seen wrote net_seen cfg =
     ServedOne seen wrote net_seen (λ first client first_net net result. ServesClient (meaning_of cfg) seen wrote (address_of cfg.server) first client (net_seen first_net) (net_seen net) result) (address_of cfg.server)
 
+-- a connection whose session, that of the configuration, was given up for want of memory
+abbrev pub LostBy : {L N : Type 0} (seen : L → Seen) (wrote : L → List ℕ → Type 0) (net_seen : N → NetSeen) → Config → N → N → Type 0
+LostBy seen wrote net_seen cfg =
+    LostOne seen wrote net_seen (λ first client first_net net result. ServesClient (meaning_of cfg) seen wrote (address_of cfg.server) first client (net_seen first_net) (net_seen net) result) (address_of cfg.server)
+
 -- the net was bound once more, where the configuration says
 abbrev pub GainsBind : NetSeen → NetSeen → Config → Type 0
 GainsBind old new cfg = new.bound ≡ old.bound ++ address_of cfg.bind ∷ []
@@ -37,7 +42,7 @@ pub record Serves {L N : Type 0} (seen : L → Seen) (wrote : L → List ℕ →
       → (net_seen first).accepts ≡ Some coming → (net_seen first).answers ≡ Some answers → (net_seen first).kept ≡ Some kept → OnOk answer (Visited (net_seen now) coming kept count)
   pub net : IsErrOf answer faults.Net → NetFails net_seen (ServedBy seen wrote net_seen cfg) (address_of cfg.bind) count net_line first now old new
   pub output : IsErrOf answer faults.Output → Rose writes writes_now
-  pub front : OnErr answer (Breaks net_seen (ServedBy seen wrote net_seen cfg) (address_of cfg.bind) count first now old new)
+  pub front : OnErr answer (Breaks net_seen (ServedBy seen wrote net_seen cfg) (LostBy seen wrote net_seen cfg) (address_of cfg.bind) count first now old new)
   pub binds : OnOk answer (GainsBind (net_seen first) (net_seen now) cfg)
   pub bound : ((net_seen now).bound ≡ (net_seen first).bound) ⊎ GainsBind (net_seen first) (net_seen now) cfg
   pub dialled : Dialled (net_seen first).dialled (net_seen now).dialled (address_of cfg.server)

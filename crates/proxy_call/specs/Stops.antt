@@ -75,8 +75,8 @@ abbrev pub StopsBy : Input → Stop → Type 0
 StopsBy input (stops.Usage text) = IsUsage input.words × EndsLine text
 StopsBy input (stops.Refused line kind) = (cfg_name : List ℕ) × NamesConfig input.words cfg_name × IsRefused input.files input.builder cfg_name line kind
 StopsBy input (stops.Record place kind) =
-    (rec_name : List ℕ) × DecidesRecord input.words input.files rec_name × IfTold input.files (λ fs. RecordIs fs rec_name (Err (record { place = place; kind = kind })))
-StopsBy input (stops.File name) = Rose input.reads input.reads_now × (input.last ≡ name.now) × DecidesBy input.words input.files name.now
+    (rec_name : List ℕ) × DecidesRecord input.words input.files input.builder rec_name × IfTold input.files (λ fs. RecordIs fs rec_name (Err (record { place = place; kind = kind })))
+StopsBy input (stops.File name) = Rose input.reads input.reads_now × (input.last ≡ name.now) × DecidesBy input.words input.files input.builder name.now
 StopsBy input stops.Output = ⊥
 StopsBy input stops.Net = ⊥
 StopsBy input stops.OutOfMemory = ⊤

@@ -10,7 +10,7 @@ ghost use Rattle.serve_run.specs.Told.{Visited};
 ghost use Rattle.proxy_call.specs.Lines.{file_line};
 ghost use Rattle.proxy_call.specs.Answers.{IsGood, IsRefusal, IsRefusedOf, IsRecordRefusedOf, DecidesRecord, DecidesBy, NamesServe, WritesFront, IsDue};
 ghost use Rattle.proxy_call.specs.Files.{told_by};
-ghost use Rattle.proxy_call.specs.Serving.{GainsBind, ServedBy, Serving};
+ghost use Rattle.proxy_call.specs.Serving.{GainsBind, LostBy, ServedBy, Serving};
 
 use crate::reply::end;
 use crate::run::run;
@@ -58,13 +58,13 @@ pub fn htx_proxy<F: Files, N: Net, K: Sink, P: Patterns>(
         × (text : List ℕ) × IsRefusedOf (F.files files.old) (told_by (P.refusals pats.old) (P.refusals pats.new) (P.last_refused pats.new)) name text × Gains (K.written out.old) (K.written out.new) text }
 
     // Record comes only where the record is refused, and has written the first byte of the line and what must stand there.
-    ensures record_refused { result ≡ Status.Record → (name : List ℕ) × DecidesRecord (map string_bytes words.now) (F.files files.old) name
+    ensures record_refused { result ≡ Status.Record → (name : List ℕ) × DecidesRecord (map string_bytes words.now) (F.files files.old) (told_by (P.refusals pats.old) (P.refusals pats.new) (P.last_refused pats.new)) name
         × (text : List ℕ) × IsRecordRefusedOf (F.files files.old) name text × Gains (K.written out.old) (K.written out.new) text }
 
     // A fault has its cause in the object that was handed in. The file is the one that decides: the record's only where the
-    // configuration is accepted.
+    // configuration is accepted, each of its patterns built.
     ensures file_fault { result ≡ Status.FileFault → Rose (F.faults files.old) (F.faults files.new) }
-    ensures file_name { result ≡ Status.FileFault → DecidesBy (map string_bytes words.now) (F.files files.old) (F.last_failed files.new) }
+    ensures file_name { result ≡ Status.FileFault → DecidesBy (map string_bytes words.now) (F.files files.old) (told_by (P.refusals pats.old) (P.refusals pats.new) (P.last_refused pats.new)) (F.last_failed files.new) }
     ensures file_line { result ≡ Status.FileFault → Gains (K.written out.old) (K.written out.new) (file_line (F.last_failed files.new)) }
     ensures out_fault { result ≡ Status.OutFault → Rose (K.faults out.old) (K.faults out.new) }
 
@@ -73,18 +73,23 @@ pub fn htx_proxy<F: Files, N: Net, K: Sink, P: Patterns>(
     ensures net_fault { result ≡ Status.NetFault → Serving (map string_bytes words.now) (F.files files.old)
         (λ cfg count. NetFails N.seen (ServedBy N.Link.seen N.Link.wrote N.seen cfg) (address_of cfg.bind) count net_line net.old net.new (K.written out.old) (K.written out.new)) }
 
-    // With a fault of the output a front of what another status would have written was written: the line of a file only where the files'
-    // count rose, a good text, and lines of `serve`, only where the builder refused no pattern.
+    // With a fault of the output a prefix of what another status would have written was written: the line of a file only where the files'
+    // count rose, a good text, and lines of `serve`, only where the builder refused no pattern. It is said of each link that `serve` accepted
+    // what was done with it; any other command left the net as it was.
     ensures front { result ≡ Status.OutFault
-        → WritesFront (map string_bytes words.now) (F.files files.old) (told_by (P.refusals pats.old) (P.refusals pats.new) (P.last_refused pats.new)) (F.last_failed files.new) (F.faults files.old) (F.faults files.new) (K.written out.old) (K.written out.new)
+        → (WritesFront (map string_bytes words.now) (F.files files.old) (told_by (P.refusals pats.old) (P.refusals pats.new) (P.last_refused pats.new)) (F.last_failed files.new) (F.faults files.old) (F.faults files.new) (K.written out.old) (K.written out.new)
+        × (net.new ≡ net.old))
         ⊎ ((P.refusals pats.new ≡ P.refusals pats.old) × Serving (map string_bytes words.now) (F.files files.old)
-        (λ cfg count. Breaks N.seen (ServedBy N.Link.seen N.Link.wrote N.seen cfg) (address_of cfg.bind) count net.old net.new (K.written out.old) (K.written out.new))) }
+        (λ cfg count. Breaks N.seen (ServedBy N.Link.seen N.Link.wrote N.seen cfg) (LostBy N.Link.seen N.Link.wrote N.seen cfg) (address_of cfg.bind) count net.old net.new (K.written out.old) (K.written out.new))) }
 
-    // Where memory ran out, nothing or such a front was written.
-    ensures memory { result ≡ Status.OutOfMemory → (K.written out.new ≡ K.written out.old)
-        ⊎ (WritesFront (map string_bytes words.now) (F.files files.old) (told_by (P.refusals pats.old) (P.refusals pats.new) (P.last_refused pats.new)) (F.last_failed files.new) (F.faults files.old) (F.faults files.new) (K.written out.old) (K.written out.new)
+    // Where memory ran out, nothing or such a prefix was written, and so it is said of each link that `serve` accepted: the session in hand was given up,
+    // and its links were written a prefix of one.
+    ensures memory { result ≡ Status.OutOfMemory
+        → (((K.written out.new ≡ K.written out.old)
+        ⊎ WritesFront (map string_bytes words.now) (F.files files.old) (told_by (P.refusals pats.old) (P.refusals pats.new) (P.last_refused pats.new)) (F.last_failed files.new) (F.faults files.old) (F.faults files.new) (K.written out.old) (K.written out.new))
+        × (net.new ≡ net.old))
         ⊎ ((P.refusals pats.new ≡ P.refusals pats.old) × Serving (map string_bytes words.now) (F.files files.old)
-        (λ cfg count. Breaks N.seen (ServedBy N.Link.seen N.Link.wrote N.seen cfg) (address_of cfg.bind) count net.old net.new (K.written out.old) (K.written out.new)))) }
+        (λ cfg count. Breaks N.seen (ServedBy N.Link.seen N.Link.wrote N.seen cfg) (LostBy N.Link.seen N.Link.wrote N.seen cfg) (address_of cfg.bind) count net.old net.new (K.written out.old) (K.written out.new))) }
 
     // The net gains at most the configuration's address among those of binds, and has it where `serve` answers Good.
     ensures binds { result ≡ Status.Good → NamesServe (map string_bytes words.now) → Serving (map string_bytes words.now) (F.files files.old)

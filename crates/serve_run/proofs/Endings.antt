@@ -1,5 +1,5 @@
 -- How serving ends.
-use Rattle.std.proofs.Common.{◌≡◌, ℕ, ◌<◌, inl, inr, List, [], ◌++◌, length, Option, Some, Result, Ok, Err, sym, ap, subst, ◌∙◌, refl}
+use Rattle.std.proofs.Common.{◌≡◌, ℕ, ◌<◌, ◌≤◌, inl, inr, List, [], ◌++◌, length, Option, Some, Result, Ok, Err, sym, ap, subst, ◌∙◌, refl}
 use Rattle.std.proofs.lemmas.List.{append-nil}
 use Rattle.px_link.specs.declared.fault.Fault.TheVariants as faults
 use Rattle.px_link.specs.Told.{Rose, Gains, GainsFront}
@@ -9,7 +9,7 @@ use Rattle.px_link.specs.Link.{Seen}
 use Rattle.px_link.specs.Net.{Place, Coming, Kept, NetSeen, AcceptFailed, Binds}
 use Rattle.serve_run.specs.declared.outcome.Outcome.{Outcome}
 use Rattle.serve_run.specs.Lines.{lines_from, net_line}
-use Rattle.serve_run.specs.Served.{ServedOne, Serves, ServedAll, NetFails, Breaks}
+use Rattle.serve_run.specs.Served.{ServedOne, Serves, ServedAll, StopsAt, NetFails, Breaks}
 use Rattle.serve_run.specs.Told.{Visited}
 use Rattle.serve_run.proofs.Chain.{visited}
 use Rattle.serve_run.proofs.Outputs.{gains_none, gains_as, front_then, front_as}
@@ -22,9 +22,9 @@ rose_from a b c e h = let P : ℕ → Type 0 = λ n. Rose n c in subst P e h
 seam : (outcomes : List Outcome) → (lines_from 1 outcomes ++ []) ++ net_line ≡ lines_from 1 outcomes ++ net_line
 seam outcomes = ap (λ l. l ++ net_line) (append-nil (lines_from 1 outcomes))
 
-pub net_front : {N : Type 0} (net_seen : N → NetSeen) (One : N → N → Outcome → Type 0) (at : Place) (count : ℕ) (first now : N) (old mid new : Option (List ℕ))
-    → NetFails net_seen One at count [] first now old mid → GainsFront mid new net_line → Breaks net_seen One at count first now old new
-net_front net_seen One at count first now old mid new h g =
+pub net_front : {N : Type 0} (net_seen : N → NetSeen) (One : N → N → Outcome → Type 0) (Lost : N → N → Type 0) (at : Place) (count : ℕ) (first now : N) (old mid new : Option (List ℕ))
+    → NetFails net_seen One at count [] first now old mid → GainsFront mid new net_line → Breaks net_seen One Lost at count first now old new
+net_front net_seen One Lost at count first now old mid new h g =
     inr (inl (record {
       outcomes = h.outcomes;
       fails = h.fails;
@@ -46,10 +46,18 @@ net_behind net_seen One at count first bound now old new b rose outcomes fewer l
     }
 
 -- a bind that failed, of which nothing was written yet
-pub bind_breaks : {N : Type 0} (net_seen : N → NetSeen) (One : N → N → Outcome → Type 0) (at : Place) (count : ℕ) (first now : N) (old : Option (List ℕ))
-    → Binds (net_seen first) (net_seen now) at (Err faults.Failed) → Breaks net_seen One at count first now old old
-bind_breaks net_seen One at count first now old b =
+pub bind_breaks : {N : Type 0} (net_seen : N → NetSeen) (One : N → N → Outcome → Type 0) (Lost : N → N → Type 0) (at : Place) (count : ℕ) (first now : N) (old : Option (List ℕ))
+    → Binds (net_seen first) (net_seen now) at (Err faults.Failed) → Breaks net_seen One Lost at count first now old old
+bind_breaks net_seen One Lost at count first now old b =
     inr (inl (record { outcomes = []; fails = inl (b, refl); rose = b.rose; written = ([], net_line, refl, gains_none old) }))
+
+-- connections behind a bind, of which a prefix was written
+pub begun_breaks : {N : Type 0} (net_seen : N → NetSeen) (One : N → N → Outcome → Type 0) (Lost : N → N → Type 0) (at : Place) (count : ℕ) (first bound now : N) (old new : Option (List ℕ))
+    → Binds (net_seen first) (net_seen bound) at (Ok tt)
+    → (outcomes : List Outcome) → length outcomes ≤ count → (last : N) → Serves One bound outcomes last → StopsAt net_seen Lost last now → GainsFront old new (lines_from 1 outcomes)
+    → Breaks net_seen One Lost at count first now old new
+begun_breaks net_seen One Lost at count first bound now old new b outcomes most last serves stops written =
+    inl (record { outcomes = outcomes; most = most; last = last; reached = (bound, b, serves); stops = stops; written = written })
 
 -- ---- what a net tells of it
 

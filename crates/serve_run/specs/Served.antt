@@ -6,7 +6,7 @@ use Rattle.htx_drive.specs.declared.SessionFault.TheVariants as session_faults
 use Rattle.px_link.specs.declared.fault.Fault.TheVariants as faults
 use Rattle.px_link.specs.Told.{Rose, Gains, GainsFront}
 use Rattle.px_link.specs.Link.{Seen}
-use Rattle.px_link.specs.Net.{Place, NetSeen, Accepted, AcceptFailed, Keeps, Binds}
+use Rattle.px_link.specs.Net.{Place, NetSeen, Accepted, AcceptFailed, AcceptUnroomed, Keeps, Binds}
 use Rattle.serve_run.specs.declared.outcome.Outcome.{Outcome}
 use Rattle.serve_run.specs.Lines.{answer_of, lines_from, net_line}
 use Rattle.serve_run.specs.Visits.{Visits, Puts}
@@ -28,6 +28,18 @@ pub record Connection {L N : Type 0} (seen : L → Seen) (wrote : L → List ℕ
 -- a connection that has an outcome
 abbrev pub ServedOne : {L N : Type 0} (seen : L → Seen) (wrote : L → List ℕ → Type 0) (net_seen : N → NetSeen) (does : L → L → N → N → Result Ran SessionFault → Type 0) (to : Place) → N → N → Outcome → Type 0
 ServedOne seen wrote net_seen does to before after outcome = Connection seen wrote net_seen does to before after (answer_of outcome)
+
+-- a connection whose session was given up for want of memory
+abbrev pub LostOne : {L N : Type 0} (seen : L → Seen) (wrote : L → List ℕ → Type 0) (net_seen : N → NetSeen) (does : L → L → N → N → Result Ran SessionFault → Type 0) (to : Place) → N → N → Type 0
+LostOne seen wrote net_seen does to before after = Connection seen wrote net_seen does to before after (Err session_faults.OutOfMemory)
+
+-- no link was accepted: an accept failed, or wanted memory
+abbrev pub NotAccepted : NetSeen → NetSeen → Type 0
+NotAccepted old new = AcceptFailed old new ⊎ AcceptUnroomed old new
+
+-- where serving stops behind a connection: nothing more was done, or no further link was accepted, or the session of one wanted memory
+abbrev pub StopsAt : {N : Type 0} (net_seen : N → NetSeen) (Lost : N → N → Type 0) (last now : N) → Type 0
+StopsAt net_seen Lost last now = (now ≡ last) ⊎ (NotAccepted (net_seen last) (net_seen now) ⊎ Lost last now)
 
 -- connections with these outcomes, one after another
 abbrev pub Serves : {N : Type 0} (One : N → N → Outcome → Type 0) (before : N) → List Outcome → (after : N) → Type 0
@@ -58,12 +70,14 @@ pub record NetFails {N : Type 0} (net_seen : N → NetSeen) (One : N → N → O
   pub rose : Rose (net_seen first).bind_faults (net_seen now).bind_faults
   pub written : Gains old new (lines_from 1 outcomes ++ tail)
 
--- at most so many connections were served, and a front of their lines was written
-pub record Front {N : Type 0} (net_seen : N → NetSeen) (One : N → N → Outcome → Type 0) (at : Place) (count : ℕ) (first : N) (old new : Option (List ℕ)) : Type 0 where
+-- At most so many connections were served, and a prefix of their lines was written. Behind them serving stopped: so it is said of each link that was
+-- accepted what was done with it.
+pub record Front {N : Type 0} (net_seen : N → NetSeen) (One : N → N → Outcome → Type 0) (Lost : N → N → Type 0) (at : Place) (count : ℕ) (first now : N) (old new : Option (List ℕ)) : Type 0 where
   pub outcomes : List Outcome
   pub most : length outcomes ≤ count
   pub last : N
   pub reached : Reached net_seen One at first outcomes last
+  pub stops : StopsAt net_seen Lost last now
   pub written : GainsFront old new (lines_from 1 outcomes)
 
 -- a bind or an accept failed, and a front of the lines that are then written was written
@@ -74,8 +88,8 @@ pub record NetFront {N : Type 0} (net_seen : N → NetSeen) (One : N → N → O
   pub written : GainsFront old new (lines_from 1 outcomes ++ net_line)
 
 -- a front of what another answer writes was written; or not even the bind was answered
-abbrev pub Breaks : {N : Type 0} (net_seen : N → NetSeen) (One : N → N → Outcome → Type 0) (at : Place) (count : ℕ) (first now : N) (old new : Option (List ℕ)) → Type 0
-Breaks net_seen One at count first now old new =
-    Front net_seen One at count first old new
+abbrev pub Breaks : {N : Type 0} (net_seen : N → NetSeen) (One : N → N → Outcome → Type 0) (Lost : N → N → Type 0) (at : Place) (count : ℕ) (first now : N) (old new : Option (List ℕ)) → Type 0
+Breaks net_seen One Lost at count first now old new =
+    Front net_seen One Lost at count first now old new
     ⊎ (NetFront net_seen One at count first now old new
     ⊎ (Binds (net_seen first) (net_seen now) at (Err faults.OutOfMemory) × (new ≡ old)))

@@ -1,10 +1,10 @@
 //! One connection.
 ghost use Rattle.std.specs.Prelude.{◌≡◌, ◌⊎◌, Err, IfOk, IsErrOf, OnOk, OnErr};
 ghost use Rattle.htx_drive.specs.declared.SessionFault.TheVariants as session_faults;
-ghost use Rattle.px_link.specs.Net.{AcceptFailed};
+ghost use Rattle.px_link.specs.Net.{AcceptFailed, AcceptUnroomed};
 ghost use Rattle.px_link.specs.Told.{Gains, GainsFront, Rose};
 ghost use Rattle.serve_run.specs.Lines.{answer_of, line_of};
-ghost use Rattle.serve_run.specs.Served.{ServedOne};
+ghost use Rattle.serve_run.specs.Served.{LostOne, NotAccepted, ServedOne};
 ghost use Rattle.serve_run.specs.Visits.{Leaves};
 ghost use Rattle.serve_run.specs.declared.outcome.Outcome.{Outcome};
 
@@ -31,6 +31,8 @@ fn connection<N: Net, S: Sessions<N>>(sessions: &mut S, net: &mut N) -> Result<O
     ensures ok { IfOk result (λ outcome. ServedOne N.Link.seen N.Link.wrote N.seen (S.session (S.settings sessions.old)) (S.to (S.settings sessions.old)) net.old net.new outcome) }
     ensures binds { OnOk result ((N.seen net.new).bind_faults ≡ (N.seen net.old).bind_faults) }
     ensures net { IsErrOf result ServeFault.Net → AcceptFailed (N.seen net.old) (N.seen net.new) }
+    ensures memory { IsErrOf result ServeFault.OutOfMemory → AcceptUnroomed (N.seen net.old) (N.seen net.new)
+        ⊎ LostOne N.Link.seen N.Link.wrote N.seen (S.session (S.settings sessions.old)) (S.to (S.settings sessions.old)) net.old net.new }
     ensures output { IsErrOf result ServeFault.Output → ⊥ }
     ensures leaves { Leaves (S.to (S.settings sessions.old)) (N.seen net.old) (N.seen net.new) }
     ensures settings { S.settings sessions.new ≡ S.settings sessions.old }
@@ -82,7 +84,8 @@ pub(crate) fn serve_one<N: Net, S: Sessions<N>, K: Sink>(
     ensures quiet { OnOk result (K.faults out.new ≡ K.faults out.old) }
     ensures binds { OnOk result ((N.seen net.new).bind_faults ≡ (N.seen net.old).bind_faults) }
     ensures net { IsErrOf result ServeFault.Net → AcceptFailed (N.seen net.old) (N.seen net.new) × (out.new ≡ out.old) }
-    ensures front { OnErr result ((K.written out.new ≡ K.written out.old)
+    ensures front { OnErr result (((K.written out.new ≡ K.written out.old) × (NotAccepted (N.seen net.old) (N.seen net.new)
+        ⊎ LostOne N.Link.seen N.Link.wrote N.seen (S.session (S.settings sessions.old)) (S.to (S.settings sessions.old)) net.old net.new))
         ⊎ ((outcome : Outcome) × ServedOne N.Link.seen N.Link.wrote N.seen (S.session (S.settings sessions.old)) (S.to (S.settings sessions.old)) net.old net.new outcome
         × GainsFront (K.written out.old) (K.written out.new) (line_of number outcome))) }
     ensures output { IsErrOf result ServeFault.Output → Rose (K.faults out.old) (K.faults out.new) }

@@ -3,7 +3,7 @@ ghost use Rattle.std.specs.Prelude.{◌≡◌, ◌<◌, ◌≤◌, List, length,
 ghost use Rattle.px_link.specs.Net.{AcceptFailed};
 ghost use Rattle.px_link.specs.Told.{Gains, GainsFront, Rose};
 ghost use Rattle.serve_run.specs.Lines.{lines_from};
-ghost use Rattle.serve_run.specs.Served.{ServedOne, Serves};
+ghost use Rattle.serve_run.specs.Served.{LostOne, ServedOne, Serves, StopsAt};
 ghost use Rattle.serve_run.specs.Visits.{Leaves};
 ghost use Rattle.serve_run.specs.declared.outcome.Outcome.{Outcome};
 
@@ -31,6 +31,7 @@ pub(crate) fn connections<N: Net, S: Sessions<N>, K: Sink>(
     ensures quiet { IsErrOf result ServeFault.Net → K.faults out.new ≡ K.faults out.old }
     ensures front { OnErr result ((outcomes : List Outcome) × (length outcomes ≤ count) × (last : N)
         × Serves (ServedOne N.Link.seen N.Link.wrote N.seen (S.session (S.settings sessions.old)) (S.to (S.settings sessions.old))) net.old outcomes last
+        × StopsAt N.seen (LostOne N.Link.seen N.Link.wrote N.seen (S.session (S.settings sessions.old)) (S.to (S.settings sessions.old))) last net.new
         × GainsFront (K.written out.old) (K.written out.new) (lines_from 1 outcomes)) }
     ensures output { IsErrOf result ServeFault.Output → Rose (K.faults out.old) (K.faults out.new) }
     ensures leaves { Leaves (S.to (S.settings sessions.old)) (N.seen net.old) (N.seen net.new) }

@@ -4,7 +4,7 @@ ghost use Rattle.htx_drive.specs.Dialled.{Dialled};
 ghost use Rattle.px_link.specs.Net.{Coming, Kept, address_of};
 ghost use Rattle.px_link.specs.Told.{Gains, GainsFront, Rose};
 ghost use Rattle.serve_run.specs.Lines.{net_line};
-ghost use Rattle.serve_run.specs.Served.{Breaks, NetFails, ServedAll, ServedOne};
+ghost use Rattle.serve_run.specs.Served.{Breaks, LostOne, NetFails, ServedAll, ServedOne};
 ghost use Rattle.serve_run.specs.Told.{Visited};
 
 use crate::connections::connections;
@@ -27,7 +27,7 @@ fn bound_and_served<N: Net, S: Sessions<N>, K: Sink>(
         (address_of at.now) count [] net.old net.new (K.written out.old) (K.written out.new) }
     ensures quiet { IsErrOf result ServeFault.Net → K.faults out.new ≡ K.faults out.old }
     ensures front { OnErr result (Breaks N.seen (ServedOne N.Link.seen N.Link.wrote N.seen (S.session (S.settings sessions.old)) (S.to (S.settings sessions.old)))
-        (address_of at.now) count net.old net.new (K.written out.old) (K.written out.new)) }
+        (LostOne N.Link.seen N.Link.wrote N.seen (S.session (S.settings sessions.old)) (S.to (S.settings sessions.old))) (address_of at.now) count net.old net.new (K.written out.old) (K.written out.new)) }
     ensures output { IsErrOf result ServeFault.Output → Rose (K.faults out.old) (K.faults out.new) }
     ensures binds { OnOk result ((N.seen net.new).bound ≡ (N.seen net.old).bound ++ address_of at.now ∷ []) }
     ensures bound { ((N.seen net.new).bound ≡ (N.seen net.old).bound) ⊎ ((N.seen net.new).bound ≡ (N.seen net.old).bound ++ address_of at.now ∷ []) }
@@ -76,7 +76,7 @@ pub fn serve<N: Net, S: Sessions<N>, K: Sink>(
         (address_of at.now) count net_line net.old net.new (K.written out.old) (K.written out.new) }
     ensures output { IsErrOf result ServeFault.Output → Rose (K.faults out.old) (K.faults out.new) }
     ensures front { OnErr result (Breaks N.seen (ServedOne N.Link.seen N.Link.wrote N.seen (S.session (S.settings sessions.old)) (S.to (S.settings sessions.old)))
-        (address_of at.now) count net.old net.new (K.written out.old) (K.written out.new)) }
+        (LostOne N.Link.seen N.Link.wrote N.seen (S.session (S.settings sessions.old)) (S.to (S.settings sessions.old))) (address_of at.now) count net.old net.new (K.written out.old) (K.written out.new)) }
     ensures binds { OnOk result ((N.seen net.new).bound ≡ (N.seen net.old).bound ++ address_of at.now ∷ []) }
     ensures bound { ((N.seen net.new).bound ≡ (N.seen net.old).bound) ⊎ ((N.seen net.new).bound ≡ (N.seen net.old).bound ++ address_of at.now ∷ []) }
     ensures dialled { Dialled (N.seen net.old).dialled (N.seen net.new).dialled (S.to (S.settings sessions.old)) }

@@ -7,7 +7,7 @@ ghost use Rattle.px_link.specs.Told.{Rose};
 ghost use Rattle.forward_core.specs.Meaning.Product.{meaning_of};
 ghost use Rattle.proxy_call.specs.Sessions.Connections.{ServesClient};
 ghost use Rattle.serve_run.specs.Lines.{net_line};
-ghost use Rattle.serve_run.specs.Served.{Breaks, NetFails, ServedAll, ServedOne};
+ghost use Rattle.serve_run.specs.Served.{Breaks, LostOne, NetFails, ServedAll, ServedOne};
 ghost use Rattle.serve_run.specs.Told.{Visited};
 
 use crate::sessions::cores::{ClientCores, ConfigCore};
@@ -63,6 +63,8 @@ pub fn serve_clients<N: Net, K: Sink>(
         (address_of config.now.bind) count net_line net.old net.new (K.written out.old) (K.written out.new) }
     ensures output { IsErrOf result ServeFault.Output → Rose (K.faults out.old) (K.faults out.new) }
     ensures front { OnErr result (Breaks N.seen (ServedOne N.Link.seen N.Link.wrote N.seen
+        (λ first client first_net net result. ServesClient (meaning_of config.now) N.Link.seen N.Link.wrote (address_of config.now.server) first client (N.seen first_net) (N.seen net) result) (address_of config.now.server))
+        (LostOne N.Link.seen N.Link.wrote N.seen
         (λ first client first_net net result. ServesClient (meaning_of config.now) N.Link.seen N.Link.wrote (address_of config.now.server) first client (N.seen first_net) (N.seen net) result) (address_of config.now.server))
         (address_of config.now.bind) count net.old net.new (K.written out.old) (K.written out.new)) }
     ensures binds { OnOk result ((N.seen net.new).bound ≡ (N.seen net.old).bound ++ address_of config.now.bind ∷ []) }

@@ -30,7 +30,7 @@ returns-in_err-record g c =
     λ words replay.
     let input : Input = given words told builder (g.F.Files.last_failed c.read.new.files) (g.F.Files.faults c.args.files.now) (g.F.Files.faults c.read.new.files) in
     answers_err input c.from_residual-in_err-record.result (stop_of_record fault) c.from_residual-in_err-record.ensures.1
-    (record_stops input c.args.rec_name.now text fault (inr (c.args.cfg_name.now, replay, accepted told c.args.cfg_name.now c.in_ok-cfg.cfg c.in_ok-cfg.ensures.accepted)) read c.in_err-record.ensures.refused)
+    (record_stops input c.args.rec_name.now text fault (inr (c.args.cfg_name.now, replay, accepted told c.args.cfg_name.now c.in_ok-cfg.cfg c.in_ok-cfg.ensures.accepted, c.in_ok-cfg.ensures.built)) read c.in_err-record.ensures.refused)
 
 pub replay_report-requires-clause-reportable : goal.replay_report-requires-clause-reportable
 replay_report-requires-clause-reportable g c =

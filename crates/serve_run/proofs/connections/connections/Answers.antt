@@ -7,7 +7,7 @@ pub returns-in-Err-clause-front : goal.returns-in-Err-clause-front
 returns-in-Err-clause-front g c =
     let same = c.loop-served.invariant.settings in
     let front = rw same at c.in-Err.ensures.front in
-    round_broken _ c.args.net.now c.loop-served.net c.serve_one.new.net c.loop-served.served c.args.count _ _ _ (search rules) c.loop-served.invariant.served front
+    round_broken g.N.Net.seen _ _ c.args.net.now c.loop-served.net c.serve_one.new.net c.loop-served.served c.args.count _ _ _ (search rules) c.loop-served.invariant.served front
 
 pub returns-in-Err-clause-leaves : goal.returns-in-Err-clause-leaves
 returns-in-Err-clause-leaves g c =

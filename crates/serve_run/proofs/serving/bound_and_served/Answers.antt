@@ -1,4 +1,4 @@
-use Rattle.serve_run.proofs.Endings.{net_behind, bind_breaks}
+use Rattle.serve_run.proofs.Endings.{net_behind, bind_breaks, begun_breaks}
 use Rattle.serve_run.proofs.serving.bound_and_served.Goals as goal
 
 pub returns-in-Ok-clause-net : goal.returns-in-Ok-clause-net
@@ -9,4 +9,4 @@ returns-in-Ok-clause-net g c = λ e.
 pub returns-in-Err-Failed-clause-front : goal.returns-in-Err-Failed-clause-front
 returns-in-Err-Failed-clause-front g c =
     let b = rw c.in-Err-Failed.field-0-is at c.in-Err-Failed.ensures.binds in
-    bind_breaks _ _ _ _ _ _ _ b
+    bind_breaks _ _ _ _ _ _ _ _ b

@@ -8,4 +8,4 @@ returns-in-Ok-clause-told g c = λ coming answers kept a b k. all_visited _ _ _ 
 pub returns-in-Err-Net-clause-front : goal.returns-in-Err-Net-clause-front
 returns-in-Err-Net-clause-front g c =
     let n = c.bound_and_served.ensures.net (search rules) in
-    net_front _ _ _ _ _ _ _ _ _ n c.say_net.ensures.front
+    net_front _ _ _ _ _ _ _ _ _ _ n c.say_net.ensures.front
