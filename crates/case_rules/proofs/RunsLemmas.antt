@@ -1,1 +1,1 @@
-mod Heads
+pub mod Heads

@@ -1,2 +1,2 @@
-mod Holds
-mod Lists
+pub mod Holds
+pub mod Lists

@@ -1,1 +1,1 @@
-mod Amends
+pub mod Amends

@@ -1,2 +1,2 @@
 pub mod Taking
-mod Sifting
+pub mod Sifting

@@ -1,3 +1,3 @@
-mod Idle
-mod Clients
-mod Spare
+pub mod Idle
+pub mod Clients
+pub mod Spare
