@@ -1,4 +1,5 @@
 use Rattle.std.proofs.Common.{rules, ◌∙◌}
+use Rattle.serve_run.specs.Served.{LostOne, ServedOne}
 use Rattle.serve_run.proofs.Chain.{leaves_then}
 use Rattle.serve_run.proofs.Rounds.{round_more, round_broken}
 use Rattle.serve_run.proofs.connections.connections.Goals as goal
@@ -6,8 +7,10 @@ use Rattle.serve_run.proofs.connections.connections.Goals as goal
 pub returns-in-Err-clause-front : goal.returns-in-Err-clause-front
 returns-in-Err-clause-front g c =
     let same = c.loop-served.invariant.settings in
+    let settings = g.S.Sessions.settings c.args.sessions.now in
     let front = rw same at c.in-Err.ensures.front in
-    round_broken g.N.Net.seen _ _ c.args.net.now c.loop-served.net c.serve_one.new.net c.loop-served.served c.args.count _ _ _ (search rules) c.loop-served.invariant.served front
+    round_broken g.N.Net.seen (ServedOne g.N.Link.Link.seen g.N.Link.Link.wrote g.N.Net.seen (g.S.Sessions.session settings) (g.S.Sessions.to settings))
+    (LostOne g.N.Link.Link.seen g.N.Link.Link.wrote g.N.Net.seen (g.S.Sessions.session settings) (g.S.Sessions.to settings)) c.args.net.now c.loop-served.net c.serve_one.new.net c.loop-served.served c.args.count _ _ _ (search rules) c.loop-served.invariant.served front
 
 pub returns-in-Err-clause-leaves : goal.returns-in-Err-clause-leaves
 returns-in-Err-clause-leaves g c =
