@@ -5,3 +5,4 @@ pub mod Building
 pub mod Seeking
 pub mod Refusals
 pub mod Keeping
+pub mod Kept

@@ -1,5 +1,5 @@
 //! Patterns and what searches for them: they find what the pattern's own text means.
-ghost use Rattle.std.specs.Prelude.{◌≡◌, is_some, length, IfOk, IfSome, IsTrue};
+ghost use Rattle.std.specs.Prelude.{◌≡◌, ◌↔◌, is_some, length, IfOk, IfSome, IsTrue};
 ghost use Rattle.regex.specs.Patterns.{find};
 ghost use Rattle.regex.specs.Bytes.{regex_source, regex_config, matcher_pattern, IsReadFromSource};
 ghost use Rattle.px_pattern.specs.Groups.{LieIn};
@@ -127,7 +127,7 @@ impl Pat {
 impl Searcher {
     /// Whether it searches for this pattern, or for one with the same text and case.
     pub fn is_for(&self, pat: &Pat) -> bool
-        ensures { IsTrue result → self.now ≡ pat.now }
+        ensures { IsTrue result ↔ (self.now ≡ pat.now) }
     {
         self.icase == pat.icase && self.regex.as_str().as_bytes() == pat.text()
     }

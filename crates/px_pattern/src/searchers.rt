@@ -3,6 +3,7 @@ ghost use Rattle.std.specs.Prelude.{◌≡◌, ◌<◌, is_some, length, IfOk, I
 ghost use Rattle.regex.specs.Patterns.{find};
 ghost use Rattle.px_pattern.specs.Groups.{LieIn};
 ghost use Rattle.px_pattern.specs.Meaning.{pattern_of, IsFoundBy};
+ghost use Rattle.px_pattern.specs.Kept.{KeepsNone};
 
 use crate::{Groups, Pat, Searcher};
 use htx_model::OutOfMemory;
@@ -60,7 +61,9 @@ fn match_at(
 
 impl Searchers {
     /// None yet.
-    pub fn new(alloc: Global) -> Searchers {
+    pub fn new(alloc: Global) -> Searchers
+        ensures { KeepsNone result }
+    {
         Searchers {
             kept: Vec::new(alloc),
         }
