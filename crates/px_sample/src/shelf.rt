@@ -1,5 +1,5 @@
 //! The variables of one scope, one after another in bytes that are taken once.
-ghost use Rattle.std.specs.Prelude.{◌≡◌, ◌+◌, ◌<◌, ◌≤◌, [], ◌∷◌, ◌++◌, true, length, take, drop, remove, sum_by, vec_len, vec_capacity, slice_index_or, nat_le, Some, IfOk, IfSome};
+ghost use Rattle.std.specs.Prelude.{◌≡◌, ◌≢◌, ◌+◌, ◌<◌, ◌≤◌, [], ◌∷◌, ◌++◌, true, length, take, drop, remove, sum_by, vec_len, vec_capacity, slice_index_or, nat_le, Some, IfOk, IfSome};
 ghost use Rattle.px_sample.specs.Sample.{value_in, within};
 ghost use Rattle.px_sample.specs.Shape.{IsShape};
 ghost use Rattle.px_sample.specs.Entry.{lookup, without, with_variable, assigned, are_distinct, scope_limit};
@@ -216,9 +216,10 @@ impl Shelf {
         self.bytes.clear();
     }
 
-    /// The value of a variable. Its bytes are written over what the buffer holds.
+    /// The value of a variable. Bytes are written over what the buffer holds; any other answer leaves it as it was.
     pub fn get(&self, name: &[u8], into: &mut Buf) -> Sample
         ensures value { value_in result into.new.bytes ≡ within into.old.cap (lookup name.now self.now) }
+        ensures unchanged { result ≢ Sample.InBuf → into.new ≡ into.old }
         ensures cap { into.new.cap ≡ into.old.cap }
     {
         let Some(spot) = find(&self.slots, &self.bytes, name) else {
@@ -234,6 +235,7 @@ impl Shelf {
 fn read(form: Form, value: &[u8], into: &mut Buf) -> Sample
     requires { IsShape form (length value.now) }
     ensures value { value_in result into.new.bytes ≡ within into.old.cap (Some (value_of form value.now)) }
+    ensures unchanged { result ≢ Sample.InBuf → into.new ≡ into.old }
     ensures cap { into.new.cap ≡ into.old.cap }
 {
     match form {
@@ -244,12 +246,12 @@ fn read(form: Form, value: &[u8], into: &mut Buf) -> Sample
             Sample::Number(i64::from_le_bytes(bytes))
         }
         Form::Bytes => {
-            into.clear();
-            if into.push(value) {
-                Sample::InBuf
-            } else {
-                Sample::Absent
+            if value.len() > into.cap() {
+                return Sample::Absent;
             }
+            into.clear();
+            into.push(value);
+            Sample::InBuf
         }
     }
 }

@@ -1,5 +1,5 @@
 //! The variables of four scopes: a set that would make a scope hold too much changes nothing.
-ghost use Rattle.std.specs.Prelude.{◌≡◌, length, Some, IfOk};
+ghost use Rattle.std.specs.Prelude.{◌≡◌, ◌≢◌, length, Some, IfOk};
 ghost use Rattle.px_sample.specs.Sample.{value_in, within};
 ghost use Rattle.px_sample.specs.Shape.{IsShape};
 ghost use Rattle.px_sample.specs.Slot.{value_of};
@@ -80,10 +80,11 @@ impl Vars {
         }
     }
 
-    /// The value of a variable; bytes are written over what the buffer holds. Absent where the name isn't set,
-    /// or where its bytes are more than the buffer holds.
+    /// The value of a variable; bytes are written over what the buffer holds, and any other answer leaves it as it
+    /// was. Absent where the name isn't set, or where its bytes are more than the buffer holds.
     pub fn get(&self, scope: Scope, name: &[u8], into: &mut Buf) -> Sample
         ensures value { value_in result into.new.bytes ≡ within into.old.cap (variable self.now scope name.now) }
+        ensures unchanged { result ≢ Sample.InBuf → into.new ≡ into.old }
         ensures cap { into.new.cap ≡ into.old.cap }
     {
         match scope {
