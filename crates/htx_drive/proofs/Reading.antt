@@ -4,7 +4,7 @@ use Rattle.std.proofs.lemmas.List.{length-take-le, take-append-drop, take-append
 use Rattle.http_model.specs.declared.Ending.{Ending}
 use Rattle.http_model.specs.declared.Ending.TheVariants.{Closed, Broke}
 use Rattle.px_link.specs.Link.{Seen, SameKind, Gave, ReadFailed, SameInput}
-use Rattle.px_link.specs.Told.{Rose}
+use Rattle.px_link.specs.Calls.{fault_after}
 use Rattle.session_core.specs.History.{Coming, gains, ends}
 use Rattle.htx_drive.specs.Came.{EndsSo, Came, size_of}
 use Rattle.htx_drive.specs.Turned.{IsRead, most_read}
@@ -21,7 +21,7 @@ kind_on a b c h k = record { ending = k.ending ∙ h.ending; plain = k.plain ∙
 pub ends_same : (first old new : Seen) (how : Option Ending) → new.read_faults ≡ old.read_faults → EndsSo first old how → EndsSo first new how
 ends_same first old new None e h = e ∙ h
 ends_same first old new (Some Closed) e h = (e ∙ h.0, h.1)
-ends_same first old new (Some Broke) e h = let P : ℕ → Type 0 = λ n. Rose first.read_faults n in (subst P (sym e) h.0, h.1)
+ends_same first old new (Some Broke) e h = (e ∙ h.0, h.1)
 
 ends_none : (first old : Seen) (how : Option Ending) → how ≡ None → EndsSo first old how → old.read_faults ≡ first.read_faults
 ends_none first old how e h = let P : Option Ending → Type 0 = λ o. EndsSo first old o in subst P e h
@@ -93,8 +93,7 @@ came_breaks first old new came is h r =
       taken = λ k t. r.taken ∙ h.taken k t;
       ended =
           let P : Option Ending → Type 0 = λ o. IfSome o (λ e. e ≡ Broke) in
-          let R : ℕ → Type 0 = λ n. Rose n new.read_faults in
-          (subst R (ends_none first old came.ending is h.ended) r.rose, λ p. subst P h.kind.ending (r.fails (h.kind.plain ∙ p)).1);
+          (r.one_more ∙ ap fault_after (ends_none first old came.ending is h.ended), λ p. subst P h.kind.ending (r.fails (h.kind.plain ∙ p)).1);
     }
 
 pub came_same : (first old new : Seen) (came : Coming) → Came first old came → SameInput old new → Came first new came

@@ -3,6 +3,7 @@ use Rattle.std.specs.Prelude.{◌≡◌, ℕ, ◌+◌, List, [], ◌++◌, lengt
 use Rattle.http_model.specs.declared.Ending.{Ending}
 use Rattle.http_model.specs.declared.Ending.TheVariants.{Closed, Broke}
 use Rattle.px_link.specs.Link.{Seen, SameKind, WithinTakes, MayRefuse}
+use Rattle.px_link.specs.Calls.{fault_after}
 use Rattle.px_link.specs.Told.{Rose}
 use Rattle.session_core.specs.History.{Coming}
 
@@ -14,11 +15,12 @@ pub record CameOf (now : Seen) (xs : List ℕ) (came : Coming) (plain : Bool) : 
   pub closed : came.ending ≡ Some Closed → rest ≡ []
   pub broke : plain ≡ true → came.ending ≡ Some Broke → rest ≡ []
 
--- the stream ended so by a read of 0 bytes, or by a read that failed; no other read failed
+-- The stream ended so by a read of 0 bytes, or by a read that failed; no other read failed: the count is as it was, or the next one where a read
+-- failed.
 abbrev pub EndsSo : (first now : Seen) → Option Ending → Type 0
 EndsSo first now None = now.read_faults ≡ first.read_faults
 EndsSo first now (Some Closed) = (now.read_faults ≡ first.read_faults) × IfSome first.ending (λ e. e ≡ Closed)
-EndsSo first now (Some Broke) = Rose first.read_faults now.read_faults × (first.plain ≡ true → IfSome first.ending (λ e. e ≡ Broke))
+EndsSo first now (Some Broke) = (now.read_faults ≡ fault_after first.read_faults) × (first.plain ≡ true → IfSome first.ending (λ e. e ≡ Broke))
 
 pub record Came (first now : Seen) (came : Coming) : Type 0 where
   pub kind : SameKind first now

@@ -7,6 +7,7 @@ use Rattle.px_link.specs.declared.fault.Failed.{Failed}
 use Rattle.px_link.specs.declared.fault.Fault.{Fault}
 use Rattle.px_link.specs.declared.fault.Fault.TheVariants as faults
 use Rattle.px_link.specs.Told.{Rose}
+use Rattle.px_link.specs.Calls.{fault_after}
 
 -- how many bytes a link takes: it isn't told, so many, or as many as there are
 pub data Takes : Type 0 where
@@ -56,9 +57,9 @@ pub record Gave (old new : Seen) (into : List ℕ) (n : ℕ) : Type 0 where
   pub reads : new.read_faults ≡ old.read_faults
   pub writes : new.write_faults ≡ old.write_faults
 
--- A read failed: its count rose, a plain link had come to its broken end, and nothing was given.
+-- A read failed: its count is the next one, a plain link had come to its broken end, and nothing was given.
 pub record ReadFailed (old new : Seen) : Type 0 where
-  pub rose : Rose old.read_faults new.read_faults
+  pub one_more : new.read_faults ≡ fault_after old.read_faults
   pub never_falls : old.read_faults ≤ new.read_faults
   pub fails : old.plain ≡ true → IfSome old.to_come (λ bytes. bytes ≡ []) × IfSome old.ending (λ ending. ending ≡ Broke)
   pub to_come : new.to_come ≡ old.to_come
