@@ -14,3 +14,4 @@ mod Steps
 mod Requests
 mod ReplayLemmas
 mod DrillLemmas
+mod WeaveLemmas

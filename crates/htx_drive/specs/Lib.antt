@@ -11,3 +11,4 @@ pub mod Cores
 pub mod Underway
 pub mod Replay
 pub mod Drill
+pub mod Weave

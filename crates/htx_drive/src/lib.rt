@@ -16,6 +16,7 @@ mod server_side;
 mod session;
 mod step;
 mod turn;
+pub mod weave;
 
 pub use machine::Machine;
 pub use px_link::{Address, Close, End, Ending, Fault, Link, Net, OutOfMemory, Turn, Turns};

@@ -1,7 +1,6 @@
 -- A connection's core is lent, or given back.
-use Rattle.std.proofs.Common.{◌≡◌, ◌≢◌, ℕ, zero, suc, ◌+◌, Bool, true, false, ◌||◌, nat_eq, if◌then◌else◌, List, [], ◌∷◌, ◌++◌, length, Option, Some, None, ap, sym, subst, ◌∙◌, refl, arith}
-use Rattle.std.specs.Prelude.{set, get_or, IfSome}
-use Rattle.std.specs.List.{AllByRecursion}
+use Rattle.std.proofs.Common.{◌≡◌, ◌≢◌, ℕ, zero, suc, ◌+◌, Bool, true, false, ◌||◌, nat_eq, if◌then◌else◌, List, [], ◌∷◌, length, Option, Some, None, ap, sym, subst, ◌∙◌, refl, arith}
+use Rattle.std.specs.Prelude.{set, get_or}
 use Rattle.std.proofs.lemmas.Bool.{false≢true, eqb-true, ne_eqb}
 use Rattle.px_pool.specs.Owners.{is_of, has_one, place_of, count_out}
 use Rattle.px_pool.specs.Seats.{core_in, free_in, IsAlone, AreApart, IsShared, Inserted, Seats, core_of, free_of, with_core}
@@ -167,22 +166,5 @@ lent_put conn os cs now v h l w =
     let has : has_one conn os ≡ true = ap (λ (p : Seats _). has_one conn p.owners) v ∙ h in
     sym (ap (λ (p : Seats _). core_of conn (with_core conn p w)) v) ∙ put_core conn os cs w has l
 
--- ---- a core is reset and given back
-
 pub put_others : {C : Type 0} (conn other : ℕ) (old : Seats C) (w : C) → other ≢ conn → core_of other (with_core conn old w) ≡ core_of other old
 put_others conn other old w h = put_other conn other old.owners old.cores w h
-
-pub all_inserted : {C : Type 0} (P : C → Type 0) (before behind : List C) (w : C) → P w → AllByRecursion P (before ++ behind) → AllByRecursion P (before ++ w ∷ behind)
-all_inserted P [] behind w p all = (p, all)
-all_inserted P (c ∷ before) behind w p all = (all.0, all_inserted P before behind w p all.1)
-
-pub some_of : {C : Type 0} (P : C → Type 0) (o : Option C) (c : C) → o ≡ Some c → IfSome o P → P c
-some_of {C = C} P o c e h = let Q : Option C → Type 0 = λ x. IfSome x P in subst Q e h
-
-pub reset_free : {C : Type 0} (P : C → Type 0) (conn : ℕ) (old new : Seats C) (w : C) → core_of conn (with_core conn old w) ≡ Some w → Inserted (core_of conn (with_core conn old w)) (free_of (with_core conn old w)) (free_of new)
-    → P w → AllByRecursion P (free_of old) → AllByRecursion P (free_of new)
-reset_free {C = C} P conn old new w put i p all =
-    let Q : List C → Type 0 = λ l. AllByRecursion P l in
-    let same : free_of old ≡ i.before ++ i.behind = sym (put_free conn old.owners old.cores w) ∙ i.was in
-    let one : P i.one = some_of P (Some w) i.one (sym put ∙ i.is) p in
-    subst Q (sym i.has) (all_inserted P i.before i.behind i.one one (subst Q same all))

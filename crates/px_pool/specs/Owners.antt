@@ -1,5 +1,5 @@
 -- Who has which core.
-use Rattle.std.specs.Prelude.{ℕ, suc, ◌+◌, Bool, false, nat_eq, if◌then◌else◌, List, [], ◌∷◌, Option, Some, None, is_some, is_none}
+use Rattle.std.specs.Prelude.{ℕ, suc, ◌+◌, Bool, false, nat_eq, if◌then◌else◌, List, [], ◌∷◌, Option, Some, None, is_some}
 use Rattle.std.specs.List.{list_any, list_all}
 
 -- this connection has the core

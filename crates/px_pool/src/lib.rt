@@ -4,4 +4,4 @@
 mod owners;
 mod pool;
 
-pub use pool::{Pool, Resets, Took};
+pub use pool::{Pool, Took};

@@ -1,6 +1,5 @@
 //! A pool of cores: a connection takes one, has it lent, and gives it back, and no other connection's core changes.
-ghost use Rattle.std.specs.Prelude.{◌≡◌, ◌↔◌, ◌+◌, ◌≢◌, ℕ, true, false, Option, Some, None, length, OnOk, IfOk, IfSome};
-ghost use Rattle.std.specs.List.{AllByRecursion};
+ghost use Rattle.std.specs.Prelude.{◌≡◌, ◌↔◌, ◌+◌, ◌≢◌, ℕ, true, false, Option, Some, None, length, IfOk};
 ghost use Rattle.px_pool.specs.Owners.{has_one, all_out, count_out};
 ghost use Rattle.px_pool.specs.Seats.{core_of, free_of, first_of, rest_of, with_core, Inserted};
 
@@ -97,7 +96,7 @@ impl<C> Pool<C> {
         &mut self.cores[place]
     }
 
-    /// Takes a connection's core back, as it is.
+    /// Takes a connection's core back, as it is. Whoever lends it again resets it before.
     pub fn release(&mut self, conn: u32)
         requires has { has_one conn self.old.owners ≡ true }
         ensures gone { has_one conn self.new.owners ≡ false }
@@ -119,40 +118,5 @@ impl<C: Drop> Pool<C> {
     {
         let owners = nobody(alloc, cores.len())?;
         Ok(Pool { owners, cores })
-    }
-}
-
-/// A core that can begin again in its own memory.
-pub trait Resets {
-    /// What a core was made for.
-    type Settings;
-
-    /// It may be reset.
-    ghost sound: { Self → Type 0 };
-
-    /// It was used for these, and nothing else.
-    ghost used: { Self.Settings → Self → Type 0 };
-
-    /// Nothing has happened to it.
-    ghost ready: { Self.Settings → Self → Type 0 };
-
-    fn reset(&mut self)
-        requires sound { sound self.old }
-        ensures ready { (cfg : Self.Settings) → used cfg self.old → ready cfg self.new };
-}
-
-impl<C: Resets> Pool<C> {
-    /// Takes a connection's core back, reset.
-    pub fn give(&mut self, conn: u32)
-        requires has { has_one conn self.old.owners ≡ true }
-        requires sound { IfSome (core_of conn self.old) C.sound }
-        ensures gone { has_one conn self.new.owners ≡ false }
-        ensures none { core_of conn self.new ≡ None }
-        ensures others { (other : ℕ) → other ≢ conn → core_of other self.new ≡ core_of other self.old }
-        ensures free { (cfg : C.Settings) → IfSome (core_of conn self.old) (C.used cfg) → AllByRecursion (C.ready cfg) (free_of self.old) → AllByRecursion (C.ready cfg) (free_of self.new) }
-        ensures out { 1 + count_out self.new.owners ≡ count_out self.old.owners }
-    {
-        self.core(conn).reset();
-        self.release(conn);
     }
 }
