@@ -1,5 +1,6 @@
 -- What a history has moved is bounded by its texts.
-use Rattle.std.proofs.Common.{◌≡◌, ℕ, zero, suc, ◌+◌, ◌*◌, ◌≤◌, inl, inr, List, [], ◌∷◌, ◌++◌, Bool, true, false, Option, Some, None, length, map, sum_by, replicate, is_some, if◌then◌else◌, sym, ap, subst, ◌∙◌, refl, arith, length-append}
+use Rattle.std.proofs.Common.{◌≡◌, ℕ, zero, suc, ◌+◌, ◌*◌, ◌≤◌, ◌<◌, inl, inr, List, [], ◌∷◌, ◌++◌, Bool, true, false, Option, Some, None, length, map, sum_by, replicate, is_some, if◌then◌else◌, sym, ap, subst, ◌∙◌, refl, arith, length-append}
+use Rattle.std.proofs.lemmas.Bool.{cases_lt}
 use Rattle.std.specs.List.{flat_map, AllByRecursion}
 use Rattle.std.proofs.lemmas.List.Sums.{sum_by-append, sum_by-cons}
 use Rattle.session_model.specs.Stream.{Stream, Server, NotThere, Open, Sent}
@@ -8,10 +9,13 @@ use Rattle.session_model.specs.Asking.{Asked, Nothing, Refused, Replied, Sends, 
 use Rattle.session_model.specs.Session.{Exchange, After, Over, Next, Serves, Goes, GoesOn, Follow, Out}
 use Rattle.http_model.specs.declared.End.{End}
 use Rattle.session_core.specs.History.{Past, Connect, broken_server, IsPrefix, IsFrontOf, Fronts, broken}
-use Rattle.px_link.specs.Net.{Coming, NetSeen, LosesRefused}
+use Rattle.px_link.specs.Link.{Seen}
+use Rattle.px_link.specs.Net.{Coming, Kept, Place, NetSeen, LosesRefused}
 use Rattle.session_core.specs.Consequences.{IsFront}
+use Rattle.htx_drive.specs.Came.{Came}
+use Rattle.htx_drive.specs.Machine.{TookFront}
 use Rattle.htx_drive.specs.Driven.{moved, moved_by}
-use Rattle.htx_drive.specs.Dialled.{Dial, IsDial, IsDialBy, IsServed, IsRefused, Chain}
+use Rattle.htx_drive.specs.Dialled.{Dial, IsDial, IsDialBy, IsServed, IsRefused, Chain, Dials}
 use Rattle.session_core.specs.MeaningLaws.Bound.{IsBounded, sent_size, server_size}
 use Rattle.htx_drive.specs.Budget.{coming_size, HasRequests, enough}
 use Rattle.session_core.proofs.PublicLaws.{session_size}
@@ -148,7 +152,7 @@ dials_size plain answers (d ∷ ds) left h all =
     let e = ap (λ l. sum_by coming_size l) h.0 in
     omega (arith, sum_by-cons stream_size d.connect (map (λ (d : Dial). d.connect) ds))
 
-pub told_size : (first now : NetSeen) (plain : Type 0) (answers : List (Option Coming)) (ds : List Dial) (left : List (Option Coming)) (cs : List Connect) → map (λ (d : Dial). d.connect) ds ≡ cs → Chain answers ds left → AllByRecursion (IsDial plain) ds → sum_by stream_size cs ≤ sum_by coming_size answers
+told_size : (first now : NetSeen) (plain : Type 0) (answers : List (Option Coming)) (ds : List Dial) (left : List (Option Coming)) (cs : List Connect) → map (λ (d : Dial). d.connect) ds ≡ cs → Chain answers ds left → AllByRecursion (IsDial plain) ds → sum_by stream_size cs ≤ sum_by coming_size answers
 told_size first now plain answers ds left cs e h all = let a = dials_size plain answers ds left h all in omega (arith, ap (λ l. sum_by stream_size l) e)
 
 -- ---- all together
@@ -167,7 +171,7 @@ all_turns budget c s e k taken sent n m size xs ys h texts few most one cx sy b 
     mul_some : (f size : ℕ) → 1 ≤ size → f ≤ f * size
     mul_some f size h = grind arith
 
-pub never_spent : (M : Meaning) (past : Past) (budget m : ℕ) (xs rest : List ℕ) (ys : ℕ) → IsBounded M → 1 ≤ M.limits.bufsize → HasRequests M xs m → xs ≡ past.client.bytes ++ rest → sum_by stream_size past.connects ≤ ys
+never_spent : (M : Meaning) (past : Past) (budget m : ℕ) (xs rest : List ℕ) (ys : ℕ) → IsBounded M → 1 ≤ M.limits.bufsize → HasRequests M xs m → xs ≡ past.client.bytes ++ rest → sum_by stream_size past.connects ≤ ys
     → enough (length xs) ys m M.limits.bufsize ≤ budget → budget ≤ moved past → (begun : Bool) → IsFront M past [] [] begun → ⊥
 never_spent M past budget m xs rest ys b one requests came coming large spent begun f =
     let texts = session_size M (broken past.client) _ f.out b f.session in
@@ -187,3 +191,23 @@ never_spent M past budget m xs rest ys b one requests came coming large spent be
     let c : length past.client.bytes ≤ length xs = omega (arith, ap length came, length-append past.client.bytes rest) in
     all_turns budget (length past.client.bytes) (sum_by stream_size past.connects) (length f.session.exchanges) (length past.connects) (length past.taken) (sum_by taken_size past.connects) 0 m M.limits.bufsize (length xs) ys
     (omega arith) (omega arith) (omega arith) most one c coming large
+
+-- what a history moved is less than is enough
+pub moved_within : (M : Meaning) (first client : Seen) (to : Place) (first_net net : NetSeen) (xs : List ℕ) (m : ℕ) (answers : List (Option Coming)) (ks : List Kept) (past : Past) → IsBounded M → 1 ≤ M.limits.bufsize → HasRequests M xs m
+    → first.to_come ≡ Some xs → first_net.answers ≡ Some answers → first_net.kept ≡ Some ks → TookFront M past → Came first client past.client → Dials to first_net net past.connects
+    → moved past < enough (length xs) (sum_by coming_size answers) m M.limits.bufsize
+moved_within M first client to first_net net xs m answers ks past b one requests told_xs told_answers told_kept front came dials =
+    let o = came.bytes xs told_xs in
+    let t = dials.told answers ks told_answers told_kept in
+    let s = told_size first_net net _ answers t.dials t.left past.connects t.connects t.chain t.each in
+    less (moved past) (enough (length xs) (sum_by coming_size answers) m M.limits.bufsize)
+    (λ spent. front.1 (λ f. never_spent M past (enough (length xs) (sum_by coming_size answers) m M.limits.bufsize) m xs o.rest _ b one requests o.bytes s (omega arith) spent front.0 f))
+  where
+    less : (a b : ℕ) → (b ≤ a → ⊥) → a < b
+    less a b h = elim (cases_lt a b) [
+      | inl e ↦ e
+      | inr e ↦ absurd (h e)
+    ]
+
+pub less_than_spent : (moved most budget : ℕ) → moved < most → most ≤ budget → budget ≤ moved → ⊥
+less_than_spent moved most budget a b c = omega arith

@@ -10,6 +10,8 @@ mod Last
 mod Writing
 mod Turning
 mod Stepping
+mod Steps
 mod Requests
 mod ReplayLemmas
 mod DrillLemmas
+mod WeaveLemmas

@@ -8,5 +8,7 @@ pub mod Headline
 pub mod Acts
 pub mod Turned
 pub mod Cores
+pub mod Underway
 pub mod Replay
 pub mod Drill
+pub mod Weave

@@ -1,5 +1,5 @@
 //! Reads from the client and writes to it.
-ghost use Rattle.std.specs.Prelude.{◌≡◌, ◌<◌, true, false, OnOk, IsErrOf, ℕ, ◌≤◌, length, take};
+ghost use Rattle.std.specs.Prelude.{◌≡◌, ◌<◌, true, false, IsErrOf, ℕ, ◌≤◌, length, take};
 ghost use Rattle.session_core.specs.History.{Past};
 ghost use Rattle.px_link.specs.Link.{Writes};
 ghost use Rattle.htx_drive.specs.Driven.{Idle, ClientMoves, Ends};
@@ -58,7 +58,7 @@ pub(crate) fn write_client<C: Machine, L: Link>(
     requires wanted { (C.seen core.old).wants.client_write ≡ true }
     requires most { 0 < most }
     requires sound { C.sound core.old }
-    ensures sound { OnOk result (C.sound core.new) }
+    ensures sound { C.sound core.new }
     ensures moves { (cfg : C.Settings) (first : L) (past : Past) → Idle (C.stands cfg core.old) L.seen L.wrote first client.old false past
         → Ends result (λ _. ClientMoves (act.ClientWrite most) (C.stands cfg core.new) L.seen L.wrote first client.new past) (λ failed. Idle (C.stands cfg core.new) L.seen L.wrote first client.new failed past) }
     ensures unspent { IsErrOf result SessionFault.Spent → ⊥ }

@@ -2,8 +2,9 @@
 ghost use Rattle.std.specs.Prelude.{◌<◌};
 
 use crate::Machine;
+use crate::weave::Resets;
 use px_link::{Ending, OutOfMemory};
-use session_core::{Core, Wants, Works};
+use session_core::{Core, Renewable, Wants, Works};
 
 impl<S: Works> Machine for Core<S> {
     type Settings = S::Settings;
@@ -105,4 +106,10 @@ impl<S: Works> Machine for Core<S> {
     ghost over_is_the_session = { λ cfg core past how s over. core_over (S.meaning cfg) S.request S.answer (S.stands cfg) core.sides core.at past how s over };
 
     ghost taken_is_a_front = { λ cfg core past s. core_front (S.meaning cfg) (S.total cfg core.sides s.sided s.stand) S.request S.answer (S.stands cfg) core.sides core.at past s };
+}
+
+impl<S: Renewable> Resets for Core<S> {
+    fn reset(&mut self) {
+        self.reset();
+    }
 }

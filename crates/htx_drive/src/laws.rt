@@ -1,15 +1,29 @@
 //! What follows for every core.
-ghost use Rattle.std.specs.Prelude.{ℕ, ◌≡◌, ◌≤◌, List, Option, Some, length, sum_by};
+ghost use Rattle.std.specs.Prelude.{ℕ, ◌≡◌, ◌≤◌, ◌<◌, List, Option, Some, length, sum_by};
 ghost use Rattle.session_core.specs.Consequences.{IsTotal};
 ghost use Rattle.session_core.specs.MeaningLaws.Bound.{IsBounded};
 ghost use Rattle.px_link.specs.Net.{Coming, Kept, Place};
 ghost use Rattle.htx_drive.specs.Budget.{HasRequests, coming_size, enough};
+ghost use Rattle.htx_drive.specs.Came.{Came};
+ghost use Rattle.htx_drive.specs.Machine.{TookFront};
+ghost use Rattle.htx_drive.specs.Driven.{moved};
+ghost use Rattle.htx_drive.specs.Dialled.{Dials};
 ghost use Rattle.htx_drive.specs.Ran.{RanSo, GaveUp};
+ghost use Rattle.session_core.specs.History.{Past};
 ghost use Rattle.htx_drive.specs.Headline.{IsSessionOf};
 ghost use Rattle.htx_drive.specs.declared.Ran.{Ran};
 ghost use Rattle.http_model.specs.declared.Ending.{Ending};
 
 use crate::{Link, Machine, Net, SessionFault};
+
+/// What a history moved is less than is enough for the texts of its links: of what was taken as a front, over links and a net that are told.
+pub fn moved_is_bounded<C: Machine, L: Link, N: Net<Link = L>>()
+    ensures { (cfg : C.Settings) (first client : L) (to : Place) (first_net net : N) (bytes : List ℕ) (requests : ℕ) (answers : List (Option Coming)) (kept : List Kept) (past : Past)
+        → IsBounded (C.meaning cfg) → 1 ≤ (C.meaning cfg).limits.bufsize → HasRequests (C.meaning cfg) bytes requests
+        → (L.seen first).to_come ≡ Some bytes → (N.seen first_net).answers ≡ Some answers → (N.seen first_net).kept ≡ Some kept
+        → TookFront (C.meaning cfg) past → Came (L.seen first) (L.seen client) past.client → Dials to (N.seen first_net) (N.seen net) past.connects
+        → moved past < enough (length bytes) (sum_by coming_size answers) requests (C.meaning cfg).limits.bufsize }
+{}
 
 /// With a budget that is enough, no session is given up as spent: for every core, for turns of any number, and for links that take
 /// one byte a write.

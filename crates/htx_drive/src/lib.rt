@@ -14,11 +14,15 @@ mod resources;
 mod serve;
 mod server_side;
 mod session;
+mod step;
+mod turn;
+pub mod weave;
 
 pub use machine::Machine;
 pub use px_link::{Address, Close, End, Ending, Fault, Link, Net, OutOfMemory, Turn, Turns};
 pub use session::run_session;
 pub use session_core::Wants;
+pub use step::{Did, Stepped, step_idle, step_open};
 
 /// What a session that ended came to.
 #[derive(Clone, Copy)]

@@ -6,10 +6,8 @@ ghost use Rattle.htx_drive.specs.Driven.{Hand, HandGoes, Left, Ends, paid_by, pa
 ghost use Rattle.htx_drive.specs.Turned.{StandsIn, WorkedIn, FailsIn};
 ghost use Rattle.htx_drive.specs.Acts.{moves_bytes};
 
-use crate::act::{Act, next_act};
-use crate::client_side::{read_client, write_client};
 use crate::resources::{MOST, Resources};
-use crate::server_side::{read_server, write_server};
+use crate::turn::turn_open;
 use crate::{Machine, SessionFault, Wants};
 use px_link::{Close, Link, OutOfMemory, Turns};
 
@@ -37,29 +35,7 @@ fn serve_turn<C: Machine, L: Link, T: Turns>(
     ensures unspent { IsErrOf result SessionFault.Spent → ⊥ }
 {
     let turn = turns.next();
-    match next_act(turn, wants) {
-        Act::Nothing => Ok(false),
-        Act::ClientRead(most) => {
-            read_client(core, client, buffer, most);
-            Ok(true)
-        }
-        Act::ClientWrite(most) => {
-            match write_client(core, client, most) {
-                Ok(()) => Ok(true),
-                Err(fault) => Err(fault),
-            }
-        }
-        Act::ServerRead(most) => {
-            read_server(core, link, buffer, most);
-            Ok(true)
-        }
-        Act::ServerWrite(most) => {
-            match write_server(core, link, most) {
-                Ok(()) => Ok(true),
-                Err(fault) => Err(fault),
-            }
-        }
-    }
+    turn_open(core, client, link, turn, buffer, wants)
 }
 
 /// Turns, until the server's link is to be closed, and how.

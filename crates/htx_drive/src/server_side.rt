@@ -1,5 +1,5 @@
 //! Reads from an open server and writes to it.
-ghost use Rattle.std.specs.Prelude.{◌≡◌, ◌<◌, ◌++◌, ◌∷◌, [], List, true, false, OnOk, IsErrOf, ℕ, ◌≤◌, length, take};
+ghost use Rattle.std.specs.Prelude.{◌≡◌, ◌<◌, ◌++◌, ◌∷◌, [], List, true, false, IsErrOf, ℕ, ◌≤◌, length, take};
 ghost use Rattle.session_core.specs.History.{Past, Connect};
 ghost use Rattle.px_link.specs.Link.{Writes};
 ghost use Rattle.htx_drive.specs.Driven.{Linked, ServerMoves, Ends};
@@ -59,7 +59,7 @@ pub(crate) fn write_server<C: Machine, L: Link>(
     requires wanted { (C.seen core.old).wants.server_write ≡ true }
     requires most { 0 < most }
     requires sound { C.sound core.old }
-    ensures sound { OnOk result (C.sound core.new) }
+    ensures sound { C.sound core.new }
     ensures moves { (cfg : C.Settings) (first : L) (before : List Connect) (past : Past) (c : Connect) → C.stands cfg core.old past → past.connects ≡ before ++ c ∷ [] → Linked L.seen L.wrote first link.old c
         → Ends result (λ _. ServerMoves (act.ServerWrite most) (C.stands cfg core.new) L.seen L.wrote first link.new before past c) (λ failed. (failed ≡ false) × C.stands cfg core.new past × Linked L.seen L.wrote first link.new c) }
     ensures unspent { IsErrOf result SessionFault.Spent → ⊥ }

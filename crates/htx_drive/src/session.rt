@@ -11,10 +11,9 @@ ghost use Rattle.htx_drive.specs.Turned.{InTurns, UpToAFault, turns_up_to, Stand
 ghost use Rattle.htx_drive.specs.Dialled.{Goes, Dials};
 ghost use Rattle.htx_drive.specs.Ran.{RanSo, GaveUp};
 
-use crate::act::{Act, next_act};
-use crate::client_side::{read_client, write_client};
 use crate::exchange::exchange;
 use crate::resources::{MOST, Resources};
+use crate::turn::turn_idle;
 use crate::{Machine, Ran, SessionFault, Wants};
 use px_link::{Address, Close, End, Link, Net, OutOfMemory, Turns};
 
@@ -43,19 +42,7 @@ fn client_turn<C: Machine, L: Link, T: Turns>(
     ensures unspent { IsErrOf result SessionFault.Spent → ⊥ }
 {
     let turn = turns.next();
-    match next_act(turn, wants) {
-        Act::Nothing => Ok(false),
-        Act::ClientRead(most) => {
-            read_client(core, client, buffer, most);
-            Ok(true)
-        }
-        Act::ClientWrite(most) => match write_client(core, client, most) {
-            Ok(()) => Ok(true),
-            Err(fault) => Err(fault),
-        },
-        Act::ServerRead(_) => Ok(false),
-        Act::ServerWrite(_) => Ok(false),
-    }
+    turn_idle(core, client, turn, buffer, wants)
 }
 
 /// A turn of the client, paid for.
@@ -158,7 +145,8 @@ fn exchanges<C: Machine, L: Link, N: Net<Link = L>, T: Turns>(
     }
 }
 
-fn close_of(end: End) -> Close
+/// How the client's link is closed behind this end.
+pub(crate) fn close_of(end: End) -> Close
     ensures { result ≡ close_of end }
 {
     match end {

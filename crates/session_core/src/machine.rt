@@ -1,13 +1,14 @@
 //! A core: its two directions, and where it stands in its session.
 ghost use Rattle.std.specs.Prelude.{◌≡◌, Option, Bool, false};
-ghost use Rattle.session_core.specs.History.{nothing_yet};
+ghost use Rattle.session_core.specs.History.{Past, nothing_yet};
+ghost use Rattle.session_core.specs.Waits.{is_serving};
 ghost use Rattle.session_core.specs.Sided.{Sided, HoldsList};
 ghost use Rattle.session_core.specs.Place as place;
 ghost use Rattle.session_core.specs.Place.{IsPlaced};
 ghost use Rattle.session_core.specs.Leads.{Stands, IsFresh};
 
 use crate::Phase;
-use crate::sides::Works;
+use crate::sides::{Renewable, Works};
 use http_model::{Close, End};
 
 /// Where a core stands beside its directions.
@@ -54,6 +55,7 @@ impl<S: Works> Core<S> {
         ensures placed { IsPlaced (S.placed result.sides) (S.answer result.sides) result.at.phase result.at.cut }
         ensures stands { (cfg : S.Settings) (p : Sided (S.meaning cfg)) → S.stands cfg sides p → IsFresh (S.meaning cfg) (S.request sides) (S.answer sides) p
             → Stands (S.meaning cfg) S.request S.answer (S.stands cfg) result.sides result.at nothing_yet }
+        ensures idle { is_serving result.at.phase ≡ false }
         ensures lost { result.lost ≡ false }
     {
         Core {
@@ -128,5 +130,24 @@ impl<S: Works> Core<S> {
         ensures value { result.now ≡ (S.request self.old.sides).window }
     {
         self.sides.to_server()
+    }
+}
+
+impl<S: Renewable> Core<S> {
+    /// A core to which nothing has happened, in the same memory and for the same configuration. It takes no memory.
+    pub fn reset(&mut self)
+        requires placed { IsPlaced (S.placed self.old.sides) (S.answer self.old.sides) self.old.at.phase self.old.at.cut }
+        ensures placed { IsPlaced (S.placed self.new.sides) (S.answer self.new.sides) self.new.at.phase self.new.at.cut }
+        ensures stands { (cfg : S.Settings) (past : Past) → Stands (S.meaning cfg) S.request S.answer (S.stands cfg) self.old.sides self.old.at past
+            → Stands (S.meaning cfg) S.request S.answer (S.stands cfg) self.new.sides self.new.at nothing_yet }
+        ensures idle { is_serving self.new.at.phase ≡ false }
+        ensures lost { self.new.lost ≡ self.old.lost }
+    {
+        self.sides.renew();
+        self.at = At {
+            phase: Phase::Reading,
+            cut: None,
+            exchanges: 0,
+        };
     }
 }

@@ -10,7 +10,7 @@ ghost use Rattle.session_core.specs.Waits.{is_empty};
 ghost use Rattle.session_core.specs.Place as place;
 ghost use Rattle.session_core.specs.Place.{Place, is_saying, place_behind, IsSomewhere, IsAtServer, Stay};
 ghost use Rattle.session_core.specs.Lending.{LendsText};
-ghost use Rattle.session_core.specs.Leads.{StepsRequest, KeepsRequest, StepsAnswer, AnswerWaits, Says, Refuses, Turns, AsksTo, AskKeeps, Renews, RenewsReplied};
+ghost use Rattle.session_core.specs.Leads.{StepsRequest, KeepsRequest, StepsAnswer, AnswerWaits, Says, Refuses, Turns, AsksTo, AskKeeps, Renews, RenewsReplied, IsFresh};
 
 use crate::{Source, Told};
 use http_model::{Ending, OutOfMemory};
@@ -312,4 +312,14 @@ pub trait Works: Shows + Lends + Peers {
         ensures window { (Self.request self.new).window ≡ [] }
         ensures unread { (Self.request self.new).unread ≤ (Self.request self.old).unread }
         ensures answer { (Self.answer self.new).window ≡ (Self.answer self.old).window };
+}
+
+/// Two directions that can begin again in the same memory.
+pub trait Renewable: Works {
+    /// As new ones, for the same configuration: by what they stand for nothing has happened yet. It takes no memory.
+    fn renew(&mut self)
+        requires placed { IsSomewhere (Self.placed self.old) }
+        ensures placed { Self.placed self.new place.Reads }
+        ensures stands { (cfg : Self.Settings) (p : Sided (Self.meaning cfg)) → Self.stands cfg self.old p
+            → (q : Sided (Self.meaning cfg)) × Self.stands cfg self.new q × IsFresh (Self.meaning cfg) (Self.request self.new) (Self.answer self.new) q };
 }

@@ -1,0 +1,44 @@
+use Rattle.std.proofs.Common.{rules, ◌≡◌, ℕ, Option, None, false, refl, sym, ap, subst, ◌∙◌}
+use Rattle.std.specs.Prelude.{drop}
+use Rattle.px_link.specs.Net.{address_of}
+use Rattle.px_link.specs.Turns.{rest_of}
+use Rattle.px_pool.specs.Owners.{has_one}
+use Rattle.px_pool.specs.Seats.{Seats, core_of}
+use Rattle.htx_drive.specs.Weave.Woven.{Pays}
+use Rattle.htx_drive.specs.Weave.State.{IsAt}
+use Rattle.htx_drive.proofs.WeaveLemmas.Places.{begun, waits_more, at_on, at_spent, at_done, on_of, spent_of, ended_of}
+use Rattle.htx_drive.proofs.weave.sets.move_of.Goals as goal
+
+pub returns-then-not-seated-clause-at : goal.returns-then-not-seated-clause-at
+returns-then-not-seated-clause-at g c = λ cfg turns ahead total first first_net e free p.
+    let conn = c.args.conn.now in
+    let none : conn.ran ≡ None = search rules in
+    let is : c.seated.result ≡ false = search rules in
+    let w = c.seated.ensures.wait is in
+    let P : Seats g.row.C.Denot → Type 0 = λ s. Pays total c.args.resources.now.left (IsAt (g.C.Machine.meaning cfg) (g.C.Machine.stands cfg) g.C.Machine.seen g.C.Machine.sound turns (rest_of ahead) g.L.Link.seen g.L.Link.wrote first conn.client conn.server (address_of c.args.to.now) (g.N.Net.seen first_net) (g.N.Net.seen conn.net) conn.ran (core_of c.args.number s)) in
+    subst P (sym w.2)
+    (waits_more (g.C.Machine.meaning cfg) (g.C.Machine.stands cfg) g.C.Machine.seen g.C.Machine.sound turns ahead g.L.Link.seen g.L.Link.wrote first (address_of c.args.to.now) (g.N.Net.seen first_net) conn.client conn.server (g.N.Net.seen conn.net) total c.args.resources.now.left conn.ran (core_of c.args.number c.args.pool.now) none w.0 p)
+
+pub returns-in-Ok-On-clause-at : goal.returns-in-Ok-On-clause-at
+returns-in-Ok-On-clause-at g c = λ cfg turns ahead total first first_net e free p.
+    let conn = c.args.conn.now in
+    let none : conn.ran ≡ None = search rules in
+    let b = begun (g.C.Machine.meaning cfg) (g.C.Machine.stands cfg) g.C.Machine.seen g.C.Machine.sound turns ahead g.L.Link.seen g.L.Link.wrote first (address_of c.args.to.now) (g.N.Net.seen first_net) conn.client conn.server (g.N.Net.seen conn.net) total c.args.resources.now.left c.args.number conn.ran c.args.pool.now c.seated.new.pool none c.seated.ensures.seated free p in
+    at_on (g.C.Machine.meaning cfg) (g.C.Machine.stands cfg) g.C.Machine.seen g.C.Machine.sound turns (rest_of ahead) g.L.Link.seen g.L.Link.wrote first c.set_goes.new.conn.client c.set_goes.new.conn.server (address_of c.args.to.now) (g.N.Net.seen first_net) (g.N.Net.seen c.set_goes.new.conn.net) total c.set_goes.new.resources.left b.waited c.set_goes.new.conn.ran (core_of c.args.number c.set_goes.new.pool)
+    c.in-Ok-On.field-0 c.in-Ok-On.field-0-is c.in-Ok-On.ensures.keeps (on_of ℕ _ _ _ _ c.in-Ok-On.field-0 c.in-Ok-On.field-0-is (c.in-Ok-On.ensures.goes cfg (drop b.waited turns) ahead total first first_net e b.go))
+
+pub returns-in-Ok-Ended-clause-at : goal.returns-in-Ok-Ended-clause-at
+returns-in-Ok-Ended-clause-at g c = λ cfg turns ahead total first first_net e free p.
+    let conn = c.args.conn.now in
+    let none : conn.ran ≡ None = search rules in
+    let b = begun (g.C.Machine.meaning cfg) (g.C.Machine.stands cfg) g.C.Machine.seen g.C.Machine.sound turns ahead g.L.Link.seen g.L.Link.wrote first (address_of c.args.to.now) (g.N.Net.seen first_net) conn.client conn.server (g.N.Net.seen conn.net) total c.args.resources.now.left c.args.number conn.ran c.args.pool.now c.seated.new.pool none c.seated.ensures.seated free p in
+    at_done (g.C.Machine.meaning cfg) (g.C.Machine.stands cfg) g.C.Machine.seen g.C.Machine.sound turns (rest_of ahead) g.L.Link.seen g.L.Link.wrote first c.set_goes.new.conn.client c.set_goes.new.conn.server (address_of c.args.to.now) (g.N.Net.seen first_net) (g.N.Net.seen c.set_goes.new.conn.net) total c.set_goes.new.resources.left b.waited c.set_goes.new.conn.ran (core_of c.args.number c.set_goes.new.pool)
+    c.in-Ok-Ended.field-0 c.in-Ok-Ended.field-0-is c.in-Ok-Ended.ensures.keeps (ended_of ℕ _ _ _ _ c.in-Ok-Ended.field-0 c.in-Ok-Ended.field-0-is (c.in-Ok-Ended.ensures.goes cfg (drop b.waited turns) ahead total first first_net e b.go))
+
+pub returns-in-Ok-Spent-clause-at : goal.returns-in-Ok-Spent-clause-at
+returns-in-Ok-Spent-clause-at g c = λ cfg turns ahead total first first_net e free p.
+    let conn = c.args.conn.now in
+    let none : conn.ran ≡ None = search rules in
+    let b = begun (g.C.Machine.meaning cfg) (g.C.Machine.stands cfg) g.C.Machine.seen g.C.Machine.sound turns ahead g.L.Link.seen g.L.Link.wrote first (address_of c.args.to.now) (g.N.Net.seen first_net) conn.client conn.server (g.N.Net.seen conn.net) total c.args.resources.now.left c.args.number conn.ran c.args.pool.now c.seated.new.pool none c.seated.ensures.seated free p in
+    at_spent (g.C.Machine.meaning cfg) (g.C.Machine.stands cfg) g.C.Machine.seen g.C.Machine.sound turns ahead g.L.Link.seen g.L.Link.wrote first c.set_goes.new.conn.client c.set_goes.new.conn.server (address_of c.args.to.now) (g.N.Net.seen first_net) (g.N.Net.seen c.set_goes.new.conn.net) total c.set_goes.new.resources.left b.waited c.set_goes.new.conn.ran (core_of c.args.number c.set_goes.new.pool)
+    c.in-Ok-Spent.field-0 c.in-Ok-Spent.field-0-is c.in-Ok-Spent.ensures.keeps (spent_of ℕ _ _ _ _ c.in-Ok-Spent.field-0 c.in-Ok-Spent.field-0-is (c.in-Ok-Spent.ensures.goes cfg (drop b.waited turns) ahead total first first_net e b.go))

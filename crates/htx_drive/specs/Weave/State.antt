@@ -1,0 +1,123 @@
+-- Where many connections stand between two moves.
+use Rattle.std.specs.Prelude.{◌≡◌, ◌≢◌, ℕ, ◌+◌, ◌<◌, ◌≤◌, ◌==◌, suc, List, [], ◌∷◌, map, filter, drop, sum, Bool, true, false, Option, Some, None, Result, is_some, ⊤, ◌⊎◌}
+use Rattle.std.specs.List.{AllByRecursion}
+use Rattle.session_model.specs.Meaning.{Meaning}
+use Rattle.session_core.specs.History.{Past, nothing_yet}
+use Rattle.px_link.specs.declared.turns.Turn.{Turn}
+use Rattle.px_link.specs.Turns as order
+use Rattle.px_link.specs.Link.{Seen}
+use Rattle.px_link.specs.Net.{Place, NetSeen}
+use Rattle.px_pool.specs.Owners.{has_one}
+use Rattle.px_pool.specs.Seats.{Seats, core_of, free_of, first_of, rest_of}
+use Rattle.htx_drive.specs.Machine.{CoreSeen}
+use Rattle.htx_drive.specs.declared.Ran.{Ran}
+use Rattle.htx_drive.specs.declared.SessionFault.{SessionFault}
+use Rattle.htx_drive.specs.Weave.Woven.{Going}
+use Rattle.htx_drive.specs.Weave.Went.{OverSo}
+use Rattle.htx_drive.specs.declared.weave.mover.Went.{Went}
+use Rattle.htx_drive.specs.declared.weave.mover.Went.TheVariants as went
+
+-- the turns of the connection of this number, in their order
+abbrev pub turns_of : (number : ℕ) → List (ℕ × Turn) → List Turn
+turns_of number woven = map (λ (t : ℕ × Turn). t.1) (filter (λ (t : ℕ × Turn). t.0 == number) woven)
+
+-- each is a turn of one of so many connections, which are numbered from 1
+abbrev pub AreWithin : (conns : ℕ) → List (ℕ × Turn) → Type 0
+AreWithin conns woven = AllByRecursion (λ (t : ℕ × Turn). (1 ≤ t.0) × (t.0 ≤ conns)) woven
+
+-- ---- the cores that are free
+
+-- it may be called, and no server of it is open
+abbrev pub IsReady : {C : Type 0} → (sees : C → CoreSeen) → (sound : C → Type 0) → C → Type 0
+IsReady sees sound core = sound core × ((sees core).serving ≡ false)
+
+-- nothing has happened to it
+abbrev pub IsFresh : {C : Type 0} → (stands : C → Past → Type 0) → C → Type 0
+IsFresh stands core = stands core nothing_yet
+
+-- a connection that had a core has the same, and another has the first that was free
+pub record KeepsSet {C : Type 0} (number : ℕ) (old new : Seats C) : Type 0 where
+  pub core : core_of number new ≡ core_of number old
+  pub free : free_of new ≡ free_of old
+
+pub record TakesSet {C : Type 0} (number : ℕ) (old new : Seats C) : Type 0 where
+  pub none : core_of number old ≡ None
+  pub core : core_of number new ≡ first_of (free_of old)
+  pub free : free_of new ≡ rest_of (free_of old)
+
+abbrev pub Seated : {C : Type 0} → (number : ℕ) → (old new : Seats C) → Type 0
+Seated number old new = KeepsSet number old new ⊎ TakesSet number old new
+
+-- behind a move it keeps its core and may be called again, or it has ended and has none
+pub record KeepsOn {C L : Type 0} (sees : C → CoreSeen) (sound : C → Type 0) (held : Option C) (server : Option L) (lent : ℕ) (ran : Option (Result Ran SessionFault)) : Type 0 where
+  pub core : C
+  pub is : held ≡ Some core
+  pub is_sound : sound core
+  pub serving : (sees core).serving ≡ is_some server
+  pub is_lent : is_some server ≡ true → 0 < lent
+  pub goes_on : ran ≡ None
+
+pub record HasDone {C L : Type 0} (held : Option C) (server : Option L) (ran : Option (Result Ran SessionFault)) : Type 0 where
+  pub none : held ≡ None
+  pub no_server : server ≡ None
+  pub ended : is_some ran ≡ true
+
+abbrev pub SetSo : {C L : Type 0} → Went → (sees : C → CoreSeen) → (sound : C → Type 0) → (held : Option C) → (server : Option L) → (lent : ℕ) → (ran : Option (Result Ran SessionFault)) → Type 0
+SetSo went.On sees sound held server lent ran = KeepsOn sees sound held server lent ran
+SetSo went.Ended sees sound held server lent ran = HasDone held server ran
+SetSo went.Spent sees sound held server lent ran = KeepsOn sees sound held server lent ran
+
+-- a connection may move: it has ended, or its core may be called, or it has none and no server of it is open
+pub record MayCall {C L : Type 0} (sees : C → CoreSeen) (sound : C → Type 0) (server : Option L) (lent : ℕ) (core : C) : Type 0 where
+  pub is_sound : sound core
+  pub serving : (sees core).serving ≡ is_some server
+  pub is_lent : is_some server ≡ true → 0 < lent
+
+abbrev pub MayMove : {C L : Type 0} → (sees : C → CoreSeen) → (sound : C → Type 0) → (server : Option L) → (lent : ℕ) → (ran : Option (Result Ran SessionFault)) → (held : Option C) → Type 0
+MayMove sees sound server lent None None = server ≡ None
+MayMove sees sound server lent None (Some core) = MayCall sees sound server lent core
+MayMove sees sound server lent (Some ran) held = ⊤
+
+-- ---- one connection
+
+-- it has had no core yet, and nothing of it was touched; so many of its turns found all cores out
+pub record Waits {L : Type 0} (turns ahead : List Turn) (first client : L) (server : Option L) (first_net net : NetSeen) (count : ℕ) : Type 0 where
+  pub waited : ℕ
+  pub left : ahead ≡ drop waited turns
+  pub same_client : client ≡ first
+  pub same_net : net ≡ first_net
+  pub no_server : server ≡ None
+  pub paid_none : count ≡ 0
+
+-- it has this core, and its session is under way
+pub record Holds {C L : Type 0} (stands : C → Past → Type 0) (sees : C → CoreSeen) (sound : C → Type 0) (turns ahead : List Turn) (seen : L → Seen) (wrote : L → List ℕ → Type 0) (first client : L) (server : Option L) (to : Place) (first_net net : NetSeen) (core : C) (count : ℕ) : Type 0 where
+  pub waited : ℕ
+  pub going : Going stands sees (drop waited turns) ahead core seen wrote first client server to first_net net count
+  pub is_sound : sound core
+  pub serving : (sees core).serving ≡ is_some server
+  pub lent : is_some server ≡ true → 0 < net.lent
+
+-- it has ended
+pub record Done {C L : Type 0} (M : Meaning) (stands : C → Past → Type 0) (sees : C → CoreSeen) (turns : List Turn) (seen : L → Seen) (wrote : L → List ℕ → Type 0) (first client : L) (server : Option L) (to : Place) (first_net net : NetSeen) (ran : Result Ran SessionFault) (count : ℕ) : Type 0 where
+  pub waited : ℕ
+  pub no_server : server ≡ None
+  pub so : OverSo M stands sees (drop waited turns) seen wrote first client to first_net net (Some ran) count
+
+-- by what it came to, and by the core that it has
+abbrev pub IsAt : {C L : Type 0} → (M : Meaning) → (stands : C → Past → Type 0) → (sees : C → CoreSeen) → (sound : C → Type 0) → (turns ahead : List Turn) → (seen : L → Seen) → (wrote : L → List ℕ → Type 0) → (first client : L) → (server : Option L) → Place → (first_net net : NetSeen) → Option (Result Ran SessionFault) → Option C → (count : ℕ) → Type 0
+IsAt M stands sees sound turns ahead seen wrote first client server to first_net net None None count = Waits turns ahead first client server first_net net count
+IsAt M stands sees sound turns ahead seen wrote first client server to first_net net None (Some core) count = Holds stands sees sound turns ahead seen wrote first client server to first_net net core count
+IsAt M stands sees sound turns ahead seen wrote first client server to first_net net (Some ran) None count = Done M stands sees turns seen wrote first client server to first_net net ran count
+IsAt M stands sees sound turns ahead seen wrote first client server to first_net net (Some ran) (Some core) count = ⊥
+
+-- the turns that are ahead behind a move: where something was left of the budget, all but the one that it was for
+abbrev pub ahead_more : (more : Bool) → List Turn → List Turn
+ahead_more true ahead = order.rest_of ahead
+ahead_more false ahead = ahead
+
+-- ---- all of them, numbered from this one on
+
+abbrev pub EachFrom : {A B : Type 0} → (P : (number : ℕ) → A → B → (count : ℕ) → Type 0) → (number : ℕ) → (firsts : List A) → (conns : List B) → (counts : List ℕ) → Type 0
+EachFrom P number [] [] [] = ⊤
+EachFrom P number (first ∷ firsts) (conn ∷ conns) (count ∷ counts) = P number first conn count × EachFrom P (suc number) firsts conns counts
+EachFrom P number firsts conns counts = ⊥

@@ -1,0 +1,13 @@
+//! Connections over shared cores, interleaved: each move is one connection's, and changes no other.
+
+mod conn;
+mod ends;
+pub mod laws;
+mod mover;
+mod moves;
+mod resets;
+mod sets;
+mod step;
+
+pub use conn::Conn;
+pub use resets::Resets;

@@ -1,0 +1,147 @@
+//! Connections and the cores of a pool.
+ghost use Rattle.std.specs.Prelude.{◌≡◌, ◌≢◌, ◌<◌, ℕ, List, Some, None, true, false, is_some, OnOk, OnErr, IfOk, IfSome, ◌≤◌, ◌-◌, length, slice_get};
+ghost use Rattle.std.specs.List.{AllByRecursion};
+ghost use Rattle.session_core.specs.History.{Past, nothing_yet};
+ghost use Rattle.px_link.specs.Net.{address_of};
+ghost use Rattle.px_link.specs.declared.turns.Turn.{Turn};
+ghost use Rattle.px_link.specs.Turns.{first_of, rest_of};
+ghost use Rattle.px_pool.specs.Owners.{has_one, all_out};
+ghost use Rattle.px_pool.specs.Seats.{core_of, free_of};
+ghost use Rattle.htx_drive.specs.Underway.{Stopped, LeftSo};
+ghost use Rattle.htx_drive.specs.Weave.Woven.{Pays, Going};
+ghost use Rattle.htx_drive.specs.Weave.Went.{GoesAs, OverSo, HoldsOn, SpentSo};
+ghost use Rattle.htx_drive.specs.Weave.State.{IsReady, IsFresh, Seated, SetSo, MayMove, IsAt, ahead_more};
+
+use crate::weave::conn::Conn;
+use crate::weave::mover::{Went, goes};
+use crate::weave::moves::Resources;
+use crate::weave::resets::Resets;
+use crate::{Address, Link, Net, OutOfMemory, Turn};
+use px_pool::{Pool, Took};
+
+/// Takes back the core of a connection: nothing has happened to it, and it is free.
+fn give<C: Resets>(pool: &mut Pool<C>, number: u32)
+    requires has { has_one number pool.old.owners ≡ true }
+    requires sound { IfSome (core_of number pool.old) C.sound }
+    ensures none { core_of number pool.new ≡ None }
+    ensures others { (other : ℕ) → other ≢ number → core_of other pool.new ≡ core_of other pool.old }
+    ensures ready { AllByRecursion (IsReady C.seen C.sound) (free_of pool.old) → AllByRecursion (IsReady C.seen C.sound) (free_of pool.new) }
+    ensures fresh { (cfg : C.Settings) → IfSome (core_of number pool.old) (λ core. (past : Past) × C.stands cfg core past) → AllByRecursion (IsFresh (C.stands cfg)) (free_of pool.old) → AllByRecursion (IsFresh (C.stands cfg)) (free_of pool.new) }
+{
+    pool.core(number).reset();
+    pool.release(number);
+}
+
+/// Whether a connection has a core, or gets one.
+fn seated<C: Resets>(pool: &mut Pool<C>, number: u32) -> bool
+    ensures has { result ≡ true → has_one number pool.new.owners ≡ true }
+    ensures wait { result ≡ false → (core_of number pool.old ≡ None) × (all_out pool.old.owners ≡ true) × (pool.new ≡ pool.old) }
+    ensures others { (other : ℕ) → other ≢ number → core_of other pool.new ≡ core_of other pool.old }
+    ensures seated { Seated number pool.old pool.new }
+{
+    if pool.has(number) {
+        return true;
+    }
+    match pool.take(number) {
+        Took::Set => true,
+        Took::Wait => false,
+    }
+}
+
+/// The move of a connection that has a core of the pool. Where it ends its core is free again; no other connection's core is touched.
+fn set_goes<C: Resets, L: Link, N: Net<Link = L>>(
+    pool: &mut Pool<C>,
+    conn: &mut Conn<L, N>,
+    number: u32,
+    to: &Address,
+    turn: Option<Turn>,
+    resources: &mut Resources,
+) -> Result<Went, OutOfMemory>
+    requires has { has_one number pool.old.owners ≡ true }
+    requires sound { IfSome (core_of number pool.old) C.sound }
+    requires serving { IfSome (core_of number pool.old) (λ core. (C.seen core).serving ≡ is_some conn.old.server) }
+    requires lent { is_some conn.old.server ≡ true → 0 < (N.seen conn.old.net).lent }
+    requires ran { conn.old.ran ≡ None }
+    ensures others { (other : ℕ) → other ≢ number → core_of other pool.new ≡ core_of other pool.old }
+    ensures goes { (cfg : C.Settings) (all ahead : List Turn) (total : ℕ) (first : L) (first_net : N) → turn ≡ first_of ahead → IfSome (core_of number pool.old) (λ core. Pays total resources.old.left (Going (C.stands cfg) C.seen all ahead core L.seen L.wrote first conn.old.client conn.old.server (address_of to.now) (N.seen first_net) (N.seen conn.old.net)))
+        → GoesAs result (IfSome (core_of number pool.new) (λ core. Pays total resources.new.left (Going (C.stands cfg) C.seen all (rest_of ahead) core L.seen L.wrote first conn.new.client conn.new.server (address_of to.now) (N.seen first_net) (N.seen conn.new.net))))
+        (Pays total resources.new.left (OverSo (C.meaning cfg) (C.stands cfg) C.seen all L.seen L.wrote first conn.new.client (address_of to.now) (N.seen first_net) (N.seen conn.new.net) conn.new.ran))
+        (IfSome (core_of number pool.new) (λ core. Pays total resources.new.left (Going (C.stands cfg) C.seen all ahead core L.seen L.wrote first conn.new.client conn.new.server (address_of to.now) (N.seen first_net) (N.seen conn.new.net))))
+        (IfSome (core_of number pool.new) (λ core. Pays total resources.new.left (λ count. (left : List Turn) × Stopped (LeftSo (C.meaning cfg) (C.stands cfg) C.seen all left count core false) L.seen L.wrote first conn.new.client false (address_of to.now) (N.seen first_net) (N.seen conn.new.net) count))) }
+    ensures spent { IfOk result (λ went. SpentSo went resources.new.left) }
+    ensures keeps { IfOk result (λ went. SetSo went C.seen C.sound (core_of number pool.new) conn.new.server (N.seen conn.new.net).lent conn.new.ran) }
+    ensures ready { OnOk result (AllByRecursion (IsReady C.seen C.sound) (free_of pool.old) → AllByRecursion (IsReady C.seen C.sound) (free_of pool.new)) }
+    ensures fresh { (cfg : C.Settings) (all ahead : List Turn) (total : ℕ) (first : L) (first_net : N) → turn ≡ first_of ahead → IfSome (core_of number pool.old) (λ core. Pays total resources.old.left (Going (C.stands cfg) C.seen all ahead core L.seen L.wrote first conn.old.client conn.old.server (address_of to.now) (N.seen first_net) (N.seen conn.old.net)))
+        → AllByRecursion (IsFresh (C.stands cfg)) (free_of pool.old) → OnOk result (AllByRecursion (IsFresh (C.stands cfg)) (free_of pool.new)) }
+    ensures lost { OnErr result ((conn.new.server ≡ None) × (conn.new.ran ≡ None)) }
+{
+    match goes(conn, pool.core(number), to, turn, resources) {
+        Ok(Went::On) => Ok(Went::On),
+        Ok(Went::Ended) => {
+            give(pool, number);
+            Ok(Went::Ended)
+        }
+        Ok(Went::Spent) => Ok(Went::Spent),
+        Err(OutOfMemory) => Err(OutOfMemory),
+    }
+}
+
+/// The move of a connection: one that has ended, or that gets no core, does nothing. Whether something was left of the budget.
+pub(crate) fn move_of<C: Resets, L: Link, N: Net<Link = L>>(
+    pool: &mut Pool<C>,
+    conn: &mut Conn<L, N>,
+    number: u32,
+    to: &Address,
+    turn: Option<Turn>,
+    resources: &mut Resources,
+) -> Result<bool, OutOfMemory>
+    requires may { MayMove C.seen C.sound conn.old.server (N.seen conn.old.net).lent conn.old.ran (core_of number pool.old) }
+    requires ready { AllByRecursion (IsReady C.seen C.sound) (free_of pool.old) }
+    ensures others { (other : ℕ) → other ≢ number → core_of other pool.new ≡ core_of other pool.old }
+    ensures may { OnOk result (MayMove C.seen C.sound conn.new.server (N.seen conn.new.net).lent conn.new.ran (core_of number pool.new)) }
+    ensures ready { OnOk result (AllByRecursion (IsReady C.seen C.sound) (free_of pool.new)) }
+    ensures at { (cfg : C.Settings) (turns ahead : List Turn) (total : ℕ) (first : L) (first_net : N) → turn ≡ first_of ahead → AllByRecursion (IsFresh (C.stands cfg)) (free_of pool.old)
+        → Pays total resources.old.left (IsAt (C.meaning cfg) (C.stands cfg) C.seen C.sound turns ahead L.seen L.wrote first conn.old.client conn.old.server (address_of to.now) (N.seen first_net) (N.seen conn.old.net) conn.old.ran (core_of number pool.old))
+        → IfOk result (λ more. Pays total resources.new.left (IsAt (C.meaning cfg) (C.stands cfg) C.seen C.sound turns (ahead_more more ahead) L.seen L.wrote first conn.new.client conn.new.server (address_of to.now) (N.seen first_net) (N.seen conn.new.net) conn.new.ran (core_of number pool.new))) }
+    ensures ended { is_some conn.old.ran ≡ true → (conn.new ≡ conn.old) × (pool.new ≡ pool.old) }
+{
+    if conn.ran.is_some() {
+        return Ok(true);
+    }
+    if !seated(pool, number) {
+        return Ok(true);
+    }
+    match set_goes(pool, conn, number, to, turn, resources) {
+        Ok(Went::On) => Ok(true),
+        Ok(Went::Ended) => Ok(true),
+        Ok(Went::Spent) => Ok(false),
+        Err(OutOfMemory) => Err(OutOfMemory),
+    }
+}
+
+/// The move of the connection of this number, counted from 1. No other connection is changed.
+pub(crate) fn move_at<C: Resets, L: Link, N: Net<Link = L>>(
+    pool: &mut Pool<C>,
+    conns: &mut [Conn<L, N>],
+    number: u32,
+    to: &Address,
+    turn: Option<Turn>,
+    resources: &mut Resources,
+) -> Result<bool, OutOfMemory>
+    requires some { 0 < number }
+    requires within { number ≤ length conns.old }
+    requires may { (conn : Conn L N) → slice_get conns.old (number - 1) ≡ Some conn → MayMove C.seen C.sound conn.server (N.seen conn.net).lent conn.ran (core_of number pool.old) }
+    requires ready { AllByRecursion (IsReady C.seen C.sound) (free_of pool.old) }
+    ensures others { (other : ℕ) → other ≢ number → core_of other pool.new ≡ core_of other pool.old }
+    ensures conns { (other : ℕ) → other ≢ number - 1 → slice_get conns.new other ≡ slice_get conns.old other }
+    ensures length { length conns.new ≡ length conns.old }
+{
+    move_of(
+        pool,
+        &mut conns[number as usize - 1],
+        number,
+        to,
+        turn,
+        resources,
+    )
+}
