@@ -1,5 +1,5 @@
 #!/usr/bin/env bash
-# gate-price.sh: what the gate costs from nothing. It copies what is committed into a folder of its own, runs `rt ci --anew` there, and
+# gate-price.sh: what the gate costs from nothing. It copies what is committed into a folder of its own, runs `rt ci` there (with --anew, where the kit keeps what passed), and
 # looks ten times a second at the processor time of each process of the prover below that run. It runs two checks at a time, of one process
 # each, as a machine of two processors does: with more, each second is dearer (RT_JOBS=N in the environment for N of them). It prints the minutes of the crates' own
 # proofs, of their tests, of the proofs that must-fail edits are tried over (their bases) and of the edits, and the ten dearest of each.
@@ -48,7 +48,8 @@ def measured(top):
     """Runs the gate in the folder, and gives the processor seconds of each process of the prover."""
     log = open(f"{top}.log", "w")
     jobs = {**os.environ, "RT_JOBS": os.environ.get("RT_JOBS", "2")}
-    run = subprocess.Popen(["rt", "ci", "--anew"], cwd=top, env=jobs, stdout=log, stderr=subprocess.STDOUT, stdin=subprocess.DEVNULL, start_new_session=True)
+    said = subprocess.run(["rt", "help"], stdin=subprocess.DEVNULL, stdout=subprocess.PIPE, stderr=subprocess.STDOUT, text=True).stdout
+    run = subprocess.Popen(["rt", "ci", *["--anew"] * ("--anew" in said)], cwd=top, env=jobs, stdout=log, stderr=subprocess.STDOUT, stdin=subprocess.DEVNULL, start_new_session=True)
     seen, kinds, began = {}, {}, time.time()
     # (told to stop, it ends the gate and prints what was seen so far)
     signal.signal(signal.SIGTERM, lambda *_: os.killpg(run.pid, signal.SIGTERM))
