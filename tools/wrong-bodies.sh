@@ -3,7 +3,7 @@
 # body that does the wrong thing, and the crate's contract has to refuse it. It copies the sources as they stand here into a folder of its own, so
 # also those that aren't committed, with what `rt check` kept of them in out/, and there has `rt check` prove each crate with each of its edits in turn, N at a time
 # (2 without --jobs). It prints a line for each edit as it comes, and then how many were refused. The status is 0 where all were. It changes nothing here.
-# A crate that was never checked here is proved first, with all below it. A copy takes as much disk as out/ of the crates named and out/rlib of those below.
+# A crate that was never checked here is proved first, with all below it. A copy takes as much disk as what was kept of that one crate.
 set -eu
 here="$(cd "$(dirname "$0")/.." && pwd)"
 command -v rt >/dev/null || { echo "wrong-bodies: no rt" >&2; exit 70; }
@@ -20,15 +20,41 @@ if unknown:
 names = names or crates
 
 
+def below():
+    """The crates of the repository that each of them uses."""
+    lines = [line.split("#")[0].partition(":") for line in open(f"{here}/crates.txt")]
+    return {name.strip(): [it for it in uses.split() if os.path.isdir(f"{here}/crates/{it}")] for name, _, uses in lines if name.strip()}
+
+
+def all_below(name, uses, found):
+    """The crate and all below it."""
+    found.add(name)
+    for it in uses[name]:
+        if it not in found:
+            all_below(it, uses, found)
+    return found
+
+
+def linked(one, other):
+    """A second name for a file that is only read, or a copy where that can't be had."""
+    try:
+        os.link(one, other)
+    except OSError:
+        shutil.copy2(one, other)
+
+
 def copied(top, name):
-    """Copies what a proof of the crate reads, and what earlier checks kept of it and of all others."""
+    """Copies what a proof of the crate reads, and what earlier checks kept of it and of those below."""
     os.makedirs(f"{top}/crates")
-    for it in ("crates.txt", "HANDLES"):
-        shutil.copy(f"{here}/{it}", top)
-    for it in os.listdir(f"{here}/crates"):
-        for part in ["src", "specs", "proofs", "out/rlib", *["out/incremental"] * (it == name)]:
-            if os.path.isdir(f"{here}/crates/{it}/{part}"):
-                shutil.copytree(f"{here}/crates/{it}/{part}", f"{top}/crates/{it}/{part}")
+    shutil.copy(f"{here}/HANDLES", top)
+    uses = below()
+    with open(f"{top}/crates.txt", "w") as lines:
+        for it in sorted(all_below(name, uses, set())):
+            line = next(line for line in open(f"{here}/crates.txt") if line.partition(":")[0].strip() == it)
+            lines.write(line)
+            for part in ["src", "specs", "proofs", "out/rlib", *["out/incremental"] * (it == name)]:
+                if os.path.isdir(f"{here}/crates/{it}/{part}"):
+                    shutil.copytree(f"{here}/crates/{it}/{part}", f"{top}/crates/{it}/{part}", copy_function=linked if part == "out/rlib" else shutil.copy2)
 
 
 def edited(folder, edit):
