@@ -54,6 +54,7 @@ impl<S: Works> Core<S> {
         ensures placed { IsPlaced (S.placed result.sides) (S.answer result.sides) result.at.phase result.at.cut }
         ensures stands { (cfg : S.Settings) (p : Sided (S.meaning cfg)) → S.stands cfg sides p → IsFresh (S.meaning cfg) (S.request sides) (S.answer sides) p
             → Stands (S.meaning cfg) S.request S.answer (S.stands cfg) result.sides result.at nothing_yet }
+        ensures sides { result.sides ≡ sides }
         ensures lost { result.lost ≡ false }
     {
         Core {
