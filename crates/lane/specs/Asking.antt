@@ -41,6 +41,10 @@ ended_of lane = lane.lane.ended
 abbrev pub output_of : RequestLane → List ℕ
 output_of lane = lane.lane.output.items
 
+-- how many bytes of it the output window can hold
+abbrev pub window_size_of : RequestLane → ℕ
+window_size_of lane = lane.lane.output.capacity
+
 -- whether text is dropped
 abbrev pub is_dropping : RequestLane → Bool
 is_dropping lane = lane.lane.dropped

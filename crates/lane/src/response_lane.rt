@@ -60,6 +60,7 @@ impl ResponseLane {
         ensures reading { IfOk result (λ lane. stage_of lane ≡ stage.Reading) }
         ensures open { IfOk result IsOpen }
         ensures output { IfOk result (λ lane. output_of lane ≡ []) }
+        ensures window { IfOk result (λ lane. (window_of lane).capacity ≡ window) }
         ensures begun { IfOk result (λ lane. has_begun lane ≡ false) }
         ensures sound { IfOk result IsSoundAnswer }
     {

@@ -12,7 +12,6 @@ use Rattle.session_core.specs.Stands.{IsBehind, Serves, IsServing, InPhase, Hold
 use Rattle.session_core.specs.declared.machine.At.{At}
 use Rattle.session_core.specs.declared.Phase.{Phase}
 use Rattle.session_core.specs.declared.Phase.TheVariants as phase
-use Rattle.session_core.specs.Sided.{IfSettled}
 use Rattle.session_core.specs.declared.Source.{Source}
 use Rattle.session_core.specs.declared.Source.TheVariants as source
 use Rattle.session_core.proofs.Exists.{over_perhaps}
@@ -224,11 +223,6 @@ never : (b : Bool) → b && not true ≡ true → ⊥
 never true e = grind (arith, e)
 never false e = grind (arith, e)
 
-pub if_settled : {A B : Type 0} (so : Source) → (A → B) → IfSettled so A → IfSettled so B
-if_settled source.Going f a = over_perhaps a f
-if_settled source.Whole f a = f a
-if_settled (source.Cut code) f a = f a
-
 -- a front that goes on with a byte isn't all
 lacks_some : (put window more text : List ℕ) → window ≢ [] → put ++ window ++ more ≡ text → put ≢ text
 lacks_some put [] more text w e f = absurd (w refl)
@@ -263,7 +257,7 @@ dropping q list = record q { window = []; dropped = true; at_rest = false; list 
 
 drops : (M : Meaning) (q : RequestSeen) (list : List Block) (p : Sided M) (put : List ℕ) → q.window ≢ [] → put ++ q.window ≡ p.to_server → Requests M q p
     → Requests M (dropping q list) (record p { to_server = put })
-drops M q list p put some e h s c = if_settled q.source (drops_one M q p put s some e) (h s c)
+drops M q list p put some e h s c = drops_one M q p put s some e (h s c)
 
 serves_dropped : (M : Meaning) (q : RequestSeen) (list : List Block) (a : AnswerSeen) (p : Sided M) (put : List ℕ) (cut : Option Bool) → q.window ≢ [] → put ++ q.window ≡ p.to_server
     → Serves M q a p cut → Serves M (dropping q list) a (record p { to_server = put }) cut

@@ -14,7 +14,7 @@ use Rattle.session_core.specs.declared.Source.{Source}
 use Rattle.session_core.specs.declared.Source.TheVariants as source
 use Rattle.session_core.specs.declared.Told.{Told}
 use Rattle.session_core.specs.declared.Told.TheVariants as told
-use Rattle.session_core.specs.Sided.{Sided, asker_in, RequestSeen, AnswerSeen, RequestGoes, AnswerGoes, is_all, IsBefore, IsTurned, SourceIs, Perhaps, IfSettled, IfTold}
+use Rattle.session_core.specs.Sided.{Sided, asker_in, RequestSeen, AnswerSeen, RequestGoes, AnswerGoes, is_all, IsBefore, IsTurned, SourceIs, Perhaps, IfTold}
 use Rattle.session_core.specs.Stands.{One, Serves}
 use Rattle.session_core.specs.Consequences.{IsTotal}
 use Rattle.session_core.proofs.Puts.{one_follows}
@@ -120,11 +120,6 @@ one_server c (NotThere ∷ servers) is s = let no : c.there ≡ false = s.0 in a
 one_server c (Open stream stopped ∷ []) is s = record { stream = stream; stopped = stopped; servers_are = refl; stopped_is = s.0.1; continues = s.0.2 }
 one_server c (Open stream stopped ∷ server ∷ servers) is s = absurd s.1
 
-perhaps_settled : {A : Type 0} (so : Source) → IfSettled so A → Perhaps A
-perhaps_settled source.Going a = a
-perhaps_settled source.Whole a = sure a
-perhaps_settled (source.Cut code) a = sure a
-
 pub perhaps_told : {A : Type 0} (so : Told) → IfTold so A → Perhaps A
 perhaps_told told.Going a = a
 perhaps_told told.Closes a = sure a
@@ -147,13 +142,15 @@ serving_in_hand M q a p None stream server stopped s c on halts = by_begun a.beg
     by_begun : (begun : Bool) → a.begun ≡ begun → Perhaps (InHand M p None a.begun stream server stopped)
     by_begun begun is =
         let P : Bool → Type 0 = λ b. InHand M p None b stream server stopped in
-        further (perhaps_settled q.source (s.0 stream c)) (λ (g : RequestGoes M q.source (is_all q) q.dropped p.vars p.asking p.to_server stream). over_perhaps (perhaps_told a.told (s.1.1 server on)) (λ h. subst P (sym is) (by_request begun is g h (made g).cut refl)))
+        let g : RequestGoes M q.source (is_all q) q.dropped p.vars p.asking p.to_server stream = s.0 stream c in
+        over_perhaps (perhaps_told a.told (s.1.1 server on)) (λ h. subst P (sym is) (by_request begun is g h (made g).cut refl))
 serving_in_hand M q a p (Some true) stream server stopped s c on halts =
-    further (perhaps_settled q.source (s.0 stream c)) (λ (g : RequestGoes M q.source (is_all q) q.dropped p.vars p.asking p.to_server stream). over_perhaps (perhaps_told a.told (s.1.1 server on)) (λ h.
+    let g : RequestGoes M q.source (is_all q) q.dropped p.vars p.asking p.to_server stream = s.0 stream c in
+    over_perhaps (perhaps_told a.told (s.1.1 server on)) (λ h.
     let cut : (made g).cut ≡ Some s.2 = let P : Source → Type 0 = λ so. SourceIs so (made g).cut in subst P s.3 g.goes.source in
-    answered_in_hand M q.source (is_all q) q.dropped a.told a.answered a.begun p stream server stopped (Some true) a.begun g h halts (Some s.2) cut (λ n. cc) (λ code so. refl)))
+    answered_in_hand M q.source (is_all q) q.dropped a.told a.answered a.begun p stream server stopped (Some true) a.begun g h halts (Some s.2) cut (λ n. cc) (λ code so. refl))
 serving_in_hand M q a p (Some false) stream server stopped s c on halts =
-    over_perhaps (perhaps_settled q.source (s.0 stream c)) (λ (g : RequestGoes M q.source (is_all q) q.dropped p.vars p.asking p.to_server stream).
+    let g : RequestGoes M q.source (is_all q) q.dropped p.vars p.asking p.to_server stream = s.0 stream c in
     let cut : (made g).cut ≡ Some s.1 = let P : Source → Type 0 = λ so. SourceIs so (made g).cut in subst P s.2 g.goes.source in
     let t : IsTurned M a p s.1 = s.3 in
-    refused_in_hand M q.source (is_all q) q.dropped p stream server stopped (Some false) a.begun s.1 g halts cut refl on t.heads t.begins t.refused t.spelled (p.saying, t.said))
+    sure (refused_in_hand M q.source (is_all q) q.dropped p stream server stopped (Some false) a.begun s.1 g halts cut refl on t.heads t.begins t.refused t.spelled (p.saying, t.said))

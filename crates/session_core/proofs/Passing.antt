@@ -51,7 +51,8 @@ edited_exists : (M : Meaning) → IsTotalAnswers M → (asker : Asker) (received
     → response_fits M asker received head ≡ fits → Perhaps ((final : Final M.Vars) × AnswersAmended M asker received rest (Edited head vars) final)
 edited_exists M total asker received rest head vars false f = sure (Plain, rw f refl)
 edited_exists M total asker received rest head vars true f =
-    over_perhaps (total.bodies received.framing rest.bytes rest.ending) (λ b. (answer_by M asker received head vars b.0, rw f (b.0, b.1, refl)))
+    let b = total.bodies received.framing rest.bytes rest.ending in
+    sure (answer_by M asker received head vars b.0, rw f (b.0, b.1, refl))
 
 amended_exists : (M : Meaning) → IsTotalAnswers M → (asker : Asker) (received : Received) (rest : Stream) (x : Amended M.Vars) → Perhaps ((final : Final M.Vars) × AnswersAmended M asker received rest x final)
 amended_exists M total asker received rest (Edited head vars) = edited_exists M total asker received rest head vars (response_fits M asker received head) refl

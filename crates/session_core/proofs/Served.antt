@@ -15,7 +15,7 @@ use Rattle.session_model.specs.Answering.{Answered, sent_interim}
 use Rattle.session_model.specs.Session.{Exchange, After, Over, Next, ServerGets, after_final, interim_text}
 use Rattle.session_model.specs.Session as session
 use Rattle.session_core.specs.History.{Past, Coming, Connect, Continues, ContinuesServer, IsPrefix, IsFrontOf, Fronts, sent_of, close_by, prepend}
-use Rattle.session_core.specs.Sided.{IfSettled, IfTold, Sided, RequestSeen, AnswerSeen, Requests, RequestGoes, is_all, AnswerGoes, IsUncut, IsSettled, SourceIs, ToldIs, IsTold, goes_on_with, asker_in, forwarded_to, IsTurned, Turned}
+use Rattle.session_core.specs.Sided.{IfTold, Sided, RequestSeen, AnswerSeen, Requests, RequestGoes, is_all, AnswerGoes, IsUncut, IsSettled, SourceIs, ToldIs, IsTold, goes_on_with, asker_in, forwarded_to, IsTurned, Turned}
 use Rattle.session_core.specs.Stands.{One, IsConnect, Serves, IsOver, InPhase, Holds}
 use Rattle.session_core.specs.Leads.{Renews, renewed_at, Follows}
 use Rattle.session_core.specs.declared.machine.At.{At}
@@ -136,11 +136,6 @@ ends_served M q a p hand cut now how h closes =
     ) in
     (h.1.taken, o.0, subst H (sym h.0) o.1)
 
-now_settled : {A : Type 0} (so : Source) → IsSettled so → IfSettled so A → A
-now_settled source.Going s a = absurd s
-now_settled source.Whole s a = a
-now_settled (source.Cut code) s a = a
-
 now_told : {A : Type 0} (so : Told) → IsTold so → IfTold so A → A
 now_told told.Going s a = absurd s
 now_told told.Closes s a = a
@@ -159,7 +154,7 @@ closes_answered : (M : Meaning) (q : RequestSeen) (a : AnswerSeen) (p : Sided M)
     → ((request : Request M.Vars) (h : AnswerGoes M a.told a.answered a.begun p.asking p.to_client p.now server) → request.asker ≡ asker_in p.asking → after_final M request (is_none cut) h.answered ≡ after)
     → Closes M p c cut after stream server stopped
 closes_answered M q a p None c stream server stopped after other sent window answered is serves settled d on stop follows =
-    let g : RequestGoes M q.source (is_all q) q.dropped p.vars p.asking p.to_server stream = now_settled q.source settled (serves.0 stream d) in
+    let g : RequestGoes M q.source (is_all q) q.dropped p.vars p.asking p.to_server stream = serves.0 stream d in
     let h : AnswerGoes M a.told a.answered a.begun p.asking p.to_client p.now server = now_told a.told (serves.1.0 answered) (serves.1.1 server on) in
     let none : (made g).cut ≡ None = let P : Source → Type 0 = λ so. SourceIs so (made g).cut in subst P (whole_source q.source serves.2 settled) g.goes.source in
     let A : After M.Vars → Type 0 = λ f. One M p.vars stream (Open server stopped ∷ []) (exchange_of M c.taken Clean (interim_text h.answered.interim ++ h.final) None f) in
@@ -169,7 +164,7 @@ closes_answered M q a p None c stream server stopped after other sent window ans
       client_is = sym (h.sent answered);
     }
 closes_answered M q a p (Some true) c stream server stopped after other sent window answered is serves settled d on stop follows =
-    let g : RequestGoes M q.source (is_all q) q.dropped p.vars p.asking p.to_server stream = now_settled q.source settled (serves.0 stream d) in
+    let g : RequestGoes M q.source (is_all q) q.dropped p.vars p.asking p.to_server stream = serves.0 stream d in
     let h : AnswerGoes M a.told a.answered a.begun p.asking p.to_client p.now server = now_told a.told (serves.1.0 answered) (serves.1.1 server on) in
     let cut : (made g).cut ≡ Some serves.2 = let P : Source → Type 0 = λ so. SourceIs so (made g).cut in subst P serves.3 g.goes.source in
     let A : After M.Vars → Type 0 = λ f. One M p.vars stream (Open server stopped ∷ []) (exchange_of M c.taken Failed (interim_text h.answered.interim ++ h.final) (Some true) f) in
@@ -185,7 +180,7 @@ closes_turned : (M : Meaning) (q : RequestSeen) (a : AnswerSeen) (p : Sided M) (
     → Continues p.came stream → Continues p.server server → stopped ≡ c.stopped
     → Closes M p c (Some false) (Over end.Closed) stream server stopped
 closes_turned M q a p c stream server stopped sent window answered is serves settled d on stop =
-    let g : RequestGoes M q.source (is_all q) q.dropped p.vars p.asking p.to_server stream = now_settled q.source settled (serves.0 stream d) in
+    let g : RequestGoes M q.source (is_all q) q.dropped p.vars p.asking p.to_server stream = serves.0 stream d in
     let cut : (made g).cut ≡ Some serves.1 = let P : Source → Type 0 = λ so. SourceIs so (made g).cut in subst P serves.2 g.goes.source in
     let t : IsTurned M a p serves.1 = serves.3 in
     record {

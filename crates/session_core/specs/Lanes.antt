@@ -49,8 +49,8 @@ pub record AnswerBody (M : Meaning) (asker : Asker) (interim : List ℕ) (receiv
   pub sent : all ≡ true → put ≡ interim ++ text
   pub began : begun ≡ true → (byte : ℕ) × (more : List ℕ) × (put ≡ interim ++ byte ∷ more)
 
--- no stream of a server is without a reading, and a head is at least one byte
+-- no stream of a server is without a reading, each body has one, and a head is at least one byte
 pub record IsTotalAnswers (M : Meaning) : Type 0 where
   pub heads : (head_asked : Bool) (bytes : List ℕ) → Perhaps ((r : HeadReading) × M.reads_response head_asked bytes r)
   pub shorter : (head_asked : Bool) (bytes : List ℕ) (received : Received) (rest : List ℕ) → M.reads_response head_asked bytes (Begins received rest) → length rest < length bytes
-  pub bodies : (framing : Framing) (bytes : List ℕ) (ending : Ending) → Perhaps ((r : BodyReading) × M.reads_body framing bytes ending r)
+  pub bodies : (framing : Framing) (bytes : List ℕ) (ending : Ending) → (r : BodyReading) × M.reads_body framing bytes ending r

@@ -134,12 +134,6 @@ IsSettled (source.Cut code) = ⊤
 abbrev pub Perhaps : Type 0 → Type 0
 Perhaps A = (A → ⊥) → ⊥
 
--- so once the source is settled, and not impossible before
-abbrev pub IfSettled : Source → Type 0 → Type 0
-IfSettled source.Going A = Perhaps A
-IfSettled source.Whole A = A
-IfSettled (source.Cut code) A = A
-
 -- the stream asks for a server for this head
 pub record RequestAsks (M : Meaning) (vars : M.Vars) (asking : Asking M.Vars) (stream : Stream) : Type 0 where
   pub rest : Stream
@@ -170,8 +164,7 @@ is_all q = q.sent && not q.dropped
 -- so however the client's stream goes on
 abbrev pub Requests : (M : Meaning) → RequestSeen → Sided M → Type 0
 Requests M q p =
-    (stream : Stream) → Continues p.came stream
-    → IfSettled q.source (RequestGoes M q.source (is_all q) q.dropped p.vars p.asking p.to_server stream)
+    (stream : Stream) → Continues p.came stream → RequestGoes M q.source (is_all q) q.dropped p.vars p.asking p.to_server stream
 
 abbrev pub RequestsAsk : (M : Meaning) → Sided M → Type 0
 RequestsAsk M p = (stream : Stream) → Continues p.came stream → RequestAsks M p.vars p.asking stream

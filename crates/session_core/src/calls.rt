@@ -105,13 +105,15 @@ impl<S: Works> Core<S> {
         self.sides.server_took(n);
     }
 
-    /// The server takes nothing more: what waits for it, and all that follows, is dropped.
+    /// The server takes nothing more: what waits for it, and all that follows, is dropped. No block is left in the array on which request
+    /// rules run.
     pub fn server_stopped(&mut self)
         requires serving { self.old.at.phase ≡ Phase.Serving }
         requires waits { (S.request self.old.sides).window ≢ [] }
         requires placed { IsPlaced (S.placed self.old.sides) (S.answer self.old.sides) self.old.at.phase self.old.at.cut }
         ensures placed { IsPlaced (S.placed self.new.sides) (S.answer self.new.sides) self.new.at.phase self.new.at.cut }
         ensures leads { Leads S.meaning S.request S.answer S.stands self.old.sides self.old.at self.new.sides self.new.at ServerStopped }
+        ensures list { (S.request self.new.sides).list ≡ [] }
         ensures serving { is_serving self.new.at.phase ≡ is_serving self.old.at.phase }
         ensures lost { self.new.lost ≡ self.old.lost }
     {

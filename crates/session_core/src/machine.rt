@@ -56,6 +56,7 @@ impl<S: Works> Core<S> {
         ensures stands { (cfg : S.Settings) (p : Sided (S.meaning cfg)) → S.stands cfg sides p → IsFresh (S.meaning cfg) (S.request sides) (S.answer sides) p
             → Stands (S.meaning cfg) S.request S.answer (S.stands cfg) result.sides result.at nothing_yet }
         ensures idle { is_serving result.at.phase ≡ false }
+        ensures sides { result.sides ≡ sides }
         ensures lost { result.lost ≡ false }
     {
         Core {

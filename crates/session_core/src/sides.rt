@@ -4,7 +4,6 @@ ghost use Rattle.session_model.specs.Meaning.{Meaning};
 ghost use Rattle.session_core.specs.Consequences.{IsTotal};
 ghost use Rattle.session_core.specs.History.{no_stream, gains, ends};
 ghost use Rattle.std.specs.Borrow.{sem};
-ghost use Rattle.htx_model.specs.Block.{Block};
 ghost use Rattle.session_core.specs.Sided.{Sided, asker_in, RequestSeen, AnswerSeen, Requests, AnswersSo, IsBefore, HoldsList};
 ghost use Rattle.session_core.specs.Waits.{is_empty};
 ghost use Rattle.session_core.specs.Place as place;
@@ -206,13 +205,14 @@ pub trait Peers: Sides {
         ensures request { Self.request self.new ≡ record (Self.request self.old) { window = drop n (Self.request self.old).window; at_rest = false } }
         ensures answer { Self.answer self.new ≡ Self.answer self.old };
 
-    /// The server takes nothing more: what stands in its window, and all that follows, is dropped.
+    /// The server takes nothing more: what stands in its window, and all that follows, is dropped. No block is left in the array on which
+    /// request rules run.
     fn drop_request(&mut self)
         requires waits { (Self.request self.old).window ≢ [] }
         requires placed { IsSomewhere (Self.placed self.old) }
         ensures placed { Stay (Self.placed self.old) (Self.placed self.new) }
         ensures leads { (cfg : Self.Settings) (p : Sided (Self.meaning cfg)) (put : List ℕ) → Self.stands cfg self.old p → put ++ (Self.request self.old).window ≡ p.to_server → Self.stands cfg self.new (record p { to_server = put }) }
-        ensures request { (list : List Block) × (Self.request self.new ≡ record (Self.request self.old) { window = []; dropped = true; at_rest = false; list = list }) }
+        ensures request { Self.request self.new ≡ record (Self.request self.old) { window = []; dropped = true; at_rest = false; list = [] } }
         ensures answer { Self.answer self.new ≡ Self.answer self.old };
 
     /// A server is open for the request in hand.

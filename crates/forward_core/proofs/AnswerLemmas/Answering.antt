@@ -24,7 +24,7 @@ use Rattle.session_core.specs.Lanes.{LastSo, IsTotalAnswers}
 use Rattle.session_core.specs.declared.Told.{Told}
 use Rattle.session_core.specs.declared.Told.TheVariants as told
 use Rattle.session_core.specs.Splits.{Splits}
-use Rattle.session_core.proofs.PublicLaws.{split_past, over_perhaps, answers_open, answers_last, interims_so, body_is_last}
+use Rattle.session_core.proofs.PublicLaws.{split_past, answers_open, answers_last, interims_so, body_is_last}
 use Rattle.lane.specs.Direction.Promise.{Promise, HasBody}
 use Rattle.lane.specs.Direction.Sends.{Past, Stands}
 use Rattle.lane.specs.declared.direction.lane.Lane.{Lane}
@@ -195,7 +195,7 @@ response_last cfg asker before lane server put e now h r g rest used behind is l
 
 if_body : (cfg : Config) (framing : Framing) (behind : Stream) (so : Told) (A : Type 0) → IsTotalAnswers (meaning_of cfg) → (so ≡ told.Closes → ⊥) → (so ≡ told.Whole → (body : BodyReading) × BodyOf cfg.limits framing behind.bytes behind.ending body)
     → (so ≡ told.Cut → HasBodies cfg) → ((body : BodyReading) → BodyOf cfg.limits framing behind.bytes behind.ending body → A) → IfTold so A
-if_body cfg framing behind told.Going A total off whole has f = over_perhaps (total.bodies framing behind.bytes behind.ending) (λ b. f b.0 b.1)
+if_body cfg framing behind told.Going A total off whole has f = let b = total.bodies framing behind.bytes behind.ending in λ none. none (f b.0 b.1)
 if_body cfg framing behind told.Closes A total off whole has f = absurd (off refl)
 if_body cfg framing behind told.Whole A total off whole has f = let b = whole refl in f b.0 b.1
 if_body cfg framing behind told.Cut A total off whole has f = let b = has refl framing behind.bytes behind.ending in f b.0 b.1

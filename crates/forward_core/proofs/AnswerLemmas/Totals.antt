@@ -8,7 +8,6 @@ use Rattle.http_model.specs.declared.Limits.{Limits}
 use Rattle.http_model.specs.Reading.{BodyReading}
 use Rattle.h1_body.specs.Body.{BodyAt, Left, UntilClose, InLine, InData, AtReturn, AtFeed, InSection, Over, Hopeless}
 use Rattle.h1_body.specs.BodyOf.{BodyRead, Reads, More, IsBodyOf, BodyOf, Tells, unfinished, closes}
-use Rattle.session_core.specs.Sided.{Perhaps}
 
 abbrev is_read : BodyRead → Type 0
 is_read (Reads reading) = Unit {0}
@@ -37,8 +36,3 @@ over_at most AtFeed found how read t = read_by found how read t
 pub reads_over : (limits : Limits) (framing : Framing) (bytes : List ℕ) (how : Ending) (read : BodyRead) → IsBodyOf limits framing bytes (Some how) read → (body : BodyReading) × BodyOf limits framing bytes how body
 reads_over limits framing bytes how (Reads reading) x = (reading, x)
 reads_over limits framing bytes how (More body) x = absurd (over_at _ x.at x.found how (More body) x.tells)
-
--- where it cannot be that the bytes are no body at all, some reading is not impossible
-pub some_body : (limits : Limits) (framing : Framing) (bytes : List ℕ) (how : Ending) → (((read : BodyRead) → IsBodyOf limits framing bytes (Some how) read → ⊥) → ⊥)
-    → Perhaps ((body : BodyReading) × BodyOf limits framing bytes how body)
-some_body limits framing bytes how some none = some (λ read x. none (reads_over limits framing bytes how read x))

@@ -16,7 +16,7 @@ use Rattle.session_model.specs.Stream.{Stream}
 use Rattle.session_model.specs.Env.{Pass, request_env, method_of}
 use Rattle.session_model.specs.Meaning.{Meaning, declares_too_much}
 use Rattle.session_model.specs.Asking.{Sends, Asks, request_fits}
-use Rattle.session_core.specs.Sided.{Sided, AnswerSeen, Asking, asker_in, forwarded_to, IfSettled, IsUncut, IsSettled}
+use Rattle.session_core.specs.Sided.{Sided, AnswerSeen, Asking, asker_in, forwarded_to, IsUncut, IsSettled}
 use Rattle.session_core.specs.Leads.{AsksServer}
 use Rattle.session_core.specs.declared.Source.{Source}
 use Rattle.session_core.specs.declared.Source.TheVariants as source
@@ -96,11 +96,6 @@ fits_at cfg d p received kept framing fits x r framed is =
 
 -- ---- what goes out
 
-if_settled : (A : Type 0) (so : Source) → A → IfSettled so A
-if_settled A source.Going a = λ none. none a
-if_settled A source.Whole a = a
-if_settled A (source.Cut code) a = a
-
 kept_asker : (received : Received) (kept : Kept) (head : Head) (vars : Variables) → IsKept received kept → IsAsker (asker_for kept) (asker_in (record { received = received; head = head; vars = vars }))
 kept_asker received kept head vars k = record { head_asked = k.head_asked; is_http_11 = k.is_http_11; keep = k.keep }
 
@@ -157,7 +152,7 @@ sends_head cfg old mid new p received kept framing stays r f s framed short =
     record {
       asking = asking;
       stands = stand_sending cfg old mid new p received kept framing x r f s request;
-      requests = λ stream on. if_settled _ (requests.source_of new.request) (s.goes cfg p.vars p.came asking p.reply request stream on);
+      requests = s.goes cfg p.vars p.came asking p.reply request;
       asks = λ stream on.
           let y : (rest : Stream) × Asks M p.vars stream (Sends (forwarded_to asking rest)) =
           asks_behind M p.vars p.came received r.read.used (left_of old.request) r.read.head (λ rest. Sends (forwarded_to asking rest))

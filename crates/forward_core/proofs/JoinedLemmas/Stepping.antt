@@ -6,7 +6,7 @@ use Rattle.forward_core.specs.Meaning.Product.{meaning_of}
 use Rattle.session_model.specs.Stream.{Stream}
 use Rattle.session_model.specs.Meaning.{Meaning}
 use Rattle.session_core.specs.History.{Coming, Continues}
-use Rattle.session_core.specs.Sided.{Sided, Asking, Reply, RequestGoes, Requests, IfSettled}
+use Rattle.session_core.specs.Sided.{Sided, Asking, Reply, RequestGoes, Requests}
 use Rattle.session_core.specs.declared.Source.{Source}
 use Rattle.session_core.specs.declared.Source.TheVariants as source
 use Rattle.lane.specs.Asking.{stage_of, output_of, is_dropping}
@@ -22,12 +22,6 @@ use Rattle.forward_core.specs.Request.Steps.{RequestsSo}
 use Rattle.forward_core.specs.declared.request.place.Place.{Place as Asked}
 use Rattle.forward_core.specs.declared.request.place.Place.TheVariants as asked
 use Rattle.forward_core.specs.declared.request.side.RequestSide.{RequestSide}
-
--- what is so stands for a source of any kind
-if_settled : (A : Type 0) (so : Source) → A → IfSettled so A
-if_settled A source.Going a = λ none. none a
-if_settled A source.Whole a = a
-if_settled A (source.Cut code) a = a
 
 -- where no request goes out, what is seen of it doesn't hang on its lane, and nothing is put out
 still_source : (pl : Asked) (x y : LaneSource) → pl ≢ asked.Sending → source_at pl x ≡ source_at pl y
@@ -52,12 +46,12 @@ none_put : (old new put : List ℕ) → new ≡ old ++ put → old ≡ [] → ne
 none_put old new put w o n = sym (ap (λ (xs : List ℕ). xs ++ put) o) ∙ sym w ∙ n
 
 abbrev RequestsWith : (M : Meaning) (p : Sided M) (so : Source) (sent dropped : Bool) (put : List ℕ) → Type 0
-RequestsWith M p so sent dropped put = (stream : Stream) → Continues p.came stream → IfSettled so (RequestGoes M so (sent && not dropped) dropped p.vars p.asking put stream)
+RequestsWith M p so sent dropped put = (stream : Stream) → Continues p.came stream → RequestGoes M so (sent && not dropped) dropped p.vars p.asking put stream
 
 requests_same : (M : Meaning) (p : Sided M) (so so' : Source) (sent sent' dropped dropped' : Bool) (put put' : List ℕ)
     → so' ≡ so → sent' ≡ sent → dropped' ≡ dropped → put' ≡ put
-    → ((stream : Stream) → Continues p.came stream → IfSettled so (RequestGoes M so (sent && not dropped) dropped p.vars p.asking put stream))
-    → (stream : Stream) → Continues p.came stream → IfSettled so' (RequestGoes M so' (sent' && not dropped') dropped' p.vars p.asking put' stream)
+    → ((stream : Stream) → Continues p.came stream → RequestGoes M so (sent && not dropped) dropped p.vars p.asking put stream)
+    → (stream : Stream) → Continues p.came stream → RequestGoes M so' (sent' && not dropped') dropped' p.vars p.asking put' stream
 requests_same M p so so' sent sent' dropped dropped' put put' a b c d h =
     subst (λ (x : Source). RequestsWith M p x sent' dropped' put') (sym a)
     (subst (λ (x : Bool). RequestsWith M p so x dropped' put') (sym b)
@@ -70,7 +64,7 @@ pub requests_on : (cfg : Config) (old new : RequestSide) (p : Sided (meaning_of 
     → (requests.place_of new ≡ asked.Sending → RequestsSo cfg new p.vars p.came p.asking (p.to_server ++ put))
     → Requests (meaning_of cfg) (requests.seen old) p → (at : (requests.place_of new ≡ asked.Sending) ⊎ (requests.place_of new ≢ asked.Sending))
     → Requests (meaning_of cfg) (requests.seen new) (record p { to_server = p.to_server ++ put })
-requests_on cfg old new p put s t place drops w law was (inl sends) = λ stream on. if_settled _ (requests.source_of new) (law sends stream on)
+requests_on cfg old new p put s t place drops w law was (inl sends) = law sends
 requests_on cfg old new p put s t place drops w law was (inr idle) =
     let idle_old = λ (e : requests.place_of old ≡ asked.Sending). idle (place ∙ e) in
     let none : put ≡ [] = none_put (window_of old) (window_of new) put w (still_window old.place old.lane s.at idle_old) (still_window new.place new.lane t.at idle) in

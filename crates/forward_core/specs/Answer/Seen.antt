@@ -4,7 +4,7 @@ use Rattle.lane.specs.declared.direction.stage.Stage.{Stage}
 use Rattle.lane.specs.declared.direction.stage.Stage.TheVariants as stage
 use Rattle.lane.specs.declared.direction.stage.Source.{Source}
 use Rattle.lane.specs.declared.direction.stage.Source.TheVariants as source
-use Rattle.lane.specs.Answering.{stage_of, source_of, input_of, most_of, ended_of, output_of, limits_of, has_begun}
+use Rattle.lane.specs.Answering.{stage_of, source_of, input_of, most_of, ended_of, output_of, window_of, limits_of, has_begun}
 use Rattle.session_core.specs.Sided.{AnswerSeen}
 use Rattle.session_core.specs.declared.Told.{Told}
 use Rattle.session_core.specs.declared.Told.TheVariants as told
@@ -66,6 +66,10 @@ nobody = record { head_asked = false; is_http_11 = false; keep = false }
 -- the most bytes of a list that it can put out, and of a head that rules leave
 abbrev pub size_of : AnswerSide → ℕ
 size_of side = (limits_of side.lane).bufsize
+
+-- how many bytes its window to the client can hold
+abbrev pub window_size_of : AnswerSide → ℕ
+window_size_of side = (window_of side.lane).capacity
 
 abbrev pub seen : AnswerSide → AnswerSeen
 seen side =

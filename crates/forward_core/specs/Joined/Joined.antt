@@ -27,6 +27,10 @@ request_of d = requests.seen d.request
 abbrev pub answer_of : Directions → AnswerSeen
 answer_of d = answers.seen d.answer
 
+-- so many bytes can stand in the output window to the server, and in that to the client
+abbrev pub HasWindows : (size : ℕ) → Directions → Type 0
+HasWindows size d = (requests.window_size_of d.request ≡ size) × (answers.window_size_of d.answer ≡ size)
+
 -- the configuration of their rules
 abbrev pub settings_of : Directions → Config
 settings_of d = config_of d.rules

@@ -58,6 +58,10 @@ room_of side = most_of side.lane - length (input_of side.lane)
 abbrev pub window_of : RequestSide → List ℕ
 window_of side = output_of side.lane
 
+-- how many bytes its window can hold
+abbrev pub window_size_of : RequestSide → ℕ
+window_size_of side = lanes.window_size_of side.lane
+
 -- its bytes that are not read yet; behind a head that ends the session none is
 abbrev pub unread_at : Place → List ℕ → ℕ
 unread_at place.Reading input = length input

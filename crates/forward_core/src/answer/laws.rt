@@ -35,7 +35,7 @@ pub fn total()
 {
     h1_head::laws::some_reading();
     h1_head::laws::has_bytes();
-    h1_body::laws::some_reading();
+    reading();
 }
 
 /// While a server answers, what was put out to the client is a front of its answer, however its stream goes on.

@@ -7,7 +7,7 @@ ghost use Rattle.http_rules.specs.declared.config.Config.{Config};
 ghost use Rattle.session_core.specs.History.{Coming, gains, ends, no_stream};
 ghost use Rattle.session_core.specs.Sided.{Asking, asker_in};
 ghost use Rattle.forward_core.specs.Answer.Seen as spec;
-ghost use Rattle.forward_core.specs.Answer.Seen.{seen, place_of, asker_of, size_of};
+ghost use Rattle.forward_core.specs.Answer.Seen.{seen, place_of, asker_of, size_of, window_size_of};
 ghost use Rattle.forward_core.specs.Answer.Stands.{AnswerStands, IsSoundSide, IsAsker};
 ghost use Rattle.forward_core.specs.declared.answer.place.Place.TheVariants as place;
 
@@ -72,6 +72,7 @@ impl AnswerSide {
         ensures sound { IfOk result IsSoundSide }
         ensures size { IfOk result (λ side. size_of side ≡ limits.bufsize) }
         ensures window { IfOk result (λ side. (seen side).window ≡ []) }
+        ensures window_size { IfOk result (λ side. window_size_of side ≡ window) }
     {
         let lane = ResponseLane::new(alloc, limits, window, filters)?;
         Ok(AnswerSide {

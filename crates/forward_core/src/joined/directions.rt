@@ -27,7 +27,7 @@ ghost use Rattle.http_rules.specs.declared.config.Config.{Config};
 ghost use Rattle.session_core.specs.Sided.{Sided};
 ghost use Rattle.session_core.specs.Leads.{IsFresh};
 ghost use Rattle.forward_core.specs.Meaning.Product.{meaning_of};
-ghost use Rattle.forward_core.specs.Joined.Joined.{DirectionsStand, Placed, request_of, answer_of, settings_of};
+ghost use Rattle.forward_core.specs.Joined.Joined.{DirectionsStand, Placed, request_of, answer_of, settings_of, HasWindows};
 
 impl<'c> Directions<'c> {
     /// Directions to which nothing has happened. Their arrays and input windows have `tune.bufsize` bytes, their output windows
@@ -42,6 +42,7 @@ impl<'c> Directions<'c> {
         ensures stands { IfOk result (λ d. (p : Sided (meaning_of config.now)) × DirectionsStand config.now d p × IsFresh (meaning_of config.now) (request_of d) (answer_of d) p) }
         ensures placed { IfOk result (λ d. Placed d at.Reads) }
         ensures settings { IfOk result (λ d. settings_of d ≡ config.now) }
+        ensures windows { IfOk result (HasWindows window) }
     {
         total();
         let method = Buf::new(alloc, config.limits.bufsize)?;

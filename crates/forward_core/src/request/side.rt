@@ -35,7 +35,7 @@ pub struct RequestSide {
     at_rest: bool,
 }
 
-ghost use Rattle.forward_core.specs.Request.Seen.{seen, list_of, limits_of, input_size_of, place_of, is_open, room_of, window_of, to_read};
+ghost use Rattle.forward_core.specs.Request.Seen.{seen, list_of, limits_of, input_size_of, place_of, is_open, room_of, window_of, window_size_of, to_read};
 ghost use Rattle.forward_core.specs.Request.Stands.{IsSound, RequestStands, Leads};
 ghost use Rattle.forward_core.specs.Request.Steps.{Puts, ReadsNext};
 ghost use Rattle.forward_core.specs.Request.Reads.{HeadTells, UsesBytes, HasHead, SendsOn, RepliesTo};
@@ -63,6 +63,7 @@ impl RequestSide {
         ensures place { IfOk result (λ side. place_of side ≡ place.Reading) }
         ensures open { IfOk result (λ side. is_open side ≡ true) }
         ensures window { IfOk result (λ side. window_of side ≡ []) }
+        ensures window_size { IfOk result (λ side. window_size_of side ≡ window) }
     {
         let mut lane = RequestLane::new(alloc, limits, window, filters)?;
         lane.next();

@@ -78,6 +78,7 @@ impl Lane {
         ensures ended { IfOk result (λ lane. lane.ended ≡ None) }
         ensures output { IfOk result (λ lane. lane.output.items ≡ []) }
         ensures limits { IfOk result (λ lane. lane.limits ≡ limits) }
+        ensures window { IfOk result (λ lane. lane.output.capacity ≡ window) }
     {
         stays_scanned();
         Ok(Lane {
@@ -263,6 +264,7 @@ impl Lane {
     pub fn clear_output(&mut self)
         ensures same { self.new ≡ record self.old { output = self.new.output } }
         ensures empty { self.new.output.items ≡ [] }
+        ensures window { self.new.output.capacity ≡ self.old.output.capacity }
         ensures reading { (side : Side) → IsReading side self.old → IsReading side self.new }
     {
         self.output.drop_front(self.output.len());

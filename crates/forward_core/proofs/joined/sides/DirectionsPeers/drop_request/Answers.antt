@@ -1,4 +1,3 @@
-use Rattle.std.specs.Prelude.{[]}
 use Rattle.forward_core.proofs.JoinedLemmas.Joining.{at_request, stands_request}
 use Rattle.forward_core.proofs.JoinedLemmas.Stepping.{was_put}
 use Rattle.forward_core.proofs.joined.sides.DirectionsPeers.drop_request.Goals as goal
@@ -28,4 +27,4 @@ pub drop_request-requires-clause-sound : goal.drop_request-requires-clause-sound
 drop_request-requires-clause-sound c = c.requires.placed.1.is_at.sound.request
 
 pub returns-clause-request : goal.returns-clause-request
-returns-clause-request c = ([], c.drop_request.ensures.seen)
+returns-clause-request c = c.drop_request.ensures.seen
