@@ -17,14 +17,6 @@ use Rattle.htx_drive.specs.Weave.Went.{OverSo}
 use Rattle.htx_drive.specs.declared.weave.mover.Went.{Went}
 use Rattle.htx_drive.specs.declared.weave.mover.Went.TheVariants as went
 
--- the turns of the connection of this number, in their order
-abbrev pub turns_of : (number : ℕ) → List (ℕ × Turn) → List Turn
-turns_of number woven = map (λ (t : ℕ × Turn). t.1) (filter (λ (t : ℕ × Turn). t.0 == number) woven)
-
--- each is a turn of one of so many connections, which are numbered from 1
-abbrev pub AreWithin : (conns : ℕ) → List (ℕ × Turn) → Type 0
-AreWithin conns woven = AllByRecursion (λ (t : ℕ × Turn). (1 ≤ t.0) × (t.0 ≤ conns)) woven
-
 -- ---- the cores that are free
 
 -- it may be called, and no server of it is open
@@ -114,10 +106,3 @@ IsAt M stands sees sound turns ahead seen wrote first client server to first_net
 abbrev pub ahead_more : (more : Bool) → List Turn → List Turn
 ahead_more true ahead = order.rest_of ahead
 ahead_more false ahead = ahead
-
--- ---- all of them, numbered from this one on
-
-abbrev pub EachFrom : {A B : Type 0} → (P : (number : ℕ) → A → B → (count : ℕ) → Type 0) → (number : ℕ) → (firsts : List A) → (conns : List B) → (counts : List ℕ) → Type 0
-EachFrom P number [] [] [] = ⊤
-EachFrom P number (first ∷ firsts) (conn ∷ conns) (count ∷ counts) = P number first conn count × EachFrom P (suc number) firsts conns counts
-EachFrom P number firsts conns counts = ⊥

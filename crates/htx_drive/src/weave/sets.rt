@@ -103,6 +103,9 @@ pub(crate) fn move_of<C: Resets, L: Link, N: Net<Link = L>>(
     ensures at { (cfg : C.Settings) (turns ahead : List Turn) (total : ℕ) (first : L) (first_net : N) → turn ≡ first_of ahead → AllByRecursion (IsFresh (C.stands cfg)) (free_of pool.old)
         → Pays total resources.old.left (IsAt (C.meaning cfg) (C.stands cfg) C.seen C.sound turns ahead L.seen L.wrote first conn.old.client conn.old.server (address_of to.now) (N.seen first_net) (N.seen conn.old.net) conn.old.ran (core_of number pool.old))
         → IfOk result (λ more. Pays total resources.new.left (IsAt (C.meaning cfg) (C.stands cfg) C.seen C.sound turns (ahead_more more ahead) L.seen L.wrote first conn.new.client conn.new.server (address_of to.now) (N.seen first_net) (N.seen conn.new.net) conn.new.ran (core_of number pool.new))) }
+    ensures fresh { (cfg : C.Settings) (turns ahead : List Turn) (total : ℕ) (first : L) (first_net : N) → turn ≡ first_of ahead → AllByRecursion (IsFresh (C.stands cfg)) (free_of pool.old)
+        → Pays total resources.old.left (IsAt (C.meaning cfg) (C.stands cfg) C.seen C.sound turns ahead L.seen L.wrote first conn.old.client conn.old.server (address_of to.now) (N.seen first_net) (N.seen conn.old.net) conn.old.ran (core_of number pool.old))
+        → OnOk result (AllByRecursion (IsFresh (C.stands cfg)) (free_of pool.new)) }
     ensures ended { is_some conn.old.ran ≡ true → (conn.new ≡ conn.old) × (pool.new ≡ pool.old) }
 {
     if conn.ran.is_some() {
@@ -117,31 +120,4 @@ pub(crate) fn move_of<C: Resets, L: Link, N: Net<Link = L>>(
         Ok(Went::Spent) => Ok(false),
         Err(OutOfMemory) => Err(OutOfMemory),
     }
-}
-
-/// The move of the connection of this number, counted from 1. No other connection is changed.
-pub(crate) fn move_at<C: Resets, L: Link, N: Net<Link = L>>(
-    pool: &mut Pool<C>,
-    conns: &mut [Conn<L, N>],
-    number: u32,
-    to: &Address,
-    turn: Option<Turn>,
-    resources: &mut Resources,
-) -> Result<bool, OutOfMemory>
-    requires some { 0 < number }
-    requires within { number ≤ length conns.old }
-    requires may { (conn : Conn L N) → slice_get conns.old (number - 1) ≡ Some conn → MayMove C.seen C.sound conn.server (N.seen conn.net).lent conn.ran (core_of number pool.old) }
-    requires ready { AllByRecursion (IsReady C.seen C.sound) (free_of pool.old) }
-    ensures others { (other : ℕ) → other ≢ number → core_of other pool.new ≡ core_of other pool.old }
-    ensures conns { (other : ℕ) → other ≢ number - 1 → slice_get conns.new other ≡ slice_get conns.old other }
-    ensures length { length conns.new ≡ length conns.old }
-{
-    move_of(
-        pool,
-        &mut conns[number as usize - 1],
-        number,
-        to,
-        turn,
-        resources,
-    )
 }

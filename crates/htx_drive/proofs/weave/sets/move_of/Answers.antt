@@ -3,9 +3,10 @@ use Rattle.std.specs.Prelude.{drop}
 use Rattle.px_link.specs.Net.{address_of}
 use Rattle.px_link.specs.Turns.{rest_of}
 use Rattle.px_pool.specs.Owners.{has_one}
-use Rattle.px_pool.specs.Seats.{Seats, core_of}
+use Rattle.px_pool.specs.Seats.{Seats, core_of, free_of}
 use Rattle.htx_drive.specs.Weave.Woven.{Pays}
-use Rattle.htx_drive.specs.Weave.State.{IsAt}
+use Rattle.htx_drive.specs.Weave.State.{IsAt, IsFresh}
+use Rattle.htx_drive.proofs.WeaveLemmas.Seating.{free_kept, free_seated}
 use Rattle.htx_drive.proofs.WeaveLemmas.Places.{begun, waits_more, at_on, at_spent, at_done, on_of, spent_of, ended_of}
 use Rattle.htx_drive.proofs.weave.sets.move_of.Goals as goal
 
@@ -42,3 +43,29 @@ returns-in-Ok-Spent-clause-at g c = λ cfg turns ahead total first first_net e f
     let b = begun (g.C.Machine.meaning cfg) (g.C.Machine.stands cfg) g.C.Machine.seen g.C.Machine.sound turns ahead g.L.Link.seen g.L.Link.wrote first (address_of c.args.to.now) (g.N.Net.seen first_net) conn.client conn.server (g.N.Net.seen conn.net) total c.args.resources.now.left c.args.number conn.ran c.args.pool.now c.seated.new.pool none c.seated.ensures.seated free p in
     at_spent (g.C.Machine.meaning cfg) (g.C.Machine.stands cfg) g.C.Machine.seen g.C.Machine.sound turns ahead g.L.Link.seen g.L.Link.wrote first c.set_goes.new.conn.client c.set_goes.new.conn.server (address_of c.args.to.now) (g.N.Net.seen first_net) (g.N.Net.seen c.set_goes.new.conn.net) total c.set_goes.new.resources.left b.waited c.set_goes.new.conn.ran (core_of c.args.number c.set_goes.new.pool)
     c.in-Ok-Spent.field-0 c.in-Ok-Spent.field-0-is c.in-Ok-Spent.ensures.keeps (spent_of ℕ _ _ _ _ c.in-Ok-Spent.field-0 c.in-Ok-Spent.field-0-is (c.in-Ok-Spent.ensures.goes cfg (drop b.waited turns) ahead total first first_net e b.go))
+
+pub returns-then-not-seated-clause-fresh : goal.returns-then-not-seated-clause-fresh
+returns-then-not-seated-clause-fresh g c = λ cfg turns ahead total first first_net e free p.
+    let is : c.seated.result ≡ false = search rules in
+    free_kept (IsFresh (g.C.Machine.stands cfg)) _ _ (ap (λ (s : Seats g.row.C.Denot). free_of s) (c.seated.ensures.wait is).2) free
+
+pub returns-in-Ok-On-clause-fresh : goal.returns-in-Ok-On-clause-fresh
+returns-in-Ok-On-clause-fresh g c = λ cfg turns ahead total first first_net e free p.
+    let conn = c.args.conn.now in
+    let none : conn.ran ≡ None = search rules in
+    let b = begun (g.C.Machine.meaning cfg) (g.C.Machine.stands cfg) g.C.Machine.seen g.C.Machine.sound turns ahead g.L.Link.seen g.L.Link.wrote first (address_of c.args.to.now) (g.N.Net.seen first_net) conn.client conn.server (g.N.Net.seen conn.net) total c.args.resources.now.left c.args.number conn.ran c.args.pool.now c.seated.new.pool none c.seated.ensures.seated free p in
+    c.in-Ok-On.ensures.fresh cfg (drop b.waited turns) ahead total first first_net e b.go (free_seated (IsFresh (g.C.Machine.stands cfg)) c.args.number c.args.pool.now c.seated.new.pool c.seated.ensures.seated free)
+
+pub returns-in-Ok-Ended-clause-fresh : goal.returns-in-Ok-Ended-clause-fresh
+returns-in-Ok-Ended-clause-fresh g c = λ cfg turns ahead total first first_net e free p.
+    let conn = c.args.conn.now in
+    let none : conn.ran ≡ None = search rules in
+    let b = begun (g.C.Machine.meaning cfg) (g.C.Machine.stands cfg) g.C.Machine.seen g.C.Machine.sound turns ahead g.L.Link.seen g.L.Link.wrote first (address_of c.args.to.now) (g.N.Net.seen first_net) conn.client conn.server (g.N.Net.seen conn.net) total c.args.resources.now.left c.args.number conn.ran c.args.pool.now c.seated.new.pool none c.seated.ensures.seated free p in
+    c.in-Ok-Ended.ensures.fresh cfg (drop b.waited turns) ahead total first first_net e b.go (free_seated (IsFresh (g.C.Machine.stands cfg)) c.args.number c.args.pool.now c.seated.new.pool c.seated.ensures.seated free)
+
+pub returns-in-Ok-Spent-clause-fresh : goal.returns-in-Ok-Spent-clause-fresh
+returns-in-Ok-Spent-clause-fresh g c = λ cfg turns ahead total first first_net e free p.
+    let conn = c.args.conn.now in
+    let none : conn.ran ≡ None = search rules in
+    let b = begun (g.C.Machine.meaning cfg) (g.C.Machine.stands cfg) g.C.Machine.seen g.C.Machine.sound turns ahead g.L.Link.seen g.L.Link.wrote first (address_of c.args.to.now) (g.N.Net.seen first_net) conn.client conn.server (g.N.Net.seen conn.net) total c.args.resources.now.left c.args.number conn.ran c.args.pool.now c.seated.new.pool none c.seated.ensures.seated free p in
+    c.in-Ok-Spent.ensures.fresh cfg (drop b.waited turns) ahead total first first_net e b.go (free_seated (IsFresh (g.C.Machine.stands cfg)) c.args.number c.args.pool.now c.seated.new.pool c.seated.ensures.seated free)
