@@ -1,8 +1,10 @@
--- Lists of one, two and three words.
-use Rattle.std.proofs.Common.{◌≡◌, ◌<◌, ◌≤◌, List, [], ◌∷◌, Bool, sym, ap, ◌∙◌, length, get_or, arith}
+-- Lists of one, two and three words, and a text behind another.
+use Rattle.std.proofs.Common.{◌≡◌, ◌<◌, ◌≤◌, List, [], ◌∷◌, ◌++◌, Bool, sym, ap, ◌∙◌, length, get_or, arith}
 use Rattle.std.specs.Prelude.{ℕ, map, string_bytes, IsTrue}
 use Rattle.std.specs.declared.string.String.{String}
 use Rattle.std.specs.declared.alloc.Global.{Global}
+use Rattle.std.proofs.lemmas.List.{append_assoc}
+use Rattle.px_command.specs.Texts.{EndsLine}
 
 -- a list of one is its item
 one : (ws : List (String Global)) (a : String Global) → 1 ≤ length ws → length ws < 2 → a ≡ get_or ws 0 a → ws ≡ a ∷ []
@@ -47,3 +49,7 @@ pub alone_word : (ws : List (String Global)) (a : String Global) (word : List �
 alone_word ws a word result least most p to from =
     let is : map string_bytes ws ≡ string_bytes a ∷ [] = ap (map string_bytes) (one ws a least most p) in
     (λ t. is ∙ ap (λ (x : List ℕ). x ∷ []) (to t), λ all. from (head_is (string_bytes a) word (sym is ∙ all)))
+
+-- a text behind another ends its last line
+pub ends_behind : (front behind whole : List ℕ) → EndsLine behind → whole ≡ front ++ behind → EndsLine whole
+ends_behind front behind whole (rest, is) joined = (front ++ rest, joined ∙ ap (λ (b : List ℕ). front ++ b) is ∙ sym (append_assoc front rest (10 ∷ [])))

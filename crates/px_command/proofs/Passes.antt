@@ -1,14 +1,14 @@
 -- What `clap` makes of the lists that the program takes: it finds no fault in them.
-use Rattle.std.proofs.Common.{◌≡◌, ◌≢◌, ◌==◌, ℕ, List, [], ◌∷◌, true, false, refl, sym, ap, ◌∙◌, subst, codes, inl, inr}
+use Rattle.std.proofs.Common.{◌≡◌, ◌≢◌, ◌==◌, ℕ, List, [], ◌∷◌, true, false, refl, ap, ◌∙◌, subst, codes, inl, inr}
 use Rattle.std.proofs.lemmas.Bool.{ne_eqb}
-use Rattle.std.specs.Prelude.{Result, Ok, Err, IfOk, IfErr}
+use Rattle.std.specs.Prelude.{Result, Ok, Err, IfErr}
 use Rattle.clap.specs.Words.{App, FailsBy, HasKind, IsAmong, is_simple_and_free, Text, fault_of, kind_of}
 use Rattle.clap.specs.declared.error.Error.{Error}
 use Rattle.clap.specs.declared.error.kind.ErrorKind.{ErrorKind}
-use Rattle.clap.specs.declared.error.kind.ErrorKind.TheVariants.{DisplayHelp, DisplayVersion, OutOfMemory}
+use Rattle.clap.specs.declared.error.kind.ErrorKind.TheVariants.{OutOfMemory}
 use Rattle.clap.proofs.OnLiterals.{clap_on_literals}
-use Rattle.px_command.specs.Command.{IsFileWord, IsCheck, IsCheckRecord, IsReplay, IsServe, IsDrill, IsHelp, IsVersion, IsUsage}
-use Rattle.px_command.specs.Parser.{IsRefused, IsTaken, parser}
+use Rattle.px_command.specs.Command.{IsFileWord, IsCheck, IsCheckRecord, IsReplay, IsServe, IsDrill, AsksText, IsUsage}
+use Rattle.px_command.specs.Parser.{IsRefused, parser}
 use Rattle.px_command.proofs.Accepted.{number_word}
 
 -- ---- by computing, with words of which no dash stands in front
@@ -34,14 +34,6 @@ module _ (x : ℕ) (a : List ℕ) (dash : (x == 45) ≡ false) where
     drill_passes : fault_of parser (codes "drill" ∷ (x ∷ a) ∷ (y ∷ b) ∷ []) ≡ []
     unfolding clap_on_literals
     drill_passes = simp (dash, other) refl
-
-help_fault : fault_of parser (codes "--help" ∷ []) ≡ DisplayHelp ∷ []
-unfolding clap_on_literals
-help_fault = refl
-
-version_fault : fault_of parser (codes "--version" ∷ []) ≡ DisplayVersion ∷ []
-unfolding clap_on_literals
-version_fault = refl
 
 -- ---- by lists
 
@@ -78,15 +70,8 @@ passes_drill ws seed exchanges is =
 
 -- ---- from a parse
 
-taken_by : (a : App) (ws : List Text) → a ≡ parser → (is_simple_and_free a ≡ true → fault_of a ws ≡ []) → IsTaken ws
-taken_by a ws is passes = subst (λ (b : App). is_simple_and_free b ≡ true → fault_of b ws ≡ []) is passes refl
-
 refused_by : (a : App) (ws : List Text) (e : Error) → a ≡ parser → (is_simple_and_free a ≡ true → HasKind (fault_of a ws) e) → IsRefused ws e
 refused_by a ws e is fails = subst (λ (b : App). is_simple_and_free b ≡ true → HasKind (fault_of b ws) e) is fails refl
-
-pub all_taken : {T : Type 0} (a : App) (ws : List Text) (r : Result T Error) → a ≡ parser → (is_simple_and_free a ≡ true → FailsBy (fault_of a ws) r) → IfOk r (λ _. IsTaken ws)
-all_taken a ws (Ok m) is kinds = taken_by a ws is kinds
-all_taken a ws (Err e) is kinds = tt
 
 pub all_refused : {T : Type 0} (a : App) (ws : List Text) (r : Result T Error) → a ≡ parser → (is_simple_and_free a ≡ true → FailsBy (fault_of a ws) r) → IfErr r (IsRefused ws)
 all_refused a ws (Ok m) is kinds = tt
@@ -97,33 +82,13 @@ only_memory ws e (inl memory) other passes = other memory
 only_memory ws e (inr among) other passes = subst (λ (kinds : List ErrorKind). IsAmong (kind_of e) kinds) passes among
 
 -- words that `clap` refused for another reason than memory, and that ask for no text
-pub refused_usage : (ws : List Text) (e : Error) → IsRefused ws e → (kind_of e ≡ OutOfMemory → ⊥) → (IsHelp ws → ⊥) → (IsVersion ws → ⊥) → IsUsage ws
-refused_usage ws e refused other help version =
+pub refused_usage : (ws : List Text) (e : Error) → IsRefused ws e → (kind_of e ≡ OutOfMemory → ⊥) → (AsksText ws → ⊥) → IsUsage ws
+refused_usage ws e refused other text =
     record {
       check = λ cfg is. only_memory ws e refused other (passes_check ws cfg is);
       check_record = λ rec is. only_memory ws e refused other (passes_check_record ws rec is);
       replay = λ cfg rec is. only_memory ws e refused other (passes_replay ws cfg rec is);
       serve = λ cfg connections is. only_memory ws e refused other (passes_serve ws cfg connections is);
       drill = λ seed exchanges is. only_memory ws e refused other (passes_drill ws seed exchanges is);
-      help = help;
-      version = version;
-    }
-
-abbrev is_empty : List ErrorKind → Type 0
-is_empty [] = Unit {0}
-is_empty (k ∷ kinds) = ⊥
-
--- words that `clap` took ask for no text
-pub taken_usage : (ws : List Text) → IsTaken ws → ((cfg : Text) → IsCheck ws cfg → ⊥) → ((rec : Text) → IsCheckRecord ws rec → ⊥)
-    → ((cfg rec : Text) → IsReplay ws cfg rec → ⊥) → ((cfg : Text) (connections : ℕ) → IsServe ws cfg connections → ⊥)
-    → ((seed exchanges : ℕ) → IsDrill ws seed exchanges → ⊥) → IsUsage ws
-taken_usage ws taken check check_record replay serve drill =
-    record {
-      check = check;
-      check_record = check_record;
-      replay = replay;
-      serve = serve;
-      drill = drill;
-      help = λ is. subst is_empty (sym taken ∙ ap (fault_of parser) is ∙ help_fault) tt;
-      version = λ is. subst is_empty (sym taken ∙ ap (fault_of parser) is ∙ version_fault) tt;
+      text = text;
     }

@@ -1,6 +1,8 @@
 -- The words of the command line.
 use Rattle.std.specs.Prelude.{◌≡◌, ◌≢◌, ℕ, ◌≤◌, List, [], ◌∷◌, ◌⊎◌, Some, codes}
 use Rattle.px_bytes.specs.Numbers.{decimal_of}
+use Rattle.px_command.specs.declared.name.CommandName.{CommandName}
+use Rattle.px_command.specs.declared.name.CommandName.TheVariants.{Check, Replay, Serve, Drill}
 
 -- a word that may name a file: it isn't empty, and no dash stands in front
 abbrev pub IsFileWord : List ℕ → Type 0
@@ -33,13 +35,29 @@ abbrev pub IsDrill : List (List ℕ) → (seed exchanges : ℕ) → Type 0
 IsDrill words seed exchanges =
     (first : List ℕ) × (second : List ℕ) × (words ≡ codes "drill" ∷ first ∷ second ∷ []) × IsNumber 0 2147483647 first seed × IsNumber 0 4000 second exchanges
 
--- the words are `--help`
-abbrev pub IsHelp : List (List ℕ) → Type 0
-IsHelp words = words ≡ codes "--help" ∷ []
+-- the word that names a command
+abbrev pub word_of : CommandName → List ℕ
+word_of Check = codes "check"
+word_of Replay = codes "replay"
+word_of Serve = codes "serve"
+word_of Drill = codes "drill"
 
--- the words are `--version`
+-- the words are `--help`, `-h` or `help`
+abbrev pub IsHelp : List (List ℕ) → Type 0
+IsHelp words = (words ≡ codes "--help" ∷ []) ⊎ ((words ≡ codes "-h" ∷ []) ⊎ (words ≡ codes "help" ∷ []))
+
+-- the words are `COMMAND --help`, `COMMAND -h` or `help COMMAND`
+abbrev pub IsHelpOf : List (List ℕ) → CommandName → Type 0
+IsHelpOf words command =
+    (words ≡ word_of command ∷ codes "--help" ∷ []) ⊎ ((words ≡ word_of command ∷ codes "-h" ∷ []) ⊎ (words ≡ codes "help" ∷ word_of command ∷ []))
+
+-- the words are `--version` or `-V`
 abbrev pub IsVersion : List (List ℕ) → Type 0
-IsVersion words = words ≡ codes "--version" ∷ []
+IsVersion words = (words ≡ codes "--version" ∷ []) ⊎ (words ≡ codes "-V" ∷ [])
+
+-- the words ask for a text of help, or for the version
+abbrev pub AsksText : List (List ℕ) → Type 0
+AsksText words = IsHelp words ⊎ (((command : CommandName) × IsHelpOf words command) ⊎ IsVersion words)
 
 -- the words are none of the lists that the program takes
 pub record IsUsage (words : List (List ℕ)) : Type 0 where
@@ -48,8 +66,7 @@ pub record IsUsage (words : List (List ℕ)) : Type 0 where
   pub replay : (cfg rec : List ℕ) → IsReplay words cfg rec → ⊥
   pub serve : (cfg : List ℕ) (connections : ℕ) → IsServe words cfg connections → ⊥
   pub drill : (seed exchanges : ℕ) → IsDrill words seed exchanges → ⊥
-  pub help : IsHelp words → ⊥
-  pub version : IsVersion words → ⊥
+  pub text : AsksText words → ⊥
 
 -- the configuration of a command is in the file of this name
 abbrev pub NamesConfig : List (List ℕ) → List ℕ → Type 0

@@ -1,12 +1,16 @@
 //! What the words ask for.
 ghost use Rattle.std.specs.Prelude.{IfOk, IfErr, map, string_bytes};
 ghost use Rattle.px_command.specs.Asked.{IsAsked};
-ghost use Rattle.px_command.specs.Parser.{IsTaken, IsRefused};
+ghost use Rattle.px_command.specs.Command.{AsksText};
+ghost use Rattle.px_command.specs.Parser.{IsRefused};
 
-use crate::lists::{check_file, check_record_file, drill_numbers, replay_files, serve_words};
+use crate::lists::{
+    asks_help, asks_version, check_file, check_record_file, drill_numbers, help_command,
+    replay_files, serve_words,
+};
+use crate::name::CommandName;
 use crate::parser::command;
 use crate::texts::{error_text, unlisted_text};
-use crate::words::is_alone;
 use clap::error::ErrorKind;
 use clap::{ArgMatches, Error};
 use http_model::OutOfMemory;
@@ -26,17 +30,19 @@ pub enum Asked<'a> {
     Serve { cfg: &'a str, connections: u32 },
     /// `drill SEED COUNT`.
     Drill { seed: u32, exchanges: u32 },
-    /// `--help`.
+    /// `--help`, `-h` or `help`.
     Help,
-    /// `--version`.
+    /// `COMMAND --help`, `COMMAND -h` or `help COMMAND`.
+    HelpOf { command: CommandName },
+    /// `--version` or `-V`.
     Version,
     /// The words are no command. The text says what is wrong with them.
     Usage { text: Bytes },
 }
 
-/// What words ask for that `clap` took.
+/// What words ask for that `clap` took, and that ask for no text.
 fn taken<'a>(alloc: Global, words: &'a [String]) -> Result<Asked<'a>, OutOfMemory>
-    requires { IsTaken (map string_bytes words.now) }
+    requires { AsksText (map string_bytes words.now) → ⊥ }
     ensures { IfOk result (IsAsked (map string_bytes words.now)) }
 {
     if let Some(cfg) = check_file(words) {
@@ -54,23 +60,18 @@ fn taken<'a>(alloc: Global, words: &'a [String]) -> Result<Asked<'a>, OutOfMemor
     if let Some((seed, exchanges)) = drill_numbers(words) {
         return Ok(Asked::Drill { seed, exchanges });
     }
-    let text = unlisted_text(alloc)?;
+    let text = unlisted_text(alloc, words)?;
     Ok(Asked::Usage { text })
 }
 
-/// What words ask for that `clap` refused.
+/// What words ask for that `clap` refused, and that ask for no text.
 fn refused<'a>(alloc: Global, words: &[String], error: &Error) -> Result<Asked<'a>, OutOfMemory>
-    requires { IsRefused (map string_bytes words.now) error.now }
+    requires refused { IsRefused (map string_bytes words.now) error.now }
+    requires text { AsksText (map string_bytes words.now) → ⊥ }
     ensures { IfOk result (IsAsked (map string_bytes words.now)) }
 {
     if error.kind() == ErrorKind::OutOfMemory {
         return Err(OutOfMemory);
-    }
-    if is_alone(words, "--help") {
-        return Ok(Asked::Help);
-    }
-    if is_alone(words, "--version") {
-        return Ok(Asked::Version);
     }
     let text = error_text(alloc, error)?;
     Ok(Asked::Usage { text })
@@ -78,8 +79,7 @@ fn refused<'a>(alloc: Global, words: &[String], error: &Error) -> Result<Asked<'
 
 /// The words as `clap` reads them, or why it refuses them.
 fn matches_of<'a>(alloc: Global, words: &'a [String]) -> Result<ArgMatches<'a>, Error>
-    ensures taken { IfOk result (λ _. IsTaken (map string_bytes words.now)) }
-    ensures refused { IfErr result (IsRefused (map string_bytes words.now)) }
+    ensures { IfErr result (IsRefused (map string_bytes words.now)) }
 {
     match command(alloc) {
         Ok(command) => command.try_get_matches_from(words),
@@ -87,12 +87,29 @@ fn matches_of<'a>(alloc: Global, words: &'a [String]) -> Result<ArgMatches<'a>, 
     }
 }
 
-/// What words ask for: `clap` reads them, and then the lists of words decide.
-pub fn asked_by<'a>(alloc: Global, words: &'a [String]) -> Result<Asked<'a>, OutOfMemory>
+/// What words ask for that ask for no text: `clap` reads them, and then the lists of commands decide.
+fn command_asked<'a>(alloc: Global, words: &'a [String]) -> Result<Asked<'a>, OutOfMemory>
+    requires { AsksText (map string_bytes words.now) → ⊥ }
     ensures { IfOk result (IsAsked (map string_bytes words.now)) }
 {
     match matches_of(alloc, words) {
         Ok(_) => taken(alloc, words),
         Err(error) => refused(alloc, words, &error),
     }
+}
+
+/// What words ask for.
+pub fn asked_by<'a>(alloc: Global, words: &'a [String]) -> Result<Asked<'a>, OutOfMemory>
+    ensures { IfOk result (IsAsked (map string_bytes words.now)) }
+{
+    if asks_help(words) {
+        return Ok(Asked::Help);
+    }
+    if let Some(command) = help_command(words) {
+        return Ok(Asked::HelpOf { command });
+    }
+    if asks_version(words) {
+        return Ok(Asked::Version);
+    }
+    command_asked(alloc, words)
 }

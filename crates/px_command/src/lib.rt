@@ -1,12 +1,15 @@
-//! What the words of the command line ask for. `clap` reads them, and then the lists of words that the program takes
-//! decide.
+//! What the words of the command line ask for. Lists of words tell the texts of help and of the version; all else `clap` reads,
+//! and then the lists of commands decide.
 #![tactic(auto)]
 
 mod ask;
 mod lists;
+mod name;
 mod parser;
 mod texts;
 mod words;
+mod wrong;
 
 pub use ask::{Asked, asked_by};
-pub use texts::{help_text, version_text};
+pub use name::CommandName;
+pub use texts::{help_of_text, help_text, version_text};

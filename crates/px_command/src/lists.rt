@@ -1,8 +1,10 @@
-//! The lists of words that name a command.
-ghost use Rattle.std.specs.Prelude.{ℕ, List, map, IfSome, IfNone, string_bytes};
-ghost use Rattle.px_command.specs.Command.{IsCheck, IsCheckRecord, IsReplay, IsServe, IsDrill};
+//! The lists of words that name a command, or a text of the program.
+ghost use Rattle.std.specs.Prelude.{◌↔◌, ℕ, List, map, IsTrue, IfSome, IfNone, string_bytes};
+ghost use Rattle.px_command.specs.Command.{IsCheck, IsCheckRecord, IsReplay, IsServe, IsDrill, IsHelp, IsHelpOf, IsVersion};
+ghost use Rattle.px_command.specs.declared.name.CommandName.{CommandName as Named};
 
-use crate::words::{is_file_word, number, one_behind, two_behind};
+use crate::name::CommandName;
+use crate::words::{are_two, is_alone, is_file_word, number, one_behind, two_behind};
 
 /// The file of `check CFG`.
 pub fn check_file<'a>(words: &'a [String]) -> Option<&'a str>
@@ -65,4 +67,46 @@ pub fn drill_numbers(words: &[String]) -> Option<(u32, u32)>
     let seed = number(first, 0, 2147483647)?;
     let exchanges = number(second, 0, 4000)?;
     Some((seed, exchanges))
+}
+
+/// Whether the words ask for the text of help.
+pub fn asks_help(words: &[String]) -> bool
+    ensures { IsTrue result ↔ IsHelp (map string_bytes words.now) }
+{
+    is_alone(words, "--help") || is_alone(words, "-h") || is_alone(words, "help")
+}
+
+/// Whether the words ask for the version.
+pub fn asks_version(words: &[String]) -> bool
+    ensures { IsTrue result ↔ IsVersion (map string_bytes words.now) }
+{
+    is_alone(words, "--version") || is_alone(words, "-V")
+}
+
+/// Whether the words ask for the help of a command.
+fn asks_help_of(words: &[String], command: CommandName) -> bool
+    ensures { IsTrue result ↔ IsHelpOf (map string_bytes words.now) command }
+{
+    let name = command.word();
+    are_two(words, name, "--help") || are_two(words, name, "-h") || are_two(words, "help", name)
+}
+
+/// The command whose help the words ask for.
+pub fn help_command(words: &[String]) -> Option<CommandName>
+    ensures some { IfSome result (IsHelpOf (map string_bytes words.now)) }
+    ensures none { IfNone result ((command : Named) → IsHelpOf (map string_bytes words.now) command → ⊥) }
+{
+    if asks_help_of(words, CommandName::Check) {
+        return Some(CommandName::Check);
+    }
+    if asks_help_of(words, CommandName::Replay) {
+        return Some(CommandName::Replay);
+    }
+    if asks_help_of(words, CommandName::Serve) {
+        return Some(CommandName::Serve);
+    }
+    if asks_help_of(words, CommandName::Drill) {
+        return Some(CommandName::Drill);
+    }
+    None
 }

@@ -1,9 +1,8 @@
 //! The command line as `clap` reads it: the names of commands and their words, with what help says of them.
 ghost use Rattle.std.specs.Prelude.{◌≡◌, ℕ, List, IfOk, false, codes};
-ghost use Rattle.clap.specs.Words.{App, app_of, rule_of, with_rule, with_subcommand};
-ghost use Rattle.clap.specs.declared.builder.action.ArgAction.TheVariants.{Help};
+ghost use Rattle.clap.specs.Words.{App, app_of, new_app, rule_of, with_rule, with_subcommand};
 ghost use Rattle.clap.specs.declared.builder.command.Command.TheViews.{out-Command};
-ghost use Rattle.px_command.specs.Parser.{word_rule, flag_rule, no_flag, one_word, two_words, check_shape, top_level, flags, parser};
+ghost use Rattle.px_command.specs.Parser.{word_rule, flag_rule, two_words, check_shape, top_level, parser};
 
 use clap::{Arg, ArgAction, Command};
 use std::alloc::{AllocError, Global};
@@ -25,22 +24,17 @@ fn cfg_word<'a>(alloc: Global) -> Arg<'a>
 }
 
 /// A flag.
-fn flag<'a>(alloc: Global, name: &'a str, action: ArgAction, help: &'a str) -> Arg<'a>
-    ensures rule { rule_of result ≡ flag_rule name.now action }
+fn flag<'a>(alloc: Global, name: &'a str, help: &'a str) -> Arg<'a>
+    ensures rule { rule_of result ≡ flag_rule name.now }
     ensures local { result.global ≡ false }
 {
-    Arg::new(alloc, name).long(name).action(action).help(help)
+    Arg::new(alloc, name)
+        .long(name)
+        .action(ArgAction::SetTrue)
+        .help(help)
 }
 
-/// A command without flags.
-fn plain_command<'a>(alloc: Global, name: &'a str) -> Command<'a>
-    ensures app { app_of result ≡ no_flag name.now }
-    ensures local { (out-Command result).has_globals ≡ false }
-{
-    Command::new(alloc, name).disable_help_flag(true)
-}
-
-/// A command without flags, with this argument.
+/// A command with this argument.
 fn one_argument<'a>(
     alloc: Global,
     name: &'a str,
@@ -48,13 +42,13 @@ fn one_argument<'a>(
     first: Arg<'a>,
 ) -> Result<Command<'a>, AllocError>
     requires { first.global ≡ false }
-    ensures app { IfOk result (λ c. app_of c ≡ with_rule (no_flag name.now) (rule_of first.entry)) }
+    ensures app { IfOk result (λ c. app_of c ≡ with_rule (new_app name.now) (rule_of first.entry)) }
     ensures local { IfOk result (λ c. (out-Command c).has_globals ≡ false) }
 {
-    plain_command(alloc, name).about(about).arg(first)
+    Command::new(alloc, name).about(about).arg(first)
 }
 
-/// A command without flags, with this argument and a word that must be given behind it.
+/// A command with this argument, and a word that must be given behind it.
 fn word_behind<'a>(
     alloc: Global,
     name: &'a str,
@@ -64,7 +58,7 @@ fn word_behind<'a>(
     help: &'a str,
 ) -> Result<Command<'a>, AllocError>
     requires { first.global ≡ false }
-    ensures app { IfOk result (λ c. app_of c ≡ with_rule (with_rule (no_flag name.now) (rule_of first.entry)) (word_rule second.now)) }
+    ensures app { IfOk result (λ c. app_of c ≡ with_rule (with_rule (new_app name.now) (rule_of first.entry)) (word_rule second.now)) }
     ensures local { IfOk result (λ c. (out-Command c).has_globals ≡ false) }
 {
     one_argument(alloc, name, about, first)?.arg(word(alloc, second, help))
@@ -82,7 +76,6 @@ pub fn check_command<'a>(alloc: Global) -> Result<Command<'a>, AllocError>
         flag(
             alloc,
             "record",
-            ArgAction::SetTrue,
             "The file is a record; writes it in the second format",
         ),
         "FILE",
@@ -140,37 +133,11 @@ fn top_command<'a>(alloc: Global) -> Command<'a>
     ensures app { app_of result ≡ top_level }
     ensures local { (out-Command result).has_globals ≡ false }
 {
-    plain_command(alloc, "htx_proxy")
+    Command::new(alloc, "htx_proxy")
         .version("0.1.0")
         .about("Rewrites HTTP exchanges by the rules of a configuration")
         .no_binary_name(true)
-        .disable_help_subcommand(true)
-        .disable_version_flag(true)
         .subcommand_required(true)
-}
-
-/// The program's own level with the flag of help.
-fn with_help<'a>(alloc: Global) -> Result<Command<'a>, AllocError>
-    ensures app { IfOk result (λ c. app_of c ≡ with_rule top_level (flag_rule (codes "help") Help)) }
-{
-    top_command(alloc).arg(flag(
-        alloc,
-        "help",
-        ArgAction::Help,
-        "Writes this text; stands alone",
-    ))
-}
-
-/// The program's own level with its flags.
-fn with_flags<'a>(alloc: Global) -> Result<Command<'a>, AllocError>
-    ensures app { IfOk result (λ c. app_of c ≡ flags) }
-{
-    with_help(alloc)?.arg(flag(
-        alloc,
-        "version",
-        ArgAction::Version,
-        "Writes the version; stands alone",
-    ))
 }
 
 /// A level with one command more, where that could be made.
@@ -208,11 +175,11 @@ fn with_command<'a>(
     }
 }
 
-/// The program's flags and commands.
+/// The program's commands.
 pub fn command<'a>(alloc: Global) -> Result<Command<'a>, AllocError>
     ensures { IfOk result (λ c. app_of c ≡ parser) }
 {
-    let check = with_command(with_flags(alloc), check_command(alloc));
+    let check = with_command(Ok(top_command(alloc)), check_command(alloc));
     let replay = with_command(check, replay_command(alloc));
     let serve = with_command(replay, serve_command(alloc));
     with_command(serve, drill_command(alloc))

@@ -2,53 +2,24 @@
 ghost use Rattle.std.specs.Prelude.{IfOk, OnOk};
 ghost use Rattle.px_command.specs.Texts.{EndsLine};
 
+use crate::name::CommandName;
 use crate::parser::{check_command, command, drill_command, replay_command, serve_command};
-use clap::error::ErrorKind;
+use crate::wrong::{Wrong, has_word, wrong_word};
 use clap::{Command, Error};
 use http_model::OutOfMemory;
 use px_link::Bytes;
 use std::alloc::{AllocError, Global};
 
-/// What help says behind `check`.
-const CHECK: &[u8] = b"
-Examples:
-  htx_proxy check site.cfg           writes `config ok: request rules 1, response rules 0, filters 0`
-  htx_proxy check --record site.rec  writes the record that site.rec holds, in its second format
-
-Refused in this order: the words (1), the file of the configuration (4), the configuration (2), the output (5); with
---record the words (1), the file of the record (4), the record (3), the output (5).
-";
-
-/// What help says behind `replay`.
-const REPLAY: &[u8] = b"
-Example:
-  htx_proxy replay site.cfg site.rec  writes a report that begins with `PXREP 1`
-
-Refused in this order: the words (1), the file of the configuration (4), the configuration (2), the file of the record (4),
-the record (3), the output (5).
-";
-
-/// What help says behind `serve`.
-const SERVE: &[u8] = b"
-Example:
-  htx_proxy serve site.cfg 100  serves 100 connections, one after another, and writes a line for each once it is over
-
-Refused in this order: the words (1), the file of the configuration (4), the configuration (2); then a bind or an accept that
-fails (6), and the output (5).
-";
-
-/// What help says behind `drill`.
-const DRILL: &[u8] = b"
-Example:
-  htx_proxy drill 1 1  writes `exchanges 1`, `server bytes 1258`, `client bytes 14709` and `end done`
-
-Refused in this order: the words (1), the output (5).
-";
-
 /// What help says behind the commands.
-const REST: &[u8] = b"
-FILE, CFG and REC are names of files that are not empty and do not begin with a dash. Numbers have 1 to 10 digits. All that is
-written goes to standard output.
+const COMMANDS: &[u8] = b"
+Examples:
+  htx_proxy check site.cfg            says what the configuration in site.cfg has, or which line of it is refused
+  htx_proxy replay site.cfg site.rec  writes what becomes of the session that is recorded in site.rec
+  htx_proxy serve site.cfg 100        serves 100 connections, one after another
+  htx_proxy check --help              says more of one command
+
+Names of files are not empty and do not begin with a dash. Numbers have 1 to 10 digits. All that is written goes to
+standard output.
 
 Status:
   0  the command did what it was asked to
@@ -58,9 +29,19 @@ Status:
   4  a file could not be read: `file: NAME`
   5  the output could not be written
   6  a bind or an accept failed: `net`
-  7  there is no memory left
+  7  there is no memory left";
 
-Byte P is the first one of the refused line, counted from 0. KIND tells what must stand there:
+/// What the help of `check` says behind its words.
+const CHECK: &[u8] = b"
+Examples:
+  htx_proxy check site.cfg           writes `config ok: request rules 1, response rules 0, filters 0`
+  htx_proxy check --record site.rec  writes the record that site.rec holds, in its second format
+
+Refused in this order: the words (1), the file of the configuration (4), the configuration (2), the output (5); with
+--record the words (1), the file of the record (4), the record (3), the output (5).
+
+A record that is refused is told by `record: byte P: KIND`. Byte P is the first one of the refused line, counted from 0.
+KIND tells what must stand there:
   Header  `PXREC 1` or `PXREC 2`, as the first line
   Count   in `PXREC 2`: `connections COUNT`, as the second line, from 1 on, and then so many clients
   Length  `client LEN END`, `server LEN END TAKES` or `server refused`, where END is `closed` or `broke` and TAKES is `all`
@@ -71,6 +52,29 @@ Byte P is the first one of the refused line, counted from 0. KIND tells what mus
   Limit   no more than 1024 connections, 65536 servers, 1000000 turns and 67108864 bytes
 Lines end with a line feed, and numbers have no zeros in front.";
 
+/// What the help of `replay` says behind its words.
+const REPLAY: &[u8] = b"
+Example:
+  htx_proxy replay site.cfg site.rec  writes a report that begins with `PXREP 1`
+
+Refused in this order: the words (1), the file of the configuration (4), the configuration (2), the file of the record (4),
+the record (3), the output (5).";
+
+/// What the help of `serve` says behind its words.
+const SERVE: &[u8] = b"
+Example:
+  htx_proxy serve site.cfg 100  serves 100 connections, one after another, and writes a line for each once it is over
+
+Refused in this order: the words (1), the file of the configuration (4), the configuration (2); then a bind or an accept that
+fails (6), and the output (5).";
+
+/// What the help of `drill` says behind its words.
+const DRILL: &[u8] = b"
+Example:
+  htx_proxy drill 1 1  writes `exchanges 1`, `server bytes 1258`, `client bytes 14709` and `end done`
+
+Refused in this order: the words (1), the output (5).";
+
 /// Ends the last line of a text.
 fn end_line(text: &mut Bytes) -> Result<(), OutOfMemory>
     ensures { OnOk result (EndsLine text.new) }
@@ -78,16 +82,14 @@ fn end_line(text: &mut Bytes) -> Result<(), OutOfMemory>
     text.push(b"\n")
 }
 
-/// Puts the help of a command behind a text.
-fn push_rendered(text: &mut Bytes, command: &mut Command<'_>) -> Result<(), OutOfMemory> {
-    text.push(command.render_help()?.as_bytes())
-}
-
-/// Puts the help of one command behind the others, and what is said of it behind that.
-fn push_below(text: &mut Bytes, command: &mut Command<'_>, rest: &[u8]) -> Result<(), OutOfMemory> {
-    text.push(b"\n")?;
-    push_rendered(text, command)?;
-    text.push(rest)
+/// The help of a command, and what is said of it behind that.
+fn rendered(alloc: Global, command: &mut Command<'_>, rest: &[u8]) -> Result<Bytes, OutOfMemory>
+    ensures { IfOk result EndsLine }
+{
+    let mut text = Bytes::copy(alloc, command.render_help()?.as_bytes())?;
+    text.push(rest)?;
+    end_line(&mut text)?;
+    Ok(text)
 }
 
 /// A command under this name, where it could be made.
@@ -98,45 +100,18 @@ fn named<'a>(made: Result<Command<'a>, AllocError>, name: &str) -> Result<Comman
     }
 }
 
-/// Puts the help of one command behind the others, under this name, and what is said of it behind that.
-fn push_help(
-    text: &mut Bytes,
+/// The help of a command under this name, and what is said of it behind that.
+fn help_under(
+    alloc: Global,
     made: Result<Command<'_>, AllocError>,
     name: &str,
     rest: &[u8],
-) -> Result<(), OutOfMemory> {
+) -> Result<Bytes, OutOfMemory>
+    ensures { IfOk result EndsLine }
+{
     match named(made, name) {
         Ok(mut command) => {
-            let pushed = push_below(text, &mut command, rest);
-            drop(command);
-            pushed
-        }
-        Err(_) => Err(OutOfMemory),
-    }
-}
-
-/// Puts the help of each command behind a text, and the rest of help behind that.
-fn push_commands(alloc: Global, text: &mut Bytes) -> Result<(), OutOfMemory>
-    ensures { OnOk result (EndsLine text.new) }
-{
-    push_help(text, check_command(alloc), "htx_proxy check", CHECK)?;
-    push_help(text, replay_command(alloc), "htx_proxy replay", REPLAY)?;
-    push_help(text, serve_command(alloc), "htx_proxy serve", SERVE)?;
-    push_help(text, drill_command(alloc), "htx_proxy drill", DRILL)?;
-    text.push(REST)?;
-    end_line(text)
-}
-
-/// The help of a command.
-fn rendered(alloc: Global, command: &mut Command<'_>) -> Result<Bytes, OutOfMemory> {
-    Bytes::copy(alloc, command.render_help()?.as_bytes())
-}
-
-/// The help of the program's own level.
-fn top_help(alloc: Global) -> Result<Bytes, OutOfMemory> {
-    match command(alloc) {
-        Ok(mut command) => {
-            let text = rendered(alloc, &mut command);
+            let text = rendered(alloc, &mut command, rest);
             drop(command);
             text
         }
@@ -148,9 +123,19 @@ fn top_help(alloc: Global) -> Result<Bytes, OutOfMemory> {
 pub fn help_text(alloc: Global) -> Result<Bytes, OutOfMemory>
     ensures { IfOk result EndsLine }
 {
-    let mut text = top_help(alloc)?;
-    push_commands(alloc, &mut text)?;
-    Ok(text)
+    help_under(alloc, command(alloc), "htx_proxy", COMMANDS)
+}
+
+/// The text of `COMMAND --help`.
+pub fn help_of_text(alloc: Global, command: CommandName) -> Result<Bytes, OutOfMemory>
+    ensures { IfOk result EndsLine }
+{
+    match command {
+        CommandName::Check => help_under(alloc, check_command(alloc), "htx_proxy check", CHECK),
+        CommandName::Replay => help_under(alloc, replay_command(alloc), "htx_proxy replay", REPLAY),
+        CommandName::Serve => help_under(alloc, serve_command(alloc), "htx_proxy serve", SERVE),
+        CommandName::Drill => help_under(alloc, drill_command(alloc), "htx_proxy drill", DRILL),
+    }
 }
 
 /// The version of a command, on a line of its own.
@@ -177,22 +162,22 @@ pub fn version_text(alloc: Global) -> Result<Bytes, OutOfMemory>
     }
 }
 
-/// Puts what is wrong behind a text, and the help behind that.
-fn push_reason(alloc: Global, reason: &str, text: &mut Bytes) -> Result<(), OutOfMemory>
+/// Puts help behind what is wrong.
+fn push_help(alloc: Global, text: &mut Bytes) -> Result<(), OutOfMemory>
     ensures { OnOk result (EndsLine text.new) }
 {
-    text.push(reason.as_bytes())?;
-    text.push(b"\n\n")?;
-    text.push(top_help(alloc)?.as_slice())?;
-    push_commands(alloc, text)
+    let help = help_text(alloc)?;
+    text.push(help.as_slice())
 }
 
 /// What is wrong, in front of the help.
-fn reason_and_help(alloc: Global, reason: &str) -> Result<Bytes, OutOfMemory>
+fn reason_and_help(alloc: Global, reason: &[u8]) -> Result<Bytes, OutOfMemory>
     ensures { IfOk result EndsLine }
 {
     let mut text = Bytes::copy(alloc, b"error: ")?;
-    push_reason(alloc, reason, &mut text)?;
+    text.push(reason)?;
+    text.push(b"\n\n")?;
+    push_help(alloc, &mut text)?;
     Ok(text)
 }
 
@@ -217,18 +202,40 @@ pub fn error_text(alloc: Global, error: &Error) -> Result<Bytes, OutOfMemory>
     ensures { IfOk result EndsLine }
 {
     if !error.use_stderr() {
-        return reason_and_help(alloc, "`--help` and `--version` stand alone");
+        return reason_and_help(
+            alloc,
+            b"help stands alone or with one command, and the version stands alone",
+        );
     }
     let text = format!(in alloc; "{error}")?;
-    reason_and_help(alloc, without_title(front_of(text.as_str())))
+    reason_and_help(alloc, without_title(front_of(text.as_str())).as_bytes())
+}
+
+/// What is wrong with a word, and its bounds.
+fn wrong_text(alloc: Global, wrong: &Wrong<'_>) -> Result<Bytes, OutOfMemory>
+    ensures { IfOk result EndsLine }
+{
+    let mut reason = Bytes::copy(alloc, b"invalid value '")?;
+    reason.push(wrong.word.as_bytes())?;
+    reason.push(b"' for '<")?;
+    reason.push(wrong.place.as_bytes())?;
+    reason.push(b">': ")?;
+    reason.push(wrong.bounds.as_bytes())?;
+    reason_and_help(alloc, reason.as_slice())
 }
 
 /// What is wrong with words that `clap` took, and the lists don't.
-pub fn unlisted_text(alloc: Global) -> Result<Bytes, OutOfMemory>
+pub fn unlisted_text(alloc: Global, words: &[String]) -> Result<Bytes, OutOfMemory>
     ensures { IfOk result EndsLine }
 {
-    reason_and_help(
-        alloc,
-        "a word is empty, out of bounds or out of place, or `--` is among the words",
-    )
+    if has_word(words, "--") {
+        return reason_and_help(alloc, b"unexpected argument '--' found");
+    }
+    match wrong_word(words) {
+        Some(wrong) => wrong_text(alloc, &wrong),
+        None => reason_and_help(
+            alloc,
+            b"the argument '--record' must stand in front of '<FILE>'",
+        ),
+    }
 }

@@ -48,6 +48,16 @@ pub fn one_behind<'a>(words: &'a [String], command: &str) -> Option<&'a str>
     Some(word.as_str())
 }
 
+/// Whether the words are these two.
+pub fn are_two(words: &[String], first: &str, second: &str) -> bool
+    ensures { IsTrue result ↔ map string_bytes words.now ≡ first.now ∷ second.now ∷ [] }
+{
+    match one_behind(words, first) {
+        Some(word) => word == second,
+        None => false,
+    }
+}
+
 /// The two words behind a command, where they are the last.
 pub fn two_behind<'a>(words: &'a [String], command: &str) -> Option<(&'a str, &'a str)>
     ensures some { IfSome result (λ both. map string_bytes words.now ≡ command.now ∷ both.0.now ∷ both.1.now ∷ []) }

@@ -1,7 +1,6 @@
-use Rattle.std.proofs.Common.{◌≡◌, ◌∙◌, ap, codes}
-use Rattle.std.proofs.lemmas.Result.{IfOk-weaker}
-use Rattle.clap.specs.Words.{App, app_of, with_subcommand}
-use Rattle.px_command.specs.Parser.{check_shape, flags, two_words}
+use Rattle.std.proofs.Common.{codes}
+use Rattle.clap.specs.Words.{App, with_subcommand}
+use Rattle.px_command.specs.Parser.{check_shape, top_level, two_words}
 use Rattle.px_command.proofs.parser.command.Goals as goal
 
 abbrev with_check : App → App
@@ -21,7 +20,7 @@ returns c =
     let replay_shape = two_words (codes "replay") (codes "CFG") (codes "REC") in
     let serve_shape = two_words (codes "serve") (codes "CFG") (codes "COUNT") in
     let drill_shape = two_words (codes "drill") (codes "SEED") (codes "COUNT") in
-    let check = c.with_command-check.ensures.app flags check_shape c.with_flags.ensures.app c.check_command.ensures.app in
-    let replay = c.with_command-replay.ensures.app (with_check flags) replay_shape check c.replay_command.ensures.app in
-    let serve = c.with_command-serve.ensures.app (with_replay (with_check flags)) serve_shape replay c.serve_command.ensures.app in
-    c.with_command.ensures.app (with_serve (with_replay (with_check flags))) drill_shape serve c.drill_command.ensures.app
+    let check = c.with_command-check.ensures.app top_level check_shape c.top_command.ensures.app c.check_command.ensures.app in
+    let replay = c.with_command-replay.ensures.app (with_check top_level) replay_shape check c.replay_command.ensures.app in
+    let serve = c.with_command-serve.ensures.app (with_replay (with_check top_level)) serve_shape replay c.serve_command.ensures.app in
+    c.with_command.ensures.app (with_serve (with_replay (with_check top_level))) drill_shape serve c.drill_command.ensures.app

@@ -1,0 +1,27 @@
+//! The names of commands.
+
+/// A command.
+#[derive(Clone, Copy)]
+pub enum CommandName {
+    Check,
+    Replay,
+    Serve,
+    Drill,
+}
+
+impl CommandName {
+    ghost use Rattle.std.specs.Prelude.{◌≡◌};
+    ghost use Rattle.px_command.specs.Command.{word_of};
+
+    /// The word that names the command.
+    pub fn word(&self) -> &'static str
+        ensures { result.now ≡ word_of self.now }
+    {
+        match self {
+            CommandName::Check => "check",
+            CommandName::Replay => "replay",
+            CommandName::Serve => "serve",
+            CommandName::Drill => "drill",
+        }
+    }
+}

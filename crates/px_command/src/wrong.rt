@@ -1,0 +1,91 @@
+//! Which word is wrong where words name a command and stand in order, and no list has them.
+use crate::words::{is_file_word, number, one_behind};
+
+/// A word that is out of the bounds of its place.
+#[derive(Clone, Copy)]
+pub struct Wrong<'a> {
+    pub place: &'static str,
+    pub word: &'a str,
+    pub bounds: &'static str,
+}
+
+/// Whether a word is among the words.
+pub fn has_word(words: &[String], word: &str) -> bool {
+    words.iter().any(|known| known.as_str() == word)
+}
+
+/// The word in a place, where it names no file.
+fn wrong_file<'a>(place: &'static str, word: &'a str) -> Option<Wrong<'a>> {
+    if is_file_word(word) {
+        return None;
+    }
+    Some(Wrong {
+        place,
+        word,
+        bounds: "the name of a file is not empty and does not begin with a dash",
+    })
+}
+
+/// The word in a place, where it is no number from `least` to `most`.
+fn wrong_number<'a>(
+    place: &'static str,
+    word: &'a str,
+    least: u32,
+    most: u32,
+    bounds: &'static str,
+) -> Option<Wrong<'a>> {
+    if number(word, least, most).is_some() {
+        return None;
+    }
+    Some(Wrong {
+        place,
+        word,
+        bounds,
+    })
+}
+
+/// The count of `serve`, where it is wrong.
+fn wrong_served(word: &str) -> Option<Wrong<'_>> {
+    wrong_number("COUNT", word, 1, 1000000, "1 to 1000000, in 1 to 10 digits")
+}
+
+/// The first word that is wrong of the two of `drill`.
+fn wrong_drill<'a>(seed: &'a str, count: &'a str) -> Option<Wrong<'a>> {
+    let bounds = "0 to 2147483647, in 1 to 10 digits";
+    if let Some(wrong) = wrong_number("SEED", seed, 0, 2147483647, bounds) {
+        return Some(wrong);
+    }
+    wrong_number("COUNT", count, 0, 4000, "0 to 4000, in 1 to 10 digits")
+}
+
+/// The first word that is wrong of the two behind a command.
+fn wrong_of_two<'a>(command: &str, first: &'a str, second: &'a str) -> Option<Wrong<'a>> {
+    if command == "drill" {
+        return wrong_drill(first, second);
+    }
+    if command == "check" {
+        return if first == "--record" {
+            wrong_file("FILE", second)
+        } else {
+            None
+        };
+    }
+    if let Some(wrong) = wrong_file("CFG", first) {
+        return Some(wrong);
+    }
+    if command == "serve" {
+        return wrong_served(second);
+    }
+    wrong_file("REC", second)
+}
+
+/// The first word that is wrong of those behind a command.
+pub fn wrong_word(words: &[String]) -> Option<Wrong<'_>> {
+    if let Some(file) = one_behind(words, "check") {
+        return wrong_file("FILE", file);
+    }
+    let [command, first, second] = words else {
+        return None;
+    };
+    wrong_of_two(command.as_str(), first.as_str(), second.as_str())
+}
