@@ -116,4 +116,20 @@ impl Answers {
         }
         Ok(text)
     }
+
+    /// What was said, where saying it went well.
+    pub fn told(self, said: Result<(), Fault>) -> Result<Vec<u8>, Fault> {
+        match said {
+            Ok(()) => self.into_text(),
+            Err(fault) => Err(fault),
+        }
+    }
+
+    /// The same where anything was to be said; else none.
+    pub fn told_some(self, said: Option<Result<(), Fault>>) -> Option<Result<Vec<u8>, Fault>> {
+        match said {
+            Some(said) => Some(self.told(said)),
+            None => None,
+        }
+    }
 }

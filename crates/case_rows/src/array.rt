@@ -6,5 +6,6 @@ mod fields;
 mod insertions;
 mod messages;
 
+pub(crate) use blocks::overwrite;
 pub use edits::{made, step_all, step_message};
 pub use messages::say_blocks;

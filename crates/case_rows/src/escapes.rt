@@ -46,6 +46,13 @@ fn first_byte(text: &[u8]) -> Result<(u8, &[u8]), Fault> {
     }
 }
 
+/// Puts the byte that a text begins with behind the others; what is behind it is left.
+fn put_byte<'a>(text: &'a [u8], into: &mut Vec<u8>) -> Result<&'a [u8], Fault> {
+    let (byte, rest) = first_byte(text)?;
+    into.push(byte)?;
+    Ok(rest)
+}
+
 /// Puts the bytes of a text without runs behind the others.
 fn put_plain(text: &[u8], into: &mut Vec<u8>) -> Result<(), Fault> {
     let mut rest = text;
@@ -53,17 +60,19 @@ fn put_plain(text: &[u8], into: &mut Vec<u8>) -> Result<(), Fault> {
         if rest.is_empty() {
             break;
         }
-        let (byte, behind) = first_byte(rest)?;
-        into.push(byte)?;
-        rest = behind;
+        rest = put_byte(rest, into)?;
     }
     Ok(())
 }
 
 /// The text up to the first such byte, and what is behind that byte.
 pub fn split_at_first(text: &[u8], mark: u8) -> Option<(&[u8], &[u8])> {
-    let at = text.iter().position(|byte| *byte == mark)?;
-    Some((&text[..at], &text[at + 1..]))
+    for (at, byte) in text.iter().enumerate() {
+        if *byte == mark {
+            return Some((&text[..at], &text[at + 1..]));
+        }
+    }
+    None
 }
 
 /// What stands between double quotes, where a text begins and ends with one.
@@ -85,50 +94,62 @@ pub fn count_of(digits: &[u8]) -> Result<usize, Fault> {
     }
 }
 
+/// The same in 32 bits.
+pub fn place_of(digits: &[u8]) -> Result<u32, Fault> {
+    match u32::try_from(count_of(digits)?) {
+        Ok(place) => Ok(place),
+        Err(_) => Err(Fault::Malformed),
+    }
+}
+
 /// Puts a piece so many times behind the others.
 fn put_times(count: usize, piece: &[u8], into: &mut Vec<u8>) -> Result<(), Fault> {
     for _ in 0..count {
         if into.len() > MOST {
             return Err(Fault::Malformed);
         }
-        into.extend_from_slice(piece)?;
+        put_plain(piece, into)?;
     }
     Ok(())
 }
 
 /// Puts a run behind the others; what is behind it is left.
-fn put_run<'a>(alloc: Global, run: &'a [u8], into: &mut Vec<u8>) -> Result<&'a [u8], Fault> {
+fn put_run<'a>(run: &'a [u8], into: &mut Vec<u8>) -> Result<&'a [u8], Fault> {
     let Some((run, rest)) = split_at_first(run, b']') else {
         return Err(Fault::Malformed);
     };
     let Some((count, piece)) = split_at_first(run, b':') else {
         return Err(Fault::Malformed);
     };
-    let mut bytes = Vec::new(alloc);
-    put_plain(piece, &mut bytes)?;
-    put_times(count_of(count)?, &bytes, into)?;
+    put_times(count_of(count)?, piece, into)?;
     Ok(rest)
 }
 
 /// Puts what a text begins with behind the others; what is behind it is left.
-fn put_first<'a>(alloc: Global, text: &'a [u8], into: &mut Vec<u8>) -> Result<&'a [u8], Fault> {
+fn put_first<'a>(text: &'a [u8], into: &mut Vec<u8>) -> Result<&'a [u8], Fault> {
     if let [b'\\', b'[', run @ ..] = text {
-        return put_run(alloc, run, into);
+        return put_run(run, into);
     }
-    let (byte, rest) = first_byte(text)?;
-    into.push(byte)?;
-    Ok(rest)
+    put_byte(text, into)
 }
 
-/// The bytes that a text stands for.
-pub fn decoded(alloc: Global, text: &[u8]) -> Result<Vec<u8>, Fault> {
-    let mut bytes = Vec::new(alloc);
+/// Puts the bytes that a text stands for behind the others.
+fn put_decoded(text: &[u8], into: &mut Vec<u8>) -> Result<(), Fault> {
     let mut rest = text;
     for _ in 0..text.len() {
         if rest.is_empty() {
             break;
         }
-        rest = put_first(alloc, rest, &mut bytes)?;
+        rest = put_first(rest, into)?;
     }
-    Ok(bytes)
+    Ok(())
+}
+
+/// The bytes that a text stands for.
+pub fn decoded(alloc: Global, text: &[u8]) -> Result<Vec<u8>, Fault> {
+    let mut bytes = Vec::new(alloc);
+    match put_decoded(text, &mut bytes) {
+        Ok(()) => Ok(bytes),
+        Err(fault) => Err(fault),
+    }
 }

@@ -15,11 +15,11 @@ mod steps;
 pub mod writing;
 
 pub use answers::Answers;
-pub use escapes::{count_of, decoded, quoted, split_at_first};
+pub use escapes::{count_of, decoded, place_of, quoted, split_at_first};
 pub use fault::Fault;
 pub use held::{Held, held_in, held_list};
 pub use htx_model::OutOfMemory;
 pub use reading::{Call, number_of, words_of};
 pub use rows::Row;
 pub use score::Score;
-pub use steps::Step;
+pub use steps::{Step, Steps};

@@ -1,6 +1,11 @@
 //! The rows of a table: a line each, of fields with bars between them. The first field is the row's name, the last what
 //! it must come to.
 
+/// A part of a text by its number, between marks. What isn't there is empty.
+pub(crate) fn part(text: &str, mark: char, at: usize) -> &str {
+    text.split(mark).nth(at).unwrap_or("")
+}
+
 /// A row.
 #[derive(Clone, Copy)]
 pub struct Row<'a> {
@@ -18,7 +23,7 @@ impl<'a> Row<'a> {
 
     /// A field by its number, without the blanks around it. What isn't there is empty.
     pub fn field(&self, at: usize) -> &'a str {
-        self.line.split('|').nth(at).unwrap_or("").trim()
+        part(self.line, '|', at).trim()
     }
 
     pub fn name(&self) -> &'a str {

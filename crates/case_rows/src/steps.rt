@@ -1,7 +1,8 @@
 //! Steps, as rows write them: words with blanks between them, the first of which says what is done.
-use crate::escapes::{count_of, decoded, quoted};
+use crate::escapes::{count_of, decoded, place_of, quoted};
 use crate::fault::Fault;
 use crate::reading::number_of;
+use crate::rows::part;
 use std::alloc::Global;
 
 /// The most words of a step.
@@ -14,10 +15,19 @@ pub struct Step<'a> {
     words: Vec<Vec<u8>>,
 }
 
-/// The bytes of a word, which may stand in double quotes.
-fn word_of(alloc: Global, word: &str) -> Result<Vec<u8>, Fault> {
-    let bytes = word.as_bytes();
-    decoded(alloc, quoted(bytes).unwrap_or(bytes))
+/// Puts the bytes of a word, which may stand in double quotes, behind the others.
+fn put_word(alloc: Global, word: &[u8], words: &mut Vec<Vec<u8>>) -> Result<(), Fault> {
+    let bytes = decoded(alloc, quoted(word).unwrap_or(word))?;
+    words.push(bytes)?;
+    Ok(())
+}
+
+/// Puts the bytes of each word behind the others.
+fn put_words(alloc: Global, text: &str, words: &mut Vec<Vec<u8>>) -> Result<(), Fault> {
+    for word in text.split(' ').take(MOST_WORDS) {
+        put_word(alloc, word.as_bytes(), words)?;
+    }
+    Ok(())
 }
 
 impl<'a> Step<'a> {
@@ -25,15 +35,15 @@ impl<'a> Step<'a> {
     pub fn read(alloc: Global, text: &'a str) -> Result<Step<'a>, Fault> {
         let text = text.trim();
         let mut words = Vec::new(alloc);
-        for word in text.split(' ').take(MOST_WORDS) {
-            words.push(word_of(alloc, word)?)?;
+        match put_words(alloc, text, &mut words) {
+            Ok(()) => Ok(Step { text, words }),
+            Err(fault) => Err(fault),
         }
-        Ok(Step { text, words })
     }
 
     /// A word by its number as it is written; what isn't there is empty.
     pub fn word(&self, at: usize) -> &'a str {
-        self.text.split(' ').nth(at).unwrap_or("")
+        part(self.text, ' ', at)
     }
 
     /// The bytes of a word; what isn't there is empty.
@@ -56,9 +66,42 @@ impl<'a> Step<'a> {
 
     /// The same in 32 bits.
     pub fn place(&self, at: usize) -> Result<u32, Fault> {
-        match u32::try_from(self.count(at)?) {
-            Ok(place) => Ok(place),
-            Err(_) => Err(Fault::Malformed),
+        place_of(self.bytes(at))
+    }
+}
+
+/// Steps, with semicolons between them in their text.
+#[derive(Drop)]
+pub struct Steps<'a> {
+    steps: Vec<Step<'a>>,
+}
+
+/// Puts the step that a text says behind the others.
+fn put_step<'a>(alloc: Global, text: &'a str, steps: &mut Vec<Step<'a>>) -> Result<(), Fault> {
+    let step = Step::read(alloc, text)?;
+    steps.push(step)?;
+    Ok(())
+}
+
+/// Puts each step that a text says behind the others.
+fn put_steps<'a>(alloc: Global, text: &'a str, steps: &mut Vec<Step<'a>>) -> Result<(), Fault> {
+    for step in text.split(';') {
+        put_step(alloc, step, steps)?;
+    }
+    Ok(())
+}
+
+impl<'a> Steps<'a> {
+    /// The steps that a text says.
+    pub fn read(alloc: Global, text: &'a str) -> Result<Steps<'a>, Fault> {
+        let mut steps = Vec::new(alloc);
+        match put_steps(alloc, text, &mut steps) {
+            Ok(()) => Ok(Steps { steps }),
+            Err(fault) => Err(fault),
         }
+    }
+
+    pub fn as_slice(&self) -> &[Step<'a>] {
+        &self.steps
     }
 }

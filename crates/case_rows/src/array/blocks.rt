@@ -7,6 +7,15 @@ ghost use Rattle.htx_model.specs.declared.Kind.TheVariants as kinds;
 use crate::{Answers, Fault, Step};
 use htx_arena::{Arena, Kind};
 
+/// Writes the first of some bytes over the one at a place.
+pub fn overwrite(bytes: &mut [u8], place: usize, written: &[u8]) -> Result<(), Fault> {
+    if place >= bytes.len() || written.is_empty() {
+        return Err(Fault::Malformed);
+    }
+    bytes[place] = written[0];
+    Ok(())
+}
+
 /// The place of data.
 fn data_place(step: &Step<'_>, msg: &Arena) -> Result<u32, Fault>
     ensures within { IfOk result (λ at. at < length msg.now.blocks) }
@@ -37,14 +46,7 @@ fn cut(step: &Step<'_>, msg: &mut Arena) -> Result<(), Fault> {
 fn write(step: &Step<'_>, msg: &mut Arena) -> Result<(), Fault> {
     let at = data_place(step, msg)?;
     let place = step.count(2)?;
-    let value = msg.value_mut(at);
-    match (value.get_mut(place), step.bytes(3).first()) {
-        (Some(byte), Some(written)) => {
-            *byte = *written;
-            Ok(())
-        }
-        _ => Err(Fault::Malformed),
-    }
+    overwrite(msg.value_mut(at), place, step.bytes(3))
 }
 
 /// Takes a block out.
@@ -76,26 +78,35 @@ pub fn say_raw(step: &Step<'_>, msg: &Arena, answers: &mut Answers) -> Result<()
     let from = step.count(1)?;
     let to = step.count(2)?;
     match msg.raw().get(from..to) {
-        Some(bytes) => answers.quote(bytes),
-        None => return Err(Fault::Malformed),
+        Some(bytes) => {
+            answers.quote(bytes);
+            Ok(())
+        }
+        None => Err(Fault::Malformed),
     }
-    Ok(())
 }
 
-/// Takes a step that puts no block in. Whether it is one.
-pub fn step_blocks(step: &Step<'_>, msg: &mut Arena) -> Result<bool, Fault> {
+/// Takes a step with all blocks, or one that puts data behind them; none where it is no such step.
+fn step_whole(step: &Step<'_>, msg: &mut Arena) -> Option<Result<(), Fault>> {
     match step.word(0) {
         "data" => {
             let _ = msg.add_data(step.bytes(1));
         }
-        "remove" => remove(step, msg)?,
-        "truncate" => keep_or_drop(step, true, msg)?,
-        "drop" => keep_or_drop(step, false, msg)?,
-        "cut" => cut(step, msg)?,
-        "write" => write(step, msg)?,
         "defrag" => msg.defrag(),
         "clear" => msg.clear(),
-        _ => return Ok(false),
+        _ => return None,
     }
-    Ok(true)
+    Some(Ok(()))
+}
+
+/// Takes a step that takes blocks out, cuts or overwrites them; none where it is no such step.
+pub fn step_blocks(step: &Step<'_>, msg: &mut Arena) -> Option<Result<(), Fault>> {
+    match step.word(0) {
+        "remove" => Some(remove(step, msg)),
+        "truncate" => Some(keep_or_drop(step, true, msg)),
+        "drop" => Some(keep_or_drop(step, false, msg)),
+        "cut" => Some(cut(step, msg)),
+        "write" => Some(write(step, msg)),
+        _ => step_whole(step, msg),
+    }
 }

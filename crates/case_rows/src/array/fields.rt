@@ -66,17 +66,21 @@ fn remove_matching(step: &Step<'_>, msg: &mut Arena, answers: &mut Answers) -> R
     Ok(())
 }
 
-/// Takes a step that edits fields. Whether it is one.
-pub fn step_fields(step: &Step<'_>, msg: &mut Arena, answers: &mut Answers) -> Result<bool, Fault> {
+/// Takes a step that edits fields; none where it is no such step.
+pub fn step_fields(
+    step: &Step<'_>,
+    msg: &mut Arena,
+    answers: &mut Answers,
+) -> Option<Result<(), Fault>> {
     match step.word(0) {
-        "set" => put_field(step, true, msg, answers)?,
-        "add" => put_field(step, false, msg, answers)?,
+        "set" => return Some(put_field(step, true, msg, answers)),
+        "add" => return Some(put_field(step, false, msg, answers)),
+        "remove_where" => return Some(remove_matching(step, msg, answers)),
         "remove_named" => answers.count(u64::from(remove_named(msg, step.bytes(1)))),
-        "remove_where" => remove_matching(step, msg, answers)?,
         "remove_framing" => remove_framing(msg),
-        _ => return Ok(false),
+        _ => return None,
     }
-    Ok(true)
+    Some(Ok(()))
 }
 
 /// Says the headers.
@@ -94,23 +98,34 @@ fn say_some_line(line: Option<Line<'_>>, answers: &mut Answers) {
     }
 }
 
-/// Says what is read by a name.
-fn say_named(step: &Step<'_>, msg: &Arena, answers: &mut Answers) -> Result<bool, Fault> {
-    let name = step.bytes(1);
-    match step.word(0) {
-        "has" => answers.truth(has_named(msg, name)),
-        "count" => answers.count(u64::from(count_values(msg, name))),
-        "nth" => answers.some_quote(nth_value(msg, name, step.place(2)?)),
-        "fulls" => answers.count(u64::from(count_fulls(msg, name))),
-        "full" => answers.some_quote(nth_full(msg, name, step.place(2)?)),
-        "first" => answers.some_quote(first_value(msg, name)),
-        _ => return Ok(false),
+/// Says one of the values of a name, whole or between commas.
+fn say_nth(step: &Step<'_>, whole: bool, msg: &Arena, answers: &mut Answers) -> Result<(), Fault> {
+    let n = step.place(2)?;
+    if whole {
+        answers.some_quote(nth_full(msg, step.bytes(1), n));
+    } else {
+        answers.some_quote(nth_value(msg, step.bytes(1), n));
     }
-    Ok(true)
+    Ok(())
 }
 
-/// Says a part of a message. Whether the step asks for one.
-pub fn say_part(step: &Step<'_>, msg: &Arena, answers: &mut Answers) -> Result<bool, Fault> {
+/// Says what is read by a name; none where the step doesn't ask for it.
+fn say_named(step: &Step<'_>, msg: &Arena, answers: &mut Answers) -> Option<Result<(), Fault>> {
+    let name = step.bytes(1);
+    match step.word(0) {
+        "nth" => return Some(say_nth(step, false, msg, answers)),
+        "full" => return Some(say_nth(step, true, msg, answers)),
+        "has" => answers.truth(has_named(msg, name)),
+        "count" => answers.count(u64::from(count_values(msg, name))),
+        "fulls" => answers.count(u64::from(count_fulls(msg, name))),
+        "first" => answers.some_quote(first_value(msg, name)),
+        _ => return None,
+    }
+    Some(Ok(()))
+}
+
+/// Says a part of a message; none where the step doesn't ask for one.
+pub fn say_part(step: &Step<'_>, msg: &Arena, answers: &mut Answers) -> Option<Result<(), Fault>> {
     match step.word(0) {
         "headers" => say_headers(msg, answers),
         "request" => say_some_line(request_parts(msg), answers),
@@ -118,5 +133,5 @@ pub fn say_part(step: &Step<'_>, msg: &Arena, answers: &mut Answers) -> Result<b
         "status" => answers.some_count(status_of(msg).map(u64::from)),
         _ => return say_named(step, msg, answers),
     }
-    Ok(true)
+    Some(Ok(()))
 }

@@ -3,7 +3,7 @@
 ghost use Rattle.std.specs.Prelude.{◌≤◌, length, IfOk};
 
 use crate::array::say_blocks;
-use crate::bodies::filters::at_cut;
+use crate::bodies::filters::is_cut_same;
 use crate::bodies::heads::LIMITS;
 use crate::{Answers, Call, Fault, Row, decoded};
 use h1_body::{BodyReader, BodyState, add_trailers};
@@ -28,11 +28,16 @@ struct Pieces {
     room: u32,
 }
 
-/// What was read of a body.
+/// What was read of a body: its data and its trailers.
 #[derive(Drop)]
-struct Told {
-    content: Vec<u8>,
+struct Content {
+    data: Vec<u8>,
     trailers: Arena,
+}
+
+/// How a body was read: how far it is, how many bytes were used, and whether the end of the stream ends it.
+#[derive(Clone, Copy)]
+struct Course {
     state: BodyState,
     used: usize,
     ended: bool,
@@ -43,36 +48,31 @@ fn step(
     reader: &mut BodyReader,
     window: &[u8],
     room: u32,
-    content: &mut Vec<u8>,
-    to: &mut Arena,
+    content: &mut Content,
 ) -> Result<(usize, BodyState), Fault>
     ensures { IfOk result (λ r. r.0 ≤ length window.now) }
 {
     let step = reader.feed(window, room);
     let (from, len) = (step.piece.from, step.piece.len);
-    content.extend_from_slice(&window[from..from + len])?;
     if let Some(span) = step.trailers {
-        let _added = add_trailers(&window[span.from..span.from + span.len], to);
+        let _added = add_trailers(
+            &window[span.from..span.from + span.len],
+            &mut content.trailers,
+        );
     }
+    content.data.extend_from_slice(&window[from..from + len])?;
     Ok((step.used, step.state))
 }
 
 /// Reads a text that comes in pieces.
-fn read(alloc: Global, framing: Framing, text: &[u8], pieces: Pieces) -> Result<Told, Fault> {
-    let mut reader = BodyReader::new(framing, LIMITS);
-    let mut content = Vec::new(alloc);
-    let mut trailers = Arena::new(alloc, 1024)?;
+fn read(body: &Body<'_>, pieces: Pieces, content: &mut Content) -> Result<Course, Fault> {
+    let text = body.text;
+    let mut reader = BodyReader::new(body.framing, LIMITS);
     let mut state = reader.feed(&[], 1).state;
     let mut used = 0;
     let mut end = pieces.first.min(text.len());
     for _turn in 0..10000u32 {
-        let (n, told) = step(
-            &mut reader,
-            &text[used..end],
-            pieces.room,
-            &mut content,
-            &mut trailers,
-        )?;
+        let (n, told) = step(&mut reader, &text[used..end], pieces.room, content)?;
         used += n;
         state = told;
         if told != BodyState::More || (n == 0 && end == text.len()) {
@@ -82,40 +82,71 @@ fn read(alloc: Global, framing: Framing, text: &[u8], pieces: Pieces) -> Result<
             end += pieces.size.min(text.len() - end);
         }
     }
-    Ok(Told {
-        content,
-        trailers,
+    Ok(Course {
         state,
         used,
         ended: reader.ended(),
     })
 }
 
+/// How a state is said.
+fn name_of(state: BodyState) -> &'static [u8] {
+    match state {
+        BodyState::More => b"more",
+        BodyState::Whole => b"whole",
+        BodyState::Bad => b"bad",
+    }
+}
+
 /// Says one fact.
-fn say_fact(fact: &str, told: &Told, answers: &mut Answers) -> Result<(), Fault> {
+fn say_fact(
+    fact: &str,
+    course: Course,
+    content: &Content,
+    answers: &mut Answers,
+) -> Result<(), Fault> {
     match fact {
-        "state" => answers.say(match told.state {
-            BodyState::More => b"more",
-            BodyState::Whole => b"whole".as_slice(),
-            BodyState::Bad => b"bad",
-        }),
-        "used" => answers.count(told.used as u64),
-        "data" => answers.quote(&told.content),
-        "trailers" => say_blocks(&told.trailers, answers),
-        "ended" => answers.truth(told.ended),
+        "state" => answers.say(name_of(course.state)),
+        "used" => answers.count(course.used as u64),
+        "data" => answers.quote(&content.data),
+        "trailers" => say_blocks(&content.trailers, answers),
+        "ended" => answers.truth(course.ended),
         _ => return Err(Fault::Malformed),
     }
     Ok(())
 }
 
+/// Says the facts of a body that comes in pieces.
+fn say_facts(
+    body: &Body<'_>,
+    pieces: Pieces,
+    content: &mut Content,
+    answers: &mut Answers,
+) -> Result<(), Fault> {
+    let course = read(body, pieces, content)?;
+    for fact in body.facts.split(' ') {
+        say_fact(fact, course, content, answers)?;
+    }
+    Ok(())
+}
+
+/// The same with nothing read before.
+fn say_new(body: &Body<'_>, pieces: Pieces, answers: &mut Answers) -> Result<(), Fault> {
+    let trailers = Arena::new(body.alloc, 1024)?;
+    let mut content = Content {
+        data: Vec::new(body.alloc),
+        trailers,
+    };
+    let said = say_facts(body, pieces, &mut content, answers);
+    drop(content);
+    said
+}
+
 /// The facts of a body that comes in pieces.
 fn facts_of(body: &Body<'_>, pieces: Pieces) -> Result<Vec<u8>, Fault> {
-    let told = read(body.alloc, body.framing, body.text, pieces)?;
     let mut answers = Answers::new(body.alloc);
-    for fact in body.facts.split(' ') {
-        say_fact(fact, &told, &mut answers)?;
-    }
-    answers.into_text()
+    let said = say_new(body, pieces, &mut answers);
+    answers.told(said)
 }
 
 /// The framing that a text says.
@@ -131,35 +162,53 @@ pub fn framing_of(text: &str) -> Result<Framing, Fault> {
     }
 }
 
-/// What each cut comes to, or the first cut that gives other facts.
-fn each_cut(body: &Body<'_>) -> Result<Vec<u8>, Fault> {
+/// Whether a cut comes to these facts. Else they are said, and its own behind them.
+fn is_same(
+    body: &Body<'_>,
+    first: usize,
+    facts: &[u8],
+    answers: &mut Answers,
+) -> Result<bool, Fault> {
+    let pieces = Pieces {
+        first,
+        size: body.text.len(),
+        room: 1000,
+    };
+    let other = facts_of(body, pieces)?;
+    Ok(is_cut_same(first, facts, &other, answers))
+}
+
+/// Says what each cut comes to, or the first cut that gives other facts.
+fn each_cut(body: &Body<'_>, facts: &[u8], answers: &mut Answers) -> Result<(), Fault> {
+    for first in 0..body.text.len() {
+        if !is_same(body, first, facts, answers)? {
+            return Ok(());
+        }
+    }
+    answers.say(facts);
+    Ok(())
+}
+
+/// Says what a body comes to.
+fn say_body(body: &Body<'_>, answers: &mut Answers) -> Result<(), Fault> {
     let bytewise = Pieces {
         first: 0,
         size: 1,
         room: 1,
     };
     let facts = facts_of(body, bytewise)?;
-    for first in 0..body.text.len() {
-        let pieces = Pieces {
-            first,
-            size: body.text.len(),
-            room: 1000,
-        };
-        let other = facts_of(body, pieces)?;
-        if other != facts {
-            return at_cut(body.alloc, first, &other);
-        }
-    }
-    Ok(facts)
+    each_cut(body, &facts, answers)
 }
 
 /// What a row comes to.
-pub fn body_read(alloc: Global, row: Row<'_>) -> Result<Vec<u8>, Fault> {
+pub fn body_read(alloc: Global, row: Row<'_>, answers: &mut Answers) -> Result<(), Fault> {
+    let framing = framing_of(row.field(1))?;
     let text = decoded(alloc, row.field(2).as_bytes())?;
-    each_cut(&Body {
+    let body = Body {
         alloc,
-        framing: framing_of(row.field(1))?,
+        framing,
         text: &text,
         facts: row.field(3),
-    })
+    };
+    say_body(&body, answers)
 }

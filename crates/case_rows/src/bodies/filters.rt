@@ -3,19 +3,21 @@
 ghost use Rattle.std.specs.Prelude.{◌≤◌, ◌<◌, length, IfOk, OnOk};
 ghost use Rattle.body_filter.specs.Valid.{IsFilter, AreFilters};
 
-use crate::{Answers, Fault, Row, Step, decoded};
+use crate::{Answers, Fault, Row, Step, Steps, decoded};
 use body_filter::{Chain, FedState, FilterSpec};
 use px_link::Bytes;
 use std::alloc::Global;
 
-/// What a cut comes to where it differs from the others.
-pub fn at_cut(alloc: Global, first: usize, other: &[u8]) -> Result<Vec<u8>, Fault> {
-    let mut answers = Answers::new(alloc);
+/// Whether a cut comes to the same as others. Else says what it comes to.
+pub fn is_cut_same(first: usize, facts: &[u8], other: &[u8], answers: &mut Answers) -> bool {
+    if other == facts {
+        return true;
+    }
     answers.say(b"cut at ");
     answers.more_count(first as u64);
     answers.more(b": ");
     answers.more(other);
-    answers.into_text()
+    false
 }
 
 /// The most filters of a chain.
@@ -42,43 +44,85 @@ fn text_of(alloc: Global, step: &Step<'_>, at: usize, least: usize) -> Result<By
     Ok(Bytes::copy(alloc, bytes)?)
 }
 
+/// The filter that refuses longer bodies.
+fn limit_of(step: &Step<'_>) -> Result<FilterSpec, Fault>
+    ensures { IfOk result IsFilter }
+{
+    let most = step.count(1)?;
+    Ok(FilterSpec::Limit(most as u64))
+}
+
+/// The filter that refuses bodies with a text.
+fn deny_of(alloc: Global, step: &Step<'_>) -> Result<FilterSpec, Fault>
+    ensures { IfOk result IsFilter }
+{
+    let text = text_of(alloc, step, 1, 1)?;
+    Ok(FilterSpec::Deny(text))
+}
+
+/// The filter that puts a text in the place of another.
+fn replace_of(alloc: Global, step: &Step<'_>) -> Result<FilterSpec, Fault>
+    ensures { IfOk result IsFilter }
+{
+    let from = text_of(alloc, step, 1, 1)?;
+    match text_of(alloc, step, 2, 0) {
+        Ok(to) => Ok(FilterSpec::Replace(from, to)),
+        Err(fault) => Err(fault),
+    }
+}
+
 /// The filter that a step names.
 fn filter_of(alloc: Global, step: &Step<'_>) -> Result<FilterSpec, Fault>
     ensures { IfOk result IsFilter }
 {
     match step.word(0) {
-        "body-limit" => Ok(FilterSpec::Limit(step.count(1)? as u64)),
-        "body-deny" => Ok(FilterSpec::Deny(text_of(alloc, step, 1, 1)?)),
-        "body-replace" => {
-            let from = text_of(alloc, step, 1, 1)?;
-            let to = text_of(alloc, step, 2, 0)?;
-            Ok(FilterSpec::Replace(from, to))
-        }
+        "body-limit" => limit_of(step),
+        "body-deny" => deny_of(alloc, step),
+        "body-replace" => replace_of(alloc, step),
         _ => Err(Fault::Malformed),
     }
 }
 
-/// The filter that a text says.
-fn filter_in(alloc: Global, text: &str) -> Result<FilterSpec, Fault>
-    ensures { IfOk result IsFilter }
-{
-    let step = Step::read(alloc, text)?;
-    filter_of(alloc, &step)
-}
-
-/// Puts a filter behind the others.
+/// Puts the filter that a step names behind the others.
 #[tactic(auto, using(crate::proofs::BodiesLemmas::Chains::chains))]
-fn add_filter(filters: &mut Vec<FilterSpec>, filter: FilterSpec) -> Result<(), Fault>
-    requires filter { IsFilter filter }
-    requires others { AreFilters filters.old.items }
+fn add_filter(alloc: Global, step: &Step<'_>, filters: &mut Vec<FilterSpec>) -> Result<(), Fault>
+    requires { AreFilters filters.old.items }
     ensures few { OnOk result (length filters.new.items ≤ 8) }
     ensures valid { OnOk result (AreFilters filters.new.items) }
 {
     if filters.len() >= MOST_FILTERS {
         return Err(Fault::Malformed);
     }
+    let filter = filter_of(alloc, step)?;
     filters.push(filter)?;
     Ok(())
+}
+
+/// Puts the filter of each step behind the others.
+fn add_each(alloc: Global, steps: &[Step<'_>], filters: &mut Vec<FilterSpec>) -> Result<(), Fault>
+    requires few { length filters.old.items ≤ 8 }
+    requires valid { AreFilters filters.old.items }
+    ensures few { OnOk result (length filters.new.items ≤ 8) }
+    ensures valid { OnOk result (AreFilters filters.new.items) }
+{
+    for step in steps {
+        add_filter(alloc, step, filters)?;
+    }
+    Ok(())
+}
+
+/// Puts the filters of a text, with semicolons between them, behind the others. There may be none.
+fn add_all(alloc: Global, text: &str, filters: &mut Vec<FilterSpec>) -> Result<(), Fault>
+    requires few { length filters.old.items ≤ 8 }
+    requires valid { AreFilters filters.old.items }
+    ensures few { OnOk result (length filters.new.items ≤ 8) }
+    ensures valid { OnOk result (AreFilters filters.new.items) }
+{
+    if text.is_empty() {
+        return Ok(());
+    }
+    let steps = Steps::read(alloc, text)?;
+    add_each(alloc, steps.as_slice(), filters)
 }
 
 /// The filters of a row, with semicolons between them.
@@ -87,14 +131,10 @@ pub fn filters_of(alloc: Global, text: &str) -> Result<Vec<FilterSpec>, Fault>
     ensures valid { IfOk result (λ filters. AreFilters filters.items) }
 {
     let mut filters = Vec::new(alloc);
-    if text.is_empty() {
-        return Ok(filters);
+    match add_all(alloc, text, &mut filters) {
+        Ok(()) => Ok(filters),
+        Err(fault) => Err(fault),
     }
-    for piece in text.split(';') {
-        let filter = filter_in(alloc, piece)?;
-        add_filter(&mut filters, filter)?;
-    }
-    Ok(filters)
 }
 
 /// Hands a piece in, until the chain decides or has nothing more to do.
@@ -138,7 +178,36 @@ fn feed_both(
     Ok(state)
 }
 
-/// How a body in two pieces is decided, and in front of it what was given, where that differs from the row's output.
+/// Says how a body is decided, and in front of it what was given, where that differs from the row's output.
+fn say_decided(state: FedState, output: &[u8], wanted: &[u8], answers: &mut Answers) {
+    if output != wanted {
+        answers.quote(output);
+    }
+    match state {
+        FedState::Going => answers.say(b"going"),
+        FedState::Over => answers.say(b"accepted"),
+        FedState::Refused(code) => answers.count(u64::from(code)),
+    }
+}
+
+/// Says what a body in two pieces comes to.
+fn say_both(
+    alloc: Global,
+    chain: &mut Chain,
+    pieces: (&[u8], &[u8]),
+    out: &mut [u8],
+    wanted: &[u8],
+    answers: &mut Answers,
+) -> Result<(), Fault>
+    requires { 0 < length out.old }
+{
+    let mut output = Vec::new(alloc);
+    let state = feed_both(chain, pieces, out, &mut output)?;
+    say_decided(state, &output, wanted, answers);
+    Ok(())
+}
+
+/// What a body in two pieces comes to.
 fn decided(
     alloc: Global,
     chain: &mut Chain,
@@ -148,43 +217,98 @@ fn decided(
 ) -> Result<Vec<u8>, Fault>
     requires { 0 < length out.old }
 {
-    let mut output = Vec::new(alloc);
-    let state = feed_both(chain, pieces, out, &mut output)?;
     let mut answers = Answers::new(alloc);
-    if output.as_slice() != wanted {
-        answers.quote(&output);
-    }
-    match state {
-        FedState::Going => answers.say(b"going"),
-        FedState::Over => answers.say(b"accepted"),
-        FedState::Refused(code) => answers.count(u64::from(code)),
-    }
-    answers.into_text()
+    let said = say_both(alloc, chain, pieces, out, wanted, &mut answers);
+    answers.told(said)
 }
 
-/// What the body of a row comes to; the first cut that gives other facts is named.
+/// A row's body and output, and what the body comes to that comes whole.
+#[derive(Clone, Copy)]
+struct Whole<'a> {
+    body: &'a [u8],
+    wanted: &'a [u8],
+    facts: &'a [u8],
+}
+
+/// Whether a cut of a body comes to the same as the whole. Else says what it comes to.
+fn is_same(
+    alloc: Global,
+    chain: &mut Chain,
+    of: Whole<'_>,
+    first: usize,
+    answers: &mut Answers,
+) -> Result<bool, Fault>
+    requires { first ≤ length of.body.now }
+{
+    let other = decided(alloc, chain, of.body.split_at(first), &mut [0u8], of.wanted)?;
+    Ok(is_cut_same(first, of.facts, &other, answers))
+}
+
+/// Says what the body of a row comes to; the first cut that gives other facts is named.
 fn each_cut(
+    alloc: Global,
+    chain: &mut Chain,
+    of: Whole<'_>,
+    answers: &mut Answers,
+) -> Result<(), Fault> {
+    for first in 0..of.body.len() + 1 {
+        if !is_same(alloc, chain, of, first, answers)? {
+            return Ok(());
+        }
+    }
+    answers.say(of.facts);
+    Ok(())
+}
+
+/// Says what a body comes to, whole and cut.
+fn say_body(
     alloc: Global,
     chain: &mut Chain,
     body: &[u8],
     wanted: &[u8],
-) -> Result<Vec<u8>, Fault> {
-    let mut room = vec![in alloc; 0; WHOLE_ROOM]?;
-    let facts = decided(alloc, chain, (b"", body), &mut room, wanted)?;
-    for first in 0..body.len() + 1 {
-        let other = decided(alloc, chain, body.split_at(first), &mut [0u8], wanted)?;
-        if other != facts {
-            return at_cut(alloc, first, &other);
-        }
-    }
-    Ok(facts)
+    answers: &mut Answers,
+) -> Result<(), Fault> {
+    let facts = decided(alloc, chain, (b"", body), &mut [0; WHOLE_ROOM], wanted)?;
+    let of = Whole {
+        body,
+        wanted,
+        facts: &facts,
+    };
+    each_cut(alloc, chain, of, answers)
+}
+
+/// Says what the body of a row comes to.
+fn say_row(
+    alloc: Global,
+    chain: &mut Chain,
+    row: Row<'_>,
+    answers: &mut Answers,
+) -> Result<(), Fault> {
+    let body = decoded(alloc, row.field(2).as_bytes())?;
+    let wanted = decoded(alloc, row.field(3).as_bytes())?;
+    say_body(alloc, chain, &body, &wanted, answers)
+}
+
+/// The same with filters that lie in front of it.
+fn say_filtered(
+    alloc: Global,
+    filters: &[FilterSpec],
+    row: Row<'_>,
+    answers: &mut Answers,
+) -> Result<(), Fault>
+    requires few { length filters.now ≤ 8 }
+    requires valid { AreFilters filters.now }
+{
+    let mut chain = Chain::open(alloc, filters)?;
+    let said = say_row(alloc, &mut chain, row, answers);
+    drop(chain);
+    said
 }
 
 /// What a row comes to.
-pub fn filtered(alloc: Global, row: Row<'_>) -> Result<Vec<u8>, Fault> {
+pub fn filtered(alloc: Global, row: Row<'_>, answers: &mut Answers) -> Result<(), Fault> {
     let filters = filters_of(alloc, row.field(1))?;
-    let body = decoded(alloc, row.field(2).as_bytes())?;
-    let wanted = decoded(alloc, row.field(3).as_bytes())?;
-    let mut chain = Chain::open(alloc, &filters)?;
-    each_cut(alloc, &mut chain, &body, &wanted)
+    let said = say_filtered(alloc, &filters, row, answers);
+    drop(filters);
+    said
 }

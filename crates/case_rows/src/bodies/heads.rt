@@ -1,5 +1,5 @@
 //! Heads, with a buffer of 1024 bytes of which a received head leaves 256 free.
-ghost use Rattle.std.specs.Prelude.{◌≤◌, vec_len, IfOk};
+ghost use Rattle.std.specs.Prelude.{◌≡◌, ◌≤◌, length, vec_len, IfOk, []};
 
 use crate::array::say_blocks;
 use crate::{Answers, Fault, Row, decoded};
@@ -75,27 +75,80 @@ fn window_of(alloc: Global, text: &str) -> Result<Vec<u8>, Fault>
     Ok(window)
 }
 
+/// How a head is read that begins a window: as a request's, or as that of the answer to HEAD or to another method.
+#[derive(Clone, Copy)]
+enum Whose {
+    Request,
+    Response { head: bool },
+}
+
+/// A head that is to be read.
+#[derive(Clone, Copy)]
+struct Asked {
+    whose: Whose,
+    /// The stream ends behind the window.
+    whole: bool,
+    /// The blocks are said too that stand in the array then.
+    blocks: bool,
+}
+
+/// Reads a head into an array.
+fn read(asked: Asked, window: &[u8], msg: &mut Arena) -> HeadRead
+    requires window { length window.now ≤ 1024 }
+    requires empty { msg.old.blocks ≡ [] }
+    requires size { msg.old.size ≡ 1024 }
+{
+    match asked.whose {
+        Whose::Request => read_request(window, asked.whole, LIMITS, msg),
+        Whose::Response { head } => read_response(window, asked.whole, head, LIMITS, msg),
+    }
+}
+
+/// Says a head that is read into an array.
+fn say_head(asked: Asked, window: &[u8], msg: &mut Arena, answers: &mut Answers)
+    requires window { length window.now ≤ 1024 }
+    requires empty { msg.old.blocks ≡ [] }
+    requires size { msg.old.size ≡ 1024 }
+{
+    say_read(read(asked, window, msg), answers);
+    if asked.blocks {
+        say_blocks(msg, answers);
+    }
+}
+
+/// Says a head that is read into a new array.
+fn say_new(alloc: Global, asked: Asked, window: &[u8], answers: &mut Answers) -> Result<(), Fault>
+    requires { length window.now ≤ 1024 }
+{
+    let mut msg = Arena::new(alloc, 1024)?;
+    say_head(asked, window, &mut msg, answers);
+    Ok(())
+}
+
+/// Says the head that begins the window of a text.
+fn say_text(alloc: Global, asked: Asked, text: &str, answers: &mut Answers) -> Result<(), Fault> {
+    let window = window_of(alloc, text)?;
+    say_new(alloc, asked, &window, answers)
+}
+
 /// NAME, `open`, or `closed` where the stream ends behind the window, the window, and the answer; with `blocks` behind
 /// it the blocks that stand in the array then.
-pub fn head_read(alloc: Global, row: Row<'_>) -> Result<Vec<u8>, Fault> {
-    let window = window_of(alloc, row.field(2))?;
-    let mut msg = Arena::new(alloc, 1024)?;
-    let mut answers = Answers::new(alloc);
-    let read = read_request(&window, row.field(1) == "closed", LIMITS, &mut msg);
-    say_read(read, &mut answers);
-    if row.field(3) == "blocks" {
-        say_blocks(&msg, &mut answers);
-    }
-    answers.into_text()
+pub fn head_read(alloc: Global, row: Row<'_>, answers: &mut Answers) -> Result<(), Fault> {
+    let asked = Asked {
+        whose: Whose::Request,
+        whole: row.field(1) == "closed",
+        blocks: row.field(3) == "blocks",
+    };
+    say_text(alloc, asked, row.field(2), answers)
 }
 
 /// NAME, `open` or `closed`, `head` where the request's method was HEAD, the window, and the answer.
-pub fn response_read(alloc: Global, row: Row<'_>) -> Result<Vec<u8>, Fault> {
-    let window = window_of(alloc, row.field(3))?;
-    let mut msg = Arena::new(alloc, 1024)?;
-    let whole = row.field(1) == "closed";
-    let read = read_response(&window, whole, row.field(2) == "head", LIMITS, &mut msg);
-    let mut answers = Answers::new(alloc);
-    say_read(read, &mut answers);
-    answers.into_text()
+pub fn response_read(alloc: Global, row: Row<'_>, answers: &mut Answers) -> Result<(), Fault> {
+    let head = row.field(2) == "head";
+    let asked = Asked {
+        whose: Whose::Response { head },
+        whole: row.field(1) == "closed",
+        blocks: false,
+    };
+    say_text(alloc, asked, row.field(3), answers)
 }

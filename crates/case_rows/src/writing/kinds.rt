@@ -1,13 +1,25 @@
 //! Which interpreter a kind of rows has.
 use crate::writing::{spellings, transfers};
-use crate::{Fault, Row};
+use crate::{Answers, Fault, Row};
 use std::alloc::Global;
 
-/// What a row of one of these kinds comes to.
-pub fn made(alloc: Global, kind: &str, row: Row<'_>) -> Option<Result<Vec<u8>, Fault>> {
+/// Says what a row of one of these kinds comes to; none of another kind.
+fn say(
+    alloc: Global,
+    kind: &str,
+    row: Row<'_>,
+    answers: &mut Answers,
+) -> Option<Result<(), Fault>> {
     match kind {
-        "spellings" => Some(spellings::spelled(alloc, row)),
-        "transfers" => Some(transfers::transferred(alloc, row)),
+        "spellings" => Some(spellings::spelled(alloc, row, answers)),
+        "transfers" => Some(transfers::transferred(alloc, row, answers)),
         _ => None,
     }
+}
+
+/// What a row of one of these kinds comes to; none of another kind.
+pub fn made(alloc: Global, kind: &str, row: Row<'_>) -> Option<Result<Vec<u8>, Fault>> {
+    let mut answers = Answers::new(alloc);
+    let said = say(alloc, kind, row, &mut answers);
+    answers.told_some(said)
 }

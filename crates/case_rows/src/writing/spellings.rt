@@ -1,7 +1,7 @@
 //! Messages as text: NAME, the framing, and `no_body` behind it where no body is to be written, the size of the window, steps
 //! with an array of 1024 bytes and a writer, and what they say.
 use crate::array::step_message;
-use crate::{Answers, Call, Fault, Row, Step};
+use crate::{Answers, Call, Fault, Row, Step, Steps, place_of};
 use h1_write::Writer;
 use http_model::Framing;
 use htx_arena::Arena;
@@ -73,32 +73,54 @@ fn step_page(step: &Step<'_>, page: &mut Page, answers: &mut Answers) -> Result<
         "next" => {
             let _ = page.writer.next(&mut page.msg, false, &mut page.window);
         }
-        "write" => write_all(false, page)?,
-        "end" => write_all(true, page)?,
         "text" => say_text(page, answers),
         "done" => answers.truth(page.writer.done()),
-        _ => step_message(step, &mut page.msg, answers)?,
+        "write" => return write_all(false, page),
+        "end" => return write_all(true, page),
+        _ => return step_message(step, &mut page.msg, answers),
     }
     Ok(())
 }
 
 /// A page on which nothing is written.
-fn page_of(alloc: Global, row: Row<'_>) -> Result<Page, Fault> {
-    let size = Step::read(alloc, row.field(2))?.place(0)?;
-    Ok(Page {
-        writer: writer_of(row.field(1))?,
-        msg: Arena::new(alloc, 1024)?,
-        window: Window::new(alloc, size)?,
-        text: Vec::new(alloc),
-    })
+fn page_of(alloc: Global, writer: Writer, window: Window) -> Result<Page, Fault> {
+    match Arena::new(alloc, 1024) {
+        Ok(msg) => Ok(Page {
+            writer,
+            msg,
+            window,
+            text: Vec::new(alloc),
+        }),
+        Err(_) => Err(Fault::OutOfMemory),
+    }
+}
+
+/// Takes each of the steps.
+fn step_each(steps: &[Step<'_>], page: &mut Page, answers: &mut Answers) -> Result<(), Fault> {
+    for step in steps {
+        step_page(step, page, answers)?;
+    }
+    Ok(())
+}
+
+/// Takes steps, with semicolons between them.
+fn step_all(
+    alloc: Global,
+    steps: &str,
+    page: &mut Page,
+    answers: &mut Answers,
+) -> Result<(), Fault> {
+    let steps = Steps::read(alloc, steps)?;
+    step_each(steps.as_slice(), page, answers)
 }
 
 /// What a row comes to.
-pub fn spelled(alloc: Global, row: Row<'_>) -> Result<Vec<u8>, Fault> {
-    let mut page = page_of(alloc, row)?;
-    let mut answers = Answers::new(alloc);
-    for step in row.field(3).split(';') {
-        step_page(&Step::read(alloc, step)?, &mut page, &mut answers)?;
-    }
-    answers.into_text()
+pub fn spelled(alloc: Global, row: Row<'_>, answers: &mut Answers) -> Result<(), Fault> {
+    let writer = writer_of(row.field(1))?;
+    let size = place_of(row.field(2).as_bytes())?;
+    let window = Window::new(alloc, size)?;
+    let mut page = page_of(alloc, writer, window)?;
+    let said = step_all(alloc, row.field(3), &mut page, answers);
+    drop(page);
+    said
 }
