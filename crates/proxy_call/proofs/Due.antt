@@ -58,8 +58,7 @@ good_or_usage words files (inl (name, inr (count, serve), cfg, ok)) usage = usag
 good_or_usage words files (inr (inl (rec, is, r, ok))) usage = usage.check_record rec is
 good_or_usage words files (inr (inr (inl (cfg, rec, is, c, r, say)))) usage = usage.replay cfg rec is
 good_or_usage words files (inr (inr (inr (inl (seed, exchanges, is))))) usage = usage.drill seed exchanges is
-good_or_usage words files (inr (inr (inr (inr (inl help))))) usage = usage.help help
-good_or_usage words files (inr (inr (inr (inr (inr version))))) usage = usage.version version
+good_or_usage words files (inr (inr (inr (inr asks)))) usage = usage.text asks
 
 config_or_usage : (words : List (List ℕ)) (files : List NamedBytes) → IsDue words files ended.Config → IsUsage words → ⊥
 config_or_usage words files (name, inl check, line, kind, refused) usage = usage.check name check

@@ -1,9 +1,9 @@
 -- Lists of words are told apart, and say the names of their files.
-use Rattle.std.proofs.Common.{◌≡◌, ℕ, ◌+◌, ◌*◌, ◌==◌, ◌||◌, Bool, true, false, List, [], ◌∷◌, ◌⊎◌, inl, inr, ap, sym, ◌∙◌, length, get_or}
+use Rattle.std.proofs.Common.{◌≡◌, ℕ, ◌+◌, ◌*◌, ◌==◌, ◌||◌, Bool, true, false, List, [], ◌∷◌, ◌⊎◌, inl, inr, refl, ap, sym, ◌∙◌, subst, codes, length, get_or}
 use Rattle.std.specs.Prelude.{Option, Some}
 use Rattle.px_bytes.specs.Numbers.{decimal_of}
 use Rattle.px_link.specs.Told.{NamedBytes}
-use Rattle.px_command.specs.Command.{IsCheck, IsCheckRecord, IsReplay, IsServe, IsDrill, IsHelp, IsVersion, NamesConfig}
+use Rattle.px_command.specs.Command.{IsCheck, IsCheckRecord, IsReplay, IsServe, IsDrill, AsksText, IsFileWord, NamesConfig}
 use Rattle.proxy_call.specs.Answers.{AsksNoFile, IsGood, NamesServe}
 
 -- how many words stand behind the first, and its third letter
@@ -37,11 +37,22 @@ serve_key words cfg count is = ap key is.1
 drill_key : (words : List (List ℕ)) (seed exchanges : ℕ) → IsDrill words seed exchanges → key words ≡ 2105
 drill_key words seed exchanges is = ap key is.2
 
-help_key : (words : List (List ℕ)) → IsHelp words → key words ≡ 104
-help_key words is = ap key is
+-- one word or two, as those that ask for a text
+abbrev is_short : ℕ → Bool
+is_short n = n == 1 || n == 2
 
-version_key : (words : List (List ℕ)) → IsVersion words → key words ≡ 118
-version_key words is = ap key is
+abbrev short : List (List ℕ) → Bool
+short words = is_short (length words)
+
+text_short : (words : List (List ℕ)) → AsksText words → short words ≡ true
+text_short words (inl (inl is)) = ap short is
+text_short words (inl (inr (inl is))) = ap short is
+text_short words (inl (inr (inr is))) = ap short is
+text_short words (inr (inl (command, inl is))) = ap short is
+text_short words (inr (inl (command, inr (inl is)))) = ap short is
+text_short words (inr (inl (command, inr (inr is)))) = ap short is
+text_short words (inr (inr (inl is))) = ap short is
+text_short words (inr (inr (inr is))) = ap short is
 
 -- ---- which words name a configuration
 
@@ -56,16 +67,37 @@ config_there words cfg (inl check) = ap has_config (check_key words cfg check)
 config_there words cfg (inr (inl replay)) = ap has_config (replay_key words cfg replay.0 replay.1)
 config_there words cfg (inr (inr serve)) = ap has_config (serve_key words cfg serve.0 serve.1)
 
-fileless_key : (words : List (List ℕ)) → AsksNoFile words → has_config (key words) ≡ false
-fileless_key words (inl drill) = ap has_config (drill_key words drill.0 drill.1 drill.2)
-fileless_key words (inr (inl help)) = ap has_config (help_key words help)
-fileless_key words (inr (inr version)) = ap has_config (version_key words version)
+-- a word with a dash in front names no file
+dash_or_file : (words : List (List ℕ)) (flag cfg : List ℕ) → second words ≡ 45 ∷ flag → IsCheck words cfg → ⊥
+dash_or_file words flag cfg dash check = subst IsFileWord (sym (ap second check.0) ∙ dash) check.1 refl
+
+abbrev config_key : List (List ℕ) → Bool
+config_key words = has_config (key words)
+
+other_or_check : (words : List (List ℕ)) (cfg : List ℕ) → config_key words ≡ false → IsCheck words cfg → ⊥
+other_or_check words cfg other check = no_bool (config_key words) (ap has_config (check_key words cfg check)) other
+
+text_or_check : (words : List (List ℕ)) (cfg : List ℕ) → AsksText words → IsCheck words cfg → ⊥
+text_or_check words cfg (inl (inl is)) check = other_or_check words cfg (ap config_key is) check
+text_or_check words cfg (inl (inr (inl is))) check = other_or_check words cfg (ap config_key is) check
+text_or_check words cfg (inl (inr (inr is))) check = other_or_check words cfg (ap config_key is) check
+text_or_check words cfg (inr (inl (command, inl is))) check = dash_or_file words (codes "-help") cfg (ap second is) check
+text_or_check words cfg (inr (inl (command, inr (inl is)))) check = dash_or_file words (codes "h") cfg (ap second is) check
+text_or_check words cfg (inr (inl (command, inr (inr is)))) check = other_or_check words cfg (ap config_key is) check
+text_or_check words cfg (inr (inr (inl is))) check = other_or_check words cfg (ap config_key is) check
+text_or_check words cfg (inr (inr (inr is))) check = other_or_check words cfg (ap config_key is) check
+
+text_or_config : (words : List (List ℕ)) (cfg : List ℕ) → AsksText words → NamesConfig words cfg → ⊥
+text_or_config words cfg text (inl check) = text_or_check words cfg text check
+text_or_config words cfg text (inr (inl (rec, is))) = no_bool (short words) (text_short words text) (ap short is.0)
+text_or_config words cfg text (inr (inr (count, is))) = no_bool (short words) (text_short words text) (ap short is.1)
 
 pub record_or_config : (words : List (List ℕ)) (rec cfg : List ℕ) → IsCheckRecord words rec → NamesConfig words cfg → ⊥
 record_or_config words rec cfg is named = no_bool (has_config (key words)) (config_there words cfg named) (ap has_config (record_key words rec is))
 
 pub fileless_or_config : (words : List (List ℕ)) (cfg : List ℕ) → AsksNoFile words → NamesConfig words cfg → ⊥
-fileless_or_config words cfg is named = no_bool (has_config (key words)) (config_there words cfg named) (fileless_key words is)
+fileless_or_config words cfg (inl drill) named = no_bool (has_config (key words)) (config_there words cfg named) (ap has_config (drill_key words drill.0 drill.1 drill.2))
+fileless_or_config words cfg (inr text) named = text_or_config words cfg text named
 
 -- ---- which words name a record
 
@@ -76,13 +108,13 @@ record_there : (words : List (List ℕ)) (rec : List ℕ) → IsCheckRecord word
 record_there words rec (inl is) = ap has_record (record_key words rec is)
 record_there words rec (inr replay) = ap has_record (replay_key words replay.0 rec replay.1)
 
-fileless_no_record : (words : List (List ℕ)) → AsksNoFile words → has_record (key words) ≡ false
-fileless_no_record words (inl drill) = ap has_record (drill_key words drill.0 drill.1 drill.2)
-fileless_no_record words (inr (inl help)) = ap has_record (help_key words help)
-fileless_no_record words (inr (inr version)) = ap has_record (version_key words version)
+text_or_record : (words : List (List ℕ)) (rec : List ℕ) → AsksText words → IsCheckRecord words rec ⊎ ((cfg : List ℕ) × IsReplay words cfg rec) → ⊥
+text_or_record words rec text (inl is) = no_bool (short words) (text_short words text) (ap short is.0)
+text_or_record words rec text (inr (cfg, is)) = no_bool (short words) (text_short words text) (ap short is.0)
 
 pub fileless_or_record : (words : List (List ℕ)) (rec : List ℕ) → AsksNoFile words → IsCheckRecord words rec ⊎ ((cfg : List ℕ) × IsReplay words cfg rec) → ⊥
-fileless_or_record words rec is named = no_bool (has_record (key words)) (record_there words rec named) (fileless_no_record words is)
+fileless_or_record words rec (inl drill) named = no_bool (has_record (key words)) (record_there words rec named) (ap has_record (drill_key words drill.0 drill.1 drill.2))
+fileless_or_record words rec (inr text) named = text_or_record words rec text named
 
 pub check_or_record : (words : List (List ℕ)) (cfg rec : List ℕ) → IsCheck words cfg → IsCheckRecord words rec ⊎ ((c : List ℕ) × IsReplay words c rec) → ⊥
 check_or_record words cfg rec is named = no_bool (has_record (key words)) (record_there words rec named) (ap has_record (check_key words cfg is))
@@ -95,16 +127,15 @@ serve_or_record words cfg rec count is named = no_bool (has_record (key words)) 
 abbrev is_serve : ℕ → Bool
 is_serve k = k == 2114
 
-good_key : (words : List (List ℕ)) (text : List ℕ) (files : Option (List NamedBytes)) → IsGood words files text → is_serve (key words) ≡ false
-good_key words text files (inl (cfg, is, made)) = ap is_serve (check_key words cfg is)
-good_key words text files (inr (inl (rec, is, made))) = ap is_serve (record_key words rec is)
-good_key words text files (inr (inr (inl (cfg, rec, is, made)))) = ap is_serve (replay_key words cfg rec is)
-good_key words text files (inr (inr (inr (inl (seed, exchanges, is, made))))) = ap is_serve (drill_key words seed exchanges is)
-good_key words text files (inr (inr (inr (inr (inl help, ends))))) = ap is_serve (help_key words help)
-good_key words text files (inr (inr (inr (inr (inr version, ends))))) = ap is_serve (version_key words version)
+serve_key_or : (words : List (List ℕ)) → is_serve (key words) ≡ false → NamesServe words → ⊥
+serve_key_or words other (cfg, count, is) = no_bool (is_serve (key words)) (ap is_serve (serve_key words cfg count is)) other
 
 pub good_or_serve : (words : List (List ℕ)) (text : List ℕ) (files : Option (List NamedBytes)) → IsGood words files text → NamesServe words → ⊥
-good_or_serve words text files good (cfg, count, is) = no_bool (is_serve (key words)) (ap is_serve (serve_key words cfg count is)) (good_key words text files good)
+good_or_serve words text files (inl (cfg, is, made)) serve = serve_key_or words (ap is_serve (check_key words cfg is)) serve
+good_or_serve words text files (inr (inl (rec, is, made))) serve = serve_key_or words (ap is_serve (record_key words rec is)) serve
+good_or_serve words text files (inr (inr (inl (cfg, rec, is, made)))) serve = serve_key_or words (ap is_serve (replay_key words cfg rec is)) serve
+good_or_serve words text files (inr (inr (inr (inl (seed, exchanges, is, made))))) serve = serve_key_or words (ap is_serve (drill_key words seed exchanges is)) serve
+good_or_serve words text files (inr (inr (inr (inr (asks, ends))))) (cfg, count, is) = no_bool (short words) (text_short words asks) (ap short is.1)
 
 -- ---- the names of files
 

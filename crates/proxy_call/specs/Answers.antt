@@ -6,7 +6,7 @@ use Rattle.cfg_parse.specs.Whole.{config_of}
 use Rattle.cfg_parse.specs.declared.fault.CfgKind.{CfgKind}
 use Rattle.htx_drive.specs.Drill.Drill.{configuration}
 use Rattle.forward_core.specs.Meaning.Product.{meaning_of}
-use Rattle.px_command.specs.Command.{IsCheck, IsCheckRecord, IsReplay, IsServe, IsDrill, IsHelp, IsVersion, IsUsage, NamesConfig}
+use Rattle.px_command.specs.Command.{IsCheck, IsCheckRecord, IsReplay, IsServe, IsDrill, AsksText, IsUsage, NamesConfig}
 use Rattle.px_command.specs.Texts.{EndsLine}
 use Rattle.rec_format.specs.declared.record.RecKind.{RecKind}
 use Rattle.rec_format.specs.Recorded.{Recorded}
@@ -76,7 +76,7 @@ IsGood words files text =
     ⊎ (((rec_name : List ℕ) × IsCheckRecord words rec_name × IsRewritten files rec_name text)
     ⊎ (((cfg_name : List ℕ) × (rec_name : List ℕ) × IsReplay words cfg_name rec_name × IsReportOf files cfg_name rec_name text)
     ⊎ (((seed : ℕ) × (exchanges : ℕ) × IsDrill words seed exchanges × IsDrilled seed exchanges text)
-    ⊎ ((IsHelp words ⊎ IsVersion words) × EndsLine text))))
+    ⊎ (AsksText words × EndsLine text))))
 
 -- The text is what is written with this status, where the last failed read was of this name. The lines of a usage text are shown by tests.
 abbrev pub IsAnswer : List (List ℕ) → Option (List NamedBytes) → Builder → (last : List ℕ) → Status → (text : List ℕ) → Type 0
@@ -109,9 +109,9 @@ abbrev pub WritesFront : List (List ℕ) → Option (List NamedBytes) → Builde
 WritesFront words files builder last reads reads_now old new =
     (status : Status) × (text : List ℕ) × IsAnswer words files builder last status text × HasCause builder reads reads_now status × GainsFront old new text
 
--- the words ask for what no file says: a generated session, or a text of help
+-- the words ask for what no file says: a generated session, or a text of help or of the version
 abbrev pub AsksNoFile : List (List ℕ) → Type 0
-AsksNoFile words = ((seed : ℕ) × (exchanges : ℕ) × IsDrill words seed exchanges) ⊎ (IsHelp words ⊎ IsVersion words)
+AsksNoFile words = ((seed : ℕ) × (exchanges : ℕ) × IsDrill words seed exchanges) ⊎ AsksText words
 
 -- The words and the files, where they are told, call for this status: nothing but a fault or memory is in the way.
 abbrev pub IsDue : List (List ℕ) → List NamedBytes → Status → Type 0

@@ -8,7 +8,7 @@ ghost use Rattle.proxy_call.specs.Stops.{Answers, Input, given};
 use crate::answer::{check, check_record, drill, replay};
 use crate::serving::serve;
 use crate::stop::Stop;
-use px_command::{Asked, asked_by, help_text, version_text};
+use px_command::{Asked, asked_by, help_of_text, help_text, version_text};
 use px_link::{Bytes, Files, Net, Sink};
 use px_pattern::Patterns;
 use std::alloc::Global;
@@ -42,6 +42,7 @@ pub fn run<'a, F: Files, N: Net, K: Sink, P: Patterns>(
         Asked::Serve { cfg, connections } => serve(alloc, files, cfg, connections, net, out, pats),
         Asked::Drill { seed, exchanges } => write(drill(alloc, seed, exchanges, pats), out),
         Asked::Help => write(Ok(help_text(alloc)?), out),
+        Asked::HelpOf { command } => write(Ok(help_of_text(alloc, command)?), out),
         Asked::Version => write(Ok(version_text(alloc)?), out),
         Asked::Usage { text } => Err(Stop::Usage { text }),
     }

@@ -1,6 +1,7 @@
-//! Lists of words of the command line, and the text of help.
+//! Lists of words of the command line, and the texts that they ask for.
 use case_rows::{Answers, Fault, Row, decoded, words_of};
-use px_command::{Asked, asked_by, help_text};
+use px_command::{Asked, asked_by, help_of_text, help_text, version_text};
+use px_link::Bytes;
 use std::alloc::Global;
 
 /// Says what is wrong with words, without the text of help that stands behind it.
@@ -41,6 +42,10 @@ fn say_asked(alloc: Global, asked: &Asked<'_>, answers: &mut Answers) -> Result<
             answers.more_count(u64::from(*exchanges));
         }
         Asked::Help => answers.say(b"help"),
+        Asked::HelpOf { command } => {
+            answers.say(b"help of ");
+            answers.more(command.word().as_bytes());
+        }
         Asked::Version => answers.say(b"version"),
         Asked::Usage { text } => say_usage(alloc, text.as_slice(), answers)?,
     }
@@ -68,11 +73,23 @@ fn has_part(text: &[u8], part: &[u8]) -> bool {
     false
 }
 
-/// NAME, a part of the text of help, and whether it is there.
+/// The text that words ask for, or what is wrong with them; empty where they ask for no text.
+fn text_for(alloc: Global, asked: Asked<'_>) -> Result<Bytes, Fault> {
+    match asked {
+        Asked::Help => Ok(help_text(alloc)?),
+        Asked::HelpOf { command } => Ok(help_of_text(alloc, command)?),
+        Asked::Version => Ok(version_text(alloc)?),
+        Asked::Usage { text } => Ok(text),
+        _ => Ok(Bytes::copy(alloc, b"")?),
+    }
+}
+
+/// NAME, words that ask for a text, a part of the text, and whether it is there.
 pub fn help_has(alloc: Global, row: Row<'_>) -> Result<Vec<u8>, Fault> {
-    let part = decoded(alloc, row.field(1).as_bytes())?;
-    let help = help_text(alloc)?;
+    let words = words_of(alloc, row.field(1))?;
+    let part = decoded(alloc, row.field(2).as_bytes())?;
+    let text = text_for(alloc, asked_by(alloc, &words)?)?;
     let mut answers = Answers::new(alloc);
-    answers.truth(has_part(help.as_slice(), &part));
+    answers.truth(has_part(text.as_slice(), &part));
     answers.into_text()
 }
