@@ -6,6 +6,8 @@ pub mod Doing
 pub mod Texted
 pub mod Replaced
 pub mod Groups
+pub mod Edges
+pub mod Joining
 pub mod Filling
 pub mod Retargeting
 pub mod Placed

@@ -65,8 +65,7 @@ unfolding redirected
 redirects size good to code drop_query append_slash env =
     let text = text_on size env (format_of to) in
     let location = location_on to drop_query append_slash text env in
-    chosen size good (nat_le (length text) size) (by_text size location (led_to size code)) (Err Bytes)
-    (chosen size good (nat_le (length location) size) (led_to size code location) (Err Bytes) (leads size good code location) tt) tt
+    chosen size good (nat_le (length text) size) (led_to size code location) (Err Bytes) (leads size good code location) tt
 
 framed : (t : Bool) (n : ℕ) → cond t Absent (Length n) ≢ Chunked
 framed true n = λ e. grind (arith, e)

@@ -9,6 +9,7 @@ pub mod Replies
 pub mod Steps
 pub mod Acts
 pub mod Outcome
+pub mod Joining
 pub mod Filling
 pub mod Turns
 pub mod Going

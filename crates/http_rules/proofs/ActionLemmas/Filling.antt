@@ -3,7 +3,7 @@ use Rattle.std.proofs.Common.{◌≡◌, ℕ, List, Bool, true, cond, refl, sym,
 use Rattle.std.specs.Prelude.{is_some, Option, Some, Result, Ok, Err}
 use Rattle.std.proofs.lemmas.Bool.{le-leb, lt-leb}
 use Rattle.http_model.specs.declared.Why.{Why}
-use Rattle.http_model.specs.declared.Why.TheVariants.{Bytes}
+use Rattle.http_model.specs.declared.Why.TheVariants.{Room, Bytes}
 use Rattle.regex.specs.Patterns.{Match, find}
 use Rattle.px_pattern.specs.Pattern.{Pattern}
 use Rattle.px_pattern.specs.Meaning.{pattern_of}
@@ -12,7 +12,7 @@ use Rattle.px_pattern.specs.declared.span.Span.{Span}
 use Rattle.px_conv.specs.Template.{expanded}
 use Rattle.log_format.specs.declared.fmt.Fmt.{Fmt}
 use Rattle.http_rules.specs.declared.action.filled.Filled.{Filled}
-use Rattle.http_rules.specs.declared.action.filled.Filled.TheVariants.{Unmatched, Made, TooLong}
+use Rattle.http_rules.specs.declared.action.filled.Filled.TheVariants.{Unmatched, Made, Failed}
 use Rattle.http_rules.specs.Action.Given.{Env, text_on}
 use Rattle.http_rules.specs.Action.Edits.{by_text}
 use Rattle.http_rules.specs.Action.Replacing.{filled, filled_by, by_match}
@@ -29,7 +29,8 @@ short_is size text held make made =
 pub held_is : (size : ℕ) (env : Env) (wanted held : List ℕ) (f : Filled) (make : List ℕ → Result Env Why) → IsHeld size wanted f held → by_text size wanted make ≡ edited_by f held env make
 held_is size env wanted held Unmatched make h = absurd h
 held_is size env wanted held Made make h = ap (λ (t : Bool). cond t (make wanted) (Err Bytes)) (le-leb (length wanted) size h.0) ∙ ap make (sym h.1)
-held_is size env wanted held TooLong make h = ap (λ (t : Bool). cond t (make wanted) (Err Bytes)) (lt-leb (length wanted) size h)
+held_is size env wanted held (Failed Bytes) make h = ap (λ (t : Bool). cond t (make wanted) (Err Bytes)) (lt-leb (length wanted) size h)
+held_is size env wanted held (Failed Room) make h = absurd h
 
 -- where there is one, what the template with the groups makes
 pub matched : (size : ℕ) (env : Env) (pat : Pattern) (fmt : Fmt) (text : List ℕ) (make : List ℕ → Result Env Why) (m : Match) → find (pattern_of pat) text 0 ≡ Some m

@@ -1,11 +1,12 @@
 -- One field in the blocks of a head with a body behind it.
-use Rattle.std.proofs.Common.{◌≡◌, ℕ, zero, suc, ◌+◌, List, [], ◌∷◌, Bool, true, false, cond, refl, sym, ap, ◌∙◌, subst, set, add-one}
+use Rattle.std.proofs.Common.{◌≡◌, ℕ, zero, suc, ◌+◌, ◌≤◌, length, arith, List, [], ◌∷◌, Bool, true, false, cond, refl, sym, ap, ◌∙◌, subst, set, add-one}
 use Rattle.std.specs.Prelude.{Option, Some, Result, Ok, OnOk, OnErr, IsOk, ◌↔◌}
 use Rattle.std.specs.List.{slice_get}
 use Rattle.http_model.specs.declared.Why.{Why}
+use Rattle.htx_model.specs.Block.{weight}
 use Rattle.http_model.specs.Block.{Block, Header, kind_of, value_of, with_value}
 use Rattle.htx_model.specs.declared.Kind.TheVariants as kinds
-use Rattle.http_model.specs.Blocks.{append_data, block_at, Fits}
+use Rattle.http_model.specs.Blocks.{append_data, block_at, load, Fits}
 use Rattle.http_model.specs.Head.{Field, Head, line_block, header_block, front_blocks}
 use Rattle.header_ops.specs.Headers.{is_header_named}
 use Rattle.px_bytes.specs.Blanks.{trimmed}
@@ -23,9 +24,10 @@ use Rattle.http_rules.specs.declared.action.stepped.Stepped.TheVariants.{Done}
 use Rattle.px_pattern.specs.Pattern.{Pattern}
 use Rattle.log_format.specs.declared.fmt.Fmt.{Fmt}
 use Rattle.http_rules.specs.Action.Replacing.{by_extent, made_of_field, replace_in}
-use Rattle.http_rules.specs.Action.Filling.{edited_by}
+use Rattle.http_rules.specs.Action.Filling.{Counts, valued_by}
 use Rattle.http_rules.specs.Action.Turns.{has_name, named_step}
 use Rattle.http_rules.specs.Action.Outcome.{IsAt, Came, step_by}
+use Rattle.std.proofs.lemmas.List.Sums.{sum_by-cons}
 use Rattle.http_rules.proofs.ActionLemmas.Fronts.{behind_line, front_is}
 use Rattle.http_rules.proofs.ActionLemmas.Came.{good_value, edit_came}
 
@@ -105,11 +107,26 @@ revalued side env vars place field value text size at old new r step on here fou
     (edit_came side env vars (replacing.with_value env.head place field value) size old new (set old.blocks at (with_value (block_at old.blocks at) value)) r step on
     (set_front env.head env.body old.blocks at place field value on.blocks_are here found block) made fits same by))
 
+counted_in : (fields : List Field) (body : List ℕ) (k : ℕ) (f : Field) (v : List ℕ) → slice_get fields k ≡ Some f → length v ≤ load (behind_line (set fields k (f.0, v)) body)
+counted_in [] body k f v h = absurd cc
+counted_in (g ∷ fields) body zero f v h = omega (arith, sum_by-cons weight (Header f.0 v) (behind_line fields body))
+counted_in (g ∷ fields) body (suc k) f v h = omega (arith, counted_in fields body k f v h, sum_by-cons weight (header_block g) (behind_line (set fields k (f.0, v)) body))
+
+-- another value of the field counts in the array
+pub counted : (env : Env) (place : ℕ) (field : Field) → slice_get env.head.fields place ≡ Some field → Counts env (replacing.with_value env.head place field)
+counted env place field found value =
+    omega (
+      arith,
+      counted_in env.head.fields env.body place field value found,
+      ap load (front_is env.head.line (set env.head.fields place (field.0, value)) env.body),
+      sum_by-cons weight (line_block env.head.line) (behind_line (set env.head.fields place (field.0, value)) env.body),
+    )
+
 -- one field by what came of it
 pub refield : (side : Side) (env : Env) (vars : Variables) (extent : Extent) (size : ℕ) (pat : Pattern) (fmt : Fmt) (place at : ℕ) (text held : List ℕ) (f g : Filled) (step : Stepped) (old new : List Block)
     → IsAt side env old vars → at ≡ place + 1 → kind_of (block_at old at) ≡ kinds.Header → text ≡ value_of (block_at old at)
-    → ((make : List ℕ → Result Env Why) → by_extent extent size env pat fmt text make ≡ edited_by f held env make) → f ≡ g
-    → ((field : Field) → slice_get env.head.fields place ≡ Some field → Came side env (edited_by g held env (λ x. by_value size env x (replacing.with_value env.head place field))) step new vars)
+    → ((edit : List ℕ → Head) → Counts env edit → by_extent extent size env pat fmt text (λ x. by_value size env x edit) ≡ valued_by size f held env edit) → f ≡ g
+    → ((field : Field) → slice_get env.head.fields place ≡ Some field → Came side env (valued_by size g held env (replacing.with_value env.head place field)) step new vars)
     → Came side env (replace_in extent size pat fmt place env) step new vars
 refield side env vars extent size pat fmt place at text held f g step old new on here header lent filled told came =
     let seen = field_at side env vars old at place on here header in
@@ -118,7 +135,7 @@ refield side env vars extent size pat fmt place at text held f g step old new on
     subst (λ (o : Option Field). Came side env (made_of_field o env (λ fd. by_extent extent size env pat fmt fd.1 (λ x. by_value size env x (replacing.with_value env.head place fd)))) step new vars) (sym seen.1)
     (subst (λ (t : List ℕ). Came side env (by_extent extent size env pat fmt t (λ x. by_value size env x (replacing.with_value env.head place field))) step new vars) same
     (subst (λ (r : Result Env Why). Came side env r step new vars)
-    (sym (filled (λ x. by_value size env x (replacing.with_value env.head place field)) ∙ ap (λ (h : Filled). edited_by h held env (λ x. by_value size env x (replacing.with_value env.head place field))) told))
+    (sym (filled (replacing.with_value env.head place field) (counted env place field seen.1) ∙ ap (λ (h : Filled). valued_by size h held env (replacing.with_value env.head place field)) told))
     (came field seen.1)))
 
 -- a block of another name has no step

@@ -22,7 +22,7 @@ use Rattle.http_rules.specs.declared.action.stepped.Stepped.{Stepped}
 use Rattle.http_rules.specs.declared.action.stepped.Stepped.TheVariants.{Done, Failed}
 use Rattle.http_rules.specs.Action.Given.{Env, text_on}
 use Rattle.http_rules.specs.Action.Edits.{by_text, by_value, edited, fits_with, are_value_bytes}
-use Rattle.http_rules.specs.Action.Replacing.{matches, replaced, replaced_values, by_extent, places, replace_in, with_value, made_of_field}
+use Rattle.http_rules.specs.Action.Replacing.{matches, replaced, replaced_values, are_short, by_extent, places, replace_in, with_value, made_of_field}
 use Rattle.http_rules.specs.Action.Turns.{has_name, named_step, run_from, HadTurns}
 use Rattle.http_rules.specs.Action.Acts.{left_by, Act, Fails, after_step, run_steps}
 use Rattle.http_rules.specs.Action.Outcome.{IsAt, Came, Ran}
@@ -66,8 +66,9 @@ extent_left Whole size env pat fmt place text make all =
     (text_left size place env.head.fields (text_on size env fmt) (λ template. by_text size (replaced pat template text) make) (λ t. text_left size place env.head.fields (replaced pat t text) make all))
     (same_left place env)
 extent_left Values size env pat fmt place text make all =
-    either place env.head.fields (list_any (matches pat) (values_of text)) (by_text size (text_on size env fmt) (λ template. by_text size (replaced_values pat template text) make)) (Ok env)
-    (text_left size place env.head.fields (text_on size env fmt) (λ template. by_text size (replaced_values pat template text) make) (λ t. text_left size place env.head.fields (replaced_values pat t text) make all))
+    either place env.head.fields (list_any (matches pat) (values_of text)) (by_text size (text_on size env fmt) (λ template. cond (are_short size pat template text) (make (replaced_values pat template text)) (Err Bytes))) (Ok env)
+    (text_left size place env.head.fields (text_on size env fmt) (λ template. cond (are_short size pat template text) (make (replaced_values pat template text)) (Err Bytes))
+    (λ t. either place env.head.fields (are_short size pat t text) (make (replaced_values pat t text)) (Err Bytes) (all (replaced_values pat t text)) (none_left place env.head.fields Bytes)))
     (same_left place env)
 
 step_left : (extent : Extent) (size : ℕ) (pat : Pattern) (fmt : Fmt) (place : ℕ) (env : Env) → LeavesBehind place env.head.fields (replace_in extent size pat fmt place env)

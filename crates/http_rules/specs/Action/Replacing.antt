@@ -1,7 +1,8 @@
 -- Values in which a pattern matches, with a template in their place (Configuration Manual, section 4.2, "replace-header").
-use Rattle.std.specs.Prelude.{ℕ, suc, ◌+◌, List, [], ◌∷◌, ◌++◌, length, drop, slice_get, slice_set, slice_range, Bool, is_some, Option, Some, None, if◌then◌else◌, Result, Ok}
-use Rattle.std.specs.List.{list_any}
+use Rattle.std.specs.Prelude.{ℕ, suc, ◌+◌, List, [], ◌∷◌, ◌++◌, length, drop, slice_get, slice_set, slice_range, Bool, not, ◌||◌, nat_le, is_some, Option, Some, None, if◌then◌else◌, Result, Ok, Err}
+use Rattle.std.specs.List.{list_all, list_any}
 use Rattle.http_model.specs.declared.Why.{Why}
+use Rattle.http_model.specs.declared.Why.TheVariants.{Bytes}
 use Rattle.http_model.specs.Head.{Head, Field}
 use Rattle.http_model.specs.Fields.{is_named}
 use Rattle.px_bytes.specs.Values.{placed_values, values_of}
@@ -77,12 +78,22 @@ rebuilt make field from (placed ∷ others) =
 abbrev pub replaced_values : Pattern → (template field : List ℕ) → List ℕ
 replaced_values pat template field = rebuilt (replaced pat template) field 0 (placed_values field)
 
--- What is made of a field in a value of which the pattern matches, by the format's text: the whole field value, which is within
--- the buffer too.
+-- what takes the place of a value is within the buffer; nothing does where the pattern does not match
+abbrev pub is_short : (size : ℕ) → Pattern → (template value : List ℕ) → Bool
+is_short size pat template value = not (matches pat value) || nat_le (length (replaced pat template value)) size
+
+-- so is what takes the place of each value of a field
+abbrev pub are_short : (size : ℕ) → Pattern → (template field : List ℕ) → Bool
+are_short size pat template field = list_all (is_short size pat template) (values_of field)
+
+-- What is made of a field in a value of which the pattern matches, by the format's text: each text that takes the place of a value
+-- is within the buffer too. The new field value may be longer.
 abbrev pub by_matches : (size : ℕ) → Env → Pattern → Fmt → (field : List ℕ) → (List ℕ → Result Env Why) → Result Env Why
 by_matches size env pat fmt field make =
     if list_any (matches pat) (values_of field)
-    then by_text size (text_on size env fmt) (λ template. by_text size (replaced_values pat template field) make) else Ok env
+    then by_text size (text_on size env fmt) (λ template.
+    if are_short size pat template field then make (replaced_values pat template field) else Err Bytes)
+    else Ok env
 
 -- the values of one field, all of which are read before the field is edited
 abbrev pub replace_values : (size : ℕ) → Pattern → Fmt → ℕ → Step

@@ -87,16 +87,14 @@ format_of (Location fmt) = fmt
 format_of (Prefix fmt) = fmt
 format_of (Scheme fmt) = fmt
 
--- what a redirect makes of a location, which is within the buffer before it is trimmed; it fails for its bytes before it
--- fails for room
+-- what a redirect makes of a location; it fails for its bytes before it fails for room
 abbrev pub led_to : (size code : ℕ) → (location : List ℕ) → Result Message Why
 led_to size code location = if are_value_bytes location then fitting size (redirect_reply code (trimmed location)) else Err Bytes
 
 -- one step
 unfoldable pub redirected : (size : ℕ) → RedirectTo → (code : ℕ) → (drop_query append_slash : Bool) → Env → Result Message Why
 redirected size to code drop_query append_slash env =
-    by_text size (text_on size env (format_of to)) (λ text.
-    by_text size (location_on to drop_query append_slash text env) (led_to size code))
+    by_text size (text_on size env (format_of to)) (λ text. led_to size code (location_on to drop_query append_slash text env))
 
 -- ---- replies
 

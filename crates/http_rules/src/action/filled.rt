@@ -11,6 +11,7 @@ use crate::action::place::Place;
 use crate::action::replacement::Replacement;
 use crate::action::scratch::Scratch;
 use crate::action::texts::write_text;
+use http_model::Why;
 use px_conv::{Groups, expand};
 use px_expr::Searchers;
 use px_sample::{Buf, OutOfMemory};
@@ -23,14 +24,14 @@ pub(crate) enum Filled {
     Unmatched,
     /// A buffer holds what is made.
     Made,
-    /// What is made is longer than a buffer.
-    TooLong,
+    /// Nothing is made: it is too long.
+    Failed(Why),
 }
 
 ghost use Rattle.http_rules.specs.Action.Filling.{edited_by, IsHeld};
 
 /// Puts the groups into a template, over what a buffer holds.
-fn put_groups(template: &[u8], groups: &Groups, text: &[u8], into: &mut Buf) -> Filled
+pub(crate) fn put_groups(template: &[u8], groups: &Groups, text: &[u8], into: &mut Buf) -> Filled
     requires { LieIn (length text.now) groups.now }
     ensures held { IsHeld into.old.cap (expanded groups.now text.now template.now) result into.new.bytes }
     ensures cap { into.new.cap ≡ into.old.cap }
@@ -39,7 +40,7 @@ fn put_groups(template: &[u8], groups: &Groups, text: &[u8], into: &mut Buf) -> 
     if expand(template, groups, text, into) {
         Filled::Made
     } else {
-        Filled::TooLong
+        Filled::Failed(Why::Bytes)
     }
 }
 
@@ -61,7 +62,7 @@ pub(crate) fn fill(
         return Ok(Filled::Unmatched);
     };
     if !write_text(alloc, searchers, by.fmt, place, scratch)? {
-        return Ok(Filled::TooLong);
+        return Ok(Filled::Failed(Why::Bytes));
     }
     let Scratch {
         text: template,

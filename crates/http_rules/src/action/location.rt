@@ -1,11 +1,11 @@
 //! The location of a redirect: a prefix or a scheme and a host, in front of path and query of a target.
-ghost use Rattle.std.specs.Prelude.{◌≡◌, ◌≤◌, ◌↔◌, ◌++◌, length, codes, IsTrue};
-ghost use Rattle.std.specs.Bool.{OnTrue};
+ghost use Rattle.std.specs.Prelude.{◌≡◌};
 ghost use Rattle.uri_parts.specs.Target.{target_parts};
 ghost use Rattle.http_rules.specs.Action.Replies as spec;
+ghost use Rattle.http_rules.specs.Action.Joining.{Joins};
 ghost use Rattle.http_rules.specs.Action.Written.{led_target};
 
-use crate::action::line::join;
+use crate::action::joining::{Joined, join_three, put_piece};
 use crate::action::target::cut_query;
 use crate::action::word::is_word;
 use htx_arena::Arena;
@@ -89,56 +89,34 @@ fn behind_schemed(drop_query: bool, target: &[u8]) -> &[u8]
     if drop_query { &[] } else { led_query(target) }
 }
 
-/// Joins a location behind a prefix over what a buffer holds; false where it does not fit.
+/// Joins a location behind a prefix over what a buffer holds.
 pub(crate) fn join_prefixed(
     drop_query: bool,
     append_slash: bool,
     text: &[u8],
     target: &[u8],
     into: &mut Buf,
-) -> bool
-    ensures fits { IsTrue result ↔ (length (spec.prefixed drop_query append_slash text.now (target_parts target.now)) ≤ into.old.cap) }
-    ensures joined { OnTrue result (into.new.bytes ≡ spec.prefixed drop_query append_slash text.now (target_parts target.now)) }
+) -> Joined
+    ensures joins { Joins into.old.cap (spec.prefixed drop_query append_slash text.now (target_parts target.now)) result into.new.bytes }
     ensures cap { into.new.cap ≡ into.old.cap }
 {
     let behind = behind_prefixed(drop_query, append_slash, target);
-    join(led_prefix(text), led_path(target), behind, into)
+    join_three(led_prefix(text), led_path(target), behind, into)
 }
 
-/// Puts two more pieces behind three; false where they do not fit.
-fn join_five(
-    first: &[u8],
-    second: &[u8],
-    third: &[u8],
-    fourth: &[u8],
-    fifth: &[u8],
-    into: &mut Buf,
-) -> bool
-    ensures fits { IsTrue result ↔ (length (first.now ++ (second.now ++ (third.now ++ (fourth.now ++ fifth.now)))) ≤ into.old.cap) }
-    ensures joined { OnTrue result (into.new.bytes ≡ first.now ++ (second.now ++ (third.now ++ (fourth.now ++ fifth.now)))) }
-    ensures cap { into.new.cap ≡ into.old.cap }
-{
-    if !join(first, second, third, into) {
-        return false;
-    }
-    if !into.push(fourth) {
-        return false;
-    }
-    into.push(fifth)
-}
-
-/// Joins a location under a scheme over what a buffer holds; false where it does not fit.
+/// Joins a location under a scheme over what a buffer holds.
 pub(crate) fn join_schemed(
     drop_query: bool,
     text: &[u8],
     host: &[u8],
     target: &[u8],
     into: &mut Buf,
-) -> bool
-    ensures fits { IsTrue result ↔ (length (spec.schemed drop_query text.now host.now (target_parts target.now)) ≤ into.old.cap) }
-    ensures joined { OnTrue result (into.new.bytes ≡ spec.schemed drop_query text.now host.now (target_parts target.now)) }
+) -> Joined
+    ensures joins { Joins into.old.cap (spec.schemed drop_query text.now host.now (target_parts target.now)) result into.new.bytes }
     ensures cap { into.new.cap ≡ into.old.cap }
 {
     let behind = behind_schemed(drop_query, target);
-    join_five(text, b"://", host, led_path(target), behind, into)
+    let front = join_three(text, b"://", host, into);
+    let both = put_piece(front, led_path(target), into);
+    put_piece(both, behind, into)
 }

@@ -1,16 +1,17 @@
 //! `redirect` (RFC 9110 section 15.4).
-ghost use Rattle.std.specs.Prelude.{◌≡◌, ◌≤◌, ℕ, List, [], false, length, IsOk, IfOk};
+ghost use Rattle.std.specs.Prelude.{◌≡◌, ℕ, List, [], false, IsOk, IfOk};
 ghost use Rattle.uri_parts.specs.Target.{target_parts};
 ghost use Rattle.http_fetch.specs.Fetches.{host_in};
 ghost use Rattle.http_rules.specs.Rule.Actions.{location_holds_pattern};
 ghost use Rattle.http_rules.specs.Action.Given.{Env};
-ghost use Rattle.http_rules.specs.Action.Edits.{by_text};
 ghost use Rattle.http_rules.specs.Action.Replies as spec;
-ghost use Rattle.http_rules.specs.Action.Outcome.{IsScratch, IsPlaceOf, IsMade, Answers};
+ghost use Rattle.http_rules.specs.Action.Joining.{Joins};
+ghost use Rattle.http_rules.specs.Action.Outcome.{IsScratch, IsPlaceOf, Answers};
 ghost use Rattle.http_rules.specs.Action.Told.{redirect_of, location_of};
 ghost use Rattle.http_rules.specs.Action.Written.{led_target};
 
 use crate::action::fields::{are_value_bytes, step_of};
+use crate::action::joining::Joined;
 use crate::action::location::{join_prefixed, join_schemed, led_target};
 use crate::action::place::Place;
 use crate::action::scratch::Scratch;
@@ -46,7 +47,7 @@ fn format_of(to: &RedirectTo) -> &Fmt
     }
 }
 
-/// Writes the redirect to a location that is within the array's size.
+/// Writes the redirect to a location.
 fn lead_to(code: u16, location: &[u8], reply: &mut Arena) -> Stepped
     requires { reply.old.blocks ≡ [] }
     ensures came { Answers (spec.led_to reply.old.size code location.now) result reply.new.blocks }
@@ -58,16 +59,17 @@ fn lead_to(code: u16, location: &[u8], reply: &mut Arena) -> Stepped
     step_of(px_reply::redirect(code, trim(location), reply))
 }
 
-/// Writes the redirect to a location, if that was held.
-fn lead_if(held: bool, code: u16, location: &[u8], reply: &mut Arena) -> Stepped
+/// Writes the redirect to a location that was joined: it fails for a byte of it before it fails for room.
+fn lead_by(joined: Joined, code: u16, location: &[u8], reply: &mut Arena) -> Stepped
     requires { reply.old.blocks ≡ [] }
-    ensures came { (wanted : List ℕ) → IsMade reply.old.size wanted held location.now → Answers (by_text reply.old.size wanted (spec.led_to reply.old.size code)) result reply.new.blocks }
+    ensures came { (wanted : List ℕ) → Joins reply.old.size wanted joined location.now → Answers (spec.led_to reply.old.size code wanted) result reply.new.blocks }
     ensures size { reply.new.size ≡ reply.old.size }
 {
-    if !held {
-        return Stepped::Failed(Why::Bytes);
+    match joined {
+        Joined::Held => lead_to(code, location, reply),
+        Joined::Over => Stepped::Failed(Why::Room),
+        Joined::Bad => Stepped::Failed(Why::Bytes),
     }
-    lead_to(code, location, reply)
 }
 
 /// Writes the redirect by the text of its format. `made` takes the location.
@@ -80,8 +82,7 @@ fn lead(
 ) -> Stepped
     requires empty { reply.old.blocks ≡ [] }
     requires made { made.old.cap ≡ reply.old.size }
-    requires within { length text.now ≤ reply.old.size }
-    ensures came { Answers (by_text reply.old.size (location_of destination.entry text.now (host_in msg.now.blocks) (target_parts (led_target msg.now.blocks))) (spec.led_to reply.old.size destination.entry.code)) result reply.new.blocks }
+    ensures came { Answers (spec.led_to reply.old.size destination.entry.code (location_of destination.entry text.now (host_in msg.now.blocks) (target_parts (led_target msg.now.blocks)))) result reply.new.blocks }
     ensures size { reply.new.size ≡ reply.old.size }
     ensures made { made.new.cap ≡ made.old.cap }
 {
@@ -92,14 +93,14 @@ fn lead(
         append_slash,
     } = destination;
     match to {
-        RedirectTo::Location(_) => lead_if(true, code, text, reply),
+        RedirectTo::Location(_) => lead_to(code, text, reply),
         RedirectTo::Prefix(_) => {
-            let held = join_prefixed(drop_query, append_slash, text, led_target(msg), made);
-            lead_if(held, code, made.bytes(), reply)
+            let joined = join_prefixed(drop_query, append_slash, text, led_target(msg), made);
+            lead_by(joined, code, made.bytes(), reply)
         }
         RedirectTo::Scheme(_) => {
-            let held = join_schemed(drop_query, text, host_in(msg), led_target(msg), made);
-            lead_if(held, code, made.bytes(), reply)
+            let joined = join_schemed(drop_query, text, host_in(msg), led_target(msg), made);
+            lead_by(joined, code, made.bytes(), reply)
         }
     }
 }

@@ -10,6 +10,13 @@ pub(crate) struct Replacement<'a> {
     pub(crate) fmt: &'a Fmt,
 }
 
+/// A pattern, and the text of that format.
+#[derive(Clone, Copy)]
+pub(crate) struct Template<'a> {
+    pub(crate) pat: &'a Pat,
+    pub(crate) text: &'a [u8],
+}
+
 /// A replacement in the fields of a name.
 #[derive(Clone, Copy)]
 pub(crate) struct FieldReplacement<'a> {

@@ -1,10 +1,9 @@
 //! `replace-header` and `replace-value`: one step for each field of the name, in order.
-ghost use Rattle.std.specs.Prelude.{◌≡◌, ◌<◌, ◌+◌, List, ℕ, Result, IfOk, IsTrue, Some, length, map};
+ghost use Rattle.std.specs.Prelude.{◌≡◌, ◌<◌, ◌+◌, List, ℕ, IfOk, IsTrue, Some, length, map};
 ghost use Rattle.std.specs.List.{slice_get};
 ghost use Rattle.htx_model.specs.Block.{kind_of};
 ghost use Rattle.htx_model.specs.declared.Kind.TheVariants.{Header};
-ghost use Rattle.http_model.specs.declared.Why.{Why as Reason};
-ghost use Rattle.http_model.specs.Head.{Field};
+ghost use Rattle.http_model.specs.Head.{Field, Head};
 ghost use Rattle.htx_arena.specs.Blocks.{block_at};
 ghost use Rattle.header_ops.specs.Headers.{is_header_named};
 ghost use Rattle.px_sample.specs.Variables.{Variables};
@@ -14,7 +13,7 @@ ghost use Rattle.http_rules.specs.Action.Edits.{by_value};
 ghost use Rattle.http_rules.specs.Action.Replacing.{by_extent, places, replace_in, with_value};
 ghost use Rattle.http_rules.specs.Action.Acts.{run_steps};
 ghost use Rattle.http_rules.specs.Action.Outcome.{IsScratch, IsAt, IsPlaceOf, Came, Ran, IsFront};
-ghost use Rattle.http_rules.specs.Action.Filling.{edited_by};
+ghost use Rattle.http_rules.specs.Action.Filling.{Counts, valued_by};
 ghost use Rattle.http_rules.specs.Action.Turns.{named_step};
 
 use crate::action::extent::Extent;
@@ -70,8 +69,9 @@ fn fill_field(
     scratch: &mut Scratch,
 ) -> Result<Filled, OutOfMemory>
     requires { IsScratch place.msg.now.size scratch.old }
-    ensures filled { IfOk result (λ filled. (env : Env) (make : List ℕ → Result Env Reason) → IsPlaceOf env place.entry
-        → by_extent extent place.entry.msg.now.size env by.entry.pat.now by.entry.fmt.now field.now make ≡ edited_by filled scratch.new.made.bytes env make) }
+    ensures filled { IfOk result (λ filled. (env : Env) (edit : List ℕ → Head) → IsPlaceOf env place.entry → Counts env edit
+        → by_extent extent place.entry.msg.now.size env by.entry.pat.now by.entry.fmt.now field.now (λ text. by_value place.entry.msg.now.size env text edit)
+        ≡ valued_by place.entry.msg.now.size filled scratch.new.made.bytes env edit) }
     ensures scratch { IsScratch place.entry.msg.now.size scratch.new }
 {
     match extent {
@@ -104,7 +104,7 @@ fn replace_field(
     let place = Place { msg, setting };
     match fill_field(alloc, searchers, extent, by, field, place, scratch)? {
         Filled::Unmatched => Ok(Stepped::Done),
-        Filled::TooLong => Ok(Stepped::Failed(Why::Bytes)),
+        Filled::Failed(why) => Ok(Stepped::Failed(why)),
         Filled::Made => Ok(put_value(msg, at, scratch.made.bytes())),
     }
 }

@@ -15,7 +15,6 @@ use crate::action::replacement::Replacement;
 use crate::action::scratch::Scratch;
 use crate::action::stepped::Stepped;
 use crate::action::target::part_of;
-use http_model::Why;
 use htx_arena::Arena;
 use htx_view::request_parts;
 use px_expr::Searchers;
@@ -64,7 +63,7 @@ pub(crate) fn replace_part(
     let place = Place { msg, setting };
     match fill(alloc, searchers, by, text, place, scratch)? {
         Filled::Unmatched => Ok(Stepped::Done),
-        Filled::TooLong => Ok(Stepped::Failed(Why::Bytes)),
+        Filled::Failed(why) => Ok(Stepped::Failed(why)),
         Filled::Made => Ok(put_made(part, msg, scratch)),
     }
 }

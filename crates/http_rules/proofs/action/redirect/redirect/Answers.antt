@@ -1,7 +1,6 @@
 use Rattle.std.proofs.Common.{ap, subst}
 use Rattle.uri_parts.specs.Target.{target_parts}
 use Rattle.http_fetch.specs.Fetches.{host_in}
-use Rattle.http_rules.specs.Action.Edits.{by_text}
 use Rattle.http_rules.specs.Action.Given.{text_on}
 use Rattle.http_rules.specs.Action.Outcome.{Answers}
 use Rattle.http_rules.specs.Action.Replies.{location_by, led_to}
@@ -24,5 +23,5 @@ returns-clause-came c =
     let old = c.args.place.msg.now.blocks in
     led c.args.place.setting.side size c.args.destination.code to c.args.destination.drop_query c.args.destination.append_slash env c.in_ok-write_text.field-0 (text_on size env c.format_of-fmt.result.now) c.write_text.new.scratch.text.bytes c.bytes.result.now old c.args.place.setting.vars.now
     c.lead.result c.lead.new.reply.blocks at (ap (text_on size env) c.format_of-fmt.ensures) (c.in_ok-write_text.ensures.made env at) c.if-not-branch.false c.bytes.ensures.bytes
-    (subst (λ n. Answers (by_text n (location_by to c.args.destination.drop_query c.args.destination.append_slash c.bytes.result.now (host_in old) (target_parts (led_target old))) (led_to n c.args.destination.code)) c.lead.result c.lead.new.reply.blocks)
+    (subst (λ n. Answers (led_to n c.args.destination.code (location_by to c.args.destination.drop_query c.args.destination.append_slash c.bytes.result.now (host_in old) (target_parts (led_target old)))) c.lead.result c.lead.new.reply.blocks)
     c.requires.sizes c.lead.ensures.came)
