@@ -6,11 +6,17 @@ use Rattle.http_model.specs.declared.Ending.{Ending}
 use Rattle.http_model.specs.declared.Ending.TheVariants.{Closed, Broke}
 use Rattle.session_model.specs.Stream.{Stream, Server, NotThere, Open}
 use Rattle.session_core.specs.History as history
-use Rattle.session_core.specs.History.{Connect, Continues, ContinuesBy, ContinuesServer}
+use Rattle.session_core.specs.History.{Past, Connect, Continues, ContinuesBy, ContinuesServer}
+use Rattle.session_core.specs.Consequences.{out_of_past}
+use Rattle.session_model.specs.Meaning.{Meaning}
 use Rattle.px_link.specs.Link.{Seen}
+use Rattle.px_link.specs.Net.{Place, NetSeen, Kept}
+use Rattle.px_link.specs.Net as net
 use Rattle.htx_drive.specs.Came.{Came, EndsSo}
 use Rattle.htx_drive.specs.Dialled.{Dial, IsDial, IsDialBy, IsServed}
-use Rattle.htx_drive.specs.Headline.{stream_by, stream_of, IsServerOf}
+use Rattle.htx_drive.specs.Headline.{stream_by, stream_of, IsServerOf, IsSessionOf}
+use Rattle.htx_drive.specs.Ran.{RanSo}
+use Rattle.htx_drive.specs.declared.Ran.{Ran}
 use Rattle.htx_drive.proofs.Reading.{at_some}
 
 continues_by : (first now : Seen) (how : Option Ending) (came own rest : List ℕ) (ending : Ending) → own ≡ came ++ rest → (how ≡ Some Closed → rest ≡ []) → first.ending ≡ Some ending → EndsSo first now how
@@ -73,3 +79,46 @@ found_all plain (d ∷ ds) all =
 
 pub found : (plain : Type 0) (ds : List Dial) (cs : List Connect) → map (λ (d : Dial). d.connect) ds ≡ cs → AllByRecursion (IsDial plain) ds → Found ds cs
 found plain ds cs e all = let P : List Connect → Type 0 = λ l. Found ds l in subst P e (found_all plain ds all)
+
+-- ---- the session of a past
+
+-- it is the session of just this past
+pub record SessionOfPast {L : Type 0} (M : Meaning) (seen : L → Seen) (wrote : L → List ℕ → Type 0) (first client : L) (to : Place) (first_net now : NetSeen) (ran : Ran) (own : List ℕ) (ending : Ending) (answers : List (Option net.Coming)) (ks : List Kept) (past : Past) : Type 0 where
+  pub session : IsSessionOf M seen wrote first client to first_net now ran own ending answers ks
+  pub client_stream : Continues past.client (stream_of session.came own ending)
+  pub server_streams : AllZip ContinuesServer past.connects session.servers
+  pub came_to : session.out ≡ out_of_past past past.taken ran.exchanges ran.end
+
+pub session_of_past : {L : Type 0} (M : Meaning) (stands : Past → Type 0) (seen : L → Seen) (wrote : L → List ℕ → Type 0) (first client : L) (to : Place) (first_net now : NetSeen) (ran : Ran) (own : List ℕ) (ending : Ending) (answers : List (Option net.Coming)) (ks : List Kept)
+    → (seen first).to_come ≡ Some own → (seen first).ending ≡ Some ending → first_net.answers ≡ Some answers → first_net.kept ≡ Some ks
+    → (r : RanSo M stands seen wrote first client to first_net now ran) → SessionOfPast M seen wrote first client to first_net now ran own ending answers ks r.past
+session_of_past M stands seen wrote first client to first_net now ran own ending answers ks told_own told_ending told_answers told_kept r =
+    let t = r.dials.told answers ks told_answers told_kept in
+    let f = found _ t.dials r.past.connects t.connects t.each in
+    let goes_on = continues (seen first) (seen client) r.past.client own ending told_own told_ending r.came in
+    record {
+      session = record {
+        came = r.past.client;
+        read_client = r.came;
+        plain = plain_stream (seen first) (seen client) r.past.client own ending told_own told_ending r.came;
+        connects = r.past.connects;
+        told = t;
+        servers = f.servers;
+        found = f.found;
+        out = out_of_past r.past r.past.taken ran.exchanges ran.end;
+        session = r.session _ f.servers goes_on f.go_on;
+        how = refl;
+        count = refl;
+        bit = sym r.bit;
+        wrote_client = r.put.wrote;
+        closed_client = r.closed;
+        sent = refl;
+        over = r.over;
+        refused = r.dials.refused;
+        lent = r.dials.lent;
+        dialled = r.dials.dialled;
+      };
+      client_stream = goes_on;
+      server_streams = f.go_on;
+      came_to = refl;
+    }

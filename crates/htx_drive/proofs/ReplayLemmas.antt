@@ -5,3 +5,4 @@ pub mod Reported
 pub mod Stops
 pub mod Streams
 pub mod Whole
+pub mod Turned

@@ -12,6 +12,7 @@ use Rattle.rec_format.specs.declared.record.RecKind.{RecKind}
 use Rattle.rec_format.specs.Recorded.{Recorded}
 use Rattle.rec_format.specs.Written.{written}
 use Rattle.htx_drive.specs.Replay.Written.{IsReplayOf, IsDrillOf}
+use Rattle.proxy_call.specs.Sessions.Driven.{stands_for, seen_of}
 use Rattle.proxy_call.specs.Lines.{accepted_line, refused_line, record_line, file_line}
 use Rattle.proxy_call.specs.Files.{IfTold, Builder, Configured, IsBuilt, RecordIs, Refuses, Say}
 use Rattle.proxy_call.specs.declared.status.Status.{Status}
@@ -45,14 +46,14 @@ abbrev pub IsRecordRefusedOf : Option (List NamedBytes) → (rec_name text : Lis
 IsRecordRefusedOf files rec_name text =
     (place : ℕ) × (kind : RecKind) × IfTold files (λ fs. RecordIs fs rec_name (Err (record { place = place; kind = kind }))) × (text ≡ record_line place kind)
 
--- the text is the report of the record in its format, by what the configuration makes of its connections
+-- the text is the report of the record in its format, by what the configuration makes of its connections, each by its own turns
 abbrev pub IsReportOf : Option (List NamedBytes) → (cfg_name rec_name text : List ℕ) → Type 0
 IsReportOf files cfg_name rec_name text =
-    (cfg : Config) × (rec : Recorded) × IfTold files (λ fs. Say fs cfg_name rec_name cfg rec) × IsReplayOf (meaning_of cfg) rec text
+    (cfg : Config) × (rec : Recorded) × IfTold files (λ fs. Say fs cfg_name rec_name cfg rec) × IsReplayOf (meaning_of cfg) (stands_for cfg) seen_of rec text
 
 -- the text is the lines of the generated session, by what its own configuration makes of it
 abbrev pub IsDrilled : (seed exchanges : ℕ) → (text : List ℕ) → Type 0
-IsDrilled seed exchanges text = (cfg : Config) × (config_of configuration None ≡ Ok cfg) × IsDrillOf (meaning_of cfg) seed exchanges text
+IsDrilled seed exchanges text = (cfg : Config) × (config_of configuration None ≡ Ok cfg) × IsDrillOf (meaning_of cfg) (stands_for cfg) seen_of seed exchanges text
 
 -- The name is that of the record: `check --record` reads it at once, and `replay` only where the configuration is accepted and each of its patterns
 -- was built.

@@ -1,3 +1,4 @@
 pub mod Connections
+pub mod Driven
 pub mod Ready
 pub mod Spare

@@ -8,13 +8,15 @@ use Rattle.http_model.specs.declared.Close.TheVariants.{Failed}
 use Rattle.http_model.specs.declared.End.{End}
 use Rattle.px_link.specs.Link.{Seen, Takes, MayRefuse}
 use Rattle.px_link.specs.Net.{Place, Coming, Kept}
+use Rattle.px_link.specs.declared.turns.Turn.{Turn}
 use Rattle.px_link.specs.Calls.{fails_none}
 use Rattle.px_link.specs.MemLink.{MemLinkSeen, link_of}
 use Rattle.px_link.specs.MemNet.{MemNetSeen, keeping}
 use Rattle.session_model.specs.Meaning.{Meaning}
 use Rattle.session_model.specs.Stream.{Stream, Sent}
 use Rattle.session_model.specs.Session.{Out, Session}
-use Rattle.session_core.specs.History.{sent_of, Connect}
+use Rattle.session_core.specs.History.{Past, sent_of, Connect, Continues}
+use Rattle.session_core.specs.Consequences.{out_of_past}
 use Rattle.htx_drive.specs.Budget.{coming_size, enough}
 use Rattle.htx_drive.specs.Driven.{IsOver}
 use Rattle.htx_drive.specs.Dialled.{CountsRefused, Dial, IsPlain, all_there}
@@ -28,7 +30,8 @@ use Rattle.htx_drive.specs.Replay.Memory.{answer_of, size_of, IsEnough}
 use Rattle.htx_drive.specs.Replay.Nets.{seen_by}
 use Rattle.htx_drive.specs.Replay.Outcome.{sent_on, servers_sent, refused_by, outcome}
 use Rattle.htx_drive.specs.Replay.Replayed.{Finds, Replays}
-use Rattle.htx_drive.specs.Replay.Seen.{IsFresh, IsFreshNet, RanOver}
+use Rattle.htx_drive.specs.Replay.Seen.{IsFresh, IsFreshNet, RanOver, RanByTurns}
+use Rattle.htx_drive.specs.Machine.{CoreSeen}
 use Rattle.htx_drive.proofs.ReplayLemmas.Dials.{connects, sents, kept_sent, refused_if_not, sends, counts, kept_links, finds}
 use Rattle.htx_drive.proofs.ReplayLemmas.Lasts.{OnlyLast, session_last}
 
@@ -105,10 +108,18 @@ client_is : (M : Meaning) (visit : Visit) (to : Place) (first client : MemLinkSe
 client_is M visit to first client first_net none net refused ran f s =
     same_sent s.out.client.bytes client.written s.out.client.close (unwrap_or client.closed Failed) (s.wrote_client [] (sym f.written)) (sym (closed_is client.closed s.out.client.close s.closed_client))
 
+-- the outcome with its own number of exchanges and its own end
+own_numbers : (past : Past) (ran : Ran) (client : MemLinkSeen) (net : MemNetSeen) (refused : ℕ) (out : Out) → out ≡ outcome ran client net refused → out ≡ out_of_past past past.taken ran.exchanges ran.end → out ≡ out_of_past past past.taken out.exchanges out.how
+own_numbers past ran client net refused out is by =
+    by
+    ∙ ap (λ (n : ℕ). out_of_past past past.taken n ran.end) (sym (ap (λ (o : Out). o.exchanges) is))
+    ∙ ap (λ (e : End). out_of_past past past.taken out.exchanges e) (sym (ap (λ (o : Out). o.how) is))
+
 -- the session that was run is the outcome's
-pub replays : (M : Meaning) (visit : Visit) (to : Place) (first client : MemLinkSeen) (first_net : MemNetSeen) (none : ℕ) (net : MemNetSeen) (refused : ℕ) (ran : Ran) (out : Out) → IsFresh visit.client None first → IsFreshNet visit.servers first_net none
-    → RanOver M visit to first client first_net none net refused ran → out ≡ outcome ran client net refused → Replays M visit out
-replays M visit to first client first_net none net refused ran out f g s is =
+pub replays : {C : Type 0} (M : Meaning) (stands : C → Past → Type 0) (seen : C → CoreSeen) (turns left : List Turn) (visit : Visit) (to : Place) (first client : MemLinkSeen) (first_net : MemNetSeen) (none : ℕ) (net : MemNetSeen) (refused : ℕ) (ran : Ran) (out : Out) → IsFresh visit.client None first → IsFreshNet visit.servers first_net none
+    → RanByTurns M stands seen turns left visit to first client first_net none net refused ran → out ≡ outcome ran client net refused → Replays M stands seen turns visit out
+replays M stands seen turns left visit to first client first_net none net refused ran out f g r is =
+    let s = r.session in
     let t = s.told in
     let stream = s.plain (ap (λ (s : Seen). s.plain) f.seen) in
     let same : s.out ≡ outcome ran client net refused =
@@ -125,6 +136,14 @@ replays M visit to first client first_net none net refused ran out f g s is =
       servers = s.servers;
       found = subst G (same ∙ sym is) (subst F sent found);
       session = subst R (same ∙ sym is) (subst S stream s.session);
+      led = record {
+        past = r.past;
+        left = left;
+        turned = r.turned;
+        client_stream = subst (λ (c : Stream). Continues r.past.client c) stream r.client_stream;
+        server_streams = r.server_streams;
+        came_to = own_numbers r.past ran client net refused out is (is ∙ sym same ∙ r.came_to);
+      };
     }
 
 -- ---- why a session over links in memory can't be given up

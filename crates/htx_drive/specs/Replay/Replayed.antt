@@ -1,11 +1,17 @@
 -- What the sessions of a record come to.
-use Rattle.std.specs.Prelude.{◌≡◌, ◌↔◌, ℕ, ◌<◌, ◌≤◌, List, [], ◌∷◌, length, take, Bool, true, false, Option, Some, None, ⊤}
+use Rattle.std.specs.Prelude.{◌≡◌, ◌↔◌, ℕ, ◌+◌, ◌<◌, ◌≤◌, List, [], ◌∷◌, length, take, Bool, true, false, Option, Some, None, ⊤}
 use Rattle.std.specs.List.{AllZip}
 use Rattle.session_model.specs.Meaning.{Meaning}
 use Rattle.session_model.specs.Stream.{Stream, Server, NotThere, Open, Sent, Takes}
 use Rattle.session_model.specs.Session.{Out, Session}
+use Rattle.session_core.specs.History.{Past, Continues, ContinuesServer}
+use Rattle.session_core.specs.Consequences.{out_of_past}
+use Rattle.px_link.specs.declared.turns.Turn.{Turn}
 use Rattle.rec_format.specs.Entries.{ServerEntry}
 use Rattle.rec_format.specs.Recorded.{Visit}
+use Rattle.htx_drive.specs.Machine.{CoreSeen}
+use Rattle.htx_drive.specs.Turned.{InTurns}
+use Rattle.htx_drive.specs.Replay.Memory.{turns_of}
 
 -- How a server of a record takes what it is sent. Without a number it never stops; with one it stopped only behind so many bytes,
 -- and took no more.
@@ -44,12 +50,31 @@ Finds (entry ∷ entries) (server ∷ servers) (sent ∷ others) = IsFound entry
 Finds entries [] (sent ∷ others) = ⊥
 Finds entries (server ∷ servers) [] = ⊥
 
--- The outcome is that of a session of the connection's client with the servers that its connects found.
-pub record Replays (M : Meaning) (visit : Visit) (out : Out) : Type 0 where
+-- These turns led to the outcome: to a history of this client's stream and of these servers, in which was sent just what the outcome says. They were
+-- taken as `InTurns` says, by the wants of cores that stand for the history so far; `left` is what is left of them.
+pub record LedTo {C : Type 0} (stands : C → Past → Type 0) (seen : C → CoreSeen) (turns : List Turn) (client : Stream) (servers : List Server) (out : Out) : Type 0 where
+  pub past : Past
+  pub left : List Turn
+  pub turned : InTurns stands seen turns true left past
+  pub client_stream : Continues past.client client
+  pub server_streams : AllZip ContinuesServer past.connects servers
+  pub came_to : out ≡ out_of_past past past.taken out.exchanges out.how
+
+-- The outcome is that of a session of the connection's client with the servers that its connects found, and these turns led to it.
+pub record Replays {C : Type 0} (M : Meaning) (stands : C → Past → Type 0) (seen : C → CoreSeen) (turns : List Turn) (visit : Visit) (out : Out) : Type 0 where
   pub servers : List Server
   pub found : Finds visit.servers servers out.servers
   pub session : Session M visit.client servers out
+  pub led : LedTo stands seen turns visit.client servers out
 
--- each connection has such an outcome, in their order
-abbrev pub ReplaysAll : Meaning → List Visit → List Out → Type 0
-ReplaysAll M visits outs = AllZip (Replays M) visits outs
+-- each connection from the one of this number on has such an outcome, in their order, by just the turns of its own number
+abbrev pub ReplaysFrom : {C : Type 0} → Meaning → (C → Past → Type 0) → (C → CoreSeen) → List (ℕ × Turn) → (owner : ℕ) → List Visit → List Out → Type 0
+ReplaysFrom M stands seen turns owner [] [] = ⊤
+ReplaysFrom M stands seen turns owner (visit ∷ visits) (out ∷ outs) =
+    Replays M stands seen (turns_of owner turns) visit out × ReplaysFrom M stands seen turns (owner + 1) visits outs
+ReplaysFrom M stands seen turns owner [] (out ∷ outs) = ⊥
+ReplaysFrom M stands seen turns owner (visit ∷ visits) [] = ⊥
+
+-- each connection has, the first of which is number 1
+abbrev pub ReplaysAll : {C : Type 0} → Meaning → (C → Past → Type 0) → (C → CoreSeen) → List (ℕ × Turn) → List Visit → List Out → Type 0
+ReplaysAll M stands seen turns visits outs = ReplaysFrom M stands seen turns 1 visits outs

@@ -5,7 +5,7 @@ ghost use Rattle.px_link.specs.Net.{address_of};
 ghost use Rattle.rec_format.specs.Read.{visit, visits};
 ghost use Rattle.rec_format.specs.ReportParts.{out_of};
 ghost use Rattle.htx_drive.specs.Replay.Replayed.{Replays, ReplaysAll};
-ghost use Rattle.htx_drive.specs.Replay.Seen.{IsFresh, IsFreshNet, RanOver};
+ghost use Rattle.htx_drive.specs.Replay.Seen.{IsFresh, IsFreshNet, RanByTurns};
 
 use crate::replay::budget::budget_of;
 use crate::replay::cores::Cores;
@@ -14,7 +14,7 @@ use crate::replay::links::{client_link, net_for};
 use crate::replay::outcome::report_of;
 use crate::replay::record_net::RecordNet;
 use crate::replay::turns::turns_of;
-use crate::{Address, Machine, OutOfMemory, Ran, SessionFault, Turn, laws, run_session};
+use crate::{Address, Machine, OutOfMemory, Ran, SessionFault, Turn, run_session};
 use px_link::{ListTurns, MemLink};
 use rec_format::{Connection, Record, Report};
 use std::alloc::Global;
@@ -44,12 +44,11 @@ fn run_over<C: Machine, K: Cores<C>>(
     requires sound { C.sound core.old }
     requires client { IsFresh (visit conn.now).client None client.old }
     requires net { IsFreshNet (visit conn.now).servers net.old.net net.old.refused }
-    ensures { IfOk result (RanOver (C.meaning (K.settings cores.now)) (visit conn.now) (address_of to.now) client.old client.new net.old.net net.old.refused net.new.net net.new.refused) }
+    ensures { IfOk result (RanByTurns (C.meaning (K.settings cores.now)) (C.stands (K.settings cores.now)) C.seen turns.old turns.new (visit conn.now) (address_of to.now) client.old client.new net.old.net net.old.refused net.new.net net.new.refused) }
 {
     let Some(budget) = budget_of(conn, cores.bufsize()) else {
         return Err(OutOfMemory);
     };
-    laws::ran_is_the_session::<C, MemLink, RecordNet>();
     only_want_of_memory_gives_up::<C, K>();
     match run_session(core, to, client, net, turns, budget) {
         Ok(ran) => Ok(ran),
@@ -57,7 +56,7 @@ fn run_over<C: Machine, K: Cores<C>>(
     }
 }
 
-/// Runs the session of a connection, and reports it. Want of memory is the only error.
+/// Runs the session of a connection by these turns, and reports it. Want of memory is the only error.
 pub fn replay_connection<C: Machine + Drop, K: Cores<C>>(
     alloc: Global,
     cores: &K,
@@ -66,7 +65,7 @@ pub fn replay_connection<C: Machine + Drop, K: Cores<C>>(
     turns: Vec<Turn>,
 ) -> Result<Report, OutOfMemory>
     requires ready { K.ready cores.now }
-    ensures { IfOk result (λ report. Replays (C.meaning (K.settings cores.now)) (visit conn.now) (out_of report)) }
+    ensures { IfOk result (λ report. Replays (C.meaning (K.settings cores.now)) (C.stands (K.settings cores.now)) C.seen turns.items (visit conn.now) (out_of report)) }
 {
     let mut client = client_link(alloc, &conn.client)?;
     let mut net = net_for(alloc, &conn.servers)?;
@@ -84,7 +83,8 @@ pub fn replay_connection<C: Machine + Drop, K: Cores<C>>(
     report_of(alloc, ran, &client, &net)
 }
 
-/// Runs the sessions of a record one after another, each with a core and with turns of its own. Want of memory is the only error.
+/// Runs the sessions of a record one after another, each with a core of its own and by the turns of its number. Want of memory is the
+/// only error.
 pub fn replay<C: Machine + Drop, K: Cores<C>>(
     alloc: Global,
     cores: &K,
@@ -92,12 +92,12 @@ pub fn replay<C: Machine + Drop, K: Cores<C>>(
     recorded: &Record,
 ) -> Result<Vec<Report>, OutOfMemory>
     requires ready { K.ready cores.now }
-    ensures { IfOk result (λ reports. ReplaysAll (C.meaning (K.settings cores.now)) (visits recorded.now.conns.items) (map out_of reports.items)) }
+    ensures { IfOk result (λ reports. ReplaysAll (C.meaning (K.settings cores.now)) (C.stands (K.settings cores.now)) C.seen recorded.now.turns.items (visits recorded.now.conns.items) (map out_of reports.items)) }
 {
     let mut reports = Vec::new(alloc);
-    let mut owner = 0u32;
+    let mut owner = 0u64;
     for conn in &recorded.conns {
-        owner = owner.saturating_add(1);
+        owner += 1;
         let turns = turns_of(alloc, owner, &recorded.turns)?;
         let report = replay_connection(alloc, cores, to, conn, turns)?;
         reports.push(report)?;

@@ -21,7 +21,7 @@ pub fn replay_text<C: Machine + Drop, K: Cores<C>>(
 ) -> Result<Bytes, OutOfMemory>
     requires ready { K.ready cores.now }
     requires reportable { Reportable recorded.now.version (vec_len recorded.now.conns) }
-    ensures { IfOk result (IsReplayOf (C.meaning (K.settings cores.now)) (meaning_of recorded.now)) }
+    ensures { IfOk result (IsReplayOf (C.meaning (K.settings cores.now)) (C.stands (K.settings cores.now)) C.seen (meaning_of recorded.now)) }
 {
     let reports = replay(alloc, cores, to, recorded)?;
     let text = write_reports(alloc, recorded.version, &reports);
@@ -38,7 +38,7 @@ pub fn drill_text<C: Machine + Drop, K: Cores<C>>(
     exchanges: u32,
 ) -> Result<Bytes, OutOfMemory>
     requires ready { K.ready cores.now }
-    ensures { IfOk result (IsDrillOf (C.meaning (K.settings cores.now)) seed exchanges) }
+    ensures { IfOk result (IsDrillOf (C.meaning (K.settings cores.now)) (C.stands (K.settings cores.now)) C.seen seed exchanges) }
 {
     let conn = drill(alloc, seed, exchanges)?;
     let replayed = replay_connection(alloc, cores, to, &conn, Vec::new(alloc));

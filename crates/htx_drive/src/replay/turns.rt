@@ -6,12 +6,12 @@ use crate::{OutOfMemory, Turn};
 use std::alloc::Global;
 
 /// The turns of the connection of this number, counted from 1, in their order.
-pub fn turns_of(alloc: Global, owner: u32, turns: &[(u32, Turn)]) -> Result<Vec<Turn>, OutOfMemory>
+pub fn turns_of(alloc: Global, owner: u64, turns: &[(u32, Turn)]) -> Result<Vec<Turn>, OutOfMemory>
     ensures { IfOk result (λ own. own.items ≡ turns_of owner turns.now) }
 {
     let mut own = Vec::new(alloc);
     for turn in turns {
-        if turn.0 == owner {
+        if u64::from(turn.0) == owner {
             own.push(turn.1)?;
         }
     }

@@ -7,7 +7,7 @@ ghost use Rattle.session_core.specs.Leads.{Stands};
 ghost use Rattle.session_core.specs.Place.{IsPlaced};
 ghost use Rattle.session_core.specs.Place as place;
 ghost use Rattle.session_core.specs.Waits.{is_serving};
-ghost use Rattle.forward_core.specs.Joined.Joined.{DirectionsStand, Placed, request_of, answer_of};
+ghost use Rattle.forward_core.specs.Joined.Joined.{DirectionsStand, Placed, request_of, answer_of, HasWindows};
 ghost use Rattle.http_rules.specs.declared.config.Config.{Config};
 ghost use Rattle.proxy_call.specs.Sessions.Spare.{IsNew};
 
@@ -29,6 +29,7 @@ fn core_of<'c>(directions: Directions<'c>) -> ConfigCore<'c>
     ensures stands { (cfg : Config) → IsNew cfg directions.entry → Stands (meaning_of cfg) request_of answer_of (DirectionsStand cfg) result.sides result.at nothing_yet }
     ensures placed { IsPlaced (Placed result.sides) (answer_of result.sides) result.at.phase result.at.cut }
     ensures idle { (cfg : Config) → IsNew cfg directions.entry → is_serving result.at.phase ≡ false }
+    ensures sides { result.sides ≡ directions.entry }
 {
     Core::new(directions)
 }
@@ -44,6 +45,7 @@ fn open_core<'c>(
     ensures stands { IfOk result (λ core. Stands (meaning_of config.now) request_of answer_of (DirectionsStand config.now) core.sides core.at nothing_yet) }
     ensures placed { IfOk result (λ core. IsPlaced (Placed core.sides) (answer_of core.sides) core.at.phase core.at.cut) }
     ensures idle { IfOk result (λ core. is_serving core.at.phase ≡ false) }
+    ensures windows { IfOk result (λ core. HasWindows window core.sides) }
 {
     let directions = Directions::new(alloc, config, window)?;
     Ok(core_of(directions))

@@ -7,6 +7,7 @@ ghost use Rattle.rec_format.specs.ReportParts.{out_of};
 ghost use Rattle.rec_format.specs.Reports.{Reportable};
 ghost use Rattle.htx_drive.specs.Replay.Replayed.{Replays};
 ghost use Rattle.htx_drive.specs.Replay.Written.{IsReplayOf, IsDrillOf};
+ghost use Rattle.proxy_call.specs.Sessions.Driven.{stands_for, seen_of};
 
 use crate::sessions::cores::RecordCores;
 use forward_core::bounds::bounded;
@@ -18,7 +19,8 @@ use px_link::{Bytes, Turn};
 use rec_format::{Connection, Record, Report};
 use std::alloc::Global;
 
-/// The report of a record, in its format: the sessions of its connections are run one after another. Want of memory is the only error.
+/// The report of a record, in its format: the sessions of its connections are run one after another, each by the turns of its number. Want of
+/// memory is the only error.
 pub fn replay_report(
     alloc: Global,
     config: &Config,
@@ -26,7 +28,7 @@ pub fn replay_report(
 ) -> Result<Bytes, OutOfMemory>
     requires valid { IsValid config.now }
     requires reportable { Reportable recorded.now.version (vec_len recorded.now.conns) }
-    ensures { IfOk result (IsReplayOf (meaning_of config.now) (read.meaning_of recorded.now)) }
+    ensures { IfOk result (IsReplayOf (meaning_of config.now) (stands_for config.now) seen_of (read.meaning_of recorded.now)) }
 {
     bounded();
     total();
@@ -47,7 +49,7 @@ pub fn session_report(
 ) -> Result<Report, OutOfMemory>
     requires valid { IsValid config.now }
     requires window { 64 ≤ window }
-    ensures { IfOk result (λ report. Replays (meaning_of config.now) (read.visit conn.now) (out_of report)) }
+    ensures { IfOk result (λ report. Replays (meaning_of config.now) (stands_for config.now) seen_of turns.items (read.visit conn.now) (out_of report)) }
 {
     bounded();
     total();
@@ -63,7 +65,7 @@ pub fn drill_lines(
     exchanges: u32,
 ) -> Result<Bytes, OutOfMemory>
     requires valid { IsValid config.now }
-    ensures { IfOk result (IsDrillOf (meaning_of config.now) seed exchanges) }
+    ensures { IfOk result (IsDrillOf (meaning_of config.now) (stands_for config.now) seen_of seed exchanges) }
 {
     bounded();
     total();

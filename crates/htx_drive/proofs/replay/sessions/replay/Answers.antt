@@ -1,4 +1,4 @@
-use Rattle.std.proofs.Common.{◌≤◌, drop, length, map, ap, arith}
+use Rattle.std.proofs.Common.{◌≤◌, ◌+◌, drop, length, map, ap, arith}
 use Rattle.std.proofs.lemmas.Grind.{common_steps}
 use Rattle.std.proofs.Math.ListN.{drop_of_length-le}
 use Rattle.rec_format.specs.Read.{visits}
@@ -8,10 +8,12 @@ use Rattle.htx_drive.proofs.replay.sessions.replay.Goals as goal
 
 pub returns : goal.returns
 returns g c =
-    let all = c.args.recorded.now.conns.items in
+    let cfg = g.K.Cores.settings c.args.cores.now in
+    let recorded = c.args.recorded.now in
+    let all = recorded.conns.items in
     let at = c.loop-conn.conn-index in
     let past : length all ≤ at = omega (arith, c.loop-conn-test.false, c.deref-conn-items.ensures.len) in
-    reports_done (g.C.Machine.meaning (g.K.Cores.settings c.args.cores.now)) (visits all) (visits (drop at all)) (map out_of c.loop-conn.reports.items) (ap visits (drop_of_length-le all past)) c.loop-conn.invariant
+    reports_done (g.C.Machine.meaning cfg) (g.C.Machine.stands cfg) g.C.Machine.seen recorded.turns.items (c.loop-conn.owner + 1) (visits all) (visits (drop at all)) (map out_of c.loop-conn.reports.items) (ap visits (drop_of_length-le all past)) c.loop-conn.invariant.1
 
 pub loop-conn-preserved : goal.loop-conn-preserved
 loop-conn-preserved g c = grind (arith, common_steps)

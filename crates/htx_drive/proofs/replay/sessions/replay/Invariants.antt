@@ -1,12 +1,16 @@
-use Rattle.std.proofs.Common.{List, ◌++◌, drop, map}
+use Rattle.std.proofs.Common.{◌≡◌, ◌+◌, List, ◌++◌, drop, map}
 use Rattle.session_model.specs.Session.{Out}
 use Rattle.rec_format.specs.Read.{visits}
 use Rattle.rec_format.specs.ReportParts.{out_of}
-use Rattle.htx_drive.specs.Replay.Replayed.{ReplaysAll}
+use Rattle.htx_drive.specs.Replay.Replayed.{ReplaysFrom, ReplaysAll}
 use Rattle.htx_drive.proofs.replay.sessions.replay.Given as goal
 
 -- whatever the later connections come to, the reports so far stand in front of it
 abbrev pub invariant-loop-conn : goal.invariant-loop-conn
 invariant-loop-conn g l =
-    (later : List Out) → ReplaysAll (g.C.Machine.meaning (g.K.Cores.settings l.cores)) (visits (drop l.conn-index l.recorded.conns.items)) later
-    → ReplaysAll (g.C.Machine.meaning (g.K.Cores.settings l.cores)) (visits l.recorded.conns.items) (map out_of l.reports.items ++ later)
+    let M = g.C.Machine.meaning (g.K.Cores.settings l.cores) in
+    let stands = g.C.Machine.stands (g.K.Cores.settings l.cores) in
+    let turns = l.recorded.turns.items in
+    (l.owner ≡ l.conn-index)
+    × ((later : List Out) → ReplaysFrom M stands g.C.Machine.seen turns (l.owner + 1) (visits (drop l.conn-index l.recorded.conns.items)) later
+    → ReplaysAll M stands g.C.Machine.seen turns (visits l.recorded.conns.items) (map out_of l.reports.items ++ later))

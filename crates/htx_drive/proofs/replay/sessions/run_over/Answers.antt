@@ -1,20 +1,21 @@
-use Rattle.std.proofs.Common.{[], map, subst}
+use Rattle.std.proofs.Common.{subst}
 use Rattle.px_link.specs.Net.{address_of}
 use Rattle.session_model.specs.Meaning.{Meaning}
 use Rattle.htx_drive.specs.declared.SessionFault.{SessionFault}
 use Rattle.rec_format.specs.Read.{visit}
-use Rattle.htx_drive.specs.Replay.Memory.{answer_of}
 use Rattle.htx_drive.specs.Replay.Seen.{GaveUpOver}
-use Rattle.htx_drive.proofs.ReplayLemmas.Whole.{told_bytes, told_ending, told_answers, told_kept, is_enough, only_memory}
+use Rattle.htx_drive.proofs.ReplayLemmas.Whole.{is_enough, only_memory}
+use Rattle.htx_drive.proofs.ReplayLemmas.Turned.{by_turns}
 use Rattle.htx_drive.proofs.replay.sessions.run_over.Goals as goal
 
 pub returns-in-Ok : goal.returns-in-Ok
 returns-in-Ok g c =
     let v = visit c.args.conn.now in
     let cfg = g.K.Cores.settings c.args.cores.now in
-    c.ran_is_the_session.ensures cfg c.run_session.new.core c.args.client.now c.run_session.new.client (address_of c.args.to.now) c.args.net.now c.run_session.new.net c.in-Ok.ran v.client.bytes v.client.ending (map answer_of v.servers) []
-    (told_bytes v.client _ c.args.client.now c.requires.client) (told_ending v.client _ c.args.client.now c.requires.client) (told_answers v.servers c.args.net.now.net c.args.net.now.refused c.requires.net) (told_kept v.servers c.args.net.now.net c.args.net.now.refused c.requires.net)
-    (c.in-Ok.ensures.ran cfg c.requires.stands)
+    let ran = c.in-Ok.ensures.in_turns cfg c.requires.stands in
+    let net = c.args.net.now in
+    let after = c.run_session.new.net in
+    by_turns (g.C.Machine.meaning cfg) (g.C.Machine.stands cfg) g.C.Machine.seen c.run_session.new.core v (address_of c.args.to.now) c.args.client.now c.run_session.new.client net.net net.refused after.net after.refused c.args.turns.now c.run_session.new.turns c.in-Ok.ran c.requires.client c.requires.net ran.0 ran.1
 
 pub only_memory-requires : goal.only_memory-requires
 only_memory-requires g c =
