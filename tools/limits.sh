@@ -1,7 +1,7 @@
 #!/usr/bin/env bash
 # limits.sh [PROGRAM [WORD]]: large and slow inputs. The first table grows each kind of input to twice its size: instructions by valgrind's callgrind, the most
 # memory, and, where the instructions grow by more than 2.2 times, the three dearest functions of the larger run. The second table goes to the limits that the
-# product names and one step past them: seconds, memory, and the answer that must come. Both are tables of Markdown, as docs/LIMITS.md has them. With WORD
+# product names and one step past them: seconds, memory, and the answer that must come. Both are tables of Markdown, as docs/dev/LIMITS.md has them. With WORD
 # only the cases whose name holds it are run. The status is 1 where an answer isn't the one that must come. It is no part of the gate, and takes some minutes.
 set -u
 here="$(cd "$(dirname "$0")/.." && pwd)"
