@@ -7,11 +7,9 @@ use crate::condition::{Cond, GroupList, Term, TermList, Test, TestList};
 use crate::matching::matches_sample;
 use px_expr::{Searchers, eval_next};
 use px_sample::{Buf, Env, OutOfMemory};
-use std::alloc::Global;
 
 /// Whether some sample of the test matches some value.
 fn test_holds<E: Env>(
-    alloc: Global,
     searchers: &mut Searchers,
     test: &Test,
     env: &E,
@@ -26,9 +24,9 @@ fn test_holds<E: Env>(
 {
     let mut place = env.start(&test.expr.fetch);
     'samples: loop {
-        match eval_next(alloc, searchers, &test.expr, &mut place, env, buf, spare)? {
+        match eval_next(searchers, &test.expr, &mut place, env, buf, spare)? {
             Some(sample) => {
-                if matches_sample(alloc, searchers, test, sample, buf)? {
+                if matches_sample(searchers, test, sample, buf)? {
                     return Ok(true);
                 }
             }
@@ -39,7 +37,6 @@ fn test_holds<E: Env>(
 
 /// Whether one of the tests holds.
 fn some_test_holds<E: Env>(
-    alloc: Global,
     searchers: &mut Searchers,
     tests: &TestList,
     env: &E,
@@ -53,7 +50,7 @@ fn some_test_holds<E: Env>(
     ensures spare_cap { spare.new.cap ≡ buf.old.cap }
 {
     for at in 0..tests.len() {
-        if test_holds(alloc, searchers, tests.get(at), env, buf, spare)? {
+        if test_holds(searchers, tests.get(at), env, buf, spare)? {
             return Ok(true);
         }
     }
@@ -62,7 +59,6 @@ fn some_test_holds<E: Env>(
 
 /// Whether the term holds.
 fn term_holds<E: Env>(
-    alloc: Global,
     searchers: &mut Searchers,
     term: &Term,
     env: &E,
@@ -75,7 +71,7 @@ fn term_holds<E: Env>(
     ensures cap { buf.new.cap ≡ buf.old.cap }
     ensures spare_cap { spare.new.cap ≡ buf.old.cap }
 {
-    let truth = some_test_holds(alloc, searchers, &term.tests, env, buf, spare)?;
+    let truth = some_test_holds(searchers, &term.tests, env, buf, spare)?;
     Ok(turned(term.not, truth))
 }
 
@@ -88,7 +84,6 @@ fn turned(negated: bool, truth: bool) -> bool
 
 /// Whether each term of the group holds.
 fn group_holds<E: Env>(
-    alloc: Global,
     searchers: &mut Searchers,
     terms: &TermList,
     env: &E,
@@ -102,7 +97,7 @@ fn group_holds<E: Env>(
     ensures spare_cap { spare.new.cap ≡ buf.old.cap }
 {
     for at in 0..terms.len() {
-        if !term_holds(alloc, searchers, terms.get(at), env, buf, spare)? {
+        if !term_holds(searchers, terms.get(at), env, buf, spare)? {
             return Ok(false);
         }
     }
@@ -111,7 +106,6 @@ fn group_holds<E: Env>(
 
 /// Whether one of the groups has only terms that hold.
 fn some_group_holds<E: Env>(
-    alloc: Global,
     searchers: &mut Searchers,
     groups: &GroupList,
     env: &E,
@@ -125,7 +119,7 @@ fn some_group_holds<E: Env>(
     ensures spare_cap { spare.new.cap ≡ buf.old.cap }
 {
     for at in 0..groups.len() {
-        if group_holds(alloc, searchers, groups.get(at), env, buf, spare)? {
+        if group_holds(searchers, groups.get(at), env, buf, spare)? {
             return Ok(true);
         }
     }
@@ -135,7 +129,6 @@ fn some_group_holds<E: Env>(
 /// Whether a condition holds. Samples are made in `buf`, and one of more bytes than `buf` holds is absent. `spare` has the
 /// size of `buf`; what the two hold afterwards is left open. Only a pattern takes memory.
 pub fn holds<E: Env>(
-    alloc: Global,
     searchers: &mut Searchers,
     cond: &Cond,
     env: &E,
@@ -148,6 +141,6 @@ pub fn holds<E: Env>(
     ensures cap { buf.new.cap ≡ buf.old.cap }
     ensures spare_cap { spare.new.cap ≡ buf.old.cap }
 {
-    let truth = some_group_holds(alloc, searchers, &cond.groups, env, buf, spare)?;
+    let truth = some_group_holds(searchers, &cond.groups, env, buf, spare)?;
     Ok(turned(cond.unless, truth))
 }

@@ -8,7 +8,6 @@ use crate::condition::{Match, Test, TestValue, ValueList};
 use crate::literal::matches_literal;
 use px_expr::{Pat, Searchers};
 use px_sample::{Buf, OutOfMemory, Sample, into_text, number_in, truth_in};
-use std::alloc::Global;
 
 /// Whether a number lies between two bounds, each of which may lack.
 fn lies_between(low: Option<i64>, high: Option<i64>, number: i64) -> bool
@@ -52,7 +51,6 @@ fn matches_length(how: Match, low: Option<i64>, high: Option<i64>, text: &[u8]) 
 
 /// Whether a pattern matches somewhere in a text.
 fn matches_pattern(
-    alloc: Global,
     searchers: &mut Searchers,
     how: Match,
     pat: &Pat,
@@ -61,14 +59,13 @@ fn matches_pattern(
     ensures { IfOk result (λ found. found ≡ pattern_matches how pat.now text.now) }
 {
     match how {
-        Match::Reg => searchers.is_match(alloc, pat, text),
+        Match::Reg => searchers.is_match(pat, text),
         _ => Ok(false),
     }
 }
 
 /// Whether a text matches a value.
 fn matches_text(
-    alloc: Global,
     searchers: &mut Searchers,
     how: Match,
     icase: bool,
@@ -81,29 +78,17 @@ fn matches_text(
     match value {
         TestValue::Range { low, high } => Ok(matches_length(how, *low, *high, text)),
         TestValue::Literal(literal) => Ok(matches_literal(how, icase, literal.as_slice(), text)),
-        TestValue::Pattern(pat) => matches_pattern(alloc, searchers, how, pat, text),
+        TestValue::Pattern(pat) => matches_pattern(searchers, how, pat, text),
     }
 }
 
 /// Whether it matches one of the test's values.
-fn matches_a_text(
-    alloc: Global,
-    searchers: &mut Searchers,
-    test: &Test,
-    text: &[u8],
-) -> Result<bool, OutOfMemory>
+fn matches_a_text(searchers: &mut Searchers, test: &Test, text: &[u8]) -> Result<bool, OutOfMemory>
     ensures value { IfOk result (λ found. found ≡ list_any (text_matches test.now.how test.now.icase text.now) test.now.values) }
     ensures succeeds { list_any is_pattern test.now.values ≡ false → IsOk result }
 {
     for at in 0..test.values.len() {
-        if matches_text(
-            alloc,
-            searchers,
-            test.how,
-            test.icase,
-            test.values.get(at),
-            text,
-        )? {
+        if matches_text(searchers, test.how, test.icase, test.values.get(at), text)? {
             return Ok(true);
         }
     }
@@ -112,7 +97,6 @@ fn matches_a_text(
 
 /// Whether a sample matches the test. What `buf` holds afterwards is left open.
 pub fn matches_sample(
-    alloc: Global,
     searchers: &mut Searchers,
     test: &Test,
     sample: Sample,
@@ -130,7 +114,7 @@ pub fn matches_sample(
             None => Ok(false),
         },
         _ => match into_text(sample, buf) {
-            Sample::InBuf => matches_a_text(alloc, searchers, test, buf.bytes()),
+            Sample::InBuf => matches_a_text(searchers, test, buf.bytes()),
             _ => Ok(false),
         },
     }

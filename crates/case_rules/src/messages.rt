@@ -32,7 +32,7 @@ fn holds_over<E: Env>(alloc: Global, cond: &Cond, env: &E) -> Result<bool, Fault
     let mut searchers = Searchers::new(alloc);
     let mut buf = Buf::new(alloc, SIZE)?;
     let mut spare = Buf::new(alloc, SIZE)?;
-    let truth = holds(alloc, &mut searchers, cond, env, &mut buf, &mut spare)?;
+    let truth = holds(&mut searchers, cond, env, &mut buf, &mut spare)?;
     Ok(truth)
 }
 

@@ -19,7 +19,6 @@ pub use config::{Config, Filters};
 pub use http_model::{Limits, Why};
 pub use laws::{body_stays, replies_are_plain};
 pub use lives::{begin_answer, begin_exchange};
-pub use px_expr::Searchers;
 pub use px_link::{Address, OutOfMemory};
 pub use px_sample::Vars;
 pub use run::{run_after, run_request, run_response};

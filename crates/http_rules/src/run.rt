@@ -17,9 +17,7 @@ use crate::action::{Acted, Scratch, Side, Stepped, answers, is_met, run_action, 
 use crate::rule::{Action, Rule, Rules};
 use crate::verdict::{Ended, Ruled, Verdict};
 use htx_arena::Arena;
-use px_expr::Searchers;
 use px_sample::{OutOfMemory, Vars};
-use std::alloc::Global;
 
 /// The mode behind an action.
 fn mode_after(strict: bool, action: &Action) -> bool
@@ -51,8 +49,6 @@ fn outcome_of(strict: bool, action: &Action, acted: Acted) -> Ruled
 
 /// Whether the condition of a rule holds.
 fn runs(
-    alloc: Global,
-    searchers: &mut Searchers,
     rule: &Rule,
     side: Side<'_>,
     msg: &Arena,
@@ -65,15 +61,13 @@ fn runs(
     ensures scratch { IsScratch msg.now.size scratch.new }
 {
     match &rule.cond {
-        Some(cond) => is_met(alloc, searchers, cond, side, msg, vars, scratch),
+        Some(cond) => is_met(cond, side, msg, vars, scratch),
         None => Ok(true),
     }
 }
 
 /// Runs one rule under a mode.
 fn run_rule(
-    alloc: Global,
-    searchers: &mut Searchers,
     rule: &Rule,
     strict: bool,
     side: Side<'_>,
@@ -89,20 +83,18 @@ fn run_rule(
     ensures size { msg.new.size ≡ msg.old.size }
     ensures scratch { IsScratch msg.old.size scratch.new }
 {
-    if !runs(alloc, searchers, rule, side, msg, vars, scratch)? {
+    if !runs(rule, side, msg, vars, scratch)? {
         return Ok(Ruled::Goes(strict));
     }
     if answers(&rule.action) {
         return Ok(Ruled::Answers);
     }
-    let acted = run_action(alloc, searchers, &rule.action, side, msg, vars, scratch)?;
+    let acted = run_action(&rule.action, side, msg, vars, scratch)?;
     Ok(outcome_of(strict, &rule.action, acted))
 }
 
 /// Runs rules in their order. The first one that does not go on decides, or is to be answered by.
 fn run_rules<'c>(
-    alloc: Global,
-    searchers: &mut Searchers,
     rules: &'c Rules,
     side: Side<'_>,
     msg: &mut Arena,
@@ -121,7 +113,7 @@ fn run_rules<'c>(
     let mut strict = true;
     for at in 0..rules.len() {
         let rule = rules.get(at);
-        let outcome = run_rule(alloc, searchers, rule, strict, side, msg, vars, scratch)?;
+        let outcome = run_rule(rule, strict, side, msg, vars, scratch)?;
         match outcome {
             Ruled::Goes(mode) => strict = mode,
             Ruled::Ends(verdict) => return Ok(Ended::With(verdict)),
@@ -143,8 +135,6 @@ fn verdict_by(step: Stepped) -> Verdict
 
 /// Runs rules that may answer by themselves; a reply comes into its own array.
 fn run_all(
-    alloc: Global,
-    searchers: &mut Searchers,
     rules: &Rules,
     side: Side<'_>,
     msg: &mut Arena,
@@ -163,10 +153,10 @@ fn run_all(
     ensures scratch { IsScratch msg.old.size scratch.new }
     ensures reply_size { reply.new.size ≡ reply.old.size }
 {
-    match run_rules(alloc, searchers, rules, side, msg, vars, scratch)? {
+    match run_rules(rules, side, msg, vars, scratch)? {
         Ended::With(verdict) => Ok(verdict),
         Ended::Answering(action) => {
-            let step = run_reply(alloc, searchers, action, side, msg, vars, scratch, reply)?;
+            let step = run_reply(action, side, msg, vars, scratch, reply)?;
             Ok(verdict_by(step))
         }
     }
@@ -175,8 +165,6 @@ fn run_all(
 /// Runs the rules of requests on a head. Pass leaves the edited head; Reply leaves a reply in its own array, without a field that
 /// speaks of the connection; Fail leaves the head in front of the step that failed.
 pub fn run_request(
-    alloc: Global,
-    searchers: &mut Searchers,
     rules: &Rules,
     msg: &mut Arena,
     vars: &mut Vars,
@@ -194,22 +182,11 @@ pub fn run_request(
     ensures scratch { IsScratch msg.old.size scratch.new }
     ensures reply_size { reply.new.size ≡ reply.old.size }
 {
-    run_all(
-        alloc,
-        searchers,
-        rules,
-        Side::Request,
-        msg,
-        vars,
-        scratch,
-        reply,
-    )
+    run_all(rules, Side::Request, msg, vars, scratch, reply)
 }
 
 /// Runs the rules of responses on a head, which answers a request of this method. As `run_request`.
 pub fn run_response(
-    alloc: Global,
-    searchers: &mut Searchers,
     rules: &Rules,
     method: &[u8],
     msg: &mut Arena,
@@ -228,23 +205,12 @@ pub fn run_response(
     ensures scratch { IsScratch msg.old.size scratch.new }
     ensures reply_size { reply.new.size ≡ reply.old.size }
 {
-    run_all(
-        alloc,
-        searchers,
-        rules,
-        Side::Answer(method),
-        msg,
-        vars,
-        scratch,
-        reply,
-    )
+    run_all(rules, Side::Answer(method), msg, vars, scratch, reply)
 }
 
 /// Runs the rules on what the client is sent: on a head, with a body or none behind it, that answers a request of this method, which is
 /// empty where no head was read. They neither reply nor deny.
 pub fn run_after(
-    alloc: Global,
-    searchers: &mut Searchers,
     rules: &Rules,
     method: &[u8],
     msg: &mut Arena,
@@ -260,7 +226,7 @@ pub fn run_after(
     ensures scratch { IsScratch msg.old.size scratch.new }
 {
     let side = Side::Answer(method);
-    match run_rules(alloc, searchers, rules, side, msg, vars, scratch)? {
+    match run_rules(rules, side, msg, vars, scratch)? {
         Ended::With(verdict) => Ok(verdict),
         Ended::Answering(_) => unreachable!(),
     }

@@ -8,7 +8,6 @@ ghost use Rattle.log_format.specs.Format.{bytes_of, part_text, text, part_holds_
 use crate::fmt::{Fmt, Part};
 use px_expr::{Searchers, eval};
 use px_sample::{Buf, Env, OutOfMemory, Sample, into_text};
-use std::alloc::Global;
 
 /// Puts the bytes of a sample behind what `into` holds; false where they don't fit.
 fn put_sample(made: Sample, buf: &mut Buf, into: &mut Buf) -> bool
@@ -26,7 +25,6 @@ fn put_sample(made: Sample, buf: &mut Buf, into: &mut Buf) -> bool
 
 /// Puts the text of a part behind what `into` holds; false where it doesn't fit.
 fn put_part<E: Env>(
-    alloc: Global,
     searchers: &mut Searchers,
     part: &Part,
     env: &E,
@@ -46,7 +44,7 @@ fn put_part<E: Env>(
     match part {
         Part::Literal(text) => Ok(into.push(text.as_slice())),
         Part::Sample(expr) => {
-            let made = eval(alloc, searchers, expr, env, buf, spare)?;
+            let made = eval(searchers, expr, env, buf, spare)?;
             Ok(put_sample(made, buf, into))
         }
     }
@@ -57,7 +55,6 @@ fn put_part<E: Env>(
 /// nothing. `spare` has the size of `buf`; what these two hold afterwards is left open, and so is `into` after a
 /// want of memory.
 pub fn format<E: Env>(
-    alloc: Global,
     searchers: &mut Searchers,
     fmt: &Fmt,
     env: &E,
@@ -75,7 +72,7 @@ pub fn format<E: Env>(
 {
     into.clear();
     for at in 0..fmt.parts.len() {
-        let fits = put_part(alloc, searchers, fmt.parts.get(at), env, into, buf, spare)?;
+        let fits = put_part(searchers, fmt.parts.get(at), env, into, buf, spare)?;
         if !fits {
             into.truncate(0);
             return Ok(false);

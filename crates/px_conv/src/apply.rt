@@ -4,17 +4,16 @@ ghost use Rattle.px_sample.specs.Sample.{value_in};
 ghost use Rattle.px_conv.specs.Conv.{converted, has_pattern};
 
 use crate::conv::Conv;
+use crate::regsub::Substitution;
 use crate::{bytes, encode, fields, number, regsub, truth};
 use px_pattern::Searchers;
 use px_sample::{Buf, OutOfMemory, Sample, number_in, truth_in};
-use std::alloc::Global;
 
 /// What a converter makes of a sample, whose bytes stand in `buf` and stand there again afterwards. A result of
 /// more bytes than the buffer holds is absent, and so is what is made of a sample that is absent or can't be cast.
 /// `spare` has the buffer's size; what it holds afterwards is left open. `regsub` alone takes memory, and where none
 /// is left, what the buffers hold is left open.
 pub fn convert(
-    alloc: Global,
     searchers: &mut Searchers,
     conv: &Conv,
     sample: Sample,
@@ -53,16 +52,12 @@ pub fn convert(
         Conv::Hex => encode::hex(sample, buf, spare),
         Conv::UrlDec => encode::url_dec(sample, buf, spare),
         Conv::Regsub(pat, template, which) => {
-            regsub::substitute(
-                alloc,
-                searchers,
+            let by = Substitution {
                 pat,
-                template.as_slice(),
-                *which,
-                sample,
-                buf,
-                spare,
-            )?
+                template: template.as_slice(),
+                which: *which,
+            };
+            regsub::substitute(searchers, by, sample, buf, spare)?
         }
     };
     Ok(made)

@@ -14,8 +14,15 @@ use crate::conv::Matches;
 use crate::template::expand;
 use px_pattern::{Groups, Pat, Searchers};
 use px_sample::{Buf, OutOfMemory, Sample};
-use std::alloc::Global;
 use std::mem;
+
+/// What `regsub` is told: a pattern, the template that takes a match's place, and which matches it replaces.
+#[derive(Clone, Copy)]
+pub struct Substitution<'a> {
+    pub pat: &'a Pat,
+    pub template: &'a [u8],
+    pub which: Matches,
+}
 
 /// What is left of a text, one match of which was replaced.
 enum Left<'a> {
@@ -79,46 +86,40 @@ fn go_on<'a>(which: Matches, was_empty: bool, rest: &'a [u8], into: &mut Buf) ->
 
 /// Replaces the first match in the text.
 fn replace_one<'a>(
-    alloc: Global,
     searchers: &mut Searchers,
-    pat: &Pat,
-    template: &[u8],
-    which: Matches,
+    by: Substitution<'_>,
     text: &'a [u8],
     into: &mut Buf,
 ) -> Result<Left<'a>, OutOfMemory>
-    ensures came { IfOk result (λ left. (on : List ℕ → List ℕ) → Came on into.old into.new (one_step on (pattern_of pat.now) template.now which text.now) left) }
+    ensures came { IfOk result (λ left. (on : List ℕ → List ℕ) → Came on into.old into.new (one_step on (pattern_of by.entry.pat.now) by.entry.template.now by.entry.which text.now) left) }
     ensures below { IfOk result (IsBelow (length text.now)) }
     ensures cap { into.new.cap ≡ into.old.cap }
 {
-    let Some(groups) = searchers.find_groups(alloc, pat, text)? else {
+    let Some(groups) = searchers.find_groups(by.pat, text)? else {
         return Ok(put_last(text, into));
     };
     let place = groups.span(0).unwrap();
-    if !put_front(template, &groups, place.from, text, into) {
+    if !put_front(by.template, &groups, place.from, text, into) {
         return Ok(Left::TooLong);
     }
     let rest = &text[place.from + place.len..];
-    Ok(go_on(which, place.len == 0, rest, into))
+    Ok(go_on(by.which, place.len == 0, rest, into))
 }
 
 /// Replaces the first match in the text, or all, behind what the buffer holds; false where the whole does not fit.
 fn replace(
-    alloc: Global,
     searchers: &mut Searchers,
-    pat: &Pat,
-    template: &[u8],
-    which: Matches,
+    by: Substitution<'_>,
     text: &[u8],
     into: &mut Buf,
 ) -> Result<bool, OutOfMemory>
-    ensures fits { IfOk result (λ fits. IsTrue fits ↔ (length into.old.bytes + length (regsub (pattern_of pat.now) template.now which text.now) ≤ into.old.cap)) }
-    ensures replaced { IfOk result (λ fits. OnTrue fits (into.new.bytes ≡ into.old.bytes ++ regsub (pattern_of pat.now) template.now which text.now)) }
+    ensures fits { IfOk result (λ fits. IsTrue fits ↔ (length into.old.bytes + length (regsub (pattern_of by.entry.pat.now) by.entry.template.now by.entry.which text.now) ≤ into.old.cap)) }
+    ensures replaced { IfOk result (λ fits. OnTrue fits (into.new.bytes ≡ into.old.bytes ++ regsub (pattern_of by.entry.pat.now) by.entry.template.now by.entry.which text.now)) }
     ensures cap { into.new.cap ≡ into.old.cap }
 {
     let mut rest = text;
     'matches: loop {
-        match replace_one(alloc, searchers, pat, template, which, rest, into)? {
+        match replace_one(searchers, by, rest, into)? {
             Left::Text(after) => rest = after,
             Left::Nothing => return Ok(true),
             Left::TooLong => return Ok(false),
@@ -128,17 +129,14 @@ fn replace(
 
 /// The sample with the first match replaced by the template, or all matches.
 pub fn substitute(
-    alloc: Global,
     searchers: &mut Searchers,
-    pat: &Pat,
-    template: &[u8],
-    which: Matches,
+    by: Substitution<'_>,
     sample: Sample,
     buf: &mut Buf,
     spare: &mut Buf,
 ) -> Result<Sample, OutOfMemory>
     requires { spare.old.cap ≡ buf.old.cap }
-    ensures value { IfOk result (λ made. value_in made buf.new.bytes ≡ within buf.old.cap (option_and_then (of_bytes buf.old.cap (λ bytes. Bytes (regsub (pattern_of pat.now) template.now which bytes))) (value_in sample buf.old.bytes))) }
+    ensures value { IfOk result (λ made. value_in made buf.new.bytes ≡ within buf.old.cap (option_and_then (of_bytes buf.old.cap (λ bytes. Bytes (regsub (pattern_of by.entry.pat.now) by.entry.template.now by.entry.which bytes))) (value_in sample buf.old.bytes))) }
     ensures cap { buf.new.cap ≡ buf.old.cap }
     ensures spare_cap { spare.new.cap ≡ buf.old.cap }
 {
@@ -146,7 +144,7 @@ pub fn substitute(
         return Ok(Sample::Absent);
     }
     spare.clear();
-    if !replace(alloc, searchers, pat, template, which, buf.bytes(), spare)? {
+    if !replace(searchers, by, buf.bytes(), spare)? {
         return Ok(Sample::Absent);
     }
     mem::swap(buf, spare);

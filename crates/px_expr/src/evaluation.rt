@@ -8,11 +8,9 @@ ghost use Rattle.px_expr.specs.Expr.{put_through, sample, samples, holds_pattern
 use crate::expr::{ConvList, Expr};
 use px_conv::{Searchers, convert};
 use px_sample::{Buf, Env, OutOfMemory, Place, Sample};
-use std::alloc::Global;
 
 /// Puts a sample through converters, up to one that makes nothing of it.
 fn convert_all(
-    alloc: Global,
     searchers: &mut Searchers,
     convs: &ConvList,
     first: Sample,
@@ -30,7 +28,7 @@ fn convert_all(
         if let Sample::Absent = made {
             return Ok(Sample::Absent);
         }
-        made = convert(alloc, searchers, convs.get(at), made, buf, spare)?;
+        made = convert(searchers, convs.get(at), made, buf, spare)?;
     }
     Ok(made)
 }
@@ -39,7 +37,6 @@ fn convert_all(
 /// sample of more bytes than `buf` holds is absent. `spare` has the size of `buf`; what it holds afterwards is left
 /// open, and so is `buf` after a want of memory.
 pub fn eval<E: Env>(
-    alloc: Global,
     searchers: &mut Searchers,
     expr: &Expr,
     env: &E,
@@ -53,13 +50,12 @@ pub fn eval<E: Env>(
     ensures spare_cap { spare.new.cap ≡ buf.old.cap }
 {
     let last = env.last(&expr.fetch, buf);
-    convert_all(alloc, searchers, &expr.convs, last, buf, spare)
+    convert_all(searchers, &expr.convs, last, buf, spare)
 }
 
 /// The sample of this number, counted from 0, of those that a condition tries: each of the fetch, put through the
 /// converters. None past the last, and then `buf` is unchanged. Else as `eval`.
 pub fn eval_nth<E: Env>(
-    alloc: Global,
     searchers: &mut Searchers,
     expr: &Expr,
     nth: u32,
@@ -76,7 +72,7 @@ pub fn eval_nth<E: Env>(
     ensures spare_cap { spare.new.cap ≡ buf.old.cap }
 {
     match env.fetch(&expr.fetch, nth, buf) {
-        Some(first) => Ok(Some(convert_all(alloc, searchers, &expr.convs, first, buf, spare)?)),
+        Some(first) => Ok(Some(convert_all(searchers, &expr.convs, first, buf, spare)?)),
         None => Ok(None),
     }
 }
@@ -84,7 +80,6 @@ pub fn eval_nth<E: Env>(
 /// The sample at a place, put through the converters; the place moves on to the next one. None past the last. A condition tries
 /// the samples so, from `Env::start` on, and the walk goes over a message once. Else as `eval`.
 pub fn eval_next<E: Env>(
-    alloc: Global,
     searchers: &mut Searchers,
     expr: &Expr,
     place: &mut Place,
@@ -100,7 +95,7 @@ pub fn eval_next<E: Env>(
     ensures spare_cap { spare.new.cap ≡ buf.old.cap }
 {
     match env.next(&expr.fetch, place, buf) {
-        Some(first) => Ok(Some(convert_all(alloc, searchers, &expr.convs, first, buf, spare)?)),
+        Some(first) => Ok(Some(convert_all(searchers, &expr.convs, first, buf, spare)?)),
         None => Ok(None),
     }
 }

@@ -15,6 +15,7 @@ const MOST_KEPT: usize = 65536;
 /// Searchers for patterns, each made when its pattern is first searched for, and kept at the pattern's number.
 #[derive(Drop)]
 pub struct Searchers {
+    alloc: Global,
     kept: Vec<Option<Box<Searcher>>>,
 }
 
@@ -60,11 +61,12 @@ fn match_at(
 }
 
 impl Searchers {
-    /// None yet.
+    /// None yet. What later searches take of memory is this allocator's.
     pub fn new(alloc: Global) -> Searchers
         ensures { KeepsNone result }
     {
         Searchers {
+            alloc,
             kept: Vec::new(alloc),
         }
     }
@@ -80,12 +82,7 @@ impl Searchers {
     }
 
     /// As `Pat::find_groups`.
-    pub fn find_groups(
-        &mut self,
-        alloc: Global,
-        pat: &Pat,
-        text: &[u8],
-    ) -> Result<Option<Groups>, OutOfMemory>
+    pub fn find_groups(&mut self, pat: &Pat, text: &[u8]) -> Result<Option<Groups>, OutOfMemory>
         ensures found { IfOk result (IsFoundBy (pattern_of pat.now) text.now) }
         ensures within { IfOk result (λ found. IfSome found (LieIn (length text.now))) }
     {
@@ -94,13 +91,13 @@ impl Searchers {
             self.grow(at)?;
         }
         match self.kept.get_mut(at) {
-            Some(slot) => groups_at(slot, alloc, pat, text),
-            None => pat.find_groups(alloc, text),
+            Some(slot) => groups_at(slot, self.alloc, pat, text),
+            None => pat.find_groups(self.alloc, text),
         }
     }
 
     /// Whether the pattern matches somewhere in the text.
-    pub fn is_match(&mut self, alloc: Global, pat: &Pat, text: &[u8]) -> Result<bool, OutOfMemory>
+    pub fn is_match(&mut self, pat: &Pat, text: &[u8]) -> Result<bool, OutOfMemory>
         ensures found { IfOk result (λ found. found ≡ is_some (find (pattern_of pat.now) text.now 0)) }
     {
         let at = pat.number();
@@ -108,8 +105,8 @@ impl Searchers {
             self.grow(at)?;
         }
         match self.kept.get_mut(at) {
-            Some(slot) => match_at(slot, alloc, pat, text),
-            None => Ok(pat.searcher(alloc)?.is_match(text)),
+            Some(slot) => match_at(slot, self.alloc, pat, text),
+            None => Ok(pat.searcher(self.alloc)?.is_match(text)),
         }
     }
 }

@@ -11,7 +11,7 @@ use case_rows::{Answers, Fault, Row, decoded};
 use h1_head::{HeadRead, Side, read_head};
 use http_model::Limits;
 use http_rules::{
-    Config, OutOfMemory, Scratch, Searchers, Vars, Verdict, run_after, run_request, run_response,
+    Config, OutOfMemory, Scratch, Vars, Verdict, run_after, run_request, run_response,
 };
 use htx_arena::Arena;
 use std::alloc::Global;
@@ -70,24 +70,12 @@ fn run_rules(
     requires reply_size { reply.old.size ≡ msg.old.size }
     requires no_reply { reply.old.blocks ≡ [] }
 {
-    let mut searchers = Searchers::new(alloc);
     let mut vars = Vars::new(alloc)?;
     let mut scratch = Scratch::new(alloc, cfg.limits.bufsize)?;
-    let searchers = &mut searchers;
     let scratch = &mut scratch;
     match run {
-        Run::Request => run_request(
-            alloc,
-            searchers,
-            &cfg.request,
-            msg,
-            &mut vars,
-            scratch,
-            reply,
-        ),
+        Run::Request => run_request(&cfg.request, msg, &mut vars, scratch, reply),
         Run::Response(method) => run_response(
-            alloc,
-            searchers,
             &cfg.response,
             method,
             msg,
@@ -95,11 +83,7 @@ fn run_rules(
             scratch,
             reply,
         ),
-        Run::After(method) => {
-            run_after(
-                alloc, searchers, &cfg.after, method, msg, &mut vars, scratch,
-            )
-        }
+        Run::After(method) => run_after(&cfg.after, method, msg, &mut vars, scratch),
     }
 }
 

@@ -104,14 +104,7 @@ fn say_eval(
     let mut buf = Buf::new(alloc, question.size)?;
     let mut spare = spare_of(alloc, question.size)?;
     let mut searchers = Searchers::new(alloc);
-    let sample = eval(
-        alloc,
-        &mut searchers,
-        &question.expr,
-        env,
-        &mut buf,
-        &mut spare,
-    )?;
+    let sample = eval(&mut searchers, &question.expr, env, &mut buf, &mut spare)?;
     say_sample(sample, &buf, answers);
     Ok(())
 }
@@ -128,7 +121,6 @@ fn say_nth(
     let mut spare = spare_of(alloc, question.size)?;
     let mut searchers = Searchers::new(alloc);
     match eval_nth(
-        alloc,
         &mut searchers,
         &question.expr,
         nth,

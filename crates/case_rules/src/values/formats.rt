@@ -53,7 +53,7 @@ fn fits_with(
     requires { spare.old.cap ≡ buf.old.cap }
 {
     let mut searchers = Searchers::new(alloc);
-    match format(alloc, &mut searchers, fmt, env, into, buf, spare) {
+    match format(&mut searchers, fmt, env, into, buf, spare) {
         Ok(fits) => Ok(fits),
         Err(_) => Err(Fault::OutOfMemory),
     }

@@ -32,8 +32,8 @@ fn finds_anew(alloc: Global, pat: &Pat, text: &[u8]) -> Result<bool, Fault> {
 /// Whether a search finds a match that is made for the pattern, and then the same search, which was kept.
 fn finds_twice(alloc: Global, pat: &Pat, text: &[u8]) -> Result<(bool, bool), Fault> {
     let mut searchers = Searchers::new(alloc);
-    let made = searchers.is_match(alloc, pat, text)?;
-    let kept = searchers.is_match(alloc, pat, text)?;
+    let made = searchers.is_match(pat, text)?;
+    let kept = searchers.is_match(pat, text)?;
     Ok((made, kept))
 }
 

@@ -11,7 +11,7 @@ ghost use Rattle.forward_core.specs.Meaning.Product.{meaning_of};
 
 use http_model::OutOfMemory;
 use http_rules::{
-    Config, Scratch, Searchers, Vars, Verdict, begin_answer, begin_exchange, body_stays, run_after,
+    Config, Scratch, Vars, Verdict, begin_answer, begin_exchange, body_stays, run_after,
     run_request, run_response,
 };
 use htx_arena::Arena;
@@ -25,9 +25,7 @@ pub struct SessionRules<'c> {
     pub vars: Vars,
     /// What is said to the client in place of a server's answer.
     pub said: Arena,
-    alloc: Global,
     config: &'c Config,
-    searchers: Searchers,
     scratch: Scratch,
 }
 
@@ -57,9 +55,7 @@ impl<'c> SessionRules<'c> {
             said: Arena::new(alloc, config.limits.bufsize)?,
             scratch: Scratch::new(alloc, config.limits.bufsize)?,
             vars: Vars::new(alloc)?,
-            alloc,
             config,
-            searchers: Searchers::new(alloc),
         })
     }
 
@@ -117,8 +113,6 @@ impl<'c> SessionRules<'c> {
         self.said.clear();
         let config = self.config;
         run_request(
-            self.alloc,
-            &mut self.searchers,
             &config.request,
             msg,
             &mut self.vars,
@@ -141,8 +135,6 @@ impl<'c> SessionRules<'c> {
         self.said.clear();
         let config = self.config;
         run_response(
-            self.alloc,
-            &mut self.searchers,
             &config.response,
             method,
             msg,
@@ -167,8 +159,6 @@ impl<'c> SessionRules<'c> {
         body_stays();
         let config = self.config;
         let verdict = run_after(
-            self.alloc,
-            &mut self.searchers,
             &config.after,
             method,
             msg,
@@ -190,8 +180,6 @@ impl<'c> SessionRules<'c> {
         body_stays();
         let config = self.config;
         let verdict = run_after(
-            self.alloc,
-            &mut self.searchers,
             &config.after,
             method,
             &mut self.said,

@@ -24,9 +24,7 @@ use crate::action::variables::{Assignment, set_var, unset_var};
 use crate::rule::Action;
 use http_model::Why;
 use htx_arena::Arena;
-use px_expr::Searchers;
 use px_sample::{OutOfMemory, Vars};
-use std::alloc::Global;
 
 /// What an action made of a message.
 #[derive(Clone, Copy)]
@@ -56,8 +54,6 @@ fn done_by(step: Stepped) -> Acted
 /// Runs the steps of an action in turn, up to one that fails. One that answers, decides or changes the mode has none.
 #[tactic(auto, using(crate::proofs::ActionLemmas::Doing::one), unfolding(crate::specs::Action::Steps::steps_of, crate::specs::Action::Steps::line_step))]
 fn run_steps(
-    alloc: Global,
-    searchers: &mut Searchers,
     action: &Action,
     side: Side<'_>,
     msg: &mut Arena,
@@ -75,40 +71,40 @@ fn run_steps(
 {
     let setting = Setting { side, vars };
     if let Some(fmt) = format_of(action) {
-        return run_text(alloc, searchers, action, fmt, setting, msg, scratch);
+        return run_text(action, fmt, setting, msg, scratch);
     }
     match action {
-        Action::DelHeader(by) => del_header(alloc, searchers, by, msg, scratch),
+        Action::DelHeader(by) => del_header(by, msg, scratch),
         Action::SetStatus(code, reason) => Ok(set_status(*code, reason, msg, scratch)),
         Action::SetVar(scope, name, expr) => {
             let (scope, name) = (*scope, name.as_slice());
             let assignment = Assignment { scope, name, expr };
-            set_var(alloc, searchers, assignment, side, msg, vars, scratch)
+            set_var(assignment, side, msg, vars, scratch)
         }
         Action::UnsetVar(scope, name) => Ok(unset_var(*scope, name.as_slice(), vars)),
         Action::ReplaceHeader(name, pat, fmt) => {
             let (extent, name) = (Extent::Whole, name.as_slice());
             let by = Replacement { pat, fmt };
             let fields = FieldReplacement { name, extent, by };
-            replace_fields(alloc, searchers, fields, setting, msg, scratch)
+            replace_fields(fields, setting, msg, scratch)
         }
         Action::ReplaceValue(name, pat, fmt) => {
             let (extent, name) = (Extent::Values, name.as_slice());
             let by = Replacement { pat, fmt };
             let fields = FieldReplacement { name, extent, by };
-            replace_fields(alloc, searchers, fields, setting, msg, scratch)
+            replace_fields(fields, setting, msg, scratch)
         }
         Action::ReplacePath(pat, fmt) => {
             let (part, by) = (TargetPart::Path, Replacement { pat, fmt });
-            replace_part(alloc, searchers, part, by, setting, msg, scratch)
+            replace_part(part, by, setting, msg, scratch)
         }
         Action::ReplacePathq(pat, fmt) => {
             let (part, by) = (TargetPart::Pathq, Replacement { pat, fmt });
-            replace_part(alloc, searchers, part, by, setting, msg, scratch)
+            replace_part(part, by, setting, msg, scratch)
         }
         Action::ReplaceUri(pat, fmt) => {
             let (part, by) = (TargetPart::Uri, Replacement { pat, fmt });
-            replace_part(alloc, searchers, part, by, setting, msg, scratch)
+            replace_part(part, by, setting, msg, scratch)
         }
         _ => Ok(Stepped::Done),
     }
@@ -117,8 +113,6 @@ fn run_steps(
 /// Runs an action on a message, but for one that answers by itself: `run_reply` has these.
 #[tactic(auto, using(crate::proofs::ActionLemmas::Doing::several), unfolding(crate::specs::Action::Acts::act))]
 pub fn run_action(
-    alloc: Global,
-    searchers: &mut Searchers,
     action: &Action,
     side: Side<'_>,
     msg: &mut Arena,
@@ -140,7 +134,7 @@ pub fn run_action(
         Action::Deny(code) => Ok(Acted::Deny(*code)),
         Action::Redirect { .. } | Action::Return { .. } => unreachable!(),
         _ => {
-            let step = run_steps(alloc, searchers, action, side, msg, vars, scratch)?;
+            let step = run_steps(action, side, msg, vars, scratch)?;
             Ok(done_by(step))
         }
     }

@@ -13,9 +13,7 @@ use crate::action::scratch::Scratch;
 use crate::action::texts::write_text;
 use http_model::Why;
 use px_conv::{Groups, expand};
-use px_expr::Searchers;
 use px_sample::{Buf, OutOfMemory};
-use std::alloc::Global;
 
 /// What came of a text.
 #[derive(Clone, Copy)]
@@ -46,8 +44,6 @@ pub(crate) fn put_groups(template: &[u8], groups: &Groups, text: &[u8], into: &m
 
 /// Makes of a text in which the pattern matches the text of the format with the groups put in, in `scratch.made`.
 pub(crate) fn fill(
-    alloc: Global,
-    searchers: &mut Searchers,
     by: Replacement<'_>,
     text: &[u8],
     place: Place<'_>,
@@ -58,10 +54,10 @@ pub(crate) fn fill(
         → by_match place.entry.msg.now.size env by.entry.pat.now by.entry.fmt.now text.now make ≡ edited_by filled scratch.new.made.bytes env make) }
     ensures scratch { IsScratch place.entry.msg.now.size scratch.new }
 {
-    let Some(groups) = searchers.find_groups(alloc, by.pat, text)? else {
+    let Some(groups) = scratch.searchers.find_groups(by.pat, text)? else {
         return Ok(Filled::Unmatched);
     };
-    if !write_text(alloc, searchers, by.fmt, place, scratch)? {
+    if !write_text(by.fmt, place, scratch)? {
         return Ok(Filled::Failed(Why::Bytes));
     }
     let Scratch {

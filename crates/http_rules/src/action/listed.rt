@@ -22,19 +22,13 @@ use px_bytes::{value_indices, values};
 use px_conv::Pat;
 use px_expr::Searchers;
 use px_sample::{Buf, OutOfMemory};
-use std::alloc::Global;
 
 /// Whether the pattern matches in one of the values.
-fn matches_one(
-    alloc: Global,
-    searchers: &mut Searchers,
-    pat: &Pat,
-    field: &[u8],
-) -> Result<bool, OutOfMemory>
+fn matches_one(searchers: &mut Searchers, pat: &Pat, field: &[u8]) -> Result<bool, OutOfMemory>
     ensures { IfOk result (λ one. one ≡ list_any (matches pat.now) (values_of field.now)) }
 {
     for value in values(field) {
-        if searchers.is_match(alloc, pat, value)? {
+        if searchers.is_match(pat, value)? {
             return Ok(true);
         }
     }
@@ -43,7 +37,6 @@ fn matches_one(
 
 /// Makes the text that takes the place of a value, over what a buffer holds; none where the pattern does not match.
 fn fill_value(
-    alloc: Global,
     searchers: &mut Searchers,
     by: Template<'_>,
     value: &[u8],
@@ -52,7 +45,7 @@ fn fill_value(
     ensures held { IfOk result (λ filled. IsTextFor into.old.cap by.entry.pat.now by.entry.text.now value.now filled into.new.bytes) }
     ensures cap { into.new.cap ≡ into.old.cap }
 {
-    match searchers.find_groups(alloc, by.pat, value)? {
+    match searchers.find_groups(by.pat, value)? {
         Some(groups) => Ok(put_groups(by.text, &groups, value, into)),
         None => Ok(Filled::Unmatched),
     }
@@ -83,7 +76,6 @@ fn put_filled(
 /// Puts the field, with each value in which the pattern matches replaced, over what a buffer holds; none where a text is too long,
 /// each of which is made in `text`.
 fn put_values(
-    alloc: Global,
     searchers: &mut Searchers,
     by: Template<'_>,
     field: &[u8],
@@ -99,7 +91,7 @@ fn put_values(
     let mut so_far = Joined::Held;
     let mut from = 0;
     for (at, value) in value_indices(field) {
-        let filled = fill_value(alloc, searchers, by, value, text)?;
+        let filled = fill_value(searchers, by, value, text)?;
         match put_filled(filled, &field[from..at], value, text.bytes(), so_far, into) {
             Some(joined) => so_far = joined,
             None => return Ok(None),
@@ -123,7 +115,6 @@ fn filled_by(joined: Option<Joined>) -> Filled
 
 /// The same for the step.
 fn fill_listed(
-    alloc: Global,
     searchers: &mut Searchers,
     pat: &Pat,
     template: &[u8],
@@ -141,15 +132,13 @@ fn fill_listed(
         pat,
         text: template,
     };
-    let joined = put_values(alloc, searchers, by, field, text, into)?;
+    let joined = put_values(searchers, by, field, text, into)?;
     Ok(filled_by(joined))
 }
 
 /// Makes of a field in a value of which the pattern matches the field with each such value replaced, in `scratch.made`. It is held
 /// without the blanks at its ends.
 pub(crate) fn fill_values(
-    alloc: Global,
-    searchers: &mut Searchers,
     by: Replacement<'_>,
     field: &[u8],
     place: Place<'_>,
@@ -162,17 +151,18 @@ pub(crate) fn fill_values(
     ensures scratch { IsScratch place.entry.msg.now.size scratch.new }
 {
     let Replacement { pat, fmt } = by;
-    if !matches_one(alloc, searchers, pat, field)? {
+    if !matches_one(&mut scratch.searchers, pat, field)? {
         return Ok(Filled::Unmatched);
     }
-    if !write_text(alloc, searchers, fmt, place, scratch)? {
+    if !write_text(fmt, place, scratch)? {
         return Ok(Filled::Failed(Why::Bytes));
     }
     let Scratch {
+        searchers,
         text,
         made,
         buf,
         ..
     } = scratch;
-    fill_listed(alloc, searchers, pat, text.bytes(), field, buf, made)
+    fill_listed(searchers, pat, text.bytes(), field, buf, made)
 }

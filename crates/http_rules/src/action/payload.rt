@@ -13,9 +13,8 @@ use crate::action::scratch::Scratch;
 use crate::action::texts::write_text;
 use crate::rule::Payload;
 use px_bytes::trim;
-use px_expr::{Searchers, Text};
+use px_expr::Text;
 use px_sample::OutOfMemory;
-use std::alloc::Global;
 
 /// The type that is written: none without a payload.
 pub(crate) fn type_by<'a>(
@@ -67,8 +66,6 @@ pub(crate) fn length_by(status: u16, payload: &Option<Payload>, text: &[u8]) -> 
 
 /// Makes the text of a payload's format in `scratch.text`; false where it is longer than the array.
 pub(crate) fn make_payload(
-    alloc: Global,
-    searchers: &mut Searchers,
     payload: &Option<Payload>,
     place: Place<'_>,
     scratch: &mut Scratch,
@@ -80,7 +77,7 @@ pub(crate) fn make_payload(
 {
     match payload {
         None | Some(Payload::Literal(_)) => Ok(true),
-        Some(Payload::Format(fmt)) => write_text(alloc, searchers, fmt, place, scratch),
+        Some(Payload::Format(fmt)) => write_text(fmt, place, scratch),
     }
 }
 

@@ -23,9 +23,7 @@ use http_model::Why;
 use htx_arena::Arena;
 use log_format::Fmt;
 use px_bytes::trim;
-use px_expr::Searchers;
 use px_sample::{Buf, OutOfMemory};
-use std::alloc::Global;
 
 /// Where a redirect leads, and with what status.
 #[derive(Clone, Copy)]
@@ -107,8 +105,6 @@ fn lead(
 
 /// `redirect`. The reply is without a field that speaks of the connection, and one with `connection: close` would fit.
 pub(crate) fn redirect(
-    alloc: Global,
-    searchers: &mut Searchers,
     destination: Destination<'_>,
     place: Place<'_>,
     scratch: &mut Scratch,
@@ -124,7 +120,7 @@ pub(crate) fn redirect(
     ensures scratch { IsScratch place.entry.msg.now.size scratch.new }
 {
     let fmt = format_of(destination.to);
-    if !write_text(alloc, searchers, fmt, place, scratch)? {
+    if !write_text(fmt, place, scratch)? {
         return Ok(Stepped::Failed(Why::Bytes));
     }
     let Scratch { text, made, .. } = scratch;

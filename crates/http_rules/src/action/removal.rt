@@ -15,9 +15,7 @@ use crate::action::stepped::Stepped;
 use crate::rule::DelBy;
 use header_ops::{NameMatch, remove_where};
 use htx_arena::Arena;
-use px_expr::Searchers;
 use px_sample::OutOfMemory;
-use std::alloc::Global;
 
 /// Removes the fields whose names are meant. Those that frame the message or speak of its connection stay.
 fn remove_meant(msg: &mut Arena, which: &NameMatch<'_>) -> Stepped
@@ -32,8 +30,6 @@ fn remove_meant(msg: &mut Arena, which: &NameMatch<'_>) -> Stepped
 
 /// `del-header`.
 pub(crate) fn del_header(
-    alloc: Global,
-    searchers: &mut Searchers,
     by: &DelBy,
     msg: &mut Arena,
     scratch: &mut Scratch,
@@ -51,6 +47,13 @@ pub(crate) fn del_header(
         DelBy::Beg(text) => Ok(remove_meant(msg, &NameMatch::Beg(text.as_slice()))),
         DelBy::End(text) => Ok(remove_meant(msg, &NameMatch::End(text.as_slice()))),
         DelBy::Sub(text) => Ok(remove_meant(msg, &NameMatch::Sub(text.as_slice()))),
-        DelBy::Reg(pat) => remove_matching(alloc, searchers, pat, msg, &mut scratch.text),
+        DelBy::Reg(pat) => {
+            let Scratch {
+                searchers,
+                text,
+                ..
+            } = scratch;
+            remove_matching(searchers, pat, msg, text)
+        }
     }
 }

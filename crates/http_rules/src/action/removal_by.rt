@@ -14,11 +14,9 @@ use http_model::is_framing_name;
 use htx_arena::{Arena, Kind};
 use px_expr::{Pat, Searchers};
 use px_sample::{Buf, OutOfMemory};
-use std::alloc::Global;
 
 /// Whether a field of this name goes.
 fn goes(
-    alloc: Global,
     searchers: &mut Searchers,
     pat: &Pat,
     name: &[u8],
@@ -30,12 +28,11 @@ fn goes(
 {
     hold(name, lower);
     lower.make_lower();
-    Ok(searchers.is_match(alloc, pat, lower.bytes())? && !is_framing_name(name))
+    Ok(searchers.is_match(pat, lower.bytes())? && !is_framing_name(name))
 }
 
 /// Whether the block at an index is a field that goes.
 fn goes_at(
-    alloc: Global,
     searchers: &mut Searchers,
     pat: &Pat,
     msg: &Arena,
@@ -49,14 +46,13 @@ fn goes_at(
 {
     let _room = msg.room();
     match msg.kind(at) {
-        Kind::Header => goes(alloc, searchers, pat, msg.name(at), lower),
+        Kind::Header => goes(searchers, pat, msg.name(at), lower),
         _ => Ok(false),
     }
 }
 
 /// Takes out the fields that go.
 fn remove_going(
-    alloc: Global,
     searchers: &mut Searchers,
     pat: &Pat,
     msg: &mut Arena,
@@ -69,7 +65,7 @@ fn remove_going(
 {
     let mut at = 0;
     while at < msg.len() {
-        if goes_at(alloc, searchers, pat, msg, at, lower)? {
+        if goes_at(searchers, pat, msg, at, lower)? {
             msg.remove(at);
         } else {
             at += 1;
@@ -80,7 +76,6 @@ fn remove_going(
 
 /// Removes the fields in whose names the pattern matches. Those that frame the message or speak of its connection stay.
 pub(crate) fn remove_matching(
-    alloc: Global,
     searchers: &mut Searchers,
     pat: &Pat,
     msg: &mut Arena,
@@ -92,7 +87,7 @@ pub(crate) fn remove_matching(
     ensures size { msg.new.size ≡ msg.old.size }
     ensures cap { lower.new.cap ≡ lower.old.cap }
 {
-    remove_going(alloc, searchers, pat, msg, lower)?;
+    remove_going(searchers, pat, msg, lower)?;
     let _room = msg.room();
     Ok(Stepped::Done)
 }

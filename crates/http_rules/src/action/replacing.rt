@@ -27,9 +27,7 @@ use crate::action::stepped::Stepped;
 use http_model::Why;
 use htx_arena::{Arena, Kind};
 use px_bytes::{eq_fold, trim};
-use px_expr::Searchers;
 use px_sample::OutOfMemory;
-use std::alloc::Global;
 
 /// Whether the block at an index is a header of this name.
 fn is_named(msg: &Arena, at: u32, name: &[u8]) -> bool
@@ -60,8 +58,6 @@ fn put_value(msg: &mut Arena, at: u32, text: &[u8]) -> Stepped
 
 /// Makes another value of a field, in `scratch.made`.
 fn fill_field(
-    alloc: Global,
-    searchers: &mut Searchers,
     extent: Extent,
     by: Replacement<'_>,
     field: &[u8],
@@ -75,15 +71,13 @@ fn fill_field(
     ensures scratch { IsScratch place.entry.msg.now.size scratch.new }
 {
     match extent {
-        Extent::Whole => fill(alloc, searchers, by, field, place, scratch),
-        Extent::Values => fill_values(alloc, searchers, by, field, place, scratch),
+        Extent::Whole => fill(by, field, place, scratch),
+        Extent::Values => fill_values(by, field, place, scratch),
     }
 }
 
 /// The field in a block has another value, where the pattern matches.
 fn replace_field(
-    alloc: Global,
-    searchers: &mut Searchers,
     fields: FieldReplacement<'_>,
     at: u32,
     setting: Setting<'_>,
@@ -102,7 +96,7 @@ fn replace_field(
     let field = msg.value(at);
     let FieldReplacement { extent, by, .. } = fields;
     let place = Place { msg, setting };
-    match fill_field(alloc, searchers, extent, by, field, place, scratch)? {
+    match fill_field(extent, by, field, place, scratch)? {
         Filled::Unmatched => Ok(Stepped::Done),
         Filled::Failed(why) => Ok(Stepped::Failed(why)),
         Filled::Made => Ok(put_value(msg, at, scratch.made.bytes())),
@@ -111,8 +105,6 @@ fn replace_field(
 
 /// The block's step: a field of the name has another value, where the pattern matches.
 fn replace_named(
-    alloc: Global,
-    searchers: &mut Searchers,
     fields: FieldReplacement<'_>,
     at: u32,
     setting: Setting<'_>,
@@ -130,13 +122,11 @@ fn replace_named(
     if !is_named(msg, at, fields.name) {
         return Ok(Stepped::Done);
     }
-    replace_field(alloc, searchers, fields, at, setting, msg, scratch)
+    replace_field(fields, at, setting, msg, scratch)
 }
 
 /// Each field of the name in turn, up to a step that fails.
 pub(crate) fn replace_fields(
-    alloc: Global,
-    searchers: &mut Searchers,
     fields: FieldReplacement<'_>,
     setting: Setting<'_>,
     msg: &mut Arena,
@@ -150,7 +140,7 @@ pub(crate) fn replace_fields(
     ensures scratch { IsScratch msg.old.size scratch.new }
 {
     for at in 1..msg.len() {
-        match replace_named(alloc, searchers, fields, at, setting, msg, scratch)? {
+        match replace_named(fields, at, setting, msg, scratch)? {
             Stepped::Done => {}
             Stepped::Failed(why) => return Ok(Stepped::Failed(why)),
         }

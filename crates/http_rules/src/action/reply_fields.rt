@@ -22,27 +22,19 @@ use header_ops::add_field;
 use http_model::Why;
 use htx_arena::Arena;
 use px_bytes::trim;
-use px_expr::Searchers;
 use px_sample::OutOfMemory;
-use std::alloc::Global;
 
 /// Makes the text of a field in `scratch.made`; false where it is longer than the array, or may not stand in a field value.
-fn make_value(
-    alloc: Global,
-    searchers: &mut Searchers,
-    hdr: &Hdr,
-    place: Place<'_>,
-    scratch: &mut Scratch,
-) -> Result<bool, OutOfMemory>
+fn make_value(hdr: &Hdr, place: Place<'_>, scratch: &mut Scratch) -> Result<bool, OutOfMemory>
     requires scratch { IsScratch place.msg.now.size scratch.old }
     ensures made { IfOk result (λ good. (env : Env) → IsPlaceOf env place.entry → IsValue place.entry.msg.now.size env hdr.now good scratch.new.made.bytes) }
     ensures succeeds { hdr_holds_pattern hdr.now ≡ false → IsOk result }
     ensures text { scratch.new.text ≡ scratch.old.text }
     ensures scratch { IsScratch place.entry.msg.now.size scratch.new }
 {
-    let made = &mut scratch.made;
+    let (searchers, made) = (&mut scratch.searchers, &mut scratch.made);
     let (buf, spare) = (&mut scratch.buf, &mut scratch.spare);
-    if !write_into(alloc, searchers, &hdr.value, place, made, buf, spare)? {
+    if !write_into(searchers, &hdr.value, place, made, buf, spare)? {
         return Ok(false);
     }
     Ok(are_value_bytes(made.bytes()))
@@ -80,8 +72,6 @@ fn step_by(fits: bool) -> Stepped
 /// Puts fields behind the head of a reply, if it fits. Each text is made, so that one which is not good is told before the room is.
 /// `scratch.text` stays: it may hold the payload.
 pub(crate) fn put_fields(
-    alloc: Global,
-    searchers: &mut Searchers,
     hdrs: &HdrList,
     place: Place<'_>,
     begun: bool,
@@ -102,7 +92,7 @@ pub(crate) fn put_fields(
     let mut fits = begun;
     for at in 0..hdrs.len() {
         let hdr = hdrs.get(at);
-        if !make_value(alloc, searchers, hdr, place, scratch)? {
+        if !make_value(hdr, place, scratch)? {
             return Ok(Stepped::Failed(Why::Bytes));
         }
         fits = put_field(fits, reply, hdr.name.as_slice(), scratch.made.bytes());

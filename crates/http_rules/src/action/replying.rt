@@ -16,9 +16,7 @@ use crate::action::side::Side;
 use crate::action::stepped::Stepped;
 use crate::rule::Action;
 use htx_arena::Arena;
-use px_expr::Searchers;
 use px_sample::{OutOfMemory, Vars};
-use std::alloc::Global;
 
 /// Whether an action answers by itself: `redirect` and `return` do.
 pub fn answers(action: &Action) -> bool
@@ -33,8 +31,6 @@ pub fn answers(action: &Action) -> bool
 /// Runs an action that answers: its reply stands in an array of its own, which was empty, without a field that speaks of the
 /// connection. After a failure that array is empty again. The message stays.
 pub fn run_reply(
-    alloc: Global,
-    searchers: &mut Searchers,
     action: &Action,
     side: Side<'_>,
     msg: &Arena,
@@ -68,7 +64,7 @@ pub fn run_reply(
                 drop_query: *drop_query,
                 append_slash: *append_slash,
             };
-            redirect(alloc, searchers, destination, place, scratch, reply)
+            redirect(destination, place, scratch, reply)
         }
         Action::Return {
             status,
@@ -82,7 +78,7 @@ pub fn run_reply(
                 payload,
                 hdrs,
             };
-            return_reply(alloc, searchers, returned, place, scratch, reply)
+            return_reply(returned, place, scratch, reply)
         }
         _ => unreachable!(),
     }

@@ -17,9 +17,7 @@ use crate::action::stepped::Stepped;
 use crate::action::target::part_of;
 use htx_arena::Arena;
 use htx_view::request_parts;
-use px_expr::Searchers;
 use px_sample::OutOfMemory;
-use std::alloc::Global;
 
 /// A part of the target becomes what `scratch.made` holds.
 fn put_made(part: TargetPart, msg: &mut Arena, scratch: &mut Scratch) -> Stepped
@@ -35,14 +33,13 @@ fn put_made(part: TargetPart, msg: &mut Arena, scratch: &mut Scratch) -> Stepped
         made,
         buf,
         spare,
+        ..
     } = scratch;
     put_part(msg, part, made.bytes(), text, buf, spare)
 }
 
 /// A part of the target in which the pattern matches becomes the text, with the groups put in.
 pub(crate) fn replace_part(
-    alloc: Global,
-    searchers: &mut Searchers,
     part: TargetPart,
     by: Replacement<'_>,
     setting: Setting<'_>,
@@ -61,7 +58,7 @@ pub(crate) fn replace_part(
     };
     let text = part_of(part, line.b);
     let place = Place { msg, setting };
-    match fill(alloc, searchers, by, text, place, scratch)? {
+    match fill(by, text, place, scratch)? {
         Filled::Unmatched => Ok(Stepped::Done),
         Filled::Failed(why) => Ok(Stepped::Failed(why)),
         Filled::Made => Ok(put_made(part, msg, scratch)),

@@ -24,10 +24,9 @@ use crate::action::stepped::Stepped;
 use crate::rule::{HdrList, Payload};
 use http_model::Why;
 use htx_arena::Arena;
-use px_expr::{Searchers, Text};
+use px_expr::Text;
 use px_reply::{add_payload, begin_reply, has_room_to_close};
 use px_sample::OutOfMemory;
-use std::alloc::Global;
 
 /// What a `return` sends.
 #[derive(Clone, Copy)]
@@ -71,8 +70,6 @@ fn end(body: &[u8], reply: &mut Arena) -> Stepped
 
 /// The reply of a payload whose text `scratch.text` holds, or some of its blocks where it fails. The text of each field is made, and tested before the room is.
 fn write_parts(
-    alloc: Global,
-    searchers: &mut Searchers,
     returned: Returned<'_>,
     content_type: Option<&[u8]>,
     place: Place<'_>,
@@ -91,7 +88,7 @@ fn write_parts(
     let (status, payload, hdrs) = (returned.status, returned.payload, returned.hdrs);
     let length = length_by(status, payload, scratch.text.bytes());
     let begun = begin(status, content_type, length, reply);
-    let step = put_fields(alloc, searchers, hdrs, place, begun, scratch, reply)?;
+    let step = put_fields(hdrs, place, begun, scratch, reply)?;
     match step {
         Stepped::Done => Ok(end(body_by(payload, scratch.text.bytes()), reply)),
         Stepped::Failed(why) => Ok(Stepped::Failed(why)),
@@ -100,8 +97,6 @@ fn write_parts(
 
 /// The reply, or some of its blocks where it fails. Each text is made once, and tested before the room is.
 fn write_reply(
-    alloc: Global,
-    searchers: &mut Searchers,
     returned: Returned<'_>,
     place: Place<'_>,
     scratch: &mut Scratch,
@@ -121,18 +116,10 @@ fn write_reply(
     if !is_good_type(content_type) {
         return Ok(Stepped::Failed(Why::Bytes));
     }
-    if !make_payload(alloc, searchers, returned.payload, place, scratch)? {
+    if !make_payload(returned.payload, place, scratch)? {
         return Ok(Stepped::Failed(Why::Bytes));
     }
-    write_parts(
-        alloc,
-        searchers,
-        returned,
-        content_type,
-        place,
-        scratch,
-        reply,
-    )
+    write_parts(returned, content_type, place, scratch, reply)
 }
 
 /// Leaves nothing of a reply that failed.
@@ -151,8 +138,6 @@ fn whole(step: Stepped, reply: &mut Arena) -> Stepped
 
 /// `return`. The reply is without a field that speaks of the connection, and one with `connection: close` would fit.
 pub(crate) fn return_reply(
-    alloc: Global,
-    searchers: &mut Searchers,
     returned: Returned<'_>,
     place: Place<'_>,
     scratch: &mut Scratch,
@@ -168,6 +153,6 @@ pub(crate) fn return_reply(
     ensures size { reply.new.size ≡ reply.old.size }
     ensures scratch { IsScratch place.entry.msg.now.size scratch.new }
 {
-    let step = write_reply(alloc, searchers, returned, place, scratch, reply)?;
+    let step = write_reply(returned, place, scratch, reply)?;
     Ok(whole(step, reply))
 }

@@ -1,12 +1,15 @@
-//! Buffers in which rules make their texts.
+//! What rules make their texts in, and search them with.
 ghost use Rattle.std.specs.Prelude.{IfOk};
 
+use px_expr::Searchers;
 use px_sample::{Buf, OutOfMemory};
 use std::alloc::Global;
 
-/// Buffers of the array's size, in which texts are made. What they hold between two calls means nothing.
+/// Buffers of the array's size, in which texts are made, and searchers for the patterns of rules. What they hold between two calls
+/// changes nothing of what rules come to.
 #[derive(Drop)]
 pub struct Scratch {
+    pub searchers: Searchers,
     pub text: Buf,
     pub made: Buf,
     pub buf: Buf,
@@ -16,11 +19,12 @@ pub struct Scratch {
 ghost use Rattle.http_rules.specs.Action.Outcome.{IsScratch};
 
 impl Scratch {
-    /// Buffers for arrays of this size. This call alone takes memory.
+    /// Buffers for arrays of this size, and no searcher yet. Beside searches for patterns, this call alone takes memory.
     pub fn new(alloc: Global, size: u32) -> Result<Scratch, OutOfMemory>
         ensures { IfOk result (IsScratch size) }
     {
         Ok(Scratch {
+            searchers: Searchers::new(alloc),
             text: Buf::new(alloc, size)?,
             made: Buf::new(alloc, size)?,
             buf: Buf::new(alloc, size)?,

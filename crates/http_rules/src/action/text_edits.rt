@@ -19,9 +19,7 @@ use crate::rule::Action;
 use http_model::Why;
 use htx_arena::Arena;
 use log_format::Fmt;
-use px_expr::Searchers;
 use px_sample::OutOfMemory;
-use std::alloc::Global;
 
 /// The format by whose text an action makes its edit; none of any other action.
 pub(crate) fn format_of(action: &Action) -> Option<&Fmt>
@@ -55,6 +53,7 @@ fn edit_by_text(action: &Action, msg: &mut Arena, scratch: &mut Scratch) -> Step
         made,
         buf,
         spare,
+        ..
     } = scratch;
     let text = text.bytes();
     match action {
@@ -71,8 +70,6 @@ fn edit_by_text(action: &Action, msg: &mut Arena, scratch: &mut Scratch) -> Step
 
 /// Makes the text of an action's format, and the edit of the action by it.
 pub(crate) fn run_text(
-    alloc: Global,
-    searchers: &mut Searchers,
     action: &Action,
     fmt: &Fmt,
     setting: Setting<'_>,
@@ -90,7 +87,7 @@ pub(crate) fn run_text(
 {
     // Nothing goes before the text is made.
     let place = Place { msg, setting };
-    if !write_text(alloc, searchers, fmt, place, scratch)? {
+    if !write_text(fmt, place, scratch)? {
         return Ok(Stepped::Failed(Why::Bytes));
     }
     Ok(edit_by_text(action, msg, scratch))

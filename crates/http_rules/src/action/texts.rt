@@ -16,11 +16,9 @@ use htx_arena::Arena;
 use log_format::{Fmt, format};
 use px_expr::{Expr, Searchers, eval};
 use px_sample::{Buf, OutOfMemory, Sample, Vars};
-use std::alloc::Global;
 
 /// Writes the text of a format into a buffer of the array's size; false where it is longer.
 pub(crate) fn write_into(
-    alloc: Global,
     searchers: &mut Searchers,
     fmt: &Fmt,
     place: Place<'_>,
@@ -42,19 +40,17 @@ pub(crate) fn write_into(
     match setting.side {
         Side::Request => {
             let env = ReqEnv::new(msg, vars);
-            format(alloc, searchers, fmt, &env, into, buf, spare)
+            format(searchers, fmt, &env, into, buf, spare)
         }
         Side::Answer(method) => {
             let env = ResEnv::new(msg, method, vars);
-            format(alloc, searchers, fmt, &env, into, buf, spare)
+            format(searchers, fmt, &env, into, buf, spare)
         }
     }
 }
 
 /// Writes the text of a format into `scratch.text`; false where it is longer than the array.
 pub(crate) fn write_text(
-    alloc: Global,
-    searchers: &mut Searchers,
     fmt: &Fmt,
     place: Place<'_>,
     scratch: &mut Scratch,
@@ -65,18 +61,17 @@ pub(crate) fn write_text(
     ensures scratch { IsScratch place.entry.msg.now.size scratch.new }
 {
     let Scratch {
+        searchers,
         text,
         buf,
         spare,
         ..
     } = scratch;
-    write_into(alloc, searchers, fmt, place, text, buf, spare)
+    write_into(searchers, fmt, place, text, buf, spare)
 }
 
 /// The sample of an expression; its bytes stand in `scratch.buf`.
 pub(crate) fn sample_of(
-    alloc: Global,
-    searchers: &mut Searchers,
     expr: &Expr,
     place: Place<'_>,
     scratch: &mut Scratch,
@@ -88,20 +83,23 @@ pub(crate) fn sample_of(
 {
     let Place { msg, setting } = place;
     let vars = setting.vars;
-    let Scratch { buf, spare, .. } = scratch;
+    let Scratch {
+        searchers,
+        buf,
+        spare,
+        ..
+    } = scratch;
     match setting.side {
-        Side::Request => eval(alloc, searchers, expr, &ReqEnv::new(msg, vars), buf, spare),
+        Side::Request => eval(searchers, expr, &ReqEnv::new(msg, vars), buf, spare),
         Side::Answer(method) => {
             let env = ResEnv::new(msg, method, vars);
-            eval(alloc, searchers, expr, &env, buf, spare)
+            eval(searchers, expr, &env, buf, spare)
         }
     }
 }
 
 /// Whether a condition holds.
 pub fn is_met(
-    alloc: Global,
-    searchers: &mut Searchers,
     cond: &Cond,
     side: Side<'_>,
     msg: &Arena,
@@ -113,12 +111,17 @@ pub fn is_met(
     ensures succeeds { conditions.holds_pattern cond.now ≡ false → IsOk result }
     ensures scratch { IsScratch msg.now.size scratch.new }
 {
-    let Scratch { buf, spare, .. } = scratch;
+    let Scratch {
+        searchers,
+        buf,
+        spare,
+        ..
+    } = scratch;
     match side {
-        Side::Request => holds(alloc, searchers, cond, &ReqEnv::new(msg, vars), buf, spare),
+        Side::Request => holds(searchers, cond, &ReqEnv::new(msg, vars), buf, spare),
         Side::Answer(method) => {
             let env = ResEnv::new(msg, method, vars);
-            holds(alloc, searchers, cond, &env, buf, spare)
+            holds(searchers, cond, &env, buf, spare)
         }
     }
 }

@@ -14,9 +14,8 @@ use crate::action::side::Side;
 use crate::action::stepped::Stepped;
 use crate::action::texts::sample_of;
 use htx_arena::Arena;
-use px_expr::{Expr, Searchers};
+use px_expr::Expr;
 use px_sample::{OutOfMemory, Scope, Vars};
-use std::alloc::Global;
 
 /// What `set-var` is told: the variable, and the expression whose sample it takes.
 #[derive(Clone, Copy)]
@@ -28,8 +27,6 @@ pub(crate) struct Assignment<'a> {
 
 /// `set-var`.
 pub(crate) fn set_var<'a>(
-    alloc: Global,
-    searchers: &mut Searchers,
     assignment: Assignment<'_>,
     side: Side<'a>,
     msg: &'a Arena,
@@ -44,7 +41,7 @@ pub(crate) fn set_var<'a>(
 {
     let Assignment { scope, name, expr } = assignment;
     let setting = Setting { side, vars };
-    let made = sample_of(alloc, searchers, expr, Place { msg, setting }, scratch)?;
+    let made = sample_of(expr, Place { msg, setting }, scratch)?;
     vars.set(scope, name, made, &scratch.buf);
     Ok(Stepped::Done)
 }

@@ -7,7 +7,7 @@ use Rattle.px_conv.proofs.regsub.replace.Given as goal
 abbrev pub invariant-matches : goal.invariant-matches
 invariant-matches l = record {
   cap : l.into.cap ≡ l.initial.into.cap;
-  whole : l.into.bytes ++ regsub (pattern_of l.pat) l.template l.which l.rest ≡ l.initial.into.bytes ++ regsub (pattern_of l.pat) l.template l.which l.text;
+  whole : l.into.bytes ++ regsub (pattern_of l.by.pat.now) l.by.template.now l.by.which l.rest ≡ l.initial.into.bytes ++ regsub (pattern_of l.by.pat.now) l.by.template.now l.by.which l.text;
 }
 
 abbrev pub decreases-matches : goal.decreases-matches
