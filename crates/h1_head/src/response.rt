@@ -26,6 +26,13 @@ use httparse::spans::{EMPTY_HEADER_SPAN, HeaderSpan, ResponseSpans, parse_respon
 use httparse::{Error, Status};
 use htx_arena::Arena;
 
+/// What is known before a response comes: whether its request's method was HEAD, and the limits of its head.
+#[derive(Clone, Copy)]
+struct Terms {
+    head_asked: bool,
+    limits: Limits,
+}
+
 /// Refuses for this reason.
 fn refuse(why: HeadWhy) -> HeadRead
     ensures { result ≡ HeadRead.Refuse (response_code why) why }
@@ -51,19 +58,19 @@ fn receive(
     text: &[u8],
     head: &ResponseSpans,
     fields: &[HeaderSpan],
-    head_asked: bool,
-    limits: Limits,
+    terms: Terms,
     to: &mut Arena,
 ) -> Result<Kept, HeadWhy>
     requires spans { AreResponseSpansGood text.now head.now fields.now }
-    requires reserve { limits.maxrewrite ≤ limits.bufsize }
+    requires reserve { terms.limits.maxrewrite ≤ terms.limits.bufsize }
     requires empty { to.old.blocks ≡ [] }
-    requires size { to.old.size ≡ limits.bufsize }
-    ensures kept { IfOk result (λ kept. IsKept (response_decision head_asked limits (response_span_parts text.now head.now fields.now)) to.new.blocks kept.framing kept.declared kept.close) }
-    ensures refused { IfErr result (λ why. response_decision head_asked limits (response_span_parts text.now head.now fields.now) ≡ Err why) }
+    requires size { to.old.size ≡ terms.limits.bufsize }
+    ensures kept { IfOk result (λ kept. IsKept (response_decision terms.head_asked terms.limits (response_span_parts text.now head.now fields.now)) to.new.blocks kept.framing kept.declared kept.close) }
+    ensures refused { IfErr result (λ why. response_decision terms.head_asked terms.limits (response_span_parts text.now head.now fields.now) ≡ Err why) }
     ensures unkept { OnErr result (to.new.blocks ≡ []) }
     ensures size { to.new.size ≡ to.old.size }
 {
+    let Terms { head_asked, limits } = terms;
     let survey = survey_fields(text, fields);
     if let Some(why) = survey.response_refusal(head.code, head.version) {
         return Err(why);
@@ -86,8 +93,7 @@ fn judge(
     parsed: httparse::Result<ResponseSpans>,
     places: &[HeaderSpan],
     whole: bool,
-    head_asked: bool,
-    limits: Limits,
+    terms: Terms,
     to: &mut Arena,
 ) -> HeadRead
     requires within { IfComplete parsed (IsResponseWithin text.now places.now) }
@@ -95,19 +101,19 @@ fn judge(
     requires partial { OnPartial parsed (HasNoResponse text.now) }
     requires overflows { OnErr parsed (ResponseOverflows most_fields text.now) }
     requires places { length places.now ≤ most_fields }
-    requires reserve { limits.maxrewrite ≤ limits.bufsize }
-    requires text { length text.now ≤ limits.bufsize }
+    requires reserve { terms.limits.maxrewrite ≤ terms.limits.bufsize }
+    requires text { length text.now ≤ terms.limits.bufsize }
     requires alone { behind text.now ≡ text.now }
     requires some { text.now ≢ [] }
     requires begun { text.now ≢ 13 ∷ [] }
     requires empty { to.old.blocks ≡ [] }
-    requires size { to.old.size ≡ limits.bufsize }
+    requires size { to.old.size ≡ terms.limits.bufsize }
     ensures skip { IfMore result (λ skip. skip ≡ 0) }
-    ensures waits { IfMore result (λ _. MayWait (response_heads head_asked) limits whole text.now) }
-    ensures head { IfHead result (Keeps (response_heads head_asked) limits whole text.now to.new.blocks) }
+    ensures waits { IfMore result (λ _. MayWait (response_heads terms.head_asked) terms.limits whole text.now) }
+    ensures head { IfHead result (Keeps (response_heads terms.head_asked) terms.limits whole text.now to.new.blocks) }
     ensures code { IfRefuse result (λ code why. code ≡ response_code why) }
-    ensures why { IfRefuse result (λ _ why. RefusesFor (response_heads head_asked) limits whole text.now why) }
-    ensures long { IfRefuse result (λ _ why. WhereLong why (IsTooLong (response_heads head_asked) limits whole text.now)) }
+    ensures why { IfRefuse result (λ _ why. RefusesFor (response_heads terms.head_asked) terms.limits whole text.now why) }
+    ensures long { IfRefuse result (λ _ why. WhereLong why (IsTooLong (response_heads terms.head_asked) terms.limits whole text.now)) }
     ensures unkept { UnlessHead result (to.new.blocks ≡ []) }
     ensures size { to.new.size ≡ to.old.size }
 {
@@ -116,7 +122,7 @@ fn judge(
             if head.code < 100 {
                 return refuse(HeadWhy::Grammar);
             }
-            match receive(text, &head, &places[..head.headers], head_asked, limits, to) {
+            match receive(text, &head, &places[..head.headers], terms, to) {
                 Ok(kept) => HeadRead::Head {
                     used: head.len,
                     framing: kept.framing,
@@ -126,7 +132,7 @@ fn judge(
                 Err(why) => refuse(why),
             }
         }
-        Ok(Status::Partial) => match wait_for(text, whole, limits) {
+        Ok(Status::Partial) => match wait_for(text, whole, terms.limits) {
             Wait::More => HeadRead::More { skip: 0 },
             Wait::Ended => refuse(HeadWhy::Grammar),
             Wait::Long => refuse(HeadWhy::Long),
@@ -138,20 +144,20 @@ fn judge(
 
 /// Reads the head at the front of a text that has no empty line in front. Few places are cleared for its fields; all that a head
 /// may have only where it has more.
-fn read_text(text: &[u8], whole: bool, head_asked: bool, limits: Limits, to: &mut Arena) -> HeadRead
-    requires reserve { limits.maxrewrite ≤ limits.bufsize }
-    requires text { length text.now ≤ limits.bufsize }
+fn read_text(text: &[u8], whole: bool, terms: Terms, to: &mut Arena) -> HeadRead
+    requires reserve { terms.limits.maxrewrite ≤ terms.limits.bufsize }
+    requires text { length text.now ≤ terms.limits.bufsize }
     requires alone { behind text.now ≡ text.now }
     requires some { text.now ≢ [] }
     requires begun { text.now ≢ 13 ∷ [] }
     requires empty { to.old.blocks ≡ [] }
-    requires size { to.old.size ≡ limits.bufsize }
+    requires size { to.old.size ≡ terms.limits.bufsize }
     ensures skip { IfMore result (λ skip. skip ≡ 0) }
-    ensures waits { IfMore result (λ _. MayWait (response_heads head_asked) limits whole text.now) }
-    ensures head { IfHead result (Keeps (response_heads head_asked) limits whole text.now to.new.blocks) }
+    ensures waits { IfMore result (λ _. MayWait (response_heads terms.head_asked) terms.limits whole text.now) }
+    ensures head { IfHead result (Keeps (response_heads terms.head_asked) terms.limits whole text.now to.new.blocks) }
     ensures code { IfRefuse result (λ code why. code ≡ response_code why) }
-    ensures why { IfRefuse result (λ _ why. RefusesFor (response_heads head_asked) limits whole text.now why) }
-    ensures long { IfRefuse result (λ _ why. WhereLong why (IsTooLong (response_heads head_asked) limits whole text.now)) }
+    ensures why { IfRefuse result (λ _ why. RefusesFor (response_heads terms.head_asked) terms.limits whole text.now why) }
+    ensures long { IfRefuse result (λ _ why. WhereLong why (IsTooLong (response_heads terms.head_asked) terms.limits whole text.now)) }
     ensures unkept { UnlessHead result (to.new.blocks ≡ []) }
     ensures size { to.new.size ≡ to.old.size }
 {
@@ -160,9 +166,9 @@ fn read_text(text: &[u8], whole: bool, head_asked: bool, limits: Limits, to: &mu
     if wants_places(&parsed) {
         let mut places = [EMPTY_HEADER_SPAN; MAX_FIELDS];
         let parsed = parse_response(text, &mut places);
-        return judge(text, parsed, &places, whole, head_asked, limits, to);
+        return judge(text, parsed, &places, whole, terms, to);
     }
-    judge(text, parsed, &few, whole, head_asked, limits, to)
+    judge(text, parsed, &few, whole, terms, to)
 }
 
 /// Reads the head of a response at the front of the window, behind its empty lines (RFC 9112 sections 2.2 and 4).
@@ -214,7 +220,8 @@ pub fn read_response(
         }
         return HeadRead::More { skip };
     }
-    match read_text(text, whole, head_asked, limits, to) {
+    let terms = Terms { head_asked, limits };
+    match read_text(text, whole, terms, to) {
         HeadRead::More { skip: _ } => HeadRead::More { skip },
         HeadRead::Head {
             used,
