@@ -53,21 +53,27 @@ fn read_braces<'w, P: Patterns>(
     }
 }
 
+/// The `acl` lines above a rule of a direction.
+#[derive(Clone, Copy)]
+struct Acls<'l> {
+    side: Side,
+    lines: &'l AclList,
+}
+
 /// The tests of a name or of braces, and the words behind.
 fn tests_at<'w, P: Patterns>(
     alloc: Global,
-    side: Side,
-    lines: &AclList,
+    acls: Acls<'_>,
     word: &[u8],
     others: WordsLeft<'w>,
     pats: &mut P,
 ) -> Result<(TestList, WordsLeft<'w>), TextFault>
-    ensures { ReadsText (λ found. found) (tests_at side lines.now word.now others.entry) (P.refusals pats.old) (P.refusals pats.new) (P.last_refused pats.new) result }
+    ensures { ReadsText (λ found. found) (tests_at acls.entry.side acls.entry.lines.now word.now others.entry) (P.refusals pats.old) (P.refusals pats.new) (P.last_refused pats.new) result }
 {
     if is_open(word) {
-        return read_braces(alloc, side, others, pats);
+        return read_braces(alloc, acls.side, others, pats);
     }
-    let tests = named_tests(alloc, side, lines, word)?;
+    let tests = named_tests(alloc, acls.side, acls.lines, word)?;
     Ok((tests, others))
 }
 
@@ -75,51 +81,48 @@ fn tests_at<'w, P: Patterns>(
 fn term_of<'w, P: Patterns>(
     alloc: Global,
     not: bool,
-    side: Side,
-    lines: &AclList,
+    acls: Acls<'_>,
     word: &[u8],
     others: WordsLeft<'w>,
     pats: &mut P,
 ) -> Result<(Term, WordsLeft<'w>), TextFault>
-    ensures { ReadsText (λ found. found) (negated_or_not not side lines.now word.now others.entry) (P.refusals pats.old) (P.refusals pats.new) (P.last_refused pats.new) result }
+    ensures { ReadsText (λ found. found) (negated_or_not not acls.entry.side acls.entry.lines.now word.now others.entry) (P.refusals pats.old) (P.refusals pats.new) (P.last_refused pats.new) result }
 {
-    let (tests, others) = tests_at(alloc, side, lines, word, others, pats)?;
+    let (tests, others) = tests_at(alloc, acls, word, others, pats)?;
     Ok((Term { not, tests }, others))
 }
 
 /// A negated term, of which the `!` is its own word or is joined to what follows.
 fn marked<'w, P: Patterns>(
     alloc: Global,
-    side: Side,
-    lines: &AclList,
+    acls: Acls<'_>,
     joined: &[u8],
     others: WordsLeft<'w>,
     pats: &mut P,
 ) -> Result<(Term, WordsLeft<'w>), TextFault>
-    ensures { ReadsText (λ found. found) (marked side lines.now joined.now others.entry) (P.refusals pats.old) (P.refusals pats.new) (P.last_refused pats.new) result }
+    ensures { ReadsText (λ found. found) (marked acls.entry.side acls.entry.lines.now joined.now others.entry) (P.refusals pats.old) (P.refusals pats.new) (P.last_refused pats.new) result }
 {
     if !joined.is_empty() {
-        return term_of(alloc, true, side, lines, joined, others, pats);
+        return term_of(alloc, true, acls, joined, others, pats);
     }
     let (word, others) = others.word_or(TextKind::Acl)?;
-    term_of(alloc, true, side, lines, word, others, pats)
+    term_of(alloc, true, acls, word, others, pats)
 }
 
 /// A term that begins with this word, and the words behind it.
 #[tactic(auto, unfolding(crate::specs::Condition::Conditions::term_at))]
 fn term_at<'w, P: Patterns>(
     alloc: Global,
-    side: Side,
-    lines: &AclList,
+    acls: Acls<'_>,
     word: &[u8],
     others: WordsLeft<'w>,
     pats: &mut P,
 ) -> Result<(Term, WordsLeft<'w>), TextFault>
-    ensures { ReadsText (λ found. found) (term_at side lines.now word.now others.entry) (P.refusals pats.old) (P.refusals pats.new) (P.last_refused pats.new) result }
+    ensures { ReadsText (λ found. found) (term_at acls.entry.side acls.entry.lines.now word.now others.entry) (P.refusals pats.old) (P.refusals pats.new) (P.last_refused pats.new) result }
 {
     match word.split_first() {
-        Some((b'!', joined)) => marked(alloc, side, lines, joined, others, pats),
-        _ => term_of(alloc, false, side, lines, word, others, pats),
+        Some((b'!', joined)) => marked(alloc, acls, joined, others, pats),
+        _ => term_of(alloc, false, acls, word, others, pats),
     }
 }
 
@@ -167,15 +170,14 @@ impl Groups {
 #[tactic(auto, unfolding(crate::specs::Condition::Conditions::with_word))]
 fn with_word<'w, P: Patterns>(
     alloc: Global,
-    side: Side,
-    lines: &AclList,
+    acls: Acls<'_>,
     so_far: Groups,
     word: &[u8],
     others: WordsLeft<'w>,
     pats: &mut P,
 ) -> Result<(Groups, WordsLeft<'w>), TextFault>
     requires { length so_far.whole + length so_far.terms < 1000 }
-    ensures reads { ReadsText (λ found. found) (with_word side lines.now so_far word.now others.entry) (P.refusals pats.old) (P.refusals pats.new) (P.last_refused pats.new) result }
+    ensures reads { ReadsText (λ found. found) (with_word acls.entry.side acls.entry.lines.now so_far word.now others.entry) (P.refusals pats.old) (P.refusals pats.new) (P.last_refused pats.new) result }
     ensures few { IfOk result (λ found. length found.0.whole + length found.0.terms ≤ length so_far.whole + length so_far.terms + 1) }
 {
     if is_or(word) {
@@ -183,7 +185,7 @@ fn with_word<'w, P: Patterns>(
         let terms = TermList::new(alloc);
         return Ok((Groups { whole, terms }, others));
     }
-    match term_at(alloc, side, lines, word, others, pats) {
+    match term_at(alloc, acls, word, others, pats) {
         Ok((term, behind)) => {
             let groups = so_far.with_term(term)?;
             Ok((groups, behind))
@@ -198,12 +200,11 @@ fn with_word<'w, P: Patterns>(
 /// Groups of terms, which `or` or `||` joins.
 fn read_groups<P: Patterns>(
     alloc: Global,
-    side: Side,
-    lines: &AclList,
+    acls: Acls<'_>,
     words: WordsLeft<'_>,
     pats: &mut P,
 ) -> Result<GroupList, TextFault>
-    ensures { ReadsText (λ groups. groups) (groups_of side lines.now words.entry) (P.refusals pats.old) (P.refusals pats.new) (P.last_refused pats.new) result }
+    ensures { ReadsText (λ groups. groups) (groups_of acls.entry.side acls.entry.lines.now words.entry) (P.refusals pats.old) (P.refusals pats.new) (P.last_refused pats.new) result }
 {
     let mut groups = Groups {
         whole: GroupList::new(alloc),
@@ -215,7 +216,7 @@ fn read_groups<P: Patterns>(
         let Some(word) = left.next() else {
             return groups.closed();
         };
-        match with_word(alloc, side, lines, groups, word, left, pats) {
+        match with_word(alloc, acls, groups, word, left, pats) {
             Ok((next, behind)) => {
                 groups = next;
                 left = behind;
@@ -234,15 +235,14 @@ fn read_groups<P: Patterns>(
 #[tactic(auto, unfolding(crate::specs::Condition::Conditions::condition_of))]
 fn read_condition<P: Patterns>(
     alloc: Global,
-    side: Side,
-    lines: &AclList,
+    acls: Acls<'_>,
     unless: bool,
     words: WordsLeft<'_>,
     pats: &mut P,
 ) -> Result<Option<Cond>, TextFault>
-    ensures { ReadsText (λ cond. cond) (condition_of side lines.now unless words.entry) (P.refusals pats.old) (P.refusals pats.new) (P.last_refused pats.new) result }
+    ensures { ReadsText (λ cond. cond) (condition_of acls.entry.side acls.entry.lines.now unless words.entry) (P.refusals pats.old) (P.refusals pats.new) (P.last_refused pats.new) result }
 {
-    let groups = read_groups(alloc, side, lines, words, pats)?;
+    let groups = read_groups(alloc, acls, words, pats)?;
     Ok(Some(Cond { unless, groups }))
 }
 
@@ -260,15 +260,16 @@ pub fn read_rule_end<P: Patterns>(
 ) -> Result<Option<Cond>, TextFault>
     ensures { ReadsText (λ cond. cond) (rule_end side lines.now words.entry) (P.refusals pats.old) (P.refusals pats.new) (P.last_refused pats.new) result }
 {
+    let acls = Acls { side, lines };
     let mut others = words;
     let Some(word) = others.next() else {
         return Ok(None);
     };
     if is_word(word, b"if") {
-        return read_condition(alloc, side, lines, false, others, pats);
+        return read_condition(alloc, acls, false, others, pats);
     }
     if is_word(word, b"unless") {
-        return read_condition(alloc, side, lines, true, others, pats);
+        return read_condition(alloc, acls, true, others, pats);
     }
     Err(TextFault::Refused(TextKind::Argument))
 }

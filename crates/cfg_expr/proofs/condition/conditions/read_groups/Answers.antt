@@ -9,8 +9,8 @@ use Rattle.cfg_expr.proofs.condition.conditions.read_groups.Goals as goal
 pub returns-in_default : goal.returns-in_default
 returns-in_default g c =
     let h = c.each.invariant in
-    let side = c.args.side in
-    let lines = c.args.lines.now in
+    let side = c.args.acls.side in
+    let lines = c.args.acls.lines.now in
     let all = groups_of side lines c.args.words in
     let so_far = c.each.groups in
     plainly (λ (groups : List (List Term)). groups) all (with_group so_far.whole so_far.terms) _ _ _ _
@@ -19,8 +19,8 @@ returns-in_default g c =
 pub returns-in-Err : goal.returns-in-Err
 returns-in-Err g c =
     let h = c.each.invariant in
-    let side = c.args.side in
-    let lines = c.args.lines.now in
+    let side = c.args.acls.side in
+    let lines = c.args.acls.lines.now in
     let leads = rw c.in-Some.ensures at h.leads in
     let inside : c.each._at < length c.args.words = omega (arith, c.len-count.ensures.words) in
     groups_out side lines (groups_of side lines c.args.words) h.most c.each._at (length c.args.words) c.each.groups c.in-Some.word.now c.next.new.self _ _ _ _ (cause_of c.in-Err.fault)
@@ -29,8 +29,8 @@ returns-in-Err g c =
 pub each-preserved : goal.each-preserved
 each-preserved g c =
     let h = c.each.invariant in
-    let side = c.args.side in
-    let lines = c.args.lines.now in
+    let side = c.args.acls.side in
+    let lines = c.args.acls.lines.now in
     let leads = rw c.in-Some.ensures at h.leads in
     let inside : c.each._at < length c.args.words = omega (arith, c.len-count.ensures.words) in
     let next = groups_on side lines (groups_of side lines c.args.words) h.most c.each._at (length c.args.words) c.each.groups c.in-Some.word.now c.next.new.self c.in-Ok.next c.in-Ok.behind
@@ -40,8 +40,8 @@ each-preserved g c =
 pub returns-then-len-gt0 : goal.returns-then-len-gt0
 returns-then-len-gt0 g c =
     let h = c.each.invariant in
-    let side = c.args.side in
-    let lines = c.args.lines.now in
+    let side = c.args.acls.side in
+    let lines = c.args.acls.lines.now in
     let over : h.most ≡ 0 = omega (arith, c.len-count.ensures.words) in
     let some : 0 < length c.each.left = omega (arith, c.len.ensures.words) in
     (groups_over side lines (groups_of side lines c.args.words) h.most c.each.groups c.each.left over some h.leads, h.same)
@@ -49,8 +49,8 @@ returns-then-len-gt0 g c =
 pub returns : goal.returns
 returns g c =
     let h = c.each.invariant in
-    let side = c.args.side in
-    let lines = c.args.lines.now in
+    let side = c.args.acls.side in
+    let lines = c.args.acls.lines.now in
     let all = groups_of side lines c.args.words in
     let so_far = c.each.groups in
     let none = no_words c.each.left (omega (arith, c.len.ensures.words)) in

@@ -9,6 +9,6 @@ invariant-each g l = record {
   most : ℕ;
   steps : l._at + most ≡ length l.fn.words;
   few : length l.groups.whole + length l.groups.terms ≤ l._at;
-  leads : Leads (groups_of l.fn.side l.lines l.fn.words) (groups_from l.fn.side l.lines most l.groups l.left);
+  leads : Leads (groups_of l.fn.acls.side l.fn.acls.lines.now l.fn.words) (groups_from l.fn.acls.side l.fn.acls.lines.now most l.groups l.left);
   same : g.P.Patterns.refusals l.pats ≡ g.P.Patterns.refusals l.fn.pats;
 }
