@@ -16,7 +16,7 @@ use http_model::OutOfMemory;
 use http_rules::Config;
 use htx_drive::replay::Cores;
 use serve_run::Opens;
-use session_core::Core;
+use session_core::{Core, Renewable};
 use std::alloc::Global;
 use std::marker::Model;
 
