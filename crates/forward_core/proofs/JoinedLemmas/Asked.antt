@@ -5,7 +5,7 @@ use Rattle.http_rules.specs.Run.{IsHead}
 use Rattle.forward_core.specs.Meaning.Product.{meaning_of}
 use Rattle.session_core.specs.Place as at
 use Rattle.session_core.specs.Place.{place_behind}
-use Rattle.session_core.specs.Sided.{Sided, RequestSeen, asker_in}
+use Rattle.session_core.specs.Sided.{Sided, RequestSeen, asker_in, unsaid}
 use Rattle.session_core.specs.Leads.{AsksTo, AskUses}
 use Rattle.session_core.specs.declared.sides.Asked.{Asked}
 use Rattle.session_core.specs.declared.sides.Asked.TheVariants as asks
@@ -30,8 +30,8 @@ use Rattle.forward_core.proofs.JoinedLemmas.Sending.{idle_starts, idle_heard}
 past_behind : (cfg : Config) (new : Directions) (q : RequestSeen) (p : Sided (meaning_of cfg)) (asks : Asked) → AsksTo (meaning_of cfg) (DirectionsStand cfg new) q p asks → HasPast new
 past_behind cfg new q p asks.More h = (cfg, p, h)
 past_behind cfg new q p asks.Nothing h = (cfg, p, h.0)
-past_behind cfg new q p asks.Refuse h = (cfg, record p { saying = h.text }, h.stands)
-past_behind cfg new q p (asks.Reply kept) h = (cfg, record p { reply = h.reply; now = h.now; saying = h.text }, h.stands)
+past_behind cfg new q p asks.Refuse h = (cfg, record p { saying = unsaid h.text }, h.stands)
+past_behind cfg new q p (asks.Reply kept) h = (cfg, record p { reply = h.reply; now = h.now; saying = unsaid h.text }, h.stands)
 past_behind cfg new q p asks.Send h = (cfg, record p { asking = h.asking; to_server = [] }, h.stands)
 
 abbrev pub LeadsOn : (old new : Directions) → Asked → Type 0

@@ -14,7 +14,7 @@ use Rattle.header_ops.specs.Headers.{HasEnd}
 use Rattle.http_rules.specs.Run.{IsHead}
 use Rattle.session_core.specs.History.{Coming}
 use Rattle.session_core.specs.Place as at
-use Rattle.session_core.specs.Sided.{Asking, Reply, RequestSeen, asker_in}
+use Rattle.session_core.specs.Sided.{Asking, Reply, RequestSeen, asker_in, Saying}
 use Rattle.session_core.specs.declared.Source.TheVariants as source
 use Rattle.lane.specs.Asking.{array_of}
 use Rattle.forward_core.specs.declared.request.kept.Kept.{Kept}
@@ -121,7 +121,7 @@ head_finished old mid framing head f = (finish_request head.0 framing, f.finishe
 
 -- the answer direction knows of the request
 pub record BeginsAnswer (old new : AnswerSide) (asker : Asker) : Type 0 where
-  pub leads : (cfg : Config) (was asking : Asking Variables) (server : Coming) (put : List ℕ) (now : Variables) (saying : List ℕ) → AnswerStands cfg old was server put now saying
+  pub leads : (cfg : Config) (was asking : Asking Variables) (server : Coming) (put : List ℕ) (now : Variables) (saying : Saying) → AnswerStands cfg old was server put now saying
       → IsAsker asker (asker_in asking) → AnswerStands cfg new asking server put now saying
   pub seen : answers.seen new ≡ answers.seen old
   pub place : answers.place_of new ≡ answers.place_of old
@@ -155,7 +155,7 @@ pub record SendsSo (old new : Directions) (framing : Framing) (kept : Kept) : Ty
   pub leads : SendsOn old.request new.request framing
   pub goes : (cfg : Config) (vars : Variables) (came : Coming) (asking : Asking Variables) (reply : Reply Variables)
       → RequestStands cfg new.request vars came asking [] reply → RequestsSo cfg new.request vars came asking []
-  pub knows : (cfg : Config) (was asking : Asking Variables) (server : Coming) (put : List ℕ) (now : Variables) (saying : List ℕ)
+  pub knows : (cfg : Config) (was asking : Asking Variables) (server : Coming) (put : List ℕ) (now : Variables) (saying : Saying)
       → AnswerStands cfg old.answer was server put now saying → IsAsker (asker_for kept) (asker_in asking) → AnswerStands cfg new.answer asking server put now saying
   pub rules : new.rules ≡ old.rules
   pub method : new.method ≡ old.method

@@ -12,7 +12,7 @@ use Rattle.session_model.specs.Meaning.{is_head_request}
 use Rattle.session_model.specs.Asking.{Asks, Refused, asked_by}
 use Rattle.session_core.specs.Consequences.{IsTotal}
 use Rattle.session_core.specs.History.{Coming, Continues}
-use Rattle.session_core.specs.Sided.{Sided, Asking, Reply, asker_in}
+use Rattle.session_core.specs.Sided.{Sided, Asking, Reply, asker_in, unsaid}
 use Rattle.session_core.specs.Leads.{AsksRefusal}
 use Rattle.session_core.specs.declared.sides.Asked.TheVariants as asks
 use Rattle.forward_core.specs.Rules.Ruling.{config_of, IsReady}
@@ -51,7 +51,7 @@ pub record Stills (cfg : Config) (d : Directions) (p : Sided (meaning_of cfg)) :
 
 -- a text is said, and the request direction stays where nothing is read
 text_stands : (cfg : Config) (old new : Directions) (p : Sided (meaning_of cfg)) (text : List ℕ) → Stills cfg old p → requests.place_of old.request ≡ asked.Idle → new.request ≡ old.request
-    → settings_of new ≡ settings_of old → SaysText cfg old.answer new.answer text → DirectionsStand cfg new (record p { saying = text })
+    → settings_of new ≡ settings_of old → SaysText cfg old.answer new.answer text → DirectionsStand cfg new (record p { saying = unsaid text })
 text_stands cfg old new p text s idle request config says =
     let still : requests.place_of new.request ≡ asked.Idle = ap (λ (x : RequestSide). requests.place_of x) request ∙ idle in
     record {

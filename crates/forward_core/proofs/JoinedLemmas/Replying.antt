@@ -21,7 +21,7 @@ use Rattle.session_model.specs.Meaning.{Meaning, is_head_request, is_bodiless, k
 use Rattle.session_model.specs.Asking.{asked_by}
 use Rattle.session_core.specs.Consequences.{IsTotal}
 use Rattle.session_core.specs.History.{Coming}
-use Rattle.session_core.specs.Sided.{Sided, Asking, asker_in, replied_to}
+use Rattle.session_core.specs.Sided.{Sided, Asking, asker_in, replied_to, Saying, unsaid}
 use Rattle.session_core.specs.Sided as sided
 use Rattle.session_core.specs.Leads.{AsksReply}
 use Rattle.session_core.specs.declared.sides.Asked.TheVariants as asks
@@ -76,7 +76,7 @@ reply_listed cfg env left m plain good is =
 -- ---- what it is said by
 
 -- nothing was put out, whatever the variables behind an answer are
-any_now : (cfg : Config) (side : AnswerSide) (asking : Asking Variables) (server : Coming) (put : List ℕ) (now other : Variables) (saying : List ℕ) → answers.place_of side ≡ answered.Idle
+any_now : (cfg : Config) (side : AnswerSide) (asking : Asking Variables) (server : Coming) (put : List ℕ) (now other : Variables) (saying : Saying) → answers.place_of side ≡ answered.Idle
     → AnswerStands cfg side asking server put now saying → AnswerStands cfg side asking server put other saying
 any_now cfg side asking server put now other saying idle s =
     record {
@@ -105,8 +105,8 @@ SaysEach d a rules method no_body keep kept =
 -- how the directions stand behind it
 replied_stands : (cfg : Config) (d : Directions) (a : AnswerSide) (rules : SessionRules) (r : RequestSide) (p : Sided (meaning_of cfg)) (reply : sided.Reply Variables) (text : List ℕ)
     → settings_of d ≡ cfg → config_of rules ≡ config_of d.rules → IsTotal (meaning_of cfg) → requests.place_of r ≡ asked.Replied
-    → RequestStands cfg r p.vars p.came p.asking p.to_server reply → AnswerStands cfg a p.asking p.server p.to_client rules.vars text
-    → DirectionsStand cfg (record d { answer = a; rules = rules; request = r }) (record p { reply = reply; now = rules.vars; saying = text })
+    → RequestStands cfg r p.vars p.came p.asking p.to_server reply → AnswerStands cfg a p.asking p.server p.to_client rules.vars (unsaid text)
+    → DirectionsStand cfg (record d { answer = a; rules = rules; request = r }) (record p { reply = reply; now = rules.vars; saying = unsaid text })
 replied_stands cfg d a rules r p reply text config same total place request answer =
     record {
       config = same ∙ config;

@@ -7,7 +7,7 @@ use Rattle.session_model.specs.Stream.{Stream}
 use Rattle.session_core.specs.Awaits.{awaits_continue}
 use Rattle.session_core.specs.History.{Past, Coming, Continues}
 use Rattle.session_core.specs.InHand.{ExchangesAre}
-use Rattle.session_core.specs.Sided.{asker_in, RequestAsks}
+use Rattle.session_core.specs.Sided.{asker_in, RequestAsks, Saying}
 use Rattle.session_core.specs.Stands.{InPhase}
 use Rattle.session_core.specs.Waits.{is_sending, wants_of}
 use Rattle.session_core.specs.declared.Phase.{Phase}
@@ -28,7 +28,7 @@ pub record Hears (cfg : Config) (d : Directions) (past : Past) : Type 0 where
   pub server : Coming
   pub put : List ℕ
   pub now : Variables
-  pub saying : List ℕ
+  pub saying : Saying
   pub stream : served.connect.stream ≡ server
   pub answer : AnswerStands cfg d.answer served.asking server put now saying
   pub awaits : (request_of d).awaits ≡ awaits_continue served.asking.received

@@ -16,7 +16,7 @@ use Rattle.session_model.specs.Meaning.{Meaning, status_of}
 use Rattle.session_model.specs.Asking.{Asker}
 use Rattle.session_model.specs.Answering.{Final, AnswersReading, response_declares_too_much}
 use Rattle.session_core.specs.History.{Coming, Continues}
-use Rattle.session_core.specs.Sided.{Asking, asker_in}
+use Rattle.session_core.specs.Sided.{Asking, asker_in, Saying}
 use Rattle.session_core.specs.declared.Told.{Told}
 use Rattle.session_core.specs.declared.Told.TheVariants as told
 use Rattle.session_core.specs.Leads.{AnswerWaits}
@@ -70,7 +70,7 @@ place_when true = place.Keeping
 place_when false = place.Closing
 
 -- it stands for the last that goes out, with these variables behind it
-pub record Finds (cfg : Config) (new : AnswerSide) (asking : Asking Variables) (server : Coming) (to_client saying : List ℕ) (left : Variables) : Type 0 where
+pub record Finds (cfg : Config) (new : AnswerSide) (asking : Asking Variables) (server : Coming) (to_client : List ℕ) (saying : Saying) (left : Variables) : Type 0 where
   pub behind : Variables
   pub stands : AnswerStands cfg new asking server to_client behind saying
   pub vars : left ≡ behind
@@ -121,7 +121,7 @@ pub record Finishes (old new : AnswerSide) (replaced not_modified : Bool) (head 
 -- ---- a step
 
 -- interim heads were put out, and the last that answers goes out behind them, or heads are waited for
-pub record Decides (cfg : Config) (old new : AnswerSide) (asking : Asking Variables) (server : Coming) (to_client saying : List ℕ) (left : Variables) : Type 0 where
+pub record Decides (cfg : Config) (old new : AnswerSide) (asking : Asking Variables) (server : Coming) (to_client : List ℕ) (saying : Saying) (left : Variables) : Type 0 where
   pub put : List ℕ
   pub behind : Variables
   pub stands : AnswerStands cfg new asking server (to_client ++ put) behind saying

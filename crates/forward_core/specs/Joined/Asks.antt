@@ -12,7 +12,7 @@ use Rattle.h1_head.specs.Lines.{IsRequestLine}
 use Rattle.session_model.specs.Env.{request_env}
 use Rattle.session_model.specs.Amending.{reply_sent, refusal_sent, behind_reply}
 use Rattle.session_core.specs.History.{Coming}
-use Rattle.session_core.specs.Sided.{Asking, Sided}
+use Rattle.session_core.specs.Sided.{Asking, Sided, Saying, unsaid}
 use Rattle.session_core.specs.Stands.{kept_with}
 use Rattle.session_core.specs.Leads.{AsksTo, AskWaits, AskKeeps}
 use Rattle.session_core.specs.Place.{place_behind}
@@ -49,8 +49,8 @@ use Rattle.forward_core.specs.declared.joined.directions.Directions.{Directions}
 -- from an answer direction that answers nothing to one that says this text
 abbrev pub SaysText : Config → AnswerSide → AnswerSide → (text : List ℕ) → Type 0
 SaysText cfg old new text =
-    (asking : Asking Variables) (server : Coming) (put : List ℕ) (now : Variables) (saying : List ℕ)
-    → AnswerStands cfg old asking server put now saying → AnswerStands cfg new asking server put now text
+    (asking : Asking Variables) (server : Coming) (put : List ℕ) (now : Variables) (saying : Saying)
+    → AnswerStands cfg old asking server put now saying → AnswerStands cfg new asking server put now (unsaid text)
 
 -- what is said is the refusal with this code, as the rules on all that the client is sent leave it
 pub record SaysRefusal (cfg : Config) (old new : AnswerSide) (code : ℕ) (method : List ℕ) (vars : Variables) (no_body : Bool) : Type 0 where

@@ -14,6 +14,7 @@ impl<'c> Sides for Directions<'c> {
     ghost use Rattle.forward_core.specs.Rules.Ruling.{holds_pattern};
     ghost use Rattle.forward_core.specs.Joined.Joined.{DirectionsStand, Placed, request_of, answer_of};
     ghost use Rattle.forward_core.specs.Joined.Lent.{with_to_client, with_to_server, client_lent, server_lent};
+    ghost use Rattle.forward_core.specs.Joined.Begins.{begins};
 
     ghost meaning = { meaning_of };
 
@@ -68,6 +69,8 @@ impl<'c> Sides for Directions<'c> {
     ghost lends_to_client = { client_lent };
 
     ghost lends_to_server = { server_lent };
+
+    ghost begins_so = { begins };
 }
 
 impl<'c> Shows for Directions<'c> {

@@ -5,7 +5,7 @@ ghost use Rattle.http_rules.specs.declared.config.Config.{Config};
 ghost use Rattle.http_model.specs.Head.{Head, head_blocks};
 ghost use Rattle.http_model.specs.Reading.{Received};
 ghost use Rattle.session_core.specs.History.{Coming};
-ghost use Rattle.session_core.specs.Sided.{Asking};
+ghost use Rattle.session_core.specs.Sided.{Asking, Saying};
 ghost use Rattle.session_model.specs.Meaning.{is_interim};
 ghost use Rattle.lane.specs.Answering.{stage_of, input_of, blocks_of};
 ghost use Rattle.lane.specs.declared.direction.stage.Stage.TheVariants as stage;
@@ -24,7 +24,7 @@ impl AnswerSide {
         requires sound { IsSoundSide self.old }
         requires heads { place_of self.old ≡ place.Heads }
         requires stirs { (seen self.old).at_rest ≡ false }
-        ensures leads { (cfg : Config) (asking : Asking Variables) (server : Coming) (put : List ℕ) (now : Variables) (saying : List ℕ) → AnswerStands cfg self.old asking server put now saying
+        ensures leads { (cfg : Config) (asking : Asking Variables) (server : Coming) (put : List ℕ) (now : Variables) (saying : Saying) → AnswerStands cfg self.old asking server put now saying
             → Hears cfg self.old self.new asking server put now saying result }
         ensures between { IsBetween self.new }
         ensures there { StandsThere result self.new }
@@ -46,7 +46,7 @@ impl AnswerSide {
         requires sound { IsSoundSide self.old }
         requires heads { place_of self.old ≡ place.Heads }
         requires stirs { (seen self.old).at_rest ≡ false }
-        ensures leads { (cfg : Config) (asking : Asking Variables) (server : Coming) (put : List ℕ) (now : Variables) (saying : List ℕ) → AnswerStands cfg self.old asking server put now saying
+        ensures leads { (cfg : Config) (asking : Asking Variables) (server : Coming) (put : List ℕ) (now : Variables) (saying : Saying) → AnswerStands cfg self.old asking server put now saying
             → Hears cfg self.old self.new asking server put now saying result }
         ensures between { IsBetween self.new }
         ensures there { StandsThere result self.new }
@@ -64,7 +64,7 @@ impl AnswerSide {
     fn read_heads(&mut self) -> Heard
         requires between { IsBetween self.old }
         requires reading { stage_of self.old.lane ≡ stage.Reading }
-        ensures leads { (cfg : Config) (asking : Asking Variables) (server : Coming) (put : List ℕ) (now : Variables) (saying : List ℕ) → AnswerStands cfg self.old asking server put now saying
+        ensures leads { (cfg : Config) (asking : Asking Variables) (server : Coming) (put : List ℕ) (now : Variables) (saying : Saying) → AnswerStands cfg self.old asking server put now saying
             → Hears cfg self.old self.new asking server put now saying result }
         ensures between { IsBetween self.new }
         ensures there { StandsThere result self.new }
@@ -87,7 +87,7 @@ impl AnswerSide {
     fn read_on(&mut self) -> Heard
         requires between { IsBetween self.old }
         requires reading { stage_of self.old.lane ≡ stage.Reading }
-        ensures leads { (cfg : Config) (asking : Asking Variables) (server : Coming) (put : List ℕ) (now : Variables) (saying : List ℕ) → AnswerStands cfg self.old asking server put now saying
+        ensures leads { (cfg : Config) (asking : Asking Variables) (server : Coming) (put : List ℕ) (now : Variables) (saying : Saying) → AnswerStands cfg self.old asking server put now saying
             → Hears cfg self.old self.new asking server put now saying result }
         ensures between { IsBetween self.new }
         ensures there { StandsThere result self.new }
@@ -111,7 +111,7 @@ impl AnswerSide {
     fn tell_head(&mut self) -> Heard
         requires between { IsBetween self.old }
         requires has { HasHead self.old }
-        ensures leads { (cfg : Config) (asking : Asking Variables) (server : Coming) (put : List ℕ) (now : Variables) (saying : List ℕ) (received : Received) → IsRead cfg self.old asking server put received
+        ensures leads { (cfg : Config) (asking : Asking Variables) (server : Coming) (put : List ℕ) (now : Variables) (saying : Saying) (received : Received) → IsRead cfg self.old asking server put received
             → blocks_of self.old.lane ≡ head_blocks received.head → Hears cfg self.old self.new asking server put now saying result }
         ensures between { IsBetween self.new }
         ensures there { StandsThere result self.new }
@@ -138,7 +138,7 @@ impl AnswerSide {
     fn pass_or_drop(&mut self) -> Heard
         requires between { IsBetween self.old }
         requires has { HasHead self.old }
-        ensures leads { (cfg : Config) (asking : Asking Variables) (server : Coming) (put : List ℕ) (now : Variables) (saying : List ℕ) (received : Received) → IsRead cfg self.old asking server put received
+        ensures leads { (cfg : Config) (asking : Asking Variables) (server : Coming) (put : List ℕ) (now : Variables) (saying : Saying) (received : Received) → IsRead cfg self.old asking server put received
             → is_interim received.head ≡ true → blocks_of self.old.lane ≡ head_blocks received.head → Hears cfg self.old self.new asking server put now saying result }
         ensures between { IsBetween self.new }
         ensures there { StandsThere result self.new }
@@ -159,7 +159,7 @@ impl AnswerSide {
     fn show_on(&mut self) -> Heard
         requires between { IsBetween self.old }
         requires sending { stage_of self.old.lane ≡ stage.Sending }
-        ensures leads { (cfg : Config) (asking : Asking Variables) (server : Coming) (put : List ℕ) (now : Variables) (saying : List ℕ) → AnswerStands cfg self.old asking server put now saying
+        ensures leads { (cfg : Config) (asking : Asking Variables) (server : Coming) (put : List ℕ) (now : Variables) (saying : Saying) → AnswerStands cfg self.old asking server put now saying
             → Hears cfg self.old self.new asking server put now saying result }
         ensures between { IsBetween self.new }
         ensures there { StandsThere result self.new }

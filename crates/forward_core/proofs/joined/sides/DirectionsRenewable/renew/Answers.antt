@@ -2,6 +2,7 @@ use Rattle.std.proofs.Common.{refl, ap, ◌∙◌, []}
 use Rattle.http_rules.specs.declared.config.Config.{Config}
 use Rattle.px_sample.specs.Variables.{no_variables}
 use Rattle.session_core.specs.History.{no_stream}
+use Rattle.session_core.specs.Sided.{unsaid}
 use Rattle.forward_core.specs.declared.joined.directions.Directions.{Directions}
 use Rattle.forward_core.proofs.JoinedLemmas.Fresh.{no_past, no_asking, no_reply, fresh_new, fresh_at, fresh_is}
 use Rattle.forward_core.proofs.joined.sides.DirectionsRenewable.renew.Goals as goal
@@ -23,7 +24,7 @@ returns-clause-stands c = λ cfg p s.
       no_past cfg,
       fresh_new cfg d r a refl refl (c.renew-3.ensures.config ∙ s.config) s.total c.renew-3.ensures.vars c.renew.ensures.place
           (c.renew.ensures.stands cfg p.vars p.came p.asking p.to_server p.reply s.request no_variables no_asking [] no_reply)
-          (c.renew-2.ensures.stands cfg p.asking p.server p.to_client p.now p.saying s.answer no_asking no_stream no_variables []) c.renew-2.ensures.nobody,
+          (c.renew-2.ensures.stands cfg p.asking p.server p.to_client p.now p.saying s.answer no_asking no_stream no_variables (unsaid [])) c.renew-2.ensures.nobody,
       fresh_is cfg d r a refl refl c.renew.ensures.open c.renew.ensures.window c.renew-2.ensures.window,
     )
 

@@ -1,6 +1,7 @@
 use Rattle.std.proofs.lemmas.Bool.{false≢true}
 use Rattle.forward_core.proofs.JoinedLemmas.Serving.{needs_of}
 use Rattle.std.proofs.Common.{subst, ℕ, List}
+use Rattle.session_core.specs.Sided.{unsaid}
 use Rattle.forward_core.specs.Joined.Asks.{SaysRefusal}
 use Rattle.forward_core.specs.Rules.Ruling.{config_of}
 use Rattle.forward_core.specs.Request.Seen as requests
@@ -19,7 +20,7 @@ returns-clause-placed c =
     let r = refuses x.past.0 d a rules p c.args.code c.asks_head-no_body.result x.is_at.stand.0 x.is_at.stand.1 e.config e.place c.asks_head-no_body.ensures x.past.2 says in
     record {
       is_at = record { sound = sound_both d a rules e.sound e.size e.ready e.config x.is_at.sound; stand = (begun_sending (requests.place_of d.request) x.is_at.stand.0, e.place) };
-      past = (x.past.0, record p { saying = r.text }, r.stands);
+      past = (x.past.0, record p { saying = unsaid r.text }, r.stands);
     }
 
 pub returns-clause-leads : goal.returns-clause-leads
