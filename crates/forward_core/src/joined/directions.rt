@@ -27,7 +27,7 @@ ghost use Rattle.http_rules.specs.declared.config.Config.{Config};
 ghost use Rattle.session_core.specs.Sided.{Sided};
 ghost use Rattle.session_core.specs.Leads.{IsFresh};
 ghost use Rattle.forward_core.specs.Meaning.Product.{meaning_of};
-ghost use Rattle.forward_core.specs.Joined.Joined.{DirectionsStand, Placed, request_of, answer_of, settings_of, HasWindows};
+ghost use Rattle.forward_core.specs.Joined.Joined.{DirectionsStand, Placed, request_of, answer_of, settings_of, HasWindows, KeepsWindows};
 
 impl<'c> Directions<'c> {
     /// Directions to which nothing has happened. Their arrays and input windows have `tune.bufsize` bytes, their output windows
@@ -88,6 +88,7 @@ impl<'c> Directions<'c> {
             → (q : Sided (meaning_of cfg)) × DirectionsStand cfg self.new q × IsFresh (meaning_of cfg) (request_of self.new) (answer_of self.new) q }
         ensures placed { Placed self.new at.Reads }
         ensures settings { settings_of self.new ≡ settings_of self.old }
+        ensures windows { KeepsWindows self.old self.new }
     {
         self.request.renew();
         self.answer.renew();

@@ -44,3 +44,6 @@ returns-clause-placed c =
           ea.sound (ea.size ∙ sound.answer_size ∙ ap (λ (x : Config). x.limits.bufsize) s.config) ea.place c.renew-3.ensures.ready (c.clear.ensures.cap ∙ sound.method ∙ ap (λ (x : Config). x.limits.bufsize) s.config);
       past = (cfg, no_past cfg, (returns-clause-stands c cfg placed.past.1 s).1);
     }
+
+pub returns-clause-windows : goal.returns-clause-windows
+returns-clause-windows c = λ size h. (c.renew.ensures.window_size ∙ h.0, c.renew-2.ensures.window_size ∙ h.1)

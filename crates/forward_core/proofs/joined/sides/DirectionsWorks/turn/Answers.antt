@@ -26,7 +26,9 @@ returns-clause-placed c =
     }
 
 pub returns-clause-leads : goal.returns-clause-leads
-returns-clause-leads c = λ cfg p s before.
+returns-clause-leads c = λ settings p session before.
+    let cfg = settings.0 in
+    let s = session.directions in
     let d = c.args.self.now in
     let a = c.turn_to.new.self in
     let rules = record c.say_closing.new.self { said = c.turn_to.new.list } in
@@ -36,7 +38,10 @@ returns-clause-leads c = λ cfg p s before.
     let t = e.leads cfg p.asking p.server p.to_client p.now p.saying m.head m.body s.answer (c.say_closing.ensures.said ∙ c.lists.ensures.blocks m (c.lists.ensures.closing c.args.code)) in
     record {
       saying = t.saying;
-      stands = turns cfg d a rules p t.saying x.is_at.stand.0 e.place c.say_closing.ensures.config s t.stands;
+      stands = record {
+        directions = turns cfg d a rules p t.saying x.is_at.stand.0 e.place c.say_closing.ensures.config s t.stands;
+        windows = (session.windows.0, e.window_size ∙ session.windows.1);
+      };
       turned = record {
         heads = t.heads;
         begins = t.begins;
