@@ -76,6 +76,7 @@ edits_by laws old msg b head size =
       is_open = refl;
       heard = refl;
       size = refl;
+      window_size = refl;
     }
 
 -- what goes out of a side that was edited
@@ -88,6 +89,7 @@ edits_goes old mid new e g =
       is_open = g.is_open ∙ e.is_open;
       heard = g.heard ∙ e.heard;
       size = g.size ∙ e.size;
+      window_size = g.window_size ∙ e.window_size;
     }
 
 -- the sizes of rules and side still agree

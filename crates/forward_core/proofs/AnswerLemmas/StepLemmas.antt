@@ -9,7 +9,7 @@ use Rattle.session_core.specs.History.{Coming}
 use Rattle.session_core.specs.Sided.{Asking, asker_in, Saying}
 use Rattle.session_core.specs.declared.Told.TheVariants as told
 use Rattle.lane.specs.Answering.{source_of}
-use Rattle.forward_core.specs.Answer.Seen.{seen, place_of, size_of, is_last, told_at}
+use Rattle.forward_core.specs.Answer.Seen.{seen, place_of, size_of, window_size_of, is_last, told_at}
 use Rattle.forward_core.specs.Answer.Said.{PutsMore}
 use Rattle.forward_core.specs.Answer.Stands.{AnswerStands, RestsAt, FitsAt, IsSoundSide, is_serving}
 use Rattle.forward_core.specs.Answer.Stepping.{VarsAt, StepsOn}
@@ -132,8 +132,9 @@ never_begun : (side : AnswerSide) → IsSoundSide side → side.place ≡ place.
 never_begun side s heads begun = let f = at_place place.Heads side heads s.at in let both : true ≡ false = sym begun ∙ f.0 in cc both
 
 -- where the last goes out
-pub keeps_out : (old mid new : AnswerSide) → IsSoundSide old → old.place ≡ place.Heads → ((seen old).heard ≡ true → (seen mid).heard ≡ true) → (seen mid).is_open ≡ (seen old).is_open → size_of mid ≡ size_of old → GoesOut mid new → KeepsOn old new
-keeps_out old mid new sound heads heard_ open_ size g =
+pub keeps_out : (old mid new : AnswerSide) → IsSoundSide old → old.place ≡ place.Heads → ((seen old).heard ≡ true → (seen mid).heard ≡ true) → (seen mid).is_open ≡ (seen old).is_open → size_of mid ≡ size_of old
+    → window_size_of mid ≡ window_size_of old → GoesOut mid new → KeepsOn old new
+keeps_out old mid new sound heads heard_ open_ size window g =
     record {
       serving = last_serves (place_of new) g.last;
       sound = g.sound;
@@ -141,12 +142,14 @@ keeps_out old mid new sound heads heard_ open_ size g =
       heard = λ was. g.heard ∙ heard_ was;
       is_open = g.is_open ∙ open_;
       size = g.size ∙ size;
+      window_size = g.window_size ∙ window;
     }
 
 -- where more is waited for
-pub keeps_more : (old mid : AnswerSide) → IsSoundSide old → old.place ≡ place.Heads → ((seen old).heard ≡ true → (seen mid).heard ≡ true) → (seen mid).is_open ≡ (seen old).is_open → size_of mid ≡ size_of old → IsBetween mid → FitsAt place.Heads mid
+pub keeps_more : (old mid : AnswerSide) → IsSoundSide old → old.place ≡ place.Heads → ((seen old).heard ≡ true → (seen mid).heard ≡ true) → (seen mid).is_open ≡ (seen old).is_open → size_of mid ≡ size_of old
+    → window_size_of mid ≡ window_size_of old → IsBetween mid → FitsAt place.Heads mid
     → KeepsOn old (record mid { at_rest = true })
-keeps_more old mid sound heads heard_ open_ size b f =
+keeps_more old mid sound heads heard_ open_ size window b f =
     record {
       serving = ap is_serving b.place;
       sound = record { lane = b.lane; open_is = b.open_is; at = subst (λ (p : Place). FitsAt p (record mid { at_rest = true })) (sym b.place) (f.0, f.1, f.2, f.3) };
@@ -154,6 +157,7 @@ keeps_more old mid sound heads heard_ open_ size b f =
       heard = heard_;
       is_open = open_;
       size = size;
+      window_size = window;
     }
 
 -- two facts of a result

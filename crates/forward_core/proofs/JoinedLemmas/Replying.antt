@@ -152,15 +152,16 @@ asks_reply cfg d a rules r p received kept keep going plain read ruled keep_is s
 less_replied : (pl : Asked) (input : List ℕ) (before : ℕ) → pl ≡ asked.Replied → length input < before → unread_at pl input < before
 less_replied pl input before e h = subst (λ (x : Asked). unread_at x input < before) (sym e) h
 
-pub reply_goes : (d : Directions) (a : AnswerSide) (rules : SessionRules) (r : RequestSide) (going : Bool) → HasRead d → SaysOn d a rules → IsSound r → requests.limits_of r ≡ requests.limits_of d.request
+pub reply_goes : (d : Directions) (a : AnswerSide) (rules : SessionRules) (r : RequestSide) (going : Bool) → HasRead d → SaysOn d a rules → IsSound r → requests.limits_of r ≡ requests.limits_of d.request → requests.window_size_of r ≡ requests.window_size_of d.request
     → requests.place_of r ≡ asked.Replied → requests.is_open r ≡ requests.is_open d.request → requests.window_of r ≡ requests.window_of d.request → requests.input_size_of r ≡ requests.input_size_of d.request
     → GoesOn d (record d { answer = a; rules = rules; request = r }) (asks.Reply going)
-reply_goes d a rules r going read s sound limits place is_open window input =
+reply_goes d a rules r going read s sound limits size place is_open window input =
     record {
       placed = record {
         sound = sound_both (record d { request = r }) a rules s.sound s.size s.ready s.config (sound_request d r sound limits read.still.sound);
         stand = (place, s.place);
       };
+      windows = λ n h. (size ∙ h.0, s.window_size ∙ h.1);
       is_open = is_open;
       window = window;
       waits = tt;
@@ -171,11 +172,11 @@ reply_goes d a rules r going read s sound limits place is_open window input =
     }
 
 pub replies_on : (d : Directions) (a : AnswerSide) (rules : SessionRules) (r : RequestSide) (kept : Kept) (keep going : Bool) → ArePlain → HasRead d → SaysOn d a rules → keep ≡ (kept.keep && kept.is_bodiless)
-    → SaysEach d a rules d.method.bytes kept.head_asked keep going → IsSound r → requests.limits_of r ≡ requests.limits_of d.request → requests.place_of r ≡ asked.Replied → requests.is_open r ≡ requests.is_open d.request
+    → SaysEach d a rules d.method.bytes kept.head_asked keep going → IsSound r → requests.limits_of r ≡ requests.limits_of d.request → requests.window_size_of r ≡ requests.window_size_of d.request → requests.place_of r ≡ asked.Replied → requests.is_open r ≡ requests.is_open d.request
     → requests.window_of r ≡ requests.window_of d.request → requests.input_size_of r ≡ requests.input_size_of d.request → RepliesTo d.request r
     → AsksOn d (record d { answer = a; rules = rules; request = r }) kept verdicts.Reply (asks.Reply going)
-replies_on d a rules r kept keep going plain read s keep_is says sound limits place is_open window input replies =
+replies_on d a rules r kept keep going plain read s keep_is says sound limits size place is_open window input replies =
     record {
       leads = λ cfg p received ruled. asks_reply cfg d a rules r p received kept keep going plain read ruled keep_is says s.config place replies;
-      goes = reply_goes d a rules r going read s sound limits place is_open window input;
+      goes = reply_goes d a rules r going read s sound limits size place is_open window input;
     }

@@ -24,7 +24,7 @@ use Rattle.lane.specs.Answering.{Exchange, HeadsCame, stage_of, array_of, blocks
 use Rattle.lane.specs.declared.direction.stage.Stage.TheVariants as stage
 use Rattle.forward_core.specs.Answer.Hearing.{IsBetween, FinalHead}
 use Rattle.forward_core.specs.Answer.HeadsRead.{ReadBefore}
-use Rattle.forward_core.specs.Answer.Seen.{seen, place_of, size_of, is_last}
+use Rattle.forward_core.specs.Answer.Seen.{seen, place_of, size_of, window_size_of, is_last}
 use Rattle.forward_core.specs.Answer.Stands.{IsAsker, IsFor, IsInHand, AnswerStands, IsSoundSide, is_serving}
 use Rattle.forward_core.specs.Answer.Stepping.{VarsAt}
 use Rattle.forward_core.specs.declared.answer.place.Place.{Place}
@@ -40,6 +40,7 @@ pub record Edits (old new : AnswerSide) : Type 0 where
   pub is_open : (seen new).is_open ≡ (seen old).is_open
   pub heard : (seen new).heard ≡ (seen old).heard
   pub size : size_of new ≡ size_of old
+  pub window_size : window_size_of new ≡ window_size_of old
 
 -- ---- the last that answers
 
@@ -83,6 +84,7 @@ pub record GoesOut (old new : AnswerSide) : Type 0 where
   pub is_open : (seen new).is_open ≡ (seen old).is_open
   pub heard : (seen new).heard ≡ (seen old).heard
   pub size : size_of new ≡ size_of old
+  pub window_size : window_size_of new ≡ window_size_of old
 
 -- ---- a final head, and rules
 
@@ -137,3 +139,4 @@ pub record KeepsOn (old new : AnswerSide) : Type 0 where
   pub heard : (seen old).heard ≡ true → (seen new).heard ≡ true
   pub is_open : (seen new).is_open ≡ (seen old).is_open
   pub size : size_of new ≡ size_of old
+  pub window_size : window_size_of new ≡ window_size_of old

@@ -96,6 +96,7 @@ impl AnswerSide {
         ensures place { place_of self.new ≡ place_of self.old }
         ensures sound { IsSoundSide self.new }
         ensures size { size_of self.new ≡ size_of self.old }
+        ensures window_size { window_size_of self.new ≡ window_size_of self.old }
     {
         self.lane.take(bytes);
         self.at_rest = false;
@@ -111,6 +112,7 @@ impl AnswerSide {
         ensures place { place_of self.new ≡ place_of self.old }
         ensures sound { IsSoundSide self.new }
         ensures size { size_of self.new ≡ size_of self.old }
+        ensures window_size { window_size_of self.new ≡ window_size_of self.old }
     {
         self.lane.end(how);
         self.open = false;
@@ -127,6 +129,7 @@ impl AnswerSide {
         ensures place { place_of self.new ≡ place_of self.old }
         ensures sound { IsSoundSide self.new }
         ensures size { size_of self.new ≡ size_of self.old }
+        ensures window_size { window_size_of self.new ≡ window_size_of self.old }
     {
         self.lane.took(n);
         self.at_rest = false;
@@ -142,6 +145,7 @@ impl AnswerSide {
         ensures place { place_of self.new ≡ place_of self.old }
         ensures sound { IsSoundSide self.new }
         ensures size { size_of self.new ≡ size_of self.old }
+        ensures window_size { window_size_of self.new ≡ window_size_of self.old }
     {
         self.asker = asker;
     }
@@ -159,6 +163,7 @@ impl AnswerSide {
         ensures window { (seen self.new).window ≡ (seen self.old).window }
         ensures sound { IsSoundSide self.new }
         ensures size { size_of self.new ≡ size_of self.old }
+        ensures window_size { window_size_of self.new ≡ window_size_of self.old }
     {
         self.lane.restart();
         self.place = Place::Heads;
@@ -177,6 +182,7 @@ impl AnswerSide {
         ensures window { (seen self.new).window ≡ (seen self.old).window }
         ensures sound { IsSoundSide self.new }
         ensures size { size_of self.new ≡ size_of self.old }
+        ensures window_size { window_size_of self.new ≡ window_size_of self.old }
     {
         self.lane.next();
         self.place = Place::Idle;
@@ -193,6 +199,7 @@ impl AnswerSide {
         ensures place { place_of self.new ≡ place.Idle }
         ensures sound { IsSoundSide self.new }
         ensures size { size_of self.new ≡ size_of self.old }
+        ensures window_size { window_size_of self.new ≡ window_size_of self.old }
         ensures window { (seen self.new).window ≡ [] }
     {
         self.lane.renew();

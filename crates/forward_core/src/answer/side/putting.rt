@@ -5,7 +5,7 @@ ghost use Rattle.http_rules.specs.declared.config.Config.{Config};
 ghost use Rattle.session_core.specs.History.{Coming};
 ghost use Rattle.session_core.specs.Sided.{Asking, Saying};
 ghost use Rattle.forward_core.specs.Answer.Seen as spec;
-ghost use Rattle.forward_core.specs.Answer.Seen.{seen, place_of, size_of};
+ghost use Rattle.forward_core.specs.Answer.Seen.{seen, place_of, size_of, window_size_of};
 ghost use Rattle.forward_core.specs.Answer.Stands.{AnswerStands, IsSoundSide};
 ghost use Rattle.forward_core.specs.Answer.Said.{PutsMore};
 
@@ -39,6 +39,7 @@ impl AnswerSide {
         ensures heard { (seen self.new).heard ≡ (seen self.old).heard }
         ensures rests { spec.is_last (place_of self.old) ≡ false → self.new ≡ self.old }
         ensures size { size_of self.new ≡ size_of self.old }
+        ensures window_size { window_size_of self.new ≡ window_size_of self.old }
         ensures sound { IsSoundSide self.new }
     {
         if is_last(self.place) {
@@ -57,6 +58,7 @@ impl AnswerSide {
         ensures open { (seen self.new).is_open ≡ (seen self.old).is_open }
         ensures heard { (seen self.new).heard ≡ (seen self.old).heard }
         ensures size { size_of self.new ≡ size_of self.old }
+        ensures window_size { window_size_of self.new ≡ window_size_of self.old }
         ensures sound { IsSoundSide self.new }
     {
         self.at_rest = true;

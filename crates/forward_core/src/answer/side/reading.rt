@@ -9,7 +9,7 @@ ghost use Rattle.session_core.specs.Sided.{Asking, Saying};
 ghost use Rattle.session_model.specs.Meaning.{is_interim};
 ghost use Rattle.lane.specs.Answering.{stage_of, input_of, blocks_of};
 ghost use Rattle.lane.specs.declared.direction.stage.Stage.TheVariants as stage;
-ghost use Rattle.forward_core.specs.Answer.Seen.{seen, place_of, size_of};
+ghost use Rattle.forward_core.specs.Answer.Seen.{seen, place_of, size_of, window_size_of};
 ghost use Rattle.forward_core.specs.Answer.Stands.{AnswerStands, IsSoundSide};
 ghost use Rattle.forward_core.specs.Answer.Hearing.{IsBetween, HasHead, StandsThere, Hears, IsRead};
 ghost use Rattle.forward_core.specs.declared.answer.place.Place.TheVariants as place;
@@ -32,6 +32,7 @@ impl AnswerSide {
         ensures open { (seen self.new).is_open ≡ (seen self.old).is_open }
         ensures heard { (seen self.old).heard ≡ true → (seen self.new).heard ≡ true }
         ensures size { size_of self.new ≡ size_of self.old }
+        ensures window_size { window_size_of self.new ≡ window_size_of self.old }
     {
         match self.show_first() {
             Heard::More => Heard::More,
@@ -53,6 +54,7 @@ impl AnswerSide {
         ensures open { (seen self.new).is_open ≡ (seen self.old).is_open }
         ensures heard { (seen self.new).heard ≡ (seen self.old).heard }
         ensures size { size_of self.new ≡ size_of self.old }
+        ensures window_size { window_size_of self.new ≡ window_size_of self.old }
     {
         if self.is_showing() {
             return self.show_on();
@@ -72,6 +74,7 @@ impl AnswerSide {
         ensures open { (seen self.new).is_open ≡ (seen self.old).is_open }
         ensures heard { (seen self.old).heard ≡ true → (seen self.new).heard ≡ true }
         ensures size { size_of self.new ≡ size_of self.old }
+        ensures window_size { window_size_of self.new ≡ window_size_of self.old }
     {
         'heads: loop {
             match self.read_on() {
@@ -95,6 +98,7 @@ impl AnswerSide {
         ensures open { (seen self.new).is_open ≡ (seen self.old).is_open }
         ensures heard { (seen self.old).heard ≡ true → (seen self.new).heard ≡ true }
         ensures size { size_of self.new ≡ size_of self.old }
+        ensures window_size { window_size_of self.new ≡ window_size_of self.old }
     {
         match self.lane.read_head(self.asker.head_asked) {
             LaneHead::More => Heard::More,
@@ -119,6 +123,7 @@ impl AnswerSide {
         ensures open { (seen self.new).is_open ≡ (seen self.old).is_open }
         ensures heard { (seen self.new).heard ≡ (seen self.old).heard }
         ensures size { size_of self.new ≡ size_of self.old }
+        ensures window_size { window_size_of self.new ≡ window_size_of self.old }
     {
         if self.has_interim() {
             return self.pass_or_drop();
@@ -146,6 +151,7 @@ impl AnswerSide {
         ensures open { (seen self.new).is_open ≡ (seen self.old).is_open }
         ensures heard { (seen self.new).heard ≡ (seen self.old).heard }
         ensures size { size_of self.new ≡ size_of self.old }
+        ensures window_size { window_size_of self.new ≡ window_size_of self.old }
     {
         if self.asker.is_http_11 {
             self.lane.pass();
@@ -167,6 +173,7 @@ impl AnswerSide {
         ensures open { (seen self.new).is_open ≡ (seen self.old).is_open }
         ensures heard { (seen self.new).heard ≡ (seen self.old).heard }
         ensures size { size_of self.new ≡ size_of self.old }
+        ensures window_size { window_size_of self.new ≡ window_size_of self.old }
     {
         self.lane.step();
         if self.is_showing() {

@@ -6,7 +6,7 @@ ghost use Rattle.px_sample.specs.Variables.{Variables};
 ghost use Rattle.http_rules.specs.declared.config.Config.{Config};
 ghost use Rattle.session_core.specs.History.{Coming};
 ghost use Rattle.session_core.specs.Sided.{Asking, Saying, unsaid};
-ghost use Rattle.forward_core.specs.Answer.Seen.{seen, place_of, size_of};
+ghost use Rattle.forward_core.specs.Answer.Seen.{seen, place_of, size_of, window_size_of};
 ghost use Rattle.forward_core.specs.Answer.Stands.{AnswerStands, IsSoundSide, is_serving, list_text};
 ghost use Rattle.forward_core.specs.Answer.Said.{SaysMore, TurnsTo};
 ghost use Rattle.forward_core.specs.declared.answer.place.Place.TheVariants as place;
@@ -33,6 +33,7 @@ impl AnswerSide {
         ensures list_size { list.new.size ≡ list.old.size }
         ensures sound { IsSoundSide self.new }
         ensures size { size_of self.new ≡ size_of self.old }
+        ensures window_size { window_size_of self.new ≡ window_size_of self.old }
     {
         self.lane.answer(list, no_body);
         self.place = Place::Saying;
@@ -57,6 +58,7 @@ impl AnswerSide {
         ensures list_size { list.new.size ≡ list.old.size }
         ensures sound { IsSoundSide self.new }
         ensures size { size_of self.new ≡ size_of self.old }
+        ensures window_size { window_size_of self.new ≡ window_size_of self.old }
     {
         answer_promise();
         self.lane.answer(list, self.asker.head_asked);
@@ -76,6 +78,7 @@ impl AnswerSide {
         ensures heard { (seen self.new).heard ≡ (seen self.old).heard }
         ensures sound { IsSoundSide self.new }
         ensures size { size_of self.new ≡ size_of self.old }
+        ensures window_size { window_size_of self.new ≡ window_size_of self.old }
     {
         answer_promise();
         if is_done(self.lane.stage()) {

@@ -7,7 +7,7 @@ ghost use Rattle.forward_core.specs.Rules.Ruling.{IsReady, config_of, holds_patt
 ghost use Rattle.forward_core.specs.Rules.Ruling.{size_of as array_size};
 ghost use Rattle.session_core.specs.History.{Coming};
 ghost use Rattle.session_core.specs.Sided.{Asking, Saying};
-ghost use Rattle.forward_core.specs.Answer.Seen.{seen, place_of, size_of};
+ghost use Rattle.forward_core.specs.Answer.Seen.{seen, place_of, size_of, window_size_of};
 ghost use Rattle.forward_core.specs.Answer.Stands.{AnswerStands, IsSoundSide, is_serving};
 ghost use Rattle.forward_core.specs.Answer.Stepping.{RunsFor, VarsAt, StepsOn};
 ghost use Rattle.forward_core.specs.Answer.Judging.{Decides, KeepsOn};
@@ -39,6 +39,7 @@ impl AnswerSide {
         ensures open { OnOk result ((seen self.new).is_open ≡ (seen self.old).is_open) }
         ensures sound { OnOk result (IsSoundSide self.new) }
         ensures size { OnOk result (size_of self.new ≡ size_of self.old) }
+        ensures window_size { OnOk result (window_size_of self.new ≡ window_size_of self.old) }
         ensures succeeds { holds_pattern (config_of rules.old) ≡ false → IsOk result }
         ensures ready { IsReady rules.new }
         ensures config { config_of rules.new ≡ config_of rules.old }

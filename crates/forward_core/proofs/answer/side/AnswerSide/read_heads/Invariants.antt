@@ -5,7 +5,7 @@ use Rattle.session_core.specs.History.{Coming}
 use Rattle.session_core.specs.Sided.{Asking, Saying}
 use Rattle.lane.specs.Answering.{stage_of, input_of}
 use Rattle.lane.specs.declared.direction.stage.Stage.TheVariants as stage
-use Rattle.forward_core.specs.Answer.Seen.{seen, size_of}
+use Rattle.forward_core.specs.Answer.Seen.{seen, size_of, window_size_of}
 use Rattle.forward_core.specs.Answer.Stands.{AnswerStands}
 use Rattle.forward_core.specs.Answer.Hearing.{IsBetween, Hears}
 use Rattle.forward_core.specs.declared.answer.hearing.Heard.TheVariants as heard
@@ -19,6 +19,7 @@ invariant-heads l = record {
   is_open : (seen l.self).is_open ≡ (seen l.fn.self).is_open;
   heard_still : (seen l.fn.self).heard ≡ true → (seen l.self).heard ≡ true;
   size : size_of l.self ≡ size_of l.fn.self;
+  window_size : window_size_of l.self ≡ window_size_of l.fn.self;
 }
 
 abbrev pub decreases-heads : goal.decreases-heads

@@ -1,4 +1,4 @@
-use Rattle.std.proofs.Common.{◌++◌}
+use Rattle.std.proofs.Common.{◌++◌, ◌∙◌}
 use Rattle.forward_core.specs.Answer.Seen.{place_of}
 use Rattle.forward_core.specs.Request.Seen as requests
 use Rattle.forward_core.proofs.JoinedLemmas.Joining.{at_answer, stands_answer}
@@ -19,7 +19,9 @@ returns-clause-placed c = λ at says x.
     }
 
 pub returns-clause-leads : goal.returns-clause-leads
-returns-clause-leads c = λ cfg p s.
+returns-clause-leads c = λ settings p session.
+    let cfg = settings.0 in
+    let s = session.directions in
     let d = c.args.self.now in
     let a = c.say.new.self in
     let e = c.say.ensures in
@@ -28,7 +30,10 @@ returns-clause-leads c = λ cfg p s.
     record {
       put = m.put;
       left = m.left;
-      stands = stands_answer cfg d a p p.server (p.to_client ++ m.put) (record p.saying { left = m.left }) e.place s m.stands;
+      stands = record {
+        directions = stands_answer cfg d a p p.server (p.to_client ++ m.put) (record p.saying { left = m.left }) e.place s m.stands;
+        windows = (session.windows.0, e.window_size ∙ session.windows.1);
+      };
       saying = m.said;
       window = m.window;
       all = m.all;

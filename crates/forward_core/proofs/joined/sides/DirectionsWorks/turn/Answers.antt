@@ -29,7 +29,9 @@ returns-clause-placed c =
     }
 
 pub returns-clause-leads : goal.returns-clause-leads
-returns-clause-leads c = λ cfg p s before.
+returns-clause-leads c = λ settings p session before.
+    let cfg = settings.0 in
+    let s = session.directions in
     let d = c.args.self.now in
     let a = c.turn_to.new.self in
     let rules = record c.say_closing.new.self { said = c.turn_to.new.list } in
@@ -40,7 +42,10 @@ returns-clause-leads c = λ cfg p s before.
     let said : Saying = record { text = list_text (asker_in p.asking).head_asked m.head m.body; left = t.left } in
     record {
       saying = said;
-      stands = turns cfg d a rules p said x.is_at.stand.0 e.place c.say_closing.ensures.config s t.stands;
+      stands = record {
+        directions = turns cfg d a rules p said x.is_at.stand.0 e.place c.say_closing.ensures.config s t.stands;
+        windows = (session.windows.0, e.window_size ∙ session.windows.1);
+      };
       turned = record {
         heads = t.heads;
         begins = t.begins;
