@@ -8,7 +8,7 @@ use Rattle.proxy_call.proofs.sessions.cores.ClientCoresOpensConfigCore.keep.Goal
 pub invariant_of-self : goal.invariant_of-self
 invariant_of-self c =
     let cfg : Config = c.args.self.now in
-    let new : IsNew cfg c.renewed.result = c.renewed.ensures.new cfg c.requires.stands.0 c.requires.stands.1 in (
+    let new : IsNew cfg cfg.limits.bufsize c.renewed.result = c.renewed.ensures.new cfg cfg.limits.bufsize c.requires.stands.0 c.requires.stands.1 in (
       c.self.invariant.0,
-      subst (λ (s : Option Directions). IsSpare c.self.inside.config.now s) (sym c.replace.ensures.after) (subst (λ (x : Config). IsNew x c.renewed.result) (sym c.self.view_is) new),
+      subst (λ (s : Option Directions). IsSpare c.self.inside.config.now s) (sym c.replace.ensures.after) (subst (λ (x : Config). IsNew x x.limits.bufsize c.renewed.result) (sym c.self.view_is) new),
     )
