@@ -9,7 +9,7 @@ use Rattle.forward_core.specs.Joined.Joined.{Placed, answer_of}
 use Rattle.forward_core.specs.declared.joined.directions.Directions.{Directions}
 use Rattle.proxy_call.specs.Sessions.Driven.{stands_for}
 
--- nothing has happened to it, under this configuration, and no server is open
+-- nothing has happened to it, under this configuration, its output windows have as many bytes as a buffer, and no server is open
 pub record IsNew (cfg : Config) (core : Core Directions) : Type 0 where
   pub stands : stands_for cfg core nothing_yet
   pub placed : IsPlaced (Placed core.sides) (answer_of core.sides) core.at.phase core.at.cut

@@ -6,7 +6,7 @@ ghost use Rattle.session_core.specs.History.{nothing_yet};
 ghost use Rattle.session_core.specs.Leads.{Stands};
 ghost use Rattle.session_core.specs.Place.{IsPlaced};
 ghost use Rattle.session_core.specs.Waits.{is_serving};
-ghost use Rattle.forward_core.specs.Joined.Joined.{DirectionsStand, Placed, request_of, answer_of, HasWindows};
+ghost use Rattle.forward_core.specs.Joined.Joined.{SessionStands, Placed, request_of, answer_of, HasWindows};
 
 use forward_core::joined::Directions;
 use http_model::OutOfMemory;
@@ -28,7 +28,7 @@ fn open_core<'c>(
 ) -> Result<ConfigCore<'c>, OutOfMemory>
     requires valid { IsValid config.now }
     requires window { 64 ≤ window }
-    ensures stands { IfOk result (λ core. Stands (meaning_of config.now) request_of answer_of (DirectionsStand config.now) core.sides core.at nothing_yet) }
+    ensures stands { IfOk result (λ core. Stands (meaning_of config.now) request_of answer_of (SessionStands (config.now, window)) core.sides core.at nothing_yet) }
     ensures placed { IfOk result (λ core. IsPlaced (Placed core.sides) (answer_of core.sides) core.at.phase core.at.cut) }
     ensures idle { IfOk result (λ core. is_serving core.at.phase ≡ false) }
     ensures windows { IfOk result (λ core. HasWindows window core.sides) }
@@ -48,7 +48,7 @@ pub(crate) struct RecordCores<'c> {
 impl<'c> Cores<ConfigCore<'c>> for RecordCores<'c> {
     ghost use Rattle.proxy_call.specs.Sessions.Ready.{IsReady};
 
-    ghost settings = { λ cores. cores.config.now };
+    ghost settings = { λ cores. (cores.config.now, cores.window) };
 
     ghost ready = { λ cores. IsReady cores.config.now cores.window };
 
@@ -102,7 +102,7 @@ impl<'c> ClientCores<'c> {
 }
 
 impl<'c> Opens<ConfigCore<'c>> for ClientCores<'c> {
-    ghost settings = { λ cores. cores };
+    ghost settings = { λ cores. (cores, cores.limits.bufsize) };
 
     fn open(&mut self) -> Result<ConfigCore<'c>, OutOfMemory> {
         match self.spare.take() {

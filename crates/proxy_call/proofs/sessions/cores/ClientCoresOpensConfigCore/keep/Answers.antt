@@ -10,7 +10,7 @@ pub invariant_of-self : goal.invariant_of-self
 invariant_of-self c =
     let cfg : Config = c.args.self.now in
     let e = c.reset.ensures in
-    let new : IsNew cfg c.reset.new.self = record { stands = e.stands cfg c.requires.stands.0 c.requires.stands.1; placed = e.placed; idle = e.idle } in (
+    let new : IsNew cfg c.reset.new.self = record { stands = e.stands (cfg, cfg.limits.bufsize) c.requires.stands.0 c.requires.stands.1; placed = e.placed; idle = e.idle } in (
       c.self.invariant.0,
       subst (λ (s : Option (Core Directions)). IsSpare c.self.inside.config.now s) (sym c.replace.ensures.after) (subst (λ (x : Config). IsNew x c.reset.new.self) (sym c.self.view_is) new),
     )
