@@ -6,6 +6,7 @@ pub mod Forwarding
 pub mod Fresh
 pub mod HeldBack
 pub mod Waiting
+pub mod Windows
 pub mod Joining
 pub mod Judged
 pub mod Methods

@@ -261,6 +261,7 @@ impl ResponseLane {
         ensures phase { phase_of self.new ≡ phase_of self.old }
         ensures source { source_of self.new ≡ source_of self.old }
         ensures limits { limits_of self.new ≡ limits_of self.old }
+        ensures window_size { (window_of self.new).capacity ≡ (window_of self.old).capacity }
         ensures sound { IsSoundAnswer self.old → IsSoundAnswer self.new }
         ensures filters { (filters : List FilterSpec) → HasFilters self.old filters → HasFilters self.new filters }
     {
@@ -314,6 +315,7 @@ impl ResponseLane {
         ensures output { output_of self.new ≡ [] }
         ensures begun { has_begun self.new ≡ false }
         ensures limits { limits_of self.new ≡ limits_of self.old }
+        ensures window_size { (window_of self.new).capacity ≡ (window_of self.old).capacity }
         ensures filters { (filters : List FilterSpec) → HasFilters self.old filters → HasFilters self.new filters }
         ensures sound { IsSoundAnswer self.new }
     {

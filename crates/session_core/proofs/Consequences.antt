@@ -60,8 +60,8 @@ replying_fronted M total q a p cut now kept unopened alone h stream servers c s 
     let B : Option Bool → Type 0 = λ c. BitFits c a.begun None in
     let r : (rest : Stream) × Asks M p.vars stream (replied_to p.reply rest) = h.asks stream c in
     fronted_by_one M total p now q.window cut a.begun stream servers
-    (replied_exchange M r.0 h.text (kept_with kept p.now))
-    (reply_one M p.vars p.reply stream servers r.0 h.text (kept_with kept p.now) (subst S alone s) h.spelled h.behind r.1) (p.saying, h.said) (subst F (sym alone) unopened.none) (subst B (sym unopened.uncut) tt)
+    (replied_exchange M r.0 p.saying.text (kept_with kept p.now))
+    (reply_one M p.vars p.reply stream servers r.0 p.saying.text (kept_with kept p.now) (subst S alone s) h.spelled h.behind r.1) (p.saying.left, h.said) (subst F (sym alone) unopened.none) (subst B (sym unopened.uncut) tt)
 
 over_fronted : (M : Meaning) (q : RequestSeen) (a : AnswerSeen) (p : Sided M) (hand : ℕ) (cut : Option Bool) (now : List Connect) (how : End)
     → q.window ≡ [] → Fronts now [] (map sent_of now) → IsOver M p hand now cut how → IsFronted M q a p cut now
@@ -87,8 +87,8 @@ refusing_fronted : (M : Meaning) → IsTotal M → (q : RequestSeen) (a : Answer
     → IsUnopened q.window cut → Fronts now [] (map sent_of now) → Refusing M a.answered p.vars p.came p.to_client p.saying now → IsFronted M q a p cut now
 refusing_fronted M total q a p cut now unopened fronts h stream servers c s =
     let B : Option Bool → Type 0 = λ c. BitFits c a.begun None in
-    fronted_by_one M total p now q.window cut a.begun stream servers (record { connects = map sent_of now; client = h.text; bit = None; after = Over end.Closed })
-    (h.goes stream servers c s) (p.saying, h.said) (sent_fronts now q.window fronts unopened.none) (subst B (sym unopened.uncut) tt)
+    fronted_by_one M total p now q.window cut a.begun stream servers (record { connects = map sent_of now; client = p.saying.text; bit = None; after = Over end.Closed })
+    (h.goes stream servers c s) (p.saying.left, h.said) (sent_fronts now q.window fronts unopened.none) (subst B (sym unopened.uncut) tt)
 
 -- whatever the phase
 pub fronted : (M : Meaning) → IsTotal M → (q : RequestSeen) (a : AnswerSeen) (p : Sided M) (hand : ℕ) (cut : Option Bool) (now : List Connect) (ph : Phase)

@@ -44,9 +44,9 @@ in_phase_came M q a p came hand cut now phase.Unserved w h = (h.0, h.1, h.2, h.3
 in_phase_came M q a p came hand cut now phase.Serving w h = (h.0, h.1, (h.2.0, h.2.1, serves_came M q a p came cut w h.2.2, h.2.3, λ s c. h.2.4 s (w s c)))
 in_phase_came M q a p came hand cut now phase.Served w h = (h.0, h.1, h.2, h.3, (h.4.0, h.4.1, serves_came M q a p came cut w h.4.2, h.4.3, λ s c. h.4.4 s (w s c)))
 in_phase_came M q a p came hand cut now phase.Refusing w h =
-    (h.0, h.1, h.2, record { text = h.3.text; said = h.3.said; sent = h.3.sent; goes = λ s ss c z. h.3.goes s ss (w s c) z })
+    (h.0, h.1, h.2, record { said = h.3.said; sent = h.3.sent; goes = λ s ss c z. h.3.goes s ss (w s c) z })
 in_phase_came M q a p came hand cut now (phase.Replying kept) w h =
-    (h.0, h.1, h.2, record { text = h.3.text; spelled = h.3.spelled; said = h.3.said; sent = h.3.sent; behind = h.3.behind; asks = λ s c. h.3.asks s (w s c) })
+    (h.0, h.1, h.2, record { spelled = h.3.spelled; said = h.3.said; sent = h.3.sent; behind = h.3.behind; asks = λ s c. h.3.asks s (w s c) })
 in_phase_came M q a p came hand cut now (phase.Over how) w h = (h.0, h.1, λ s ss c z. h.2 s ss (w s c) z)
 
 pub client_gives : (M : Meaning) (at : At) (q : RequestSeen) (a : AnswerSeen) (p : Sided M) (past : Past) (bytes : List ℕ) (room unread : ℕ)
@@ -165,7 +165,7 @@ serves_server M q a p server None w h =
     (h.0, (h.1.0, λ s c. h.1.1 s (w s c)), h.2, λ e. record { heads = (h.3 e).heads; begins = λ s c. (h.3 e).begins s (w s c); front = (h.3 e).front })
 serves_server M q a p server (Some true) w h = (h.0, (h.1.0, λ s c. h.1.1 s (w s c)), h.2, h.3, h.4)
 serves_server M q a p server (Some false) w h =
-    (h.0, h.1, h.2, record { heads = h.3.heads; begins = λ s c. h.3.begins s (w s c); refused = h.3.refused; spelled = h.3.spelled; said = h.3.said; sent = h.3.sent })
+    (h.0, h.1, h.2, record { heads = h.3.heads; begins = λ s c. h.3.begins s (w s c); spelled = h.3.spelled; said = h.3.said; sent = h.3.sent })
 
 pub server_gives : (M : Meaning) (q : RequestSeen) (a : AnswerSeen) (p : Sided M) (bytes : List ℕ) (room : ℕ) (cut : Option Bool) (c : Connect)
     → a.is_open ≡ true → IsServing M q a p cut (c ∷ []) c

@@ -153,4 +153,4 @@ serving_in_hand M q a p (Some false) stream server stopped s c on halts =
     let g : RequestGoes M q.source (is_all q) q.dropped p.vars p.asking p.to_server stream = s.0 stream c in
     let cut : (made g).cut ≡ Some s.1 = let P : Source → Type 0 = λ so. SourceIs so (made g).cut in subst P s.2 g.goes.source in
     let t : IsTurned M a p s.1 = s.3 in
-    sure (refused_in_hand M q.source (is_all q) q.dropped p stream server stopped (Some false) a.begun s.1 g halts cut refl on t.heads t.begins t.refused t.spelled (p.saying, t.said))
+    sure (refused_in_hand M q.source (is_all q) q.dropped p stream server stopped (Some false) a.begun s.1 g halts cut refl on t.heads t.begins p.saying.text t.spelled (p.saying.left, t.said))

@@ -47,7 +47,7 @@ reads_so M S at q a p past is s h =
       count = omega (arith, was, zero_in_hand);
     }
 
-pub serves_so : (M : Meaning) (S : Sided M → Type 0) (at : At) (q : RequestSeen) (a : AnswerSeen) (p : Sided M) (past : Past)
+unfoldable pub serves_so : (M : Meaning) (S : Sided M → Type 0) (at : At) (q : RequestSeen) (a : AnswerSeen) (p : Sided M) (past : Past)
     → at.phase ≡ phase.Serving → S p → Holds M at q a p past → ServesInHand M S q a at past
 serves_so M S at q a p past is s h =
     let k : InPhase M q a p h.hand at.cut h.now phase.Serving = in_phase M at phase.Serving q a p past is h in
@@ -69,7 +69,7 @@ serves_so M S at q a p past is s h =
       count = h.count ∙ ap (λ n. min (h.done.count + n) most) k.0;
     }
 
-pub refuses_so : (M : Meaning) (S : Sided M → Type 0) (at : At) (q : RequestSeen) (a : AnswerSeen) (p : Sided M) (past : Past)
+unfoldable pub refuses_so : (M : Meaning) (S : Sided M → Type 0) (at : At) (q : RequestSeen) (a : AnswerSeen) (p : Sided M) (past : Past)
     → at.phase ≡ phase.Refusing → S p → Holds M at q a p past → RefusesInHand M S a at past
 refuses_so M S at q a p past is s h =
     let k : InPhase M q a p h.hand at.cut h.now phase.Refusing = in_phase M at phase.Refusing q a p past is h in
@@ -84,7 +84,7 @@ refuses_so M S at q a p past is s h =
       count = h.count ∙ ap (λ n. min (h.done.count + n) most) k.0;
     }
 
-pub replies_so : (M : Meaning) (S : Sided M → Type 0) (at : At) (kept : Bool) (q : RequestSeen) (a : AnswerSeen) (p : Sided M) (past : Past)
+unfoldable pub replies_so : (M : Meaning) (S : Sided M → Type 0) (at : At) (kept : Bool) (q : RequestSeen) (a : AnswerSeen) (p : Sided M) (past : Past)
     → at.phase ≡ phase.Replying kept → S p → Holds M at q a p past → RepliesInHand M S kept a at past
 replies_so M S at kept q a p past is s h =
     let k : InPhase M q a p h.hand at.cut h.now (phase.Replying kept) = in_phase M at (phase.Replying kept) q a p past is h in

@@ -3,6 +3,7 @@ mod Placing
 mod Streams
 mod Puts
 mod Behind
+mod Begun
 mod Said
 mod Exists
 mod Serving

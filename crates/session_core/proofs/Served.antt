@@ -77,11 +77,11 @@ answered_begun M so all dropped tell done did p stream server stopped taken code
 refused_before : (M : Meaning) (so : Source) (all dropped done : Bool) (p : Sided M) (stream server : Stream) (stopped : Bool) (taken : List ℕ) (code : ℕ)
     (g : RequestGoes M so all dropped p.vars p.asking p.to_server stream) (t : Turned M done (asker_in p.asking) p.server p.to_client p.saying code)
     → (made g).cut ≡ Some code → Took stopped g.goes.text taken → Continues p.server server
-    → One M p.vars stream (Open server stopped ∷ []) (exchange_of M taken Failed (interim_text (sent_interim (asker_in p.asking) t.heads) ++ t.refused) (Some false) (Over end.Closed))
+    → One M p.vars stream (Open server stopped ∷ []) (exchange_of M taken Failed (interim_text (sent_interim (asker_in p.asking) t.heads) ++ p.saying.text) (Some false) (Over end.Closed))
 refused_before M so all dropped done p stream server stopped taken code g t cut took on =
     served_one M so all dropped p stream server stopped g _
-    (serves_by M (made g) server stopped (exchange_of M taken Failed (interim_text (sent_interim (asker_in p.asking) t.heads) ++ t.refused) (Some false) (Over end.Closed)) (Some code) cut
-    (server_got (made g).message false stopped Failed g.goes.text taken (spelled_so M so all dropped p stream g false (ap is_none cut)) took, client_is_refused M so all dropped p stream server code g on t.heads t.begins t.refused t.spelled))
+    (serves_by M (made g) server stopped (exchange_of M taken Failed (interim_text (sent_interim (asker_in p.asking) t.heads) ++ p.saying.text) (Some false) (Over end.Closed)) (Some code) cut
+    (server_got (made g).message false stopped Failed g.goes.text taken (spelled_so M so all dropped p stream g false (ap is_none cut)) took, client_is_refused M so all dropped p stream server code g on t.heads t.begins p.saying.text t.spelled))
 
 -- ---- the connect in hand
 
@@ -184,7 +184,7 @@ closes_turned M q a p c stream server stopped sent window answered is serves set
     let cut : (made g).cut ≡ Some serves.1 = let P : Source → Type 0 = λ so. SourceIs so (made g).cut in subst P serves.2 g.goes.source in
     let t : IsTurned M a p serves.1 = serves.3 in
     record {
-      client = interim_text (sent_interim (asker_in p.asking) t.heads) ++ t.refused;
+      client = interim_text (sent_interim (asker_in p.asking) t.heads) ++ p.saying.text;
       one = refused_before M q.source (is_all q) q.dropped a.answered p stream server stopped c.taken serves.1 g t cut (took_of M q p c stopped stream g sent window is stop) on;
       client_is = sym (sym (append-nil p.to_client) ∙ ap (λ xs. p.to_client ++ xs) (sym (t.sent answered)) ∙ t.said);
     }

@@ -9,7 +9,7 @@ use Rattle.session_model.specs.Meaning.{Meaning}
 use Rattle.session_model.specs.Asking.{Asks, Nothing}
 use Rattle.session_model.specs.Session.{Exchange, After, Over, Follow}
 use Rattle.session_core.specs.History.{Past, nothing_yet, Coming, Connect, Continues, ContinuesServer, Fronts, sent_of, prepend, prepended}
-use Rattle.session_core.specs.Sided.{Sided, replied_to, RequestSeen, AnswerSeen}
+use Rattle.session_core.specs.Sided.{Sided, replied_to, RequestSeen, AnswerSeen, unsaid}
 use Rattle.session_core.specs.Stands.{One, none_done, Puts, IsBehind, EndsWith, IsOver, InPhase, Holds, most}
 use Rattle.session_core.specs.Leads.{AsksRefusal, AsksReply, AsksServer, RenewsReplied, renewed_at, IsFresh}
 use Rattle.session_core.specs.declared.machine.At.{At}
@@ -42,7 +42,7 @@ over_refusing : (M : Meaning) (q : RequestSeen) (a : AnswerSeen) (p : Sided M) (
     → a.answered ≡ true → InPhase M q a p hand cut now phase.Refusing → InPhase M q a p hand cut now (phase.Over end.Closed)
 over_refusing M q a p hand cut now all h =
     let H : ℕ → Type 0 = λ n. IsOver M p n now cut end.Closed in
-    let text : h.3.text ≡ p.to_client = sym h.3.said ∙ ap (λ xs. p.to_client ++ xs) (h.3.sent all) ∙ append-nil p.to_client in (
+    let text : p.saying.text ≡ p.to_client = sym h.3.said ∙ ap (λ xs. p.to_client ++ xs) (h.3.sent all) ∙ append-nil p.to_client in (
       h.1.none,
       h.2,
       subst H (sym h.0) (λ stream servers c z.
@@ -54,12 +54,12 @@ over_replying : (M : Meaning) (q : RequestSeen) (a : AnswerSeen) (p : Sided M) (
 over_replying M q a p hand cut now all h =
     let H : ℕ → Type 0 = λ n. IsOver M p n now cut end.Closed in
     let N : List Connect → Type 0 = λ now. Fronts now [] (map sent_of now) × IsOver M p 1 now cut end.Closed in
-    let text : h.3.text ≡ p.to_client = sym h.3.said ∙ ap (λ xs. p.to_client ++ xs) (h.3.sent all) ∙ append-nil p.to_client in
+    let text : p.saying.text ≡ p.to_client = sym h.3.said ∙ ap (λ xs. p.to_client ++ xs) (h.3.sent all) ∙ append-nil p.to_client in
     let o : Fronts now [] (map sent_of now) × IsOver M p 1 now cut end.Closed = subst N (sym h.2) (
       refl,
       λ stream servers c z.
           let r : (rest : Stream) × Asks M p.vars stream (replied_to p.reply rest) = h.3.asks stream c in
-          ends_by_one M p.vars p.to_client [] cut end.Closed stream servers _ (reply_one M p.vars p.reply stream servers r.0 h.3.text None z h.3.spelled h.3.behind r.1) refl text refl (sym h.1.uncut),
+          ends_by_one M p.vars p.to_client [] cut end.Closed stream servers _ (reply_one M p.vars p.reply stream servers r.0 p.saying.text None z h.3.spelled h.3.behind r.1) refl text refl (sym h.1.uncut),
     ) in
     (h.1.none, o.0, subst H (sym h.0) o.1)
 
@@ -122,15 +122,15 @@ replies_next M S at q r a b p past is all opened none window re h =
     (λ hand now f.
     let P : Phase → Type 0 = λ ph. InPhase M q a p hand at.cut now ph in
     let k : InPhase M q a p hand at.cut now (phase.Replying true) = subst P is f in
-    let text : k.3.text ≡ p.to_client = sym k.3.said ∙ ap (λ xs. p.to_client ++ xs) (k.3.sent all) ∙ append-nil p.to_client in
+    let text : p.saying.text ≡ p.to_client = sym k.3.said ∙ ap (λ xs. p.to_client ++ xs) (k.3.sent all) ∙ append-nil p.to_client in
     let F : List Connect → Type 0 = λ now. Fronts now [] (map sent_of now) in
     let G : List Connect → Type 0 = λ now. (rest : Stream) (servers : List Server) → Continues re.left rest → AllZip ContinuesServer now servers → Passes M p.vars re.used rest servers (M.renewed p.now) p.to_client (map sent_of now) in (
       k.0,
       subst F (sym k.2) refl,
       subst G (sym k.2) (λ rest servers c z.
           record {
-            exchange = replied_exchange M rest k.3.text (Some p.now);
-            one = reply_one M p.vars p.reply (prepend re.used rest) servers rest k.3.text (Some p.now) z k.3.spelled k.3.behind (re.replied.goes rest c);
+            exchange = replied_exchange M rest p.saying.text (Some p.now);
+            one = reply_one M p.vars p.reply (prepend re.used rest) servers rest p.saying.text (Some p.now) z k.3.spelled k.3.behind (re.replied.goes rest c);
             goes_on = refl;
             text_is = text;
             sent_is = refl;
@@ -210,15 +210,14 @@ asks_more M at q r a b p past is opened window same h =
 pub asks_refusal : (M : Meaning) (S : Sided M → Type 0) (at : At) (q r : RequestSeen) (a b : AnswerSeen) (p : Sided M) (past : Past) (count : ℕ)
     → at.phase ≡ phase.Reading → r.is_open ≡ q.is_open → r.window ≡ q.window → b.window ≡ a.window → b.answered ≡ false → count ≡ min (at.exchanges + 1) most
     → (re : AsksRefusal M S p)
-    → Holds M at q a p past → Holds M (record at { phase = phase.Refusing; exchanges = count }) r b (record p { saying = re.text }) (record past { note = at.cut })
+    → Holds M at q a p past → Holds M (record at { phase = phase.Refusing; exchanges = count }) r b (record p { saying = unsaid re.text }) (record past { note = at.cut })
 asks_refusal M S at q r a b p past count is opened window same starts counted re h =
-    holds_begin M at phase.Refusing q r a b p (record p { saying = re.text }) past count is refl refl refl opened same counted
+    holds_begin M at phase.Refusing q r a b p (record p { saying = unsaid re.text }) past count is refl refl refl opened same counted
     (λ k. (
       refl,
       record { none = window ∙ k.1.none; uncut = k.1.uncut },
       refl,
       record {
-        text = re.text;
         said = ap (λ xs. xs ++ re.text) k.2;
         sent = λ e. let no : false ≡ true = sym starts ∙ e in absurd (grind (arith, no));
         goes = λ stream servers c z. refused_one M p.vars stream servers re.code re.no_body re.method re.behind re.text z re.spelled (re.asks stream c);
@@ -229,15 +228,14 @@ pub asks_reply : (M : Meaning) (S : Sided M → Type 0) (at : At) (q r : Request
     → at.phase ≡ phase.Reading → r.is_open ≡ q.is_open → r.window ≡ q.window → b.window ≡ a.window → b.answered ≡ false → count ≡ min (at.exchanges + 1) most
     → (re : AsksReply M S p kept)
     → Holds M at q a p past
-    → Holds M (record at { phase = phase.Replying kept; exchanges = count }) r b (record p { reply = re.reply; now = re.now; saying = re.text }) (record past { note = at.cut })
+    → Holds M (record at { phase = phase.Replying kept; exchanges = count }) r b (record p { reply = re.reply; now = re.now; saying = unsaid re.text }) (record past { note = at.cut })
 asks_reply M S at q r a b p past count kept is opened window same starts counted re h =
-    holds_begin M at (phase.Replying kept) q r a b p (record p { reply = re.reply; now = re.now; saying = re.text }) past count is refl refl refl opened same counted
+    holds_begin M at (phase.Replying kept) q r a b p (record p { reply = re.reply; now = re.now; saying = unsaid re.text }) past count is refl refl refl opened same counted
     (λ k. (
       refl,
       record { none = window ∙ k.1.none; uncut = k.1.uncut },
       refl,
       record {
-        text = re.text;
         spelled = re.spelled;
         said = ap (λ xs. xs ++ re.text) k.2;
         sent = λ e. let no : false ≡ true = sym starts ∙ e in absurd (grind (arith, no));

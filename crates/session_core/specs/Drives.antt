@@ -1,14 +1,16 @@
 -- What a driver reads off a core: what its wants say of windows, rooms and its history, and what `begun` says of the bytes put out.
-use Rattle.std.specs.Prelude.{◌≡◌, ◌≢◌, ℕ, ◌<◌, List, [], ◌∷◌, ◌++◌, Bool, true, false, Some, None}
+use Rattle.std.specs.Prelude.{◌≡◌, ◌≢◌, ℕ, ◌<◌, List, [], ◌∷◌, ◌++◌, Bool, true, false, not, Some, None}
 use Rattle.http_model.specs.declared.Close.{Close}
 use Rattle.session_model.specs.Stream.{Stream}
 use Rattle.session_model.specs.Meaning.{Meaning}
-use Rattle.session_model.specs.Answering.{Answered, AnswersFrom}
+use Rattle.session_model.specs.Answering.{Answered, AnswersFrom, sent_interim}
 use Rattle.session_model.specs.Session.{interim_text}
-use Rattle.session_core.specs.History.{Past, Connect, Continues, close_by}
-use Rattle.session_core.specs.Sided.{RequestSeen, AnswerSeen, Asking, asker_in, Perhaps, RequestAsks, Interims, finished_blocks}
+use Rattle.session_core.specs.History.{Past, Connect, Continues, IsPrefix, close_by}
+use Rattle.session_core.specs.Sided.{Sided, RequestSeen, AnswerSeen, Asking, asker_in, Perhaps, RequestAsks, Interims, IsTurned, finished_blocks}
 use Rattle.session_core.specs.Awaits.{awaits_continue}
-use Rattle.session_core.specs.InHand.{InHand}
+use Rattle.session_core.specs.InHand.{InHand, ServesInHand, RefusesInHand, RepliesInHand}
+use Rattle.session_core.specs.Waits.{is_empty}
+use Rattle.session_core.specs.declared.machine.At.{At}
 use Rattle.session_core.specs.declared.machine.Wants.{Wants}
 
 -- What wants say of windows and rooms, and of whether a server is open.
@@ -61,6 +63,29 @@ pub record BegunSays (M : Meaning) (past : Past) (window : List ℕ) (begun : Bo
   pub text : past.taken ++ window ≡ in_hand.done.client ++ put
   pub has_begun : begun ≡ true → (stream : Stream) → Continues connect.stream stream → Perhaps (HasBegun M asking put stream)
   pub before : begun ≡ false → Interims M (asker_in asking) connect.stream put
+
+-- While a refusal goes out with no server open: the exchange in hand, and whether a byte of the refusal was put out.
+pub record RefusalBegun (M : Meaning) (stands : Sided M → Type 0) (a : AnswerSeen) (at : At) (past : Past) : Type 0 where
+  pub hand : RefusesInHand M stands a at past
+  pub begun : a.begun ≡ not (is_empty hand.sided.to_client)
+
+-- the same of a reply
+pub record ReplyBegun (M : Meaning) (stands : Sided M → Type 0) (kept : Bool) (a : AnswerSeen) (at : At) (past : Past) : Type 0 where
+  pub hand : RepliesInHand M stands kept a at past
+  pub begun : a.begun ≡ not (is_empty hand.sided.to_client)
+
+-- whether a byte behind this text was put out
+abbrev pub IsBegunBehind : (begun : Bool) → (front put : List ℕ) → Type 0
+IsBegunBehind true front put = (byte : ℕ) × (more : List ℕ) × (put ≡ front ++ byte ∷ more)
+IsBegunBehind false front put = IsPrefix put front
+
+-- While a refusal goes out in place of a server's answer: the exchange in hand, and whether a byte of the refusal was put out, behind the
+-- interim heads in front of it.
+pub record TurnedBegun (M : Meaning) (stands : Sided M → Type 0) (q : RequestSeen) (a : AnswerSeen) (at : At) (past : Past) : Type 0 where
+  pub hand : ServesInHand M stands q a at past
+  pub code : ℕ
+  pub turned : IsTurned M a hand.sided code
+  pub begun : IsBegunBehind a.begun (interim_text (sent_interim (asker_in hand.sided.asking) turned.heads)) hand.sided.to_client
 
 -- While a server is to be opened: however the client's stream goes on, the exchange in hand asks for a server for this head, and
 -- has no connect yet; the head's finished list is the one in the array; and the client waits where the head says so.

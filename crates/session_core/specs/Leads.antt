@@ -8,7 +8,7 @@ use Rattle.session_model.specs.Meaning.{Meaning}
 use Rattle.session_model.specs.Asking.{Asks, Nothing, Refused}
 use Rattle.session_model.specs.Amending.{reply_sent, refusal_sent, behind_reply}
 use Rattle.session_core.specs.History.{Event, Past, Coming, Continues, after, no_stream}
-use Rattle.session_core.specs.Sided.{Sided, finished_blocks, Asking, asker_in, Reply, replied_to, RequestSeen, AnswerSeen, Requests, RequestsAsk, AnswersSo, IsBefore, IsTurned, IsUncut, IsSettled, CameWhole, CameReplied}
+use Rattle.session_core.specs.Sided.{Sided, Saying, unsaid, finished_blocks, Asking, asker_in, Reply, replied_to, RequestSeen, AnswerSeen, Requests, RequestsAsk, AnswersSo, IsBefore, IsTurned, IsUncut, IsSettled, CameWhole, CameReplied}
 use Rattle.session_core.specs.Awaits.{awaits_continue}
 use Rattle.session_core.specs.Stands.{Holds, kept_with}
 use Rattle.session_core.specs.declared.machine.At.{At}
@@ -68,8 +68,8 @@ pub record StepsAnswer (M : Meaning) (S : Sided M → Type 0) (old new : AnswerS
 pub record Says (M : Meaning) (S : Sided M → Type 0) (old new : AnswerSeen) (p : Sided M) : Type 0 where
   pub put : List ℕ
   pub left : List ℕ
-  pub stands : S (record p { to_client = p.to_client ++ put; saying = left })
-  pub saying : p.saying ≡ put ++ left
+  pub stands : S (record p { to_client = p.to_client ++ put; saying = record p.saying { left = left } })
+  pub saying : p.saying.left ≡ put ++ left
   pub window : new.window ≡ old.window ++ put
   pub all : new.answered ≡ true → left ≡ []
 
@@ -77,11 +77,11 @@ pub record Says (M : Meaning) (S : Sided M → Type 0) (old new : AnswerSeen) (p
 pub record Refuses (M : Meaning) (S : Sided M → Type 0) (p : Sided M) (code : ℕ) : Type 0 where
   pub text : List ℕ
   pub spelled : Spells true (asker_in p.asking).head_asked (refusal_sent M code (asker_in p.asking).method (M.answering p.asking.vars)) text
-  pub stands : S (record p { saying = text })
+  pub stands : S (record p { saying = unsaid text })
 
 -- in place of the server's answer, interim heads, each whole, and the refusal of a cut request
 pub record Turns (M : Meaning) (S : Sided M → Type 0) (new : AnswerSeen) (p : Sided M) (code : ℕ) : Type 0 where
-  pub saying : List ℕ
+  pub saying : Saying
   pub stands : S (record p { saying = saying })
   pub turned : IsTurned M new (record p { saying = saying }) code
 
@@ -93,7 +93,7 @@ pub record AsksRefusal (M : Meaning) (S : Sided M → Type 0) (p : Sided M) : Ty
   pub behind : M.Vars
   pub text : List ℕ
   pub spelled : Spells true no_body (refusal_sent M code method (M.answering behind)) text
-  pub stands : S (record p { saying = text })
+  pub stands : S (record p { saying = unsaid text })
   pub asks : (stream : Stream) → Continues p.came stream → Asks M p.vars stream (Refused code no_body method behind)
 
 -- the rules reply, and the connection is kept behind it or not
@@ -103,7 +103,7 @@ pub record AsksReply (M : Meaning) (S : Sided M → Type 0) (p : Sided M) (kept 
   pub text : List ℕ
   pub spelled : Spells true reply.no_body (reply_sent M reply.message reply.method (M.answering reply.vars) reply.keep) text
   pub behind : behind_reply M reply.message reply.method (M.answering reply.vars) reply.keep ≡ kept_with kept now
-  pub stands : S (record p { reply = reply; now = now; saying = text })
+  pub stands : S (record p { reply = reply; now = now; saying = unsaid text })
   pub asks : (stream : Stream) → Continues p.came stream → (rest : Stream) × Asks M p.vars stream (replied_to reply rest)
 
 -- a head goes to a server
@@ -151,7 +151,7 @@ pub record AskKeeps (old new : RequestSeen) (asks : Asked) : Type 0 where
 
 -- in front of the next exchange
 abbrev pub renewed_at : {M : Meaning} → Sided M → Coming → Sided M
-renewed_at {M} p left = record p { vars = M.renewed p.now; came = left; to_server = []; server = no_stream; to_client = []; saying = [] }
+renewed_at {M} p left = record p { vars = M.renewed p.now; came = left; to_server = []; server = no_stream; to_client = []; saying = unsaid [] }
 
 -- behind a request that came whole
 pub record Renews (M : Meaning) (S : Sided M → Type 0) (old : RequestSeen) (p : Sided M) : Type 0 where

@@ -95,6 +95,16 @@ pub record Reply (Vars : Type 0) : Type 0 where
 abbrev pub replied_to : {Vars : Type 0} → Reply Vars → (rest : Stream) → Asked Vars
 replied_to reply rest = Replied reply.message reply.no_body reply.keep rest reply.method reply.vars
 
+-- A text that is made here as a whole, a refusal or a reply, and what is left to put out: of it, or of interim heads in front of it and then all
+-- of it.
+pub record Saying : Type 0 where
+  pub text : List ℕ
+  pub left : List ℕ
+
+-- nothing of it was put out
+abbrev pub unsaid : (text : List ℕ) → Saying
+unsaid text = record { text = text; left = text }
+
 -- the past of one exchange
 pub record Sided (M : Meaning) : Type 0 where
   -- the variables in front of it, and the client's stream from there on
@@ -109,8 +119,8 @@ pub record Sided (M : Meaning) : Type 0 where
   pub now : M.Vars
   -- a reply of the request's rules
   pub reply : Reply M.Vars
-  -- the text of a refusal or reply, or of an interim response in front of it, that is still to be put out
-  pub saying : List ℕ
+  -- a refusal or a reply that goes out
+  pub saying : Saying
 
 -- ---- the request direction
 
@@ -238,13 +248,12 @@ abbrev pub IsBefore : (M : Meaning) → Sided M → Type 0
 IsBefore M p = Interims M (asker_in p.asking) p.server p.to_client
 
 -- the request was cut before the answer had begun: interim heads, each whole, and then the refusal
-pub record Turned (M : Meaning) (all : Bool) (asker : Asker) (server : Coming) (put saying : List ℕ) (code : ℕ) : Type 0 where
+pub record Turned (M : Meaning) (all : Bool) (asker : Asker) (server : Coming) (put : List ℕ) (saying : Saying) (code : ℕ) : Type 0 where
   pub heads : List Head
   pub begins : BeginsAlways M asker server heads
-  pub refused : List ℕ
-  pub spelled : SpellsRefusal code asker.head_asked refused
-  pub said : put ++ saying ≡ interim_text (sent_interim asker heads) ++ refused
-  pub sent : all ≡ true → saying ≡ []
+  pub spelled : SpellsRefusal code asker.head_asked saying.text
+  pub said : put ++ saying.left ≡ interim_text (sent_interim asker heads) ++ saying.text
+  pub sent : all ≡ true → saying.left ≡ []
 
 abbrev pub IsTurned : (M : Meaning) → AnswerSeen → Sided M → ℕ → Type 0
 IsTurned M a p code = Turned M a.answered (asker_in p.asking) p.server p.to_client p.saying code

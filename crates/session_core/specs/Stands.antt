@@ -13,7 +13,7 @@ use Rattle.session_model.specs.Asking.{Asked, Asks}
 use Rattle.session_model.specs.Amending.{reply_sent, behind_reply}
 use Rattle.session_model.specs.Session.{Exchange, Over, Goes, Follow, first_bit}
 use Rattle.session_core.specs.History.{Past, Coming, Connect, Continues, ContinuesServer, prepend, prepended, sent_of, Fronts, close_by, connected}
-use Rattle.session_core.specs.Sided.{Sided, finished_blocks, Reply, replied_to, RequestSeen, AnswerSeen, Requests, RequestsAsk, AnswersSo, IsBefore, IsTurned, IsUncut, IsSettled}
+use Rattle.session_core.specs.Sided.{Sided, Saying, finished_blocks, Reply, replied_to, RequestSeen, AnswerSeen, Requests, RequestsAsk, AnswersSo, IsBefore, IsTurned, IsUncut, IsSettled}
 use Rattle.session_core.specs.Awaits.{awaits_continue}
 use Rattle.session_core.specs.declared.Source.{Source}
 use Rattle.session_core.specs.declared.Source.TheVariants as source
@@ -103,19 +103,17 @@ pub record HasEnded (sent : Bool) (window : List ℕ) (answered : Bool) : Type 0
   pub all_answered : answered ≡ true
 
 -- the exchange is a refusal with no server open
-pub record Refusing (M : Meaning) (all : Bool) (vars : M.Vars) (came : Coming) (put saying : List ℕ) (now : List Connect) : Type 0 where
-  pub text : List ℕ
-  pub said : put ++ saying ≡ text
-  pub sent : all ≡ true → saying ≡ []
+pub record Refusing (M : Meaning) (all : Bool) (vars : M.Vars) (came : Coming) (put : List ℕ) (saying : Saying) (now : List Connect) : Type 0 where
+  pub said : put ++ saying.left ≡ saying.text
+  pub sent : all ≡ true → saying.left ≡ []
   pub goes : (stream : Stream) (servers : List Server) → Continues came stream → AllZip ContinuesServer now servers
-      → One M vars stream servers (record { connects = map sent_of now; client = text; bit = None; after = Over end.Closed })
+      → One M vars stream servers (record { connects = map sent_of now; client = saying.text; bit = None; after = Over end.Closed })
 
 -- The exchange is a reply of the request's rules. The connection is kept behind it where these are its variables then.
-pub record Replying (M : Meaning) (all : Bool) (vars : M.Vars) (came : Coming) (put saying : List ℕ) (reply : Reply M.Vars) (kept : Bool) (now : M.Vars) : Type 0 where
-  pub text : List ℕ
-  pub spelled : Spells true reply.no_body (reply_sent M reply.message reply.method (M.answering reply.vars) reply.keep) text
-  pub said : put ++ saying ≡ text
-  pub sent : all ≡ true → saying ≡ []
+pub record Replying (M : Meaning) (all : Bool) (vars : M.Vars) (came : Coming) (put : List ℕ) (saying : Saying) (reply : Reply M.Vars) (kept : Bool) (now : M.Vars) : Type 0 where
+  pub spelled : Spells true reply.no_body (reply_sent M reply.message reply.method (M.answering reply.vars) reply.keep) saying.text
+  pub said : put ++ saying.left ≡ saying.text
+  pub sent : all ≡ true → saying.left ≡ []
   pub behind : behind_reply M reply.message reply.method (M.answering reply.vars) reply.keep ≡ kept_with kept now
   pub asks : (stream : Stream) → Continues came stream → (rest : Stream) × Asks M vars stream (replied_to reply rest)
 

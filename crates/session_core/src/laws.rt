@@ -5,9 +5,10 @@ ghost use Rattle.session_core.specs.History.{Event, Past, past_of};
 ghost use Rattle.session_core.specs.Consequences.{IsFinal, IsFront, out_of_past};
 ghost use Rattle.session_core.specs.Sided.{RequestSeen, AnswerSeen, Perhaps};
 ghost use Rattle.session_core.specs.Waits.{wants_of, is_serving, is_turned};
-ghost use Rattle.session_core.specs.Drives.{WantsMean, IsAlone, WantsSay, BegunSays, IsAskedFor};
+ghost use Rattle.session_core.specs.Drives.{WantsMean, IsAlone, WantsSay, BegunSays, RefusalBegun, ReplyBegun, TurnedBegun, IsAskedFor};
 ghost use Rattle.session_core.specs.InHand.{ReadsInHand, ServesInHand, RefusesInHand, RepliesInHand, ExchangesAre};
 ghost use Rattle.session_core.specs.Leads.{Stands, Leads, Sees};
+ghost use Rattle.session_core.specs.Place.{IsPlaced};
 ghost use Rattle.session_core.specs.declared.machine.At.{At};
 ghost use Rattle.session_core.specs.declared.Phase.TheVariants as phase;
 
@@ -58,10 +59,17 @@ pub fn wants_say<S: Works>()
         → WantsSay (wants_of (S.request sides) (S.answer sides) at) past }
 {}
 
-/// What `begun` says of the bytes put out, while a server's answer goes out.
+/// What `begun` says of the bytes put out: while a server's answer goes out (`answer`); while a refusal or a reply does, exactly whether a byte of it
+/// was put out, with no server open (`refusal`, `reply`) and behind interim heads, in place of a server's answer (`turned`).
 pub fn begun_says<S: Works>()
-    ensures { (cfg : S.Settings) (sides : S) (at : At) (past : Past) → Stands (S.meaning cfg) S.request S.answer (S.stands cfg) sides at past
+    ensures answer { (cfg : S.Settings) (sides : S) (at : At) (past : Past) → Stands (S.meaning cfg) S.request S.answer (S.stands cfg) sides at past
         → at.phase ≡ phase.Serving → is_turned at.cut ≡ false → BegunSays (S.meaning cfg) past (S.answer sides).window (S.answer sides).begun }
+    ensures refusal { (cfg : S.Settings) (sides : S) (at : At) (past : Past) → Stands (S.meaning cfg) S.request S.answer (S.stands cfg) sides at past
+        → IsPlaced (S.placed sides) (S.answer sides) at.phase at.cut → at.phase ≡ phase.Refusing → RefusalBegun (S.meaning cfg) (S.stands cfg sides) (S.answer sides) at past }
+    ensures reply { (cfg : S.Settings) (sides : S) (at : At) (past : Past) (kept : Bool) → Stands (S.meaning cfg) S.request S.answer (S.stands cfg) sides at past
+        → IsPlaced (S.placed sides) (S.answer sides) at.phase at.cut → at.phase ≡ phase.Replying kept → ReplyBegun (S.meaning cfg) (S.stands cfg sides) kept (S.answer sides) at past }
+    ensures turned { (cfg : S.Settings) (sides : S) (at : At) (past : Past) → Stands (S.meaning cfg) S.request S.answer (S.stands cfg) sides at past
+        → IsPlaced (S.placed sides) (S.answer sides) at.phase at.cut → at.phase ≡ phase.Serving → at.cut ≡ Some false → TurnedBegun (S.meaning cfg) (S.stands cfg sides) (S.request sides) (S.answer sides) at past }
 {}
 
 /// While a server is to be opened, the finished list of the request in hand stands in the array.

@@ -1,5 +1,5 @@
 //! The two directions of a core, as it sees them.
-ghost use Rattle.std.specs.Prelude.{◌≡◌, ◌≢◌, ◌≤◌, ◌<◌, ◌++◌, ◌-◌, [], ℕ, List, Bool, true, false, not, length, take, drop, OnOk, IfOk, IsOk, IsTrue};
+ghost use Rattle.std.specs.Prelude.{◌≡◌, ◌≢◌, ◌≤◌, ◌<◌, ◌++◌, ◌-◌, [], ℕ, List, Bool, true, false, not, nat_lt, length, take, drop, OnOk, IfOk, IsOk, IsTrue};
 ghost use Rattle.session_model.specs.Meaning.{Meaning};
 ghost use Rattle.session_core.specs.Consequences.{IsTotal};
 ghost use Rattle.session_core.specs.History.{no_stream, gains, ends};
@@ -102,6 +102,10 @@ pub trait Sides {
     ghost lends_to_client: { (sides : Self) → with_to_client sides (answer sides).window ≡ sides };
 
     ghost lends_to_server: { (sides : Self) → with_to_server sides (request sides).window ≡ sides };
+
+    /// A refusal or a reply that goes out has begun exactly where less than all of it is left.
+    ghost begins_so: { (cfg : Self.Settings) (sides : Self) (p : Sided (meaning cfg)) (at : Place) → stands cfg sides p → is_saying at ≡ true → placed sides at
+        → (answer sides).begun ≡ nat_lt (length p.saying.left) (length p.saying.text) };
 }
 
 /// What a core sees of streams and windows.

@@ -19,7 +19,7 @@ use Rattle.session_model.specs.Asking.{Asker}
 use Rattle.session_model.specs.Answering.{sent_interim}
 use Rattle.session_model.specs.Session.{interim_text}
 use Rattle.session_core.specs.History.{Coming, Continues, IsPrefix, prepend}
-use Rattle.session_core.specs.Sided.{Asking, asker_in, AnswerGoes, Interims, IfTold, IsTold, Perhaps, BeginsAlways}
+use Rattle.session_core.specs.Sided.{Asking, asker_in, AnswerGoes, Interims, IfTold, IsTold, Perhaps, BeginsAlways, Saying}
 use Rattle.session_core.specs.Lanes.{LastSo, IsTotalAnswers}
 use Rattle.session_core.specs.declared.Told.{Told}
 use Rattle.session_core.specs.declared.Told.TheVariants as told
@@ -257,7 +257,7 @@ settled (source.Cut code) off = tt
 done_told : (lane : ResponseLane) (e : Exchange) → AnswersLast lane e → is_done (stage_of lane) ≡ true → IsTold (told_by (source_of lane))
 done_told lane e a done = settled lane.lane.source (a.stands.done (done_is lane.lane.stage done))
 
-pub so_at : (at : Place) (cfg : Config) (asking : Asking Variables) (lane : ResponseLane) (server : Coming) (put : List ℕ) (now : Variables) (saying : List ℕ) → IsTotalAnswers (meaning_of cfg) → (told_at at (source_of lane) ≡ told.Cut → HasBodies cfg)
+pub so_at : (at : Place) (cfg : Config) (asking : Asking Variables) (lane : ResponseLane) (server : Coming) (put : List ℕ) (now : Variables) (saying : Saying) → IsTotalAnswers (meaning_of cfg) → (told_at at (source_of lane) ≡ told.Cut → HasBodies cfg)
     → ((e : Exchange) → Answers lane e → AnswerPromise lane e) → Laws lane.lane → IsFor cfg lane → is_serving at ≡ true → StandsAt at cfg (asker_in asking) (answering asking.vars) lane server put now saying
     → (answered_at at (stage_of lane) ≡ true → IsTold (told_at at (source_of lane)))
     × ((stream : Stream) → Continues server stream → IfTold (told_at at (source_of lane)) (AnswerGoes (meaning_of cfg) (told_at at (source_of lane)) (answered_at at (stage_of lane)) (has_begun lane) asking put now stream))
@@ -282,7 +282,7 @@ so_at place.Closing cfg asking lane server put now saying total has promise laws
 so_at place.Keeping cfg asking lane server put now saying total has promise laws for serves s =
     (λ answered. tt, instead_keeps cfg asking lane server put s.0 now for s.1 s.2 (promise s.0 s.1.answers) s.3)
 
-pub in_hand_at : (at : Place) (cfg : Config) (asking : Asking Variables) (lane : ResponseLane) (server : Coming) (put : List ℕ) (now : Variables) (saying : List ℕ) → is_serving at ≡ true
+pub in_hand_at : (at : Place) (cfg : Config) (asking : Asking Variables) (lane : ResponseLane) (server : Coming) (put : List ℕ) (now : Variables) (saying : Saying) → is_serving at ≡ true
     → StandsAt at cfg (asker_in asking) (answering asking.vars) lane server put now saying → (e : Exchange) × IsInHand (asker_in asking) lane server put e
 in_hand_at place.Idle cfg asking lane server put now saying serves s = absurd (let both : false ≡ true = serves in cc both)
 in_hand_at place.Heads cfg asking lane server put now saying serves s = (s.0, s.1)
@@ -291,7 +291,7 @@ in_hand_at place.Closing cfg asking lane server put now saying serves s = (s.0, 
 in_hand_at place.Keeping cfg asking lane server put now saying serves s = (s.0, s.1)
 in_hand_at place.Saying cfg asking lane server put now saying serves s = absurd (let both : false ≡ true = serves in cc both)
 
-pub before_at : (cfg : Config) (side : AnswerSide) (asking : Asking Variables) (server : Coming) (put : List ℕ) (now : Variables) (saying : List ℕ) → ((e : Exchange) → Answers side.lane e → AnswerPromise side.lane e)
+pub before_at : (cfg : Config) (side : AnswerSide) (asking : Asking Variables) (server : Coming) (put : List ℕ) (now : Variables) (saying : Saying) → ((e : Exchange) → Answers side.lane e → AnswerPromise side.lane e)
     → is_serving side.place ≡ true → has_begun side.lane ≡ false → AnswerStands cfg side asking server put now saying → Interims (meaning_of cfg) (asker_in asking) server put
 before_at cfg side asking server put now saying promise serves none s =
     let h = in_hand_at side.place cfg asking side.lane server put now saying serves s.at in

@@ -11,9 +11,10 @@ use Rattle.session_model.specs.Asking.{Asker}
 use Rattle.http_model.specs.Finish.{finish_interim}
 use Rattle.session_model.specs.Answering.{sent_interim}
 use Rattle.session_core.specs.History.{Coming, gains, ends}
+use Rattle.session_core.specs.Sided.{Saying}
 use Rattle.session_core.specs.declared.Told.{Told}
 use Rattle.session_core.proofs.PublicLaws.{continues_gains, continues_ends}
-use Rattle.lane.specs.Answering.{Exchange, Answers, HeadsCame, BeginsWithInterim, HasFilters, with_bytes, ended_of, phase_of, limits_of, shows_last}
+use Rattle.lane.specs.Answering.{Exchange, Answers, HeadsCame, BeginsWithInterim, HasFilters, with_bytes, ended_of, phase_of, has_begun, limits_of, shows_last}
 use Rattle.lane.specs.declared.response_lane.ResponseLane.{ResponseLane}
 use Rattle.forward_core.specs.Answer.Stands.{IsInHand, IsResponse, IsInstead, IsFor, StandsAt}
 use Rattle.forward_core.specs.declared.answer.place.Place.{Place}
@@ -103,6 +104,7 @@ pub record Takes (old new : ResponseLane) (more : List ℕ) : Type 0 where
   pub is_open : ended_of old ≡ None
   pub ended : ended_of new ≡ ended_of old
   pub phase : phase_of new ≡ phase_of old
+  pub begun : has_begun new ≡ has_begun old
 
 in_hand_more : (asker : Asker) (old new : ResponseLane) (server : Coming) (put : List ℕ) (e : Exchange) (more : List ℕ) → Takes old new more → IsInHand asker old server put e → IsInHand asker new (gains server more) put (with_bytes e more)
 in_hand_more asker old new server put e more t h =
@@ -111,7 +113,7 @@ in_hand_more asker old new server put e more t h =
 server_open : (asker : Asker) (old new : ResponseLane) (server : Coming) (put : List ℕ) (e : Exchange) (more : List ℕ) → Takes old new more → IsInHand asker old server put e → server.ending ≡ None
 server_open asker old new server put e more t h = sym h.ending ∙ t.is_open
 
-pub takes_at : (at : Place) (cfg : Config) (asker : Asker) (before : Variables) (old new : ResponseLane) (server : Coming) (put : List ℕ) (now : Variables) (saying more : List ℕ) → Takes old new more
+pub takes_at : (at : Place) (cfg : Config) (asker : Asker) (before : Variables) (old new : ResponseLane) (server : Coming) (put : List ℕ) (now : Variables) (saying : Saying) (more : List ℕ) → Takes old new more
     → StandsAt at cfg asker before old server put now saying → StandsAt at cfg asker before new (gains server more) put now saying
 takes_at place.Idle cfg asker before old new server put now saying more t s = (with_bytes s.0 more, t.answers s.0 s.1, record { put = s.2.put; passed = s.2.passed }, s.3)
 takes_at place.Heads cfg asker before old new server put now saying more t s = (with_bytes s.0 more, in_hand_more asker old new server put s.0 more t s.1, s.2)
@@ -122,7 +124,7 @@ takes_at place.Closing cfg asker before old new server put now saying more t s =
 takes_at place.Keeping cfg asker before old new server put now saying more t s =
     (with_bytes s.0 more, in_hand_more asker old new server put s.0 more t s.1, ap shows_last t.phase ∙ s.2, instead_more cfg asker before server _ now s.0 more (server_open asker old new server put s.0 more t s.1) s.3)
 takes_at place.Saying cfg asker before old new server put now saying more t s =
-    (with_bytes s.0 more, t.answers s.0 s.1, ap shows_last t.phase ∙ s.2, record { head = s.3.head; body = s.3.body; no_body = s.3.no_body; last = s.3.last; said = s.3.said })
+    (with_bytes s.0 more, t.answers s.0 s.1, ap shows_last t.phase ∙ s.2, record { head = s.3.head; body = s.3.body; no_body = s.3.no_body; last = s.3.last; text = s.3.text; said = s.3.said }, t.begun ∙ s.4)
 
 -- ---- a stream ends, and bytes are taken
 
@@ -132,11 +134,12 @@ pub record Ends (old new : ResponseLane) (how : Ending) : Type 0 where
   pub is_open : ended_of old ≡ None
   pub ended : ended_of new ≡ Some how
   pub phase : phase_of new ≡ phase_of old
+  pub begun : has_begun new ≡ has_begun old
 
 in_hand_ends : (asker : Asker) (old new : ResponseLane) (server : Coming) (put : List ℕ) (e : Exchange) (how : Ending) → Ends old new how → IsInHand asker old server put e → IsInHand asker new (ends server how) put e
 in_hand_ends asker old new server put e how t h = record { answers = t.answers e h.answers; asked = h.asked; bytes = h.bytes; ending = t.ended; passed = h.passed; put_is = h.put_is }
 
-pub ends_at : (at : Place) (cfg : Config) (asker : Asker) (before : Variables) (old new : ResponseLane) (server : Coming) (put : List ℕ) (now : Variables) (saying : List ℕ) (how : Ending) → Ends old new how
+pub ends_at : (at : Place) (cfg : Config) (asker : Asker) (before : Variables) (old new : ResponseLane) (server : Coming) (put : List ℕ) (now : Variables) (saying : Saying) (how : Ending) → Ends old new how
     → StandsAt at cfg asker before old server put now saying → StandsAt at cfg asker before new (ends server how) put now saying
 ends_at place.Idle cfg asker before old new server put now saying how t s = (s.0, t.answers s.0 s.1, s.2, s.3)
 ends_at place.Heads cfg asker before old new server put now saying how t s = (s.0, in_hand_ends asker old new server put s.0 how t s.1, s.2)
@@ -145,25 +148,26 @@ ends_at place.Closing cfg asker before old new server put now saying how t s =
     (s.0, in_hand_ends asker old new server put s.0 how t s.1, ap shows_last t.phase ∙ s.2, instead_ends cfg asker before server _ now s.0 how (sym s.1.ending ∙ t.is_open) s.3)
 ends_at place.Keeping cfg asker before old new server put now saying how t s =
     (s.0, in_hand_ends asker old new server put s.0 how t s.1, ap shows_last t.phase ∙ s.2, instead_ends cfg asker before server _ now s.0 how (sym s.1.ending ∙ t.is_open) s.3)
-ends_at place.Saying cfg asker before old new server put now saying how t s = (s.0, t.answers s.0 s.1, ap shows_last t.phase ∙ s.2, s.3)
+ends_at place.Saying cfg asker before old new server put now saying how t s = (s.0, t.answers s.0 s.1, ap shows_last t.phase ∙ s.2, s.3, t.begun ∙ s.4)
 
 -- what a lane keeps of whose output bytes are taken
 pub record Took (old new : ResponseLane) : Type 0 where
   pub answers : (e : Exchange) → Answers old e → Answers new e
   pub ended : ended_of new ≡ ended_of old
   pub phase : phase_of new ≡ phase_of old
+  pub begun : has_begun new ≡ has_begun old
 
 in_hand_took : (asker : Asker) (old new : ResponseLane) (server : Coming) (put : List ℕ) (e : Exchange) → Took old new → IsInHand asker old server put e → IsInHand asker new server put e
 in_hand_took asker old new server put e t h = record { answers = t.answers e h.answers; asked = h.asked; bytes = h.bytes; ending = t.ended ∙ h.ending; passed = h.passed; put_is = h.put_is }
 
-pub took_at : (at : Place) (cfg : Config) (asker : Asker) (before : Variables) (old new : ResponseLane) (server : Coming) (put : List ℕ) (now : Variables) (saying : List ℕ) → Took old new
+pub took_at : (at : Place) (cfg : Config) (asker : Asker) (before : Variables) (old new : ResponseLane) (server : Coming) (put : List ℕ) (now : Variables) (saying : Saying) → Took old new
     → StandsAt at cfg asker before old server put now saying → StandsAt at cfg asker before new server put now saying
 took_at place.Idle cfg asker before old new server put now saying t s = (s.0, t.answers s.0 s.1, s.2, s.3)
 took_at place.Heads cfg asker before old new server put now saying t s = (s.0, in_hand_took asker old new server put s.0 t s.1, s.2)
 took_at place.Response cfg asker before old new server put now saying t s = (s.0, in_hand_took asker old new server put s.0 t s.1, ap shows_last t.phase ∙ s.2, s.3)
 took_at place.Closing cfg asker before old new server put now saying t s = (s.0, in_hand_took asker old new server put s.0 t s.1, ap shows_last t.phase ∙ s.2, s.3)
 took_at place.Keeping cfg asker before old new server put now saying t s = (s.0, in_hand_took asker old new server put s.0 t s.1, ap shows_last t.phase ∙ s.2, s.3)
-took_at place.Saying cfg asker before old new server put now saying t s = (s.0, t.answers s.0 s.1, ap shows_last t.phase ∙ s.2, s.3)
+took_at place.Saying cfg asker before old new server put now saying t s = (s.0, t.answers s.0 s.1, ap shows_last t.phase ∙ s.2, s.3, t.begun ∙ s.4)
 
 -- ---- its configuration
 

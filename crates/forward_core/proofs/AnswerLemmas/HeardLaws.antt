@@ -10,7 +10,7 @@ use Rattle.px_sample.specs.Variables.{Variables}
 use Rattle.http_rules.specs.declared.config.Config.{Config}
 use Rattle.session_model.specs.Asking.{Asker}
 use Rattle.session_core.specs.History.{Coming, broken}
-use Rattle.session_core.specs.Sided.{Asking, asker_in}
+use Rattle.session_core.specs.Sided.{Asking, asker_in, Saying}
 use Rattle.session_core.proofs.PublicLaws.{continues_broken}
 use Rattle.lane.specs.declared.direction.stage.Stage.TheVariants as stage
 use Rattle.lane.specs.Answering.{Exchange, Answers, AnswersAt, IsSoundAnswer, stage_of, phase_of, shows_last, limits_of, input_of}
@@ -29,7 +29,7 @@ use Rattle.forward_core.proofs.AnswerLemmas.RestLaws.{OneReading, waits_behind, 
 
 -- ---- a head was read
 
-pub head_begins : (cfg : Config) (side : AnswerSide) (asking : Asking Variables) (server : Coming) (put : List ℕ) (now : Variables) (saying : List ℕ) → AnswerStands cfg side asking server put now saying → side.heard ≡ true
+pub head_begins : (cfg : Config) (side : AnswerSide) (asking : Asking Variables) (server : Coming) (put : List ℕ) (now : Variables) (saying : Saying) → AnswerStands cfg side asking server put now saying → side.heard ≡ true
     → HeadBegins cfg (asker_in asking) server
 head_begins cfg side asking server put now saying s told =
     let h : HeardAt true side.place cfg (asker_in asking) side.lane server = subst (λ (b : Bool). HeardAt b side.place cfg (asker_in asking) side.lane server) told s.heard in
@@ -94,7 +94,7 @@ heard_if true off = refl
 heard_if false off = absurd (off refl)
 
 -- once all was done that could be, a head that came was read
-pub heard_once : OneReading → (cfg : Config) (side : AnswerSide) (asking : Asking Variables) (server : Coming) (put : List ℕ) (now : Variables) (saying : List ℕ) → IsSoundSide side → AnswerStands cfg side asking server put now saying
+pub heard_once : OneReading → (cfg : Config) (side : AnswerSide) (asking : Asking Variables) (server : Coming) (put : List ℕ) (now : Variables) (saying : Saying) → IsSoundSide side → AnswerStands cfg side asking server put now saying
     → is_serving side.place ≡ true → side.at_rest ≡ true → BeginsWithHead cfg (asker_in asking) server.bytes → side.heard ≡ true
 heard_once one cfg side asking server put now saying sound s serves rest h =
     heard_if side.heard (λ told.

@@ -19,7 +19,7 @@ use Rattle.session_model.specs.Asking.{Asker}
 use Rattle.session_model.specs.Answering.{Final, response_declares_too_much, response_fits, finished_response}
 use Rattle.session_model.specs.Session.{SpellsFinal}
 use Rattle.session_core.specs.History.{Coming}
-use Rattle.session_core.specs.Sided.{Asking, asker_in, ToldIs}
+use Rattle.session_core.specs.Sided.{Asking, asker_in, ToldIs, Saying, unsaid}
 use Rattle.lane.specs.declared.direction.stage.Stage.TheVariants as stage
 use Rattle.lane.specs.Answering.{Exchange, Answers, Replies as ListReplies, Serves, IsSoundAnswer, ended_of, phase_of, stage_of, array_of, framing_of, declared_of, shows_last, replies, serves}
 use Rattle.lane.specs.Lending.{with_answer_head}
@@ -76,6 +76,7 @@ edits_by laws old msg b head size =
       is_open = refl;
       heard = refl;
       size = refl;
+      window_size = refl;
     }
 
 -- what goes out of a side that was edited
@@ -88,6 +89,7 @@ edits_goes old mid new e g =
       is_open = g.is_open ∙ e.is_open;
       heard = g.heard ∙ e.heard;
       size = g.size ∙ e.size;
+      window_size = g.window_size ∙ e.window_size;
     }
 
 -- the sizes of rules and side still agree
@@ -118,7 +120,7 @@ pub sends_response : (cfg : Config) (old : AnswerSide) (new : ResponseLane) (ask
     → (f : FinalHead cfg old asking server put received) → IsEdited cfg asking received head now → response_fits (meaning_of cfg) (asker_in asking) received head ≡ true
     → framing ≡ response_framing (replaces cfg.res_filters) (asker_in asking).is_http_11 received.framing → ended_of new ≡ ended_of old.lane → shows_last (phase_of new) ≡ true
     → Answers new (serves f.read.e cfg.res_filters (finished_response (meaning_of cfg) (asker_in asking) received head) framing old.asker.head_asked)
-    → StandsAt place.Response cfg (asker_in asking) (answering asking.vars) new server put now []
+    → StandsAt place.Response cfg (asker_in asking) (answering asking.vars) new server put now (unsaid [])
 sends_response cfg old new asking server put now received head framing f edits fits framed ended shows a =
     let done : Head = finished_response (meaning_of cfg) (asker_in asking) received head in (
       serves f.read.e cfg.res_filters done framing old.asker.head_asked,
@@ -148,7 +150,7 @@ sends_response cfg old new asking server put now received head framing f edits f
 
 -- ---- a list in its place
 
-pub instead_stands : (cfg : Config) (old : AnswerSide) (new : ResponseLane) (asking : Asking Variables) (server : Coming) (put : List ℕ) (now : Variables) (saying : List ℕ) (last : Final Variables) (head : Head) (body : List ℕ) (replied : Bool)
+pub instead_stands : (cfg : Config) (old : AnswerSide) (new : ResponseLane) (asking : Asking Variables) (server : Coming) (put : List ℕ) (now : Variables) (saying : Saying) (last : Final Variables) (head : Head) (body : List ℕ) (replied : Bool)
     → (s : Settles cfg old asking server put last) → SpellsFinal (meaning_of cfg) (asker_in asking) last (list_text (asker_in asking).head_asked head body) → ToldIs (meaning_of cfg) (told_when replied) now last
     → ended_of new ≡ ended_of old.lane → shows_last (phase_of new) ≡ true → Answers new (replies s.e head body old.asker.head_asked)
     → StandsAt (place_when replied) cfg (asker_in asking) (answering asking.vars) new server put now saying

@@ -15,7 +15,7 @@ use Rattle.session_model.specs.Session.{SpellsFinal}
 use Rattle.session_core.specs.Sided.{ToldIs}
 use Rattle.lane.specs.declared.direction.stage.Source.TheVariants as source
 use Rattle.lane.specs.Answering.{IsSoundAnswer, ended_of, limits_of, phase_of, source_of, output_of, shows_last}
-use Rattle.forward_core.specs.Answer.Seen.{is_last}
+use Rattle.forward_core.specs.Answer.Seen.{window_size_of, is_last}
 use Rattle.forward_core.specs.Answer.Stands.{FitsAt}
 use Rattle.forward_core.specs.Answer.Hearing.{IsBetween}
 use Rattle.forward_core.specs.Answer.Judging.{GoesOut, place_when, told_when}
@@ -32,8 +32,8 @@ when_fits false side shows whole = (shows, whole)
 
 -- the last goes out of a side whose place is this now
 pub goes_out : (old new : AnswerSide) (at : Place) → IsBetween old → new.place ≡ at → is_last at ≡ true → FitsAt at new → new.open ≡ old.open → new.heard ≡ old.heard → IsSoundAnswer new.lane → ended_of new.lane ≡ ended_of old.lane → output_of new.lane ≡ output_of old.lane
-    → limits_of new.lane ≡ limits_of old.lane → GoesOut old new
-goes_out old new at b is last fits opens heard sound ended window limits =
+    → limits_of new.lane ≡ limits_of old.lane → window_size_of new ≡ window_size_of old → GoesOut old new
+goes_out old new at b is last fits opens heard sound ended window limits window_size =
     record {
       last = ap is_last is ∙ last;
       sound = record {
@@ -45,6 +45,7 @@ goes_out old new at b is last fits opens heard sound ended window limits =
       is_open = ap is_none ended;
       heard = heard;
       size = ap (λ (l : Limits). l.bufsize) limits;
+      window_size = window_size;
     }
 
 -- ---- a reply

@@ -7,6 +7,7 @@ use Rattle.http_rules.specs.declared.config.Config.{Config}
 use Rattle.session_model.specs.Asking.{Asker}
 use Rattle.session_core.specs.History.{Coming}
 use Rattle.session_core.specs.declared.Told.TheVariants as told
+use Rattle.session_core.specs.Sided.{Saying}
 use Rattle.lane.specs.declared.direction.stage.Stage.{Stage}
 use Rattle.lane.specs.declared.direction.stage.Source.{Source}
 use Rattle.lane.specs.declared.direction.stage.Source.TheVariants as source
@@ -29,7 +30,7 @@ pub in_hand_puts : (asker : Asker) (old new : ResponseLane) (server : Coming) (p
 in_hand_puts asker old new server put e more t h =
     record { answers = t.answers e h.answers; asked = h.asked; bytes = h.bytes; ending = t.ended ∙ h.ending; passed = h.passed; put_is = ap (λ xs. xs ++ more) h.put_is }
 
-pub puts_at : (at : Place) (cfg : Config) (asker : Asker) (before : Variables) (old new : ResponseLane) (server : Coming) (put : List ℕ) (now : Variables) (saying more : List ℕ) → is_last at ≡ true → Puts old new more
+pub puts_at : (at : Place) (cfg : Config) (asker : Asker) (before : Variables) (old new : ResponseLane) (server : Coming) (put : List ℕ) (now : Variables) (saying : Saying) (more : List ℕ) → is_last at ≡ true → Puts old new more
     → StandsAt at cfg asker before old server put now saying → StandsAt at cfg asker before new server (put ++ more) now saying
 puts_at place.Idle cfg asker before old new server put now saying more last t s = absurd (let both : false ≡ true = last in cc both)
 puts_at place.Heads cfg asker before old new server put now saying more last t s = absurd (let both : false ≡ true = last in cc both)

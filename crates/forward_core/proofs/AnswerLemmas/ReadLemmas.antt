@@ -10,7 +10,7 @@ use Rattle.px_sample.specs.Variables.{Variables}
 use Rattle.http_rules.specs.declared.config.Config.{Config}
 use Rattle.http_rules.specs.Lives.{answering}
 use Rattle.session_core.specs.History.{Coming}
-use Rattle.session_core.specs.Sided.{Asking, asker_in}
+use Rattle.session_core.specs.Sided.{Asking, asker_in, Saying}
 use Rattle.lane.specs.declared.direction.stage.Stage.{Stage}
 use Rattle.lane.specs.declared.direction.stage.Stage.TheVariants as stage
 use Rattle.lane.specs.declared.direction.stage.Source.TheVariants as source
@@ -42,13 +42,13 @@ pub record InHeads (cfg : Config) (side : AnswerSide) (asking : Asking Variables
   pub last : e.last ≡ NotYet
   pub heard : HeardAt side.heard place.Heads cfg (asker_in asking) side.lane server
 
-pub in_heads : (cfg : Config) (side : AnswerSide) (asking : Asking Variables) (server : Coming) (put : List ℕ) (now : Variables) (saying : List ℕ) → side.place ≡ place.Heads → AnswerStands cfg side asking server put now saying → InHeads cfg side asking server put
+pub in_heads : (cfg : Config) (side : AnswerSide) (asking : Asking Variables) (server : Coming) (put : List ℕ) (now : Variables) (saying : Saying) → side.place ≡ place.Heads → AnswerStands cfg side asking server put now saying → InHeads cfg side asking server put
 in_heads cfg side asking server put now saying heads s =
     let at : StandsAt place.Heads cfg (asker_in asking) (answering asking.vars) side.lane server put now saying =
     subst (λ (p : Place). StandsAt p cfg (asker_in asking) (answering asking.vars) side.lane server put now saying) heads s.at in
     record { asks = s.asks; for_it = s.for_it; e = at.0; in_hand = at.1; last = at.2; heard = subst (λ (p : Place). HeardAt side.heard p cfg (asker_in asking) side.lane server) heads s.heard }
 
-pub stands_in : (cfg : Config) (side : AnswerSide) (asking : Asking Variables) (server : Coming) (put : List ℕ) (now : Variables) (saying : List ℕ) → side.place ≡ place.Heads → side.at_rest ≡ false → InHeads cfg side asking server put → AnswerStands cfg side asking server put now saying
+pub stands_in : (cfg : Config) (side : AnswerSide) (asking : Asking Variables) (server : Coming) (put : List ℕ) (now : Variables) (saying : Saying) → side.place ≡ place.Heads → side.at_rest ≡ false → InHeads cfg side asking server put → AnswerStands cfg side asking server put now saying
 stands_in cfg side asking server put now saying heads stirs h =
     record {
       asks = h.asks;
@@ -60,7 +60,7 @@ stands_in cfg side asking server put now saying heads stirs h =
 
 -- ---- a step begins
 
-pub stirred : (cfg : Config) (side : AnswerSide) (asking : Asking Variables) (server : Coming) (put : List ℕ) (now : Variables) (saying : List ℕ) → AnswerStands cfg side asking server put now saying
+pub stirred : (cfg : Config) (side : AnswerSide) (asking : Asking Variables) (server : Coming) (put : List ℕ) (now : Variables) (saying : Saying) → AnswerStands cfg side asking server put now saying
     → AnswerStands cfg (record side { at_rest = false }) asking server put now saying
 stirred cfg side asking server put now saying s =
     record { asks = s.asks; for_it = s.for_it; at = s.at; heard = s.heard; rests = λ rest. absurd (let both : false ≡ true = rest in cc both) }
@@ -190,7 +190,7 @@ drops_on cfg old new asking server put received same told ended limits filters t
 -- ---- one after the other
 
 -- what is heard behind a side that had put out so much
-pub hears_behind : (cfg : Config) (old mid new : AnswerSide) (asking : Asking Variables) (server : Coming) (put more : List ℕ) (now : Variables) (saying : List ℕ) (says : Heard) → (seen mid).window ≡ (seen old).window ++ more
+pub hears_behind : (cfg : Config) (old mid new : AnswerSide) (asking : Asking Variables) (server : Coming) (put more : List ℕ) (now : Variables) (saying : Saying) (says : Heard) → (seen mid).window ≡ (seen old).window ++ more
     → Hears cfg mid new asking server (put ++ more) now saying says → Hears cfg old new asking server put now saying says
 hears_behind cfg old mid new asking server put more now saying says window h =
     record {
@@ -220,7 +220,7 @@ reads_first side f off = reads_by (stage_of side.lane) off f.2 f.3
 
 -- ---- nothing is put out
 
-pub hears_none : (cfg : Config) (old new : AnswerSide) (asking : Asking Variables) (server : Coming) (put : List ℕ) (now : Variables) (saying : List ℕ) (says : Heard) → (seen new).window ≡ (seen old).window → HeadSays says cfg new asking server put now saying → Hears cfg old new asking server put now saying says
+pub hears_none : (cfg : Config) (old new : AnswerSide) (asking : Asking Variables) (server : Coming) (put : List ℕ) (now : Variables) (saying : Saying) (says : Heard) → (seen new).window ≡ (seen old).window → HeadSays says cfg new asking server put now saying → Hears cfg old new asking server put now saying says
 hears_none cfg old new asking server put now saying says window tells =
     record {
       put = [];
@@ -229,12 +229,12 @@ hears_none cfg old new asking server put now saying says window tells =
     }
 
 -- more was put out of an interim head
-pub hears_more : (cfg : Config) (old new : AnswerSide) (asking : Asking Variables) (server : Coming) (put more : List ℕ) (now : Variables) (saying : List ℕ) (says : Heard) → (seen new).window ≡ (seen old).window ++ more → new.place ≡ place.Heads → new.at_rest ≡ false
+pub hears_more : (cfg : Config) (old new : AnswerSide) (asking : Asking Variables) (server : Coming) (put more : List ℕ) (now : Variables) (saying : Saying) (says : Heard) → (seen new).window ≡ (seen old).window ++ more → new.place ≡ place.Heads → new.at_rest ≡ false
     → InHeads cfg new asking server (put ++ more) → (AnswerStands cfg new asking server (put ++ more) now saying → HeadSays says cfg new asking server (put ++ more) now saying) → Hears cfg old new asking server put now saying says
 hears_more cfg old new asking server put more now saying says window heads stirs h tells = record { put = more; window = window; tells = tells (stands_in cfg new asking server (put ++ more) now saying heads stirs h) }
 
 -- what is heard from a side with the same window
-pub hears_from : (cfg : Config) (old mid new : AnswerSide) (asking : Asking Variables) (server : Coming) (put : List ℕ) (now : Variables) (saying : List ℕ) (says : Heard) → (seen mid).window ≡ (seen old).window
+pub hears_from : (cfg : Config) (old mid new : AnswerSide) (asking : Asking Variables) (server : Coming) (put : List ℕ) (now : Variables) (saying : Saying) (says : Heard) → (seen mid).window ≡ (seen old).window
     → Hears cfg mid new asking server put now saying says → Hears cfg old new asking server put now saying says
 hears_from cfg old mid new asking server put now saying says window h = record { put = h.put; window = h.window ∙ ap (λ xs. xs ++ h.put) window; tells = h.tells }
 

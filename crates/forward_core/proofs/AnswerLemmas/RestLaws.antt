@@ -23,7 +23,7 @@ use Rattle.session_model.specs.Asking.{Asker}
 use Rattle.session_model.specs.Answering.{finished_response}
 use Rattle.session_model.specs.Session.{interim_text}
 use Rattle.session_core.specs.History.{Coming}
-use Rattle.session_core.specs.Sided.{Asking, asker_in}
+use Rattle.session_core.specs.Sided.{Asking, asker_in, Saying}
 use Rattle.session_core.specs.declared.Told.TheVariants as told
 use Rattle.lane.specs.declared.direction.stage.Source.{Source}
 use Rattle.lane.specs.declared.direction.stage.Source.TheVariants as source
@@ -90,7 +90,7 @@ answering_done phase.Answering lane e at shows done a = at
 begun_done : (lane : ResponseLane) (e : Exchange) → Laws lane → shows_last (phase_of lane) ≡ true → stage_of lane ≡ stage.Done → Answers lane e → has_begun lane ≡ true
 begun_done lane e laws shows done a = laws.done e a (answering_done lane.phase lane e refl shows done a) done
 
-awaits_at : (at : Place) (cfg : Config) (asker : Asker) (before : Variables) (lane : ResponseLane) (server : Coming) (put : List ℕ) (now : Variables) (saying : List ℕ) → IsSoundAnswer lane → IsFor cfg lane → Laws lane
+awaits_at : (at : Place) (cfg : Config) (asker : Asker) (before : Variables) (lane : ResponseLane) (server : Coming) (put : List ℕ) (now : Variables) (saying : Saying) → IsSoundAnswer lane → IsFor cfg lane → Laws lane
     → is_serving at ≡ true → output_of lane ≡ [] → has_begun lane ≡ false → StandsAt at cfg asker before lane server put now saying → RestsAt at asker.head_asked lane → AwaitsHead cfg asker server put
 awaits_at place.Idle cfg asker before lane server put now saying sound for laws serves none unbegun s rests = absurd (let both : false ≡ true = serves in cc both)
 awaits_at place.Saying cfg asker before lane server put now saying sound for laws serves none unbegun s rests = absurd (let both : false ≡ true = serves in cc both)
@@ -101,7 +101,7 @@ awaits_at place.Response cfg asker before lane server put now saying sound for l
 awaits_at place.Closing cfg asker before lane server put now saying sound for laws serves none unbegun s rests = begun_not (has_begun lane) (begun_done lane s.0 laws s.2 (rests none) s.1.answers) unbegun
 awaits_at place.Keeping cfg asker before lane server put now saying sound for laws serves none unbegun s rests = begun_not (has_begun lane) (begun_done lane s.0 laws s.2 (rests none) s.1.answers) unbegun
 
-pub begun_or_waits : (cfg : Config) (side : AnswerSide) (asking : Asking Variables) (server : Coming) (put : List ℕ) (now : Variables) (saying : List ℕ) → Laws side.lane → IsSoundAnswer side.lane → AnswerStands cfg side asking server put now saying
+pub begun_or_waits : (cfg : Config) (side : AnswerSide) (asking : Asking Variables) (server : Coming) (put : List ℕ) (now : Variables) (saying : Saying) → Laws side.lane → IsSoundAnswer side.lane → AnswerStands cfg side asking server put now saying
     → is_serving side.place ≡ true → side.at_rest ≡ true → output_of side.lane ≡ [] → has_begun side.lane ≡ false → AwaitsHead cfg (asker_in asking) server put
 begun_or_waits cfg side asking server put now saying laws sound s serves rest none unbegun =
     awaits_at side.place cfg (asker_in asking) (answering asking.vars) side.lane server put now saying sound s.for_it laws serves none unbegun s.at (s.rests rest)
@@ -209,7 +209,7 @@ puts_out cfg asker before lane server put now e for h r all =
       spells = λ read x. all.spells read (body_so cfg asker lane server put e for h all.bytes all.got r.received got read x);
     }
 
-pub body_put_out : (cfg : Config) (side : AnswerSide) (asking : Asking Variables) (server : Coming) (put : List ℕ) (now : Variables) (saying : List ℕ)
+pub body_put_out : (cfg : Config) (side : AnswerSide) (asking : Asking Variables) (server : Coming) (put : List ℕ) (now : Variables) (saying : Saying)
     → ((e : Exchange) (filters : List FilterSpec) (head : Head) (framed : Framing) (no_body : Bool) → Answers side.lane e → phase_of side.lane ≡ phase.Answering → e.last ≡ Serves filters head framed no_body → source_of side.lane ≡ source.Going → HoldsNothingBack side.lane
     → IsAllServed side.lane e filters head framed no_body)
     → AnswerStands cfg side asking server put now saying → side.place ≡ place.Response → (seen side).told ≡ told.Going → side.at_rest ≡ true → output_of side.lane ≡ [] → PutsOutBody cfg (asker_in asking) (answering asking.vars) server put now

@@ -4,6 +4,7 @@ use Rattle.px_sample.specs.Variables.{Variables}
 use Rattle.http_rules.specs.declared.config.Config.{Config}
 use Rattle.session_model.specs.Asking.{Asker}
 use Rattle.session_core.specs.History.{Coming}
+use Rattle.session_core.specs.Sided.{Saying}
 use Rattle.lane.specs.declared.direction.stage.Source.{Source}
 use Rattle.lane.specs.declared.direction.stage.Source.TheVariants as source
 use Rattle.lane.specs.declared.direction.stage.Stage.TheVariants as stage
@@ -35,7 +36,7 @@ whole_done : (lane : ResponseLane) → source_of lane ≡ source.Whole → (stag
 whole_done lane whole at goes none = done_by lane (λ going. (let both : source.Whole ≡ source.Going = sym whole ∙ going in cc both)) at goes none
 
 -- a step of the last that answers leaves nothing undone
-pub last_rests : (at : Place) (side : AnswerSide) (cfg : Config) (asker : Asker) (before : Variables) (server : Coming) (put : List ℕ) (now : Variables) (saying : List ℕ) → is_last at ≡ true → FitsAt at side
+pub last_rests : (at : Place) (side : AnswerSide) (cfg : Config) (asker : Asker) (before : Variables) (server : Coming) (put : List ℕ) (now : Variables) (saying : Saying) → is_last at ≡ true → FitsAt at side
     → StandsAt at cfg asker before side.lane server put now saying → (stage_of side.lane ≡ stage.Sending) ⊎ (stage_of side.lane ≡ stage.Done) → (stage_of side.lane ≡ stage.Sending → MayGoOn side.lane)
     → (phase_of side.lane ≡ phase.Answering → output_of side.lane ≡ [] → HoldsNothingBack side.lane) → RestsAt at asker.head_asked side.lane
 last_rests place.Idle side cfg asker before server put now saying last f s at goes back = absurd (let both : false ≡ true = last in cc both)
@@ -53,7 +54,7 @@ put_out_done source.Whole lane off done = done
 put_out_done (source.Cut code) lane off done = done
 
 -- and so it is where all was put out before
-pub done_rests : (at : Place) (cfg : Config) (asker : Asker) (before : Variables) (lane : ResponseLane) (server : Coming) (put : List ℕ) (now : Variables) (saying : List ℕ) → is_last at ≡ true → stage_of lane ≡ stage.Done
+pub done_rests : (at : Place) (cfg : Config) (asker : Asker) (before : Variables) (lane : ResponseLane) (server : Coming) (put : List ℕ) (now : Variables) (saying : Saying) → is_last at ≡ true → stage_of lane ≡ stage.Done
     → StandsAt at cfg asker before lane server put now saying → RestsAt at asker.head_asked lane
 done_rests place.Idle cfg asker before lane server put now saying last done s = absurd (let both : false ≡ true = last in cc both)
 done_rests place.Heads cfg asker before lane server put now saying last done s = absurd (let both : false ≡ true = last in cc both)

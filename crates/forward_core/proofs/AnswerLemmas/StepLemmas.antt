@@ -6,10 +6,10 @@ use Rattle.px_sample.specs.Variables.{Variables}
 use Rattle.http_rules.specs.declared.config.Config.{Config}
 use Rattle.http_rules.specs.Lives.{answering}
 use Rattle.session_core.specs.History.{Coming}
-use Rattle.session_core.specs.Sided.{Asking, asker_in}
+use Rattle.session_core.specs.Sided.{Asking, asker_in, Saying}
 use Rattle.session_core.specs.declared.Told.TheVariants as told
 use Rattle.lane.specs.Answering.{source_of}
-use Rattle.forward_core.specs.Answer.Seen.{seen, place_of, size_of, is_last, told_at}
+use Rattle.forward_core.specs.Answer.Seen.{seen, place_of, size_of, window_size_of, is_last, told_at}
 use Rattle.forward_core.specs.Answer.Said.{PutsMore}
 use Rattle.forward_core.specs.Answer.Stands.{AnswerStands, RestsAt, FitsAt, IsSoundSide, is_serving}
 use Rattle.forward_core.specs.Answer.Stepping.{VarsAt, StepsOn}
@@ -46,7 +46,7 @@ never_both at last heads = let both : true ≡ false = sym last ∙ ap is_last h
 -- ---- what is decided
 
 -- nothing, where the last goes out already
-pub decides_none : (cfg : Config) (side : AnswerSide) (asking : Asking Variables) (server : Coming) (put : List ℕ) (now : Variables) (saying : List ℕ) (vars : Variables) → AnswerStands cfg side asking server put now saying
+pub decides_none : (cfg : Config) (side : AnswerSide) (asking : Asking Variables) (server : Coming) (put : List ℕ) (now : Variables) (saying : Saying) (vars : Variables) → AnswerStands cfg side asking server put now saying
     → VarsAt (place_of side) (answering asking.vars) now vars → place_of side ≢ place.Heads → Decides cfg side side asking server put saying vars
 decides_none cfg side asking server put now saying vars s at off =
     record {
@@ -59,7 +59,7 @@ decides_none cfg side asking server put now saying vars s at off =
     }
 
 -- a last was found behind the heads that were heard
-pub decides_last : (cfg : Config) (old mid new : AnswerSide) (asking : Asking Variables) (server : Coming) (put more : List ℕ) (saying : List ℕ) (vars : Variables) → (seen mid).window ≡ (seen old).window ++ more → GoesOut mid new
+pub decides_last : (cfg : Config) (old mid new : AnswerSide) (asking : Asking Variables) (server : Coming) (put more : List ℕ) (saying : Saying) (vars : Variables) → (seen mid).window ≡ (seen old).window ++ more → GoesOut mid new
     → Finds cfg new asking server (put ++ more) saying vars → Decides cfg old new asking server put saying vars
 decides_last cfg old mid new asking server put more saying vars window g f =
     record {
@@ -76,7 +76,7 @@ waits_told side heads (inl some) = inl some
 waits_told side heads (inr w) = inr (ap (λ (p : Place). told_at p (source_of side.lane)) heads, w.0, w.1)
 
 -- more is waited for
-pub decides_more : (cfg : Config) (old mid new : AnswerSide) (asking : Asking Variables) (server : Coming) (put : List ℕ) (now : Variables) (saying : List ℕ) (vars : Variables) → new ≡ record mid { at_rest = true } → mid.place ≡ place.Heads
+pub decides_more : (cfg : Config) (old mid new : AnswerSide) (asking : Asking Variables) (server : Coming) (put : List ℕ) (now : Variables) (saying : Saying) (vars : Variables) → new ≡ record mid { at_rest = true } → mid.place ≡ place.Heads
     → vars ≡ answering asking.vars → Hears cfg old mid asking server put now saying heard.More → Decides cfg old new asking server put saying vars
 decides_more cfg old mid new asking server put now saying vars is heads same h =
     subst (λ (s : AnswerSide). Decides cfg old s asking server put saying vars) (sym is) (record {
@@ -97,7 +97,7 @@ decides_more cfg old mid new asking server put now saying vars is heads same h =
 -- ---- a step
 
 -- what is put out behind what was decided
-pub steps_last : (cfg : Config) (old mid new : AnswerSide) (asking : Asking Variables) (server : Coming) (put saying : List ℕ) (vars : Variables) → (d : Decides cfg old mid asking server put saying vars) → place_of new ≡ place_of mid
+pub steps_last : (cfg : Config) (old mid new : AnswerSide) (asking : Asking Variables) (server : Coming) (put : List ℕ) (saying : Saying) (vars : Variables) → (d : Decides cfg old mid asking server put saying vars) → place_of new ≡ place_of mid
     → PutsMore cfg mid new asking server (put ++ d.put) d.behind saying → StepsOn cfg old new asking server put saying vars
 steps_last cfg old mid new asking server put saying vars d same p =
     record {
@@ -109,11 +109,11 @@ steps_last cfg old mid new asking server put saying vars d same p =
       waits = p.waits;
     }
 
-steps_none : (cfg : Config) (old mid : AnswerSide) (asking : Asking Variables) (server : Coming) (put saying : List ℕ) (vars : Variables) → place_of mid ≡ place.Heads → Decides cfg old mid asking server put saying vars → StepsOn cfg old mid asking server put saying vars
+steps_none : (cfg : Config) (old mid : AnswerSide) (asking : Asking Variables) (server : Coming) (put : List ℕ) (saying : Saying) (vars : Variables) → place_of mid ≡ place.Heads → Decides cfg old mid asking server put saying vars → StepsOn cfg old mid asking server put saying vars
 steps_none cfg old mid asking server put saying vars heads d =
     record { put = d.put; behind = d.behind; stands = d.stands; vars = d.vars; window = d.window; waits = d.waits heads }
 
-pub steps_on : (cfg : Config) (old mid new : AnswerSide) (asking : Asking Variables) (server : Coming) (put saying : List ℕ) (vars : Variables) → is_serving (place_of mid) ≡ true → (d : Decides cfg old mid asking server put saying vars)
+pub steps_on : (cfg : Config) (old mid new : AnswerSide) (asking : Asking Variables) (server : Coming) (put : List ℕ) (saying : Saying) (vars : Variables) → is_serving (place_of mid) ≡ true → (d : Decides cfg old mid asking server put saying vars)
     → place_of new ≡ place_of mid → (is_last (place_of mid) ≡ false → new ≡ mid) → (is_last (place_of mid) ≡ true → PutsMore cfg mid new asking server (put ++ d.put) d.behind saying) → StepsOn cfg old new asking server put saying vars
 steps_on cfg old mid new asking server put saying vars serves d same rests puts = by (is_last (place_of mid)) refl
   where
@@ -132,8 +132,9 @@ never_begun : (side : AnswerSide) → IsSoundSide side → side.place ≡ place.
 never_begun side s heads begun = let f = at_place place.Heads side heads s.at in let both : true ≡ false = sym begun ∙ f.0 in cc both
 
 -- where the last goes out
-pub keeps_out : (old mid new : AnswerSide) → IsSoundSide old → old.place ≡ place.Heads → ((seen old).heard ≡ true → (seen mid).heard ≡ true) → (seen mid).is_open ≡ (seen old).is_open → size_of mid ≡ size_of old → GoesOut mid new → KeepsOn old new
-keeps_out old mid new sound heads heard_ open_ size g =
+pub keeps_out : (old mid new : AnswerSide) → IsSoundSide old → old.place ≡ place.Heads → ((seen old).heard ≡ true → (seen mid).heard ≡ true) → (seen mid).is_open ≡ (seen old).is_open → size_of mid ≡ size_of old
+    → window_size_of mid ≡ window_size_of old → GoesOut mid new → KeepsOn old new
+keeps_out old mid new sound heads heard_ open_ size window g =
     record {
       serving = last_serves (place_of new) g.last;
       sound = g.sound;
@@ -141,12 +142,14 @@ keeps_out old mid new sound heads heard_ open_ size g =
       heard = λ was. g.heard ∙ heard_ was;
       is_open = g.is_open ∙ open_;
       size = g.size ∙ size;
+      window_size = g.window_size ∙ window;
     }
 
 -- where more is waited for
-pub keeps_more : (old mid : AnswerSide) → IsSoundSide old → old.place ≡ place.Heads → ((seen old).heard ≡ true → (seen mid).heard ≡ true) → (seen mid).is_open ≡ (seen old).is_open → size_of mid ≡ size_of old → IsBetween mid → FitsAt place.Heads mid
+pub keeps_more : (old mid : AnswerSide) → IsSoundSide old → old.place ≡ place.Heads → ((seen old).heard ≡ true → (seen mid).heard ≡ true) → (seen mid).is_open ≡ (seen old).is_open → size_of mid ≡ size_of old
+    → window_size_of mid ≡ window_size_of old → IsBetween mid → FitsAt place.Heads mid
     → KeepsOn old (record mid { at_rest = true })
-keeps_more old mid sound heads heard_ open_ size b f =
+keeps_more old mid sound heads heard_ open_ size window b f =
     record {
       serving = ap is_serving b.place;
       sound = record { lane = b.lane; open_is = b.open_is; at = subst (λ (p : Place). FitsAt p (record mid { at_rest = true })) (sym b.place) (f.0, f.1, f.2, f.3) };
@@ -154,6 +157,7 @@ keeps_more old mid sound heads heard_ open_ size b f =
       heard = heard_;
       is_open = open_;
       size = size;
+      window_size = window;
     }
 
 -- two facts of a result

@@ -5,7 +5,7 @@ use Rattle.http_rules.specs.Run.{IsHead}
 use Rattle.forward_core.specs.Meaning.Product.{meaning_of}
 use Rattle.session_core.specs.Place as at
 use Rattle.session_core.specs.Place.{place_behind}
-use Rattle.session_core.specs.Sided.{Sided, RequestSeen, asker_in}
+use Rattle.session_core.specs.Sided.{Sided, RequestSeen, asker_in, unsaid}
 use Rattle.session_core.specs.Leads.{AsksTo, AskUses}
 use Rattle.session_core.specs.declared.sides.Asked.{Asked}
 use Rattle.session_core.specs.declared.sides.Asked.TheVariants as asks
@@ -30,8 +30,8 @@ use Rattle.forward_core.proofs.JoinedLemmas.Sending.{idle_starts, idle_heard}
 past_behind : (cfg : Config) (new : Directions) (q : RequestSeen) (p : Sided (meaning_of cfg)) (asks : Asked) → AsksTo (meaning_of cfg) (DirectionsStand cfg new) q p asks → HasPast new
 past_behind cfg new q p asks.More h = (cfg, p, h)
 past_behind cfg new q p asks.Nothing h = (cfg, p, h.0)
-past_behind cfg new q p asks.Refuse h = (cfg, record p { saying = h.text }, h.stands)
-past_behind cfg new q p (asks.Reply kept) h = (cfg, record p { reply = h.reply; now = h.now; saying = h.text }, h.stands)
+past_behind cfg new q p asks.Refuse h = (cfg, record p { saying = unsaid h.text }, h.stands)
+past_behind cfg new q p (asks.Reply kept) h = (cfg, record p { reply = h.reply; now = h.now; saying = unsaid h.text }, h.stands)
 past_behind cfg new q p asks.Send h = (cfg, record p { asking = h.asking; to_server = [] }, h.stands)
 
 abbrev pub LeadsOn : (old new : Directions) → Asked → Type 0
@@ -59,12 +59,13 @@ more_past d r was tells cfg p s =
     stands_request cfg d r p p.came p.to_server (tells.place ∙ sym was.is_at.stand.0) s (tells.leads cfg p.vars p.came p.asking p.to_server p.reply s.request)
 
 pub asks_more : (d : Directions) (r : RequestSide) → Placed d at.Reads → IsSound r → requests.limits_of r ≡ requests.limits_of d.request → requests.is_open r ≡ requests.is_open d.request
-    → requests.window_of r ≡ requests.window_of d.request → HeadTells d.request r says.More → AsksSo d (record d { request = r }) asks.More
-asks_more d r was sound limits is_open window tells =
+    → requests.window_of r ≡ requests.window_of d.request → requests.window_size_of r ≡ requests.window_size_of d.request → HeadTells d.request r says.More → AsksSo d (record d { request = r }) asks.More
+asks_more d r was sound limits is_open window size tells =
     record {
       leads = more_past d r was tells;
       placed = placed_behind d (record d { request = r }) asks.More was (more_past d r was tells) (at_request d r at.Reads sound limits (tells.place ∙ sym was.is_at.stand.0) was.is_at);
       request = record { is_open = is_open; window = window; waits = (tells.rests, tells.is_open, tells.room); less = tt };
+      windows = λ n h. (size ∙ h.0, h.1);
       window = refl;
       starts = idle_starts d.answer was.is_at.stand.1;
       heard = idle_heard d.answer was.is_at.sound.answer was.is_at.stand.1;
@@ -86,12 +87,13 @@ nothing_leads d r tells cfg p s =
     (idle_past cfg d r p tells.place s (tells.leads cfg p.vars p.came p.asking p.to_server p.reply s.request), tells.asks cfg p.vars p.came p.asking p.to_server p.reply s.request)
 
 pub asks_nothing : (d : Directions) (r : RequestSide) → Placed d at.Reads → IsSound r → requests.limits_of r ≡ requests.limits_of d.request → requests.is_open r ≡ requests.is_open d.request
-    → requests.window_of r ≡ requests.window_of d.request → HeadTells d.request r says.Nothing → AsksSo d (record d { request = r }) asks.Nothing
-asks_nothing d r was sound limits is_open window tells =
+    → requests.window_of r ≡ requests.window_of d.request → requests.window_size_of r ≡ requests.window_size_of d.request → HeadTells d.request r says.Nothing → AsksSo d (record d { request = r }) asks.Nothing
+asks_nothing d r was sound limits is_open window size tells =
     record {
       leads = nothing_leads d r tells;
       placed = placed_behind d (record d { request = r }) asks.Nothing was (nothing_leads d r tells) (record { sound = sound_request d r sound limits was.is_at.sound; stand = (tells.place, was.is_at.stand.1) });
       request = record { is_open = is_open; window = window; waits = tt; less = tt };
+      windows = λ n h. (size ∙ h.0, h.1);
       window = refl;
       starts = idle_starts d.answer was.is_at.stand.1;
       heard = idle_heard d.answer was.is_at.sound.answer was.is_at.stand.1;
@@ -110,8 +112,8 @@ refused_leads d r new code was tells refuses cfg p s =
     tells.place refuses refl held refl (tells.asks cfg p.vars p.came p.asking p.to_server p.reply s.request)
 
 pub asks_refused : (d : Directions) (r : RequestSide) (new : Directions) (code : ℕ) → Placed d at.Reads → requests.is_open r ≡ requests.is_open d.request → requests.window_of r ≡ requests.window_of d.request
-    → HeadTells d.request r (says.Refuse code) → UsesBytes d.request r (says.Refuse code) → RefusesSo (record d { request = r }) new code [] false → AsksSo d new asks.Refuse
-asks_refused d r new code was is_open window tells uses refuses =
+    → requests.window_size_of r ≡ requests.window_size_of d.request → HeadTells d.request r (says.Refuse code) → UsesBytes d.request r (says.Refuse code) → RefusesSo (record d { request = r }) new code [] false → AsksSo d new asks.Refuse
+asks_refused d r new code was is_open window size tells uses refuses =
     let goes : GoesOn (record d { request = r }) new asks.Refuse = refusal_goes (record d { request = r }) new code [] false tells.place refuses in
     let none : (request_of new).unread ≡ 0 = ap (λ (x : RequestSide). requests.unread_of x) refuses.request ∙ ap (λ (x : Read). unread_at x (input_of r.lane)) tells.place in
     let some : requests.unread_of d.request ≡ requests.input_size_of d.request = unread_reading d.request was.is_at.stand.0 in
@@ -119,6 +121,7 @@ asks_refused d r new code was is_open window tells uses refuses =
     record {
       leads = refused_leads d r new code was tells refuses;
       placed = placed_behind d new asks.Refuse was (refused_leads d r new code was tells refuses) goes.placed;
+      windows = λ n h. goes.windows n (size ∙ h.0, h.1);
       request = record { is_open = goes.is_open ∙ is_open; window = goes.window ∙ window; waits = tt; less = less };
       window = goes.answer;
       starts = goes.starts;
@@ -147,13 +150,14 @@ head_leads d r new asks was tells behind cfg p s =
     })
 
 pub asks_head : (d : Directions) (r : RequestSide) (new : Directions) (asks : Asked) → Placed d at.Reads → requests.is_open r ≡ requests.is_open d.request → requests.window_of r ≡ requests.window_of d.request
-    → HeadTells d.request r says.Head → UsesBytes d.request r says.Head → AsksBehind (record d { request = r }) new asks → AsksSo d new asks
-asks_head d r new asks was is_open window tells uses behind =
+    → requests.window_size_of r ≡ requests.window_size_of d.request → HeadTells d.request r says.Head → UsesBytes d.request r says.Head → AsksBehind (record d { request = r }) new asks → AsksSo d new asks
+asks_head d r new asks was is_open window size tells uses behind =
     let goes : GoesOn (record d { request = r }) new asks = behind.goes in
     let less : requests.input_size_of r < requests.unread_of d.request = subst (λ (n : ℕ). requests.input_size_of r < n) (sym (unread_reading d.request was.is_at.stand.0)) uses in
     record {
       leads = head_leads d r new asks was tells behind;
       placed = placed_behind d new asks was (head_leads d r new asks was tells behind) goes.placed;
+      windows = λ n h. goes.windows n (size ∙ h.0, h.1);
       request = record {
         is_open = goes.is_open ∙ is_open;
         window = goes.window ∙ window;

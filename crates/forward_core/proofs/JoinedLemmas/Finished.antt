@@ -14,7 +14,7 @@ use Rattle.header_ops.specs.Headers.{HasEnd}
 use Rattle.http_rules.specs.Run.{IsHead}
 use Rattle.session_core.specs.History.{Coming}
 use Rattle.session_core.specs.Place as at
-use Rattle.session_core.specs.Sided.{Asking, Reply, RequestSeen, asker_in}
+use Rattle.session_core.specs.Sided.{Asking, Reply, RequestSeen, asker_in, Saying}
 use Rattle.session_core.specs.declared.Source.TheVariants as source
 use Rattle.lane.specs.Asking.{array_of}
 use Rattle.forward_core.specs.declared.request.kept.Kept.{Kept}
@@ -30,7 +30,7 @@ use Rattle.forward_core.specs.Answer.Seen as answers
 use Rattle.forward_core.specs.Answer.Stands.{AnswerStands, IsAsker, IsSoundSide}
 use Rattle.forward_core.specs.declared.answer.asker.Asker.{Asker}
 use Rattle.forward_core.specs.declared.answer.side.AnswerSide.{AnswerSide}
-use Rattle.forward_core.specs.Joined.Joined.{IsAt, settings_of, request_of, answer_of}
+use Rattle.forward_core.specs.Joined.Joined.{IsAt, KeepsWindows, settings_of, request_of, answer_of}
 use Rattle.forward_core.specs.Joined.Asks.{HasRead, FinishesHead, asker_for, fits_in}
 use Rattle.forward_core.specs.declared.joined.directions.Directions.{Directions}
 use Rattle.forward_core.proofs.JoinedLemmas.Joining.{sound_request, sound_answer}
@@ -121,12 +121,13 @@ head_finished old mid framing head f = (finish_request head.0 framing, f.finishe
 
 -- the answer direction knows of the request
 pub record BeginsAnswer (old new : AnswerSide) (asker : Asker) : Type 0 where
-  pub leads : (cfg : Config) (was asking : Asking Variables) (server : Coming) (put : List ℕ) (now : Variables) (saying : List ℕ) → AnswerStands cfg old was server put now saying
+  pub leads : (cfg : Config) (was asking : Asking Variables) (server : Coming) (put : List ℕ) (now : Variables) (saying : Saying) → AnswerStands cfg old was server put now saying
       → IsAsker asker (asker_in asking) → AnswerStands cfg new asking server put now saying
   pub seen : answers.seen new ≡ answers.seen old
   pub place : answers.place_of new ≡ answers.place_of old
   pub sound : IsSoundSide new
   pub size : answers.size_of new ≡ answers.size_of old
+  pub window_size : answers.window_size_of new ≡ answers.window_size_of old
 
 -- the request direction sends it
 pub record SendsRequest (old new : RequestSide) (framing : Framing) (waits : Bool) : Type 0 where
@@ -141,6 +142,7 @@ pub record SendsRequest (old new : RequestSide) (framing : Framing) (waits : Boo
   pub dropped : (requests.seen new).dropped ≡ false
   pub awaits : (requests.seen new).awaits ≡ waits
   pub limits : requests.limits_of new ≡ requests.limits_of old
+  pub window_size : requests.window_size_of new ≡ requests.window_size_of old
 
 -- what a core sees of a request that goes out, of which nothing was put out
 pub record Begins (q : RequestSeen) (waits : Bool) (blocks : List Block) : Type 0 where
@@ -155,11 +157,12 @@ pub record SendsSo (old new : Directions) (framing : Framing) (kept : Kept) : Ty
   pub leads : SendsOn old.request new.request framing
   pub goes : (cfg : Config) (vars : Variables) (came : Coming) (asking : Asking Variables) (reply : Reply Variables)
       → RequestStands cfg new.request vars came asking [] reply → RequestsSo cfg new.request vars came asking []
-  pub knows : (cfg : Config) (was asking : Asking Variables) (server : Coming) (put : List ℕ) (now : Variables) (saying : List ℕ)
+  pub knows : (cfg : Config) (was asking : Asking Variables) (server : Coming) (put : List ℕ) (now : Variables) (saying : Saying)
       → AnswerStands cfg old.answer was server put now saying → IsAsker (asker_for kept) (asker_in asking) → AnswerStands cfg new.answer asking server put now saying
   pub rules : new.rules ≡ old.rules
   pub method : new.method ≡ old.method
   pub placed : IsAt new at.Opens
+  pub windows : KeepsWindows old new
   pub is_open : (request_of new).is_open ≡ (request_of old).is_open
   pub window : (request_of new).window ≡ (request_of old).window
   pub begins : Begins (request_of new) kept.awaits (list_of old.request)
@@ -183,6 +186,7 @@ sends_so d a r asker framing kept laws read known b s =
         sound = sound_request (record d { answer = a }) r s.sound s.limits (sound_answer d a b.sound b.size read.still.sound);
         stand = (s.place, b.place ∙ read.still.silent);
       };
+      windows = λ n h. (s.window_size ∙ h.0, b.window_size ∙ h.1);
       is_open = s.is_open;
       window = s.window;
       begins = record { going = s.source; sent = s.sent; dropped = s.dropped; awaits = s.awaits; list = s.list };

@@ -9,7 +9,7 @@ use Rattle.forward_core.specs.Meaning.Product.{meaning_of}
 use Rattle.session_core.specs.Consequences.{IsTotal}
 use Rattle.session_core.specs.History.{no_stream}
 use Rattle.session_core.specs.Place as at
-use Rattle.session_core.specs.Sided.{Sided, Asking, Reply, asker_in}
+use Rattle.session_core.specs.Sided.{Sided, Asking, Reply, asker_in, unsaid}
 use Rattle.session_core.specs.Leads.{IsFresh}
 use Rattle.forward_core.specs.Rules.Ruling.{IsReady}
 use Rattle.forward_core.specs.Request.Seen as requests
@@ -42,7 +42,7 @@ no_reply = record { message = no_message; no_body = false; keep = false; method 
 
 abbrev pub no_past : (cfg : Config) → Sided (meaning_of cfg)
 no_past cfg =
-    record { vars = no_variables; came = no_stream; asking = no_asking; to_server = []; server = no_stream; to_client = []; now = no_variables; reply = no_reply; saying = [] }
+    record { vars = no_variables; came = no_stream; asking = no_asking; to_server = []; server = no_stream; to_client = []; now = no_variables; reply = no_reply; saying = unsaid [] }
 
 asked_nothing : (seen : Asker) → seen ≡ answers.nobody → IsAsker seen (asker_in no_asking)
 asked_nothing seen h = record { head_asked = ap (λ (a : Asker). a.head_asked) h; is_http_11 = ap (λ (a : Asker). a.is_http_11) h; keep = ap (λ (a : Asker). a.keep) h }
@@ -50,7 +50,7 @@ asked_nothing seen h = record { head_asked = ap (λ (a : Asker). a.head_asked) h
 -- new directions stand for nothing
 pub fresh_stand : (cfg : Config) (d : Directions) → settings_of d ≡ cfg → IsTotal (meaning_of cfg) → d.rules.vars ≡ no_variables → requests.place_of d.request ≡ asked.Reading
     → RequestStands cfg d.request no_variables no_stream no_asking [] no_reply
-    → (IsAsker (answers.asker_of d.answer) (asker_in no_asking) → AnswerStands cfg d.answer no_asking no_stream [] no_variables [])
+    → (IsAsker (answers.asker_of d.answer) (asker_in no_asking) → AnswerStands cfg d.answer no_asking no_stream [] no_variables (unsaid []))
     → answers.asker_of d.answer ≡ answers.nobody
     → DirectionsStand cfg d (no_past cfg)
 fresh_stand cfg d config total vars reads request answer nobody =
@@ -65,13 +65,13 @@ fresh_stand cfg d config total vars reads request answer nobody =
 
 pub fresh_new : (cfg : Config) (d : Directions) (r : RequestSide) (a : AnswerSide) → d.request ≡ r → d.answer ≡ a → settings_of d ≡ cfg → IsTotal (meaning_of cfg) → d.rules.vars ≡ no_variables
     → requests.place_of r ≡ asked.Reading → RequestStands cfg r no_variables no_stream no_asking [] no_reply
-    → (IsAsker (answers.asker_of a) (asker_in no_asking) → AnswerStands cfg a no_asking no_stream [] no_variables [])
+    → (IsAsker (answers.asker_of a) (asker_in no_asking) → AnswerStands cfg a no_asking no_stream [] no_variables (unsaid []))
     → answers.asker_of a ≡ answers.nobody
     → DirectionsStand cfg d (no_past cfg)
 fresh_new cfg d r a is_r is_a config total vars reads request answer nobody =
     fresh_stand cfg d config total vars (ap (λ (x : RequestSide). requests.place_of x) is_r ∙ reads)
     (subst (λ (x : RequestSide). RequestStands cfg x no_variables no_stream no_asking [] no_reply) (sym is_r) request)
-    (subst (λ (x : AnswerSide). IsAsker (answers.asker_of x) (asker_in no_asking) → AnswerStands cfg x no_asking no_stream [] no_variables []) (sym is_a) answer)
+    (subst (λ (x : AnswerSide). IsAsker (answers.asker_of x) (asker_in no_asking) → AnswerStands cfg x no_asking no_stream [] no_variables (unsaid [])) (sym is_a) answer)
     (subst (λ (x : AnswerSide). answers.asker_of x ≡ answers.nobody) (sym is_a) nobody)
 
 pub fresh_at : (cfg : Config) (d : Directions) (r : RequestSide) (a : AnswerSide) → d.request ≡ r → d.answer ≡ a → settings_of d ≡ cfg → IsSound r → requests.limits_of r ≡ cfg.limits

@@ -6,7 +6,7 @@ use Rattle.http_rules.specs.Lives.{answering}
 use Rattle.forward_core.specs.Meaning.Product.{meaning_of}
 use Rattle.session_core.specs.History.{Coming}
 use Rattle.session_core.specs.Place.{Place}
-use Rattle.session_core.specs.Sided.{Sided, Asking, asker_in}
+use Rattle.session_core.specs.Sided.{Sided, Asking, asker_in, Saying}
 use Rattle.forward_core.specs.Rules.Ruling.{config_of, IsReady}
 use Rattle.forward_core.specs.declared.rules.rules.SessionRules.{SessionRules}
 use Rattle.forward_core.specs.Request.Seen as requests
@@ -77,7 +77,7 @@ stands_request cfg d r p came to_server place s stands =
     }
 
 -- the answer direction goes on, in its place
-pub stands_answer : (cfg : Config) (d : Directions) (a : AnswerSide) (p : Sided (meaning_of cfg)) (server : Coming) (to_client saying : List ℕ)
+pub stands_answer : (cfg : Config) (d : Directions) (a : AnswerSide) (p : Sided (meaning_of cfg)) (server : Coming) (to_client : List ℕ) (saying : Saying)
     → answers.place_of a ≡ answers.place_of d.answer → DirectionsStand cfg d p → AnswerStands cfg a p.asking server to_client p.now saying
     → DirectionsStand cfg (record d { answer = a }) (record p { server = server; to_client = to_client; saying = saying })
 stands_answer cfg d a p server to_client saying place s stands =
@@ -134,7 +134,7 @@ request_placed d r comes puts leads place sound limits at p =
 -- each past of an answer direction is led to another by a call
 abbrev pub AnswerLeads : AnswerSide → AnswerSide → (Coming → Coming) → Type 0
 AnswerLeads old new comes =
-    (cfg : Config) (asking : Asking Variables) (server : Coming) (put : List ℕ) (now : Variables) (saying : List ℕ)
+    (cfg : Config) (asking : Asking Variables) (server : Coming) (put : List ℕ) (now : Variables) (saying : Saying)
     → AnswerStands cfg old asking server put now saying → AnswerStands cfg new asking (comes server) put now saying
 
 pub answer_goes : (d : Directions) (a : AnswerSide) (comes : Coming → Coming) → AnswerLeads d.answer a comes → answers.place_of a ≡ answers.place_of d.answer

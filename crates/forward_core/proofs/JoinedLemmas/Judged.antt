@@ -104,7 +104,7 @@ rules_ran d r rules method verdict stays none read head edits ready config cap a
         still = record { sound = sound_ran d r rules method read.still.sound edits ready config cap; idle = edits.place ∙ read.still.idle; silent = read.still.silent };
         has = edits.has;
       };
-      alike = record { is_open = edits.is_open; window = edits.window; input = edits.input; answer = refl };
+      alike = record { is_open = edits.is_open; window = edits.window; input = edits.input; windows = λ n h. (edits.window_size ∙ h.0, h.1); answer = refl };
       config = config;
       passes = λ is. leaves_head cfg.limits.bufsize cfg.request env (list_of r) rules.vars rules.said.blocks stays refl
           (subst (λ (v : Verdict). Leaves sides.Request (rules_of cfg.limits.bufsize cfg.request env) v (list_of r) rules.vars rules.said.blocks) is (runs head.0 head.1));
@@ -224,6 +224,7 @@ behind_rules old mid new kept verdict asks keeps ran on =
       leads = λ cfg p received came. on.leads cfg p received (ran.ruled cfg p received kept came (keeps received came.holds came.line));
       goes = record {
         placed = on.goes.placed;
+        windows = λ n h. on.goes.windows n (ran.alike.windows n h);
         is_open = on.goes.is_open ∙ ran.alike.is_open;
         window = on.goes.window ∙ ran.alike.window;
         waits = on.goes.waits;

@@ -12,7 +12,7 @@ use Rattle.session_model.specs.Meaning.{is_head_request}
 use Rattle.session_model.specs.Asking.{Asks, Refused, asked_by}
 use Rattle.session_core.specs.Consequences.{IsTotal}
 use Rattle.session_core.specs.History.{Coming, Continues}
-use Rattle.session_core.specs.Sided.{Sided, Asking, Reply, asker_in}
+use Rattle.session_core.specs.Sided.{Sided, Asking, Reply, asker_in, unsaid}
 use Rattle.session_core.specs.Leads.{AsksRefusal}
 use Rattle.session_core.specs.declared.sides.Asked.TheVariants as asks
 use Rattle.forward_core.specs.Rules.Ruling.{config_of, IsReady}
@@ -51,7 +51,7 @@ pub record Stills (cfg : Config) (d : Directions) (p : Sided (meaning_of cfg)) :
 
 -- a text is said, and the request direction stays where nothing is read
 text_stands : (cfg : Config) (old new : Directions) (p : Sided (meaning_of cfg)) (text : List ℕ) → Stills cfg old p → requests.place_of old.request ≡ asked.Idle → new.request ≡ old.request
-    → settings_of new ≡ settings_of old → SaysText cfg old.answer new.answer text → DirectionsStand cfg new (record p { saying = text })
+    → settings_of new ≡ settings_of old → SaysText cfg old.answer new.answer text → DirectionsStand cfg new (record p { saying = unsaid text })
 text_stands cfg old new p text s idle request config says =
     let still : requests.place_of new.request ≡ asked.Idle = ap (λ (x : RequestSide). requests.place_of x) request ∙ idle in
     record {
@@ -110,6 +110,7 @@ pub refusal_goes : (old new : Directions) (code : ℕ) (method : List ℕ) (no_b
 refusal_goes old new code method no_body idle r =
     record {
       placed = record { sound = r.sound; stand = (begun_idle (requests.place_of new.request) (ap (λ (x : RequestSide). requests.place_of x) r.request ∙ idle), r.place) };
+      windows = r.windows;
       is_open = ap (λ (x : RequestSide). requests.is_open x) r.request;
       window = ap (λ (x : RequestSide). requests.window_of x) r.request;
       waits = tt;
@@ -129,6 +130,7 @@ pub record SaysOn (d : Directions) (a : AnswerSide) (rules : SessionRules) : Typ
   pub window : (answers.seen a).window ≡ (answers.seen d.answer).window
   pub sound : IsSoundSide a
   pub size : answers.size_of a ≡ answers.size_of d.answer
+  pub window_size : answers.window_size_of a ≡ answers.window_size_of d.answer
   pub ready : IsReady rules
   pub config : config_of rules ≡ config_of d.rules
 
@@ -141,6 +143,7 @@ refuses_so d a rules code method no_body sound s is says =
       says = subst (λ (x : List ℕ). SaysRefusal (settings_of d) d.answer a code x d.rules.vars no_body) is says;
       place = s.place;
       sound = sound_both d a rules s.sound s.size s.ready s.config sound;
+      windows = λ n h. (h.0, s.window_size ∙ h.1);
       window = s.window;
       starts = s.starts;
       heard = s.heard;
@@ -160,4 +163,4 @@ pub refuses_emptied : (d : Directions) (method : Buffer) (new : Directions) (cod
 refuses_emptied d method new code no_body none r =
     let says : SaysRefusal (settings_of d) d.answer new.answer code [] d.rules.vars no_body =
     subst (λ (xs : List ℕ). SaysRefusal (settings_of d) d.answer new.answer code xs d.rules.vars no_body) none r.says in
-    record { request = r.request; config = r.config; says = says; place = r.place; sound = r.sound; window = r.window; starts = r.starts; heard = r.heard }
+    record { request = r.request; config = r.config; says = says; place = r.place; sound = r.sound; windows = r.windows; window = r.window; starts = r.starts; heard = r.heard }

@@ -21,7 +21,7 @@ use Rattle.session_model.specs.Meaning.{Meaning, is_head_request, is_bodiless, k
 use Rattle.session_model.specs.Asking.{asked_by}
 use Rattle.session_core.specs.Consequences.{IsTotal}
 use Rattle.session_core.specs.History.{Coming}
-use Rattle.session_core.specs.Sided.{Sided, Asking, asker_in, replied_to}
+use Rattle.session_core.specs.Sided.{Sided, Asking, asker_in, replied_to, Saying, unsaid}
 use Rattle.session_core.specs.Sided as sided
 use Rattle.session_core.specs.Leads.{AsksReply}
 use Rattle.session_core.specs.declared.sides.Asked.TheVariants as asks
@@ -76,7 +76,7 @@ reply_listed cfg env left m plain good is =
 -- ---- what it is said by
 
 -- nothing was put out, whatever the variables behind an answer are
-any_now : (cfg : Config) (side : AnswerSide) (asking : Asking Variables) (server : Coming) (put : List ℕ) (now other : Variables) (saying : List ℕ) → answers.place_of side ≡ answered.Idle
+any_now : (cfg : Config) (side : AnswerSide) (asking : Asking Variables) (server : Coming) (put : List ℕ) (now other : Variables) (saying : Saying) → answers.place_of side ≡ answered.Idle
     → AnswerStands cfg side asking server put now saying → AnswerStands cfg side asking server put other saying
 any_now cfg side asking server put now other saying idle s =
     record {
@@ -105,8 +105,8 @@ SaysEach d a rules method no_body keep kept =
 -- how the directions stand behind it
 replied_stands : (cfg : Config) (d : Directions) (a : AnswerSide) (rules : SessionRules) (r : RequestSide) (p : Sided (meaning_of cfg)) (reply : sided.Reply Variables) (text : List ℕ)
     → settings_of d ≡ cfg → config_of rules ≡ config_of d.rules → IsTotal (meaning_of cfg) → requests.place_of r ≡ asked.Replied
-    → RequestStands cfg r p.vars p.came p.asking p.to_server reply → AnswerStands cfg a p.asking p.server p.to_client rules.vars text
-    → DirectionsStand cfg (record d { answer = a; rules = rules; request = r }) (record p { reply = reply; now = rules.vars; saying = text })
+    → RequestStands cfg r p.vars p.came p.asking p.to_server reply → AnswerStands cfg a p.asking p.server p.to_client rules.vars (unsaid text)
+    → DirectionsStand cfg (record d { answer = a; rules = rules; request = r }) (record p { reply = reply; now = rules.vars; saying = unsaid text })
 replied_stands cfg d a rules r p reply text config same total place request answer =
     record {
       config = same ∙ config;
@@ -152,15 +152,16 @@ asks_reply cfg d a rules r p received kept keep going plain read ruled keep_is s
 less_replied : (pl : Asked) (input : List ℕ) (before : ℕ) → pl ≡ asked.Replied → length input < before → unread_at pl input < before
 less_replied pl input before e h = subst (λ (x : Asked). unread_at x input < before) (sym e) h
 
-pub reply_goes : (d : Directions) (a : AnswerSide) (rules : SessionRules) (r : RequestSide) (going : Bool) → HasRead d → SaysOn d a rules → IsSound r → requests.limits_of r ≡ requests.limits_of d.request
+pub reply_goes : (d : Directions) (a : AnswerSide) (rules : SessionRules) (r : RequestSide) (going : Bool) → HasRead d → SaysOn d a rules → IsSound r → requests.limits_of r ≡ requests.limits_of d.request → requests.window_size_of r ≡ requests.window_size_of d.request
     → requests.place_of r ≡ asked.Replied → requests.is_open r ≡ requests.is_open d.request → requests.window_of r ≡ requests.window_of d.request → requests.input_size_of r ≡ requests.input_size_of d.request
     → GoesOn d (record d { answer = a; rules = rules; request = r }) (asks.Reply going)
-reply_goes d a rules r going read s sound limits place is_open window input =
+reply_goes d a rules r going read s sound limits size place is_open window input =
     record {
       placed = record {
         sound = sound_both (record d { request = r }) a rules s.sound s.size s.ready s.config (sound_request d r sound limits read.still.sound);
         stand = (place, s.place);
       };
+      windows = λ n h. (size ∙ h.0, s.window_size ∙ h.1);
       is_open = is_open;
       window = window;
       waits = tt;
@@ -171,11 +172,11 @@ reply_goes d a rules r going read s sound limits place is_open window input =
     }
 
 pub replies_on : (d : Directions) (a : AnswerSide) (rules : SessionRules) (r : RequestSide) (kept : Kept) (keep going : Bool) → ArePlain → HasRead d → SaysOn d a rules → keep ≡ (kept.keep && kept.is_bodiless)
-    → SaysEach d a rules d.method.bytes kept.head_asked keep going → IsSound r → requests.limits_of r ≡ requests.limits_of d.request → requests.place_of r ≡ asked.Replied → requests.is_open r ≡ requests.is_open d.request
+    → SaysEach d a rules d.method.bytes kept.head_asked keep going → IsSound r → requests.limits_of r ≡ requests.limits_of d.request → requests.window_size_of r ≡ requests.window_size_of d.request → requests.place_of r ≡ asked.Replied → requests.is_open r ≡ requests.is_open d.request
     → requests.window_of r ≡ requests.window_of d.request → requests.input_size_of r ≡ requests.input_size_of d.request → RepliesTo d.request r
     → AsksOn d (record d { answer = a; rules = rules; request = r }) kept verdicts.Reply (asks.Reply going)
-replies_on d a rules r kept keep going plain read s keep_is says sound limits place is_open window input replies =
+replies_on d a rules r kept keep going plain read s keep_is says sound limits size place is_open window input replies =
     record {
       leads = λ cfg p received ruled. asks_reply cfg d a rules r p received kept keep going plain read ruled keep_is says s.config place replies;
-      goes = reply_goes d a rules r going read s sound limits place is_open window input;
+      goes = reply_goes d a rules r going read s sound limits size place is_open window input;
     }

@@ -177,6 +177,7 @@ pub sending_goes : (old mid new : Directions) (kept : Kept) (framing : Framing) 
 sending_goes old mid new kept framing f s =
     record {
       placed = s.placed;
+      windows = λ n h. s.windows n (f.edits.window_size ∙ h.0, ap (λ (a : AnswerSide). answers.window_size_of a) f.answer ∙ h.1);
       is_open = s.is_open ∙ f.edits.is_open;
       window = s.window ∙ f.edits.window;
       waits = tt;

@@ -10,7 +10,7 @@ use Rattle.session_core.specs.History.{Coming, no_stream}
 use Rattle.session_core.specs.Leads.{Refuses, renewed_at}
 use Rattle.session_core.specs.Place.{Place, is_saying}
 use Rattle.session_core.specs.Place as at
-use Rattle.session_core.specs.Sided.{Sided, asker_in}
+use Rattle.session_core.specs.Sided.{Sided, asker_in, Saying, unsaid}
 use Rattle.forward_core.specs.Rules.Ruling.{config_of, holds_pattern, IsReady}
 use Rattle.forward_core.specs.declared.rules.rules.SessionRules.{SessionRules}
 use Rattle.lane.specs.declared.direction.stage.Stage.{Stage}
@@ -34,7 +34,7 @@ use Rattle.forward_core.specs.declared.joined.directions.Directions.{Directions}
 use Rattle.forward_core.proofs.JoinedLemmas.Joining.{sound_request, sound_answer, sound_rules, vars_at, held_at, held_sending, kept_sending}
 
 -- both the answer direction and the rules go on, while a request goes to a server
-pub serves_with : (cfg : Config) (d : Directions) (a : AnswerSide) (rules : SessionRules) (p : Sided (meaning_of cfg)) (server : Coming) (to_client : List ℕ) (now : Variables) (saying : List ℕ)
+pub serves_with : (cfg : Config) (d : Directions) (a : AnswerSide) (rules : SessionRules) (p : Sided (meaning_of cfg)) (server : Coming) (to_client : List ℕ) (now : Variables) (saying : Saying)
     → requests.place_of d.request ≡ asked.Sending → config_of rules ≡ config_of d.rules → DirectionsStand cfg d p
     → AnswerStands cfg a p.asking server to_client now saying
     → Holds asked.Sending (answers.place_of a) rules.vars p.vars p.asking.vars now
@@ -73,15 +73,6 @@ held_answered answered.Closing stage held before asking now serves done h = h
 held_answered answered.Keeping stage held before asking now serves done h = h
 held_answered answered.Saying stage held before asking now serves done h = absurd (let e : false ≡ true = serves in cc e)
 
--- a text is said at a place where one is
-pub says_at : (at : Place) (r : Asked) (a : Answered) → is_saying at ≡ true → StandAt at r a → a ≡ answered.Saying
-says_at at.Reads r a says h = absurd (let e : false ≡ true = says in cc e)
-says_at at.Opens r a says h = absurd (let e : false ≡ true = says in cc e)
-says_at at.Serves r a says h = absurd (let e : false ≡ true = says in cc e)
-says_at at.Says r a says h = h.1
-says_at at.Replies r a says h = h.1
-says_at at.Ends r a says h = absurd (let e : false ≡ true = says in cc e)
-
 -- the refusal of a request for which no server is open
 pub refuses : (cfg : Config) (d : Directions) (a : AnswerSide) (rules : SessionRules) (p : Sided (meaning_of cfg)) (code : ℕ) (no_body : Bool)
     → requests.place_of d.request ≡ asked.Sending → answers.place_of d.answer ≡ answered.Idle → config_of rules ≡ config_of d.rules → answers.place_of a ≡ answered.Saying
@@ -100,14 +91,14 @@ refuses cfg d a rules p code no_body sends idle config says asks s r =
       spelled = subst (λ (x : Bool). Spells true x (refusal_sent (meaning_of cfg) code (asker_in p.asking).method (answering p.asking.vars)) q.text) head
           (subst (λ (x : List ℕ). Spells true no_body (refusal_sent (meaning_of cfg) code x (answering p.asking.vars)) q.text) method
           (subst (λ (x : Variables). Spells true no_body (refusal_sent (meaning_of cfg) code d.method.bytes (answering x)) q.text) vars q.spelled));
-      stands = serves_with cfg d a rules p p.server p.to_client p.now q.text sends config s (q.says p.asking p.server p.to_client p.now p.saying s.answer)
+      stands = serves_with cfg d a rules p p.server p.to_client p.now (unsaid q.text) sends config s (q.says p.asking p.server p.to_client p.now p.saying s.answer)
           (held_saying (answers.place_of a) rules.vars p.vars p.asking.vars p.now says);
     }
 
 -- in front of the next exchange
 pub renews_at : (cfg : Config) (d : Directions) (r : RequestSide) (a : AnswerSide) (rules : SessionRules) (p : Sided (meaning_of cfg)) (left : Coming)
     → requests.place_of r ≡ asked.Reading → config_of rules ≡ config_of d.rules → rules.vars ≡ renewed d.rules.vars → d.rules.vars ≡ p.now → DirectionsStand cfg d p
-    → RequestStands cfg r (renewed p.now) left p.asking [] p.reply → AnswerStands cfg a p.asking no_stream [] p.now []
+    → RequestStands cfg r (renewed p.now) left p.asking [] p.reply → AnswerStands cfg a p.asking no_stream [] p.now (unsaid [])
     → DirectionsStand cfg (record d { request = r; answer = a; rules = rules }) (renewed_at p left)
 renews_at cfg d r a rules p left reads config renews held s stands stands_a =
     record {
@@ -132,7 +123,7 @@ opens cfg d a rules p sends idle heads config vars s stands =
 -- the next exchange begins behind what was answered
 pub renews_now : (cfg : Config) (d : Directions) (r : RequestSide) (a : AnswerSide) (rules : SessionRules) (p : Sided (meaning_of cfg))
     → ReadsNext d.request r → requests.place_of r ≡ asked.Reading → config_of rules ≡ config_of d.rules → rules.vars ≡ renewed d.rules.vars
-    → d.rules.vars ≡ p.now → DirectionsStand cfg d p → AnswerStands cfg a p.asking no_stream [] p.now []
+    → d.rules.vars ≡ p.now → DirectionsStand cfg d p → AnswerStands cfg a p.asking no_stream [] p.now (unsaid [])
     → DirectionsStand cfg (record d { request = r; answer = a; rules = rules }) (renewed_at p (left_of d.request))
 renews_now cfg d r a rules p next reads config renews held s stands_a =
     renews_at cfg d r a rules p (left_of d.request) reads config renews held s
@@ -185,7 +176,7 @@ vars_for cfg d p sends serves s =
     (held_sending (requests.place_of d.request) (answers.place_of d.answer) d.rules.vars p.vars p.asking.vars p.now sends s.vars)
 
 -- what is said in place of a server's answer
-pub turns : (cfg : Config) (d : Directions) (a : AnswerSide) (rules : SessionRules) (p : Sided (meaning_of cfg)) (saying : List ℕ)
+pub turns : (cfg : Config) (d : Directions) (a : AnswerSide) (rules : SessionRules) (p : Sided (meaning_of cfg)) (saying : Saying)
     → requests.place_of d.request ≡ asked.Sending → answers.place_of a ≡ answered.Saying → config_of rules ≡ config_of d.rules → DirectionsStand cfg d p
     → AnswerStands cfg a p.asking p.server p.to_client p.now saying → DirectionsStand cfg (record d { answer = a; rules = rules }) (record p { saying = saying })
 turns cfg d a rules p saying sends says config s stands =

@@ -7,7 +7,7 @@ use Rattle.session_model.specs.Stream.{Stream}
 use Rattle.session_core.specs.Awaits.{awaits_continue}
 use Rattle.session_core.specs.History.{Past, Coming, Continues}
 use Rattle.session_core.specs.InHand.{ExchangesAre}
-use Rattle.session_core.specs.Sided.{asker_in, RequestAsks}
+use Rattle.session_core.specs.Sided.{asker_in, RequestAsks, Saying}
 use Rattle.session_core.specs.Stands.{InPhase}
 use Rattle.session_core.specs.Waits.{is_sending, wants_of}
 use Rattle.session_core.specs.declared.Phase.{Phase}
@@ -16,7 +16,7 @@ use Rattle.session_core.specs.declared.machine.At.{At}
 use Rattle.forward_core.specs.Answer.HeadsRead.{BeginsWithHead, HeadBegins}
 use Rattle.forward_core.specs.Answer.Stands.{AnswerStands}
 use Rattle.forward_core.specs.Joined.HeldBack.{IsServed}
-use Rattle.forward_core.specs.Joined.Joined.{DirectionsStand, request_of, answer_of}
+use Rattle.forward_core.specs.Joined.Joined.{SessionStands, request_of, answer_of}
 use Rattle.forward_core.specs.Joined.Waiting.{WaitsForHead, WaitsForNone}
 use Rattle.forward_core.specs.declared.joined.directions.Directions.{Directions}
 
@@ -28,13 +28,13 @@ pub record Hears (cfg : Config) (d : Directions) (past : Past) : Type 0 where
   pub server : Coming
   pub put : List ℕ
   pub now : Variables
-  pub saying : List ℕ
+  pub saying : Saying
   pub stream : served.connect.stream ≡ server
   pub answer : AnswerStands cfg d.answer served.asking server put now saying
   pub awaits : (request_of d).awaits ≡ awaits_continue served.asking.received
 
-pub hears : (cfg : Config) (d : Directions) (at : At) (past : Past) → at.phase ≡ phase.Serving → ExchangesAre (meaning_of cfg) (DirectionsStand cfg d) (request_of d) (answer_of d) at past → Hears cfg d past
-hears cfg d at past is x =
+pub hears : (cfg : Config) (size : ℕ) (d : Directions) (at : At) (past : Past) → at.phase ≡ phase.Serving → ExchangesAre (meaning_of cfg) (SessionStands (cfg, size) d) (request_of d) (answer_of d) at past → Hears cfg d past
+hears cfg size d at past is x =
     let p = x.sided in
     let made : InPhase (meaning_of cfg) (request_of d) (answer_of d) p x.hand at.cut x.in_hand.now phase.Serving =
     subst (λ (f : Phase). InPhase (meaning_of cfg) (request_of d) (answer_of d) p x.hand at.cut x.in_hand.now f) is x.made in
@@ -53,7 +53,7 @@ hears cfg d at past is x =
       now = p.now;
       saying = p.saying;
       stream = made.2.1.stream;
-      answer = x.stand.answer;
+      answer = x.stand.directions.answer;
       awaits = made.2.3.waits;
     }
 

@@ -6,7 +6,7 @@ use Rattle.session_model.specs.Meaning.{is_interim}
 use Rattle.px_sample.specs.Variables.{Variables}
 use Rattle.http_rules.specs.declared.config.Config.{Config}
 use Rattle.session_core.specs.History.{Coming}
-use Rattle.session_core.specs.Sided.{Asking, asker_in}
+use Rattle.session_core.specs.Sided.{Asking, asker_in, Saying}
 use Rattle.lane.specs.Answering.{Exchange, NotYet, IsSoundAnswer, stage_of, ended_of, output_of, blocks_of, framing_of, declared_of, phase_of, has_begun, shows_last}
 use Rattle.lane.specs.declared.direction.stage.Stage.TheVariants as stage
 use Rattle.forward_core.specs.Answer.Seen.{seen}
@@ -62,7 +62,7 @@ abbrev pub WaitsForHead : AnswerSide → Type 0
 WaitsForHead side = (output_of side.lane ≢ []) ⊎ (((seen side).is_open ≡ true) × (0 < (seen side).room))
 
 -- what the answer says of the server's stream
-abbrev pub HeadSays : Heard → (cfg : Config) → AnswerSide → Asking Variables → (server : Coming) → (to_client : List ℕ) → (now : Variables) → (saying : List ℕ) → Type 0
+abbrev pub HeadSays : Heard → (cfg : Config) → AnswerSide → Asking Variables → (server : Coming) → (to_client : List ℕ) → (now : Variables) → (saying : Saying) → Type 0
 HeadSays heard.More cfg side asking server to_client now saying =
     AnswerStands cfg side asking server to_client now saying × WaitsForHead side × RestsAt place.Heads (asker_in asking).head_asked side.lane
 HeadSays heard.Interim cfg side asking server to_client now saying = AnswerStands cfg side asking server to_client now saying
@@ -71,7 +71,7 @@ HeadSays heard.Final cfg side asking server to_client now saying =
 HeadSays heard.Refused cfg side asking server to_client now saying = AnswerStands cfg side asking server to_client now saying
 
 -- interim heads were put out, as far as the window has room, and this stands behind them
-pub record Hears (cfg : Config) (old new : AnswerSide) (asking : Asking Variables) (server : Coming) (to_client : List ℕ) (now : Variables) (saying : List ℕ) (says : Heard) : Type 0 where
+pub record Hears (cfg : Config) (old new : AnswerSide) (asking : Asking Variables) (server : Coming) (to_client : List ℕ) (now : Variables) (saying : Saying) (says : Heard) : Type 0 where
   pub put : List ℕ
   pub window : (seen new).window ≡ (seen old).window ++ put
   pub tells : HeadSays says cfg new asking server (to_client ++ put) now saying

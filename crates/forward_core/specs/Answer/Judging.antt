@@ -16,7 +16,7 @@ use Rattle.session_model.specs.Meaning.{Meaning, status_of}
 use Rattle.session_model.specs.Asking.{Asker}
 use Rattle.session_model.specs.Answering.{Final, AnswersReading, response_declares_too_much}
 use Rattle.session_core.specs.History.{Coming, Continues}
-use Rattle.session_core.specs.Sided.{Asking, asker_in}
+use Rattle.session_core.specs.Sided.{Asking, asker_in, Saying}
 use Rattle.session_core.specs.declared.Told.{Told}
 use Rattle.session_core.specs.declared.Told.TheVariants as told
 use Rattle.session_core.specs.Leads.{AnswerWaits}
@@ -24,7 +24,7 @@ use Rattle.lane.specs.Answering.{Exchange, HeadsCame, stage_of, array_of, blocks
 use Rattle.lane.specs.declared.direction.stage.Stage.TheVariants as stage
 use Rattle.forward_core.specs.Answer.Hearing.{IsBetween, FinalHead}
 use Rattle.forward_core.specs.Answer.HeadsRead.{ReadBefore}
-use Rattle.forward_core.specs.Answer.Seen.{seen, place_of, size_of, is_last}
+use Rattle.forward_core.specs.Answer.Seen.{seen, place_of, size_of, window_size_of, is_last}
 use Rattle.forward_core.specs.Answer.Stands.{IsAsker, IsFor, IsInHand, AnswerStands, IsSoundSide, is_serving}
 use Rattle.forward_core.specs.Answer.Stepping.{VarsAt}
 use Rattle.forward_core.specs.declared.answer.place.Place.{Place}
@@ -40,6 +40,7 @@ pub record Edits (old new : AnswerSide) : Type 0 where
   pub is_open : (seen new).is_open ≡ (seen old).is_open
   pub heard : (seen new).heard ≡ (seen old).heard
   pub size : size_of new ≡ size_of old
+  pub window_size : window_size_of new ≡ window_size_of old
 
 -- ---- the last that answers
 
@@ -70,7 +71,7 @@ place_when true = place.Keeping
 place_when false = place.Closing
 
 -- it stands for the last that goes out, with these variables behind it
-pub record Finds (cfg : Config) (new : AnswerSide) (asking : Asking Variables) (server : Coming) (to_client saying : List ℕ) (left : Variables) : Type 0 where
+pub record Finds (cfg : Config) (new : AnswerSide) (asking : Asking Variables) (server : Coming) (to_client : List ℕ) (saying : Saying) (left : Variables) : Type 0 where
   pub behind : Variables
   pub stands : AnswerStands cfg new asking server to_client behind saying
   pub vars : left ≡ behind
@@ -83,6 +84,7 @@ pub record GoesOut (old new : AnswerSide) : Type 0 where
   pub is_open : (seen new).is_open ≡ (seen old).is_open
   pub heard : (seen new).heard ≡ (seen old).heard
   pub size : size_of new ≡ size_of old
+  pub window_size : window_size_of new ≡ window_size_of old
 
 -- ---- a final head, and rules
 
@@ -121,7 +123,7 @@ pub record Finishes (old new : AnswerSide) (replaced not_modified : Bool) (head 
 -- ---- a step
 
 -- interim heads were put out, and the last that answers goes out behind them, or heads are waited for
-pub record Decides (cfg : Config) (old new : AnswerSide) (asking : Asking Variables) (server : Coming) (to_client saying : List ℕ) (left : Variables) : Type 0 where
+pub record Decides (cfg : Config) (old new : AnswerSide) (asking : Asking Variables) (server : Coming) (to_client : List ℕ) (saying : Saying) (left : Variables) : Type 0 where
   pub put : List ℕ
   pub behind : Variables
   pub stands : AnswerStands cfg new asking server (to_client ++ put) behind saying
@@ -137,3 +139,4 @@ pub record KeepsOn (old new : AnswerSide) : Type 0 where
   pub heard : (seen old).heard ≡ true → (seen new).heard ≡ true
   pub is_open : (seen new).is_open ≡ (seen old).is_open
   pub size : size_of new ≡ size_of old
+  pub window_size : window_size_of new ≡ window_size_of old

@@ -8,32 +8,32 @@ use Rattle.session_model.specs.Answering.{sent_interim}
 use Rattle.session_model.specs.Session.{interim_text}
 use Rattle.session_core.specs.History.{Coming}
 use Rattle.session_core.specs.Leads.{AnswerWaits}
-use Rattle.session_core.specs.Sided.{Asking, asker_in, BeginsAlways}
+use Rattle.session_core.specs.Sided.{Asking, asker_in, BeginsAlways, Saying}
 use Rattle.forward_core.specs.Answer.Seen.{seen}
 use Rattle.forward_core.specs.Answer.Stands.{AnswerStands, list_text}
 use Rattle.forward_core.specs.declared.answer.side.AnswerSide.{AnswerSide}
 
 -- a part of what is said is put out, all of it where the answer is
-pub record SaysMore (cfg : Config) (old new : AnswerSide) (asking : Asking Variables) (server : Coming) (to_client : List ℕ) (now : Variables) (saying : List ℕ) : Type 0 where
+pub record SaysMore (cfg : Config) (old new : AnswerSide) (asking : Asking Variables) (server : Coming) (to_client : List ℕ) (now : Variables) (saying : Saying) : Type 0 where
   pub put : List ℕ
   pub left : List ℕ
-  pub stands : AnswerStands cfg new asking server (to_client ++ put) now left
-  pub said : saying ≡ put ++ left
+  pub stands : AnswerStands cfg new asking server (to_client ++ put) now (record saying { left = left })
+  pub said : saying.left ≡ put ++ left
   pub window : (seen new).window ≡ (seen old).window ++ put
   pub all : (seen new).answered ≡ true → left ≡ []
   pub waits : (seen new).answered ≡ false → (seen new).window ≢ []
 
 -- interim heads, each whole, and this list are to be said
 pub record TurnsTo (cfg : Config) (new : AnswerSide) (asking : Asking Variables) (server : Coming) (to_client : List ℕ) (now : Variables) (head : Head) (body : List ℕ) : Type 0 where
-  pub saying : List ℕ
-  pub stands : AnswerStands cfg new asking server to_client now saying
+  pub left : List ℕ
+  pub stands : AnswerStands cfg new asking server to_client now (record { text = list_text (asker_in asking).head_asked head body; left = left })
   pub heads : List Head
   pub begins : BeginsAlways (meaning_of cfg) (asker_in asking) server heads
-  pub said : to_client ++ saying ≡ interim_text (sent_interim (asker_in asking) heads) ++ list_text (asker_in asking).head_asked head body
+  pub said : to_client ++ left ≡ interim_text (sent_interim (asker_in asking) heads) ++ list_text (asker_in asking).head_asked head body
   pub starts : (seen new).answered ≡ false
 
 -- more of the last that answers was put out; where that isn't all, it waits for the client or for the server
-pub record PutsMore (cfg : Config) (old new : AnswerSide) (asking : Asking Variables) (server : Coming) (to_client : List ℕ) (now : Variables) (saying : List ℕ) : Type 0 where
+pub record PutsMore (cfg : Config) (old new : AnswerSide) (asking : Asking Variables) (server : Coming) (to_client : List ℕ) (now : Variables) (saying : Saying) : Type 0 where
   pub put : List ℕ
   pub stands : AnswerStands cfg new asking server (to_client ++ put) now saying
   pub window : (seen new).window ≡ (seen old).window ++ put

@@ -1,5 +1,5 @@
 -- What the answer direction of a session stands for, over what it has of the past of an exchange.
-use Rattle.std.specs.Prelude.{◌≡◌, ◌≢◌, ◌⊎◌, ℕ, List, [], ◌++◌, Bool, true, false, Some, is_none, ⊤}
+use Rattle.std.specs.Prelude.{◌≡◌, ◌≢◌, ◌⊎◌, ℕ, List, [], ◌++◌, Bool, true, false, Some, is_none, nat_lt, length, ⊤}
 use Rattle.http_model.specs.declared.Framing.{Framing}
 use Rattle.http_model.specs.Head.{Head}
 use Rattle.http_model.specs.Finish.{response_framing}
@@ -20,7 +20,7 @@ use Rattle.session_model.specs.Asking.{Asker}
 use Rattle.session_model.specs.Answering.{Final, AnswersReading, sent_interim, response_declares_too_much, finished_response, response_fits}
 use Rattle.session_model.specs.Session.{SpellsFinal}
 use Rattle.session_core.specs.History.{Coming, Continues}
-use Rattle.session_core.specs.Sided.{Asking, asker_in, ToldIs}
+use Rattle.session_core.specs.Sided.{Asking, asker_in, ToldIs, Saying}
 use Rattle.session_core.specs.declared.Told.{Told}
 use Rattle.session_core.specs.declared.Told.TheVariants as told
 use Rattle.lane.specs.Answering.{Exchange, Answers, Serves, Replies, NotYet, HeadsCame, HasFilters, HoldsNothingBack, IsOpen, IsSoundAnswer, interim_text, limits_of, stage_of, source_of, input_of, output_of, ended_of, phase_of, has_begun, shows_last}
@@ -99,12 +99,17 @@ pub record IsInstead (cfg : Config) (asker : Asker) (before : Variables) (server
 -- ---- a text that no server answers
 
 -- this is left to say of a list, behind what is left of an interim head
-pub record IsSaid (saying : List ℕ) (e : Exchange) : Type 0 where
+pub record IsSaid (saying : Saying) (e : Exchange) : Type 0 where
   pub head : Head
   pub body : List ℕ
   pub no_body : Bool
   pub last : e.last ≡ Replies head body no_body
-  pub said : e.put ++ saying ≡ interim_text e.passed ++ list_text no_body head body
+  pub text : saying.text ≡ list_text no_body head body
+  pub said : e.put ++ saying.left ≡ interim_text e.passed ++ list_text no_body head body
+
+-- it has begun exactly where less than all of its text is left
+abbrev pub BeginsSo : ResponseLane → Saying → Type 0
+BeginsSo lane saying = has_begun lane ≡ nat_lt (length saying.left) (length saying.text)
 
 -- nothing was put out
 pub record IsUnanswered (e : Exchange) : Type 0 where
@@ -137,18 +142,18 @@ RestsAt place.Saying head_asked lane = ⊤
 
 -- ---- the whole
 
-abbrev pub StandsAt : Place → (cfg : Config) → Asker → (before : Variables) → ResponseLane → (server : Coming) → (to_client : List ℕ) → (now : Variables) → (saying : List ℕ) → Type 0
+abbrev pub StandsAt : Place → (cfg : Config) → Asker → (before : Variables) → ResponseLane → (server : Coming) → (to_client : List ℕ) → (now : Variables) → (saying : Saying) → Type 0
 StandsAt place.Idle cfg asker before lane server put now saying = (e : Exchange) × Answers lane e × IsUnanswered e × (put ≡ [])
 StandsAt place.Heads cfg asker before lane server put now saying = (e : Exchange) × IsInHand asker lane server put e × (e.last ≡ NotYet)
 StandsAt place.Response cfg asker before lane server put now saying = (e : Exchange) × IsInHand asker lane server put e × (shows_last (phase_of lane) ≡ true) × IsResponse cfg asker before now e
 StandsAt place.Closing cfg asker before lane server put now saying = (e : Exchange) × IsInHand asker lane server put e × (shows_last (phase_of lane) ≡ true) × IsInstead cfg asker before server told.Closes now e
 StandsAt place.Keeping cfg asker before lane server put now saying = (e : Exchange) × IsInHand asker lane server put e × (shows_last (phase_of lane) ≡ true) × IsInstead cfg asker before server told.Whole now e
-StandsAt place.Saying cfg asker before lane server put now saying = (e : Exchange) × Answers lane e × (shows_last (phase_of lane) ≡ true) × IsSaid saying e
+StandsAt place.Saying cfg asker before lane server put now saying = (e : Exchange) × Answers lane e × (shows_last (phase_of lane) ≡ true) × IsSaid saying e × BeginsSo lane saying
 
 -- The answer direction stands for its part of the past of an exchange: the request that is answered, the server's stream, the text
 -- that was put out to the client, the variables behind the last that answers, and what is still to be said. It knows whether a head of the
 -- server's stream was read. Where it is at rest, nothing was left undone.
-pub record AnswerStands (cfg : Config) (side : AnswerSide) (asking : Asking Variables) (server : Coming) (to_client : List ℕ) (now : Variables) (saying : List ℕ) : Type 0 where
+pub record AnswerStands (cfg : Config) (side : AnswerSide) (asking : Asking Variables) (server : Coming) (to_client : List ℕ) (now : Variables) (saying : Saying) : Type 0 where
   pub asks : IsAsker side.asker (asker_in asking)
   pub for_it : IsFor cfg side.lane
   pub at : StandsAt side.place cfg (asker_in asking) (answering asking.vars) side.lane server to_client now saying

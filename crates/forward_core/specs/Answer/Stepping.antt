@@ -7,7 +7,7 @@ use Rattle.forward_core.specs.Rules.Ruling.{config_of}
 use Rattle.forward_core.specs.declared.rules.rules.SessionRules.{SessionRules}
 use Rattle.session_core.specs.History.{Coming}
 use Rattle.session_core.specs.Leads.{AnswerWaits}
-use Rattle.session_core.specs.Sided.{Asking, asker_in}
+use Rattle.session_core.specs.Sided.{Asking, asker_in, Saying}
 use Rattle.forward_core.specs.Answer.Seen.{seen, place_of}
 use Rattle.forward_core.specs.Answer.Stands.{AnswerStands}
 use Rattle.forward_core.specs.declared.answer.place.Place.{Place}
@@ -31,7 +31,7 @@ pub record RunsFor (rules : SessionRules) (method : List ℕ) (cfg : Config) (as
 
 -- More of the answer was put out, with these variables behind it, which stand in the rules now. Where that isn't all, it waits for the
 -- client or for the server.
-pub record StepsOn (cfg : Config) (old new : AnswerSide) (asking : Asking Variables) (server : Coming) (to_client saying : List ℕ) (left : Variables) : Type 0 where
+pub record StepsOn (cfg : Config) (old new : AnswerSide) (asking : Asking Variables) (server : Coming) (to_client : List ℕ) (saying : Saying) (left : Variables) : Type 0 where
   pub put : List ℕ
   pub behind : Variables
   pub stands : AnswerStands cfg new asking server (to_client ++ put) behind saying

@@ -12,7 +12,7 @@ use Rattle.h1_head.specs.Lines.{IsRequestLine}
 use Rattle.session_model.specs.Env.{request_env}
 use Rattle.session_model.specs.Amending.{reply_sent, refusal_sent, behind_reply}
 use Rattle.session_core.specs.History.{Coming}
-use Rattle.session_core.specs.Sided.{Asking, Sided}
+use Rattle.session_core.specs.Sided.{Asking, Sided, Saying, unsaid}
 use Rattle.session_core.specs.Stands.{kept_with}
 use Rattle.session_core.specs.Leads.{AsksTo, AskWaits, AskKeeps}
 use Rattle.session_core.specs.Place.{place_behind}
@@ -41,7 +41,7 @@ use Rattle.forward_core.specs.Answer.Stands.{AnswerStands}
 use Rattle.forward_core.specs.declared.answer.place.Place.TheVariants as answered
 use Rattle.forward_core.specs.declared.answer.asker.Asker.{Asker}
 use Rattle.forward_core.specs.declared.answer.side.AnswerSide.{AnswerSide}
-use Rattle.forward_core.specs.Joined.Joined.{IsSoundPair, IsAt, Placed, DirectionsStand, settings_of, request_of, answer_of}
+use Rattle.forward_core.specs.Joined.Joined.{IsSoundPair, IsAt, Placed, DirectionsStand, KeepsWindows, settings_of, request_of, answer_of}
 use Rattle.forward_core.specs.declared.joined.directions.Directions.{Directions}
 
 -- ---- what is said
@@ -49,8 +49,8 @@ use Rattle.forward_core.specs.declared.joined.directions.Directions.{Directions}
 -- from an answer direction that answers nothing to one that says this text
 abbrev pub SaysText : Config → AnswerSide → AnswerSide → (text : List ℕ) → Type 0
 SaysText cfg old new text =
-    (asking : Asking Variables) (server : Coming) (put : List ℕ) (now : Variables) (saying : List ℕ)
-    → AnswerStands cfg old asking server put now saying → AnswerStands cfg new asking server put now text
+    (asking : Asking Variables) (server : Coming) (put : List ℕ) (now : Variables) (saying : Saying)
+    → AnswerStands cfg old asking server put now saying → AnswerStands cfg new asking server put now (unsaid text)
 
 -- what is said is the refusal with this code, as the rules on all that the client is sent leave it
 pub record SaysRefusal (cfg : Config) (old new : AnswerSide) (code : ℕ) (method : List ℕ) (vars : Variables) (no_body : Bool) : Type 0 where
@@ -113,6 +113,7 @@ pub record SeesAlike (old new : Directions) : Type 0 where
   pub is_open : (request_of new).is_open ≡ (request_of old).is_open
   pub window : (request_of new).window ≡ (request_of old).window
   pub input : requests.input_size_of new.request ≡ requests.input_size_of old.request
+  pub windows : KeepsWindows old new
   pub answer : answer_of new ≡ answer_of old
 
 -- The rules ran on the head that came, and came to this verdict: where they pass a head stands in the array, where they reply a reply
@@ -132,6 +133,7 @@ pub record RefusesSo (old new : Directions) (code : ℕ) (method : List ℕ) (no
   pub says : SaysRefusal (settings_of old) old.answer new.answer code method old.rules.vars no_body
   pub place : answers.place_of new.answer ≡ answered.Saying
   pub sound : IsSoundPair new
+  pub windows : KeepsWindows old new
   pub window : (answer_of new).window ≡ (answer_of old).window
   pub starts : (answer_of new).answered ≡ false
   pub heard : (answer_of new).heard ≡ false
@@ -166,6 +168,7 @@ UsesLess unread before asks.Send = ⊤
 -- where the directions stand behind a head, and what a core sees of them then
 pub record GoesOn (old new : Directions) (asks : Asked) : Type 0 where
   pub placed : IsAt new (place_behind asks)
+  pub windows : KeepsWindows old new
   pub is_open : (request_of new).is_open ≡ (request_of old).is_open
   pub window : (request_of new).window ≡ (request_of old).window
   pub waits : AskWaits (request_of new) asks
@@ -188,6 +191,7 @@ pub record AsksBehind (old new : Directions) (asks : Asked) : Type 0 where
 pub record AsksSo (old new : Directions) (asks : Asked) : Type 0 where
   pub leads : (cfg : Config) (p : Sided (meaning_of cfg)) → DirectionsStand cfg old p → AsksTo (meaning_of cfg) (DirectionsStand cfg new) (request_of new) p asks
   pub placed : Placed new (place_behind asks)
+  pub windows : KeepsWindows old new
   pub request : AskKeeps (request_of old) (request_of new) asks
   pub window : (answer_of new).window ≡ (answer_of old).window
   pub starts : (answer_of new).answered ≡ false

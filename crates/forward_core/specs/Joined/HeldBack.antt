@@ -16,12 +16,12 @@ use Rattle.session_core.specs.declared.Source.{Source}
 use Rattle.session_core.specs.declared.machine.At.{At}
 use Rattle.forward_core.specs.Request.Shown.{ShowsNoCut, PutsAll, NoHeadCame}
 use Rattle.forward_core.specs.Answer.Resting.{AwaitsHead, PutsOutBody}
-use Rattle.forward_core.specs.Joined.Joined.{DirectionsStand, Placed, request_of, answer_of}
+use Rattle.forward_core.specs.Joined.Joined.{SessionStands, Placed, request_of, answer_of}
 use Rattle.forward_core.specs.declared.joined.directions.Directions.{Directions}
 
--- The directions of a core that stands for its history, behind a call of `work`: what its clauses `placed` and `settled` say.
-pub record HasWorked (cfg : Config) (d : Directions) (at : At) (past : Past) : Type 0 where
-  pub stands : Stands (meaning_of cfg) request_of answer_of (DirectionsStand cfg) d at past
+-- The directions of a core that stands for its history, with output windows of this size, behind a call of `work`: what its clauses `placed` and `settled` say.
+pub record HasWorked (cfg : Config) (size : ℕ) (d : Directions) (at : At) (past : Past) : Type 0 where
+  pub stands : Stands (meaning_of cfg) request_of answer_of (SessionStands (cfg, size)) d at past
   pub placed : IsPlaced (Placed d) (answer_of d) at.phase at.cut
   pub settled : Settled at.phase at.cut (request_of d) (answer_of d)
 

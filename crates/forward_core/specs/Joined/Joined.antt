@@ -31,6 +31,10 @@ answer_of d = answers.seen d.answer
 abbrev pub HasWindows : (size : ℕ) → Directions → Type 0
 HasWindows size d = (requests.window_size_of d.request ≡ size) × (answers.window_size_of d.answer ≡ size)
 
+-- as many bytes can stand in the output windows as could before
+abbrev pub KeepsWindows : Directions → Directions → Type 0
+KeepsWindows old new = (size : ℕ) → HasWindows size old → HasWindows size new
+
 -- the configuration of their rules
 abbrev pub settings_of : Directions → Config
 settings_of d = config_of d.rules
@@ -90,6 +94,11 @@ pub record DirectionsStand (cfg : Config) (d : Directions) (p : Sided (meaning_o
   pub answer : AnswerStands cfg d.answer p.asking p.server p.to_client p.now p.saying
   pub vars : Holds (requests.place_of d.request) (answers.place_of d.answer) d.rules.vars p.vars p.asking.vars p.now
   pub method : KeepsMethod (requests.place_of d.request) d.method.bytes (asker_in p.asking).method
+
+-- And their output windows have the size of the session.
+pub record SessionStands (settings : Config × ℕ) (d : Directions) (p : Sided (meaning_of settings.0)) : Type 0 where
+  pub directions : DirectionsStand settings.0 d p
+  pub windows : HasWindows settings.1 d
 
 -- they stand for some past
 abbrev pub HasPast : Directions → Type 0

@@ -9,7 +9,7 @@ use Rattle.session_core.specs.History.{Coming}
 use Rattle.http_rules.specs.declared.config.Config.{Config}
 use Rattle.lane.specs.Asking as lane
 use Rattle.lane.specs.Lending as lanes
-use Rattle.forward_core.specs.Request.Seen.{place_of, is_open, room_of, window_of, array_of, input_size_of, limits_of}
+use Rattle.forward_core.specs.Request.Seen.{place_of, is_open, room_of, window_of, window_size_of, array_of, input_size_of, limits_of}
 use Rattle.forward_core.specs.Request.Stands.{IsSound}
 use Rattle.forward_core.specs.Request.Reads.{HasHead, HeadRead}
 use Rattle.forward_core.specs.declared.request.side.RequestSide.{RequestSide}
@@ -60,3 +60,4 @@ pub record Edits (old new : RequestSide) : Type 0 where
   pub room : room_of new ≡ room_of old
   pub input : input_size_of new ≡ input_size_of old
   pub window : window_of new ≡ window_of old
+  pub window_size : window_size_of new ≡ window_size_of old

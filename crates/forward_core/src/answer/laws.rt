@@ -17,7 +17,7 @@ ghost use Rattle.http_rules.specs.Lives.{answering};
 ghost use Rattle.forward_core.specs.Meaning.Product.{meaning_of};
 ghost use Rattle.session_core.specs.Lanes.{IsTotalAnswers};
 ghost use Rattle.session_core.specs.History.{Coming};
-ghost use Rattle.session_core.specs.Sided.{Sided, Asking, asker_in, AnswersSo, IsBefore};
+ghost use Rattle.session_core.specs.Sided.{Sided, Asking, asker_in, AnswersSo, IsBefore, Saying};
 ghost use Rattle.session_core.specs.declared.Told.TheVariants as told;
 ghost use Rattle.lane.specs.Answering.{HeadsCame};
 ghost use Rattle.forward_core.specs.Answer.HeadsRead.{BeginsWithHead, HeadBegins};
@@ -62,14 +62,14 @@ pub fn comes_before()
 /// all interim heads were put out whole, the server's stream goes on, and what follows them allows More. So it has begun once the stream ended,
 /// once a whole final head came, and once the bytes in its place allow no More.
 pub fn begun_or_waits()
-    ensures waits { (cfg : Config) (side : AnswerSide) (asking : Asking Variables) (server : Coming) (to_client : List ℕ) (now : Variables) (saying : List ℕ) → IsSoundSide side → AnswerStands cfg side asking server to_client now saying
+    ensures waits { (cfg : Config) (side : AnswerSide) (asking : Asking Variables) (server : Coming) (to_client : List ℕ) (now : Variables) (saying : Saying) → IsSoundSide side → AnswerStands cfg side asking server to_client now saying
         → is_serving (place_of side) ≡ true → (seen side).at_rest ≡ true → (seen side).window ≡ [] → (seen side).begun ≡ false → AwaitsHead cfg (asker_in asking) server to_client }
-    ensures ended { (cfg : Config) (side : AnswerSide) (asking : Asking Variables) (server : Coming) (to_client : List ℕ) (now : Variables) (saying : List ℕ) → IsSoundSide side → AnswerStands cfg side asking server to_client now saying
+    ensures ended { (cfg : Config) (side : AnswerSide) (asking : Asking Variables) (server : Coming) (to_client : List ℕ) (now : Variables) (saying : Saying) → IsSoundSide side → AnswerStands cfg side asking server to_client now saying
         → is_serving (place_of side) ≡ true → (seen side).at_rest ≡ true → (seen side).window ≡ [] → (how : Ending) → server.ending ≡ Some how → (seen side).begun ≡ true }
-    ensures head { (cfg : Config) (side : AnswerSide) (asking : Asking Variables) (server : Coming) (to_client : List ℕ) (now : Variables) (saying : List ℕ) → IsSoundSide side → AnswerStands cfg side asking server to_client now saying
+    ensures head { (cfg : Config) (side : AnswerSide) (asking : Asking Variables) (server : Coming) (to_client : List ℕ) (now : Variables) (saying : Saying) → IsSoundSide side → AnswerStands cfg side asking server to_client now saying
         → is_serving (place_of side) ≡ true → (seen side).at_rest ≡ true → (seen side).window ≡ [] → (heads : List Head) (left : List ℕ) → HeadsCame (asker_in asking).head_asked cfg.limits server.ending heads server.bytes left
         → (received : Received) (rest : List ℕ) → ResponseOf (asker_in asking).head_asked cfg.limits left (Begins received rest) → is_interim received.head ≡ false → (seen side).begun ≡ true }
-    ensures hopeless { (cfg : Config) (side : AnswerSide) (asking : Asking Variables) (server : Coming) (to_client : List ℕ) (now : Variables) (saying : List ℕ) → IsSoundSide side → AnswerStands cfg side asking server to_client now saying
+    ensures hopeless { (cfg : Config) (side : AnswerSide) (asking : Asking Variables) (server : Coming) (to_client : List ℕ) (now : Variables) (saying : Saying) → IsSoundSide side → AnswerStands cfg side asking server to_client now saying
         → is_serving (place_of side) ≡ true → (seen side).at_rest ≡ true → (seen side).window ≡ [] → (heads : List Head) (left : List ℕ) → HeadsCame (asker_in asking).head_asked cfg.limits server.ending heads server.bytes left
         → ((received : Received) (rest : List ℕ) → ResponseOf (asker_in asking).head_asked cfg.limits left (Begins received rest) → is_interim received.head ≡ false)
         → ¬ (MayWait (response_heads (asker_in asking).head_asked) cfg.limits false left) → (seen side).begun ≡ true }
@@ -82,7 +82,7 @@ pub fn begun_or_waits()
 /// While a server's response goes on and nothing was left undone, and the client has taken all that was put out: that was the interim heads, the
 /// final head as rules left it, and all of the body that came, but what filters keep back.
 pub fn body_put_out()
-    ensures { (cfg : Config) (side : AnswerSide) (asking : Asking Variables) (server : Coming) (to_client : List ℕ) (now : Variables) (saying : List ℕ) → AnswerStands cfg side asking server to_client now saying
+    ensures { (cfg : Config) (side : AnswerSide) (asking : Asking Variables) (server : Coming) (to_client : List ℕ) (now : Variables) (saying : Saying) → AnswerStands cfg side asking server to_client now saying
         → place_of side ≡ place.Response → (seen side).told ≡ told.Going → (seen side).at_rest ≡ true → (seen side).window ≡ [] → PutsOutBody cfg (asker_in asking) (answering asking.vars) server to_client now }
 {
     lane::laws::answer_not_held_back();
@@ -91,9 +91,9 @@ pub fn body_put_out()
 /// Whether a response head was read. Where one was, the server's stream begins with it, however it goes on (`came`). Where the bytes so far begin
 /// with one, interim or final, it was read once all was done that could be (`read`).
 pub fn head_heard()
-    ensures came { (cfg : Config) (side : AnswerSide) (asking : Asking Variables) (server : Coming) (to_client : List ℕ) (now : Variables) (saying : List ℕ) → AnswerStands cfg side asking server to_client now saying
+    ensures came { (cfg : Config) (side : AnswerSide) (asking : Asking Variables) (server : Coming) (to_client : List ℕ) (now : Variables) (saying : Saying) → AnswerStands cfg side asking server to_client now saying
         → (seen side).heard ≡ true → HeadBegins cfg (asker_in asking) server }
-    ensures read { (cfg : Config) (side : AnswerSide) (asking : Asking Variables) (server : Coming) (to_client : List ℕ) (now : Variables) (saying : List ℕ) → IsSoundSide side → AnswerStands cfg side asking server to_client now saying
+    ensures read { (cfg : Config) (side : AnswerSide) (asking : Asking Variables) (server : Coming) (to_client : List ℕ) (now : Variables) (saying : Saying) → IsSoundSide side → AnswerStands cfg side asking server to_client now saying
         → is_serving (place_of side) ≡ true → (seen side).at_rest ≡ true → BeginsWithHead cfg (asker_in asking) server.bytes → (seen side).heard ≡ true }
 {
     h1_head::laws::one_reading();

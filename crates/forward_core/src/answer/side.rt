@@ -5,7 +5,7 @@ ghost use Rattle.body_filter.specs.Valid.{AreFilters};
 ghost use Rattle.px_sample.specs.Variables.{Variables};
 ghost use Rattle.http_rules.specs.declared.config.Config.{Config};
 ghost use Rattle.session_core.specs.History.{Coming, gains, ends, no_stream};
-ghost use Rattle.session_core.specs.Sided.{Asking, asker_in};
+ghost use Rattle.session_core.specs.Sided.{Asking, asker_in, Saying, unsaid};
 ghost use Rattle.forward_core.specs.Answer.Seen as spec;
 ghost use Rattle.forward_core.specs.Answer.Seen.{seen, place_of, asker_of, size_of, window_size_of};
 ghost use Rattle.forward_core.specs.Answer.Stands.{AnswerStands, IsSoundSide, IsAsker};
@@ -65,7 +65,7 @@ impl AnswerSide {
         requires window { 64 ≤ window }
         requires few { length filters.now ≤ 8 }
         requires valid { AreFilters filters.now }
-        ensures stands { IfOk result (λ side. (cfg : Config) (asking : Asking Variables) (server : Coming) (now : Variables) (saying : List ℕ) → cfg.limits ≡ limits → cfg.res_filters ≡ filters.now
+        ensures stands { IfOk result (λ side. (cfg : Config) (asking : Asking Variables) (server : Coming) (now : Variables) (saying : Saying) → cfg.limits ≡ limits → cfg.res_filters ≡ filters.now
             → IsAsker (asker_of side) (asker_in asking) → AnswerStands cfg side asking server [] now saying) }
         ensures nobody { IfOk result (λ side. asker_of side ≡ spec.nobody) }
         ensures place { IfOk result (λ side. place_of side ≡ place.Idle) }
@@ -90,12 +90,13 @@ impl AnswerSide {
         requires sound { IsSoundSide self.old }
         requires open { (seen self.old).is_open ≡ true }
         requires room { length bytes.now ≤ (seen self.old).room }
-        ensures leads { (cfg : Config) (asking : Asking Variables) (server : Coming) (put : List ℕ) (now : Variables) (saying : List ℕ) → AnswerStands cfg self.old asking server put now saying
+        ensures leads { (cfg : Config) (asking : Asking Variables) (server : Coming) (put : List ℕ) (now : Variables) (saying : Saying) → AnswerStands cfg self.old asking server put now saying
             → AnswerStands cfg self.new asking (gains server bytes.now) put now saying }
         ensures seen { seen self.new ≡ record (seen self.old) { room = (seen self.old).room - length bytes.now; at_rest = false } }
         ensures place { place_of self.new ≡ place_of self.old }
         ensures sound { IsSoundSide self.new }
         ensures size { size_of self.new ≡ size_of self.old }
+        ensures window_size { window_size_of self.new ≡ window_size_of self.old }
     {
         self.lane.take(bytes);
         self.at_rest = false;
@@ -105,12 +106,13 @@ impl AnswerSide {
     pub fn end_server(&mut self, how: Ending)
         requires sound { IsSoundSide self.old }
         requires open { (seen self.old).is_open ≡ true }
-        ensures leads { (cfg : Config) (asking : Asking Variables) (server : Coming) (put : List ℕ) (now : Variables) (saying : List ℕ) → AnswerStands cfg self.old asking server put now saying
+        ensures leads { (cfg : Config) (asking : Asking Variables) (server : Coming) (put : List ℕ) (now : Variables) (saying : Saying) → AnswerStands cfg self.old asking server put now saying
             → AnswerStands cfg self.new asking (ends server how) put now saying }
         ensures seen { seen self.new ≡ record (seen self.old) { is_open = false; at_rest = false } }
         ensures place { place_of self.new ≡ place_of self.old }
         ensures sound { IsSoundSide self.new }
         ensures size { size_of self.new ≡ size_of self.old }
+        ensures window_size { window_size_of self.new ≡ window_size_of self.old }
     {
         self.lane.end(how);
         self.open = false;
@@ -121,12 +123,13 @@ impl AnswerSide {
     pub fn client_took(&mut self, n: usize)
         requires sound { IsSoundSide self.old }
         requires within { n ≤ length (seen self.old).window }
-        ensures leads { (cfg : Config) (asking : Asking Variables) (server : Coming) (put : List ℕ) (now : Variables) (saying : List ℕ) → AnswerStands cfg self.old asking server put now saying
+        ensures leads { (cfg : Config) (asking : Asking Variables) (server : Coming) (put : List ℕ) (now : Variables) (saying : Saying) → AnswerStands cfg self.old asking server put now saying
             → AnswerStands cfg self.new asking server put now saying }
         ensures seen { seen self.new ≡ record (seen self.old) { window = drop n (seen self.old).window; at_rest = false } }
         ensures place { place_of self.new ≡ place_of self.old }
         ensures sound { IsSoundSide self.new }
         ensures size { size_of self.new ≡ size_of self.old }
+        ensures window_size { window_size_of self.new ≡ window_size_of self.old }
     {
         self.lane.took(n);
         self.at_rest = false;
@@ -136,12 +139,13 @@ impl AnswerSide {
     pub fn begin(&mut self, asker: Asker)
         requires sound { IsSoundSide self.old }
         requires idle { place_of self.old ≡ place.Idle }
-        ensures leads { (cfg : Config) (old asking : Asking Variables) (server : Coming) (put : List ℕ) (now : Variables) (saying : List ℕ) → AnswerStands cfg self.old old server put now saying
+        ensures leads { (cfg : Config) (old asking : Asking Variables) (server : Coming) (put : List ℕ) (now : Variables) (saying : Saying) → AnswerStands cfg self.old old server put now saying
             → IsAsker asker (asker_in asking) → AnswerStands cfg self.new asking server put now saying }
         ensures seen { seen self.new ≡ seen self.old }
         ensures place { place_of self.new ≡ place_of self.old }
         ensures sound { IsSoundSide self.new }
         ensures size { size_of self.new ≡ size_of self.old }
+        ensures window_size { window_size_of self.new ≡ window_size_of self.old }
     {
         self.asker = asker;
     }
@@ -150,7 +154,7 @@ impl AnswerSide {
     pub fn open_server(&mut self)
         requires sound { IsSoundSide self.old }
         requires idle { place_of self.old ≡ place.Idle }
-        ensures leads { (cfg : Config) (asking : Asking Variables) (server : Coming) (put : List ℕ) (now : Variables) (saying : List ℕ) → AnswerStands cfg self.old asking server put now saying
+        ensures leads { (cfg : Config) (asking : Asking Variables) (server : Coming) (put : List ℕ) (now : Variables) (saying : Saying) → AnswerStands cfg self.old asking server put now saying
             → AnswerStands cfg self.new asking no_stream put now saying }
         ensures place { place_of self.new ≡ place.Heads }
         ensures open { (seen self.new).is_open ≡ true }
@@ -159,6 +163,7 @@ impl AnswerSide {
         ensures window { (seen self.new).window ≡ (seen self.old).window }
         ensures sound { IsSoundSide self.new }
         ensures size { size_of self.new ≡ size_of self.old }
+        ensures window_size { window_size_of self.new ≡ window_size_of self.old }
     {
         self.lane.restart();
         self.place = Place::Heads;
@@ -171,12 +176,13 @@ impl AnswerSide {
     pub fn next(&mut self)
         requires sound { IsSoundSide self.old }
         requires answered { (seen self.old).answered ≡ true }
-        ensures leads { (cfg : Config) (asking : Asking Variables) (server : Coming) (put : List ℕ) (now : Variables) (saying : List ℕ) → AnswerStands cfg self.old asking server put now saying
-            → AnswerStands cfg self.new asking no_stream [] now [] }
+        ensures leads { (cfg : Config) (asking : Asking Variables) (server : Coming) (put : List ℕ) (now : Variables) (saying : Saying) → AnswerStands cfg self.old asking server put now saying
+            → AnswerStands cfg self.new asking no_stream [] now (unsaid []) }
         ensures place { place_of self.new ≡ place.Idle }
         ensures window { (seen self.new).window ≡ (seen self.old).window }
         ensures sound { IsSoundSide self.new }
         ensures size { size_of self.new ≡ size_of self.old }
+        ensures window_size { window_size_of self.new ≡ window_size_of self.old }
     {
         self.lane.next();
         self.place = Place::Idle;
@@ -187,12 +193,13 @@ impl AnswerSide {
     /// As a new one, in the same memory, for the same configuration.
     pub fn renew(&mut self)
         requires sound { IsSoundSide self.old }
-        ensures stands { (cfg : Config) (asked : Asking Variables) (came : Coming) (sent : List ℕ) (before : Variables) (said : List ℕ) → AnswerStands cfg self.old asked came sent before said
-            → (asking : Asking Variables) (server : Coming) (now : Variables) (saying : List ℕ) → IsAsker (asker_of self.new) (asker_in asking) → AnswerStands cfg self.new asking server [] now saying }
+        ensures stands { (cfg : Config) (asked : Asking Variables) (came : Coming) (sent : List ℕ) (before : Variables) (said : Saying) → AnswerStands cfg self.old asked came sent before said
+            → (asking : Asking Variables) (server : Coming) (now : Variables) (saying : Saying) → IsAsker (asker_of self.new) (asker_in asking) → AnswerStands cfg self.new asking server [] now saying }
         ensures nobody { asker_of self.new ≡ spec.nobody }
         ensures place { place_of self.new ≡ place.Idle }
         ensures sound { IsSoundSide self.new }
         ensures size { size_of self.new ≡ size_of self.old }
+        ensures window_size { window_size_of self.new ≡ window_size_of self.old }
         ensures window { (seen self.new).window ≡ [] }
     {
         self.lane.renew();

@@ -33,6 +33,7 @@ pub(crate) fn refuse(
     ensures window { OnOk result ((answers.seen answer.new).window ≡ (answers.seen answer.old).window) }
     ensures sound { OnOk result (IsSoundSide answer.new) }
     ensures size { OnOk result (answers.size_of answer.new ≡ answers.size_of answer.old) }
+    ensures window_size { OnOk result (answers.window_size_of answer.new ≡ answers.window_size_of answer.old) }
     ensures ready { OnOk result (IsReady rules.new) }
     ensures config { OnOk result (config_of rules.new ≡ config_of rules.old) }
 {
@@ -68,6 +69,7 @@ pub(crate) fn reply(
     ensures window { OnOk result ((answers.seen answer.new).window ≡ (answers.seen answer.old).window) }
     ensures sound { OnOk result (IsSoundSide answer.new) }
     ensures size { OnOk result (answers.size_of answer.new ≡ answers.size_of answer.old) }
+    ensures window_size { OnOk result (answers.window_size_of answer.new ≡ answers.window_size_of answer.old) }
     ensures ready { OnOk result (IsReady rules.new) }
     ensures config { OnOk result (config_of rules.new ≡ config_of rules.old) }
 {

@@ -5,27 +5,29 @@ use crate::joined::directions::Directions;
 use crate::joined::saying;
 use http_model::{Ending, OutOfMemory};
 use http_rules::Config;
-use session_core::{Asked, Lends, Peers, Shows, Sides, Source, Told, Works};
+use session_core::{Asked, Lends, Peers, Renewable, Shows, Sides, Source, Told, Works};
 
 impl<'c> Sides for Directions<'c> {
-    type Settings = Config;
+    /// The configuration, and how many bytes an output window has.
+    type Settings = (Config, u32);
 
     ghost use Rattle.forward_core.specs.Meaning.Product.{meaning_of};
     ghost use Rattle.forward_core.specs.Rules.Ruling.{holds_pattern};
-    ghost use Rattle.forward_core.specs.Joined.Joined.{DirectionsStand, Placed, request_of, answer_of};
+    ghost use Rattle.forward_core.specs.Joined.Joined.{SessionStands, Placed, request_of, answer_of};
     ghost use Rattle.forward_core.specs.Joined.Lent.{with_to_client, with_to_server, client_lent, server_lent};
+    ghost use Rattle.forward_core.specs.Joined.Begins.{begins};
 
-    ghost meaning = { meaning_of };
+    ghost meaning = { λ settings. meaning_of settings.0 };
 
-    ghost total = { λ cfg d p s. s.total };
+    ghost total = { λ settings d p s. s.directions.total };
 
-    ghost needs = { holds_pattern };
+    ghost needs = { λ settings. holds_pattern settings.0 };
 
     ghost request = { request_of };
 
     ghost answer = { answer_of };
 
-    ghost stands = { DirectionsStand };
+    ghost stands = { SessionStands };
 
     ghost placed = { Placed };
 
@@ -68,6 +70,8 @@ impl<'c> Sides for Directions<'c> {
     ghost lends_to_client = { client_lent };
 
     ghost lends_to_server = { server_lent };
+
+    ghost begins_so = { λ settings d p at s says placed. begins settings.0 d p at s.directions says placed };
 }
 
 impl<'c> Shows for Directions<'c> {
@@ -210,5 +214,15 @@ impl<'c> Works for Directions<'c> {
         self.request.next();
         self.answer.next();
         self.rules.begin_exchange();
+    }
+}
+
+impl<'c> Renewable for Directions<'c> {
+    // the bytes of the memory stay as they are until others are written over them
+    fn renew(&mut self) {
+        self.request.renew();
+        self.answer.renew();
+        self.rules.renew();
+        self.method.clear();
     }
 }

@@ -85,6 +85,7 @@ impl RequestSide {
         ensures seen { seen self.new ≡ record (seen self.old) { room = room_of self.old - length bytes.now; unread = (seen self.old).unread + to_read (place_of self.old) (length bytes.now); at_rest = false } }
         ensures place { place_of self.new ≡ place_of self.old }
         ensures limits { limits_of self.new ≡ limits_of self.old }
+        ensures window_size { window_size_of self.new ≡ window_size_of self.old }
     {
         self.lane.take(bytes);
         self.at_rest = false;
@@ -99,6 +100,7 @@ impl RequestSide {
         ensures seen { seen self.new ≡ record (seen self.old) { is_open = false; at_rest = false } }
         ensures place { place_of self.new ≡ place_of self.old }
         ensures limits { limits_of self.new ≡ limits_of self.old }
+        ensures window_size { window_size_of self.new ≡ window_size_of self.old }
     {
         self.lane.end(how);
         self.at_rest = false;
@@ -113,6 +115,7 @@ impl RequestSide {
         ensures seen { seen self.new ≡ record (seen self.old) { window = drop n (window_of self.old); at_rest = false } }
         ensures place { place_of self.new ≡ place_of self.old }
         ensures limits { limits_of self.new ≡ limits_of self.old }
+        ensures window_size { window_size_of self.new ≡ window_size_of self.old }
     {
         self.lane.took(n);
         self.at_rest = false;
@@ -129,6 +132,7 @@ impl RequestSide {
         ensures seen { seen self.new ≡ record (seen self.old) { window = []; dropped = true; at_rest = false; list = [] } }
         ensures place { place_of self.new ≡ place_of self.old }
         ensures limits { limits_of self.new ≡ limits_of self.old }
+        ensures window_size { window_size_of self.new ≡ window_size_of self.old }
     {
         promise();
         self.at_rest = false;
@@ -144,6 +148,7 @@ impl RequestSide {
         ensures keeps { KeepsRequest (seen self.old) (seen self.new) }
         ensures place { place_of self.new ≡ place_of self.old }
         ensures limits { limits_of self.new ≡ limits_of self.old }
+        ensures window_size { window_size_of self.new ≡ window_size_of self.old }
     {
         self.at_rest = true;
         if !self.is_going_out() {
@@ -176,6 +181,7 @@ impl RequestSide {
         ensures open { is_open self.new ≡ is_open self.old }
         ensures window { window_of self.new ≡ window_of self.old }
         ensures limits { limits_of self.new ≡ limits_of self.old }
+        ensures window_size { window_size_of self.new ≡ window_size_of self.old }
     {
         has_bytes();
         self.at_rest = false;
@@ -217,6 +223,7 @@ impl RequestSide {
         ensures dropped { (seen self.new).dropped ≡ false }
         ensures waits { (seen self.new).awaits ≡ awaits }
         ensures limits { limits_of self.new ≡ limits_of self.old }
+        ensures window_size { window_size_of self.new ≡ window_size_of self.old }
     {
         self.lane.send(framing, false);
         self.place = Place::Sending;
@@ -234,6 +241,7 @@ impl RequestSide {
         ensures open { is_open self.new ≡ is_open self.old }
         ensures window { window_of self.new ≡ window_of self.old }
         ensures limits { limits_of self.new ≡ limits_of self.old }
+        ensures window_size { window_size_of self.new ≡ window_size_of self.old }
         ensures input { input_size_of self.new ≡ input_size_of self.old }
     {
         self.place = Place::Replied;
@@ -252,6 +260,7 @@ impl RequestSide {
         ensures window { window_of self.new ≡ [] }
         ensures unread { (seen self.new).unread ≡ (seen self.old).unread }
         ensures limits { limits_of self.new ≡ limits_of self.old }
+        ensures window_size { window_size_of self.new ≡ window_size_of self.old }
     {
         self.lane.next();
         self.place = Place::Reading;
@@ -263,6 +272,7 @@ impl RequestSide {
         requires sound { IsSound self.old }
         ensures sound { IsSound self.new }
         ensures limits { limits_of self.new ≡ limits_of self.old }
+        ensures window_size { window_size_of self.new ≡ window_size_of self.old }
         ensures stands { (cfg : Config) (before : Variables) (came : Coming) (asked : Asking Variables) (sent : List ℕ) (replied : Reply Variables) → RequestStands cfg self.old before came asked sent replied
             → (vars : Variables) (asking : Asking Variables) (to_server : List ℕ) (reply : Reply Variables) → RequestStands cfg self.new vars no_stream asking to_server reply }
         ensures place { place_of self.new ≡ place.Reading }

@@ -1,7 +1,7 @@
 //! Text that a lane of answers puts out.
 ghost use Rattle.std.specs.Prelude.{◌≡◌, ◌≤◌, [], length, true, false, List};
 ghost use Rattle.body_filter.specs.declared.filter_spec.FilterSpec.{FilterSpec};
-ghost use Rattle.lane.specs.Answering.{Exchange, Answers, PutsOut, IsSoundAnswer, IsAmongHeads, HoldsNothingBack, Rests, MayGoOn, HasFilters, shows_last, stage_of, source_of, input_of, ended_of, output_of, limits_of, has_begun, phase_of};
+ghost use Rattle.lane.specs.Answering.{Exchange, Answers, PutsOut, IsSoundAnswer, IsAmongHeads, HoldsNothingBack, Rests, MayGoOn, HasFilters, shows_last, stage_of, source_of, input_of, ended_of, output_of, window_of, limits_of, has_begun, phase_of};
 ghost use Rattle.lane.specs.declared.phase.Phase.TheVariants as phase;
 ghost use Rattle.lane.specs.declared.direction.stage.Source.TheVariants as source;
 ghost use Rattle.lane.specs.declared.direction.stage.Stage.TheVariants as stage;
@@ -25,6 +25,7 @@ impl ResponseLane {
         ensures ended { ended_of self.new ≡ ended_of self.old }
         ensures shrinks { length (input_of self.new) ≤ length (input_of self.old) }
         ensures limits { limits_of self.new ≡ limits_of self.old }
+        ensures window_size { (window_of self.new).capacity ≡ (window_of self.old).capacity }
         ensures sound { IsSoundAnswer self.new }
         ensures filters { (filters : List FilterSpec) → HasFilters self.old filters → HasFilters self.new filters }
     {
@@ -51,6 +52,7 @@ impl ResponseLane {
         ensures ended { ended_of self.new ≡ ended_of self.old }
         ensures shrinks { length (input_of self.new) ≤ length (input_of self.old) }
         ensures limits { limits_of self.new ≡ limits_of self.old }
+        ensures window_size { (window_of self.new).capacity ≡ (window_of self.old).capacity }
         ensures sound { IsSoundAnswer self.new }
         ensures filters { (filters : List FilterSpec) → HasFilters self.old filters → HasFilters self.new filters }
     {
@@ -74,6 +76,7 @@ impl ResponseLane {
         ensures ended { ended_of self.new ≡ ended_of self.old }
         ensures shrinks { length (input_of self.new) ≤ length (input_of self.old) }
         ensures limits { limits_of self.new ≡ limits_of self.old }
+        ensures window_size { (window_of self.new).capacity ≡ (window_of self.old).capacity }
         ensures sound { IsSoundAnswer self.new }
         ensures filters { (filters : List FilterSpec) → HasFilters self.old filters → HasFilters self.new filters }
     {
@@ -100,6 +103,7 @@ impl ResponseLane {
         ensures ended { ended_of self.new ≡ ended_of self.old }
         ensures shrinks { length (input_of self.new) ≤ length (input_of self.old) }
         ensures limits { limits_of self.new ≡ limits_of self.old }
+        ensures window_size { (window_of self.new).capacity ≡ (window_of self.old).capacity }
         ensures sound { IsSoundAnswer self.new }
         ensures filters { (filters : List FilterSpec) → HasFilters self.old filters → HasFilters self.new filters }
     {

@@ -2,14 +2,11 @@
 ghost use Rattle.std.specs.Prelude.{◌≡◌, ◌≤◌, IfOk, false};
 ghost use Rattle.http_rules.specs.Valid.{IsValid};
 ghost use Rattle.forward_core.specs.Meaning.Product.{meaning_of};
-ghost use Rattle.session_core.specs.History.{Past, nothing_yet};
+ghost use Rattle.session_core.specs.History.{nothing_yet};
 ghost use Rattle.session_core.specs.Leads.{Stands};
 ghost use Rattle.session_core.specs.Place.{IsPlaced};
-ghost use Rattle.session_core.specs.Place as place;
 ghost use Rattle.session_core.specs.Waits.{is_serving};
-ghost use Rattle.forward_core.specs.Joined.Joined.{DirectionsStand, Placed, request_of, answer_of, HasWindows};
-ghost use Rattle.http_rules.specs.declared.config.Config.{Config};
-ghost use Rattle.proxy_call.specs.Sessions.Spare.{IsNew};
+ghost use Rattle.forward_core.specs.Joined.Joined.{SessionStands, Placed, request_of, answer_of, HasWindows};
 
 use forward_core::joined::Directions;
 use http_model::OutOfMemory;
@@ -23,17 +20,6 @@ use std::marker::Model;
 /// The core of a session under a configuration.
 pub(crate) type ConfigCore<'c> = Core<Directions<'c>>;
 
-/// A core over directions to which nothing has happened.
-fn core_of<'c>(directions: Directions<'c>) -> ConfigCore<'c>
-    requires placed { Placed directions place.Reads }
-    ensures stands { (cfg : Config) → IsNew cfg directions.entry → Stands (meaning_of cfg) request_of answer_of (DirectionsStand cfg) result.sides result.at nothing_yet }
-    ensures placed { IsPlaced (Placed result.sides) (answer_of result.sides) result.at.phase result.at.cut }
-    ensures idle { (cfg : Config) → IsNew cfg directions.entry → is_serving result.at.phase ≡ false }
-    ensures sides { result.sides ≡ directions.entry }
-{
-    Core::new(directions)
-}
-
 /// A core to which nothing has happened, with output windows of this size.
 fn open_core<'c>(
     alloc: Global,
@@ -42,24 +28,13 @@ fn open_core<'c>(
 ) -> Result<ConfigCore<'c>, OutOfMemory>
     requires valid { IsValid config.now }
     requires window { 64 ≤ window }
-    ensures stands { IfOk result (λ core. Stands (meaning_of config.now) request_of answer_of (DirectionsStand config.now) core.sides core.at nothing_yet) }
+    ensures stands { IfOk result (λ core. Stands (meaning_of config.now) request_of answer_of (SessionStands (config.now, window)) core.sides core.at nothing_yet) }
     ensures placed { IfOk result (λ core. IsPlaced (Placed core.sides) (answer_of core.sides) core.at.phase core.at.cut) }
     ensures idle { IfOk result (λ core. is_serving core.at.phase ≡ false) }
     ensures windows { IfOk result (λ core. HasWindows window core.sides) }
 {
     let directions = Directions::new(alloc, config, window)?;
-    Ok(core_of(directions))
-}
-
-/// The directions of a core whose session is over, as new ones.
-fn renewed<'c>(core: ConfigCore<'c>) -> Directions<'c>
-    requires placed { IsPlaced (Placed core.sides) (answer_of core.sides) core.at.phase core.at.cut }
-    ensures placed { Placed result place.Reads }
-    ensures new { (cfg : Config) (past : Past) → Stands (meaning_of cfg) request_of answer_of (DirectionsStand cfg) core.entry.sides core.entry.at past → IsNew cfg result }
-{
-    let mut directions = core.sides;
-    directions.renew();
-    directions
+    Ok(Core::new(directions))
 }
 
 /// Makes the cores of the sessions of a record.
@@ -73,7 +48,7 @@ pub(crate) struct RecordCores<'c> {
 impl<'c> Cores<ConfigCore<'c>> for RecordCores<'c> {
     ghost use Rattle.proxy_call.specs.Sessions.Ready.{IsReady};
 
-    ghost settings = { λ cores. cores.config.now };
+    ghost settings = { λ cores. (cores.config.now, cores.window) };
 
     ghost ready = { λ cores. IsReady cores.config.now cores.window };
 
@@ -97,8 +72,8 @@ impl<'c> Cores<ConfigCore<'c>> for RecordCores<'c> {
 pub(crate) struct ClientCores<'c> {
     alloc: Global,
     config: &'c Config,
-    /// Directions to which nothing has happened, made of those of an earlier session.
-    spare: Option<Directions<'c>>,
+    /// A core to which nothing has happened, in the memory of an earlier session.
+    spare: Option<ConfigCore<'c>>,
 }
 
 impl<'c> Model for ClientCores<'c> {
@@ -127,16 +102,18 @@ impl<'c> ClientCores<'c> {
 }
 
 impl<'c> Opens<ConfigCore<'c>> for ClientCores<'c> {
-    ghost settings = { λ cores. cores };
+    ghost settings = { λ cores. (cores, cores.limits.bufsize) };
 
     fn open(&mut self) -> Result<ConfigCore<'c>, OutOfMemory> {
         match self.spare.take() {
-            Some(directions) => Ok(core_of(directions)),
+            Some(core) => Ok(core),
             None => open_core(self.alloc, self.config, self.config.limits.bufsize),
         }
     }
 
     fn keep(&mut self, core: ConfigCore<'c>) {
-        drop(self.spare.replace(renewed(core)));
+        let mut next = core;
+        next.reset();
+        drop(self.spare.replace(next));
     }
 }

@@ -7,7 +7,7 @@ ghost use Rattle.rec_format.specs.ReportParts.{out_of};
 ghost use Rattle.rec_format.specs.Reports.{Reportable};
 ghost use Rattle.htx_drive.specs.Replay.Replayed.{Replays};
 ghost use Rattle.htx_drive.specs.Replay.Written.{IsReplayOf, IsDrillOf};
-ghost use Rattle.proxy_call.specs.Sessions.Driven.{stands_for, seen_of};
+ghost use Rattle.proxy_call.specs.Sessions.Driven.{stands_at, stands_for, seen_of};
 
 use crate::sessions::cores::RecordCores;
 use forward_core::bounds::bounded;
@@ -49,7 +49,7 @@ pub fn session_report(
 ) -> Result<Report, OutOfMemory>
     requires valid { IsValid config.now }
     requires window { 64 ≤ window }
-    ensures { IfOk result (λ report. Replays (meaning_of config.now) (stands_for config.now) seen_of turns.items (read.visit conn.now) (out_of report)) }
+    ensures { IfOk result (λ report. Replays (meaning_of config.now) (stands_at config.now window) seen_of turns.items (read.visit conn.now) (out_of report)) }
 {
     bounded();
     total();

@@ -9,7 +9,7 @@ ghost use Rattle.forward_core.specs.Rules.Ruling.{size_of as array_size};
 ghost use Rattle.session_model.specs.Answering.{Final, Refuses, Replies, Plain};
 ghost use Rattle.session_model.specs.Session.{SpellsFinal};
 ghost use Rattle.session_core.specs.History.{Coming};
-ghost use Rattle.session_core.specs.Sided.{Asking, asker_in, ToldIs};
+ghost use Rattle.session_core.specs.Sided.{Asking, asker_in, ToldIs, Saying};
 ghost use Rattle.forward_core.specs.Answer.Seen.{size_of};
 ghost use Rattle.forward_core.specs.Answer.Stands.{AnswerStands, list_text};
 ghost use Rattle.forward_core.specs.Answer.Listed.{IsListed};
@@ -44,7 +44,7 @@ impl AnswerSide {
         requires between { IsBetween self.old }
         requires ready { IsReady rules.old }
         requires size { array_size rules.old ≡ size_of self.old }
-        ensures leads { OnOk result ((cfg : Config) (asking : Asking Variables) (server : Coming) (put saying : List ℕ) → Settles cfg self.old asking server put (Refuses code method.now rules.old.vars) → config_of rules.old ≡ cfg
+        ensures leads { OnOk result ((cfg : Config) (asking : Asking Variables) (server : Coming) (put : List ℕ) (saying : Saying) → Settles cfg self.old asking server put (Refuses code method.now rules.old.vars) → config_of rules.old ≡ cfg
             → Finds cfg self.new asking server put saying rules.new.vars) }
         ensures goes_out { OnOk result (GoesOut self.old self.new) }
         ensures succeeds { holds_pattern (config_of rules.old) ≡ false → IsOk result }
@@ -66,7 +66,7 @@ impl AnswerSide {
         requires ready { IsReady rules.old }
         requires size { array_size rules.old ≡ size_of self.old }
         requires reply { HasReply rules.old.said.blocks }
-        ensures leads { OnOk result ((cfg : Config) (asking : Asking Variables) (server : Coming) (put saying : List ℕ) (m : Message) → Settles cfg self.old asking server put (Replies m method.now rules.old.vars) → config_of rules.old ≡ cfg
+        ensures leads { OnOk result ((cfg : Config) (asking : Asking Variables) (server : Coming) (put : List ℕ) (saying : Saying) (m : Message) → Settles cfg self.old asking server put (Replies m method.now rules.old.vars) → config_of rules.old ≡ cfg
             → rules.old.said.blocks ≡ message_blocks m → IsListed m → Finds cfg self.new asking server put saying rules.new.vars) }
         ensures goes_out { OnOk result (GoesOut self.old self.new) }
         ensures succeeds { holds_pattern (config_of rules.old) ≡ false → IsOk result }
@@ -83,7 +83,7 @@ impl AnswerSide {
         requires between { IsBetween self.old }
         requires ready { IsReady rules.old }
         requires size { array_size rules.old ≡ size_of self.old }
-        ensures leads { (cfg : Config) (asking : Asking Variables) (server : Coming) (put saying : List ℕ) → Settles cfg self.old asking server put Plain → config_of rules.old ≡ cfg → Finds cfg self.new asking server put saying rules.new.vars }
+        ensures leads { (cfg : Config) (asking : Asking Variables) (server : Coming) (put : List ℕ) (saying : Saying) → Settles cfg self.old asking server put Plain → config_of rules.old ≡ cfg → Finds cfg self.new asking server put saying rules.new.vars }
         ensures goes_out { GoesOut self.old self.new }
         ensures ready { IsReady rules.new }
         ensures config { config_of rules.new ≡ config_of rules.old }
@@ -96,7 +96,7 @@ impl AnswerSide {
     fn say_instead(&mut self, said: &mut Arena, replied: bool)
         requires between { IsBetween self.old }
         requires size { said.old.size ≡ size_of self.old }
-        ensures leads { (cfg : Config) (asking : Asking Variables) (server : Coming) (put saying : List ℕ) (now : Variables) (last : Final Variables) (head : Head) (body : List ℕ) → Settles cfg self.old asking server put last → said.old.blocks ≡ front_blocks head body
+        ensures leads { (cfg : Config) (asking : Asking Variables) (server : Coming) (put : List ℕ) (saying : Saying) (now : Variables) (last : Final Variables) (head : Head) (body : List ℕ) → Settles cfg self.old asking server put last → said.old.blocks ≡ front_blocks head body
             → SpellsFinal (meaning_of cfg) (asker_in asking) last (list_text (asker_in asking).head_asked head body) → ToldIs (meaning_of cfg) (told_when replied) now last → AnswerStands cfg self.new asking server put now saying }
         ensures goes_out { GoesOut self.old self.new }
         ensures said_size { said.new.size ≡ said.old.size }

@@ -16,7 +16,7 @@ ghost use Rattle.session_model.specs.Env.{response_env};
 ghost use Rattle.session_model.specs.Meaning.{declares_too_much, is_bodiless};
 ghost use Rattle.session_model.specs.Answering.{response_declares_too_much, finished_response, response_fits};
 ghost use Rattle.session_core.specs.History.{Coming};
-ghost use Rattle.session_core.specs.Sided.{Asking, asker_in};
+ghost use Rattle.session_core.specs.Sided.{Asking, asker_in, Saying};
 ghost use Rattle.lane.specs.Answering.{blocks_of, framing_of, declared_of};
 ghost use Rattle.forward_core.specs.Answer.Seen.{size_of};
 ghost use Rattle.forward_core.specs.Answer.Stands.{AnswerStands};
@@ -48,7 +48,7 @@ impl AnswerSide {
         requires has { HasHead self.old }
         requires ready { IsReady rules.old }
         requires size { array_size rules.old ≡ size_of self.old }
-        ensures leads { OnOk result ((cfg : Config) (asking : Asking Variables) (server : Coming) (put saying : List ℕ) (received : Received) → FinalHead cfg self.old asking server put received → blocks_of self.old.lane ≡ head_blocks received.head
+        ensures leads { OnOk result ((cfg : Config) (asking : Asking Variables) (server : Coming) (put : List ℕ) (saying : Saying) (received : Received) → FinalHead cfg self.old asking server put received → blocks_of self.old.lane ≡ head_blocks received.head
             → RunsFor rules.old method.now cfg asking → rules.old.vars ≡ answering asking.vars → Finds cfg self.new asking server put saying rules.new.vars) }
         ensures goes_out { OnOk result (GoesOut self.old self.new) }
         ensures succeeds { holds_pattern (config_of rules.old) ≡ false → IsOk result }
@@ -114,7 +114,7 @@ impl AnswerSide {
         requires has { HasHead self.old }
         requires ready { IsReady rules.old }
         requires size { array_size rules.old ≡ size_of self.old }
-        ensures leads { OnOk result ((cfg : Config) (asking : Asking Variables) (server : Coming) (put saying : List ℕ) (received : Received) → FinalHead cfg self.old asking server put received → Passes cfg self.old asking received rules.old.vars
+        ensures leads { OnOk result ((cfg : Config) (asking : Asking Variables) (server : Coming) (put : List ℕ) (saying : Saying) (received : Received) → FinalHead cfg self.old asking server put received → Passes cfg self.old asking received rules.old.vars
             → RunsFor rules.old method.now cfg asking → not_modified ≡ spec.is_not_modified received.head → Finds cfg self.new asking server put saying rules.new.vars) }
         ensures goes_out { OnOk result (GoesOut self.old self.new) }
         ensures succeeds { holds_pattern (config_of rules.old) ≡ false → IsOk result }
@@ -158,7 +158,7 @@ impl AnswerSide {
         requires has { HasHead self.old }
         requires ready { IsReady rules.old }
         requires size { array_size rules.old ≡ size_of self.old }
-        ensures leads { (cfg : Config) (asking : Asking Variables) (server : Coming) (put saying : List ℕ) (received : Received) (head : Head) → FinalHead cfg self.old asking server put received → IsEdited cfg asking received head rules.old.vars → blocks_of self.old.lane ≡ head_blocks head
+        ensures leads { (cfg : Config) (asking : Asking Variables) (server : Coming) (put : List ℕ) (saying : Saying) (received : Received) (head : Head) → FinalHead cfg self.old asking server put received → IsEdited cfg asking received head rules.old.vars → blocks_of self.old.lane ≡ head_blocks head
             → config_of rules.old ≡ cfg → not_modified ≡ spec.is_not_modified received.head → Finds cfg self.new asking server put saying rules.new.vars }
         ensures goes_out { GoesOut self.old self.new }
         ensures ready { IsReady rules.new }
@@ -192,7 +192,7 @@ impl AnswerSide {
     fn send(&mut self, replaced: bool)
         requires between { IsBetween self.old }
         requires has { HasHead self.old }
-        ensures leads { (cfg : Config) (asking : Asking Variables) (server : Coming) (put : List ℕ) (now : Variables) (saying : List ℕ) (received : Received) (head : Head) → FinalHead cfg self.old asking server put received
+        ensures leads { (cfg : Config) (asking : Asking Variables) (server : Coming) (put : List ℕ) (now : Variables) (saying : Saying) (received : Received) (head : Head) → FinalHead cfg self.old asking server put received
             → IsEdited cfg asking received head now → response_fits (meaning_of cfg) (asker_in asking) received head ≡ true → blocks_of self.old.lane ≡ head_blocks (finished_response (meaning_of cfg) (asker_in asking) received head)
             → replaced ≡ spec_replaces cfg.res_filters → AnswerStands cfg self.new asking server put now saying }
         ensures goes_out { GoesOut self.old self.new }

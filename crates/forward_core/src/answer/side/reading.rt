@@ -5,11 +5,11 @@ ghost use Rattle.http_rules.specs.declared.config.Config.{Config};
 ghost use Rattle.http_model.specs.Head.{Head, head_blocks};
 ghost use Rattle.http_model.specs.Reading.{Received};
 ghost use Rattle.session_core.specs.History.{Coming};
-ghost use Rattle.session_core.specs.Sided.{Asking};
+ghost use Rattle.session_core.specs.Sided.{Asking, Saying};
 ghost use Rattle.session_model.specs.Meaning.{is_interim};
 ghost use Rattle.lane.specs.Answering.{stage_of, input_of, blocks_of};
 ghost use Rattle.lane.specs.declared.direction.stage.Stage.TheVariants as stage;
-ghost use Rattle.forward_core.specs.Answer.Seen.{seen, place_of, size_of};
+ghost use Rattle.forward_core.specs.Answer.Seen.{seen, place_of, size_of, window_size_of};
 ghost use Rattle.forward_core.specs.Answer.Stands.{AnswerStands, IsSoundSide};
 ghost use Rattle.forward_core.specs.Answer.Hearing.{IsBetween, HasHead, StandsThere, Hears, IsRead};
 ghost use Rattle.forward_core.specs.declared.answer.place.Place.TheVariants as place;
@@ -24,7 +24,7 @@ impl AnswerSide {
         requires sound { IsSoundSide self.old }
         requires heads { place_of self.old ≡ place.Heads }
         requires stirs { (seen self.old).at_rest ≡ false }
-        ensures leads { (cfg : Config) (asking : Asking Variables) (server : Coming) (put : List ℕ) (now : Variables) (saying : List ℕ) → AnswerStands cfg self.old asking server put now saying
+        ensures leads { (cfg : Config) (asking : Asking Variables) (server : Coming) (put : List ℕ) (now : Variables) (saying : Saying) → AnswerStands cfg self.old asking server put now saying
             → Hears cfg self.old self.new asking server put now saying result }
         ensures between { IsBetween self.new }
         ensures there { StandsThere result self.new }
@@ -32,6 +32,7 @@ impl AnswerSide {
         ensures open { (seen self.new).is_open ≡ (seen self.old).is_open }
         ensures heard { (seen self.old).heard ≡ true → (seen self.new).heard ≡ true }
         ensures size { size_of self.new ≡ size_of self.old }
+        ensures window_size { window_size_of self.new ≡ window_size_of self.old }
     {
         match self.show_first() {
             Heard::More => Heard::More,
@@ -46,13 +47,14 @@ impl AnswerSide {
         requires sound { IsSoundSide self.old }
         requires heads { place_of self.old ≡ place.Heads }
         requires stirs { (seen self.old).at_rest ≡ false }
-        ensures leads { (cfg : Config) (asking : Asking Variables) (server : Coming) (put : List ℕ) (now : Variables) (saying : List ℕ) → AnswerStands cfg self.old asking server put now saying
+        ensures leads { (cfg : Config) (asking : Asking Variables) (server : Coming) (put : List ℕ) (now : Variables) (saying : Saying) → AnswerStands cfg self.old asking server put now saying
             → Hears cfg self.old self.new asking server put now saying result }
         ensures between { IsBetween self.new }
         ensures there { StandsThere result self.new }
         ensures open { (seen self.new).is_open ≡ (seen self.old).is_open }
         ensures heard { (seen self.new).heard ≡ (seen self.old).heard }
         ensures size { size_of self.new ≡ size_of self.old }
+        ensures window_size { window_size_of self.new ≡ window_size_of self.old }
     {
         if self.is_showing() {
             return self.show_on();
@@ -64,7 +66,7 @@ impl AnswerSide {
     fn read_heads(&mut self) -> Heard
         requires between { IsBetween self.old }
         requires reading { stage_of self.old.lane ≡ stage.Reading }
-        ensures leads { (cfg : Config) (asking : Asking Variables) (server : Coming) (put : List ℕ) (now : Variables) (saying : List ℕ) → AnswerStands cfg self.old asking server put now saying
+        ensures leads { (cfg : Config) (asking : Asking Variables) (server : Coming) (put : List ℕ) (now : Variables) (saying : Saying) → AnswerStands cfg self.old asking server put now saying
             → Hears cfg self.old self.new asking server put now saying result }
         ensures between { IsBetween self.new }
         ensures there { StandsThere result self.new }
@@ -72,6 +74,7 @@ impl AnswerSide {
         ensures open { (seen self.new).is_open ≡ (seen self.old).is_open }
         ensures heard { (seen self.old).heard ≡ true → (seen self.new).heard ≡ true }
         ensures size { size_of self.new ≡ size_of self.old }
+        ensures window_size { window_size_of self.new ≡ window_size_of self.old }
     {
         'heads: loop {
             match self.read_on() {
@@ -87,7 +90,7 @@ impl AnswerSide {
     fn read_on(&mut self) -> Heard
         requires between { IsBetween self.old }
         requires reading { stage_of self.old.lane ≡ stage.Reading }
-        ensures leads { (cfg : Config) (asking : Asking Variables) (server : Coming) (put : List ℕ) (now : Variables) (saying : List ℕ) → AnswerStands cfg self.old asking server put now saying
+        ensures leads { (cfg : Config) (asking : Asking Variables) (server : Coming) (put : List ℕ) (now : Variables) (saying : Saying) → AnswerStands cfg self.old asking server put now saying
             → Hears cfg self.old self.new asking server put now saying result }
         ensures between { IsBetween self.new }
         ensures there { StandsThere result self.new }
@@ -95,6 +98,7 @@ impl AnswerSide {
         ensures open { (seen self.new).is_open ≡ (seen self.old).is_open }
         ensures heard { (seen self.old).heard ≡ true → (seen self.new).heard ≡ true }
         ensures size { size_of self.new ≡ size_of self.old }
+        ensures window_size { window_size_of self.new ≡ window_size_of self.old }
     {
         match self.lane.read_head(self.asker.head_asked) {
             LaneHead::More => Heard::More,
@@ -111,7 +115,7 @@ impl AnswerSide {
     fn tell_head(&mut self) -> Heard
         requires between { IsBetween self.old }
         requires has { HasHead self.old }
-        ensures leads { (cfg : Config) (asking : Asking Variables) (server : Coming) (put : List ℕ) (now : Variables) (saying : List ℕ) (received : Received) → IsRead cfg self.old asking server put received
+        ensures leads { (cfg : Config) (asking : Asking Variables) (server : Coming) (put : List ℕ) (now : Variables) (saying : Saying) (received : Received) → IsRead cfg self.old asking server put received
             → blocks_of self.old.lane ≡ head_blocks received.head → Hears cfg self.old self.new asking server put now saying result }
         ensures between { IsBetween self.new }
         ensures there { StandsThere result self.new }
@@ -119,6 +123,7 @@ impl AnswerSide {
         ensures open { (seen self.new).is_open ≡ (seen self.old).is_open }
         ensures heard { (seen self.new).heard ≡ (seen self.old).heard }
         ensures size { size_of self.new ≡ size_of self.old }
+        ensures window_size { window_size_of self.new ≡ window_size_of self.old }
     {
         if self.has_interim() {
             return self.pass_or_drop();
@@ -138,7 +143,7 @@ impl AnswerSide {
     fn pass_or_drop(&mut self) -> Heard
         requires between { IsBetween self.old }
         requires has { HasHead self.old }
-        ensures leads { (cfg : Config) (asking : Asking Variables) (server : Coming) (put : List ℕ) (now : Variables) (saying : List ℕ) (received : Received) → IsRead cfg self.old asking server put received
+        ensures leads { (cfg : Config) (asking : Asking Variables) (server : Coming) (put : List ℕ) (now : Variables) (saying : Saying) (received : Received) → IsRead cfg self.old asking server put received
             → is_interim received.head ≡ true → blocks_of self.old.lane ≡ head_blocks received.head → Hears cfg self.old self.new asking server put now saying result }
         ensures between { IsBetween self.new }
         ensures there { StandsThere result self.new }
@@ -146,6 +151,7 @@ impl AnswerSide {
         ensures open { (seen self.new).is_open ≡ (seen self.old).is_open }
         ensures heard { (seen self.new).heard ≡ (seen self.old).heard }
         ensures size { size_of self.new ≡ size_of self.old }
+        ensures window_size { window_size_of self.new ≡ window_size_of self.old }
     {
         if self.asker.is_http_11 {
             self.lane.pass();
@@ -159,7 +165,7 @@ impl AnswerSide {
     fn show_on(&mut self) -> Heard
         requires between { IsBetween self.old }
         requires sending { stage_of self.old.lane ≡ stage.Sending }
-        ensures leads { (cfg : Config) (asking : Asking Variables) (server : Coming) (put : List ℕ) (now : Variables) (saying : List ℕ) → AnswerStands cfg self.old asking server put now saying
+        ensures leads { (cfg : Config) (asking : Asking Variables) (server : Coming) (put : List ℕ) (now : Variables) (saying : Saying) → AnswerStands cfg self.old asking server put now saying
             → Hears cfg self.old self.new asking server put now saying result }
         ensures between { IsBetween self.new }
         ensures there { StandsThere result self.new }
@@ -167,6 +173,7 @@ impl AnswerSide {
         ensures open { (seen self.new).is_open ≡ (seen self.old).is_open }
         ensures heard { (seen self.new).heard ≡ (seen self.old).heard }
         ensures size { size_of self.new ≡ size_of self.old }
+        ensures window_size { window_size_of self.new ≡ window_size_of self.old }
     {
         self.lane.step();
         if self.is_showing() {

@@ -5,8 +5,8 @@ ghost use Rattle.http_model.specs.Head.{Head, front_blocks};
 ghost use Rattle.px_sample.specs.Variables.{Variables};
 ghost use Rattle.http_rules.specs.declared.config.Config.{Config};
 ghost use Rattle.session_core.specs.History.{Coming};
-ghost use Rattle.session_core.specs.Sided.{Asking};
-ghost use Rattle.forward_core.specs.Answer.Seen.{seen, place_of, size_of};
+ghost use Rattle.session_core.specs.Sided.{Asking, Saying, unsaid};
+ghost use Rattle.forward_core.specs.Answer.Seen.{seen, place_of, size_of, window_size_of};
 ghost use Rattle.forward_core.specs.Answer.Stands.{AnswerStands, IsSoundSide, is_serving, list_text};
 ghost use Rattle.forward_core.specs.Answer.Said.{SaysMore, TurnsTo};
 ghost use Rattle.forward_core.specs.declared.answer.place.Place.TheVariants as place;
@@ -23,8 +23,8 @@ impl AnswerSide {
         requires sound { IsSoundSide self.old }
         requires idle { place_of self.old ≡ place.Idle }
         requires fits { Fits list.old.blocks (size_of self.old) }
-        ensures leads { (cfg : Config) (asking : Asking Variables) (server : Coming) (put : List ℕ) (now : Variables) (saying : List ℕ) (head : Head) (body : List ℕ) → AnswerStands cfg self.old asking server put now saying
-            → list.old.blocks ≡ front_blocks head body → AnswerStands cfg self.new asking server put now (list_text no_body head body) }
+        ensures leads { (cfg : Config) (asking : Asking Variables) (server : Coming) (put : List ℕ) (now : Variables) (saying : Saying) (head : Head) (body : List ℕ) → AnswerStands cfg self.old asking server put now saying
+            → list.old.blocks ≡ front_blocks head body → AnswerStands cfg self.new asking server put now (unsaid (list_text no_body head body)) }
         ensures place { place_of self.new ≡ place.Saying }
         ensures starts { (seen self.new).answered ≡ false }
         ensures begun { (seen self.new).begun ≡ false }
@@ -33,6 +33,7 @@ impl AnswerSide {
         ensures list_size { list.new.size ≡ list.old.size }
         ensures sound { IsSoundSide self.new }
         ensures size { size_of self.new ≡ size_of self.old }
+        ensures window_size { window_size_of self.new ≡ window_size_of self.old }
     {
         self.lane.answer(list, no_body);
         self.place = Place::Saying;
@@ -46,7 +47,7 @@ impl AnswerSide {
         requires serving { is_serving (place_of self.old) ≡ true }
         requires begun { (seen self.old).begun ≡ false }
         requires fits { Fits list.old.blocks (size_of self.old) }
-        ensures leads { (cfg : Config) (asking : Asking Variables) (server : Coming) (put : List ℕ) (now : Variables) (saying : List ℕ) (head : Head) (body : List ℕ) → AnswerStands cfg self.old asking server put now saying
+        ensures leads { (cfg : Config) (asking : Asking Variables) (server : Coming) (put : List ℕ) (now : Variables) (saying : Saying) (head : Head) (body : List ℕ) → AnswerStands cfg self.old asking server put now saying
             → list.old.blocks ≡ front_blocks head body → TurnsTo cfg self.new asking server put now head body }
         ensures place { place_of self.new ≡ place.Saying }
         ensures starts { (seen self.new).answered ≡ false }
@@ -57,6 +58,7 @@ impl AnswerSide {
         ensures list_size { list.new.size ≡ list.old.size }
         ensures sound { IsSoundSide self.new }
         ensures size { size_of self.new ≡ size_of self.old }
+        ensures window_size { window_size_of self.new ≡ window_size_of self.old }
     {
         answer_promise();
         self.lane.answer(list, self.asker.head_asked);
@@ -68,7 +70,7 @@ impl AnswerSide {
     pub fn say(&mut self)
         requires sound { IsSoundSide self.old }
         requires says { place_of self.old ≡ place.Saying }
-        ensures leads { (cfg : Config) (asking : Asking Variables) (server : Coming) (put : List ℕ) (now : Variables) (saying : List ℕ) → AnswerStands cfg self.old asking server put now saying
+        ensures leads { (cfg : Config) (asking : Asking Variables) (server : Coming) (put : List ℕ) (now : Variables) (saying : Saying) → AnswerStands cfg self.old asking server put now saying
             → SaysMore cfg self.old self.new asking server put now saying }
         ensures place { place_of self.new ≡ place_of self.old }
         ensures open { (seen self.new).is_open ≡ (seen self.old).is_open }
@@ -76,6 +78,7 @@ impl AnswerSide {
         ensures heard { (seen self.new).heard ≡ (seen self.old).heard }
         ensures sound { IsSoundSide self.new }
         ensures size { size_of self.new ≡ size_of self.old }
+        ensures window_size { window_size_of self.new ≡ window_size_of self.old }
     {
         answer_promise();
         if is_done(self.lane.stage()) {

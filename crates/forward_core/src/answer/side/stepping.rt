@@ -6,8 +6,8 @@ ghost use Rattle.http_rules.specs.Lives.{answering};
 ghost use Rattle.forward_core.specs.Rules.Ruling.{IsReady, config_of, holds_pattern};
 ghost use Rattle.forward_core.specs.Rules.Ruling.{size_of as array_size};
 ghost use Rattle.session_core.specs.History.{Coming};
-ghost use Rattle.session_core.specs.Sided.{Asking};
-ghost use Rattle.forward_core.specs.Answer.Seen.{seen, place_of, size_of};
+ghost use Rattle.session_core.specs.Sided.{Asking, Saying};
+ghost use Rattle.forward_core.specs.Answer.Seen.{seen, place_of, size_of, window_size_of};
 ghost use Rattle.forward_core.specs.Answer.Stands.{AnswerStands, IsSoundSide, is_serving};
 ghost use Rattle.forward_core.specs.Answer.Stepping.{RunsFor, VarsAt, StepsOn};
 ghost use Rattle.forward_core.specs.Answer.Judging.{Decides, KeepsOn};
@@ -31,7 +31,7 @@ impl AnswerSide {
         requires serving { is_serving (place_of self.old) ≡ true }
         requires ready { IsReady rules.old }
         requires size { array_size rules.old ≡ size_of self.old }
-        ensures leads { OnOk result ((cfg : Config) (asking : Asking Variables) (server : Coming) (put : List ℕ) (now : Variables) (saying : List ℕ) → AnswerStands cfg self.old asking server put now saying
+        ensures leads { OnOk result ((cfg : Config) (asking : Asking Variables) (server : Coming) (put : List ℕ) (now : Variables) (saying : Saying) → AnswerStands cfg self.old asking server put now saying
             → RunsFor rules.old method.now cfg asking → VarsAt (place_of self.old) (answering asking.vars) now rules.old.vars → StepsOn cfg self.old self.new asking server put saying rules.new.vars) }
         ensures serving { OnOk result (is_serving (place_of self.new) ≡ true) }
         ensures begun { OnOk result ((seen self.old).begun ≡ true → (seen self.new).begun ≡ true) }
@@ -39,6 +39,7 @@ impl AnswerSide {
         ensures open { OnOk result ((seen self.new).is_open ≡ (seen self.old).is_open) }
         ensures sound { OnOk result (IsSoundSide self.new) }
         ensures size { OnOk result (size_of self.new ≡ size_of self.old) }
+        ensures window_size { OnOk result (window_size_of self.new ≡ window_size_of self.old) }
         ensures succeeds { holds_pattern (config_of rules.old) ≡ false → IsOk result }
         ensures ready { IsReady rules.new }
         ensures config { config_of rules.new ≡ config_of rules.old }
@@ -54,7 +55,7 @@ impl AnswerSide {
         requires serving { is_serving (place_of self.old) ≡ true }
         requires ready { IsReady rules.old }
         requires size { array_size rules.old ≡ size_of self.old }
-        ensures leads { OnOk result ((cfg : Config) (asking : Asking Variables) (server : Coming) (put : List ℕ) (now : Variables) (saying : List ℕ) → AnswerStands cfg self.old asking server put now saying
+        ensures leads { OnOk result ((cfg : Config) (asking : Asking Variables) (server : Coming) (put : List ℕ) (now : Variables) (saying : Saying) → AnswerStands cfg self.old asking server put now saying
             → RunsFor rules.old method.now cfg asking → VarsAt (place_of self.old) (answering asking.vars) now rules.old.vars → Decides cfg self.old self.new asking server put saying rules.new.vars) }
         ensures keeps { OnOk result (KeepsOn self.old self.new) }
         ensures succeeds { holds_pattern (config_of rules.old) ≡ false → IsOk result }

@@ -167,6 +167,7 @@ impl Lane {
         ensures capacity { self.new.input.capacity ≡ self.old.input.capacity }
         ensures shrinks { length self.new.input.items ≤ length self.old.input.items }
         ensures ended { self.new.ended ≡ self.old.ended }
+        ensures window { self.new.output.capacity ≡ self.old.output.capacity }
         ensures limits { self.new.limits ≡ self.old.limits }
         ensures no_stall { (p : Past) → Stands self.old p → self.new.stage ≡ stage.Sending → GoesOn self.new }
         ensures done { IsAllOut self.new → self.new.stage ≡ stage.Done }
@@ -198,6 +199,7 @@ impl Lane {
         requires { n ≤ length self.old.output.items }
         ensures same { self.new ≡ record self.old { output = self.new.output } }
         ensures output { self.new.output.items ≡ drop n self.old.output.items }
+        ensures window { self.new.output.capacity ≡ self.old.output.capacity }
         ensures sound { IsSound self.old → IsSound self.new }
         ensures reading { (side : Side) → IsReading side self.old → IsReading side self.new }
         ensures stands { (p : Past) → Stands self.old p → Stands self.new (record p { took = p.took ++ take n self.old.output.items }) }
@@ -209,6 +211,7 @@ impl Lane {
     pub fn discard(&mut self)
         ensures dropped { self.new.dropped ≡ true }
         ensures output { self.new.output.items ≡ [] }
+        ensures window { self.new.output.capacity ≡ self.old.output.capacity }
         ensures blocks { self.new.msg.blocks ≡ [] }
         ensures sieve { self.new.sieve ≡ self.old.sieve }
         ensures stage { self.new.stage ≡ self.old.stage }

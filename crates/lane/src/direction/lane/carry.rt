@@ -246,6 +246,7 @@ impl Lane {
         ensures capacity { self.new.input.capacity ≡ self.old.input.capacity }
         ensures shrinks { length self.new.input.items ≤ length self.old.input.items }
         ensures ended { self.new.ended ≡ self.old.ended }
+        ensures window { self.new.output.capacity ≡ self.old.output.capacity }
         ensures limits { self.new.limits ≡ self.old.limits }
         ensures grows { (put : List ℕ) × (self.new.output.items ≡ self.old.output.items ++ put) }
         ensures stands { (p : Past) → Sends self.old p → Stands self.new p }

@@ -111,6 +111,7 @@ impl Lane {
         ensures shows { Goes self.old self.new }
         ensures done { result ≡ is_done self.new.writer }
         ensures waits { result ≡ false → (self.new.output.capacity ≤ length self.new.output.items) }
+        ensures window { self.new.output.capacity ≡ self.old.output.capacity }
         ensures same { self.new ≡ record self.old { writer = self.new.writer; out = self.new.out; output = self.new.output } }
         ensures sound { IsSound self.old → IsSound self.new }
     {

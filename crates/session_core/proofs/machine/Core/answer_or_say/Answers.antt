@@ -16,7 +16,7 @@ returns-then-is_turned-clause-keeps g c = λ cfg past s.
     let b = g.S.Sides.answer c.say.new.self in
     let st = c.say.ensures.leads cfg s.sided s.stand in
     record {
-      sided = record s.sided { to_client = s.sided.to_client ++ st.put; saying = st.left };
+      sided = record s.sided { to_client = s.sided.to_client ++ st.put; saying = record s.sided.saying { left = st.left } };
       stand = st.stands;
       holds = holds_at M at q (g.S.Sides.request c.say.new.self) b b _ _ c.say.ensures.request refl
           (says_turned M _ at q a b s.sided past c.requires.phase (c.is_turned.ensures.0 c.if-is_turned.true) c.say.ensures.open st s.holds);

@@ -1,3 +1,4 @@
+use Rattle.session_core.specs.Sided.{unsaid}
 use Rattle.std.proofs.lemmas.Bool.{false≢true}
 use Rattle.std.proofs.Common.{[], subst, refl, sym}
 use Rattle.session_core.proofs.Working.{at_is}
@@ -48,7 +49,7 @@ returns-in-Refuse-clause-keeps g c = λ cfg past s.
     let P : Asked → Type 0 = λ k. AsksTo M (g.S.Sides.stands cfg c.ask.new.self) r s.sided k in
     let re = subst P c.in-Refuse.is (c.in_ok-asked.ensures.leads cfg s.sided s.stand) in
     record {
-      sided = record s.sided { saying = re.text };
+      sided = record s.sided { saying = unsaid re.text };
       stand = re.stands;
       holds = at_is M _ _ _ _ _ past c.counted-self.ensures (asks_refusal M _ at q r a b s.sided past _ c.requires.phase k.is_open k.window c.in_ok-asked.ensures.window c.in_ok-asked.ensures.starts refl re s.holds);
     }
@@ -65,7 +66,7 @@ returns-in-Reply-clause-keeps g c = λ cfg past s.
     let P : Asked → Type 0 = λ k. AsksTo M (g.S.Sides.stands cfg c.ask.new.self) r s.sided k in
     let re = subst P c.in-Reply.is (c.in_ok-asked.ensures.leads cfg s.sided s.stand) in
     record {
-      sided = record s.sided { reply = re.reply; now = re.now; saying = re.text };
+      sided = record s.sided { reply = re.reply; now = re.now; saying = unsaid re.text };
       stand = re.stands;
       holds = at_is M _ _ _ _ _ past c.counted-self-in-Reply.ensures (asks_reply M _ at q r a b s.sided past _ c.in-Reply.kept c.requires.phase k.is_open k.window c.in_ok-asked.ensures.window c.in_ok-asked.ensures.starts refl re s.holds);
     }

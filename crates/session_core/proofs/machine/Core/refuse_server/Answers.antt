@@ -1,3 +1,4 @@
+use Rattle.session_core.specs.Sided.{unsaid}
 use Rattle.std.proofs.lemmas.Bool.{false≢true}
 use Rattle.std.proofs.Common.{refl}
 use Rattle.session_core.specs.declared.Phase.TheVariants as phase
@@ -15,7 +16,7 @@ returns-clause-keeps g c = λ cfg past s.
     let b = g.S.Sides.answer c.refuse.new.self in
     let re = c.in_ok-refuse.ensures.leads cfg s.sided s.stand in
     record {
-      sided = record s.sided { saying = re.text };
+      sided = record s.sided { saying = unsaid re.text };
       stand = re.stands;
       holds = holds_at M (record at { phase = phase.Refusing }) q (g.S.Sides.request c.refuse.new.self) b b _ _ c.in_ok-refuse.ensures.request refl
           (refuses_server M _ at q a b s.sided past c.requires.phase c.in_ok-refuse.ensures.window c.in_ok-refuse.ensures.starts re s.holds);

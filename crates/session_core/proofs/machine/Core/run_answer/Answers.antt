@@ -14,7 +14,7 @@ returns-in-Refusing-clause-keeps g c = λ cfg past s.
     let b = g.S.Sides.answer c.say.new.self in
     let st = c.say.ensures.leads cfg s.sided s.stand in
     record {
-      sided = record s.sided { to_client = s.sided.to_client ++ st.put; saying = st.left };
+      sided = record s.sided { to_client = s.sided.to_client ++ st.put; saying = record s.sided.saying { left = st.left } };
       stand = st.stands;
       holds = holds_at M at q (g.S.Sides.request c.say.new.self) b b _ _ c.say.ensures.request refl
           (says_refusal M _ at q a b s.sided past c.in-Refusing.is st s.holds);
@@ -29,7 +29,7 @@ returns-in-Replying-clause-keeps g c = λ cfg past s.
     let b = g.S.Sides.answer c.say-in-Replying.new.self in
     let st = c.say-in-Replying.ensures.leads cfg s.sided s.stand in
     record {
-      sided = record s.sided { to_client = s.sided.to_client ++ st.put; saying = st.left };
+      sided = record s.sided { to_client = s.sided.to_client ++ st.put; saying = record s.sided.saying { left = st.left } };
       stand = st.stands;
       holds = holds_at M at q (g.S.Sides.request c.say-in-Replying.new.self) b b _ _ c.say-in-Replying.ensures.request refl
           (says_reply M _ at c.in-Replying.field-0 q a b s.sided past c.in-Replying.is st s.holds);

@@ -1,13 +1,13 @@
-use Rattle.std.proofs.Common.{subst}
+use Rattle.std.proofs.Common.{subst, ◌∙◌}
 use Rattle.http_rules.specs.Lives.{answering}
 use Rattle.session_core.specs.Sided.{asker_in}
 use Rattle.lane.specs.Answering.{replies}
-use Rattle.forward_core.specs.Answer.Stands.{StandsAt}
+use Rattle.forward_core.specs.Answer.Stands.{StandsAt, list_text}
 use Rattle.forward_core.specs.declared.answer.place.Place.{Place}
 use Rattle.forward_core.specs.declared.answer.place.Place.TheVariants as place
 use Rattle.forward_core.proofs.AnswerLemmas.Events.{for_new}
 use Rattle.forward_core.proofs.AnswerLemmas.HeardLemmas.{heard_said}
-use Rattle.forward_core.proofs.AnswerLemmas.Saying.{said_at}
+use Rattle.forward_core.proofs.AnswerLemmas.Saying.{said_at, begins_unsaid}
 use Rattle.forward_core.proofs.AnswerLemmas.Views.{at_place}
 use Rattle.forward_core.proofs.answer.side.AnswerSide.begin_saying.Goals as goal
 
@@ -21,7 +21,7 @@ returns-clause-leads c = λ cfg asking server put now saying head body s is.
     record {
       asks = s.asks;
       for_it = for_new cfg old.lane c.answer.new.self c.answer.ensures.limits c.answer.ensures.filters s.for_it;
-      at = (replies at.0 head body c.args.no_body, c.answer.ensures.answers at.0 head body at.1 is, c.answer.ensures.last, said_at at.0 head body c.args.no_body at.2);
+      at = (replies at.0 head body c.args.no_body, c.answer.ensures.answers at.0 head body at.1 is, c.answer.ensures.last, said_at at.0 head body c.args.no_body at.2, begins_unsaid _ (list_text c.args.no_body head body) (c.answer.ensures.begun ∙ (at_place place.Idle old c.requires.idle c.requires.sound.at).1));
       heard = heard_said old.heard old.place cfg (asker_in asking) old.lane c.answer.new.self server c.answer.ensures.ended s.heard;
       rests = λ _. tt;
     }

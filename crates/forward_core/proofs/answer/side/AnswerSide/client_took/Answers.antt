@@ -16,9 +16,9 @@ returns-clause-leads c = λ cfg asking server put now saying s.
       asks = s.asks;
       for_it = for_new cfg old.lane c.took.new.self c.took.ensures.limits c.took.ensures.filters s.for_it;
       at = took_at old.place cfg (asker_in asking) (answering asking.vars) old.lane c.took.new.self server put now saying
-          (record { answers = c.took.ensures.answers; ended = c.took.ensures.ended; phase = c.took.ensures.phase }) s.at;
+          (record { answers = c.took.ensures.answers; ended = c.took.ensures.ended; phase = c.took.ensures.phase; begun = c.took.ensures.begun }) s.at;
       heard = heard_took old.heard old.place cfg (asker_in asking) old.lane c.took.new.self server
-          (record { answers = c.took.ensures.answers; ended = c.took.ensures.ended; phase = c.took.ensures.phase }) s.heard;
+          (record { answers = c.took.ensures.answers; ended = c.took.ensures.ended; phase = c.took.ensures.phase; begun = c.took.ensures.begun }) s.heard;
       rests = λ rest. absurd (let both : false ≡ true = rest in cc both);
     }
 

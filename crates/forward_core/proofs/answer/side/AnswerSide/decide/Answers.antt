@@ -18,7 +18,7 @@ returns-then-not-is_hearing-clause-leads c = λ cfg asking server put now saying
     decides_none cfg c.args.self.now asking server put now saying c.args.rules.now.vars s vars (c.is_hearing.ensures.rests c.if-not-is_hearing.true)
 
 pub returns-then-not-is_hearing-clause-keeps : goal.returns-then-not-is_hearing-clause-keeps
-returns-then-not-is_hearing-clause-keeps c = record { serving = c.requires.serving; sound = c.requires.sound; begun = λ was. was; heard = λ was. was; is_open = refl; size = refl }
+returns-then-not-is_hearing-clause-keeps c = record { serving = c.requires.serving; sound = c.requires.sound; begun = λ was. was; heard = λ was. was; is_open = refl; size = refl; window_size = refl }
 
 pub hear-requires-clause-heads : goal.hear-requires-clause-heads
 hear-requires-clause-heads c = c.is_hearing.ensures.heads c.if-not-is_hearing.false
@@ -39,7 +39,7 @@ returns-in-More-clause-leads c = λ cfg asking server put now saying s runs vars
 
 pub returns-in-More-clause-keeps : goal.returns-in-More-clause-keeps
 returns-in-More-clause-keeps c =
-    keeps_more c.args.self.now c.hear.new.self c.requires.sound (c.is_hearing.ensures.heads c.if-not-is_hearing.false) c.in-More.ensures.heard c.in-More.ensures.open c.in-More.ensures.size c.in-More.ensures.between c.in-More.ensures.there
+    keeps_more c.args.self.now c.hear.new.self c.requires.sound (c.is_hearing.ensures.heads c.if-not-is_hearing.false) c.in-More.ensures.heard c.in-More.ensures.open c.in-More.ensures.size c.in-More.ensures.window_size c.in-More.ensures.between c.in-More.ensures.there
 
 -- ---- interim heads are read on
 
@@ -65,7 +65,7 @@ returns-in-Final-clause-leads c =
 
 pub returns-in-Final-clause-keeps : goal.returns-in-Final-clause-keeps
 returns-in-Final-clause-keeps c =
-    on_ok_weaker c.judge.result (keeps_out c.args.self.now c.hear.new.self c.judge.new.self c.requires.sound (c.is_hearing.ensures.heads c.if-not-is_hearing.false) c.in-Final.ensures.heard c.in-Final.ensures.open c.in-Final.ensures.size) c.judge.ensures.goes_out
+    on_ok_weaker c.judge.result (keeps_out c.args.self.now c.hear.new.self c.judge.new.self c.requires.sound (c.is_hearing.ensures.heads c.if-not-is_hearing.false) c.in-Final.ensures.heard c.in-Final.ensures.open c.in-Final.ensures.size c.in-Final.ensures.window_size) c.judge.ensures.goes_out
 
 -- ---- none
 
@@ -89,4 +89,4 @@ returns-in-Refused-clause-leads c =
 
 pub returns-in-Refused-clause-keeps : goal.returns-in-Refused-clause-keeps
 returns-in-Refused-clause-keeps c =
-    on_ok_weaker c.refuse.result (keeps_out c.args.self.now c.hear.new.self c.refuse.new.self c.requires.sound (c.is_hearing.ensures.heads c.if-not-is_hearing.false) c.in-Refused.ensures.heard c.in-Refused.ensures.open c.in-Refused.ensures.size) c.refuse.ensures.goes_out
+    on_ok_weaker c.refuse.result (keeps_out c.args.self.now c.hear.new.self c.refuse.new.self c.requires.sound (c.is_hearing.ensures.heads c.if-not-is_hearing.false) c.in-Refused.ensures.heard c.in-Refused.ensures.open c.in-Refused.ensures.size c.in-Refused.ensures.window_size) c.refuse.ensures.goes_out

@@ -20,9 +20,9 @@ returns-clause-leads c = λ cfg asking server put now saying s.
       asks = s.asks;
       for_it = for_new cfg old.lane c.end.new.self c.end.ensures.limits c.end.ensures.filters s.for_it;
       at = ends_at old.place cfg (asker_in asking) (answering asking.vars) old.lane c.end.new.self server put now saying c.args.how
-          (record { answers = c.end.ensures.answers; is_open = none_of (ended_of old.lane) c.requires.open; ended = c.end.ensures.ended; phase = c.end.ensures.phase }) s.at;
+          (record { answers = c.end.ensures.answers; is_open = none_of (ended_of old.lane) c.requires.open; ended = c.end.ensures.ended; phase = c.end.ensures.phase; begun = c.end.ensures.begun }) s.at;
       heard = heard_ends old.heard old.place cfg (asker_in asking) old.lane c.end.new.self server c.args.how
-          (record { answers = c.end.ensures.answers; is_open = none_of (ended_of old.lane) c.requires.open; ended = c.end.ensures.ended; phase = c.end.ensures.phase }) s.heard;
+          (record { answers = c.end.ensures.answers; is_open = none_of (ended_of old.lane) c.requires.open; ended = c.end.ensures.ended; phase = c.end.ensures.phase; begun = c.end.ensures.begun }) s.heard;
       rests = λ rest. absurd (let both : false ≡ true = rest in cc both);
     }
 

@@ -39,6 +39,9 @@ returns-then-self-clause-open c = c.show_on.ensures.open ∙ ap is_none c.pass.e
 pub returns-then-self-clause-size : goal.returns-then-self-clause-size
 returns-then-self-clause-size c = c.show_on.ensures.size ∙ ap (λ (l : Limits). l.bufsize) c.pass.ensures.limits
 
+pub returns-then-self-clause-window_size : goal.returns-then-self-clause-window_size
+returns-then-self-clause-window_size c = c.show_on.ensures.window_size ∙ ap (λ (b : Buffer ℕ). b.capacity) c.pass.ensures.window
+
 pub returns-clause-leads : goal.returns-clause-leads
 returns-clause-leads c = λ cfg asking server put now saying received r is blocks.
     let old = c.args.self.now in
@@ -56,3 +59,6 @@ returns-clause-open c = ap is_none c.drop_head.ensures.ended
 
 pub returns-clause-size : goal.returns-clause-size
 returns-clause-size c = ap (λ (l : Limits). l.bufsize) c.drop_head.ensures.limits
+
+pub returns-clause-window_size : goal.returns-clause-window_size
+returns-clause-window_size c = ap (λ (b : Buffer ℕ). b.capacity) c.drop_head.ensures.window

@@ -13,6 +13,7 @@ heads-preserved c = record {
   is_open = c.in-Interim.ensures.open ∙ c.heads.invariant.is_open;
   heard_still = λ was. c.in-Interim.ensures.heard (c.heads.invariant.heard_still was);
   size = c.in-Interim.ensures.size ∙ c.heads.invariant.size;
+  window_size = c.in-Interim.ensures.window_size ∙ c.heads.invariant.window_size;
 }
 
 pub heads-smaller : goal.heads-smaller
@@ -32,6 +33,9 @@ returns-in-More-clause-heard c = λ was. c.in-More.ensures.heard (c.heads.invari
 pub returns-in-More-clause-size : goal.returns-in-More-clause-size
 returns-in-More-clause-size c = c.in-More.ensures.size ∙ c.heads.invariant.size
 
+pub returns-in-More-clause-window_size : goal.returns-in-More-clause-window_size
+returns-in-More-clause-window_size c = c.in-More.ensures.window_size ∙ c.heads.invariant.window_size
+
 pub returns-in-Final-clause-leads : goal.returns-in-Final-clause-leads
 returns-in-Final-clause-leads c = λ cfg asking server put now saying s.
     let x = c.heads.invariant.leads cfg asking server put now saying s in
@@ -46,6 +50,9 @@ returns-in-Final-clause-heard c = λ was. c.in-Final.ensures.heard (c.heads.inva
 pub returns-in-Final-clause-size : goal.returns-in-Final-clause-size
 returns-in-Final-clause-size c = c.in-Final.ensures.size ∙ c.heads.invariant.size
 
+pub returns-in-Final-clause-window_size : goal.returns-in-Final-clause-window_size
+returns-in-Final-clause-window_size c = c.in-Final.ensures.window_size ∙ c.heads.invariant.window_size
+
 pub returns-in-Refused-clause-leads : goal.returns-in-Refused-clause-leads
 returns-in-Refused-clause-leads c = λ cfg asking server put now saying s.
     let x = c.heads.invariant.leads cfg asking server put now saying s in
@@ -59,3 +66,6 @@ returns-in-Refused-clause-heard c = λ was. c.in-Refused.ensures.heard (c.heads.
 
 pub returns-in-Refused-clause-size : goal.returns-in-Refused-clause-size
 returns-in-Refused-clause-size c = c.in-Refused.ensures.size ∙ c.heads.invariant.size
+
+pub returns-in-Refused-clause-window_size : goal.returns-in-Refused-clause-window_size
+returns-in-Refused-clause-window_size c = c.in-Refused.ensures.window_size ∙ c.heads.invariant.window_size

@@ -42,6 +42,9 @@ returns-in-More-clause-open c = ap is_none c.in-More.ensures.ended
 pub returns-in-More-clause-size : goal.returns-in-More-clause-size
 returns-in-More-clause-size c = ap (λ (l : Limits). l.bufsize) c.in-More.ensures.limits
 
+pub returns-in-More-clause-window_size : goal.returns-in-More-clause-window_size
+returns-in-More-clause-window_size c = ap (λ (b : Buffer ℕ). b.capacity) c.in-More.ensures.window
+
 -- ---- there is none
 
 pub returns-in-Nothing-clause-leads : goal.returns-in-Nothing-clause-leads
@@ -58,6 +61,9 @@ returns-in-Nothing-clause-open c = absurd c.in-Nothing.ensures.stands
 
 pub returns-in-Nothing-clause-size : goal.returns-in-Nothing-clause-size
 returns-in-Nothing-clause-size c = absurd c.in-Nothing.ensures.stands
+
+pub returns-in-Nothing-clause-window_size : goal.returns-in-Nothing-clause-window_size
+returns-in-Nothing-clause-window_size c = absurd c.in-Nothing.ensures.stands
 
 pub returns-in-Refuse-clause-leads : goal.returns-in-Refuse-clause-leads
 returns-in-Refuse-clause-leads c = λ cfg asking server put now saying s.
@@ -76,6 +82,9 @@ returns-in-Refuse-clause-open c = ap is_none c.in-Refuse.ensures.ended
 
 pub returns-in-Refuse-clause-size : goal.returns-in-Refuse-clause-size
 returns-in-Refuse-clause-size c = ap (λ (l : Limits). l.bufsize) c.in-Refuse.ensures.limits
+
+pub returns-in-Refuse-clause-window_size : goal.returns-in-Refuse-clause-window_size
+returns-in-Refuse-clause-window_size c = ap (λ (b : Buffer ℕ). b.capacity) c.in-Refuse.ensures.window
 
 -- ---- a head came
 
@@ -109,3 +118,6 @@ returns-in-Head-clause-heard c = λ was. c.tell_head.ensures.heard
 
 pub returns-in-Head-clause-size : goal.returns-in-Head-clause-size
 returns-in-Head-clause-size c = c.tell_head.ensures.size ∙ ap (λ (l : Limits). l.bufsize) c.in-Head.ensures.limits
+
+pub returns-in-Head-clause-window_size : goal.returns-in-Head-clause-window_size
+returns-in-Head-clause-window_size c = c.tell_head.ensures.window_size ∙ ap (λ (b : Buffer ℕ). b.capacity) c.in-Head.ensures.window

@@ -9,7 +9,7 @@ use Rattle.forward_core.specs.declared.answer.place.Place.{Place}
 use Rattle.forward_core.specs.declared.answer.place.Place.TheVariants as place
 use Rattle.forward_core.proofs.AnswerLemmas.Events.{for_new}
 use Rattle.forward_core.proofs.AnswerLemmas.HeardLemmas.{heard_puts}
-use Rattle.forward_core.proofs.AnswerLemmas.Saying.{says, says_nothing, waits_for, sends_still, says_at}
+use Rattle.forward_core.proofs.AnswerLemmas.Saying.{says, says_nothing, begins_said, waits_for, sends_still, says_at}
 use Rattle.forward_core.proofs.AnswerLemmas.Views.{at_place, last_stage}
 use Rattle.forward_core.proofs.answer.side.AnswerSide.say.Goals as goal
 
@@ -27,11 +27,11 @@ returns-then-is_done-clause-leads c = λ cfg asking server put now saying s.
     subst (λ (p : Place). StandsAt p cfg (asker_in asking) (answering asking.vars) old.lane server put now saying) c.requires.says s.at in
     record {
       put = [];
-      left = saying;
+      left = saying.left;
       stands = record {
         asks = s.asks;
         for_it = s.for_it;
-        at = subst (λ (p : Place). StandsAt p cfg (asker_in asking) (answering asking.vars) old.lane server (put ++ []) now saying) (sym c.requires.says) (at.0, at.1, at.2, at.3);
+        at = subst (λ (p : Place). StandsAt p cfg (asker_in asking) (answering asking.vars) old.lane server (put ++ []) now saying) (sym c.requires.says) (at.0, at.1, at.2, at.3, at.4);
         heard = s.heard;
         rests = s.rests;
       };
@@ -50,7 +50,8 @@ returns-clause-leads c = λ cfg asking server put now saying s.
     let p = c.step.ensures.answers in
     let a = p.answers at.0 at.1 in
     let shows = c.step.ensures.last at.2 in
-    let g = says new at.0 saying p.put shows a (c.answer_promise.ensures new (with_put at.0 p.put) a) at.3 in
+    let promise = c.answer_promise.ensures new (with_put at.0 p.put) a in
+    let g = says new at.0 saying p.put shows a promise at.3 in
     let fits = at_place place.Saying old c.requires.says c.requires.sound.at in
     record {
       put = p.put;
@@ -58,7 +59,7 @@ returns-clause-leads c = λ cfg asking server put now saying s.
       stands = record {
         asks = s.asks;
         for_it = for_new cfg old.lane new c.step.ensures.limits c.step.ensures.filters s.for_it;
-        at = subst (λ (pl : Place). StandsAt pl cfg (asker_in asking) (answering asking.vars) new server (put ++ p.put) now g.left) (sym c.requires.says) (with_put at.0 p.put, a, shows, g.is_said);
+        at = subst (λ (pl : Place). StandsAt pl cfg (asker_in asking) (answering asking.vars) new server (put ++ p.put) now (record saying { left = g.left })) (sym c.requires.says) (with_put at.0 p.put, a, shows, g.is_said, begins_said new (with_put at.0 p.put) (record saying { left = g.left }) a promise g.is_said);
         heard = heard_puts old.heard old.place cfg (asker_in asking) old.lane new server p.put (record { answers = p.answers; ended = c.step.ensures.ended; last = c.step.ensures.last }) s.heard;
         rests = λ _. subst (λ (pl : Place). RestsAt pl (asker_in asking).head_asked new) (sym c.requires.says) tt;
       };

@@ -41,4 +41,4 @@ returns-clause-goes_out c =
     let old = c.args.self.now in
     let new : AnswerSide = record old { lane = c.answer.new.self; place = c.place_when-self.result; at_rest = false } in
     goes_out old new (place_when c.args.replied) c.requires.between c.place_when-self.ensures (when_last c.args.replied) (when_fits c.args.replied new c.answer.ensures.last c.answer.ensures.source) refl refl c.answer.ensures.sound
-    c.answer.ensures.ended (ap (λ (b : Buffer ℕ). b.items) c.answer.ensures.window) c.answer.ensures.limits
+    c.answer.ensures.ended (ap (λ (b : Buffer ℕ). b.items) c.answer.ensures.window) c.answer.ensures.limits (ap (λ (b : Buffer ℕ). b.capacity) c.answer.ensures.window)

@@ -39,4 +39,4 @@ pub returns-clause-goes_out : goal.returns-clause-goes_out
 returns-clause-goes_out c =
     let old = c.args.self.now in
     let new : AnswerSide = record old { lane = c.send.new.self; place = place.Response; at_rest = false } in
-    goes_out old new place.Response c.requires.between refl refl c.send.ensures.last refl refl c.send.ensures.sound c.send.ensures.ended (ap (λ (b : Buffer ℕ). b.items) c.send.ensures.window) c.send.ensures.limits
+    goes_out old new place.Response c.requires.between refl refl c.send.ensures.last refl refl c.send.ensures.sound c.send.ensures.ended (ap (λ (b : Buffer ℕ). b.items) c.send.ensures.window) c.send.ensures.limits (ap (λ (b : Buffer ℕ). b.capacity) c.send.ensures.window)

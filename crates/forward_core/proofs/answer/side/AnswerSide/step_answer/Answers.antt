@@ -26,3 +26,6 @@ returns-clause-open c = c.put_out.ensures.open ∙ c.in_ok-decide.ensures.keeps.
 
 pub returns-clause-size : goal.returns-clause-size
 returns-clause-size c = c.put_out.ensures.size ∙ c.in_ok-decide.ensures.keeps.size
+
+pub returns-clause-window_size : goal.returns-clause-window_size
+returns-clause-window_size c = c.put_out.ensures.window_size ∙ c.in_ok-decide.ensures.keeps.window_size

@@ -21,9 +21,9 @@ returns-clause-leads c = λ cfg asking server put now saying s.
       asks = s.asks;
       for_it = for_new cfg old.lane c.take.new.self c.take.ensures.limits c.take.ensures.filters s.for_it;
       at = takes_at old.place cfg (asker_in asking) (answering asking.vars) old.lane c.take.new.self server put now saying c.args.bytes.now
-          (record { answers = c.take.ensures.answers; is_open = none_of (ended_of old.lane) c.requires.open; ended = c.take.ensures.ended; phase = c.take.ensures.phase }) s.at;
+          (record { answers = c.take.ensures.answers; is_open = none_of (ended_of old.lane) c.requires.open; ended = c.take.ensures.ended; phase = c.take.ensures.phase; begun = c.take.ensures.begun }) s.at;
       heard = heard_takes old.heard old.place cfg (asker_in asking) old.lane c.take.new.self server c.args.bytes.now
-          (record { answers = c.take.ensures.answers; is_open = none_of (ended_of old.lane) c.requires.open; ended = c.take.ensures.ended; phase = c.take.ensures.phase }) s.heard;
+          (record { answers = c.take.ensures.answers; is_open = none_of (ended_of old.lane) c.requires.open; ended = c.take.ensures.ended; phase = c.take.ensures.phase; begun = c.take.ensures.begun }) s.heard;
       rests = λ rest. absurd (let both : false ≡ true = rest in cc both);
     }
 

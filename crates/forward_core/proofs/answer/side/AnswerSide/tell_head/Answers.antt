@@ -1,7 +1,7 @@
 use Rattle.std.proofs.Common.{◌≡◌, ◌≤◌, refl, sym, ap, ◌∙◌, length, subst}
 use Rattle.http_model.specs.Head.{head_blocks}
 use Rattle.lane.specs.Answering.{blocks_of, input_of}
-use Rattle.forward_core.specs.Answer.Seen.{seen, size_of}
+use Rattle.forward_core.specs.Answer.Seen.{seen, size_of, window_size_of}
 use Rattle.forward_core.specs.Answer.Hearing.{IsBetween, HasHead, IsRead, Hears}
 use Rattle.forward_core.specs.declared.answer.hearing.Heard.TheVariants as heard
 use Rattle.forward_core.specs.declared.answer.side.AnswerSide.{AnswerSide}
@@ -33,6 +33,9 @@ returns-then-has_interim-clause-heard c = c.pass_or_drop.ensures.heard ∙ ap (�
 
 pub returns-then-has_interim-clause-size : goal.returns-then-has_interim-clause-size
 returns-then-has_interim-clause-size c = c.pass_or_drop.ensures.size ∙ ap size_of c.has_interim.ensures.same
+
+pub returns-then-has_interim-clause-window_size : goal.returns-then-has_interim-clause-window_size
+returns-then-has_interim-clause-window_size c = c.pass_or_drop.ensures.window_size ∙ ap window_size_of c.has_interim.ensures.same
 
 pub returns-clause-leads : goal.returns-clause-leads
 returns-clause-leads c = λ cfg asking server put now saying received r blocks.

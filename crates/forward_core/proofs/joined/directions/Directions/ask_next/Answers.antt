@@ -9,12 +9,12 @@ use Rattle.forward_core.proofs.joined.directions.Directions.ask_next.Goals as go
 pub returns-in-More-clause-so : goal.returns-in-More-clause-so
 returns-in-More-clause-so c =
     let e = c.in-More.ensures in
-    asks_more c.args.self.now c.read_head.new.self c.requires e.sound e.limits e.open e.window e.tells
+    asks_more c.args.self.now c.read_head.new.self c.requires e.sound e.limits e.open e.window e.window_size e.tells
 
 pub returns-in-Nothing-clause-so : goal.returns-in-Nothing-clause-so
 returns-in-Nothing-clause-so c =
     let e = c.in-Nothing.ensures in
-    asks_nothing c.args.self.now c.read_head.new.self c.requires e.sound e.limits e.open e.window e.tells
+    asks_nothing c.args.self.now c.read_head.new.self c.requires e.sound e.limits e.open e.window e.window_size e.tells
 
 pub refuse_asked-requires : goal.refuse_asked-requires
 refuse_asked-requires c =
@@ -32,7 +32,7 @@ returns-in-Refuse-clause-so c =
     let code = c.in-Refuse.code in
     IfOk-weaker c.refuse_asked.result _ (λ asked. AsksSo d new asked)
     (λ asked h. subst (λ (x : Asked). AsksSo d new x) (sym h.0)
-    (asks_refused d r new code c.requires e.open e.window e.tells e.uses (refuses_emptied (record d { request = r }) c.clear.new.self new code false c.clear.ensures.bytes h.1)))
+    (asks_refused d r new code c.requires e.open e.window e.window_size e.tells e.uses (refuses_emptied (record d { request = r }) c.clear.new.self new code false c.clear.ensures.bytes h.1)))
     c.refuse_asked.ensures.refuses
 
 pub ask_behind-requires-clause-read : goal.ask_behind-requires-clause-read
@@ -46,4 +46,4 @@ ask_behind-requires-clause-head c = head_behind c.args.self.now c.read_head.new.
 pub returns-in-Head-clause-so : goal.returns-in-Head-clause-so
 returns-in-Head-clause-so c =
     let e = c.in-Head.ensures in
-    IfOk-weaker c.ask_behind.result _ _ (λ asked h. asks_head c.args.self.now c.read_head.new.self c.ask_behind.new.self asked c.requires e.open e.window e.tells e.uses h) c.ask_behind.ensures.asks
+    IfOk-weaker c.ask_behind.result _ _ (λ asked h. asks_head c.args.self.now c.read_head.new.self c.ask_behind.new.self asked c.requires e.open e.window e.window_size e.tells e.uses h) c.ask_behind.ensures.asks

@@ -63,8 +63,8 @@ returns-then-finish_head-clause-asks c =
     (framing_sent d c.config.result.now framing c.config.ensures c.sent_framing-framing.ensures)
     (subst (λ (x : Bool). Finishes d mid framing x) c.if-finish_head.true f)
     (sends_so mid c.begin.new.self c.send.new.self c.asker_of.result framing kept c.requests.ensures f.read c.asker_of.ensures
-    (record { leads = b.leads; seen = b.seen; place = b.place; sound = b.sound; size = b.size })
-    (record { sound = s.sound; leads = s.leads; place = s.place; is_open = s.open; window = s.window; list = s.list; source = s.source; sent = s.sent; dropped = s.dropped; awaits = s.waits; limits = s.limits }))
+    (record { leads = b.leads; seen = b.seen; place = b.place; sound = b.sound; size = b.size; window_size = b.window_size })
+    (record { sound = s.sound; leads = s.leads; place = s.place; is_open = s.open; window = s.window; list = s.list; source = s.source; sent = s.sent; dropped = s.dropped; awaits = s.waits; limits = s.limits; window_size = s.window_size }))
 
 -- ---- it doesn't
 

@@ -1,6 +1,7 @@
 use Rattle.std.proofs.Common.{refl, sym, []}
 use Rattle.px_sample.specs.Variables.{no_variables}
 use Rattle.session_core.specs.History.{no_stream}
+use Rattle.session_core.specs.Sided.{unsaid}
 use Rattle.forward_core.specs.declared.joined.directions.Directions.{Directions}
 use Rattle.forward_core.proofs.JoinedLemmas.Fresh.{no_past, no_asking, no_reply, fresh_new, fresh_at, fresh_is}
 use Rattle.forward_core.proofs.joined.directions.Directions.new.Goals as goal
@@ -16,7 +17,7 @@ returns-clause-stands c =
     let d : Directions = record { request = r; answer = a; rules = c.in-Ok-new.rules; method = c.in_ok-method.method } in (
       no_past cfg,
       fresh_new cfg d r a refl refl es.config (c.total.ensures cfg) es.vars er.place (er.stands cfg no_variables no_asking [] no_reply refl (sym c.as_slice.ensures))
-          (ea.stands cfg no_asking no_stream no_variables [] refl (sym c.as_slice-2.ensures)) ea.nobody,
+          (ea.stands cfg no_asking no_stream no_variables (unsaid []) refl (sym c.as_slice-2.ensures)) ea.nobody,
       fresh_is cfg d r a refl refl er.open er.window ea.window,
     )
 

@@ -15,5 +15,5 @@ returns-clause-asks c =
     let going = c.in_ok-going.going in
     let says : SaysEach d a rules d.method.bytes kept.head_asked keep going = subst (λ (x : List ℕ). SaysEach d a rules x kept.head_asked keep going) c.bytes.ensures.bytes e.says in
     replies_on d a rules c.reply-2.new.self kept keep going (record { trailers = laws.trailers; framing = laws.framing; body = laws.body }) c.requires.read
-    (record { place = e.place; starts = e.starts; heard = e.heard; window = e.window; sound = e.sound; size = e.size; ready = e.ready; config = e.config })
-    c.may_keep-keep.ensures says f.sound f.limits f.place f.open f.window f.input f.leads
+    (record { place = e.place; starts = e.starts; heard = e.heard; window = e.window; sound = e.sound; size = e.size; window_size = e.window_size; ready = e.ready; config = e.config })
+    c.may_keep-keep.ensures says f.sound f.limits f.window_size f.place f.open f.window f.input f.leads

@@ -1,4 +1,5 @@
-use Rattle.forward_core.proofs.JoinedLemmas.Joining.{answer_goes, answer_placed}
+use Rattle.forward_core.proofs.JoinedLemmas.Joining.{answer_placed}
+use Rattle.forward_core.proofs.JoinedLemmas.Windows.{session_answer}
 use Rattle.forward_core.proofs.joined.sides.DirectionsPeers.client_took.Goals as goal
 
 pub returns-clause-placed : goal.returns-clause-placed
@@ -7,7 +8,9 @@ returns-clause-placed c =
     answer_placed c.args.self.now c.client_took.new.self (λ server. server) e.leads e.place e.sound e.size
 
 pub returns-clause-leads : goal.returns-clause-leads
-returns-clause-leads c = answer_goes c.args.self.now c.client_took.new.self (λ server. server) c.client_took.ensures.leads c.client_took.ensures.place
+returns-clause-leads c =
+    let e = c.client_took.ensures in
+    session_answer c.args.self.now c.client_took.new.self (λ server. server) e.leads e.place e.window_size
 
 pub client_took-requires-clause-sound : goal.client_took-requires-clause-sound
 client_took-requires-clause-sound c = c.requires.placed.1.is_at.sound.answer

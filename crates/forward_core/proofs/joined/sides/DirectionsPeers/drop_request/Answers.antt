@@ -1,3 +1,4 @@
+use Rattle.std.proofs.Common.{◌∙◌}
 use Rattle.forward_core.proofs.JoinedLemmas.Joining.{at_request, stands_request}
 use Rattle.forward_core.proofs.JoinedLemmas.Stepping.{was_put}
 use Rattle.forward_core.proofs.joined.sides.DirectionsPeers.drop_request.Goals as goal
@@ -19,9 +20,14 @@ returns-clause-placed c = λ at x.
     }
 
 pub returns-clause-leads : goal.returns-clause-leads
-returns-clause-leads c = λ cfg p put s is.
+returns-clause-leads c = λ settings p put session is.
     let e = c.drop_request.ensures in
-    stands_request cfg c.args.self.now c.drop_request.new.self p p.came put e.place s (e.leads cfg p.vars p.came p.asking p.to_server put p.reply s.request is)
+    let cfg = settings.0 in
+    let s = session.directions in
+    record {
+      directions = stands_request cfg c.args.self.now c.drop_request.new.self p p.came put e.place s (e.leads cfg p.vars p.came p.asking p.to_server put p.reply s.request is);
+      windows = (e.window_size ∙ session.windows.0, session.windows.1);
+    }
 
 pub drop_request-requires-clause-sound : goal.drop_request-requires-clause-sound
 drop_request-requires-clause-sound c = c.requires.placed.1.is_at.sound.request

@@ -1,5 +1,6 @@
 use Rattle.session_core.specs.History.{ends}
-use Rattle.forward_core.proofs.JoinedLemmas.Joining.{answer_goes, answer_placed}
+use Rattle.forward_core.proofs.JoinedLemmas.Joining.{answer_placed}
+use Rattle.forward_core.proofs.JoinedLemmas.Windows.{session_answer}
 use Rattle.forward_core.proofs.joined.sides.DirectionsPeers.end_server.Goals as goal
 
 pub returns-clause-placed : goal.returns-clause-placed
@@ -8,7 +9,9 @@ returns-clause-placed c =
     answer_placed c.args.self.now c.end_server.new.self (λ server. ends server c.args.how) e.leads e.place e.sound e.size
 
 pub returns-clause-leads : goal.returns-clause-leads
-returns-clause-leads c = answer_goes c.args.self.now c.end_server.new.self (λ server. ends server c.args.how) c.end_server.ensures.leads c.end_server.ensures.place
+returns-clause-leads c =
+    let e = c.end_server.ensures in
+    session_answer c.args.self.now c.end_server.new.self (λ server. ends server c.args.how) e.leads e.place e.window_size
 
 pub end_server-requires-clause-sound : goal.end_server-requires-clause-sound
 end_server-requires-clause-sound c = c.requires.placed.1.is_at.sound.answer

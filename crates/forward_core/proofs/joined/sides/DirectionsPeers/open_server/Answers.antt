@@ -1,4 +1,4 @@
-use Rattle.std.proofs.Common.{ap}
+use Rattle.std.proofs.Common.{ap, ◌∙◌}
 use Rattle.session_core.specs.History.{no_stream}
 use Rattle.forward_core.specs.Answer.Stands.{is_serving}
 use Rattle.forward_core.proofs.JoinedLemmas.Serving.{opens, sound_both}
@@ -28,16 +28,21 @@ returns-clause-placed c =
     }
 
 pub returns-clause-leads : goal.returns-clause-leads
-returns-clause-leads c = λ cfg p s.
+returns-clause-leads c = λ settings p session.
     let e = c.open_server.ensures in
     let stand = c.requires.placed.is_at.stand in
-    opens cfg c.args.self.now c.open_server.new.self c.begin_answer.new.self p stand.0 stand.1 e.place c.begin_answer.ensures.config c.begin_answer.ensures.vars s
-    (e.leads cfg p.asking p.server p.to_client p.now p.saying s.answer)
+    let cfg = settings.0 in
+    let s = session.directions in
+    record {
+      directions = opens cfg c.args.self.now c.open_server.new.self c.begin_answer.new.self p stand.0 stand.1 e.place c.begin_answer.ensures.config c.begin_answer.ensures.vars s
+          (e.leads cfg p.asking p.server p.to_client p.now p.saying s.answer);
+      windows = (session.windows.0, e.window_size ∙ session.windows.1);
+    }
 
 pub returns-clause-answers : goal.returns-clause-answers
-returns-clause-answers c = λ cfg p s none.
+returns-clause-answers c = λ settings p s none.
     let e = c.open_server.ensures in
-    c.answers.ensures cfg c.open_server.new.self (record p { server = no_stream }) (e.leads cfg p.asking p.server p.to_client p.now p.saying s.answer) (ap is_serving e.place)
+    c.answers.ensures settings.0 c.open_server.new.self (record p { server = no_stream }) (e.leads settings.0 p.asking p.server p.to_client p.now p.saying s.directions.answer) (ap is_serving e.place)
 
 pub open_server-requires : goal.open_server-requires
 open_server-requires c = record { sound = c.requires.placed.is_at.sound.answer; idle = c.requires.placed.is_at.stand.1 }

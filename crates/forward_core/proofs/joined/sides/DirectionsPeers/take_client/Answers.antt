@@ -1,7 +1,8 @@
 use Rattle.std.proofs.Common.{◌+◌, length}
 use Rattle.forward_core.specs.Request.Seen.{unread_of, place_of, to_read}
 use Rattle.session_core.specs.History.{gains}
-use Rattle.forward_core.proofs.JoinedLemmas.Joining.{request_goes, request_placed}
+use Rattle.forward_core.proofs.JoinedLemmas.Joining.{request_placed}
+use Rattle.forward_core.proofs.JoinedLemmas.Windows.{session_request}
 use Rattle.forward_core.proofs.joined.sides.DirectionsPeers.take_client.Goals as goal
 
 pub returns-clause-placed : goal.returns-clause-placed
@@ -10,7 +11,9 @@ returns-clause-placed c =
     request_placed c.args.self.now c.take_client.new.self (λ came. gains came c.args.bytes.now) (λ put. put) e.leads e.place e.sound e.limits
 
 pub returns-clause-leads : goal.returns-clause-leads
-returns-clause-leads c = request_goes c.args.self.now c.take_client.new.self (λ came. gains came c.args.bytes.now) (λ put. put) c.take_client.ensures.leads c.take_client.ensures.place
+returns-clause-leads c =
+    let e = c.take_client.ensures in
+    session_request c.args.self.now c.take_client.new.self (λ came. gains came c.args.bytes.now) (λ put. put) e.leads e.place e.window_size
 
 pub take_client-requires-clause-sound : goal.take_client-requires-clause-sound
 take_client-requires-clause-sound c = c.requires.placed.1.is_at.sound.request

@@ -1,5 +1,6 @@
 use Rattle.session_core.specs.History.{gains}
-use Rattle.forward_core.proofs.JoinedLemmas.Joining.{answer_goes, answer_placed}
+use Rattle.forward_core.proofs.JoinedLemmas.Joining.{answer_placed}
+use Rattle.forward_core.proofs.JoinedLemmas.Windows.{session_answer}
 use Rattle.forward_core.proofs.joined.sides.DirectionsPeers.take_server.Goals as goal
 
 pub returns-clause-placed : goal.returns-clause-placed
@@ -8,7 +9,9 @@ returns-clause-placed c =
     answer_placed c.args.self.now c.take_server.new.self (λ server. gains server c.args.bytes.now) e.leads e.place e.sound e.size
 
 pub returns-clause-leads : goal.returns-clause-leads
-returns-clause-leads c = answer_goes c.args.self.now c.take_server.new.self (λ server. gains server c.args.bytes.now) c.take_server.ensures.leads c.take_server.ensures.place
+returns-clause-leads c =
+    let e = c.take_server.ensures in
+    session_answer c.args.self.now c.take_server.new.self (λ server. gains server c.args.bytes.now) e.leads e.place e.window_size
 
 pub take_server-requires-clause-sound : goal.take_server-requires-clause-sound
 take_server-requires-clause-sound c = c.requires.placed.1.is_at.sound.answer

@@ -2,4 +2,4 @@ use Rattle.std.proofs.Common.{◌∙◌}
 use Rattle.forward_core.proofs.joined.sides.DirectionsSides.keeps.Goals as goal
 
 pub returns : goal.returns
-returns c = λ cfg p s. c.keeps.ensures ∙ s.answer.asks.keep
+returns c = λ settings p s. c.keeps.ensures ∙ s.directions.answer.asks.keep

@@ -1,8 +1,12 @@
 use Rattle.std.proofs.lemmas.Result.{IfOk-weaker}
+use Rattle.forward_core.specs.Joined.Joined.{request_of}
+use Rattle.forward_core.proofs.JoinedLemmas.Windows.{session_asks}
 use Rattle.forward_core.proofs.joined.sides.DirectionsWorks.ask.Goals as goal
 
 pub returns-clause-leads : goal.returns-clause-leads
-returns-clause-leads c = IfOk-weaker c.ask_next.result _ _ (λ asked so. so.leads) c.ask_next.ensures.so
+returns-clause-leads c =
+    let new = c.ask_next.new.self in
+    IfOk-weaker c.ask_next.result _ _ (λ asked so settings p s. session_asks settings new (request_of new) p asked (so.windows settings.1 s.windows) (so.leads settings.0 p s.directions)) c.ask_next.ensures.so
 
 pub returns-clause-placed : goal.returns-clause-placed
 returns-clause-placed c = IfOk-weaker c.ask_next.result _ _ (λ asked so. so.placed) c.ask_next.ensures.so

@@ -1,3 +1,4 @@
+use Rattle.std.proofs.Common.{◌∙◌}
 use Rattle.session_core.specs.Leads.{renewed_at}
 use Rattle.forward_core.specs.Request.Seen.{place_of}
 use Rattle.forward_core.specs.Request.Stands.{left_of}
@@ -26,7 +27,9 @@ returns-clause-placed c =
     }
 
 pub returns-clause-leads : goal.returns-clause-leads
-returns-clause-leads c = λ cfg p s.
+returns-clause-leads c = λ settings p session.
+    let cfg = settings.0 in
+    let s = session.directions in
     let d = c.args.self.now in
     let x = c.requires.placed in
     let w = c.came_replied.ensures cfg d.request p.vars p.came p.asking p.to_server p.reply x.is_at.stand.0 s.request in
@@ -34,8 +37,11 @@ returns-clause-leads c = λ cfg p s.
       used = w.used;
       left = left_of d.request;
       replied = record { came = w.came_is; goes = w.asks };
-      stands = renews_now cfg d c.next.new.self c.next-2.new.self c.begin_exchange.new.self p c.next.ensures.leads c.next.ensures.place c.begin_exchange.ensures.config c.begin_exchange.ensures.vars
-          (held_replied cfg d p x.is_at.stand.0 s) s (c.next-2.ensures.leads cfg p.asking p.server p.to_client p.now p.saying s.answer);
+      stands = record {
+        directions = renews_now cfg d c.next.new.self c.next-2.new.self c.begin_exchange.new.self p c.next.ensures.leads c.next.ensures.place c.begin_exchange.ensures.config c.begin_exchange.ensures.vars
+            (held_replied cfg d p x.is_at.stand.0 s) s (c.next-2.ensures.leads cfg p.asking p.server p.to_client p.now p.saying s.answer);
+        windows = (c.next.ensures.window_size ∙ session.windows.0, c.next-2.ensures.window_size ∙ session.windows.1);
+      };
     }
 
 pub next-requires-clause-sound : goal.next-requires-clause-sound

@@ -1,6 +1,6 @@
 use Rattle.std.proofs.lemmas.Bool.{false≢true}
 use Rattle.forward_core.proofs.JoinedLemmas.Serving.{needs_of}
-use Rattle.std.proofs.Common.{sym, ◌++◌}
+use Rattle.std.proofs.Common.{sym, ◌++◌, ◌∙◌}
 use Rattle.forward_core.proofs.JoinedLemmas.Serving.{steps_on, sound_both, runs_for, vars_for}
 use Rattle.forward_core.proofs.joined.sides.DirectionsWorks.step_answer.Goals as goal
 
@@ -24,7 +24,9 @@ returns-clause-placed c =
     }
 
 pub returns-clause-leads : goal.returns-clause-leads
-returns-clause-leads c = λ cfg p s was.
+returns-clause-leads c = λ settings p session was.
+    let cfg = settings.0 in
+    let s = session.directions in
     let d = c.args.self.now in
     let a = c.step_answer.new.self in
     let rules = c.step_answer.new.rules in
@@ -36,7 +38,10 @@ returns-clause-leads c = λ cfg p s was.
     record {
       put = m.put;
       behind = m.behind;
-      stands = steps_on cfg d a rules p m sends e.serving c.step_answer.ensures.config s;
+      stands = record {
+        directions = steps_on cfg d a rules p m sends e.serving c.step_answer.ensures.config s;
+        windows = (session.windows.0, e.window_size ∙ session.windows.1);
+      };
       answers = c.answers.ensures cfg a q m.stands e.serving;
       before = λ old unbegun. c.comes_before.ensures cfg a q m.stands e.serving unbegun;
       window = m.window;
@@ -67,4 +72,4 @@ pub step_answer-requires-clause-size : goal.step_answer-requires-clause-size
 step_answer-requires-clause-size c = sym c.requires.placed.is_at.sound.answer_size
 
 pub returns-in_err-step_answer-clause-succeeds : goal.returns-in_err-step_answer-clause-succeeds
-returns-in_err-step_answer-clause-succeeds c = λ cfg p s none. absurd (false≢true (c.in_err-step_answer.ensures.succeeds (needs_of cfg c.args.self.now p s none)))
+returns-in_err-step_answer-clause-succeeds c = λ settings p s none. absurd (false≢true (c.in_err-step_answer.ensures.succeeds (needs_of settings.0 c.args.self.now p s.directions none)))

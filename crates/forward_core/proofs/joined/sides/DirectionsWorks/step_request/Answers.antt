@@ -1,4 +1,4 @@
-use Rattle.std.proofs.Common.{◌++◌}
+use Rattle.std.proofs.Common.{◌++◌, ◌∙◌}
 use Rattle.forward_core.specs.Request.Seen.{place_of}
 use Rattle.forward_core.proofs.JoinedLemmas.Joining.{at_request, stands_request}
 use Rattle.forward_core.proofs.JoinedLemmas.Stepping.{requests_on, sends_or_not}
@@ -22,14 +22,19 @@ returns-clause-placed c = λ at x.
     }
 
 pub returns-clause-leads : goal.returns-clause-leads
-returns-clause-leads c = λ cfg p s was.
+returns-clause-leads c = λ settings p session was.
+    let cfg = settings.0 in
+    let s = session.directions in
     let d = c.args.self.now in
     let r = c.step_request.new.self in
     let e = c.step_request.ensures in
     let stands = e.puts.stands cfg p.vars p.came p.asking p.to_server p.reply s.request in
     record {
       put = e.puts.put;
-      stands = stands_request cfg d r p p.came (p.to_server ++ e.puts.put) e.place s stands;
+      stands = record {
+        directions = stands_request cfg d r p p.came (p.to_server ++ e.puts.put) e.place s stands;
+        windows = (e.window_size ∙ session.windows.0, session.windows.1);
+      };
       requests = requests_on cfg d.request r p e.puts.put (sound_there d c.requires.placed) e.sound e.place e.keeps.dropped e.puts.window
           (λ sends. c.requests.ensures cfg r p.vars p.came p.asking (p.to_server ++ e.puts.put) p.reply sends stands) was (sends_or_not (place_of r));
       window = e.puts.window;

@@ -1,5 +1,7 @@
 use Rattle.forward_core.proofs.JoinedLemmas.SayLemmas.{said_fits, said_size}
+use Rattle.session_core.specs.Sided.{Saying, asker_in}
 use Rattle.forward_core.specs.Answer.Seen.{size_of}
+use Rattle.forward_core.specs.Answer.Stands.{list_text}
 use Rattle.std.proofs.Common.{◌≡◌, true, false, sym, ◌∙◌}
 use Rattle.http_model.specs.Refusal.{refusal, closing}
 use Rattle.forward_core.specs.Request.Seen as requests
@@ -16,17 +18,20 @@ returns-clause-placed c =
     let p = x.past.1 in
     let m = closing (refusal c.args.code) in
     let t = e.leads x.past.0 p.asking p.server p.to_client p.now p.saying m.head m.body x.past.2.answer (c.say_closing.ensures.said ∙ c.lists.ensures.blocks m (c.lists.ensures.closing c.args.code)) in
+    let said : Saying = record { text = list_text (asker_in p.asking).head_asked m.head m.body; left = t.left } in
     let ready = c.say_closing.ensures.ready in
     record {
       is_at = record {
         sound = sound_both d a rules e.sound e.size (record { valid = ready.valid; scratch = ready.scratch; said = e.list_size ∙ ready.said }) c.say_closing.ensures.config x.is_at.sound;
         stand = (begun_sending (requests.place_of d.request) x.is_at.stand.0, e.place);
       };
-      past = (x.past.0, record p { saying = t.saying }, turns x.past.0 d a rules p t.saying x.is_at.stand.0 e.place c.say_closing.ensures.config x.past.2 t.stands);
+      past = (x.past.0, record p { saying = said }, turns x.past.0 d a rules p said x.is_at.stand.0 e.place c.say_closing.ensures.config x.past.2 t.stands);
     }
 
 pub returns-clause-leads : goal.returns-clause-leads
-returns-clause-leads c = λ cfg p s before.
+returns-clause-leads c = λ settings p session before.
+    let cfg = settings.0 in
+    let s = session.directions in
     let d = c.args.self.now in
     let a = c.turn_to.new.self in
     let rules = record c.say_closing.new.self { said = c.turn_to.new.list } in
@@ -34,13 +39,16 @@ returns-clause-leads c = λ cfg p s before.
     let x = c.requires.placed in
     let m = closing (refusal c.args.code) in
     let t = e.leads cfg p.asking p.server p.to_client p.now p.saying m.head m.body s.answer (c.say_closing.ensures.said ∙ c.lists.ensures.blocks m (c.lists.ensures.closing c.args.code)) in
+    let said : Saying = record { text = list_text (asker_in p.asking).head_asked m.head m.body; left = t.left } in
     record {
-      saying = t.saying;
-      stands = turns cfg d a rules p t.saying x.is_at.stand.0 e.place c.say_closing.ensures.config s t.stands;
+      saying = said;
+      stands = record {
+        directions = turns cfg d a rules p said x.is_at.stand.0 e.place c.say_closing.ensures.config s t.stands;
+        windows = (session.windows.0, e.window_size ∙ session.windows.1);
+      };
       turned = record {
         heads = t.heads;
         begins = t.begins;
-        refused = _;
         spelled = c.lists.ensures.spelled m _ (c.lists.ensures.closing c.args.code);
         said = t.said;
         sent = λ done. absurd (let off : true ≡ false = sym done ∙ t.starts in cc off);

@@ -59,4 +59,5 @@ returns c =
       keeps = step_keeps c.args.self.now.place c.args.self.now.awaits c.args.self.now.at_rest old new sending t c.requires.sound.at;
       place = refl;
       limits = e.limits;
+      window_size = e.window;
     }
