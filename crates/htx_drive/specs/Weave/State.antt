@@ -101,8 +101,3 @@ IsAt M stands sees sound turns ahead seen wrote first client server to first_net
 IsAt M stands sees sound turns ahead seen wrote first client server to first_net net None (Some core) count = Holds stands sees sound turns ahead seen wrote first client server to first_net net core count
 IsAt M stands sees sound turns ahead seen wrote first client server to first_net net (Some ran) None count = Done M stands sees turns seen wrote first client server to first_net net ran count
 IsAt M stands sees sound turns ahead seen wrote first client server to first_net net (Some ran) (Some core) count = ⊥
-
--- the turns that are ahead behind a move: where something was left of the budget, all but the one that it was for
-abbrev pub ahead_more : (more : Bool) → List Turn → List Turn
-ahead_more true ahead = order.rest_of ahead
-ahead_more false ahead = ahead
