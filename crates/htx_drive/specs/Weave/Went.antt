@@ -1,5 +1,5 @@
 -- What a move of a connection that has a core comes to.
-use Rattle.std.specs.Prelude.{◌≡◌, ℕ, ◌<◌, ◌≤◌, List, Bool, true, Option, Some, None, Result, Ok, Err, is_some, ⊤}
+use Rattle.std.specs.Prelude.{◌≡◌, ℕ, ◌<◌, List, Bool, true, Option, Some, None, Result, Ok, Err, is_some, ⊤}
 use Rattle.session_model.specs.Meaning.{Meaning}
 use Rattle.session_core.specs.History.{Past}
 use Rattle.px_link.specs.declared.turns.Turn.{Turn}
@@ -36,11 +36,11 @@ SpentSo went.On left = ⊤
 SpentSo went.Ended left = ⊤
 SpentSo went.Spent left = left ≡ 0
 
--- where it goes on, and no turn was handed in, it took something of what was left; nothing is given back
+-- where it goes on, and no turn was handed in, it took something of what was left
 abbrev pub LowersSo : Option Turn → Went → (before left : ℕ) → Type 0
-LowersSo turn went.On before left = (left ≤ before) × (turn ≡ None → left < before)
-LowersSo turn went.Ended before left = left ≤ before
-LowersSo turn went.Spent before left = left ≤ before
+LowersSo turn went.On before left = turn ≡ None → left < before
+LowersSo turn went.Ended before left = ⊤
+LowersSo turn went.Spent before left = ⊤
 
 -- where it has ended
 abbrev pub OnEnded : Went → Type 0 → Type 0

@@ -1,5 +1,5 @@
 //! A connection that has a core moves, and where its session is over it ends.
-ghost use Rattle.std.specs.Prelude.{◌≡◌, ◌<◌, ℕ, List, None, true, false, is_some, OnOk, OnErr, IfOk};
+ghost use Rattle.std.specs.Prelude.{◌≡◌, ◌<◌, ◌≤◌, ℕ, List, None, true, false, is_some, OnOk, OnErr, IfOk};
 ghost use Rattle.session_core.specs.History.{Past};
 ghost use Rattle.px_link.specs.Net.{address_of};
 ghost use Rattle.px_link.specs.declared.turns.Turn.{Turn};
@@ -46,6 +46,7 @@ pub(crate) fn goes<C: Machine, L: Link, N: Net<Link = L>>(
     ensures on { IfOk result (λ went. HoldsOn went (C.seen core.new).serving conn.new.server (N.seen conn.new.net).lent conn.new.ran) }
     ensures spent { IfOk result (λ went. SpentSo went resources.new.left) }
     ensures lowers { IfOk result (λ went. LowersSo turn went resources.old.left resources.new.left) }
+    ensures no_more { resources.new.left ≤ resources.old.left }
     ensures lost { OnErr result ((conn.new.server ≡ None) × (conn.new.ran ≡ None)) }
 {
     match moves(conn, core, to, turn, resources) {

@@ -1,5 +1,5 @@
 //! One move of one connection: steps, until it took its turn or its session is over.
-ghost use Rattle.std.specs.Prelude.{◌≡◌, ◌<◌, ◌+◌, ℕ, List, None, true, is_some, IfOk, OnOk, OnErr, IsErrOf};
+ghost use Rattle.std.specs.Prelude.{◌≡◌, ◌<◌, ◌≤◌, ◌+◌, ℕ, List, None, true, is_some, IfOk, OnOk, OnErr, IsErrOf};
 ghost use Rattle.px_link.specs.Net.{address_of};
 ghost use Rattle.px_link.specs.declared.turns.Turn.{Turn};
 ghost use Rattle.px_link.specs.Turns.{first_of};
@@ -51,6 +51,7 @@ pub(crate) fn moves<C: Machine, L: Link, N: Net<Link = L>>(
     ensures over { IfOk result (λ did. OverIs did (C.seen core.new).wants) }
     ensures spent { IfOk result (λ did. SpentIs did resources.new.left) }
     ensures lowers { IfOk result (λ did. Lowers turn did resources.old.left resources.new.left) }
+    ensures no_more { resources.new.left ≤ resources.old.left }
     ensures serving { OnOk result ((C.seen core.new).serving ≡ is_some conn.new.server) }
     ensures lent { OnOk result (is_some conn.new.server ≡ true → 0 < (N.seen conn.new.net).lent) }
     ensures unspent { IsErrOf result SessionFault.Spent → ⊥ }

@@ -74,9 +74,10 @@ fn set_goes<C: Resets, L: Link, N: Net<Link = L>>(
         → GoesAs result (IfSome (core_of number pool.new) (λ core. Pays total resources.new.left (Going (C.stands cfg) C.seen all (rest_of ahead) core L.seen L.wrote first conn.new.client conn.new.server (address_of to.now) (N.seen first_net) (N.seen conn.new.net))))
         (Pays total resources.new.left (OverSo (C.meaning cfg) (C.stands cfg) C.seen all L.seen L.wrote first conn.new.client (address_of to.now) (N.seen first_net) (N.seen conn.new.net) conn.new.ran))
         (IfSome (core_of number pool.new) (λ core. Pays total resources.new.left (Going (C.stands cfg) C.seen all ahead core L.seen L.wrote first conn.new.client conn.new.server (address_of to.now) (N.seen first_net) (N.seen conn.new.net))))
-        (IfSome (core_of number pool.new) (λ core. Pays total resources.new.left (λ count. (left : List Turn) × Stopped (LeftSo (C.meaning cfg) (C.stands cfg) C.seen all left count core false) L.seen L.wrote first conn.new.client false (address_of to.now) (N.seen first_net) (N.seen conn.new.net) count))) }
+        ((core : C) × Pays total resources.new.left (λ count. (left : List Turn) × Stopped (LeftSo (C.meaning cfg) (C.stands cfg) C.seen all left count core false) L.seen L.wrote first conn.new.client false (address_of to.now) (N.seen first_net) (N.seen conn.new.net) count)) }
     ensures spent { IfOk result (λ went. SpentSo went resources.new.left) }
     ensures lowers { IfOk result (λ went. LowersSo turn went resources.old.left resources.new.left) }
+    ensures no_more { resources.new.left ≤ resources.old.left }
     ensures beside { SameBeside number pool.old.owners pool.new.owners }
     ensures gone { IfOk result (λ went. OnEnded went (has_one number pool.new.owners ≡ false)) }
     ensures keeps { IfOk result (λ went. SetSo went C.seen C.sound (core_of number pool.new) conn.new.server (N.seen conn.new.net).lent conn.new.ran) }
