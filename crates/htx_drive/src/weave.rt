@@ -8,6 +8,7 @@ pub mod laws;
 mod leaving;
 mod mover;
 mod moves;
+mod record;
 mod resets;
 mod rounds;
 mod sessions;
@@ -17,6 +18,7 @@ mod weft;
 
 pub use conn::Conn;
 pub use fault::WeaveFault;
+pub use record::{weave_record, weave_text};
 pub use resets::Resets;
 pub use sessions::weave;
 pub use weft::Weft;
