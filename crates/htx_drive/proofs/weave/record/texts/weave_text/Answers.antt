@@ -1,4 +1,3 @@
-use Rattle.std.proofs.Common.{inr, refl}
 use Rattle.rec_format.specs.Read.{meaning_of}
 use Rattle.htx_drive.proofs.RecordLemmas.Woven.{weave_of}
 use Rattle.htx_drive.proofs.weave.record.texts.weave_text.Goals as goal
