@@ -1,5 +1,5 @@
 //! Connections and the cores of a pool.
-ghost use Rattle.std.specs.Prelude.{◌≡◌, ◌≢◌, ◌<◌, ◌≤◌, ◌⊎◌, ℕ, List, Some, None, true, false, is_some, OnOk, OnErr, IfOk, IfSome, IsErrOf};
+ghost use Rattle.std.specs.Prelude.{◌≡◌, ◌≢◌, ◌<◌, ◌≤◌, ◌⊎◌, ℕ, List, Some, None, true, false, is_some, OnOk, OnErr, IfOk, IfSome, IsErrOf, Bool};
 ghost use Rattle.std.specs.List.{AllByRecursion};
 ghost use Rattle.session_core.specs.History.{Past, nothing_yet};
 ghost use Rattle.px_link.specs.Net.{address_of};
@@ -10,7 +10,7 @@ ghost use Rattle.px_pool.specs.Seats.{core_of, free_of};
 ghost use Rattle.htx_drive.specs.Underway.{Stopped, LeftSo};
 ghost use Rattle.htx_drive.specs.Weave.Woven.{Pays, Going};
 ghost use Rattle.htx_drive.specs.Weave.Went.{GoesAs, OverSo, HoldsOn, SpentSo, LowersSo, OnEnded};
-ghost use Rattle.htx_drive.specs.Weave.State.{IsReady, IsFresh, Seated, SetSo, MayMove, IsAt};
+ghost use Rattle.htx_drive.specs.Weave.State.{IsReady, IsFresh, Seated, SetSo, MayMove, HasRoom, IsAt};
 ghost use Rattle.htx_drive.specs.Weave.Rounds.{MovedOn, Rested};
 ghost use Rattle.htx_drive.specs.Weave.Halted.{Halted, IsLent};
 
@@ -111,14 +111,14 @@ pub(crate) fn move_of<C: Resets, L: Link, N: Net<Link = L>>(
     ensures others { (other : ℕ) → other ≢ number → core_of other pool.new ≡ core_of other pool.old }
     ensures may { OnOk result (MayMove C.seen C.sound conn.new.server (N.seen conn.new.net).lent conn.new.ran (core_of number pool.new)) }
     ensures ready { OnOk result (AllByRecursion (IsReady C.seen C.sound) (free_of pool.new)) }
-    ensures at { (cfg : C.Settings) (turns ahead : List Turn) (total : ℕ) (first : L) (first_net : N) → turn ≡ first_of ahead → AllByRecursion (IsFresh (C.stands cfg)) (free_of pool.old)
-        → Pays total resources.old.left (IsAt (C.meaning cfg) (C.stands cfg) C.seen C.sound turns ahead L.seen L.wrote first conn.old.client conn.old.server (address_of to.now) (N.seen first_net) (N.seen conn.old.net) conn.old.ran (core_of number pool.old))
-        → OnOk result (Pays total resources.new.left (IsAt (C.meaning cfg) (C.stands cfg) C.seen C.sound turns (rest_of ahead) L.seen L.wrote first conn.new.client conn.new.server (address_of to.now) (N.seen first_net) (N.seen conn.new.net) conn.new.ran (core_of number pool.new))) }
-    ensures fresh { (cfg : C.Settings) (turns ahead : List Turn) (total : ℕ) (first : L) (first_net : N) → turn ≡ first_of ahead → AllByRecursion (IsFresh (C.stands cfg)) (free_of pool.old)
-        → Pays total resources.old.left (IsAt (C.meaning cfg) (C.stands cfg) C.seen C.sound turns ahead L.seen L.wrote first conn.old.client conn.old.server (address_of to.now) (N.seen first_net) (N.seen conn.old.net) conn.old.ran (core_of number pool.old))
+    ensures at { (cfg : C.Settings) (prompt : Bool) (turns ahead : List Turn) (total : ℕ) (first : L) (first_net : N) → turn ≡ first_of ahead → HasRoom prompt number pool.old.owners → AllByRecursion (IsFresh (C.stands cfg)) (free_of pool.old)
+        → Pays total resources.old.left (IsAt (C.meaning cfg) (C.stands cfg) C.seen C.sound prompt turns ahead L.seen L.wrote first conn.old.client conn.old.server (address_of to.now) (N.seen first_net) (N.seen conn.old.net) conn.old.ran (core_of number pool.old))
+        → OnOk result (Pays total resources.new.left (IsAt (C.meaning cfg) (C.stands cfg) C.seen C.sound prompt turns (rest_of ahead) L.seen L.wrote first conn.new.client conn.new.server (address_of to.now) (N.seen first_net) (N.seen conn.new.net) conn.new.ran (core_of number pool.new))) }
+    ensures fresh { (cfg : C.Settings) (prompt : Bool) (turns ahead : List Turn) (total : ℕ) (first : L) (first_net : N) → turn ≡ first_of ahead → AllByRecursion (IsFresh (C.stands cfg)) (free_of pool.old)
+        → Pays total resources.old.left (IsAt (C.meaning cfg) (C.stands cfg) C.seen C.sound prompt turns ahead L.seen L.wrote first conn.old.client conn.old.server (address_of to.now) (N.seen first_net) (N.seen conn.old.net) conn.old.ran (core_of number pool.old))
         → OnOk result (AllByRecursion (IsFresh (C.stands cfg)) (free_of pool.new)) }
-    ensures halted { (cfg : C.Settings) (turns ahead : List Turn) (total : ℕ) (first : L) (first_net : N) → turn ≡ first_of ahead → AllByRecursion (IsFresh (C.stands cfg)) (free_of pool.old)
-        → Pays total resources.old.left (IsAt (C.meaning cfg) (C.stands cfg) C.seen C.sound turns ahead L.seen L.wrote first conn.old.client conn.old.server (address_of to.now) (N.seen first_net) (N.seen conn.old.net) conn.old.ran (core_of number pool.old))
+    ensures halted { (cfg : C.Settings) (prompt : Bool) (turns ahead : List Turn) (total : ℕ) (first : L) (first_net : N) → turn ≡ first_of ahead → AllByRecursion (IsFresh (C.stands cfg)) (free_of pool.old)
+        → Pays total resources.old.left (IsAt (C.meaning cfg) (C.stands cfg) C.seen C.sound prompt turns ahead L.seen L.wrote first conn.old.client conn.old.server (address_of to.now) (N.seen first_net) (N.seen conn.old.net) conn.old.ran (core_of number pool.old))
         → OnErr result (Pays total resources.new.left (Halted (C.meaning cfg) (C.stands cfg) C.seen turns L.seen L.wrote first conn.new.client conn.new.server (address_of to.now) (N.seen first_net) (N.seen conn.new.net) conn.new.ran)) }
     ensures spent { IsErrOf result WeaveFault.Spent → resources.new.left ≡ 0 }
     ensures lent { OnErr result (IsLent conn.new.server (N.seen conn.new.net).lent) }

@@ -39,4 +39,5 @@ returns-clause-none g c =
 pub returns-clause-beside : goal.returns-clause-beside
 returns-clause-beside g c =
     let at : c.seat-place.result ≡ place_of c.args.conn c.self.inside.owners.items = search rules in
-    subst (λ (p : Seats _). SameBeside c.args.conn p.owners (set c.self.inside.owners.items c.seat-place.result None)) c.self.view_is (given_beside c.args.conn c.seat-place.result c.self.inside.owners.items at)
+    let has : has_one c.args.conn c.self.inside.owners.items ≡ true = ap (λ (p : Seats _). has_one c.args.conn p.owners) c.self.view_is ∙ c.requires.has in
+    subst (λ (p : Seats _). SameBeside c.args.conn p.owners (set c.self.inside.owners.items c.seat-place.result None)) c.self.view_is (given_beside c.args.conn c.seat-place.result c.self.inside.owners.items at c.self.invariant.apart has)

@@ -49,9 +49,11 @@ returns-clause-out g c = λ set.
     taken_count_at c.args.conn c.in-Some.place c.self.inside.owners.items at some ∙ ap (λ (p : Seats _). 1 + count_out p.owners) c.self.view_is
 
 pub returns-in_default-clause-beside : goal.returns-in_default-clause-beside
-returns-in_default-clause-beside g c = record { sets = refl; others = λ other h. refl }
+returns-in_default-clause-beside g c = record { sets = refl; others = λ other h. refl; counts = refl }
 
 pub returns-clause-beside : goal.returns-clause-beside
 returns-clause-beside g c =
     let at : c.in-Some.place ≡ first_free c.self.inside.owners.items = search rules in
-    subst (λ (p : Seats _). SameBeside c.args.conn p.owners (set c.self.inside.owners.items c.in-Some.place (Some c.args.conn))) c.self.view_is (taken_beside c.args.conn c.in-Some.place c.self.inside.owners.items at)
+    let some : all_out c.self.inside.owners.items ≡ false = search rules in
+    let without : has_one c.args.conn c.self.inside.owners.items ≡ false = ap (λ (p : Seats _). has_one c.args.conn p.owners) c.self.view_is ∙ c.requires.without in
+    subst (λ (p : Seats _). SameBeside c.args.conn p.owners (set c.self.inside.owners.items c.in-Some.place (Some c.args.conn))) c.self.view_is (taken_beside c.args.conn c.in-Some.place c.self.inside.owners.items at some without)
