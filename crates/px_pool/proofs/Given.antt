@@ -1,5 +1,5 @@
 -- A connection's core is lent, or given back.
-use Rattle.std.proofs.Common.{◌≡◌, ◌≢◌, ℕ, zero, suc, ◌+◌, Bool, true, false, ◌||◌, nat_eq, if◌then◌else◌, List, [], ◌∷◌, length, Option, Some, None, ap, sym, subst, ◌∙◌, refl, arith}
+use Rattle.std.proofs.Common.{◌≡◌, ◌≢◌, ℕ, zero, suc, ◌+◌, Bool, true, false, ◌||◌, nat_eq, if◌then◌else◌, List, [], ◌∷◌, length, length-append, Option, Some, None, ap, sym, subst, ◌∙◌, refl, arith}
 use Rattle.std.specs.Prelude.{set, get_or}
 use Rattle.std.proofs.lemmas.Bool.{false≢true, eqb-true, ne_eqb}
 use Rattle.px_pool.specs.Owners.{is_of, has_one, place_of, count_out, one_if, SameBeside}
@@ -162,6 +162,15 @@ given_beside conn k os e apart has =
       others = λ other h. ap (λ (at : ℕ). has_one other (set os at None)) e ∙ ones conn other os h;
       counts = omega (arith, had, none, count);
     }
+
+pub given_sets : {C : Type 0} (conn k : ℕ) (os : List (Option ℕ)) (cs : List C) → k ≡ place_of conn os → length os ≡ length cs → has_one conn os ≡ true
+    → length (free_in (set os k None) cs) + count_out (set os k None) ≡ length (free_in os cs) + count_out os
+given_sets conn k os cs e l has =
+    let i = given_free conn k os cs e l has in
+    let old : length (free_in os cs) ≡ length i.before + length i.behind = ap (λ l. length l) i.was ∙ length-append i.before i.behind in
+    let new : length (free_in (set os k None) cs) ≡ length i.before + length (i.one ∷ i.behind) = ap (λ l. length l) i.has ∙ length-append i.before (i.one ∷ i.behind) in
+    let count = given_count conn k os e has in
+    omega (arith, old, new, count)
 
 -- ---- the pool
 

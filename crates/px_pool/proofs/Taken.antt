@@ -111,6 +111,20 @@ taken_beside conn k os e some without =
       counts = omega (arith, had, has, count);
     }
 
+free_one_less : {C : Type 0} (conn : ℕ) (os : List (Option ℕ)) (cs : List C) → length os ≡ length cs → all_out os ≡ false → length (free_in (set os (first_free os) (Some conn)) cs) + 1 ≡ length (free_in os cs)
+free_one_less conn [] cs e h = absurd (true≢false h)
+free_one_less conn (owner ∷ os) [] e h = absurd (omega (arith, e))
+free_one_less conn (None ∷ os) (c ∷ cs) e h = omega arith
+free_one_less conn (Some owner ∷ os) (c ∷ cs) e h = free_one_less conn os cs (omega (arith, e)) h
+
+pub taken_sets : {C : Type 0} (conn k : ℕ) (os : List (Option ℕ)) (cs : List C) → k ≡ first_free os → length os ≡ length cs → all_out os ≡ false
+    → length (free_in (set os k (Some conn)) cs) + count_out (set os k (Some conn)) ≡ length (free_in os cs) + count_out os
+taken_sets conn k os cs e l h =
+    let at : length (free_in (set os k (Some conn)) cs) ≡ length (free_in (set os (first_free os) (Some conn)) cs) = ap (λ (n : ℕ). length (free_in (set os n (Some conn)) cs)) e in
+    let less = free_one_less conn os cs l h in
+    let count = taken_count_at conn k os e h in
+    omega (arith, at, less, count)
+
 -- ---- where all are out
 
 pub none_free : {C : Type 0} (os : List (Option ℕ)) (cs : List C) → all_out os ≡ true → free_in os cs ≡ []

@@ -2,6 +2,7 @@
 ghost use Rattle.std.specs.Prelude.{◌≡◌, ◌+◌, ◌<◌, ◌^◌, ℕ, List, [], true, false, length, OnOk, OnErr, IsErrOf, Bool};
 ghost use Rattle.px_link.specs.Net.{address_of};
 ghost use Rattle.px_link.specs.declared.turns.Turn.{Turn};
+ghost use Rattle.px_pool.specs.Seats.{count_sets};
 ghost use Rattle.htx_drive.specs.Weave.Rounds.{unended};
 ghost use Rattle.htx_drive.specs.Weave.All.{MayGoOn, AllAt};
 ghost use Rattle.htx_drive.specs.Weave.Halted.{AllHalted, AllLent};
@@ -40,6 +41,7 @@ fn round<C: Resets, L: Link, N: Net<Link = L>>(
     requires may { MayGoOn C.seen C.sound N.seen pool.old conns.old }
     ensures may { OnOk result (MayGoOn C.seen C.sound N.seen pool.new conns.new) }
     ensures length { length conns.new ≡ length conns.old }
+    ensures sets { count_sets pool.new ≡ count_sets pool.old }
     ensures at { (cfg : C.Settings) (prompt : Bool) (turns : List (ℕ × Turn)) (firsts : List (Conn L N)) (budget : ℕ)
         → AllAt (C.meaning cfg) (C.stands cfg) C.seen C.sound L.seen L.wrote N.seen (address_of to.now) prompt turns [] firsts conns.old pool.old budget resources.old.left
         → OnOk result (AllAt (C.meaning cfg) (C.stands cfg) C.seen C.sound L.seen L.wrote N.seen (address_of to.now) prompt turns [] firsts conns.new pool.new budget resources.new.left) }
@@ -71,6 +73,7 @@ pub(crate) fn by_rounds<C: Resets, L: Link, N: Net<Link = L>>(
     requires may { MayGoOn C.seen C.sound N.seen pool.old conns.old }
     ensures may { OnOk result (MayGoOn C.seen C.sound N.seen pool.new conns.new) }
     ensures length { length conns.new ≡ length conns.old }
+    ensures sets { count_sets pool.new ≡ count_sets pool.old }
     ensures ended { OnOk result (unended conns.new ≡ 0) }
     ensures at { (cfg : C.Settings) (prompt : Bool) (turns : List (ℕ × Turn)) (firsts : List (Conn L N)) (budget : ℕ)
         → AllAt (C.meaning cfg) (C.stands cfg) C.seen C.sound L.seen L.wrote N.seen (address_of to.now) prompt turns [] firsts conns.old pool.old budget resources.old.left

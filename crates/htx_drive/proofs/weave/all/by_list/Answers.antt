@@ -19,6 +19,7 @@ turns-preserved g c =
       within = rest_within _ _ left _ c.in-Ok.ensures.length c.next.ensures.rest c.turns.invariant.within;
       may = c.in-Ok.ensures.may;
       len = c.in-Ok.ensures.length ∙ c.turns.invariant.len;
+      sets = c.in-Ok.ensures.sets ∙ c.turns.invariant.sets;
       at = λ cfg prompt turns firsts budget all.
           subst (λ (l : List (ℕ × Turn)). AllAt (g.C.Machine.meaning cfg) (g.C.Machine.stands cfg) g.C.Machine.seen g.C.Machine.sound g.L.Link.seen g.L.Link.wrote g.N.Net.seen (address_of c.args.to.now) prompt turns l firsts c.move_at.new.conns c.move_at.new.pool budget c.move_at.new.resources.left) (sym c.next.ensures.rest)
           (c.in-Ok.ensures.at cfg prompt turns left firsts budget (rest_of left, head_is left _ some) (c.turns.invariant.at cfg prompt turns firsts budget all));
