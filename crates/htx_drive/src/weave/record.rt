@@ -10,5 +10,6 @@ mod texts;
 mod turns;
 mod woven;
 
+pub use sets::pool_of;
 pub use texts::weave_text;
 pub use woven::weave_record;
