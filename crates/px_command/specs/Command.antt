@@ -30,6 +30,10 @@ abbrev pub IsWeave : List (List ℕ) → (cfg rec : List ℕ) → (cores : ℕ) 
 IsWeave words cfg rec cores =
     (count : List ℕ) × (words ≡ codes "weave" ∷ cfg ∷ rec ∷ count ∷ []) × IsFileWord cfg × IsFileWord rec × IsNumber 1 256 count cores
 
+-- the words are `replay` or `weave` of these two files
+abbrev pub RunsRecord : List (List ℕ) → (cfg rec : List ℕ) → Type 0
+RunsRecord words cfg rec = IsReplay words cfg rec ⊎ ((cores : ℕ) × IsWeave words cfg rec cores)
+
 -- the words are `serve CFG COUNT`, with 1 to 1000000 connections
 abbrev pub IsServe : List (List ℕ) → (cfg : List ℕ) → (connections : ℕ) → Type 0
 IsServe words cfg connections =
@@ -77,7 +81,4 @@ pub record IsUsage (words : List (List ℕ)) : Type 0 where
 
 -- the configuration of a command is in the file of this name
 abbrev pub NamesConfig : List (List ℕ) → List ℕ → Type 0
-NamesConfig words cfg =
-    IsCheck words cfg
-    ⊎ (((rec : List ℕ) × IsReplay words cfg rec)
-    ⊎ (((rec : List ℕ) × (cores : ℕ) × IsWeave words cfg rec cores) ⊎ ((connections : ℕ) × IsServe words cfg connections)))
+NamesConfig words cfg = IsCheck words cfg ⊎ (((rec : List ℕ) × RunsRecord words cfg rec) ⊎ ((connections : ℕ) × IsServe words cfg connections))
