@@ -15,3 +15,4 @@ mod Requests
 mod ReplayLemmas
 mod DrillLemmas
 mod WeaveLemmas
+mod RecordLemmas

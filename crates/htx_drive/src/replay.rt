@@ -1,12 +1,12 @@
 //! Runs the sessions of a record: each connection over links and a net in memory, with a core and turns of its own.
 //! What makes the cores is handed in; it knows no rule.
 
-mod budget;
+pub(crate) mod budget;
 mod cores;
 pub mod laws;
-mod links;
-mod outcome;
-mod record_net;
+pub(crate) mod links;
+pub(crate) mod outcome;
+pub(crate) mod record_net;
 mod sessions;
 mod texts;
 mod turns;

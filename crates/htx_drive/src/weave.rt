@@ -3,14 +3,22 @@
 mod all;
 mod conn;
 mod ends;
+mod fault;
 pub mod laws;
+mod leaving;
 mod mover;
 mod moves;
+mod record;
 mod resets;
+mod rounds;
+mod sessions;
 mod sets;
 mod step;
 mod weft;
 
 pub use conn::Conn;
+pub use fault::WeaveFault;
+pub use record::{weave_record, weave_text};
 pub use resets::Resets;
+pub use sessions::weave;
 pub use weft::Weft;

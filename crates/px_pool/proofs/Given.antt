@@ -2,7 +2,7 @@
 use Rattle.std.proofs.Common.{◌≡◌, ◌≢◌, ℕ, zero, suc, ◌+◌, Bool, true, false, ◌||◌, nat_eq, if◌then◌else◌, List, [], ◌∷◌, length, Option, Some, None, ap, sym, subst, ◌∙◌, refl, arith}
 use Rattle.std.specs.Prelude.{set, get_or}
 use Rattle.std.proofs.lemmas.Bool.{false≢true, eqb-true, ne_eqb}
-use Rattle.px_pool.specs.Owners.{is_of, has_one, place_of, count_out}
+use Rattle.px_pool.specs.Owners.{is_of, has_one, place_of, count_out, SameBeside}
 use Rattle.px_pool.specs.Seats.{core_in, free_in, IsAlone, AreApart, IsShared, Inserted, Seats, core_of, free_of, with_core}
 use Rattle.px_pool.proofs.Taken.{no_left, no_right, neither, length_set}
 
@@ -112,6 +112,20 @@ others conn other (Some owner ∷ os) (c ∷ cs) h = other_by (nat_eq owner conn
 
 pub given_other : {C : Type 0} (conn k other : ℕ) (os : List (Option ℕ)) (cs : List C) → k ≡ place_of conn os → other ≢ conn → core_in other (set os k None) cs ≡ core_in other os cs
 given_other conn k other os cs e h = ap (λ (at : ℕ). core_in other (set os at None) cs) e ∙ others conn other os cs h
+
+one_by : (b : Bool) (conn other owner : ℕ) (os : List (Option ℕ)) → (b ≡ true → owner ≡ conn) → other ≢ conn → has_one other (set os (place_of conn os) None) ≡ has_one other os
+    → has_one other (set (Some owner ∷ os) (if b then 0 else suc (place_of conn os)) None) ≡ has_one other (Some owner ∷ os)
+one_by true conn other owner os t h rest = sym (ap (λ b. b || has_one other os) (ne_eqb owner other (λ e. h (sym e ∙ t refl))))
+one_by false conn other owner os t h rest = ap (λ x. nat_eq owner other || x) rest
+
+ones : (conn other : ℕ) (os : List (Option ℕ)) → other ≢ conn → has_one other (set os (place_of conn os) None) ≡ has_one other os
+ones conn other [] h = refl
+ones conn other (None ∷ os) h = ones conn other os h
+ones conn other (Some owner ∷ os) h = one_by (nat_eq owner conn) conn other owner os (eqb-true owner conn) h (ones conn other os h)
+
+pub given_beside : (conn k : ℕ) (os : List (Option ℕ)) → k ≡ place_of conn os → SameBeside conn os (set os k None)
+given_beside conn k os e =
+    record { sets = length_set os k None; others = λ other h. ap (λ (at : ℕ). has_one other (set os at None)) e ∙ ones conn other os h }
 
 free_by : {C : Type 0} (b : Bool) (conn owner : ℕ) (os : List (Option ℕ)) (c : C) (cs : List C) → (b || has_one conn os) ≡ true → (has_one conn os ≡ true → Inserted (core_in conn os cs) (free_in os cs) (free_in (set os (place_of conn os) None) cs))
     → Inserted (if b then Some c else core_in conn os cs) (free_in os cs) (free_in (set (Some owner ∷ os) (if b then 0 else suc (place_of conn os)) None) (c ∷ cs))

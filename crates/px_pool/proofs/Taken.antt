@@ -2,7 +2,7 @@
 use Rattle.std.proofs.Common.{◌≡◌, ◌≢◌, ℕ, zero, suc, ◌+◌, Bool, true, false, ◌||◌, nat_eq, if◌then◌else◌, List, [], ◌∷◌, ◌++◌, length, Option, Some, None, ap, sym, subst, ◌∙◌, refl, arith}
 use Rattle.std.specs.Prelude.{set}
 use Rattle.std.proofs.lemmas.Bool.{false≢true, true≢false, eq-eqb, eqb-false, ne_eqb}
-use Rattle.px_pool.specs.Owners.{is_of, has_one, first_free, all_out, count_out}
+use Rattle.px_pool.specs.Owners.{is_of, has_one, first_free, all_out, count_out, SameBeside}
 use Rattle.px_pool.specs.Seats.{core_in, free_in, first_of, rest_of, AreApart, IsShared}
 
 pub no_left : (a b : Bool) → (a || b) ≡ false → a ≡ false
@@ -99,6 +99,10 @@ taken_free_at conn k os cs e = ap (λ (at : ℕ). free_in (set os at (Some conn)
 
 pub taken_other_at : {C : Type 0} (conn k other : ℕ) (os : List (Option ℕ)) (cs : List C) → k ≡ first_free os → other ≢ conn → core_in other (set os k (Some conn)) cs ≡ core_in other os cs
 taken_other_at conn k other os cs e h = ap (λ (at : ℕ). core_in other (set os at (Some conn)) cs) e ∙ taken_other conn other os cs h
+
+pub taken_beside : (conn k : ℕ) (os : List (Option ℕ)) → k ≡ first_free os → SameBeside conn os (set os k (Some conn))
+taken_beside conn k os e =
+    record { sets = length_set os k (Some conn); others = λ other h. ap (λ (at : ℕ). has_one other (set os at (Some conn))) e ∙ taken_others conn other os h }
 
 -- ---- where all are out
 

@@ -1,6 +1,6 @@
 //! A pool of cores: a connection takes one, has it lent, and gives it back, and no other connection's core changes.
 ghost use Rattle.std.specs.Prelude.{◌≡◌, ◌↔◌, ◌+◌, ◌≢◌, ℕ, true, false, Option, Some, None, length, IfOk};
-ghost use Rattle.px_pool.specs.Owners.{has_one, all_out, count_out};
+ghost use Rattle.px_pool.specs.Owners.{has_one, all_out, count_out, SameBeside};
 ghost use Rattle.px_pool.specs.Seats.{core_of, free_of, first_of, rest_of, with_core, Inserted};
 
 use crate::owners::{count_out, first_free, place_of, seat};
@@ -74,6 +74,7 @@ impl<C> Pool<C> {
         ensures core { core_of conn self.new ≡ first_of (free_of self.old) }
         ensures free { free_of self.new ≡ rest_of (free_of self.old) }
         ensures others { (other : ℕ) → other ≢ conn → core_of other self.new ≡ core_of other self.old }
+        ensures beside { SameBeside conn self.old.owners self.new.owners }
         ensures out { result ≡ Took.Set → count_out self.new.owners ≡ 1 + count_out self.old.owners }
     {
         let Some(place) = first_free(&self.owners) else {
@@ -103,6 +104,7 @@ impl<C> Pool<C> {
         ensures none { core_of conn self.new ≡ None }
         ensures others { (other : ℕ) → other ≢ conn → core_of other self.new ≡ core_of other self.old }
         ensures free { Inserted (core_of conn self.old) (free_of self.old) (free_of self.new) }
+        ensures beside { SameBeside conn self.old.owners self.new.owners }
         ensures out { 1 + count_out self.new.owners ≡ count_out self.old.owners }
     {
         let place = seat(&self.owners, conn);

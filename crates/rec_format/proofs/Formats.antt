@@ -6,28 +6,28 @@ use Rattle.rec_format.specs.Recorded.{Visited, Visits, Recorded, Refusal, and_th
 use Rattle.rec_format.specs.Reports.{Reportable}
 
 -- what is read has this property; a refusal says nothing
-abbrev IfRead : {A : Type 0} → Result A Refusal → (A → Type 0) → Type 0
+abbrev pub IfRead : {A : Type 0} → Result A Refusal → (A → Type 0) → Type 0
 IfRead (Ok value) P = P value
 IfRead (Err refusal) P = Unit {0}
 
-read_then : {A B : Type 0} (f : A → Result B Refusal) (P : A → Type 0) (Q : B → Type 0) (r : Result A Refusal) → IfRead r P → ((a : A) → P a → IfRead (f a) Q) → IfRead (and_then f r) Q
+pub read_then : {A B : Type 0} (f : A → Result B Refusal) (P : A → Type 0) (Q : B → Type 0) (r : Result A Refusal) → IfRead r P → ((a : A) → P a → IfRead (f a) Q) → IfRead (and_then f r) Q
 read_then f P Q (Ok a) p g = g a p
 read_then f P Q (Err e) p g = tt
 
-abbrev Anything : {A : Type 0} → A → Type 0
+abbrev pub Anything : {A : Type 0} → A → Type 0
 Anything a = Unit {0}
 
-anything : {A : Type 0} (r : Result A Refusal) → IfRead r Anything
+pub anything : {A : Type 0} (r : Result A Refusal) → IfRead r Anything
 anything (Ok a) = tt
 anything (Err e) = tt
 
-abbrev So : ℕ → Visits → Type 0
+abbrev pub So : ℕ → Visits → Type 0
 So more visits = length visits.0 ≡ more + 1
 
 last_count : (total : ℕ) (numbered : Bool) (last : Visited) → IfRead (last_visit total numbered last) (So 0)
 last_count total numbered last = read_then _ Anything (So 0) (last_turns total numbered last.rest) (anything (last_turns total numbered last.rest)) (λ rest done. refl)
 
-visits_count : (total : ℕ) (numbered : Bool) (more room : ℕ) (text : List ℕ) → IfRead (visits_of total numbered more room text) (So more)
+pub visits_count : (total : ℕ) (numbered : Bool) (more room : ℕ) (text : List ℕ) → IfRead (visits_of total numbered more room text) (So more)
 visits_count total numbered zero room text =
     read_then (last_visit total numbered) Anything (So 0) (visit_of total room text) (anything (visit_of total room text)) (λ last done. last_count total numbered last)
 visits_count total numbered (suc more) room text =

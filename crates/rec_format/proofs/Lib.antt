@@ -1,5 +1,6 @@
 mod Digits
 mod Formats
+mod Numbers
 mod Reports
 mod Capped
 mod Several

@@ -9,3 +9,4 @@ pub mod Recorded
 pub mod Read
 pub mod Parts
 pub mod Written
+pub mod Numbered

@@ -1,7 +1,7 @@
 -- A move of one connection leads from a place of all to a place of all.
 use Rattle.std.proofs.Common.{◌≡◌, ◌≢◌, ℕ, suc, ◌+◌, ◌-◌, ◌<◌, List, [], ◌∷◌, length, map, Bool, true, false, cond, eqb, Option, Some, None, refl, sym, ap, subst, ◌∙◌, inl, inr, arith}
-use Rattle.std.specs.Prelude.{get_or, set, slice_get, Result, Ok, Err, OnOk, IfOk}
-use Rattle.std.specs.List.{AllByRecursion, sum_by, filter}
+use Rattle.std.specs.Prelude.{get_or, set, slice_get, Result, Ok, Err, OnOk, OnErr}
+use Rattle.std.specs.List.{AllByRecursion, filter}
 use Rattle.std.proofs.lemmas.Bool.{eq-eqb, ne_eqb, cases_eq}
 use Rattle.std.proofs.lemmas.List.{get_or-set_same, get_or-set_other, length-set}
 use Rattle.std.proofs.lemmas.List.Sums.{sum_by-set}
@@ -16,8 +16,8 @@ use Rattle.px_pool.specs.Seats.{Seats, core_of, free_of}
 use Rattle.htx_drive.specs.Machine.{CoreSeen}
 use Rattle.htx_drive.specs.Replay.Memory.{turns_of}
 use Rattle.htx_drive.specs.Weave.Woven.{Pays}
-use Rattle.htx_drive.specs.Weave.State.{IsAt, IsFresh, MayMove, ahead_more}
-use Rattle.htx_drive.specs.Weave.All.{IsNext, left_behind, AreWithin, AllMay, AtPlace, AllAt}
+use Rattle.htx_drive.specs.Weave.State.{IsAt, IsFresh, MayMove}
+use Rattle.htx_drive.specs.Weave.All.{IsNext, AreWithin, AllMay, AtPlace, AllAt}
 use Rattle.htx_drive.specs.declared.weave.conn.Conn.{Conn}
 
 -- ---- whose turn it is
@@ -43,31 +43,23 @@ pub next_rest : (number : ℕ) (turn : Option Turn) (left : List (ℕ × Turn)) 
 next_rest number None left e = ap (λ l. rest_of (turns_of number l)) e ∙ sym (ap (λ l. turns_of number (rest_of l)) e)
 next_rest number (Some turn) left h = ap (λ l. rest_of (turns_of number l)) h.1 ∙ ap (λ l. rest_of l) (own_turns number turn h.0) ∙ sym (ap (λ l. turns_of number (rest_of l)) h.1)
 
-other_rest : (number other : ℕ) (turn : Option Turn) (left : List (ℕ × Turn)) → other ≢ number → IsNext number turn left → turns_of other left ≡ turns_of other (rest_of left)
+pub other_rest : (number other : ℕ) (turn : Option Turn) (left : List (ℕ × Turn)) → other ≢ number → IsNext number turn left → turns_of other left ≡ turns_of other (rest_of left)
 other_rest number other None left ne e = ap (λ l. turns_of other l) e ∙ sym (ap (λ l. turns_of other (rest_of l)) e)
 other_rest number other (Some turn) left ne h =
     ap (λ l. turns_of other l) h.1 ∙ cons_turns other number turn h.0 ∙ ap (λ b. of_cons other b turn h.0) (ne_eqb number other (λ e. ne (sym e))) ∙ sym (ap (λ l. turns_of other (rest_of l)) h.1)
 
-pub mine_behind : (more : Bool) (number : ℕ) (turn : Option Turn) (left : List (ℕ × Turn)) → IsNext number turn left → ahead_more more (turns_of number left) ≡ turns_of number (left_behind more left)
-mine_behind true number turn left h = next_rest number turn left h
-mine_behind false number turn left h = refl
-
-pub other_behind : (more : Bool) (number other : ℕ) (turn : Option Turn) (left : List (ℕ × Turn)) → other ≢ number → IsNext number turn left → turns_of other left ≡ turns_of other (left_behind more left)
-other_behind true number other turn left ne h = other_rest number other turn left ne h
-other_behind false number other turn left ne h = refl
-
 -- ---- one of them changed
 
-some_is : {X : Type 0} (o : Option X) (x y : X) → o ≡ Some x → o ≡ Some y → x ≡ y
+pub some_is : {X : Type 0} (o : Option X) (x y : X) → o ≡ Some x → o ≡ Some y → x ≡ y
 some_is o x y e f = cc
 
-set_at : {X : Type 0} (xs : List X) (k : ℕ) (y x : X) → k < length xs → slice_get (set xs k y) k ≡ Some x → x ≡ y
+pub set_at : {X : Type 0} (xs : List X) (k : ℕ) (y x : X) → k < length xs → slice_get (set xs k y) k ≡ Some x → x ≡ y
 set_at xs k y x h e = sym (get_or_from_slice_get (set xs k y) k x y e) ∙ get_or-set_same xs k y y h
 
-set_length : {X : Type 0} (xs : List X) (k : ℕ) (y : X) → length (set xs k y) ≡ length xs
+pub set_length : {X : Type 0} (xs : List X) (k : ℕ) (y : X) → length (set xs k y) ≡ length xs
 set_length xs k y = length-set xs k y
 
-set_past : {X : Type 0} (xs : List X) (k other : ℕ) (y x : X) → other ≢ k → slice_get (set xs k y) other ≡ Some x → slice_get xs other ≡ Some x
+pub set_past : {X : Type 0} (xs : List X) (k other : ℕ) (y x : X) → other ≢ k → slice_get (set xs k y) other ≡ Some x → slice_get xs other ≡ Some x
 set_past xs k other y x ne e =
     let within : other < length (set xs k y) = slice_get_within (set xs k y) other x e in
     let same = set_length xs k y in
@@ -171,19 +163,19 @@ module _ {C L N : Type 0} (M : Meaning) (stands : C → Past → Type 0) (sees :
 pub of_number : (n : ℕ) → 0 < n → n ≡ suc (n - 1)
 of_number n h = omega (arith, h)
 
-pub on_ok : {A E : Type 0} (r : Result A E) (P Q : Type 0) → (P → Q) → OnOk r P → OnOk r Q
-on_ok (Ok a) P Q f h = f h
-on_ok (Err e) P Q f h = tt
+pub on_ok_at : {A E : Type 0} (r : Result A E) (Q : Type 0) → ((a : A) → r ≡ Ok a → Q) → OnOk r Q
+on_ok_at (Ok a) Q f = f a refl
+on_ok_at (Err e) Q f = tt
 
-pub if_ok_at : {A E : Type 0} (r : Result A E) (Q : A → Type 0) → ((a : A) → r ≡ Ok a → Q a) → IfOk r Q
-if_ok_at (Ok a) Q f = f a refl
-if_ok_at (Err e) Q f = tt
+pub on_err_at : {A E : Type 0} (r : Result A E) (Q : Type 0) → ((e : E) → r ≡ Err e → Q) → OnErr r Q
+on_err_at (Ok a) Q f = tt
+on_err_at (Err e) Q f = f e refl
 
-pub of_ok : {A E : Type 0} (r : Result A E) (P : A → Type 0) (a : A) → r ≡ Ok a → IfOk r P → P a
-of_ok {A = A} {E = E} r P a is h = let Q : Result A E → Type 0 = λ x. IfOk x P in subst Q is h
+pub of_on_ok : {A E : Type 0} (r : Result A E) (P : Type 0) (a : A) → r ≡ Ok a → OnOk r P → P
+of_on_ok {A = A} {E = E} r P a is h = let Q : Result A E → Type 0 = λ x. OnOk x P in subst Q is h
 
-pub on_of_ok : {A E : Type 0} (r : Result A E) (P : Type 0) (a : A) → r ≡ Ok a → OnOk r P → P
-on_of_ok {A = A} {E = E} r P a is h = let Q : Result A E → Type 0 = λ x. OnOk x P in subst Q is h
+pub of_on_err : {A E : Type 0} (r : Result A E) (P : Type 0) (e : E) → r ≡ Err e → OnErr r P → P
+of_on_err {A = A} {E = E} r P e is h = let Q : Result A E → Type 0 = λ x. OnErr x P in subst Q is h
 
 -- ---- the list
 

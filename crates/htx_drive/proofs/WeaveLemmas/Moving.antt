@@ -1,5 +1,5 @@
 -- How a connection's move and its end follow from steps.
-use Rattle.std.proofs.Common.{◌≡◌, ℕ, ◌+◌, ◌≤◌, ◌<◌, List, Bool, true, false, Option, Some, None, refl, sym, ap, subst, ◌∙◌, arith}
+use Rattle.std.proofs.Common.{◌≡◌, ℕ, ◌+◌, ◌≤◌, ◌<◌, List, Bool, true, false, Option, Some, None, refl, sym, subst, arith}
 use Rattle.std.specs.Prelude.{is_some, Result, Ok, Err}
 use Rattle.http_model.specs.declared.Close.TheVariants.{Failed}
 use Rattle.session_model.specs.Meaning.{Meaning}

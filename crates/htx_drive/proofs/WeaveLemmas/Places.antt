@@ -1,6 +1,6 @@
 -- Where a connection stands behind a move.
-use Rattle.std.proofs.Common.{◌≡◌, ℕ, zero, suc, ◌+◌, List, [], ◌∷◌, Bool, true, false, Option, Some, None, refl, sym, ap, subst, ◌∙◌, inl, inr, arith}
-use Rattle.std.specs.Prelude.{is_some, IfSome, Result, Ok, Err, drop}
+use Rattle.std.proofs.Common.{◌≡◌, ℕ, zero, suc, List, [], ◌∷◌, true, false, Option, Some, None, refl, sym, ap, subst, ◌∙◌, inl, inr, arith}
+use Rattle.std.specs.Prelude.{is_some, IfSome, Result, Ok, drop}
 use Rattle.std.specs.List.{AllByRecursion}
 use Rattle.session_model.specs.Meaning.{Meaning}
 use Rattle.session_core.specs.History.{Past, nothing_yet}
@@ -8,7 +8,7 @@ use Rattle.px_link.specs.declared.turns.Turn.{Turn}
 use Rattle.px_link.specs.Turns as order
 use Rattle.px_link.specs.Link.{Seen}
 use Rattle.px_link.specs.Net.{Place, NetSeen}
-use Rattle.px_pool.specs.Seats.{Seats, core_of, free_of, first_of, rest_of}
+use Rattle.px_pool.specs.Seats.{Seats, core_of, free_of, first_of}
 use Rattle.htx_drive.specs.Machine.{CoreSeen}
 use Rattle.htx_drive.specs.declared.Ran.{Ran}
 use Rattle.htx_drive.specs.declared.SessionFault.{SessionFault}
@@ -16,7 +16,7 @@ use Rattle.htx_drive.proofs.Turning.{begins}
 use Rattle.htx_drive.proofs.Running.{dials_fresh}
 use Rattle.htx_drive.specs.Weave.Woven.{Pays, Going}
 use Rattle.htx_drive.specs.Weave.Went.{GoesAs, OverSo}
-use Rattle.htx_drive.specs.Weave.State.{IsFresh, Seated, KeepsSet, TakesSet, KeepsOn, HasDone, SetSo, Waits, Holds, Done, IsAt, ahead_more}
+use Rattle.htx_drive.specs.Weave.State.{IsFresh, Seated, KeepsOn, HasDone, SetSo, Waits, IsAt}
 use Rattle.htx_drive.specs.declared.weave.mover.Went.{Went}
 use Rattle.htx_drive.specs.declared.weave.mover.Went.TheVariants as went
 

@@ -1,15 +1,20 @@
 -- A connection gets a core, moves with it, and gives it back.
-use Rattle.std.proofs.Common.{◌≡◌, ◌≢◌, ℕ, ◌<◌, List, [], ◌∷◌, ◌++◌, Bool, true, false, Option, Some, None, refl, sym, ap, subst, ◌∙◌, inl, inr}
+use Rattle.std.proofs.Common.{◌≡◌, ℕ, ◌<◌, List, [], ◌∷◌, ◌++◌, Bool, true, false, Option, Some, None, sym, ap, subst, ◌∙◌, inl, inr}
 use Rattle.std.specs.Prelude.{is_some, IfSome, Result}
 use Rattle.std.specs.List.{AllByRecursion}
-use Rattle.px_pool.specs.Seats.{Seats, core_of, free_of, first_of, rest_of, with_core, Inserted}
+use Rattle.px_pool.specs.Owners.{SameBeside}
+use Rattle.px_pool.specs.Seats.{Seats, core_of, free_of, first_of, rest_of, Inserted}
 use Rattle.htx_drive.specs.Machine.{CoreSeen}
 use Rattle.htx_drive.specs.declared.Ran.{Ran}
 use Rattle.htx_drive.specs.declared.SessionFault.{SessionFault}
 use Rattle.htx_drive.specs.Weave.Went.{HoldsOn}
-use Rattle.htx_drive.specs.Weave.State.{IsReady, Seated, KeepsSet, TakesSet, KeepsOn, HasDone, SetSo, MayCall, MayMove}
+use Rattle.htx_drive.specs.Weave.State.{IsReady, Seated, KeepsOn, HasDone, SetSo, MayCall, MayMove}
 use Rattle.htx_drive.specs.declared.weave.mover.Went.{Went}
 use Rattle.htx_drive.specs.declared.weave.mover.Went.TheVariants as went
+
+-- one change of a connection's behind another
+pub beside_both : (number : ℕ) (old middle new : List (Option ℕ)) → SameBeside number old middle → SameBeside number middle new → SameBeside number old new
+beside_both number old middle new a b = record { sets = b.sets ∙ a.sets; others = λ other h. b.others other h ∙ a.others other h }
 
 -- the free cores are the same
 pub free_kept : {C : Type 0} (P : C → Type 0) (old new : List C) → new ≡ old → AllByRecursion P old → AllByRecursion P new

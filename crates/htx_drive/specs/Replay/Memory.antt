@@ -24,7 +24,10 @@ size_of (Some entry) = length entry.stream.bytes
 abbrev pub turns_of : (owner : ℕ) → List (ℕ × Turn) → List Turn
 turns_of owner turns = map (λ (t : ℕ × Turn). t.1) (filter (λ (t : ℕ × Turn). t.0 == owner) turns)
 
--- this budget is enough for the bytes of a connection, with buffers of this size; the client's bytes stand in the place of its requests
+-- what a connection needs of a budget, by its bytes, with buffers of this size; the client's bytes stand in the place of its requests
+abbrev pub needed_by : Visit → (bufsize : ℕ) → ℕ
+needed_by visit bufsize = enough (length visit.client.bytes) (sum_by size_of visit.servers) (length visit.client.bytes) bufsize
+
+-- this budget is enough for a connection
 abbrev pub IsEnough : Visit → (bufsize budget : ℕ) → Type 0
-IsEnough visit bufsize budget =
-    enough (length visit.client.bytes) (sum_by size_of visit.servers) (length visit.client.bytes) bufsize ≤ budget
+IsEnough visit bufsize budget = needed_by visit bufsize ≤ budget

@@ -1,27 +1,22 @@
 -- Where all connections stand between two moves, numbered from 1 in their order.
-use Rattle.std.specs.Prelude.{◌≡◌, ℕ, ◌+◌, ◌<◌, ◌≤◌, suc, List, [], ◌∷◌, length, get_or, slice_get, Bool, true, false, Option, Some, None}
+use Rattle.std.specs.Prelude.{◌≡◌, ℕ, ◌+◌, ◌<◌, ◌≤◌, suc, List, [], ◌∷◌, length, get_or, slice_get, true, Option, Some, None}
 use Rattle.std.specs.List.{AllByRecursion, sum_by}
 use Rattle.session_model.specs.Meaning.{Meaning}
 use Rattle.session_core.specs.History.{Past}
 use Rattle.px_link.specs.declared.turns.Turn.{Turn}
-use Rattle.px_link.specs.Turns.{rest_of}
 use Rattle.px_link.specs.Link.{Seen}
 use Rattle.px_link.specs.Net.{Place, NetSeen}
+use Rattle.px_pool.specs.Owners.{has_one}
 use Rattle.px_pool.specs.Seats.{Seats, core_of, free_of}
 use Rattle.htx_drive.specs.Machine.{CoreSeen}
 use Rattle.htx_drive.specs.Replay.Memory.{turns_of}
-use Rattle.htx_drive.specs.Weave.State.{IsAt, IsFresh, MayMove}
+use Rattle.htx_drive.specs.Weave.State.{IsAt, IsReady, IsFresh, MayMove}
 use Rattle.htx_drive.specs.declared.weave.conn.Conn.{Conn}
 
 -- the turn that is handed in is the first that is left, and this connection's; none is handed in where none is left
 abbrev pub IsNext : (number : ℕ) → Option Turn → List (ℕ × Turn) → Type 0
 IsNext number None left = left ≡ []
 IsNext number (Some turn) left = (rest : List (ℕ × Turn)) × (left ≡ (number, turn) ∷ rest)
-
--- the turns that are left behind a move: where something was left of the budget, all but the one that it was for
-abbrev pub left_behind : (more : Bool) → List (ℕ × Turn) → List (ℕ × Turn)
-left_behind true left = rest_of left
-left_behind false left = left
 
 -- each is a turn of one of so many connections
 abbrev pub AreWithin : (conns : ℕ) → List (ℕ × Turn) → Type 0
@@ -30,6 +25,21 @@ AreWithin conns turns = AllByRecursion (λ (t : ℕ × Turn). (0 < t.0) × (t.0 
 -- each may be moved
 abbrev pub AllMay : {C L N : Type 0} → (sees : C → CoreSeen) → (sound : C → Type 0) → (sees_net : N → NetSeen) → Seats C → List (Conn L N) → Type 0
 AllMay {L = L} {N = N} sees sound sees_net pool conns = (place : ℕ) (conn : Conn L N) → slice_get conns place ≡ Some conn → MayMove sees sound conn.server (sees_net conn.net).lent conn.ran (core_of (suc place) pool)
+
+-- the connection of this number is one of these, and has not ended
+pub record IsSeated {L N : Type 0} (number : ℕ) (conns : List (Conn L N)) : Type 0 where
+  pub place : ℕ
+  pub conn : Conn L N
+  pub is : number ≡ suc place
+  pub at : slice_get conns place ≡ Some conn
+  pub goes_on : conn.ran ≡ None
+
+-- There are cores; those that are free may be called, and each of the others is of a connection that has not ended. Each connection may be moved.
+pub record MayGoOn {C L N : Type 0} (sees : C → CoreSeen) (sound : C → Type 0) (sees_net : N → NetSeen) (pool : Seats C) (conns : List (Conn L N)) : Type 0 where
+  pub some : 0 < length pool.owners
+  pub ready : AllByRecursion (IsReady sees sound) (free_of pool)
+  pub seated : (number : ℕ) → has_one number pool.owners ≡ true → IsSeated number conns
+  pub may : AllMay sees sound sees_net pool conns
 
 -- the connection of this number is at its place between two moves, by its own turns of those in the list
 abbrev pub AtPlace : {C L N : Type 0} → (M : Meaning) → (stands : C → Past → Type 0) → (sees : C → CoreSeen) → (sound : C → Type 0) → (seen : L → Seen) → (wrote : L → List ℕ → Type 0) → (sees_net : N → NetSeen) → Place → (turns left : List (ℕ × Turn)) → (first conn : Conn L N) → Seats C → (number count : ℕ) → Type 0

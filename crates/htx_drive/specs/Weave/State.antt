@@ -1,13 +1,10 @@
 -- Where many connections stand between two moves.
-use Rattle.std.specs.Prelude.{◌≡◌, ◌≢◌, ℕ, ◌+◌, ◌<◌, ◌≤◌, ◌==◌, suc, List, [], ◌∷◌, map, filter, drop, sum, Bool, true, false, Option, Some, None, Result, is_some, ⊤, ◌⊎◌}
-use Rattle.std.specs.List.{AllByRecursion}
+use Rattle.std.specs.Prelude.{◌≡◌, ℕ, ◌<◌, List, drop, true, false, Option, Some, None, Result, is_some, ⊤, ◌⊎◌}
 use Rattle.session_model.specs.Meaning.{Meaning}
 use Rattle.session_core.specs.History.{Past, nothing_yet}
 use Rattle.px_link.specs.declared.turns.Turn.{Turn}
-use Rattle.px_link.specs.Turns as order
 use Rattle.px_link.specs.Link.{Seen}
 use Rattle.px_link.specs.Net.{Place, NetSeen}
-use Rattle.px_pool.specs.Owners.{has_one}
 use Rattle.px_pool.specs.Seats.{Seats, core_of, free_of, first_of, rest_of}
 use Rattle.htx_drive.specs.Machine.{CoreSeen}
 use Rattle.htx_drive.specs.declared.Ran.{Ran}
@@ -101,8 +98,3 @@ IsAt M stands sees sound turns ahead seen wrote first client server to first_net
 IsAt M stands sees sound turns ahead seen wrote first client server to first_net net None (Some core) count = Holds stands sees sound turns ahead seen wrote first client server to first_net net core count
 IsAt M stands sees sound turns ahead seen wrote first client server to first_net net (Some ran) None count = Done M stands sees turns seen wrote first client server to first_net net ran count
 IsAt M stands sees sound turns ahead seen wrote first client server to first_net net (Some ran) (Some core) count = ⊥
-
--- the turns that are ahead behind a move: where something was left of the budget, all but the one that it was for
-abbrev pub ahead_more : (more : Bool) → List Turn → List Turn
-ahead_more true ahead = order.rest_of ahead
-ahead_more false ahead = ahead

@@ -35,3 +35,15 @@ abbrev pub SpentSo : Went → ℕ → Type 0
 SpentSo went.On left = ⊤
 SpentSo went.Ended left = ⊤
 SpentSo went.Spent left = left ≡ 0
+
+-- where it goes on, and no turn was handed in, it took something of what was left
+abbrev pub LowersSo : Option Turn → Went → (before left : ℕ) → Type 0
+LowersSo turn went.On before left = turn ≡ None → left < before
+LowersSo turn went.Ended before left = ⊤
+LowersSo turn went.Spent before left = ⊤
+
+-- where it has ended
+abbrev pub OnEnded : Went → Type 0 → Type 0
+OnEnded went.On P = ⊤
+OnEnded went.Ended P = P
+OnEnded went.Spent P = ⊤

@@ -1,6 +1,5 @@
 -- What a connection of many comes to, and what it pays of the budget that all share.
-use Rattle.std.specs.Prelude.{◌≡◌, ℕ, ◌+◌, ◌≤◌, List, Bool, true, Option, Some, None, ⊤}
-use Rattle.http_model.specs.declared.End.{End}
+use Rattle.std.specs.Prelude.{◌≡◌, ℕ, ◌+◌, ◌<◌, ◌≤◌, List, Bool, Option, Some, None, ⊤}
 use Rattle.http_model.specs.declared.Close.TheVariants.{Failed}
 use Rattle.session_model.specs.Meaning.{Meaning}
 use Rattle.session_core.specs.History.{Past}
@@ -70,6 +69,12 @@ abbrev pub SpentIs : Moved → ℕ → Type 0
 SpentIs moves.Took left = ⊤
 SpentIs (moves.Over end) left = ⊤
 SpentIs moves.Spent left = left ≡ 0
+
+-- where it took its turn, and none was handed in, it took something of what was left
+abbrev pub Lowers : Option Turn → Moved → (before left : ℕ) → Type 0
+Lowers turn moves.Took before left = turn ≡ None → left < before
+Lowers turn (moves.Over end) before left = ⊤
+Lowers turn moves.Spent before left = ⊤
 
 -- a server's link was closed Failed and kept, and without one nothing was done
 pub record Shut {L : Type 0} (seen : L → Seen) (wrote : L → List ℕ → Type 0) (old new : NetSeen) (link : L) : Type 0 where

@@ -1,8 +1,8 @@
 //! How many turns the session of a connection may take.
-ghost use Rattle.std.specs.Prelude.{◌≡◌, IfSome, sum_by, length};
+ghost use Rattle.std.specs.Prelude.{◌≡◌, IfSome, sum_by};
 ghost use Rattle.htx_drive.specs.Budget.{enough};
 ghost use Rattle.rec_format.specs.Read.{visit, servers};
-ghost use Rattle.htx_drive.specs.Replay.Memory.{size_of};
+ghost use Rattle.htx_drive.specs.Replay.Memory.{size_of, needed_by};
 
 use rec_format::{Connection, ServerSpec};
 
@@ -32,7 +32,7 @@ fn turns_for(client: u64, servers: u64, bufsize: u32) -> Option<u64>
 
 /// So many turns are enough for the session of a connection. The client's bytes stand in the place of its requests.
 pub(crate) fn budget_of(conn: &Connection, bufsize: u32) -> Option<u64>
-    ensures { IfSome result (λ budget. budget ≡ enough (length (visit conn.now).client.bytes) (sum_by size_of (visit conn.now).servers) (length (visit conn.now).client.bytes) bufsize) }
+    ensures { IfSome result (λ budget. budget ≡ needed_by (visit conn.now) bufsize) }
 {
     let servers = servers_size(&conn.servers)?;
     turns_for(conn.client.bytes.as_slice().len() as u64, servers, bufsize)

@@ -6,6 +6,8 @@ ghost use Rattle.px_link.specs.declared.turns.Turn.{Turn};
 ghost use Rattle.htx_drive.specs.declared.Ran.{Ran};
 ghost use Rattle.htx_drive.specs.Underway.{Stopped, LeftSo};
 ghost use Rattle.htx_drive.specs.Weave.Woven.{Going, EndedSo, GivenUp, Back, Shut};
+ghost use Rattle.htx_drive.specs.Weave.Halted.{Halted, IsLent};
+ghost use Rattle.htx_drive.specs.Weave.Outcome.{LeftAt};
 
 use crate::session::close_of;
 use crate::weave::conn::Conn;
@@ -70,11 +72,10 @@ fn shut<L: Link, N: Net<Link = L>>(link: L, net: &mut N)
 
 /// Gives a connection up: each of its links that is still open is closed Failed, and the server's is kept.
 pub(crate) fn abandon<C: Machine, L: Link, N: Net<Link = L>>(conn: &mut Conn<L, N>)
-    requires lent { is_some conn.old.server ≡ true → 0 < (N.seen conn.old.net).lent }
-    ensures given_up { (cfg : C.Settings) (core : C) (all ahead : List Turn) (count : ℕ) (first : L) (to : Place) (first_net : N) → Going (C.stands cfg) C.seen all ahead core L.seen L.wrote first conn.old.client conn.old.server to (N.seen first_net) (N.seen conn.old.net) count
-        → GivenUp (C.meaning cfg) (C.stands cfg) C.seen all L.seen L.wrote first conn.new.client false to (N.seen first_net) (N.seen conn.new.net) count }
+    requires lent { IsLent conn.old.server (N.seen conn.old.net).lent }
+    ensures left { (cfg : C.Settings) (turns : List Turn) (count : ℕ) (first : L) (to : Place) (first_net : N) → Halted (C.meaning cfg) (C.stands cfg) C.seen turns L.seen L.wrote first conn.old.client conn.old.server to (N.seen first_net) (N.seen conn.old.net) None count
+        → LeftAt (C.meaning cfg) (C.stands cfg) C.seen turns L.seen L.wrote first conn.new.client conn.new.server to (N.seen first_net) (N.seen conn.new.net) None count }
     ensures ran { conn.new.ran ≡ conn.old.ran }
-    ensures server { conn.new.server ≡ None }
 {
     give_back(&mut conn.server, &mut conn.net);
     conn.client.close(Close::Failed);

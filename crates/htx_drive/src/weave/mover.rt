@@ -1,16 +1,17 @@
 //! A connection that has a core moves, and where its session is over it ends.
-ghost use Rattle.std.specs.Prelude.{◌≡◌, ◌<◌, ℕ, List, None, true, false, is_some, OnOk, OnErr, IfOk};
+ghost use Rattle.std.specs.Prelude.{◌≡◌, ◌<◌, ◌≤◌, ℕ, List, None, true, false, is_some, OnOk, OnErr, IfOk};
 ghost use Rattle.session_core.specs.History.{Past};
 ghost use Rattle.px_link.specs.Net.{address_of};
 ghost use Rattle.px_link.specs.declared.turns.Turn.{Turn};
 ghost use Rattle.px_link.specs.Turns.{first_of, rest_of};
 ghost use Rattle.htx_drive.specs.Underway.{Stopped, LeftSo};
 ghost use Rattle.htx_drive.specs.Weave.Woven.{Pays, Going};
-ghost use Rattle.htx_drive.specs.Weave.Went.{GoesAs, OverSo, HoldsOn, SpentSo};
+ghost use Rattle.htx_drive.specs.Weave.Went.{GoesAs, OverSo, HoldsOn, SpentSo, LowersSo};
 
+use crate::resources::Resources;
 use crate::weave::conn::Conn;
 use crate::weave::ends::{fail, finish};
-use crate::weave::moves::{Moved, Resources, moves};
+use crate::weave::moves::{Moved, moves};
 use crate::{Address, Link, Machine, Net, OutOfMemory, SessionFault, Turn};
 
 /// What a move of a connection that has a core came to.
@@ -44,6 +45,8 @@ pub(crate) fn goes<C: Machine, L: Link, N: Net<Link = L>>(
         (Pays total resources.new.left (λ count. (left : List Turn) × Stopped (LeftSo (C.meaning cfg) (C.stands cfg) C.seen all left count core.new false) L.seen L.wrote first conn.new.client false (address_of to.now) (N.seen first_net) (N.seen conn.new.net) count)) }
     ensures on { IfOk result (λ went. HoldsOn went (C.seen core.new).serving conn.new.server (N.seen conn.new.net).lent conn.new.ran) }
     ensures spent { IfOk result (λ went. SpentSo went resources.new.left) }
+    ensures lowers { IfOk result (λ went. LowersSo turn went resources.old.left resources.new.left) }
+    ensures no_more { resources.new.left ≤ resources.old.left }
     ensures lost { OnErr result ((conn.new.server ≡ None) × (conn.new.ran ≡ None)) }
 {
     match moves(conn, core, to, turn, resources) {

@@ -1,21 +1,16 @@
 //! One move of one connection: steps, until it took its turn or its session is over.
-ghost use Rattle.std.specs.Prelude.{◌≡◌, ◌<◌, ◌+◌, ℕ, List, None, true, is_some, IfOk, OnOk, OnErr, IsErrOf};
+ghost use Rattle.std.specs.Prelude.{◌≡◌, ◌<◌, ◌≤◌, ◌+◌, ℕ, List, None, true, is_some, IfOk, OnOk, OnErr, IsErrOf};
 ghost use Rattle.px_link.specs.Net.{address_of};
 ghost use Rattle.px_link.specs.declared.turns.Turn.{Turn};
 ghost use Rattle.px_link.specs.Turns.{first_of};
 ghost use Rattle.htx_drive.specs.Driven.{Ends, paid_by};
 ghost use Rattle.htx_drive.specs.Underway.{Stopped, LeftSo};
-ghost use Rattle.htx_drive.specs.Weave.Woven.{Pays, Going, ahead_behind, OverIs, SpentIs};
+ghost use Rattle.htx_drive.specs.Weave.Woven.{Pays, Going, ahead_behind, OverIs, SpentIs, Lowers};
 
+use crate::resources::Resources;
 use crate::weave::conn::Conn;
 use crate::weave::step::step;
 use crate::{Address, Did, End, Link, Machine, Net, SessionFault, Turn};
-
-/// What all connections share beside the cores: what is left of the budget, and a buffer for reads.
-pub(crate) struct Resources {
-    pub left: u64,
-    pub buffer: [u8; 4096],
-}
 
 /// What a move came to.
 #[derive(Clone, Copy)]
@@ -55,6 +50,8 @@ pub(crate) fn moves<C: Machine, L: Link, N: Net<Link = L>>(
         → Ends result (λ did. Pays total resources.new.left (Going (C.stands cfg) C.seen all (ahead_behind did ahead) core.new L.seen L.wrote first conn.new.client conn.new.server (address_of to.now) (N.seen first_net) (N.seen conn.new.net))) (λ failed. Pays total resources.new.left (λ count. (left : List Turn) × Stopped (LeftSo (C.meaning cfg) (C.stands cfg) C.seen all left count core.new failed) L.seen L.wrote first conn.new.client failed (address_of to.now) (N.seen first_net) (N.seen conn.new.net) count)) }
     ensures over { IfOk result (λ did. OverIs did (C.seen core.new).wants) }
     ensures spent { IfOk result (λ did. SpentIs did resources.new.left) }
+    ensures lowers { IfOk result (λ did. Lowers turn did resources.old.left resources.new.left) }
+    ensures no_more { resources.new.left ≤ resources.old.left }
     ensures serving { OnOk result ((C.seen core.new).serving ≡ is_some conn.new.server) }
     ensures lent { OnOk result (is_some conn.new.server ≡ true → 0 < (N.seen conn.new.net).lent) }
     ensures unspent { IsErrOf result SessionFault.Spent → ⊥ }

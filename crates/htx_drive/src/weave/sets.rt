@@ -1,20 +1,23 @@
 //! Connections and the cores of a pool.
-ghost use Rattle.std.specs.Prelude.{◌≡◌, ◌≢◌, ◌<◌, ℕ, List, Some, None, true, false, is_some, OnOk, OnErr, IfOk, IfSome, ◌≤◌, ◌-◌, length, slice_get};
+ghost use Rattle.std.specs.Prelude.{◌≡◌, ◌≢◌, ◌<◌, ◌≤◌, ◌⊎◌, ℕ, List, Some, None, true, false, is_some, OnOk, OnErr, IfOk, IfSome, IsErrOf};
 ghost use Rattle.std.specs.List.{AllByRecursion};
 ghost use Rattle.session_core.specs.History.{Past, nothing_yet};
 ghost use Rattle.px_link.specs.Net.{address_of};
 ghost use Rattle.px_link.specs.declared.turns.Turn.{Turn};
 ghost use Rattle.px_link.specs.Turns.{first_of, rest_of};
-ghost use Rattle.px_pool.specs.Owners.{has_one, all_out};
+ghost use Rattle.px_pool.specs.Owners.{has_one, all_out, SameBeside};
 ghost use Rattle.px_pool.specs.Seats.{core_of, free_of};
 ghost use Rattle.htx_drive.specs.Underway.{Stopped, LeftSo};
 ghost use Rattle.htx_drive.specs.Weave.Woven.{Pays, Going};
-ghost use Rattle.htx_drive.specs.Weave.Went.{GoesAs, OverSo, HoldsOn, SpentSo};
-ghost use Rattle.htx_drive.specs.Weave.State.{IsReady, IsFresh, Seated, SetSo, MayMove, IsAt, ahead_more};
+ghost use Rattle.htx_drive.specs.Weave.Went.{GoesAs, OverSo, HoldsOn, SpentSo, LowersSo, OnEnded};
+ghost use Rattle.htx_drive.specs.Weave.State.{IsReady, IsFresh, Seated, SetSo, MayMove, IsAt};
+ghost use Rattle.htx_drive.specs.Weave.Rounds.{MovedOn, Rested};
+ghost use Rattle.htx_drive.specs.Weave.Halted.{Halted, IsLent};
 
+use crate::resources::Resources;
 use crate::weave::conn::Conn;
+use crate::weave::fault::WeaveFault;
 use crate::weave::mover::{Went, goes};
-use crate::weave::moves::Resources;
 use crate::weave::resets::Resets;
 use crate::{Address, Link, Net, OutOfMemory, Turn};
 use px_pool::{Pool, Took};
@@ -24,6 +27,8 @@ fn give<C: Resets>(pool: &mut Pool<C>, number: u32)
     requires has { has_one number pool.old.owners ≡ true }
     requires sound { IfSome (core_of number pool.old) C.sound }
     ensures none { core_of number pool.new ≡ None }
+    ensures gone { has_one number pool.new.owners ≡ false }
+    ensures beside { SameBeside number pool.old.owners pool.new.owners }
     ensures others { (other : ℕ) → other ≢ number → core_of other pool.new ≡ core_of other pool.old }
     ensures ready { AllByRecursion (IsReady C.seen C.sound) (free_of pool.old) → AllByRecursion (IsReady C.seen C.sound) (free_of pool.new) }
     ensures fresh { (cfg : C.Settings) → IfSome (core_of number pool.old) (λ core. (past : Past) × C.stands cfg core past) → AllByRecursion (IsFresh (C.stands cfg)) (free_of pool.old) → AllByRecursion (IsFresh (C.stands cfg)) (free_of pool.new) }
@@ -36,6 +41,8 @@ fn give<C: Resets>(pool: &mut Pool<C>, number: u32)
 fn seated<C: Resets>(pool: &mut Pool<C>, number: u32) -> bool
     ensures has { result ≡ true → has_one number pool.new.owners ≡ true }
     ensures wait { result ≡ false → (core_of number pool.old ≡ None) × (all_out pool.old.owners ≡ true) × (pool.new ≡ pool.old) }
+    ensures none { result ≡ false → has_one number pool.old.owners ≡ false }
+    ensures beside { SameBeside number pool.old.owners pool.new.owners }
     ensures others { (other : ℕ) → other ≢ number → core_of other pool.new ≡ core_of other pool.old }
     ensures seated { Seated number pool.old pool.new }
 {
@@ -67,8 +74,12 @@ fn set_goes<C: Resets, L: Link, N: Net<Link = L>>(
         → GoesAs result (IfSome (core_of number pool.new) (λ core. Pays total resources.new.left (Going (C.stands cfg) C.seen all (rest_of ahead) core L.seen L.wrote first conn.new.client conn.new.server (address_of to.now) (N.seen first_net) (N.seen conn.new.net))))
         (Pays total resources.new.left (OverSo (C.meaning cfg) (C.stands cfg) C.seen all L.seen L.wrote first conn.new.client (address_of to.now) (N.seen first_net) (N.seen conn.new.net) conn.new.ran))
         (IfSome (core_of number pool.new) (λ core. Pays total resources.new.left (Going (C.stands cfg) C.seen all ahead core L.seen L.wrote first conn.new.client conn.new.server (address_of to.now) (N.seen first_net) (N.seen conn.new.net))))
-        (IfSome (core_of number pool.new) (λ core. Pays total resources.new.left (λ count. (left : List Turn) × Stopped (LeftSo (C.meaning cfg) (C.stands cfg) C.seen all left count core false) L.seen L.wrote first conn.new.client false (address_of to.now) (N.seen first_net) (N.seen conn.new.net) count))) }
+        ((core : C) × Pays total resources.new.left (λ count. (left : List Turn) × Stopped (LeftSo (C.meaning cfg) (C.stands cfg) C.seen all left count core false) L.seen L.wrote first conn.new.client false (address_of to.now) (N.seen first_net) (N.seen conn.new.net) count)) }
     ensures spent { IfOk result (λ went. SpentSo went resources.new.left) }
+    ensures lowers { IfOk result (λ went. LowersSo turn went resources.old.left resources.new.left) }
+    ensures no_more { resources.new.left ≤ resources.old.left }
+    ensures beside { SameBeside number pool.old.owners pool.new.owners }
+    ensures gone { IfOk result (λ went. OnEnded went (has_one number pool.new.owners ≡ false)) }
     ensures keeps { IfOk result (λ went. SetSo went C.seen C.sound (core_of number pool.new) conn.new.server (N.seen conn.new.net).lent conn.new.ran) }
     ensures ready { OnOk result (AllByRecursion (IsReady C.seen C.sound) (free_of pool.old) → AllByRecursion (IsReady C.seen C.sound) (free_of pool.new)) }
     ensures fresh { (cfg : C.Settings) (all ahead : List Turn) (total : ℕ) (first : L) (first_net : N) → turn ≡ first_of ahead → IfSome (core_of number pool.old) (λ core. Pays total resources.old.left (Going (C.stands cfg) C.seen all ahead core L.seen L.wrote first conn.old.client conn.old.server (address_of to.now) (N.seen first_net) (N.seen conn.old.net)))
@@ -86,7 +97,7 @@ fn set_goes<C: Resets, L: Link, N: Net<Link = L>>(
     }
 }
 
-/// The move of a connection: one that has ended, or that gets no core, does nothing. Whether something was left of the budget.
+/// The move of a connection: one that has ended, or that gets no core, does nothing.
 pub(crate) fn move_of<C: Resets, L: Link, N: Net<Link = L>>(
     pool: &mut Pool<C>,
     conn: &mut Conn<L, N>,
@@ -94,7 +105,7 @@ pub(crate) fn move_of<C: Resets, L: Link, N: Net<Link = L>>(
     to: &Address,
     turn: Option<Turn>,
     resources: &mut Resources,
-) -> Result<bool, OutOfMemory>
+) -> Result<(), WeaveFault>
     requires may { MayMove C.seen C.sound conn.old.server (N.seen conn.old.net).lent conn.old.ran (core_of number pool.old) }
     requires ready { AllByRecursion (IsReady C.seen C.sound) (free_of pool.old) }
     ensures others { (other : ℕ) → other ≢ number → core_of other pool.new ≡ core_of other pool.old }
@@ -102,22 +113,30 @@ pub(crate) fn move_of<C: Resets, L: Link, N: Net<Link = L>>(
     ensures ready { OnOk result (AllByRecursion (IsReady C.seen C.sound) (free_of pool.new)) }
     ensures at { (cfg : C.Settings) (turns ahead : List Turn) (total : ℕ) (first : L) (first_net : N) → turn ≡ first_of ahead → AllByRecursion (IsFresh (C.stands cfg)) (free_of pool.old)
         → Pays total resources.old.left (IsAt (C.meaning cfg) (C.stands cfg) C.seen C.sound turns ahead L.seen L.wrote first conn.old.client conn.old.server (address_of to.now) (N.seen first_net) (N.seen conn.old.net) conn.old.ran (core_of number pool.old))
-        → IfOk result (λ more. Pays total resources.new.left (IsAt (C.meaning cfg) (C.stands cfg) C.seen C.sound turns (ahead_more more ahead) L.seen L.wrote first conn.new.client conn.new.server (address_of to.now) (N.seen first_net) (N.seen conn.new.net) conn.new.ran (core_of number pool.new))) }
+        → OnOk result (Pays total resources.new.left (IsAt (C.meaning cfg) (C.stands cfg) C.seen C.sound turns (rest_of ahead) L.seen L.wrote first conn.new.client conn.new.server (address_of to.now) (N.seen first_net) (N.seen conn.new.net) conn.new.ran (core_of number pool.new))) }
     ensures fresh { (cfg : C.Settings) (turns ahead : List Turn) (total : ℕ) (first : L) (first_net : N) → turn ≡ first_of ahead → AllByRecursion (IsFresh (C.stands cfg)) (free_of pool.old)
         → Pays total resources.old.left (IsAt (C.meaning cfg) (C.stands cfg) C.seen C.sound turns ahead L.seen L.wrote first conn.old.client conn.old.server (address_of to.now) (N.seen first_net) (N.seen conn.old.net) conn.old.ran (core_of number pool.old))
         → OnOk result (AllByRecursion (IsFresh (C.stands cfg)) (free_of pool.new)) }
+    ensures halted { (cfg : C.Settings) (turns ahead : List Turn) (total : ℕ) (first : L) (first_net : N) → turn ≡ first_of ahead → AllByRecursion (IsFresh (C.stands cfg)) (free_of pool.old)
+        → Pays total resources.old.left (IsAt (C.meaning cfg) (C.stands cfg) C.seen C.sound turns ahead L.seen L.wrote first conn.old.client conn.old.server (address_of to.now) (N.seen first_net) (N.seen conn.old.net) conn.old.ran (core_of number pool.old))
+        → OnErr result (Pays total resources.new.left (Halted (C.meaning cfg) (C.stands cfg) C.seen turns L.seen L.wrote first conn.new.client conn.new.server (address_of to.now) (N.seen first_net) (N.seen conn.new.net) conn.new.ran)) }
+    ensures spent { IsErrOf result WeaveFault.Spent → resources.new.left ≡ 0 }
+    ensures lent { OnErr result (IsLent conn.new.server (N.seen conn.new.net).lent) }
     ensures ended { is_some conn.old.ran ≡ true → (conn.new ≡ conn.old) × (pool.new ≡ pool.old) }
+    ensures beside { SameBeside number pool.old.owners pool.new.owners }
+    ensures gone { conn.old.ran ≡ None → OnOk result (is_some conn.new.ran ≡ true → has_one number pool.new.owners ≡ false) }
+    ensures lowers { turn ≡ None → OnOk result (MovedOn conn.old conn.new resources.old.left resources.new.left ⊎ Rested number pool.old pool.new conn.old conn.new resources.old.left resources.new.left) }
 {
     if conn.ran.is_some() {
-        return Ok(true);
+        return Ok(());
     }
     if !seated(pool, number) {
-        return Ok(true);
+        return Ok(());
     }
     match set_goes(pool, conn, number, to, turn, resources) {
-        Ok(Went::On) => Ok(true),
-        Ok(Went::Ended) => Ok(true),
-        Ok(Went::Spent) => Ok(false),
-        Err(OutOfMemory) => Err(OutOfMemory),
+        Ok(Went::On) => Ok(()),
+        Ok(Went::Ended) => Ok(()),
+        Ok(Went::Spent) => Err(WeaveFault::Spent),
+        Err(OutOfMemory) => Err(WeaveFault::OutOfMemory),
     }
 }

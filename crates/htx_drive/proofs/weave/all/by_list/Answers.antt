@@ -1,38 +1,31 @@
-use Rattle.std.proofs.Common.{rules, ◌≡◌, ℕ, List, [], ◌∷◌, Some, None, true, ap, sym, subst, ◌∙◌}
-use Rattle.std.proofs.lemmas.Bool.{false≢true}
+use Rattle.std.proofs.Common.{rules, ◌≡◌, ℕ, List, Some, None, sym, subst, ◌∙◌}
 use Rattle.px_link.specs.Net.{address_of}
 use Rattle.px_link.specs.Turns.{first_of, rest_of}
 use Rattle.px_link.specs.declared.turns.Turn.{Turn}
-use Rattle.htx_drive.specs.Weave.All.{left_behind, AllAt}
+use Rattle.htx_drive.specs.Weave.All.{AllAt}
 use Rattle.htx_drive.proofs.WeaveLemmas.All.{none_left, head_is, rest_within}
 use Rattle.htx_drive.proofs.weave.all.by_list.Goals as goal
 
 pub returns-in_default-clause-at : goal.returns-in_default-clause-at
 returns-in_default-clause-at g c = λ cfg turns firsts budget all.
-    let none : first_of (g.W.Weft.left c.turns.weft) ≡ None = search rules in (
-      g.W.Weft.left c.next.new.self,
-      (λ e. c.next.ensures.rest ∙ ap (λ (l : List (ℕ × Turn)). rest_of l) (none_left _ none)),
-      subst (λ (l : List (ℕ × Turn)). AllAt (g.C.Machine.meaning cfg) (g.C.Machine.stands cfg) g.C.Machine.seen g.C.Machine.sound g.L.Link.seen g.L.Link.wrote g.N.Net.seen (address_of c.args.to.now) turns l firsts c.turns.conns c.turns.pool budget c.turns.resources.left)
-          (none_left _ none ∙ sym (c.next.ensures.rest ∙ ap (λ (l : List (ℕ × Turn)). rest_of l) (none_left _ none))) (c.turns.invariant.at cfg turns firsts budget all),
-    )
+    let none : first_of (g.W.Weft.left c.turns.weft) ≡ None = search rules in
+    subst (λ (l : List (ℕ × Turn)). AllAt (g.C.Machine.meaning cfg) (g.C.Machine.stands cfg) g.C.Machine.seen g.C.Machine.sound g.L.Link.seen g.L.Link.wrote g.N.Net.seen (address_of c.args.to.now) turns l firsts c.turns.conns c.turns.pool budget c.turns.resources.left) (none_left _ none) (c.turns.invariant.at cfg turns firsts budget all)
 
 pub turns-preserved : goal.turns-preserved
 turns-preserved g c =
     let left : List (ℕ × Turn) = g.W.Weft.left c.turns.weft in
     let some : first_of left ≡ Some (c.in-Some.number, c.in-Some.turn) = search rules in
     record {
-      within = rest_within _ _ left _ c.in-Ok-true.ensures.length c.next.ensures.rest c.turns.invariant.within;
-      may = c.in-Ok-true.ensures.may;
-      ready = c.in-Ok-true.ensures.ready;
-      len = c.in-Ok-true.ensures.length ∙ c.turns.invariant.len;
+      within = rest_within _ _ left _ c.in-Ok.ensures.length c.next.ensures.rest c.turns.invariant.within;
+      may = c.in-Ok.ensures.may;
+      len = c.in-Ok.ensures.length ∙ c.turns.invariant.len;
       at = λ cfg turns firsts budget all.
-          subst (λ (l : List (ℕ × Turn)). AllAt (g.C.Machine.meaning cfg) (g.C.Machine.stands cfg) g.C.Machine.seen g.C.Machine.sound g.L.Link.seen g.L.Link.wrote g.N.Net.seen (address_of c.args.to.now) turns l firsts c.move_at.new.conns c.move_at.new.pool budget c.move_at.new.resources.left)
-          (ap (λ b. left_behind b left) c.in-Ok-true.field-0-test ∙ sym c.next.ensures.rest)
-          (c.in-Ok-true.ensures.at cfg turns left firsts budget (rest_of left, head_is left _ some) (c.turns.invariant.at cfg turns firsts budget all));
+          subst (λ (l : List (ℕ × Turn)). AllAt (g.C.Machine.meaning cfg) (g.C.Machine.stands cfg) g.C.Machine.seen g.C.Machine.sound g.L.Link.seen g.L.Link.wrote g.N.Net.seen (address_of c.args.to.now) turns l firsts c.move_at.new.conns c.move_at.new.pool budget c.move_at.new.resources.left) (sym c.next.ensures.rest)
+          (c.in-Ok.ensures.at cfg turns left firsts budget (rest_of left, head_is left _ some) (c.turns.invariant.at cfg turns firsts budget all));
     }
 
-pub returns-in-Ok-false-clause-at : goal.returns-in-Ok-false-clause-at
-returns-in-Ok-false-clause-at g c = λ cfg turns firsts budget all.
+pub returns-in-Err-clause-halted : goal.returns-in-Err-clause-halted
+returns-in-Err-clause-halted g c = λ cfg turns firsts budget all.
     let left : List (ℕ × Turn) = g.W.Weft.left c.turns.weft in
     let some : first_of left ≡ Some (c.in-Some.number, c.in-Some.turn) = search rules in
-    (left_behind c.in-Ok-false.field-0 left, (λ e. absurd (false≢true e)), c.in-Ok-false.ensures.at cfg turns left firsts budget (rest_of left, head_is left _ some) (c.turns.invariant.at cfg turns firsts budget all))
+    c.in-Err.ensures.halted cfg turns left firsts budget (rest_of left, head_is left _ some) (c.turns.invariant.at cfg turns firsts budget all)

@@ -1,10 +1,7 @@
 use Rattle.std.proofs.Common.{◌≡◌, ℕ, List, length}
-use Rattle.std.specs.List.{AllByRecursion}
 use Rattle.px_link.specs.Net.{address_of}
 use Rattle.px_link.specs.declared.turns.Turn.{Turn}
-use Rattle.px_pool.specs.Seats.{free_of}
-use Rattle.htx_drive.specs.Weave.State.{IsReady}
-use Rattle.htx_drive.specs.Weave.All.{AreWithin, AllMay, AllAt}
+use Rattle.htx_drive.specs.Weave.All.{AreWithin, MayGoOn, AllAt}
 use Rattle.htx_drive.specs.declared.weave.conn.Conn.{Conn}
 use Rattle.htx_drive.proofs.weave.all.by_list.Given as goal
 
@@ -12,8 +9,7 @@ abbrev pub invariant-turns : goal.invariant-turns
 invariant-turns g l =
     record {
       within : AreWithin (length l.conns) (g.W.Weft.left l.weft);
-      may : AllMay g.C.Machine.seen g.C.Machine.sound g.N.Net.seen l.pool l.conns;
-      ready : AllByRecursion (IsReady g.C.Machine.seen g.C.Machine.sound) (free_of l.pool);
+      may : MayGoOn g.C.Machine.seen g.C.Machine.sound g.N.Net.seen l.pool l.conns;
       len : length l.conns ≡ length l.initial.conns;
       at : (cfg : g.row.C-Settings.Denot) (turns : List (ℕ × Turn)) (firsts : List (Conn g.row.L.Denot g.row.N.Denot)) (budget : ℕ)
           → AllAt (g.C.Machine.meaning cfg) (g.C.Machine.stands cfg) g.C.Machine.seen g.C.Machine.sound g.L.Link.seen g.L.Link.wrote g.N.Net.seen (address_of l.to) turns (g.W.Weft.left l.initial.weft) firsts l.initial.conns l.initial.pool budget l.initial.resources.left

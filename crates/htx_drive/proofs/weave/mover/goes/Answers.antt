@@ -1,4 +1,4 @@
-use Rattle.std.proofs.Common.{◌≡◌, refl, sym, ap, subst, ◌∙◌, true}
+use Rattle.std.proofs.Common.{refl, true}
 use Rattle.px_link.specs.Net.{address_of}
 use Rattle.htx_drive.specs.declared.SessionFault.TheVariants as faults
 use Rattle.htx_drive.specs.declared.weave.moves.Moved.TheVariants as moves

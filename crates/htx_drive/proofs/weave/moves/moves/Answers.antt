@@ -1,4 +1,4 @@
-use Rattle.std.proofs.Common.{◌≡◌, ◌+◌, ◌∙◌, arith}
+use Rattle.std.proofs.Common.{◌+◌, ◌∙◌, arith}
 use Rattle.htx_drive.specs.Driven.{paid_more}
 use Rattle.htx_drive.specs.declared.step.Did.TheVariants as did
 use Rattle.htx_drive.proofs.WeaveLemmas.Moving.{as_did, turned_pays}
@@ -19,6 +19,7 @@ steps-preserved-in-Ok-Opened g c =
       serving = c.in-Ok-Opened.ensures.serving;
       lent = c.in-Ok-Opened.ensures.lent;
       ran = c.in-Ok-Opened.ensures.ran ∙ c.steps.invariant.ran;
+      no_more = omega (arith, c.steps.invariant.no_more);
     }
 
 pub returns-in-Ok-Turned-clause-goes : goal.returns-in-Ok-Turned-clause-goes

@@ -1,4 +1,4 @@
-use Rattle.std.proofs.Common.{◌≡◌, ◌<◌, ◌+◌, ◌*◌, ℕ, List, true, is_some, if◌then◌else◌}
+use Rattle.std.proofs.Common.{◌≡◌, ◌<◌, ◌≤◌, ◌+◌, ◌*◌, ℕ, List, true, is_some, if◌then◌else◌}
 use Rattle.px_link.specs.Net.{address_of}
 use Rattle.px_link.specs.declared.turns.Turn.{Turn}
 use Rattle.px_link.specs.Turns.{first_of}
@@ -15,6 +15,7 @@ invariant-steps g l =
       serving : (g.C.Machine.seen l.core).serving ≡ is_some l.conn.server;
       lent : is_some l.conn.server ≡ true → 0 < (g.N.Net.seen l.conn.net).lent;
       ran : l.conn.ran ≡ l.initial.conn.ran;
+      no_more : l.resources.left ≤ l.initial.resources.left;
     }
 
 abbrev pub decreases-steps : goal.decreases-steps

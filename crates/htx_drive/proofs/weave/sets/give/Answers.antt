@@ -1,4 +1,4 @@
-use Rattle.std.proofs.Common.{◌≡◌, ◌∙◌}
+use Rattle.std.proofs.Common.{◌∙◌}
 use Rattle.session_core.specs.History.{Past}
 use Rattle.px_pool.specs.Seats.{core_of, free_of}
 use Rattle.htx_drive.proofs.WeaveLemmas.Seating.{reset_free, some_of}

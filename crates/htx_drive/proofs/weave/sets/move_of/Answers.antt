@@ -1,12 +1,12 @@
-use Rattle.std.proofs.Common.{rules, ◌≡◌, ℕ, Option, None, false, refl, sym, ap, subst, ◌∙◌}
+use Rattle.std.proofs.Common.{rules, ◌≡◌, ℕ, None, false, sym, ap, subst}
 use Rattle.std.specs.Prelude.{drop}
 use Rattle.px_link.specs.Net.{address_of}
 use Rattle.px_link.specs.Turns.{rest_of}
-use Rattle.px_pool.specs.Owners.{has_one}
 use Rattle.px_pool.specs.Seats.{Seats, core_of, free_of}
 use Rattle.htx_drive.specs.Weave.Woven.{Pays}
 use Rattle.htx_drive.specs.Weave.State.{IsAt, IsFresh}
-use Rattle.htx_drive.proofs.WeaveLemmas.Seating.{free_kept, free_seated}
+use Rattle.htx_drive.proofs.WeaveLemmas.Seating.{free_kept, free_seated, beside_both}
+use Rattle.htx_drive.proofs.WeaveLemmas.Halting.{pays_halts, halts_unroomed}
 use Rattle.htx_drive.proofs.WeaveLemmas.Places.{begun, waits_more, at_on, at_spent, at_done, on_of, spent_of, ended_of}
 use Rattle.htx_drive.proofs.weave.sets.move_of.Goals as goal
 
@@ -36,13 +36,13 @@ returns-in-Ok-Ended-clause-at g c = λ cfg turns ahead total first first_net e f
     at_done (g.C.Machine.meaning cfg) (g.C.Machine.stands cfg) g.C.Machine.seen g.C.Machine.sound turns (rest_of ahead) g.L.Link.seen g.L.Link.wrote first c.set_goes.new.conn.client c.set_goes.new.conn.server (address_of c.args.to.now) (g.N.Net.seen first_net) (g.N.Net.seen c.set_goes.new.conn.net) total c.set_goes.new.resources.left b.waited c.set_goes.new.conn.ran (core_of c.args.number c.set_goes.new.pool)
     c.in-Ok-Ended.field-0 c.in-Ok-Ended.field-0-is c.in-Ok-Ended.ensures.keeps (ended_of ℕ _ _ _ _ c.in-Ok-Ended.field-0 c.in-Ok-Ended.field-0-is (c.in-Ok-Ended.ensures.goes cfg (drop b.waited turns) ahead total first first_net e b.go))
 
-pub returns-in-Ok-Spent-clause-at : goal.returns-in-Ok-Spent-clause-at
-returns-in-Ok-Spent-clause-at g c = λ cfg turns ahead total first first_net e free p.
+pub returns-in-Ok-Spent-clause-halted : goal.returns-in-Ok-Spent-clause-halted
+returns-in-Ok-Spent-clause-halted g c = λ cfg turns ahead total first first_net e free p.
     let conn = c.args.conn.now in
     let none : conn.ran ≡ None = search rules in
     let b = begun (g.C.Machine.meaning cfg) (g.C.Machine.stands cfg) g.C.Machine.seen g.C.Machine.sound turns ahead g.L.Link.seen g.L.Link.wrote first (address_of c.args.to.now) (g.N.Net.seen first_net) conn.client conn.server (g.N.Net.seen conn.net) total c.args.resources.now.left c.args.number conn.ran c.args.pool.now c.seated.new.pool none c.seated.ensures.seated free p in
-    at_spent (g.C.Machine.meaning cfg) (g.C.Machine.stands cfg) g.C.Machine.seen g.C.Machine.sound turns ahead g.L.Link.seen g.L.Link.wrote first c.set_goes.new.conn.client c.set_goes.new.conn.server (address_of c.args.to.now) (g.N.Net.seen first_net) (g.N.Net.seen c.set_goes.new.conn.net) total c.set_goes.new.resources.left b.waited c.set_goes.new.conn.ran (core_of c.args.number c.set_goes.new.pool)
-    c.in-Ok-Spent.field-0 c.in-Ok-Spent.field-0-is c.in-Ok-Spent.ensures.keeps (spent_of ℕ _ _ _ _ c.in-Ok-Spent.field-0 c.in-Ok-Spent.field-0-is (c.in-Ok-Spent.ensures.goes cfg (drop b.waited turns) ahead total first first_net e b.go))
+    pays_halts (g.C.Machine.meaning cfg) (g.C.Machine.stands cfg) g.C.Machine.seen turns g.L.Link.seen g.L.Link.wrote first (address_of c.args.to.now) (g.N.Net.seen first_net) g.C.Machine.sound ahead c.set_goes.new.conn.client c.set_goes.new.conn.server (g.N.Net.seen c.set_goes.new.conn.net) c.set_goes.new.conn.ran (core_of c.args.number c.set_goes.new.pool) total c.set_goes.new.resources.left
+    (at_spent (g.C.Machine.meaning cfg) (g.C.Machine.stands cfg) g.C.Machine.seen g.C.Machine.sound turns ahead g.L.Link.seen g.L.Link.wrote first c.set_goes.new.conn.client c.set_goes.new.conn.server (address_of c.args.to.now) (g.N.Net.seen first_net) (g.N.Net.seen c.set_goes.new.conn.net) total c.set_goes.new.resources.left b.waited c.set_goes.new.conn.ran (core_of c.args.number c.set_goes.new.pool) c.in-Ok-Spent.field-0 c.in-Ok-Spent.field-0-is c.in-Ok-Spent.ensures.keeps (spent_of ℕ _ _ _ _ c.in-Ok-Spent.field-0 c.in-Ok-Spent.field-0-is (c.in-Ok-Spent.ensures.goes cfg (drop b.waited turns) ahead total first first_net e b.go)))
 
 pub returns-then-not-seated-clause-fresh : goal.returns-then-not-seated-clause-fresh
 returns-then-not-seated-clause-fresh g c = λ cfg turns ahead total first first_net e free p.
@@ -63,9 +63,23 @@ returns-in-Ok-Ended-clause-fresh g c = λ cfg turns ahead total first first_net 
     let b = begun (g.C.Machine.meaning cfg) (g.C.Machine.stands cfg) g.C.Machine.seen g.C.Machine.sound turns ahead g.L.Link.seen g.L.Link.wrote first (address_of c.args.to.now) (g.N.Net.seen first_net) conn.client conn.server (g.N.Net.seen conn.net) total c.args.resources.now.left c.args.number conn.ran c.args.pool.now c.seated.new.pool none c.seated.ensures.seated free p in
     c.in-Ok-Ended.ensures.fresh cfg (drop b.waited turns) ahead total first first_net e b.go (free_seated (IsFresh (g.C.Machine.stands cfg)) c.args.number c.args.pool.now c.seated.new.pool c.seated.ensures.seated free)
 
-pub returns-in-Ok-Spent-clause-fresh : goal.returns-in-Ok-Spent-clause-fresh
-returns-in-Ok-Spent-clause-fresh g c = λ cfg turns ahead total first first_net e free p.
+pub returns-in-Err-clause-halted : goal.returns-in-Err-clause-halted
+returns-in-Err-clause-halted g c = λ cfg turns ahead total first first_net e free p.
     let conn = c.args.conn.now in
     let none : conn.ran ≡ None = search rules in
     let b = begun (g.C.Machine.meaning cfg) (g.C.Machine.stands cfg) g.C.Machine.seen g.C.Machine.sound turns ahead g.L.Link.seen g.L.Link.wrote first (address_of c.args.to.now) (g.N.Net.seen first_net) conn.client conn.server (g.N.Net.seen conn.net) total c.args.resources.now.left c.args.number conn.ran c.args.pool.now c.seated.new.pool none c.seated.ensures.seated free p in
-    c.in-Ok-Spent.ensures.fresh cfg (drop b.waited turns) ahead total first first_net e b.go (free_seated (IsFresh (g.C.Machine.stands cfg)) c.args.number c.args.pool.now c.seated.new.pool c.seated.ensures.seated free)
+    let s = c.in-Err.ensures.goes cfg (drop b.waited turns) ahead total first first_net e b.go in
+    let lost = c.in-Err.ensures.lost in
+    halts_unroomed (g.C.Machine.meaning cfg) (g.C.Machine.stands cfg) g.C.Machine.seen turns g.L.Link.seen g.L.Link.wrote first (address_of c.args.to.now) (g.N.Net.seen first_net) s.0 c.set_goes.new.conn.client c.set_goes.new.conn.server (g.N.Net.seen c.set_goes.new.conn.net) c.set_goes.new.conn.ran b.waited total c.set_goes.new.resources.left lost.0 lost.1 s.1
+
+pub returns-in-Ok-On-clause-beside : goal.returns-in-Ok-On-clause-beside
+returns-in-Ok-On-clause-beside g c = beside_both _ _ _ _ c.seated.ensures.beside c.in-Ok-On.ensures.beside
+
+pub returns-in-Ok-Ended-clause-beside : goal.returns-in-Ok-Ended-clause-beside
+returns-in-Ok-Ended-clause-beside g c = beside_both _ _ _ _ c.seated.ensures.beside c.in-Ok-Ended.ensures.beside
+
+pub returns-in-Ok-Spent-clause-beside : goal.returns-in-Ok-Spent-clause-beside
+returns-in-Ok-Spent-clause-beside g c = beside_both _ _ _ _ c.seated.ensures.beside c.in-Ok-Spent.ensures.beside
+
+pub returns-in-Err-clause-beside : goal.returns-in-Err-clause-beside
+returns-in-Err-clause-beside g c = beside_both _ _ _ _ c.seated.ensures.beside c.in-Err.ensures.beside

@@ -1,4 +1,4 @@
-use Rattle.std.proofs.Common.{◌≡◌, ◌∙◌, ℕ, Some, None}
+use Rattle.std.proofs.Common.{◌∙◌, ℕ}
 use Rattle.session_core.specs.History.{Past}
 use Rattle.px_pool.specs.Seats.{core_of}
 use Rattle.htx_drive.specs.Weave.State.{IsReady, IsFresh}
@@ -49,3 +49,7 @@ pub returns-in-Ok-Ended-clause-fresh : goal.returns-in-Ok-Ended-clause-fresh
 returns-in-Ok-Ended-clause-fresh g c = λ cfg all ahead total first first_net e h free.
     let k = ended_of ℕ _ _ _ _ c.in-Ok-Ended.field-0 c.in-Ok-Ended.field-0-is (c.in-Ok-Ended.ensures.goes cfg all ahead total first first_net e (some_of _ (core_of c.args.number c.args.pool.now) c.core.result.now c.core.ensures.value h)) in
     c.give.ensures.fresh cfg (some_has (λ core. (past : Past) × g.C.Machine.stands cfg core past) _ c.goes.new.core (c.core.ensures.put c.goes.new.core) k.1) (free_kept (IsFresh (g.C.Machine.stands cfg)) _ _ (c.core.ensures.free c.goes.new.core) free)
+
+pub returns-in-Err-clause-goes : goal.returns-in-Err-clause-goes
+returns-in-Err-clause-goes g c = λ cfg all ahead total first first_net e h.
+    (c.goes.new.core, c.in-Err.ensures.goes cfg all ahead total first first_net e (some_of _ (core_of c.args.number c.args.pool.now) c.core.result.now c.core.ensures.value h))

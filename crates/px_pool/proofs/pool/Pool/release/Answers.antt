@@ -1,8 +1,9 @@
-use Rattle.std.proofs.Common.{rules, ◌≡◌, ◌∙◌, ap, true, length}
-use Rattle.px_pool.specs.Owners.{has_one, place_of, count_out}
+use Rattle.std.proofs.Common.{rules, ◌≡◌, ◌∙◌, ap, subst, None, true, length}
+use Rattle.std.specs.Prelude.{set}
+use Rattle.px_pool.specs.Owners.{has_one, place_of, count_out, SameBeside}
 use Rattle.px_pool.specs.Seats.{Seats, core_of}
 use Rattle.px_pool.proofs.Taken.{has_none}
-use Rattle.px_pool.proofs.Given.{given_shared, given_gone, given_other, given_count, back}
+use Rattle.px_pool.proofs.Given.{given_shared, given_gone, given_other, given_count, given_beside, back}
 use Rattle.px_pool.proofs.pool.Pool.release.Goals as goal
 
 pub invariant_of-self : goal.invariant_of-self
@@ -34,3 +35,8 @@ pub returns-clause-none : goal.returns-clause-none
 returns-clause-none g c =
     let at : c.seat-place.result ≡ place_of c.args.conn c.self.inside.owners.items = search rules in
     has_none c.args.conn _ c.self.inside.cores.items (given_gone c.args.conn c.seat-place.result c.self.inside.owners.items at c.self.invariant.apart)
+
+pub returns-clause-beside : goal.returns-clause-beside
+returns-clause-beside g c =
+    let at : c.seat-place.result ≡ place_of c.args.conn c.self.inside.owners.items = search rules in
+    subst (λ (p : Seats _). SameBeside c.args.conn p.owners (set c.self.inside.owners.items c.seat-place.result None)) c.self.view_is (given_beside c.args.conn c.seat-place.result c.self.inside.owners.items at)

@@ -1,0 +1,14 @@
+//! The connections of a record over cores that they share: each comes to what it comes to by itself, by its own turns behind those that
+//! found all cores out.
+
+mod budget;
+mod conns;
+mod laws;
+mod reports;
+mod sets;
+mod texts;
+mod turns;
+mod woven;
+
+pub use texts::weave_text;
+pub use woven::weave_record;

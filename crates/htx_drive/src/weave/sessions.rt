@@ -1,0 +1,91 @@
+//! Connections over shared cores, until each has ended, or all are given up behind a fault.
+ghost use Rattle.std.specs.Prelude.{◌≡◌, ◌<◌, ◌^◌, ℕ, List, [], length, OnOk, OnErr, IfErr, IsErrOf};
+ghost use Rattle.std.specs.List.{AllByRecursion};
+ghost use Rattle.px_link.specs.Net.{address_of};
+ghost use Rattle.px_pool.specs.Owners.{count_out};
+ghost use Rattle.px_pool.specs.Seats.{free_of};
+ghost use Rattle.htx_drive.specs.Weave.State.{IsReady, IsFresh};
+ghost use Rattle.htx_drive.specs.Weave.Rounds.{unended};
+ghost use Rattle.htx_drive.specs.Weave.All.{AreWithin, MayGoOn, AllAt};
+ghost use Rattle.htx_drive.specs.Weave.Halted.{AllHalted, AllLent};
+ghost use Rattle.htx_drive.specs.Weave.Outcome.{AreNew, AllEnded, AllLeft};
+ghost use Rattle.htx_drive.specs.declared.weave.conn.Conn.{Conn};
+
+use crate::resources::{MOST, Resources};
+use crate::weave::all::by_list;
+use crate::weave::conn::Conn;
+use crate::weave::fault::WeaveFault;
+use crate::weave::leaving::leave_all;
+use crate::weave::resets::Resets;
+use crate::weave::rounds::by_rounds;
+use crate::weave::weft::Weft;
+use crate::{Address, Link, Net};
+use px_pool::Pool;
+
+/// The list of turns, and then rounds, to the end of each connection.
+fn to_their_ends<C: Resets, L: Link, N: Net<Link = L>, W: Weft>(
+    pool: &mut Pool<C>,
+    to: &Address,
+    conns: &mut [Conn<L, N>],
+    turns: &mut W,
+    resources: &mut Resources,
+) -> Result<(), WeaveFault>
+    requires number { length conns.old < 2 ^ 32 }
+    requires may { MayGoOn C.seen C.sound N.seen pool.old conns.old }
+    requires within { AreWithin (length conns.old) (W.left turns.old) }
+    ensures may { OnOk result (MayGoOn C.seen C.sound N.seen pool.new conns.new) }
+    ensures length { length conns.new ≡ length conns.old }
+    ensures ended { OnOk result (unended conns.new ≡ 0) }
+    ensures at { (cfg : C.Settings) (firsts : List (Conn L N)) (budget : ℕ)
+        → AllAt (C.meaning cfg) (C.stands cfg) C.seen C.sound L.seen L.wrote N.seen (address_of to.now) (W.left turns.old) (W.left turns.old) firsts conns.old pool.old budget resources.old.left
+        → OnOk result (AllAt (C.meaning cfg) (C.stands cfg) C.seen C.sound L.seen L.wrote N.seen (address_of to.now) (W.left turns.old) [] firsts conns.new pool.new budget resources.new.left) }
+    ensures halted { (cfg : C.Settings) (firsts : List (Conn L N)) (budget : ℕ)
+        → AllAt (C.meaning cfg) (C.stands cfg) C.seen C.sound L.seen L.wrote N.seen (address_of to.now) (W.left turns.old) (W.left turns.old) firsts conns.old pool.old budget resources.old.left
+        → OnErr result (AllHalted (C.meaning cfg) (C.stands cfg) C.seen L.seen L.wrote N.seen (address_of to.now) (W.left turns.old) firsts conns.new budget resources.new.left) }
+    ensures spent { IsErrOf result WeaveFault.Spent → resources.new.left ≡ 0 }
+    ensures lent { OnErr result (AllLent N.seen conns.new) }
+{
+    match by_list(pool, conns, turns, to, resources) {
+        Ok(()) => by_rounds(pool, conns, to, resources),
+        Err(fault) => Err(fault),
+    }
+}
+
+/// Runs connections over the cores of a pool: first by the list of turns, to its end, then in rounds, a move of each without a turn, until each has
+/// ended. A connection takes a core with its first move that finds one free, keeps it until it ends, and gives it back reset. An opening, and each turn
+/// that moves something, takes one of the budget, which all share. A write to one client that fails ends that connection alone. Behind a fault each
+/// connection that has not ended is given up, and the cores that were out stay out.
+pub fn weave<C: Resets, L: Link, N: Net<Link = L>, W: Weft>(
+    pool: &mut Pool<C>,
+    to: &Address,
+    conns: &mut [Conn<L, N>],
+    turns: &mut W,
+    budget: u64,
+) -> Result<(), WeaveFault>
+    requires number { length conns.old < 2 ^ 32 }
+    requires new { AreNew conns.old }
+    requires some { 0 < length (free_of pool.old) }
+    requires unused { count_out pool.old.owners ≡ 0 }
+    requires ready { AllByRecursion (IsReady C.seen C.sound) (free_of pool.old) }
+    requires within { AreWithin (length conns.old) (W.left turns.old) }
+    ensures length { length conns.new ≡ length conns.old }
+    ensures ended { (cfg : C.Settings) → AllByRecursion (IsFresh (C.stands cfg)) (free_of pool.old)
+        → OnOk result (AllEnded (C.meaning cfg) (C.stands cfg) C.seen L.seen L.wrote N.seen (address_of to.now) (W.left turns.old) conns.old conns.new) }
+    ensures given_up { (cfg : C.Settings) → AllByRecursion (IsFresh (C.stands cfg)) (free_of pool.old)
+        → IfErr result (λ fault. AllLeft (C.meaning cfg) (C.stands cfg) C.seen L.seen L.wrote N.seen (address_of to.now) (W.left turns.old) conns.old conns.new budget fault) }
+    ensures out { OnOk result (count_out pool.new.owners ≡ 0) }
+    ensures ready { OnOk result (AllByRecursion (IsReady C.seen C.sound) (free_of pool.new)) }
+    ensures fresh { (cfg : C.Settings) → AllByRecursion (IsFresh (C.stands cfg)) (free_of pool.old) → OnOk result (AllByRecursion (IsFresh (C.stands cfg)) (free_of pool.new)) }
+{
+    let mut resources = Resources {
+        left: budget,
+        buffer: [0; MOST],
+    };
+    match to_their_ends(pool, to, conns, turns, &mut resources) {
+        Ok(()) => Ok(()),
+        Err(fault) => {
+            leave_all::<C, L, N>(conns);
+            Err(fault)
+        }
+    }
+}
