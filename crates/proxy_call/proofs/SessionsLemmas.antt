@@ -1,3 +1,1 @@
-pub mod Idle
 pub mod Clients
-pub mod Spare

@@ -22,7 +22,6 @@ pub struct Directions<'c> {
 }
 
 ghost use Rattle.session_core.specs.Place as at;
-ghost use Rattle.session_core.specs.Place.{IsSomewhere};
 ghost use Rattle.http_rules.specs.declared.config.Config.{Config};
 ghost use Rattle.session_core.specs.Sided.{Sided};
 ghost use Rattle.session_core.specs.Leads.{IsFresh};
@@ -78,20 +77,5 @@ impl<'c> Directions<'c> {
             rules,
             method,
         })
-    }
-
-    /// As new ones, in the same memory, for the same configuration: by what they stand for nothing has happened yet. The memory
-    /// isn't overwritten.
-    pub fn renew(&mut self)
-        requires placed { IsSomewhere (Placed self.old) }
-        ensures stands { (cfg : Config) (p : Sided (meaning_of cfg)) → DirectionsStand cfg self.old p
-            → (q : Sided (meaning_of cfg)) × DirectionsStand cfg self.new q × IsFresh (meaning_of cfg) (request_of self.new) (answer_of self.new) q }
-        ensures placed { Placed self.new at.Reads }
-        ensures settings { settings_of self.new ≡ settings_of self.old }
-    {
-        self.request.renew();
-        self.answer.renew();
-        self.rules.renew();
-        self.method.clear();
     }
 }

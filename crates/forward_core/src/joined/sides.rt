@@ -5,7 +5,7 @@ use crate::joined::directions::Directions;
 use crate::joined::saying;
 use http_model::{Ending, OutOfMemory};
 use http_rules::Config;
-use session_core::{Asked, Lends, Peers, Shows, Sides, Source, Told, Works};
+use session_core::{Asked, Lends, Peers, Renewable, Shows, Sides, Source, Told, Works};
 
 impl<'c> Sides for Directions<'c> {
     type Settings = Config;
@@ -210,5 +210,15 @@ impl<'c> Works for Directions<'c> {
         self.request.next();
         self.answer.next();
         self.rules.begin_exchange();
+    }
+}
+
+impl<'c> Renewable for Directions<'c> {
+    // the bytes of the memory stay as they are until others are written over them
+    fn renew(&mut self) {
+        self.request.renew();
+        self.answer.renew();
+        self.rules.renew();
+        self.method.clear();
     }
 }

@@ -2,14 +2,11 @@
 ghost use Rattle.std.specs.Prelude.{◌≡◌, ◌≤◌, IfOk, false};
 ghost use Rattle.http_rules.specs.Valid.{IsValid};
 ghost use Rattle.forward_core.specs.Meaning.Product.{meaning_of};
-ghost use Rattle.session_core.specs.History.{Past, nothing_yet};
+ghost use Rattle.session_core.specs.History.{nothing_yet};
 ghost use Rattle.session_core.specs.Leads.{Stands};
 ghost use Rattle.session_core.specs.Place.{IsPlaced};
-ghost use Rattle.session_core.specs.Place as place;
 ghost use Rattle.session_core.specs.Waits.{is_serving};
 ghost use Rattle.forward_core.specs.Joined.Joined.{DirectionsStand, Placed, request_of, answer_of, HasWindows};
-ghost use Rattle.http_rules.specs.declared.config.Config.{Config};
-ghost use Rattle.proxy_call.specs.Sessions.Spare.{IsNew};
 
 use forward_core::joined::Directions;
 use http_model::OutOfMemory;
@@ -22,17 +19,6 @@ use std::marker::Model;
 
 /// The core of a session under a configuration.
 pub(crate) type ConfigCore<'c> = Core<Directions<'c>>;
-
-/// A core over directions to which nothing has happened.
-fn core_of<'c>(directions: Directions<'c>) -> ConfigCore<'c>
-    requires placed { Placed directions place.Reads }
-    ensures stands { (cfg : Config) → IsNew cfg directions.entry → Stands (meaning_of cfg) request_of answer_of (DirectionsStand cfg) result.sides result.at nothing_yet }
-    ensures placed { IsPlaced (Placed result.sides) (answer_of result.sides) result.at.phase result.at.cut }
-    ensures idle { (cfg : Config) → IsNew cfg directions.entry → is_serving result.at.phase ≡ false }
-    ensures sides { result.sides ≡ directions.entry }
-{
-    Core::new(directions)
-}
 
 /// A core to which nothing has happened, with output windows of this size.
 fn open_core<'c>(
@@ -48,18 +34,7 @@ fn open_core<'c>(
     ensures windows { IfOk result (λ core. HasWindows window core.sides) }
 {
     let directions = Directions::new(alloc, config, window)?;
-    Ok(core_of(directions))
-}
-
-/// The directions of a core whose session is over, as new ones.
-fn renewed<'c>(core: ConfigCore<'c>) -> Directions<'c>
-    requires placed { IsPlaced (Placed core.sides) (answer_of core.sides) core.at.phase core.at.cut }
-    ensures placed { Placed result place.Reads }
-    ensures new { (cfg : Config) (past : Past) → Stands (meaning_of cfg) request_of answer_of (DirectionsStand cfg) core.entry.sides core.entry.at past → IsNew cfg result }
-{
-    let mut directions = core.sides;
-    directions.renew();
-    directions
+    Ok(Core::new(directions))
 }
 
 /// Makes the cores of the sessions of a record.
@@ -97,8 +72,8 @@ impl<'c> Cores<ConfigCore<'c>> for RecordCores<'c> {
 pub(crate) struct ClientCores<'c> {
     alloc: Global,
     config: &'c Config,
-    /// Directions to which nothing has happened, made of those of an earlier session.
-    spare: Option<Directions<'c>>,
+    /// A core to which nothing has happened, in the memory of an earlier session.
+    spare: Option<ConfigCore<'c>>,
 }
 
 impl<'c> Model for ClientCores<'c> {
@@ -131,12 +106,14 @@ impl<'c> Opens<ConfigCore<'c>> for ClientCores<'c> {
 
     fn open(&mut self) -> Result<ConfigCore<'c>, OutOfMemory> {
         match self.spare.take() {
-            Some(directions) => Ok(core_of(directions)),
+            Some(core) => Ok(core),
             None => open_core(self.alloc, self.config, self.config.limits.bufsize),
         }
     }
 
     fn keep(&mut self, core: ConfigCore<'c>) {
-        drop(self.spare.replace(renewed(core)));
+        let mut next = core;
+        next.reset();
+        drop(self.spare.replace(next));
     }
 }

@@ -1,14 +1,4 @@
-use Rattle.proxy_call.specs.Sessions.Spare.{IsNew}
 use Rattle.proxy_call.proofs.sessions.cores.open_core.Goals as goal
 
 pub returns-clause-stands : goal.returns-clause-stands
-returns-clause-stands c =
-    let d = c.in_ok-directions.ensures in
-    let new : IsNew c.args.config.now c.in_ok-directions.directions = record { sided = d.stands.0; stand = d.stands.1; fresh = d.stands.2; placed = d.placed } in
-    c.core_of.ensures.stands c.args.config.now new
-
-pub returns-clause-idle : goal.returns-clause-idle
-returns-clause-idle c =
-    let d = c.in_ok-directions.ensures in
-    let new : IsNew c.args.config.now c.in_ok-directions.directions = record { sided = d.stands.0; stand = d.stands.1; fresh = d.stands.2; placed = d.placed } in
-    c.core_of.ensures.idle c.args.config.now new
+returns-clause-stands c = let d = c.in_ok-directions.ensures.stands in c.new-2.ensures.stands c.args.config.now d.0 d.1 d.2

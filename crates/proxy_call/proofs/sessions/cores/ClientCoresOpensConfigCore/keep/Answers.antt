@@ -1,5 +1,6 @@
 use Rattle.std.proofs.Common.{sym, subst}
 use Rattle.std.specs.Prelude.{Option}
+use Rattle.session_core.specs.declared.machine.Core.{Core}
 use Rattle.http_rules.specs.declared.config.Config.{Config}
 use Rattle.forward_core.specs.declared.joined.directions.Directions.{Directions}
 use Rattle.proxy_call.specs.Sessions.Spare.{IsNew, IsSpare}
@@ -8,7 +9,8 @@ use Rattle.proxy_call.proofs.sessions.cores.ClientCoresOpensConfigCore.keep.Goal
 pub invariant_of-self : goal.invariant_of-self
 invariant_of-self c =
     let cfg : Config = c.args.self.now in
-    let new : IsNew cfg c.renewed.result = c.renewed.ensures.new cfg c.requires.stands.0 c.requires.stands.1 in (
+    let e = c.reset.ensures in
+    let new : IsNew cfg c.reset.new.self = record { stands = e.stands cfg c.requires.stands.0 c.requires.stands.1; placed = e.placed; idle = e.idle } in (
       c.self.invariant.0,
-      subst (λ (s : Option Directions). IsSpare c.self.inside.config.now s) (sym c.replace.ensures.after) (subst (λ (x : Config). IsNew x c.renewed.result) (sym c.self.view_is) new),
+      subst (λ (s : Option (Core Directions)). IsSpare c.self.inside.config.now s) (sym c.replace.ensures.after) (subst (λ (x : Config). IsNew x c.reset.new.self) (sym c.self.view_is) new),
     )

@@ -4,7 +4,7 @@ use Rattle.px_sample.specs.Variables.{no_variables}
 use Rattle.session_core.specs.History.{no_stream}
 use Rattle.forward_core.specs.declared.joined.directions.Directions.{Directions}
 use Rattle.forward_core.proofs.JoinedLemmas.Fresh.{no_past, no_asking, no_reply, fresh_new, fresh_at, fresh_is}
-use Rattle.forward_core.proofs.joined.directions.Directions.renew.Goals as goal
+use Rattle.forward_core.proofs.joined.sides.DirectionsRenewable.renew.Goals as goal
 
 pub renew-requires : goal.renew-requires
 renew-requires c = let placed = c.requires.placed.1 in record { sound = placed.is_at.sound.request }
