@@ -18,7 +18,7 @@ mod weft;
 
 pub use conn::Conn;
 pub use fault::WeaveFault;
-pub use record::{weave_record, weave_text};
+pub use record::{pool_of, weave_record, weave_text};
 pub use resets::Resets;
 pub use sessions::weave;
 pub use weft::Weft;

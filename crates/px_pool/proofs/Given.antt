@@ -1,8 +1,8 @@
 -- A connection's core is lent, or given back.
-use Rattle.std.proofs.Common.{◌≡◌, ◌≢◌, ℕ, zero, suc, ◌+◌, Bool, true, false, ◌||◌, nat_eq, if◌then◌else◌, List, [], ◌∷◌, length, Option, Some, None, ap, sym, subst, ◌∙◌, refl, arith}
+use Rattle.std.proofs.Common.{◌≡◌, ◌≢◌, ℕ, zero, suc, ◌+◌, Bool, true, false, ◌||◌, nat_eq, if◌then◌else◌, List, [], ◌∷◌, length, length-append, Option, Some, None, ap, sym, subst, ◌∙◌, refl, arith}
 use Rattle.std.specs.Prelude.{set, get_or}
 use Rattle.std.proofs.lemmas.Bool.{false≢true, eqb-true, ne_eqb}
-use Rattle.px_pool.specs.Owners.{is_of, has_one, place_of, count_out, SameBeside}
+use Rattle.px_pool.specs.Owners.{is_of, has_one, place_of, count_out, one_if, SameBeside}
 use Rattle.px_pool.specs.Seats.{core_in, free_in, IsAlone, AreApart, IsShared, Inserted, Seats, core_of, free_of, with_core}
 use Rattle.px_pool.proofs.Taken.{no_left, no_right, neither, length_set}
 
@@ -123,10 +123,6 @@ ones conn other [] h = refl
 ones conn other (None ∷ os) h = ones conn other os h
 ones conn other (Some owner ∷ os) h = one_by (nat_eq owner conn) conn other owner os (eqb-true owner conn) h (ones conn other os h)
 
-pub given_beside : (conn k : ℕ) (os : List (Option ℕ)) → k ≡ place_of conn os → SameBeside conn os (set os k None)
-given_beside conn k os e =
-    record { sets = length_set os k None; others = λ other h. ap (λ (at : ℕ). has_one other (set os at None)) e ∙ ones conn other os h }
-
 free_by : {C : Type 0} (b : Bool) (conn owner : ℕ) (os : List (Option ℕ)) (c : C) (cs : List C) → (b || has_one conn os) ≡ true → (has_one conn os ≡ true → Inserted (core_in conn os cs) (free_in os cs) (free_in (set os (place_of conn os) None) cs))
     → Inserted (if b then Some c else core_in conn os cs) (free_in os cs) (free_in (set (Some owner ∷ os) (if b then 0 else suc (place_of conn os)) None) (c ∷ cs))
 free_by true conn owner os c cs h rest = record { one = c; is = refl; before = []; behind = free_in os cs; was = refl; has = refl }
@@ -155,6 +151,26 @@ counted conn (Some owner ∷ os) h = count_by (nat_eq owner conn) conn owner os 
 
 pub given_count : (conn k : ℕ) (os : List (Option ℕ)) → k ≡ place_of conn os → has_one conn os ≡ true → 1 + count_out (set os k None) ≡ count_out os
 given_count conn k os e h = ap (λ (at : ℕ). 1 + count_out (set os at None)) e ∙ counted conn os h
+
+pub given_beside : (conn k : ℕ) (os : List (Option ℕ)) → k ≡ place_of conn os → AreApart os → has_one conn os ≡ true → SameBeside conn os (set os k None)
+given_beside conn k os e apart has =
+    let had : one_if (has_one conn os) ≡ 1 = ap one_if has in
+    let none : one_if (has_one conn (set os k None)) ≡ 0 = ap one_if (given_gone conn k os e apart) in
+    let count = given_count conn k os e has in
+    record {
+      sets = length_set os k None;
+      others = λ other h. ap (λ (at : ℕ). has_one other (set os at None)) e ∙ ones conn other os h;
+      counts = omega (arith, had, none, count);
+    }
+
+pub given_sets : {C : Type 0} (conn k : ℕ) (os : List (Option ℕ)) (cs : List C) → k ≡ place_of conn os → length os ≡ length cs → has_one conn os ≡ true
+    → length (free_in (set os k None) cs) + count_out (set os k None) ≡ length (free_in os cs) + count_out os
+given_sets conn k os cs e l has =
+    let i = given_free conn k os cs e l has in
+    let old : length (free_in os cs) ≡ length i.before + length i.behind = ap (λ l. length l) i.was ∙ length-append i.before i.behind in
+    let new : length (free_in (set os k None) cs) ≡ length i.before + length (i.one ∷ i.behind) = ap (λ l. length l) i.has ∙ length-append i.before (i.one ∷ i.behind) in
+    let count = given_count conn k os e has in
+    omega (arith, old, new, count)
 
 -- ---- the pool
 

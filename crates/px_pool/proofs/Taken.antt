@@ -2,7 +2,7 @@
 use Rattle.std.proofs.Common.{◌≡◌, ◌≢◌, ℕ, zero, suc, ◌+◌, Bool, true, false, ◌||◌, nat_eq, if◌then◌else◌, List, [], ◌∷◌, ◌++◌, length, Option, Some, None, ap, sym, subst, ◌∙◌, refl, arith}
 use Rattle.std.specs.Prelude.{set}
 use Rattle.std.proofs.lemmas.Bool.{false≢true, true≢false, eq-eqb, eqb-false, ne_eqb}
-use Rattle.px_pool.specs.Owners.{is_of, has_one, first_free, all_out, count_out, SameBeside}
+use Rattle.px_pool.specs.Owners.{is_of, has_one, first_free, all_out, count_out, one_if, SameBeside}
 use Rattle.px_pool.specs.Seats.{core_in, free_in, first_of, rest_of, AreApart, IsShared}
 
 pub no_left : (a b : Bool) → (a || b) ≡ false → a ≡ false
@@ -100,9 +100,30 @@ taken_free_at conn k os cs e = ap (λ (at : ℕ). free_in (set os at (Some conn)
 pub taken_other_at : {C : Type 0} (conn k other : ℕ) (os : List (Option ℕ)) (cs : List C) → k ≡ first_free os → other ≢ conn → core_in other (set os k (Some conn)) cs ≡ core_in other os cs
 taken_other_at conn k other os cs e h = ap (λ (at : ℕ). core_in other (set os at (Some conn)) cs) e ∙ taken_other conn other os cs h
 
-pub taken_beside : (conn k : ℕ) (os : List (Option ℕ)) → k ≡ first_free os → SameBeside conn os (set os k (Some conn))
-taken_beside conn k os e =
-    record { sets = length_set os k (Some conn); others = λ other h. ap (λ (at : ℕ). has_one other (set os at (Some conn))) e ∙ taken_others conn other os h }
+pub taken_beside : (conn k : ℕ) (os : List (Option ℕ)) → k ≡ first_free os → all_out os ≡ false → has_one conn os ≡ false → SameBeside conn os (set os k (Some conn))
+taken_beside conn k os e some without =
+    let had : one_if (has_one conn os) ≡ 0 = ap one_if without in
+    let has : one_if (has_one conn (set os k (Some conn))) ≡ 1 = ap one_if (taken_has_at conn k os e some) in
+    let count = taken_count_at conn k os e some in
+    record {
+      sets = length_set os k (Some conn);
+      others = λ other h. ap (λ (at : ℕ). has_one other (set os at (Some conn))) e ∙ taken_others conn other os h;
+      counts = omega (arith, had, has, count);
+    }
+
+free_one_less : {C : Type 0} (conn : ℕ) (os : List (Option ℕ)) (cs : List C) → length os ≡ length cs → all_out os ≡ false → length (free_in (set os (first_free os) (Some conn)) cs) + 1 ≡ length (free_in os cs)
+free_one_less conn [] cs e h = absurd (true≢false h)
+free_one_less conn (owner ∷ os) [] e h = absurd (omega (arith, e))
+free_one_less conn (None ∷ os) (c ∷ cs) e h = omega arith
+free_one_less conn (Some owner ∷ os) (c ∷ cs) e h = free_one_less conn os cs (omega (arith, e)) h
+
+pub taken_sets : {C : Type 0} (conn k : ℕ) (os : List (Option ℕ)) (cs : List C) → k ≡ first_free os → length os ≡ length cs → all_out os ≡ false
+    → length (free_in (set os k (Some conn)) cs) + count_out (set os k (Some conn)) ≡ length (free_in os cs) + count_out os
+taken_sets conn k os cs e l h =
+    let at : length (free_in (set os k (Some conn)) cs) ≡ length (free_in (set os (first_free os) (Some conn)) cs) = ap (λ (n : ℕ). length (free_in (set os n (Some conn)) cs)) e in
+    let less = free_one_less conn os cs l h in
+    let count = taken_count_at conn k os e h in
+    omega (arith, at, less, count)
 
 -- ---- where all are out
 

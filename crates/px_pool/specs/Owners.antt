@@ -1,5 +1,5 @@
 -- Who has which core.
-use Rattle.std.specs.Prelude.{◌≡◌, ◌≢◌, ℕ, suc, ◌+◌, Bool, false, nat_eq, if◌then◌else◌, List, [], ◌∷◌, length, Option, Some, None, is_some}
+use Rattle.std.specs.Prelude.{◌≡◌, ◌≢◌, ℕ, suc, ◌+◌, Bool, true, false, nat_eq, if◌then◌else◌, List, [], ◌∷◌, length, Option, Some, None, is_some}
 use Rattle.std.specs.List.{list_any, list_all}
 
 -- this connection has the core
@@ -35,7 +35,13 @@ abbrev pub count_out : List (Option ℕ) → ℕ
 count_out [] = 0
 count_out (owner ∷ owners) = one_out owner + count_out owners
 
--- only what this connection has changed: there are as many cores, and every other connection has one exactly where it had one
+abbrev pub one_if : Bool → ℕ
+one_if true = 1
+one_if false = 0
+
+-- only what this connection has changed: there are as many cores, every other connection has one exactly where it had one, and one more is out where it
+-- has got one, one less where it has given its own back
 pub record SameBeside (conn : ℕ) (old new : List (Option ℕ)) : Type 0 where
   pub sets : length new ≡ length old
   pub others : (other : ℕ) → other ≢ conn → has_one other new ≡ has_one other old
+  pub counts : count_out new + one_if (has_one conn old) ≡ count_out old + one_if (has_one conn new)

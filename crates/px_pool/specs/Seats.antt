@@ -1,6 +1,6 @@
 -- Connections and their cores.
-use Rattle.std.specs.Prelude.{◌≡◌, ℕ, false, if◌then◌else◌, List, [], ◌∷◌, ◌++◌, length, Option, Some, None, ⊤, slice_set}
-use Rattle.px_pool.specs.Owners.{is_of, has_one, place_of}
+use Rattle.std.specs.Prelude.{◌≡◌, ℕ, ◌+◌, false, if◌then◌else◌, List, [], ◌∷◌, ◌++◌, length, Option, Some, None, ⊤, slice_set}
+use Rattle.px_pool.specs.Owners.{is_of, has_one, place_of, count_out}
 
 -- for each core, in one order, who has it; and the cores
 pub record Seats (C : Type 0) : Type 0 where
@@ -39,6 +39,10 @@ free_in (Some conn ∷ owners) (core ∷ cores) = free_in owners cores
 
 abbrev pub free_of : {C : Type 0} → Seats C → List C
 free_of pool = free_in pool.owners pool.cores
+
+-- how many cores there are, free or out
+abbrev pub count_sets : {C : Type 0} → Seats C → ℕ
+count_sets pool = length (free_of pool) + count_out pool.owners
 
 abbrev pub first_of : {C : Type 0} → List C → Option C
 first_of [] = None

@@ -1,7 +1,7 @@
 //! A pool of cores: a connection takes one, has it lent, and gives it back, and no other connection's core changes.
 ghost use Rattle.std.specs.Prelude.{◌≡◌, ◌↔◌, ◌+◌, ◌≢◌, ℕ, true, false, Option, Some, None, length, IfOk};
 ghost use Rattle.px_pool.specs.Owners.{has_one, all_out, count_out, SameBeside};
-ghost use Rattle.px_pool.specs.Seats.{core_of, free_of, first_of, rest_of, with_core, Inserted};
+ghost use Rattle.px_pool.specs.Seats.{core_of, free_of, count_sets, first_of, rest_of, with_core, Inserted};
 
 use crate::owners::{count_out, first_free, place_of, seat};
 use std::alloc::{AllocError, Global};
@@ -74,6 +74,7 @@ impl<C> Pool<C> {
         ensures core { core_of conn self.new ≡ first_of (free_of self.old) }
         ensures free { free_of self.new ≡ rest_of (free_of self.old) }
         ensures others { (other : ℕ) → other ≢ conn → core_of other self.new ≡ core_of other self.old }
+        ensures sets { count_sets self.new ≡ count_sets self.old }
         ensures beside { SameBeside conn self.old.owners self.new.owners }
         ensures out { result ≡ Took.Set → count_out self.new.owners ≡ 1 + count_out self.old.owners }
     {
@@ -104,6 +105,7 @@ impl<C> Pool<C> {
         ensures none { core_of conn self.new ≡ None }
         ensures others { (other : ℕ) → other ≢ conn → core_of other self.new ≡ core_of other self.old }
         ensures free { Inserted (core_of conn self.old) (free_of self.old) (free_of self.new) }
+        ensures sets { count_sets self.new ≡ count_sets self.old }
         ensures beside { SameBeside conn self.old.owners self.new.owners }
         ensures out { 1 + count_out self.new.owners ≡ count_out self.old.owners }
     {

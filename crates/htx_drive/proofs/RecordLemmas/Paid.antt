@@ -1,7 +1,6 @@
 -- Connections over links in memory don't spend a budget that is enough for all.
-use Rattle.std.proofs.Common.{◌≡◌, ℕ, suc, ◌+◌, ◌<◌, ◌≤◌, List, length, map, true, false, Bool, refl, inl, inr, Option, Some, None, drop, ap, subst, ◌∙◌, arith}
+use Rattle.std.proofs.Common.{◌≡◌, ℕ, suc, ◌<◌, ◌≤◌, List, length, map, true, false, Bool, refl, inl, inr, Option, Some, None, drop, ap, subst, ◌∙◌, arith}
 use Rattle.std.specs.Prelude.{get_or, sum_by, Result, Ok, Err}
-use Rattle.std.specs.List.{AllZip}
 use Rattle.std.proofs.lemmas.Option.{slice_get_within, get_or_from_slice_get}
 use Rattle.std.proofs.lemmas.Slice.Zip.{AllZip-long}
 use Rattle.session_model.specs.Meaning.{Meaning}

@@ -88,37 +88,37 @@ may_at sees sound sees_net old new conns number k conn e within =
 
 -- ---- where all are
 
-module _ {C L N : Type 0} (M : Meaning) (stands : C → Past → Type 0) (sees : C → CoreSeen) (sound : C → Type 0) (seen : L → Seen) (wrote : L → List ℕ → Type 0) (sees_net : N → NetSeen) (to : Place) (turns : List (ℕ × Turn)) where
+module _ {C L N : Type 0} (M : Meaning) (stands : C → Past → Type 0) (sees : C → CoreSeen) (sound : C → Type 0) (seen : L → Seen) (wrote : L → List ℕ → Type 0) (sees_net : N → NetSeen) (to : Place) (prompt : Bool) (turns : List (ℕ × Turn)) where
   -- it leads from its place to its place
   abbrev Stays : (left behind : List (ℕ × Turn)) → (old new : Seats C) → (spare next number : ℕ) → (was conn : Conn L N) → Type 0
   Stays left behind old new spare next number was conn =
-      (first : Conn L N) (total : ℕ) → Pays total spare (AtPlace M stands sees sound seen wrote sees_net to turns left first was old number) → Pays total next (AtPlace M stands sees sound seen wrote sees_net to turns behind first conn new number)
+      (first : Conn L N) (total : ℕ) → Pays total spare (AtPlace M stands sees sound seen wrote sees_net to prompt turns left first was old number) → Pays total next (AtPlace M stands sees sound seen wrote sees_net to prompt turns behind first conn new number)
 
   -- behind it nothing has happened to the free cores
   abbrev Frees : (left : List (ℕ × Turn)) → (old new : Seats C) → (spare number : ℕ) → (was : Conn L N) → Type 0
-  Frees left old new spare number was = (first : Conn L N) (total : ℕ) → Pays total spare (AtPlace M stands sees sound seen wrote sees_net to turns left first was old number) → AllByRecursion (IsFresh stands) (free_of new)
+  Frees left old new spare number was = (first : Conn L N) (total : ℕ) → Pays total spare (AtPlace M stands sees sound seen wrote sees_net to prompt turns left first was old number) → AllByRecursion (IsFresh stands) (free_of new)
 
   same_place : (behind : List (ℕ × Turn)) (firsts conns : List (Conn L N)) (new : Seats C) (counts : List ℕ) (k count : ℕ) (first conn : Conn L N) → k < length conns → k < length counts → slice_get firsts k ≡ Some first
-      → AtPlace M stands sees sound seen wrote sees_net to turns behind first conn new (suc k) count
-      → (f x : Conn L N) → slice_get firsts k ≡ Some f → slice_get (set conns k conn) k ≡ Some x → AtPlace M stands sees sound seen wrote sees_net to turns behind f x new (suc k) (get_or (set counts k count) k 0)
+      → AtPlace M stands sees sound seen wrote sees_net to prompt turns behind first conn new (suc k) count
+      → (f x : Conn L N) → slice_get firsts k ≡ Some f → slice_get (set conns k conn) k ≡ Some x → AtPlace M stands sees sound seen wrote sees_net to prompt turns behind f x new (suc k) (get_or (set counts k count) k 0)
   same_place behind firsts conns new counts k count first conn within counted has so f x hf hx =
-      let a : Conn L N → Type 0 = λ z. AtPlace M stands sees sound seen wrote sees_net to turns behind z conn new (suc k) count in
-      let b : Conn L N → Type 0 = λ z. AtPlace M stands sees sound seen wrote sees_net to turns behind f z new (suc k) count in
-      let d : ℕ → Type 0 = λ n. AtPlace M stands sees sound seen wrote sees_net to turns behind f x new (suc k) n in
+      let a : Conn L N → Type 0 = λ z. AtPlace M stands sees sound seen wrote sees_net to prompt turns behind z conn new (suc k) count in
+      let b : Conn L N → Type 0 = λ z. AtPlace M stands sees sound seen wrote sees_net to prompt turns behind f z new (suc k) count in
+      let d : ℕ → Type 0 = λ n. AtPlace M stands sees sound seen wrote sees_net to prompt turns behind f x new (suc k) n in
       subst d (sym (get_or-set_same counts k count 0 counted)) (subst b (sym (set_at conns k conn x within hx)) (subst a (some_is (slice_get firsts k) first f has hf) so))
 
   other_place : (left behind : List (ℕ × Turn)) (old new : Seats C) (counts : List ℕ) (k count place : ℕ) (f x : Conn L N) → place ≢ k → turns_of (suc place) left ≡ turns_of (suc place) behind → core_of (suc place) new ≡ core_of (suc place) old
-      → AtPlace M stands sees sound seen wrote sees_net to turns left f x old (suc place) (get_or counts place 0) → AtPlace M stands sees sound seen wrote sees_net to turns behind f x new (suc place) (get_or (set counts k count) place 0)
+      → AtPlace M stands sees sound seen wrote sees_net to prompt turns left f x old (suc place) (get_or counts place 0) → AtPlace M stands sees sound seen wrote sees_net to prompt turns behind f x new (suc place) (get_or (set counts k count) place 0)
   other_place left behind old new counts k count place f x ne turned same so =
-      let a : List Turn → Type 0 = λ l. IsAt M stands sees sound (turns_of (suc place) turns) l seen wrote f.client x.client x.server to (sees_net f.net) (sees_net x.net) x.ran (core_of (suc place) old) (get_or counts place 0) in
-      let b : Option C → Type 0 = λ o. IsAt M stands sees sound (turns_of (suc place) turns) (turns_of (suc place) behind) seen wrote f.client x.client x.server to (sees_net f.net) (sees_net x.net) x.ran o (get_or counts place 0) in
-      let d : ℕ → Type 0 = λ n. AtPlace M stands sees sound seen wrote sees_net to turns behind f x new (suc place) n in
+      let a : List Turn → Type 0 = λ l. IsAt M stands sees sound prompt (turns_of (suc place) turns) l seen wrote f.client x.client x.server to (sees_net f.net) (sees_net x.net) x.ran (core_of (suc place) old) (get_or counts place 0) in
+      let b : Option C → Type 0 = λ o. IsAt M stands sees sound prompt (turns_of (suc place) turns) (turns_of (suc place) behind) seen wrote f.client x.client x.server to (sees_net f.net) (sees_net x.net) x.ran o (get_or counts place 0) in
+      let d : ℕ → Type 0 = λ n. AtPlace M stands sees sound seen wrote sees_net to prompt turns behind f x new (suc place) n in
       subst d (sym (get_or-set_other counts k place count 0 ne)) (subst b (sym same) (subst a turned so))
 
-  moves_all : (left behind : List (ℕ × Turn)) (firsts conns : List (Conn L N)) (old new : Seats C) (budget spare next k : ℕ) (was conn : Conn L N) → slice_get conns k ≡ Some was → Stays left behind old new spare next (suc k) was conn
+  moves_all : (left behind : List (ℕ × Turn)) (firsts conns : List (Conn L N)) (old new : Seats C) (budget spare next k : ℕ) (was conn : Conn L N) → slice_get conns k ≡ Some was → length new.owners ≡ length old.owners → Stays left behind old new spare next (suc k) was conn
       → ((other : ℕ) → other ≢ suc k → core_of other new ≡ core_of other old) → ((other : ℕ) → other ≢ suc k → turns_of other left ≡ turns_of other behind) → Frees left old new spare (suc k) was
-      → AllAt M stands sees sound seen wrote sees_net to turns left firsts conns old budget spare → AllAt M stands sees sound seen wrote sees_net to turns behind firsts (set conns k conn) new budget next
-  moves_all left behind firsts conns old new budget spare next k was conn is one others turned fresh all =
+      → AllAt M stands sees sound seen wrote sees_net to prompt turns left firsts conns old budget spare → AllAt M stands sees sound seen wrote sees_net to prompt turns behind firsts (set conns k conn) new budget next
+  moves_all left behind firsts conns old new budget spare next k was conn is sets one others turned fresh all =
       let within : k < length conns = slice_get_within conns k was is in
       let as_many : length firsts ≡ length conns = all.as_many in
       let as_counted : length all.counts ≡ length conns = all.counted in
@@ -126,18 +126,19 @@ module _ {C L N : Type 0} (M : Meaning) (stands : C → Past → Type 0) (sees :
       let first : Conn L N = get_or firsts k was in
       let has : slice_get firsts k ≡ Some first = slice_get-get_or firsts k was (omega (arith, within, as_many)) in
       let count : ℕ = get_or all.counts k 0 in
-      let at : Pays (count + spare) spare (AtPlace M stands sees sound seen wrote sees_net to turns left first was old (suc k)) = record { count = count; is = refl; so = all.each k first was has is } in
+      let at : Pays (count + spare) spare (AtPlace M stands sees sound seen wrote sees_net to prompt turns left first was old (suc k)) = record { count = count; is = refl; so = all.each k first was has is } in
       let p = one first (count + spare) at in
       let summed = sum_by-set (λ (n : ℕ). n) all.counts k p.count 0 counted in
       let pays = p.is in
       let paid = all.paid in
       record {
         counts = set all.counts k p.count;
+        room = λ e. let room = all.room e in let same = set_length conns k conn in omega (arith, room, same, sets);
         as_many = as_many ∙ sym (set_length conns k conn);
         counted = set_length all.counts k p.count ∙ as_counted ∙ sym (set_length conns k conn);
         each = λ place f x hf hx. elim (cases_eq place k) [
           | inl e ↦ (
-              let P : ℕ → Type 0 = λ n. slice_get firsts n ≡ Some f → slice_get (set conns k conn) n ≡ Some x → AtPlace M stands sees sound seen wrote sees_net to turns behind f x new (suc n) (get_or (set all.counts k p.count) n 0) in
+              let P : ℕ → Type 0 = λ n. slice_get firsts n ≡ Some f → slice_get (set conns k conn) n ≡ Some x → AtPlace M stands sees sound seen wrote sees_net to prompt turns behind f x new (suc n) (get_or (set all.counts k p.count) n 0) in
               subst P (sym e) (same_place behind firsts conns new all.counts k p.count first conn within counted has p.so f x) hf hx)
           | inr ne ↦ other_place left behind old new all.counts k p.count place f x ne (turned (suc place) (λ e. ne (not_suc place k e))) (others (suc place) (λ e. ne (not_suc place k e))) (all.each place f x hf (set_past conns k place conn x ne hx))
         ];
@@ -149,14 +150,14 @@ module _ {C L N : Type 0} (M : Meaning) (stands : C → Past → Type 0) (sees :
       not_suc a b e = omega (arith, e)
 
   -- of the connection of this number
-  pub moves_at : (left behind : List (ℕ × Turn)) (firsts conns : List (Conn L N)) (old new : Seats C) (budget spare next number k : ℕ) (was conn : Conn L N) → number ≡ suc k → slice_get conns k ≡ Some was → Stays left behind old new spare next number was conn
+  pub moves_at : (left behind : List (ℕ × Turn)) (firsts conns : List (Conn L N)) (old new : Seats C) (budget spare next number k : ℕ) (was conn : Conn L N) → number ≡ suc k → slice_get conns k ≡ Some was → length new.owners ≡ length old.owners → Stays left behind old new spare next number was conn
       → ((other : ℕ) → other ≢ number → core_of other new ≡ core_of other old) → ((other : ℕ) → other ≢ number → turns_of other left ≡ turns_of other behind) → Frees left old new spare number was
-      → AllAt M stands sees sound seen wrote sees_net to turns left firsts conns old budget spare → AllAt M stands sees sound seen wrote sees_net to turns behind firsts (set conns k conn) new budget next
-  moves_at left behind firsts conns old new budget spare next number k was conn e is =
+      → AllAt M stands sees sound seen wrote sees_net to prompt turns left firsts conns old budget spare → AllAt M stands sees sound seen wrote sees_net to prompt turns behind firsts (set conns k conn) new budget next
+  moves_at left behind firsts conns old new budget spare next number k was conn e is sets =
       let P : ℕ → Type 0 = λ n. Stays left behind old new spare next n was conn
       → ((other : ℕ) → other ≢ n → core_of other new ≡ core_of other old) → ((other : ℕ) → other ≢ n → turns_of other left ≡ turns_of other behind) → Frees left old new spare n was
-      → AllAt M stands sees sound seen wrote sees_net to turns left firsts conns old budget spare → AllAt M stands sees sound seen wrote sees_net to turns behind firsts (set conns k conn) new budget next in
-      subst P (sym e) (moves_all left behind firsts conns old new budget spare next k was conn is)
+      → AllAt M stands sees sound seen wrote sees_net to prompt turns left firsts conns old budget spare → AllAt M stands sees sound seen wrote sees_net to prompt turns behind firsts (set conns k conn) new budget next in
+      subst P (sym e) (moves_all left behind firsts conns old new budget spare next k was conn is sets)
 
 -- ---- what a call answers
 

@@ -1,5 +1,5 @@
 -- A connection behind a fault, and how it is left.
-use Rattle.std.proofs.Common.{◌≡◌, ℕ, List, true, false, Option, Some, None, sym, subst, ◌∙◌, inl, inr}
+use Rattle.std.proofs.Common.{◌≡◌, ℕ, List, true, false, Option, Some, None, sym, subst, ◌∙◌, inl, inr, Bool}
 use Rattle.std.specs.Prelude.{is_none, drop, Result}
 use Rattle.http_model.specs.declared.Close.TheVariants.{Failed}
 use Rattle.session_model.specs.Meaning.{Meaning}
@@ -23,16 +23,16 @@ same_net seen wrote old new server e b = let P : Option _ → Type 0 = λ o. Bac
 
 module _ {C L : Type 0} (M : Meaning) (stands : C → Past → Type 0) (sees : C → CoreSeen) (turns : List Turn) (seen : L → Seen) (wrote : L → List ℕ → Type 0) (first : L) (to : Place) (first_net : NetSeen) where
   -- at its place it may be left
-  pub halts : (sound : C → Type 0) (ahead : List Turn) (client : L) (server : Option L) (net : NetSeen) (ran : Option (Result Ran SessionFault)) (held : Option C) (count : ℕ) → IsAt M stands sees sound turns ahead seen wrote first client server to first_net net ran held count
+  pub halts : (sound : C → Type 0) (prompt : Bool) (ahead : List Turn) (client : L) (server : Option L) (net : NetSeen) (ran : Option (Result Ran SessionFault)) (held : Option C) (count : ℕ) → IsAt M stands sees sound prompt turns ahead seen wrote first client server to first_net net ran held count
       → Halted M stands sees turns seen wrote first client server to first_net net ran count
-  halts sound ahead client server net None None count w = inl (record { same_client = w.same_client; same_net = w.same_net; no_server = w.no_server; paid_none = w.paid_none })
-  halts sound ahead client server net None (Some core) count h = inr (inl (record { waited = h.waited; ahead = ahead; core = core; going = h.going }))
-  halts sound ahead client server net (Some ran) None count d = d
-  halts sound ahead client server net (Some ran) (Some core) count h = absurd h
+  halts sound prompt ahead client server net None None count w = inl (record { same_client = w.same_client; same_net = w.same_net; no_server = w.no_server; paid_none = w.paid_none })
+  halts sound prompt ahead client server net None (Some core) count h = inr (inl (record { waited = h.waited; ahead = ahead; core = core; going = h.going }))
+  halts sound prompt ahead client server net (Some ran) None count d = d.0
+  halts sound prompt ahead client server net (Some ran) (Some core) count h = absurd h
 
-  pub pays_halts : (sound : C → Type 0) (ahead : List Turn) (client : L) (server : Option L) (net : NetSeen) (ran : Option (Result Ran SessionFault)) (held : Option C) (total left : ℕ) → Pays total left (IsAt M stands sees sound turns ahead seen wrote first client server to first_net net ran held)
+  pub pays_halts : (sound : C → Type 0) (prompt : Bool) (ahead : List Turn) (client : L) (server : Option L) (net : NetSeen) (ran : Option (Result Ran SessionFault)) (held : Option C) (total left : ℕ) → Pays total left (IsAt M stands sees sound prompt turns ahead seen wrote first client server to first_net net ran held)
       → Pays total left (Halted M stands sees turns seen wrote first client server to first_net net ran)
-  pays_halts sound ahead client server net ran held total left p = record { count = p.count; is = p.is; so = halts sound ahead client server net ran held p.count p.so }
+  pays_halts sound prompt ahead client server net ran held total left p = record { count = p.count; is = p.is; so = halts sound prompt ahead client server net ran held p.count p.so }
 
   -- it found no memory
   pub halts_unroomed : (core : C) (client : L) (server : Option L) (net : NetSeen) (ran : Option (Result Ran SessionFault)) (waited total left : ℕ) → server ≡ None → ran ≡ None

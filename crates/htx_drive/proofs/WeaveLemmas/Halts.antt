@@ -1,5 +1,5 @@
 -- Behind a fault of one move each connection may be left.
-use Rattle.std.proofs.Common.{◌≡◌, ◌≢◌, ℕ, suc, ◌+◌, ◌<◌, List, length, Option, Some, None, refl, sym, subst, ◌∙◌, inl, inr, arith}
+use Rattle.std.proofs.Common.{◌≡◌, ◌≢◌, ℕ, suc, ◌+◌, ◌<◌, List, length, Option, Some, None, refl, sym, subst, ◌∙◌, inl, inr, arith, Bool}
 use Rattle.std.specs.Prelude.{get_or, set, slice_get, Result}
 use Rattle.std.proofs.lemmas.Bool.{cases_eq}
 use Rattle.std.proofs.lemmas.List.{get_or-set_same, get_or-set_other}
@@ -24,14 +24,14 @@ use Rattle.htx_drive.proofs.WeaveLemmas.Seating.{as_lent}
 use Rattle.htx_drive.proofs.WeaveLemmas.All.{some_is, set_at, set_length, set_past}
 use Rattle.htx_drive.proofs.WeaveLemmas.Halting.{halts}
 
-module _ {C L N : Type 0} (M : Meaning) (stands : C → Past → Type 0) (sees : C → CoreSeen) (sound : C → Type 0) (seen : L → Seen) (wrote : L → List ℕ → Type 0) (sees_net : N → NetSeen) (to : Place) (turns : List (ℕ × Turn)) where
+module _ {C L N : Type 0} (M : Meaning) (stands : C → Past → Type 0) (sees : C → CoreSeen) (sound : C → Type 0) (seen : L → Seen) (wrote : L → List ℕ → Type 0) (sees_net : N → NetSeen) (to : Place) (prompt : Bool) (turns : List (ℕ × Turn)) where
   -- this connection may be left, by its own turns
   abbrev MayLeave : (first conn : Conn L N) → (number count : ℕ) → Type 0
   MayLeave first conn number count = Halted M stands sees (turns_of number turns) seen wrote first.client conn.client conn.server to (sees_net first.net) (sees_net conn.net) conn.ran count
 
   -- it leads from its place to where it may be left
   abbrev Halts : (left : List (ℕ × Turn)) → (old : Seats C) → (spare next number : ℕ) → (was conn : Conn L N) → Type 0
-  Halts left old spare next number was conn = (first : Conn L N) (total : ℕ) → Pays total spare (AtPlace M stands sees sound seen wrote sees_net to turns left first was old number) → Pays total next (MayLeave first conn number)
+  Halts left old spare next number was conn = (first : Conn L N) (total : ℕ) → Pays total spare (AtPlace M stands sees sound seen wrote sees_net to prompt turns left first was old number) → Pays total next (MayLeave first conn number)
 
   same_place : (firsts conns : List (Conn L N)) (counts : List ℕ) (k count : ℕ) (first conn : Conn L N) → k < length conns → k < length counts → slice_get firsts k ≡ Some first → MayLeave first conn (suc k) count
       → (f x : Conn L N) → slice_get firsts k ≡ Some f → slice_get (set conns k conn) k ≡ Some x → MayLeave f x (suc k) (get_or (set counts k count) k 0)
@@ -41,15 +41,15 @@ module _ {C L N : Type 0} (M : Meaning) (stands : C → Past → Type 0) (sees :
       let d : ℕ → Type 0 = λ n. MayLeave f x (suc k) n in
       subst d (sym (get_or-set_same counts k count 0 counted)) (subst b (sym (set_at conns k conn x within hx)) (subst a (some_is (slice_get firsts k) first f has hf) so))
 
-  other_place : (left : List (ℕ × Turn)) (old : Seats C) (counts : List ℕ) (k count place : ℕ) (f x : Conn L N) → place ≢ k → AtPlace M stands sees sound seen wrote sees_net to turns left f x old (suc place) (get_or counts place 0)
+  other_place : (left : List (ℕ × Turn)) (old : Seats C) (counts : List ℕ) (k count place : ℕ) (f x : Conn L N) → place ≢ k → AtPlace M stands sees sound seen wrote sees_net to prompt turns left f x old (suc place) (get_or counts place 0)
       → MayLeave f x (suc place) (get_or (set counts k count) place 0)
   other_place left old counts k count place f x ne so =
       let d : ℕ → Type 0 = λ n. MayLeave f x (suc place) n in
       subst d (sym (get_or-set_other counts k place count 0 ne))
-      (halts M stands sees (turns_of (suc place) turns) seen wrote f.client to (sees_net f.net) sound (turns_of (suc place) left) x.client x.server (sees_net x.net) x.ran (core_of (suc place) old) (get_or counts place 0) so)
+      (halts M stands sees (turns_of (suc place) turns) seen wrote f.client to (sees_net f.net) sound prompt (turns_of (suc place) left) x.client x.server (sees_net x.net) x.ran (core_of (suc place) old) (get_or counts place 0) so)
 
   halts_all : (left : List (ℕ × Turn)) (firsts conns : List (Conn L N)) (old : Seats C) (budget spare next k : ℕ) (was conn : Conn L N) → slice_get conns k ≡ Some was → Halts left old spare next (suc k) was conn
-      → AllAt M stands sees sound seen wrote sees_net to turns left firsts conns old budget spare → AllHalted M stands sees seen wrote sees_net to turns firsts (set conns k conn) budget next
+      → AllAt M stands sees sound seen wrote sees_net to prompt turns left firsts conns old budget spare → AllHalted M stands sees seen wrote sees_net to turns firsts (set conns k conn) budget next
   halts_all left firsts conns old budget spare next k was conn is one all =
       let within : k < length conns = slice_get_within conns k was is in
       let as_many : length firsts ≡ length conns = all.as_many in
@@ -58,7 +58,7 @@ module _ {C L N : Type 0} (M : Meaning) (stands : C → Past → Type 0) (sees :
       let first : Conn L N = get_or firsts k was in
       let has : slice_get firsts k ≡ Some first = slice_get-get_or firsts k was (omega (arith, within, as_many)) in
       let count : ℕ = get_or all.counts k 0 in
-      let at : Pays (count + spare) spare (AtPlace M stands sees sound seen wrote sees_net to turns left first was old (suc k)) = record { count = count; is = refl; so = all.each k first was has is } in
+      let at : Pays (count + spare) spare (AtPlace M stands sees sound seen wrote sees_net to prompt turns left first was old (suc k)) = record { count = count; is = refl; so = all.each k first was has is } in
       let p = one first (count + spare) at in
       let summed = sum_by-set (λ (n : ℕ). n) all.counts k p.count 0 counted in
       let pays = p.is in
@@ -77,9 +77,9 @@ module _ {C L N : Type 0} (M : Meaning) (stands : C → Past → Type 0) (sees :
 
   -- of the connection of this number
   pub halts_at : (left : List (ℕ × Turn)) (firsts conns : List (Conn L N)) (old : Seats C) (budget spare next number k : ℕ) (was conn : Conn L N) → number ≡ suc k → slice_get conns k ≡ Some was → Halts left old spare next number was conn
-      → AllAt M stands sees sound seen wrote sees_net to turns left firsts conns old budget spare → AllHalted M stands sees seen wrote sees_net to turns firsts (set conns k conn) budget next
+      → AllAt M stands sees sound seen wrote sees_net to prompt turns left firsts conns old budget spare → AllHalted M stands sees seen wrote sees_net to turns firsts (set conns k conn) budget next
   halts_at left firsts conns old budget spare next number k was conn e is =
-      let P : ℕ → Type 0 = λ n. Halts left old spare next n was conn → AllAt M stands sees sound seen wrote sees_net to turns left firsts conns old budget spare → AllHalted M stands sees seen wrote sees_net to turns firsts (set conns k conn) budget next in
+      let P : ℕ → Type 0 = λ n. Halts left old spare next n was conn → AllAt M stands sees sound seen wrote sees_net to prompt turns left firsts conns old budget spare → AllHalted M stands sees seen wrote sees_net to turns firsts (set conns k conn) budget next in
       subst P (sym e) (halts_all left firsts conns old budget spare next k was conn is)
 
 -- their open servers were lent

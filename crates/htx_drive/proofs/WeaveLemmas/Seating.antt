@@ -1,5 +1,5 @@
 -- A connection gets a core, moves with it, and gives it back.
-use Rattle.std.proofs.Common.{◌≡◌, ℕ, ◌<◌, List, [], ◌∷◌, ◌++◌, Bool, true, false, Option, Some, None, sym, ap, subst, ◌∙◌, inl, inr}
+use Rattle.std.proofs.Common.{◌≡◌, ℕ, ◌<◌, List, [], ◌∷◌, ◌++◌, Bool, true, false, Option, Some, None, sym, ap, subst, ◌∙◌, inl, inr, arith}
 use Rattle.std.specs.Prelude.{is_some, IfSome, Result}
 use Rattle.std.specs.List.{AllByRecursion}
 use Rattle.px_pool.specs.Owners.{SameBeside}
@@ -14,7 +14,10 @@ use Rattle.htx_drive.specs.declared.weave.mover.Went.TheVariants as went
 
 -- one change of a connection's behind another
 pub beside_both : (number : ℕ) (old middle new : List (Option ℕ)) → SameBeside number old middle → SameBeside number middle new → SameBeside number old new
-beside_both number old middle new a b = record { sets = b.sets ∙ a.sets; others = λ other h. b.others other h ∙ a.others other h }
+beside_both number old middle new a b =
+    let first = a.counts in
+    let second = b.counts in
+    record { sets = b.sets ∙ a.sets; others = λ other h. b.others other h ∙ a.others other h; counts = omega (arith, first, second) }
 
 -- the free cores are the same
 pub free_kept : {C : Type 0} (P : C → Type 0) (old new : List C) → new ≡ old → AllByRecursion P old → AllByRecursion P new

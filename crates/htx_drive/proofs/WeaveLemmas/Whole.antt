@@ -1,5 +1,5 @@
 -- Where all connections stand before the first move, where all have ended, and how all are left.
-use Rattle.std.proofs.Common.{◌≡◌, ℕ, zero, suc, ◌+◌, ◌*◌, ◌<◌, ◌≤◌, List, [], ◌∷◌, length, replicate, false, Option, Some, None, refl, sym, ap, subst, ◌∙◌, inl, inr, arith}
+use Rattle.std.proofs.Common.{◌≡◌, ℕ, zero, suc, ◌+◌, ◌*◌, ◌<◌, ◌≤◌, List, [], ◌∷◌, length, replicate, false, Option, Some, None, refl, sym, ap, subst, ◌∙◌, inl, inr, arith, Bool, true}
 use Rattle.std.specs.Prelude.{get_or, set, slice_get, Result}
 use Rattle.std.specs.List.{AllByRecursion, sum_by}
 use Rattle.std.proofs.lemmas.Bool.{false≢true, cases_eq}
@@ -21,12 +21,13 @@ use Rattle.htx_drive.specs.Weave.State.{IsAt, IsReady, IsFresh, MayMove}
 use Rattle.htx_drive.specs.Weave.Rounds.{still_on, unended}
 use Rattle.htx_drive.specs.Weave.All.{MayGoOn, AtPlace, AllAt}
 use Rattle.htx_drive.specs.Weave.Halted.{Halted, AllHalted}
-use Rattle.htx_drive.specs.Weave.Outcome.{AreNew, HasEnded, AllEnded, LeftAt, AllLeft}
+use Rattle.htx_drive.specs.Weave.Outcome.{AreNew, HasEnded, AllEnded, EndedAtOnce, AllEndedAtOnce, LeftAt, AllLeft}
 use Rattle.htx_drive.specs.declared.weave.conn.Conn.{Conn}
 use Rattle.htx_drive.specs.declared.weave.fault.WeaveFault.{WeaveFault}
 use Rattle.htx_drive.specs.declared.weave.fault.WeaveFault.TheVariants as faults
 use Rattle.htx_drive.proofs.WeaveLemmas.All.{some_is, set_at, set_length, set_past}
 use Rattle.htx_drive.proofs.WeaveLemmas.Rounds.{has_ended}
+use Rattle.htx_drive.proofs.WeaveLemmas.Counts.{held_none}
 
 -- ---- no core is out
 
@@ -64,6 +65,7 @@ module _ {C L N : Type 0} (sees : C → CoreSeen) (sound : C → Type 0) (sees_n
       record {
         some = some_owner pool.owners pool.cores some;
         ready = ready;
+        counts = none ∙ sym (held_none pool.owners (length conns) (λ number. none_has number pool.owners none));
         seated = λ number has. absurd (false≢true (sym (none_has number pool.owners none) ∙ has));
         may = λ place conn is.
             let n = new_at conns place conn new is in
@@ -72,13 +74,14 @@ module _ {C L N : Type 0} (sees : C → CoreSeen) (sound : C → Type 0) (sees_n
             subst P (sym (none_core (suc place) pool.owners pool.cores none)) (subst Q (sym n.1) n.0);
       }
 
-module _ {C L N : Type 0} (M : Meaning) (stands : C → Past → Type 0) (sees : C → CoreSeen) (sound : C → Type 0) (seen : L → Seen) (wrote : L → List ℕ → Type 0) (sees_net : N → NetSeen) (to : Place) (turns : List (ℕ × Turn)) where
+module _ {C L N : Type 0} (M : Meaning) (stands : C → Past → Type 0) (sees : C → CoreSeen) (sound : C → Type 0) (seen : L → Seen) (wrote : L → List ℕ → Type 0) (sees_net : N → NetSeen) (to : Place) (prompt : Bool) (turns : List (ℕ × Turn)) where
   begins : (pool : Seats C) (first conn : Conn L N) (number count : ℕ) → first ≡ conn → count ≡ 0 → conn.server ≡ None → conn.ran ≡ None → core_of number pool ≡ None
-      → AtPlace M stands sees sound seen wrote sees_net to turns turns first conn pool number count
+      → AtPlace M stands sees sound seen wrote sees_net to prompt turns turns first conn pool number count
   begins pool first conn number count same none server ran core =
-      let P : Option (Result Ran SessionFault) → Option C → Type 0 = λ r o. IsAt M stands sees sound (turns_of number turns) (turns_of number turns) seen wrote first.client conn.client conn.server to (sees_net first.net) (sees_net conn.net) r o count in
+      let P : Option (Result Ran SessionFault) → Option C → Type 0 = λ r o. IsAt M stands sees sound prompt (turns_of number turns) (turns_of number turns) seen wrote first.client conn.client conn.server to (sees_net first.net) (sees_net conn.net) r o count in
       subst (λ (r : Option (Result Ran SessionFault)). P r (core_of number pool)) (sym ran) (subst (λ (o : Option C). P None o) (sym core) (record {
         waited = 0;
+        at_once = λ e. refl;
         left = refl;
         same_client = sym (ap (λ (x : Conn L N). x.client) same);
         same_net = sym (ap (λ (x : Conn L N). sees_net x.net) same);
@@ -86,12 +89,13 @@ module _ {C L N : Type 0} (M : Meaning) (stands : C → Past → Type 0) (sees :
         paid_none = none;
       }))
 
-  pub all_begin : (pool : Seats C) (conns : List (Conn L N)) (budget : ℕ) → count_out pool.owners ≡ 0 → AreNew conns → AllByRecursion (IsFresh stands) (free_of pool)
-      → AllAt M stands sees sound seen wrote sees_net to turns turns conns conns pool budget budget
-  all_begin pool conns budget none new fresh =
+  pub all_begin : (pool : Seats C) (conns : List (Conn L N)) (budget : ℕ) → (prompt ≡ true → length conns ≤ length pool.owners) → count_out pool.owners ≡ 0 → AreNew conns → AllByRecursion (IsFresh stands) (free_of pool)
+      → AllAt M stands sees sound seen wrote sees_net to prompt turns turns conns conns pool budget budget
+  all_begin pool conns budget room none new fresh =
       let summed : sum_by (λ (n : ℕ). n) (replicate (length conns) 0) ≡ length conns * 0 = sum_by-replicate (λ (n : ℕ). n) (length conns) 0 in
       record {
         counts = replicate (length conns) 0;
+        room = room;
         as_many = refl;
         counted = length-replicate (length conns) 0;
         each = λ place first conn hf hc.
@@ -105,16 +109,28 @@ module _ {C L N : Type 0} (M : Meaning) (stands : C → Past → Type 0) (sees :
   -- ---- all have ended
 
   is_done : (first conn : Conn L N) (number count : ℕ) (left : List (ℕ × Turn)) (ran : Option (Result Ran SessionFault)) (held : Option C) → conn.ran ≡ ran → still_on ran ≡ 0
-      → IsAt M stands sees sound (turns_of number turns) (turns_of number left) seen wrote first.client conn.client conn.server to (sees_net first.net) (sees_net conn.net) ran held count
+      → IsAt M stands sees sound prompt (turns_of number turns) (turns_of number left) seen wrote first.client conn.client conn.server to (sees_net first.net) (sees_net conn.net) ran held count
       → HasEnded M stands sees (turns_of number turns) seen wrote sees_net to first conn
   is_done first conn number count left None held is e at = absurd (omega (arith, e))
-  is_done first conn number count left (Some ran) None is e at = record { ran = ran; is = is; count = count; done = at }
+  is_done first conn number count left (Some ran) None is e at = record { ran = ran; is = is; count = count; done = at.0 }
   is_done first conn number count left (Some ran) (Some core) is e at = absurd at
 
-  pub all_done : (left : List (ℕ × Turn)) (firsts conns : List (Conn L N)) (pool : Seats C) (budget spare : ℕ) → unended conns ≡ 0 → AllAt M stands sees sound seen wrote sees_net to turns left firsts conns pool budget spare
+  pub all_done : (left : List (ℕ × Turn)) (firsts conns : List (Conn L N)) (pool : Seats C) (budget spare : ℕ) → unended conns ≡ 0 → AllAt M stands sees sound seen wrote sees_net to prompt turns left firsts conns pool budget spare
       → AllEnded M stands sees seen wrote sees_net to turns firsts conns
   all_done left firsts conns pool budget spare none all = λ place first conn hf hc.
       is_done first conn (suc place) (get_or all.counts place 0) left conn.ran (core_of (suc place) pool) refl (has_ended conns place conn none hc) (all.each place first conn hf hc)
+
+  done_at_once : (first conn : Conn L N) (number count : ℕ) (left : List (ℕ × Turn)) (ran : Option (Result Ran SessionFault)) (held : Option C) → prompt ≡ true → conn.ran ≡ ran → still_on ran ≡ 0
+      → IsAt M stands sees sound prompt (turns_of number turns) (turns_of number left) seen wrote first.client conn.client conn.server to (sees_net first.net) (sees_net conn.net) ran held count
+      → EndedAtOnce M stands sees (turns_of number turns) seen wrote sees_net to first conn
+  done_at_once first conn number count left None held once is e at = absurd (omega (arith, e))
+  done_at_once first conn number count left (Some ran) None once is e at = record { ended = record { ran = ran; is = is; count = count; done = at.0 }; at_once = at.1 once }
+  done_at_once first conn number count left (Some ran) (Some core) once is e at = absurd at
+
+  pub all_at_once : (left : List (ℕ × Turn)) (firsts conns : List (Conn L N)) (pool : Seats C) (budget spare : ℕ) → prompt ≡ true → unended conns ≡ 0 → AllAt M stands sees sound seen wrote sees_net to prompt turns left firsts conns pool budget spare
+      → AllEndedAtOnce M stands sees seen wrote sees_net to turns firsts conns
+  all_at_once left firsts conns pool budget spare once none all = λ place first conn hf hc.
+      done_at_once first conn (suc place) (get_or all.counts place 0) left conn.ran (core_of (suc place) pool) once refl (has_ended conns place conn none hc) (all.each place first conn hf hc)
 
 -- ---- how all are left
 

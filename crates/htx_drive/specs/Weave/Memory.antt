@@ -1,5 +1,5 @@
 -- The connections of a record over links and nets in memory.
-use Rattle.std.specs.Prelude.{◌≡◌, ℕ, ◌+◌, List, Option, Some, None, Result, Ok, sum_by}
+use Rattle.std.specs.Prelude.{◌≡◌, ℕ, ◌+◌, List, Some, None, Ok, sum_by}
 use Rattle.std.specs.List.{AllZip}
 use Rattle.px_link.specs.Net.{NetSeen}
 use Rattle.px_link.specs.MemLink.{MemLinkSeen}

@@ -35,6 +35,15 @@ abbrev pub AllEnded : {C L N : Type 0} → (M : Meaning) → (stands : C → Pas
 AllEnded {L = L} {N = N} M stands sees seen wrote sees_net to turns firsts conns =
     (place : ℕ) (first conn : Conn L N) → slice_get firsts place ≡ Some first → slice_get conns place ≡ Some conn → HasEnded M stands sees (turns_of (suc place) turns) seen wrote sees_net to first conn
 
+-- none of its turns waited
+pub record EndedAtOnce {C L N : Type 0} (M : Meaning) (stands : C → Past → Type 0) (sees : C → CoreSeen) (turns : List Turn) (seen : L → Seen) (wrote : L → List ℕ → Type 0) (sees_net : N → NetSeen) (to : Place) (first conn : Conn L N) : Type 0 where
+  pub ended : HasEnded M stands sees turns seen wrote sees_net to first conn
+  pub at_once : ended.done.waited ≡ 0
+
+abbrev pub AllEndedAtOnce : {C L N : Type 0} → (M : Meaning) → (stands : C → Past → Type 0) → (sees : C → CoreSeen) → (seen : L → Seen) → (wrote : L → List ℕ → Type 0) → (sees_net : N → NetSeen) → Place → List (ℕ × Turn) → (firsts conns : List (Conn L N)) → Type 0
+AllEndedAtOnce {L = L} {N = N} M stands sees seen wrote sees_net to turns firsts conns =
+    (place : ℕ) (first conn : Conn L N) → slice_get firsts place ≡ Some first → slice_get conns place ≡ Some conn → EndedAtOnce M stands sees (turns_of (suc place) turns) seen wrote sees_net to first conn
+
 -- ---- behind a fault
 
 -- nothing of it was touched, but for its client's link, which is closed Failed

@@ -10,7 +10,7 @@ use Rattle.htx_drive.specs.Machine.{CoreSeen}
 use Rattle.htx_drive.specs.Replay.Memory.{turns_of}
 use Rattle.htx_drive.specs.Replay.Replayed.{Replays}
 
--- So many of its first turns found all cores out, and moved nothing. The others led to its outcome, just as they do where it runs by itself.
+-- So many of its first turns moved nothing, as a turn does that finds all cores out. The others led to its outcome, just as they do where it runs by itself.
 pub record Weaves {C : Type 0} (M : Meaning) (stands : C → Past → Type 0) (seen : C → CoreSeen) (turns : List Turn) (visit : Visit) (out : Out) : Type 0 where
   pub waited : ℕ
   pub replays : Replays M stands seen (drop waited turns) visit out

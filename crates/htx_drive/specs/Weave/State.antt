@@ -1,10 +1,11 @@
 -- Where many connections stand between two moves.
-use Rattle.std.specs.Prelude.{◌≡◌, ℕ, ◌<◌, List, drop, true, false, Option, Some, None, Result, is_some, ⊤, ◌⊎◌}
+use Rattle.std.specs.Prelude.{◌≡◌, ℕ, ◌<◌, List, drop, true, false, Option, Some, None, Result, is_some, ⊤, ◌⊎◌, Bool}
 use Rattle.session_model.specs.Meaning.{Meaning}
 use Rattle.session_core.specs.History.{Past, nothing_yet}
 use Rattle.px_link.specs.declared.turns.Turn.{Turn}
 use Rattle.px_link.specs.Link.{Seen}
 use Rattle.px_link.specs.Net.{Place, NetSeen}
+use Rattle.px_pool.specs.Owners.{has_one, all_out}
 use Rattle.px_pool.specs.Seats.{Seats, core_of, free_of, first_of, rest_of}
 use Rattle.htx_drive.specs.Machine.{CoreSeen}
 use Rattle.htx_drive.specs.declared.Ran.{Ran}
@@ -69,9 +70,18 @@ MayMove sees sound server lent (Some ran) held = ⊤
 
 -- ---- one connection
 
+-- where there are cores for all, no turn waits
+abbrev pub AtOnce : (prompt : Bool) → (waited : ℕ) → Type 0
+AtOnce prompt waited = prompt ≡ true → waited ≡ 0
+
+-- a connection that has none finds one that is free
+abbrev pub HasRoom : (prompt : Bool) → (number : ℕ) → (owners : List (Option ℕ)) → Type 0
+HasRoom prompt number owners = prompt ≡ true → has_one number owners ≡ false → all_out owners ≡ true → ⊥
+
 -- it has had no core yet, and nothing of it was touched; so many of its turns found all cores out
-pub record Waits {L : Type 0} (turns ahead : List Turn) (first client : L) (server : Option L) (first_net net : NetSeen) (count : ℕ) : Type 0 where
+pub record Waits {L : Type 0} (prompt : Bool) (turns ahead : List Turn) (first client : L) (server : Option L) (first_net net : NetSeen) (count : ℕ) : Type 0 where
   pub waited : ℕ
+  pub at_once : AtOnce prompt waited
   pub left : ahead ≡ drop waited turns
   pub same_client : client ≡ first
   pub same_net : net ≡ first_net
@@ -79,8 +89,9 @@ pub record Waits {L : Type 0} (turns ahead : List Turn) (first client : L) (serv
   pub paid_none : count ≡ 0
 
 -- it has this core, and its session is under way
-pub record Holds {C L : Type 0} (stands : C → Past → Type 0) (sees : C → CoreSeen) (sound : C → Type 0) (turns ahead : List Turn) (seen : L → Seen) (wrote : L → List ℕ → Type 0) (first client : L) (server : Option L) (to : Place) (first_net net : NetSeen) (core : C) (count : ℕ) : Type 0 where
+pub record Holds {C L : Type 0} (stands : C → Past → Type 0) (sees : C → CoreSeen) (sound : C → Type 0) (prompt : Bool) (turns ahead : List Turn) (seen : L → Seen) (wrote : L → List ℕ → Type 0) (first client : L) (server : Option L) (to : Place) (first_net net : NetSeen) (core : C) (count : ℕ) : Type 0 where
   pub waited : ℕ
+  pub at_once : AtOnce prompt waited
   pub going : Going stands sees (drop waited turns) ahead core seen wrote first client server to first_net net count
   pub is_sound : sound core
   pub serving : (sees core).serving ≡ is_some server
@@ -93,8 +104,8 @@ pub record Done {C L : Type 0} (M : Meaning) (stands : C → Past → Type 0) (s
   pub so : OverSo M stands sees (drop waited turns) seen wrote first client to first_net net (Some ran) count
 
 -- by what it came to, and by the core that it has
-abbrev pub IsAt : {C L : Type 0} → (M : Meaning) → (stands : C → Past → Type 0) → (sees : C → CoreSeen) → (sound : C → Type 0) → (turns ahead : List Turn) → (seen : L → Seen) → (wrote : L → List ℕ → Type 0) → (first client : L) → (server : Option L) → Place → (first_net net : NetSeen) → Option (Result Ran SessionFault) → Option C → (count : ℕ) → Type 0
-IsAt M stands sees sound turns ahead seen wrote first client server to first_net net None None count = Waits turns ahead first client server first_net net count
-IsAt M stands sees sound turns ahead seen wrote first client server to first_net net None (Some core) count = Holds stands sees sound turns ahead seen wrote first client server to first_net net core count
-IsAt M stands sees sound turns ahead seen wrote first client server to first_net net (Some ran) None count = Done M stands sees turns seen wrote first client server to first_net net ran count
-IsAt M stands sees sound turns ahead seen wrote first client server to first_net net (Some ran) (Some core) count = ⊥
+abbrev pub IsAt : {C L : Type 0} → (M : Meaning) → (stands : C → Past → Type 0) → (sees : C → CoreSeen) → (sound : C → Type 0) → (prompt : Bool) → (turns ahead : List Turn) → (seen : L → Seen) → (wrote : L → List ℕ → Type 0) → (first client : L) → (server : Option L) → Place → (first_net net : NetSeen) → Option (Result Ran SessionFault) → Option C → (count : ℕ) → Type 0
+IsAt M stands sees sound prompt turns ahead seen wrote first client server to first_net net None None count = Waits prompt turns ahead first client server first_net net count
+IsAt M stands sees sound prompt turns ahead seen wrote first client server to first_net net None (Some core) count = Holds stands sees sound prompt turns ahead seen wrote first client server to first_net net core count
+IsAt M stands sees sound prompt turns ahead seen wrote first client server to first_net net (Some ran) None count = (done : Done M stands sees turns seen wrote first client server to first_net net ran count) × AtOnce prompt done.waited
+IsAt M stands sees sound prompt turns ahead seen wrote first client server to first_net net (Some ran) (Some core) count = ⊥

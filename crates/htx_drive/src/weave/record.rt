@@ -1,5 +1,5 @@
-//! The connections of a record over cores that they share: each comes to what it comes to by itself, by its own turns behind those that
-//! found all cores out.
+//! The connections of a record over cores that they share: each comes to what it comes to by itself, by its own turns but the first so many,
+//! which moved nothing.
 
 mod budget;
 mod conns;
@@ -10,5 +10,6 @@ mod texts;
 mod turns;
 mod woven;
 
+pub use sets::pool_of;
 pub use texts::weave_text;
 pub use woven::weave_record;

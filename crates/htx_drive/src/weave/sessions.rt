@@ -1,14 +1,14 @@
 //! Connections over shared cores, until each has ended, or all are given up behind a fault.
-ghost use Rattle.std.specs.Prelude.{◌≡◌, ◌<◌, ◌^◌, ℕ, List, [], length, OnOk, OnErr, IfErr, IsErrOf};
+ghost use Rattle.std.specs.Prelude.{◌≡◌, ◌<◌, ◌^◌, ℕ, List, [], length, OnOk, OnErr, IfErr, IsErrOf, Bool, ◌≤◌};
 ghost use Rattle.std.specs.List.{AllByRecursion};
 ghost use Rattle.px_link.specs.Net.{address_of};
 ghost use Rattle.px_pool.specs.Owners.{count_out};
-ghost use Rattle.px_pool.specs.Seats.{free_of};
+ghost use Rattle.px_pool.specs.Seats.{free_of, count_sets};
 ghost use Rattle.htx_drive.specs.Weave.State.{IsReady, IsFresh};
 ghost use Rattle.htx_drive.specs.Weave.Rounds.{unended};
 ghost use Rattle.htx_drive.specs.Weave.All.{AreWithin, MayGoOn, AllAt};
 ghost use Rattle.htx_drive.specs.Weave.Halted.{AllHalted, AllLent};
-ghost use Rattle.htx_drive.specs.Weave.Outcome.{AreNew, AllEnded, AllLeft};
+ghost use Rattle.htx_drive.specs.Weave.Outcome.{AreNew, AllEnded, AllEndedAtOnce, AllLeft};
 ghost use Rattle.htx_drive.specs.declared.weave.conn.Conn.{Conn};
 
 use crate::resources::{MOST, Resources};
@@ -35,12 +35,13 @@ fn to_their_ends<C: Resets, L: Link, N: Net<Link = L>, W: Weft>(
     requires within { AreWithin (length conns.old) (W.left turns.old) }
     ensures may { OnOk result (MayGoOn C.seen C.sound N.seen pool.new conns.new) }
     ensures length { length conns.new ≡ length conns.old }
+    ensures sets { count_sets pool.new ≡ count_sets pool.old }
     ensures ended { OnOk result (unended conns.new ≡ 0) }
-    ensures at { (cfg : C.Settings) (firsts : List (Conn L N)) (budget : ℕ)
-        → AllAt (C.meaning cfg) (C.stands cfg) C.seen C.sound L.seen L.wrote N.seen (address_of to.now) (W.left turns.old) (W.left turns.old) firsts conns.old pool.old budget resources.old.left
-        → OnOk result (AllAt (C.meaning cfg) (C.stands cfg) C.seen C.sound L.seen L.wrote N.seen (address_of to.now) (W.left turns.old) [] firsts conns.new pool.new budget resources.new.left) }
-    ensures halted { (cfg : C.Settings) (firsts : List (Conn L N)) (budget : ℕ)
-        → AllAt (C.meaning cfg) (C.stands cfg) C.seen C.sound L.seen L.wrote N.seen (address_of to.now) (W.left turns.old) (W.left turns.old) firsts conns.old pool.old budget resources.old.left
+    ensures at { (cfg : C.Settings) (prompt : Bool) (firsts : List (Conn L N)) (budget : ℕ)
+        → AllAt (C.meaning cfg) (C.stands cfg) C.seen C.sound L.seen L.wrote N.seen (address_of to.now) prompt (W.left turns.old) (W.left turns.old) firsts conns.old pool.old budget resources.old.left
+        → OnOk result (AllAt (C.meaning cfg) (C.stands cfg) C.seen C.sound L.seen L.wrote N.seen (address_of to.now) prompt (W.left turns.old) [] firsts conns.new pool.new budget resources.new.left) }
+    ensures halted { (cfg : C.Settings) (prompt : Bool) (firsts : List (Conn L N)) (budget : ℕ)
+        → AllAt (C.meaning cfg) (C.stands cfg) C.seen C.sound L.seen L.wrote N.seen (address_of to.now) prompt (W.left turns.old) (W.left turns.old) firsts conns.old pool.old budget resources.old.left
         → OnErr result (AllHalted (C.meaning cfg) (C.stands cfg) C.seen L.seen L.wrote N.seen (address_of to.now) (W.left turns.old) firsts conns.new budget resources.new.left) }
     ensures spent { IsErrOf result WeaveFault.Spent → resources.new.left ≡ 0 }
     ensures lent { OnErr result (AllLent N.seen conns.new) }
@@ -69,8 +70,11 @@ pub fn weave<C: Resets, L: Link, N: Net<Link = L>, W: Weft>(
     requires ready { AllByRecursion (IsReady C.seen C.sound) (free_of pool.old) }
     requires within { AreWithin (length conns.old) (W.left turns.old) }
     ensures length { length conns.new ≡ length conns.old }
+    ensures sets { count_sets pool.new ≡ count_sets pool.old }
     ensures ended { (cfg : C.Settings) → AllByRecursion (IsFresh (C.stands cfg)) (free_of pool.old)
         → OnOk result (AllEnded (C.meaning cfg) (C.stands cfg) C.seen L.seen L.wrote N.seen (address_of to.now) (W.left turns.old) conns.old conns.new) }
+    ensures at_once { (cfg : C.Settings) → AllByRecursion (IsFresh (C.stands cfg)) (free_of pool.old) → length conns.old ≤ length (free_of pool.old)
+        → OnOk result (AllEndedAtOnce (C.meaning cfg) (C.stands cfg) C.seen L.seen L.wrote N.seen (address_of to.now) (W.left turns.old) conns.old conns.new) }
     ensures given_up { (cfg : C.Settings) → AllByRecursion (IsFresh (C.stands cfg)) (free_of pool.old)
         → IfErr result (λ fault. AllLeft (C.meaning cfg) (C.stands cfg) C.seen L.seen L.wrote N.seen (address_of to.now) (W.left turns.old) conns.old conns.new budget fault) }
     ensures out { OnOk result (count_out pool.new.owners ≡ 0) }

@@ -1,16 +1,16 @@
 //! Connections and the cores of a pool.
-ghost use Rattle.std.specs.Prelude.{◌≡◌, ◌≢◌, ◌<◌, ◌≤◌, ◌⊎◌, ℕ, List, Some, None, true, false, is_some, OnOk, OnErr, IfOk, IfSome, IsErrOf};
+ghost use Rattle.std.specs.Prelude.{◌≡◌, ◌≢◌, ◌<◌, ◌≤◌, ◌⊎◌, ℕ, List, Some, None, true, false, is_some, OnOk, OnErr, IfOk, IfSome, IsErrOf, Bool};
 ghost use Rattle.std.specs.List.{AllByRecursion};
 ghost use Rattle.session_core.specs.History.{Past, nothing_yet};
 ghost use Rattle.px_link.specs.Net.{address_of};
 ghost use Rattle.px_link.specs.declared.turns.Turn.{Turn};
 ghost use Rattle.px_link.specs.Turns.{first_of, rest_of};
 ghost use Rattle.px_pool.specs.Owners.{has_one, all_out, SameBeside};
-ghost use Rattle.px_pool.specs.Seats.{core_of, free_of};
+ghost use Rattle.px_pool.specs.Seats.{core_of, free_of, count_sets};
 ghost use Rattle.htx_drive.specs.Underway.{Stopped, LeftSo};
 ghost use Rattle.htx_drive.specs.Weave.Woven.{Pays, Going};
 ghost use Rattle.htx_drive.specs.Weave.Went.{GoesAs, OverSo, HoldsOn, SpentSo, LowersSo, OnEnded};
-ghost use Rattle.htx_drive.specs.Weave.State.{IsReady, IsFresh, Seated, SetSo, MayMove, IsAt};
+ghost use Rattle.htx_drive.specs.Weave.State.{IsReady, IsFresh, Seated, SetSo, MayMove, HasRoom, IsAt};
 ghost use Rattle.htx_drive.specs.Weave.Rounds.{MovedOn, Rested};
 ghost use Rattle.htx_drive.specs.Weave.Halted.{Halted, IsLent};
 
@@ -28,6 +28,7 @@ fn give<C: Resets>(pool: &mut Pool<C>, number: u32)
     requires sound { IfSome (core_of number pool.old) C.sound }
     ensures none { core_of number pool.new ≡ None }
     ensures gone { has_one number pool.new.owners ≡ false }
+    ensures sets { count_sets pool.new ≡ count_sets pool.old }
     ensures beside { SameBeside number pool.old.owners pool.new.owners }
     ensures others { (other : ℕ) → other ≢ number → core_of other pool.new ≡ core_of other pool.old }
     ensures ready { AllByRecursion (IsReady C.seen C.sound) (free_of pool.old) → AllByRecursion (IsReady C.seen C.sound) (free_of pool.new) }
@@ -42,6 +43,7 @@ fn seated<C: Resets>(pool: &mut Pool<C>, number: u32) -> bool
     ensures has { result ≡ true → has_one number pool.new.owners ≡ true }
     ensures wait { result ≡ false → (core_of number pool.old ≡ None) × (all_out pool.old.owners ≡ true) × (pool.new ≡ pool.old) }
     ensures none { result ≡ false → has_one number pool.old.owners ≡ false }
+    ensures sets { count_sets pool.new ≡ count_sets pool.old }
     ensures beside { SameBeside number pool.old.owners pool.new.owners }
     ensures others { (other : ℕ) → other ≢ number → core_of other pool.new ≡ core_of other pool.old }
     ensures seated { Seated number pool.old pool.new }
@@ -78,6 +80,7 @@ fn set_goes<C: Resets, L: Link, N: Net<Link = L>>(
     ensures spent { IfOk result (λ went. SpentSo went resources.new.left) }
     ensures lowers { IfOk result (λ went. LowersSo turn went resources.old.left resources.new.left) }
     ensures no_more { resources.new.left ≤ resources.old.left }
+    ensures sets { count_sets pool.new ≡ count_sets pool.old }
     ensures beside { SameBeside number pool.old.owners pool.new.owners }
     ensures gone { IfOk result (λ went. OnEnded went (has_one number pool.new.owners ≡ false)) }
     ensures keeps { IfOk result (λ went. SetSo went C.seen C.sound (core_of number pool.new) conn.new.server (N.seen conn.new.net).lent conn.new.ran) }
@@ -111,18 +114,19 @@ pub(crate) fn move_of<C: Resets, L: Link, N: Net<Link = L>>(
     ensures others { (other : ℕ) → other ≢ number → core_of other pool.new ≡ core_of other pool.old }
     ensures may { OnOk result (MayMove C.seen C.sound conn.new.server (N.seen conn.new.net).lent conn.new.ran (core_of number pool.new)) }
     ensures ready { OnOk result (AllByRecursion (IsReady C.seen C.sound) (free_of pool.new)) }
-    ensures at { (cfg : C.Settings) (turns ahead : List Turn) (total : ℕ) (first : L) (first_net : N) → turn ≡ first_of ahead → AllByRecursion (IsFresh (C.stands cfg)) (free_of pool.old)
-        → Pays total resources.old.left (IsAt (C.meaning cfg) (C.stands cfg) C.seen C.sound turns ahead L.seen L.wrote first conn.old.client conn.old.server (address_of to.now) (N.seen first_net) (N.seen conn.old.net) conn.old.ran (core_of number pool.old))
-        → OnOk result (Pays total resources.new.left (IsAt (C.meaning cfg) (C.stands cfg) C.seen C.sound turns (rest_of ahead) L.seen L.wrote first conn.new.client conn.new.server (address_of to.now) (N.seen first_net) (N.seen conn.new.net) conn.new.ran (core_of number pool.new))) }
-    ensures fresh { (cfg : C.Settings) (turns ahead : List Turn) (total : ℕ) (first : L) (first_net : N) → turn ≡ first_of ahead → AllByRecursion (IsFresh (C.stands cfg)) (free_of pool.old)
-        → Pays total resources.old.left (IsAt (C.meaning cfg) (C.stands cfg) C.seen C.sound turns ahead L.seen L.wrote first conn.old.client conn.old.server (address_of to.now) (N.seen first_net) (N.seen conn.old.net) conn.old.ran (core_of number pool.old))
+    ensures at { (cfg : C.Settings) (prompt : Bool) (turns ahead : List Turn) (total : ℕ) (first : L) (first_net : N) → turn ≡ first_of ahead → HasRoom prompt number pool.old.owners → AllByRecursion (IsFresh (C.stands cfg)) (free_of pool.old)
+        → Pays total resources.old.left (IsAt (C.meaning cfg) (C.stands cfg) C.seen C.sound prompt turns ahead L.seen L.wrote first conn.old.client conn.old.server (address_of to.now) (N.seen first_net) (N.seen conn.old.net) conn.old.ran (core_of number pool.old))
+        → OnOk result (Pays total resources.new.left (IsAt (C.meaning cfg) (C.stands cfg) C.seen C.sound prompt turns (rest_of ahead) L.seen L.wrote first conn.new.client conn.new.server (address_of to.now) (N.seen first_net) (N.seen conn.new.net) conn.new.ran (core_of number pool.new))) }
+    ensures fresh { (cfg : C.Settings) (prompt : Bool) (turns ahead : List Turn) (total : ℕ) (first : L) (first_net : N) → turn ≡ first_of ahead → AllByRecursion (IsFresh (C.stands cfg)) (free_of pool.old)
+        → Pays total resources.old.left (IsAt (C.meaning cfg) (C.stands cfg) C.seen C.sound prompt turns ahead L.seen L.wrote first conn.old.client conn.old.server (address_of to.now) (N.seen first_net) (N.seen conn.old.net) conn.old.ran (core_of number pool.old))
         → OnOk result (AllByRecursion (IsFresh (C.stands cfg)) (free_of pool.new)) }
-    ensures halted { (cfg : C.Settings) (turns ahead : List Turn) (total : ℕ) (first : L) (first_net : N) → turn ≡ first_of ahead → AllByRecursion (IsFresh (C.stands cfg)) (free_of pool.old)
-        → Pays total resources.old.left (IsAt (C.meaning cfg) (C.stands cfg) C.seen C.sound turns ahead L.seen L.wrote first conn.old.client conn.old.server (address_of to.now) (N.seen first_net) (N.seen conn.old.net) conn.old.ran (core_of number pool.old))
+    ensures halted { (cfg : C.Settings) (prompt : Bool) (turns ahead : List Turn) (total : ℕ) (first : L) (first_net : N) → turn ≡ first_of ahead → AllByRecursion (IsFresh (C.stands cfg)) (free_of pool.old)
+        → Pays total resources.old.left (IsAt (C.meaning cfg) (C.stands cfg) C.seen C.sound prompt turns ahead L.seen L.wrote first conn.old.client conn.old.server (address_of to.now) (N.seen first_net) (N.seen conn.old.net) conn.old.ran (core_of number pool.old))
         → OnErr result (Pays total resources.new.left (Halted (C.meaning cfg) (C.stands cfg) C.seen turns L.seen L.wrote first conn.new.client conn.new.server (address_of to.now) (N.seen first_net) (N.seen conn.new.net) conn.new.ran)) }
     ensures spent { IsErrOf result WeaveFault.Spent → resources.new.left ≡ 0 }
     ensures lent { OnErr result (IsLent conn.new.server (N.seen conn.new.net).lent) }
     ensures ended { is_some conn.old.ran ≡ true → (conn.new ≡ conn.old) × (pool.new ≡ pool.old) }
+    ensures sets { count_sets pool.new ≡ count_sets pool.old }
     ensures beside { SameBeside number pool.old.owners pool.new.owners }
     ensures gone { conn.old.ran ≡ None → OnOk result (is_some conn.new.ran ≡ true → has_one number pool.new.owners ≡ false) }
     ensures lowers { turn ≡ None → OnOk result (MovedOn conn.old conn.new resources.old.left resources.new.left ⊎ Rested number pool.old pool.new conn.old conn.new resources.old.left resources.new.left) }

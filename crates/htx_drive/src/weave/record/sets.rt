@@ -31,7 +31,7 @@ fn cores_for<C: Resets + Drop, K: Cores<C>>(
 }
 
 /// A pool of so many cores, all of which are free.
-pub(crate) fn pool_for<C: Resets + Drop, K: Cores<C>>(
+pub fn pool_of<C: Resets + Drop, K: Cores<C>>(
     alloc: Global,
     cores: &K,
     sets: u32,
@@ -39,6 +39,7 @@ pub(crate) fn pool_for<C: Resets + Drop, K: Cores<C>>(
     requires ready { K.ready cores.now }
     requires some { 0 < sets }
     ensures some { IfOk result (λ pool. 0 < length (free_of pool)) }
+    ensures sets { IfOk result (λ pool. length (free_of pool) ≡ sets) }
     ensures unused { IfOk result (λ pool. count_out pool.owners ≡ 0) }
     ensures ready { IfOk result (λ pool. AllByRecursion (IsReady C.seen C.sound) (free_of pool)) }
     ensures fresh { IfOk result (λ pool. AllByRecursion (IsFresh (C.stands (K.settings cores.now))) (free_of pool)) }

@@ -1,6 +1,7 @@
-use Rattle.std.proofs.Common.{◌≡◌, ◌+◌, ℕ, List, [], length}
+use Rattle.std.proofs.Common.{◌≡◌, ◌+◌, ℕ, List, [], length, Bool}
 use Rattle.px_link.specs.Net.{address_of}
 use Rattle.px_link.specs.declared.turns.Turn.{Turn}
+use Rattle.px_pool.specs.Seats.{count_sets}
 use Rattle.htx_drive.specs.Weave.Rounds.{unended}
 use Rattle.htx_drive.specs.Weave.All.{MayGoOn, AllAt}
 use Rattle.htx_drive.specs.declared.weave.conn.Conn.{Conn}
@@ -11,9 +12,10 @@ invariant-rounds g l =
     record {
       may : MayGoOn g.C.Machine.seen g.C.Machine.sound g.N.Net.seen l.pool l.conns;
       len : length l.conns ≡ length l.initial.conns;
-      at : (cfg : g.row.C-Settings.Denot) (turns : List (ℕ × Turn)) (firsts : List (Conn g.row.L.Denot g.row.N.Denot)) (budget : ℕ)
-          → AllAt (g.C.Machine.meaning cfg) (g.C.Machine.stands cfg) g.C.Machine.seen g.C.Machine.sound g.L.Link.seen g.L.Link.wrote g.N.Net.seen (address_of l.to) turns [] firsts l.initial.conns l.initial.pool budget l.initial.resources.left
-          → AllAt (g.C.Machine.meaning cfg) (g.C.Machine.stands cfg) g.C.Machine.seen g.C.Machine.sound g.L.Link.seen g.L.Link.wrote g.N.Net.seen (address_of l.to) turns [] firsts l.conns l.pool budget l.resources.left;
+      sets : count_sets l.pool ≡ count_sets l.initial.pool;
+      at : (cfg : g.row.C-Settings.Denot) (prompt : Bool) (turns : List (ℕ × Turn)) (firsts : List (Conn g.row.L.Denot g.row.N.Denot)) (budget : ℕ)
+          → AllAt (g.C.Machine.meaning cfg) (g.C.Machine.stands cfg) g.C.Machine.seen g.C.Machine.sound g.L.Link.seen g.L.Link.wrote g.N.Net.seen (address_of l.to) prompt turns [] firsts l.initial.conns l.initial.pool budget l.initial.resources.left
+          → AllAt (g.C.Machine.meaning cfg) (g.C.Machine.stands cfg) g.C.Machine.seen g.C.Machine.sound g.L.Link.seen g.L.Link.wrote g.N.Net.seen (address_of l.to) prompt turns [] firsts l.conns l.pool budget l.resources.left;
     }
 
 -- each round lowers what is left, or the number of those that have not ended

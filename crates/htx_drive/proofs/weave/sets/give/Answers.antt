@@ -1,5 +1,6 @@
-use Rattle.std.proofs.Common.{◌∙◌}
+use Rattle.std.proofs.Common.{◌+◌, ◌∙◌, length, ap}
 use Rattle.session_core.specs.History.{Past}
+use Rattle.px_pool.specs.Owners.{count_out}
 use Rattle.px_pool.specs.Seats.{core_of, free_of}
 use Rattle.htx_drive.proofs.WeaveLemmas.Seating.{reset_free, some_of}
 use Rattle.htx_drive.specs.Weave.State.{IsReady, IsFresh}
@@ -7,6 +8,9 @@ use Rattle.htx_drive.proofs.weave.sets.give.Goals as goal
 
 pub returns-clause-others : goal.returns-clause-others
 returns-clause-others g c = λ other h. c.release.ensures.others other h ∙ c.core.ensures.others c.reset.new.self other h
+
+pub returns-clause-sets : goal.returns-clause-sets
+returns-clause-sets g c = c.release.ensures.sets ∙ ap (λ l. length l + count_out c.args.pool.now.owners) (c.core.ensures.free c.reset.new.self)
 
 pub returns-clause-ready : goal.returns-clause-ready
 returns-clause-ready g c = λ all.

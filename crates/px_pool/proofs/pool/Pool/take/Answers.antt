@@ -1,8 +1,8 @@
-use Rattle.std.proofs.Common.{rules, ◌≡◌, ◌∙◌, ap, sym, subst, refl, Some, true, false, ◌+◌}
+use Rattle.std.proofs.Common.{rules, ◌≡◌, ◌∙◌, ap, sym, subst, refl, Some, true, false, ◌+◌, length}
 use Rattle.std.specs.Prelude.{set}
 use Rattle.px_pool.specs.Owners.{has_one, all_out, count_out, first_free, SameBeside}
-use Rattle.px_pool.specs.Seats.{Seats, core_of, free_of, first_of, rest_of}
-use Rattle.px_pool.proofs.Taken.{taken_shared, taken_has_at, taken_count_at, taken_core_at, taken_free_at, taken_other_at, taken_beside, none_free, has_none}
+use Rattle.px_pool.specs.Seats.{Seats, core_of, free_of, count_sets, first_of, rest_of}
+use Rattle.px_pool.proofs.Taken.{taken_shared, taken_has_at, taken_count_at, taken_core_at, taken_free_at, taken_other_at, taken_beside, taken_sets, none_free, has_none}
 use Rattle.px_pool.proofs.pool.Pool.take.Goals as goal
 
 pub returns-in_default-clause-core : goal.returns-in_default-clause-core
@@ -49,9 +49,18 @@ returns-clause-out g c = λ set.
     taken_count_at c.args.conn c.in-Some.place c.self.inside.owners.items at some ∙ ap (λ (p : Seats _). 1 + count_out p.owners) c.self.view_is
 
 pub returns-in_default-clause-beside : goal.returns-in_default-clause-beside
-returns-in_default-clause-beside g c = record { sets = refl; others = λ other h. refl }
+returns-in_default-clause-beside g c = record { sets = refl; others = λ other h. refl; counts = refl }
 
 pub returns-clause-beside : goal.returns-clause-beside
 returns-clause-beside g c =
     let at : c.in-Some.place ≡ first_free c.self.inside.owners.items = search rules in
-    subst (λ (p : Seats _). SameBeside c.args.conn p.owners (set c.self.inside.owners.items c.in-Some.place (Some c.args.conn))) c.self.view_is (taken_beside c.args.conn c.in-Some.place c.self.inside.owners.items at)
+    let some : all_out c.self.inside.owners.items ≡ false = search rules in
+    let without : has_one c.args.conn c.self.inside.owners.items ≡ false = ap (λ (p : Seats _). has_one c.args.conn p.owners) c.self.view_is ∙ c.requires.without in
+    subst (λ (p : Seats _). SameBeside c.args.conn p.owners (set c.self.inside.owners.items c.in-Some.place (Some c.args.conn))) c.self.view_is (taken_beside c.args.conn c.in-Some.place c.self.inside.owners.items at some without)
+
+pub returns-clause-sets : goal.returns-clause-sets
+returns-clause-sets g c =
+    let at : c.in-Some.place ≡ first_free c.self.inside.owners.items = search rules in
+    let some : all_out c.self.inside.owners.items ≡ false = search rules in
+    let same : length c.self.inside.owners.items ≡ length c.self.inside.cores.items = search rules in
+    taken_sets c.args.conn c.in-Some.place c.self.inside.owners.items c.self.inside.cores.items at same some ∙ ap (λ (p : Seats _). count_sets p) c.self.view_is

@@ -1,7 +1,12 @@
-use Rattle.std.proofs.Common.{◌∙◌}
+use Rattle.std.proofs.Common.{ℕ, List, ◌∙◌, subst, arith}
 use Rattle.px_link.specs.Net.{address_of}
+use Rattle.px_link.specs.MemLink.{link_of}
+use Rattle.px_link.specs.declared.turns.Turn.{Turn}
 use Rattle.session_model.specs.Meaning.{Meaning}
 use Rattle.rec_format.specs.Read.{visits}
+use Rattle.htx_drive.specs.Replay.Seen.{wrote_by}
+use Rattle.htx_drive.specs.Weave.Memory.{sees_net}
+use Rattle.htx_drive.specs.Weave.Outcome.{AllEndedAtOnce}
 use Rattle.htx_drive.proofs.RecordLemmas.Woven.{few_conns, new_conns, within_conns}
 use Rattle.htx_drive.proofs.RecordLemmas.Paid.{budget_is, never_spent, only_memory}
 use Rattle.htx_drive.proofs.weave.record.woven.weave_over.Goals as goal
@@ -31,3 +36,10 @@ only_memory-requires g c =
     (never_spent M (g.C.Machine.stands cfg) g.C.Machine.seen to (λ turns entry first conn ran count fresh done. law.ended cores turns entry to first conn ran count c.requires.ready fresh done)
     (λ turns entry first conn failed count fresh given. law.given_up cores turns entry to first conn failed count c.requires.ready fresh given) c.new-turns.result.left.now (visits r.conns.items) c.args.conns.now c.weave.new.conns c.in-Some.budget c.in-Err.fault c.requires.new c.in-Err.ensures.length enough
     (c.in-Err.ensures.given_up cfg c.in_ok-pool.ensures.fresh))
+
+pub returns-in-Ok-clause-at_once : goal.returns-in-Ok-clause-at_once
+returns-in-Ok-clause-at_once g c = λ enough.
+    let cfg = g.K.Cores.settings c.args.cores.now in
+    let sets = c.in_ok-pool.ensures.sets in
+    let T : List (ℕ × Turn) → Type 0 = λ l. AllEndedAtOnce (g.C.Machine.meaning cfg) (g.C.Machine.stands cfg) g.C.Machine.seen link_of wrote_by sees_net (address_of c.args.to.now) l c.args.conns.now c.weave.new.conns in
+    subst T (c.new-turns.ensures ∙ c.deref-2.ensures.value) (c.in-Ok.ensures.at_once cfg c.in_ok-pool.ensures.fresh (omega (arith, enough, sets)))
