@@ -1,7 +1,7 @@
 -- What a step that stops says of the whole command.
-use Rattle.std.proofs.Common.{◌≡◌, ℕ, List, sym, subst}
+use Rattle.std.proofs.Common.{◌≡◌, ◌≤◌, ℕ, List, inl, inr, sym, subst, arith}
 use Rattle.std.specs.Prelude.{Option, Result, Ok, Err, IfErr, IsErrAnd}
-use Rattle.px_link.specs.Told.{NamedBytes, Reads}
+use Rattle.px_link.specs.Told.{NamedBytes, Reads, Rose}
 use Rattle.http_rules.specs.declared.config.Config.{Config}
 use Rattle.cfg_parse.specs.Whole.{Loads}
 use Rattle.cfg_parse.specs.declared.fault.CfgFault.{CfgFault}
@@ -11,10 +11,11 @@ use Rattle.rec_format.specs.declared.record.RecFault.TheVariants as records
 use Rattle.rec_format.specs.Parts.{Refuses}
 use Rattle.rec_format.specs.Recorded.{record_of}
 use Rattle.px_command.specs.Command.{NamesConfig}
-use Rattle.proxy_call.specs.Answers.{DecidesRecord, IsAccepted}
+use Rattle.proxy_call.specs.Answers.{DecidesBy, DecidesRecord, IsAccepted}
 use Rattle.proxy_call.specs.Files.{IfTold, Configured}
-use Rattle.proxy_call.specs.Stops.{Input, Answers, StopsBy, stop_of_configuration, stop_of_record}
+use Rattle.proxy_call.specs.Stops.{Input, Answers, ReadStops, StopsBy, stop_of_configuration, stop_of_record}
 use Rattle.proxy_call.specs.declared.stop.Stop.{Stop}
+use Rattle.proxy_call.specs.declared.stop.Stop.TheVariants as stops
 use Rattle.proxy_call.proofs.Told.{recorded, refused, weaker}
 
 -- ---- what a `?` passes on
@@ -28,6 +29,22 @@ answers_err input (Ok x) s is p = absurd is
 answers_err input (Err y) s is p = subst (StopsBy input) (sym is) p
 
 -- ---- why a step stops
+
+rose_over : (first before now : ℕ) → first ≤ before → Rose before now → Rose first now
+rose_over first before now least (inl more) = inl (omega (arith, least, more))
+rose_over first before now least (inr most) = inr most
+
+-- a file that can't be read, where reads had failed so often before
+pub read_stops : (input : Input) (name : List ℕ) (before : ℕ) (stop : Stop) → DecidesBy input.words input.files input.builder name → input.reads ≤ before
+    → ReadStops name input.last before input.reads_now stop → StopsBy input stop
+read_stops input name before (stops.Usage text) decides least reads = absurd reads
+read_stops input name before (stops.Refused line kind) decides least reads = absurd reads
+read_stops input name before (stops.Record place kind) decides least reads = absurd reads
+read_stops input name before (stops.File failed) decides least reads =
+    (rose_over input.reads before input.reads_now least reads.0, reads.1, subst (DecidesBy input.words input.files input.builder) (sym reads.2) decides)
+read_stops input name before stops.Output decides least reads = absurd reads
+read_stops input name before stops.Net decides least reads = absurd reads
+read_stops input name before stops.OutOfMemory decides least reads = tt
 
 -- a configuration that is refused
 pub load_stops : (input : Input) (name bytes : List ℕ) (fault : CfgFault) → NamesConfig input.words name → Reads input.files name 1048577 bytes

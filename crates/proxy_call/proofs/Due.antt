@@ -7,7 +7,7 @@ use Rattle.cfg_parse.specs.Whole.{config_of, Refusal}
 use Rattle.cfg_parse.specs.declared.fault.CfgKind.{CfgKind}
 use Rattle.rec_format.specs.Recorded as records
 use Rattle.rec_format.specs.Recorded.{Recorded, record_of}
-use Rattle.px_command.specs.Command.{IsCheck, IsCheckRecord, IsReplay, IsServe, IsUsage, NamesConfig}
+use Rattle.px_command.specs.Command.{IsCheck, IsCheckRecord, RunsRecord, IsServe, IsUsage, NamesConfig}
 use Rattle.proxy_call.specs.Answers.{DecidesRecord, IsDue, IsGood, IsRefused}
 use Rattle.proxy_call.specs.Files.{Builder, Configured, Holds, IfTold, RecordIs}
 use Rattle.proxy_call.specs.declared.status.Status.{Status}
@@ -42,9 +42,9 @@ record_or_refused files name other found refusal same ok err =
 -- ---- words and files call for one status
 
 abbrev NamesRecord : List (List ℕ) → List ℕ → Type 0
-NamesRecord words rec = IsCheckRecord words rec ⊎ ((cfg : List ℕ) × IsReplay words cfg rec)
+NamesRecord words rec = IsCheckRecord words rec ⊎ ((cfg : List ℕ) × RunsRecord words cfg rec)
 
-record_named : (words : List (List ℕ)) (files : List NamedBytes) (rec : List ℕ) → IsCheckRecord words rec ⊎ ((cfg_name : List ℕ) × IsReplay words cfg_name rec × (cfg : Config) × Configured files cfg_name (Ok cfg)) → NamesRecord words rec
+record_named : (words : List (List ℕ)) (files : List NamedBytes) (rec : List ℕ) → IsCheckRecord words rec ⊎ ((cfg_name : List ℕ) × RunsRecord words cfg_name rec × (cfg : Config) × Configured files cfg_name (Ok cfg)) → NamesRecord words rec
 record_named words files rec (inl is) = inl is
 record_named words files rec (inr (cfg_name, is, cfg, ok)) = inr (cfg_name, is)
 
@@ -52,22 +52,26 @@ config_named : (words : List (List ℕ)) (name : List ℕ) → IsCheck words nam
 config_named words name (inl check) = inl check
 config_named words name (inr serve) = inr (inr serve)
 
+runs_or_usage : (words : List (List ℕ)) (cfg rec : List ℕ) → RunsRecord words cfg rec → IsUsage words → ⊥
+runs_or_usage words cfg rec (inl replay) usage = usage.replay cfg rec replay
+runs_or_usage words cfg rec (inr (cores, weave)) usage = usage.weave cfg rec cores weave
+
 good_or_usage : (words : List (List ℕ)) (files : List NamedBytes) → IsDue words files Good → IsUsage words → ⊥
 good_or_usage words files (inl (name, inl check, cfg, ok)) usage = usage.check name check
 good_or_usage words files (inl (name, inr (count, serve), cfg, ok)) usage = usage.serve name count serve
 good_or_usage words files (inr (inl (rec, is, r, ok))) usage = usage.check_record rec is
-good_or_usage words files (inr (inr (inl (cfg, rec, is, c, r, say)))) usage = usage.replay cfg rec is
+good_or_usage words files (inr (inr (inl (cfg, rec, is, c, r, say)))) usage = runs_or_usage words cfg rec is usage
 good_or_usage words files (inr (inr (inr (inl (seed, exchanges, is))))) usage = usage.drill seed exchanges is
 good_or_usage words files (inr (inr (inr (inr asks)))) usage = usage.text asks
 
 config_or_usage : (words : List (List ℕ)) (files : List NamedBytes) → IsDue words files ended.Config → IsUsage words → ⊥
 config_or_usage words files (name, inl check, line, kind, refused) usage = usage.check name check
-config_or_usage words files (name, inr (inl (rec, is)), line, kind, refused) usage = usage.replay name rec is
+config_or_usage words files (name, inr (inl (rec, is)), line, kind, refused) usage = runs_or_usage words name rec is usage
 config_or_usage words files (name, inr (inr (count, is)), line, kind, refused) usage = usage.serve name count is
 
 record_or_usage : (words : List (List ℕ)) (files : List NamedBytes) → IsDue words files ended.Record → IsUsage words → ⊥
 record_or_usage words files (rec, place, kind, refused, inl is) usage = usage.check_record rec is
-record_or_usage words files (rec, place, kind, refused, inr (cfg, is, c, ok)) usage = usage.replay cfg rec is
+record_or_usage words files (rec, place, kind, refused, inr (cfg, is, c, ok)) usage = runs_or_usage words cfg rec is usage
 
 good_or_config : (words : List (List ℕ)) (files : List NamedBytes) → IsDue words files Good → IsDue words files ended.Config → ⊥
 good_or_config words files (inl (name, how, cfg, ok)) (other, named, line, kind, refused) =
@@ -137,9 +141,10 @@ of_told files fs P is told = subst (λ (f : Option (List NamedBytes)). IfTold f 
 pub good_due : (words : List (List ℕ)) (files : Option (List NamedBytes)) (fs : List NamedBytes) (text : List ℕ) → files ≡ Some fs → IsGood words files text → IsDue words fs Good
 good_due words files fs text told (inl (name, is, (cfg, ok, line))) = inl (name, inl is, cfg, of_told files fs _ told ok)
 good_due words files fs text told (inr (inl (rec, is, (r, ok, wrote)))) = inr (inl (rec, is, r, of_told files fs _ told ok))
-good_due words files fs text told (inr (inr (inl (name, rec, is, (cfg, r, say, wrote))))) = inr (inr (inl (name, rec, is, cfg, r, of_told files fs _ told say)))
-good_due words files fs text told (inr (inr (inr (inl (seed, exchanges, is, wrote))))) = inr (inr (inr (inl (seed, exchanges, is))))
-good_due words files fs text told (inr (inr (inr (inr texts)))) = inr (inr (inr (inr texts.0)))
+good_due words files fs text told (inr (inr (inl (name, rec, is, (cfg, r, say, wrote))))) = inr (inr (inl (name, rec, inl is, cfg, r, of_told files fs _ told say)))
+good_due words files fs text told (inr (inr (inr (inl (name, rec, cores, is, (cfg, r, say, wrote)))))) = inr (inr (inl (name, rec, inr (cores, is), cfg, r, of_told files fs _ told say)))
+good_due words files fs text told (inr (inr (inr (inr (inl (seed, exchanges, is, wrote)))))) = inr (inr (inr (inl (seed, exchanges, is))))
+good_due words files fs text told (inr (inr (inr (inr (inr texts))))) = inr (inr (inr (inr texts.0)))
 
 unbuilt : (fs : List NamedBytes) (builder : Builder) (name : List ℕ) (line : ℕ) (kind : CfgKind) → (Rose builder.before builder.now → ⊥) → IsRefused (Some fs) builder name line kind → Configured fs name (Err (line, kind))
 unbuilt fs builder name line kind never (None, (text, content, (refuses, builds))) = (text, content, refuses)
@@ -151,7 +156,7 @@ refused_due words files fs builder name line kind told never named refused =
     (name, named, line, kind, unbuilt fs builder name line kind never (subst (λ (f : Option (List NamedBytes)). IsRefused f builder name line kind) told refused))
 
 decided : (words : List (List ℕ)) (files : Option (List NamedBytes)) (builder : Builder) (fs : List NamedBytes) (rec : List ℕ) → files ≡ Some fs → DecidesRecord words files builder rec
-    → IsCheckRecord words rec ⊎ ((cfg_name : List ℕ) × IsReplay words cfg_name rec × (cfg : Config) × Configured fs cfg_name (Ok cfg))
+    → IsCheckRecord words rec ⊎ ((cfg_name : List ℕ) × RunsRecord words cfg_name rec × (cfg : Config) × Configured fs cfg_name (Ok cfg))
 decided words files builder fs rec told (inl is) = inl is
 decided words files builder fs rec told (inr (cfg_name, is, accepted, built)) =
     let said = of_told files fs (λ f. (cfg : Config) × Configured f cfg_name (Ok cfg)) told accepted in inr (cfg_name, is, said.0, said.1)

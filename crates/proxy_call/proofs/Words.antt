@@ -3,7 +3,7 @@ use Rattle.std.proofs.Common.{◌≡◌, ℕ, ◌+◌, ◌*◌, ◌==◌, ◌||�
 use Rattle.std.specs.Prelude.{Option, Some}
 use Rattle.px_bytes.specs.Numbers.{decimal_of}
 use Rattle.px_link.specs.Told.{NamedBytes}
-use Rattle.px_command.specs.Command.{IsCheck, IsCheckRecord, IsReplay, IsServe, IsDrill, AsksText, IsFileWord, NamesConfig}
+use Rattle.px_command.specs.Command.{IsCheck, IsCheckRecord, IsReplay, IsWeave, RunsRecord, IsServe, IsDrill, AsksText, IsFileWord, NamesConfig}
 use Rattle.proxy_call.specs.Answers.{AsksNoFile, IsGood, NamesServe}
 
 -- how many words stand behind the first, and its third letter
@@ -31,6 +31,9 @@ record_key words rec is = ap key is.0
 replay_key : (words : List (List ℕ)) (cfg rec : List ℕ) → IsReplay words cfg rec → key words ≡ 2112
 replay_key words cfg rec is = ap key is.0
 
+weave_key : (words : List (List ℕ)) (cfg rec : List ℕ) (cores : ℕ) → IsWeave words cfg rec cores → key words ≡ 3097
+weave_key words cfg rec cores is = ap key is.1
+
 serve_key : (words : List (List ℕ)) (cfg : List ℕ) (count : ℕ) → IsServe words cfg count → key words ≡ 2114
 serve_key words cfg count is = ap key is.1
 
@@ -54,17 +57,22 @@ text_short words (inr (inl (command, inr (inr is)))) = ap short is
 text_short words (inr (inr (inl is))) = ap short is
 text_short words (inr (inr (inr is))) = ap short is
 
+runs_long : (words : List (List ℕ)) (cfg rec : List ℕ) → RunsRecord words cfg rec → short words ≡ false
+runs_long words cfg rec (inl is) = ap short is.0
+runs_long words cfg rec (inr (cores, is)) = ap short is.1
+
 -- ---- which words name a configuration
 
 abbrev has_config : ℕ → Bool
-has_config k = k == 1101 || (k == 2112 || k == 2114)
+has_config k = k == 1101 || (k == 2112 || (k == 3097 || k == 2114))
 
 no_bool : (b : Bool) → b ≡ true → b ≡ false → ⊥
 no_bool b p q = cc
 
 config_there : (words : List (List ℕ)) (cfg : List ℕ) → NamesConfig words cfg → has_config (key words) ≡ true
 config_there words cfg (inl check) = ap has_config (check_key words cfg check)
-config_there words cfg (inr (inl replay)) = ap has_config (replay_key words cfg replay.0 replay.1)
+config_there words cfg (inr (inl (rec, inl replay))) = ap has_config (replay_key words cfg rec replay)
+config_there words cfg (inr (inl (rec, inr weave))) = ap has_config (weave_key words cfg rec weave.0 weave.1)
 config_there words cfg (inr (inr serve)) = ap has_config (serve_key words cfg serve.0 serve.1)
 
 -- a word with a dash in front names no file
@@ -89,7 +97,7 @@ text_or_check words cfg (inr (inr (inr is))) check = other_or_check words cfg (a
 
 text_or_config : (words : List (List ℕ)) (cfg : List ℕ) → AsksText words → NamesConfig words cfg → ⊥
 text_or_config words cfg text (inl check) = text_or_check words cfg text check
-text_or_config words cfg text (inr (inl (rec, is))) = no_bool (short words) (text_short words text) (ap short is.0)
+text_or_config words cfg text (inr (inl (rec, is))) = no_bool (short words) (text_short words text) (runs_long words cfg rec is)
 text_or_config words cfg text (inr (inr (count, is))) = no_bool (short words) (text_short words text) (ap short is.1)
 
 pub record_or_config : (words : List (List ℕ)) (rec cfg : List ℕ) → IsCheckRecord words rec → NamesConfig words cfg → ⊥
@@ -102,24 +110,25 @@ fileless_or_config words cfg (inr text) named = text_or_config words cfg text na
 -- ---- which words name a record
 
 abbrev has_record : ℕ → Bool
-has_record k = k == 2101 || k == 2112
+has_record k = k == 2101 || (k == 2112 || k == 3097)
 
-record_there : (words : List (List ℕ)) (rec : List ℕ) → IsCheckRecord words rec ⊎ ((cfg : List ℕ) × IsReplay words cfg rec) → has_record (key words) ≡ true
+record_there : (words : List (List ℕ)) (rec : List ℕ) → IsCheckRecord words rec ⊎ ((cfg : List ℕ) × RunsRecord words cfg rec) → has_record (key words) ≡ true
 record_there words rec (inl is) = ap has_record (record_key words rec is)
-record_there words rec (inr replay) = ap has_record (replay_key words replay.0 rec replay.1)
+record_there words rec (inr (cfg, inl replay)) = ap has_record (replay_key words cfg rec replay)
+record_there words rec (inr (cfg, inr weave)) = ap has_record (weave_key words cfg rec weave.0 weave.1)
 
-text_or_record : (words : List (List ℕ)) (rec : List ℕ) → AsksText words → IsCheckRecord words rec ⊎ ((cfg : List ℕ) × IsReplay words cfg rec) → ⊥
+text_or_record : (words : List (List ℕ)) (rec : List ℕ) → AsksText words → IsCheckRecord words rec ⊎ ((cfg : List ℕ) × RunsRecord words cfg rec) → ⊥
 text_or_record words rec text (inl is) = no_bool (short words) (text_short words text) (ap short is.0)
-text_or_record words rec text (inr (cfg, is)) = no_bool (short words) (text_short words text) (ap short is.0)
+text_or_record words rec text (inr (cfg, is)) = no_bool (short words) (text_short words text) (runs_long words cfg rec is)
 
-pub fileless_or_record : (words : List (List ℕ)) (rec : List ℕ) → AsksNoFile words → IsCheckRecord words rec ⊎ ((cfg : List ℕ) × IsReplay words cfg rec) → ⊥
+pub fileless_or_record : (words : List (List ℕ)) (rec : List ℕ) → AsksNoFile words → IsCheckRecord words rec ⊎ ((cfg : List ℕ) × RunsRecord words cfg rec) → ⊥
 fileless_or_record words rec (inl drill) named = no_bool (has_record (key words)) (record_there words rec named) (ap has_record (drill_key words drill.0 drill.1 drill.2))
 fileless_or_record words rec (inr text) named = text_or_record words rec text named
 
-pub check_or_record : (words : List (List ℕ)) (cfg rec : List ℕ) → IsCheck words cfg → IsCheckRecord words rec ⊎ ((c : List ℕ) × IsReplay words c rec) → ⊥
+pub check_or_record : (words : List (List ℕ)) (cfg rec : List ℕ) → IsCheck words cfg → IsCheckRecord words rec ⊎ ((c : List ℕ) × RunsRecord words c rec) → ⊥
 check_or_record words cfg rec is named = no_bool (has_record (key words)) (record_there words rec named) (ap has_record (check_key words cfg is))
 
-pub serve_or_record : (words : List (List ℕ)) (cfg rec : List ℕ) (count : ℕ) → IsServe words cfg count → IsCheckRecord words rec ⊎ ((c : List ℕ) × IsReplay words c rec) → ⊥
+pub serve_or_record : (words : List (List ℕ)) (cfg rec : List ℕ) (count : ℕ) → IsServe words cfg count → IsCheckRecord words rec ⊎ ((c : List ℕ) × RunsRecord words c rec) → ⊥
 serve_or_record words cfg rec count is named = no_bool (has_record (key words)) (record_there words rec named) (ap has_record (serve_key words cfg count is))
 
 -- ---- which words are `serve`
@@ -134,24 +143,27 @@ pub good_or_serve : (words : List (List ℕ)) (text : List ℕ) (files : Option 
 good_or_serve words text files (inl (cfg, is, made)) serve = serve_key_or words (ap is_serve (check_key words cfg is)) serve
 good_or_serve words text files (inr (inl (rec, is, made))) serve = serve_key_or words (ap is_serve (record_key words rec is)) serve
 good_or_serve words text files (inr (inr (inl (cfg, rec, is, made)))) serve = serve_key_or words (ap is_serve (replay_key words cfg rec is)) serve
-good_or_serve words text files (inr (inr (inr (inl (seed, exchanges, is, made))))) serve = serve_key_or words (ap is_serve (drill_key words seed exchanges is)) serve
-good_or_serve words text files (inr (inr (inr (inr (asks, ends))))) (cfg, count, is) = no_bool (short words) (text_short words asks) (ap short is.1)
+good_or_serve words text files (inr (inr (inr (inl (cfg, rec, cores, is, made))))) serve = serve_key_or words (ap is_serve (weave_key words cfg rec cores is)) serve
+good_or_serve words text files (inr (inr (inr (inr (inl (seed, exchanges, is, made)))))) serve = serve_key_or words (ap is_serve (drill_key words seed exchanges is)) serve
+good_or_serve words text files (inr (inr (inr (inr (inr (asks, ends)))))) (cfg, count, is) = no_bool (short words) (text_short words asks) (ap short is.1)
 
 -- ---- the names of files
 
 config_second : (words : List (List ℕ)) (cfg : List ℕ) → NamesConfig words cfg → second words ≡ cfg
 config_second words cfg (inl check) = ap second check.0
-config_second words cfg (inr (inl (rec, is))) = ap second is.0
+config_second words cfg (inr (inl (rec, inl is))) = ap second is.0
+config_second words cfg (inr (inl (rec, inr (cores, is)))) = ap second is.1
 config_second words cfg (inr (inr (count, is))) = ap second is.1
 
 pub same_config_name : (words : List (List ℕ)) (a b : List ℕ) → NamesConfig words a → NamesConfig words b → a ≡ b
 same_config_name words a b p q = let x = config_second words a p in let y = config_second words b q in cc
 
-record_third : (words : List (List ℕ)) (rec : List ℕ) → IsCheckRecord words rec ⊎ ((cfg : List ℕ) × IsReplay words cfg rec) → third words ≡ rec
+record_third : (words : List (List ℕ)) (rec : List ℕ) → IsCheckRecord words rec ⊎ ((cfg : List ℕ) × RunsRecord words cfg rec) → third words ≡ rec
 record_third words rec (inl is) = ap third is.0
-record_third words rec (inr (cfg, is)) = ap third is.0
+record_third words rec (inr (cfg, inl is)) = ap third is.0
+record_third words rec (inr (cfg, inr (cores, is))) = ap third is.1
 
-pub same_record_name : (words : List (List ℕ)) (a b : List ℕ) → IsCheckRecord words a ⊎ ((cfg : List ℕ) × IsReplay words cfg a) → IsCheckRecord words b ⊎ ((cfg : List ℕ) × IsReplay words cfg b) → a ≡ b
+pub same_record_name : (words : List (List ℕ)) (a b : List ℕ) → IsCheckRecord words a ⊎ ((cfg : List ℕ) × RunsRecord words cfg a) → IsCheckRecord words b ⊎ ((cfg : List ℕ) × RunsRecord words cfg b) → a ≡ b
 same_record_name words a b p q = let x = record_third words a p in let y = record_third words b q in cc
 
 same_number : (a b w : List ℕ) (count n : ℕ) → w ≡ a → w ≡ b → decimal_of 10 a ≡ Some count → decimal_of 10 b ≡ Some n → count ≡ n

@@ -6,12 +6,13 @@ use Rattle.cfg_parse.specs.Whole.{config_of}
 use Rattle.cfg_parse.specs.declared.fault.CfgKind.{CfgKind}
 use Rattle.htx_drive.specs.Drill.Drill.{configuration}
 use Rattle.forward_core.specs.Meaning.Product.{meaning_of}
-use Rattle.px_command.specs.Command.{IsCheck, IsCheckRecord, IsReplay, IsServe, IsDrill, AsksText, IsUsage, NamesConfig}
+use Rattle.px_command.specs.Command.{IsCheck, IsCheckRecord, IsReplay, IsWeave, RunsRecord, IsServe, IsDrill, AsksText, IsUsage, NamesConfig}
 use Rattle.px_command.specs.Texts.{EndsLine}
 use Rattle.rec_format.specs.declared.record.RecKind.{RecKind}
 use Rattle.rec_format.specs.Recorded.{Recorded}
 use Rattle.rec_format.specs.Written.{written}
 use Rattle.htx_drive.specs.Replay.Written.{IsReplayOf, IsDrillOf}
+use Rattle.htx_drive.specs.Weave.Recorded.{IsWeaveOf}
 use Rattle.proxy_call.specs.Sessions.Driven.{stands_for, seen_of}
 use Rattle.proxy_call.specs.Lines.{accepted_line, refused_line, record_line, file_line}
 use Rattle.proxy_call.specs.Files.{IfTold, Builder, Configured, IsBuilt, RecordIs, Refuses, Say}
@@ -51,15 +52,21 @@ abbrev pub IsReportOf : Option (List NamedBytes) → (cfg_name rec_name text : L
 IsReportOf files cfg_name rec_name text =
     (cfg : Config) × (rec : Recorded) × IfTold files (λ fs. Say fs cfg_name rec_name cfg rec) × IsReplayOf (meaning_of cfg) (stands_for cfg) seen_of rec text
 
+-- the text is the report of the record, always in the second format, by what the configuration makes of its connections over cores that they share, each by its own
+-- turns behind those that found none
+abbrev pub IsWovenReportOf : Option (List NamedBytes) → (cfg_name rec_name text : List ℕ) → Type 0
+IsWovenReportOf files cfg_name rec_name text =
+    (cfg : Config) × (rec : Recorded) × IfTold files (λ fs. Say fs cfg_name rec_name cfg rec) × IsWeaveOf (meaning_of cfg) (stands_for cfg) seen_of rec text
+
 -- the text is the lines of the generated session, by what its own configuration makes of it
 abbrev pub IsDrilled : (seed exchanges : ℕ) → (text : List ℕ) → Type 0
 IsDrilled seed exchanges text = (cfg : Config) × (config_of configuration None ≡ Ok cfg) × IsDrillOf (meaning_of cfg) (stands_for cfg) seen_of seed exchanges text
 
--- The name is that of the record: `check --record` reads it at once, and `replay` only where the configuration is accepted and each of its patterns
--- was built.
+-- The name is that of the record: `check --record` reads it at once, and `replay` and `weave` only where the configuration is accepted and each of its
+-- patterns was built.
 abbrev pub DecidesRecord : List (List ℕ) → Option (List NamedBytes) → Builder → (name : List ℕ) → Type 0
 DecidesRecord words files builder name =
-    IsCheckRecord words name ⊎ ((cfg_name : List ℕ) × IsReplay words cfg_name name × IsAccepted files cfg_name × IsBuilt builder)
+    IsCheckRecord words name ⊎ ((cfg_name : List ℕ) × RunsRecord words cfg_name name × IsAccepted files cfg_name × IsBuilt builder)
 
 -- the name is that of a file whose read decides: the configuration's, which is read first, or the record's
 abbrev pub DecidesBy : List (List ℕ) → Option (List NamedBytes) → Builder → (name : List ℕ) → Type 0
@@ -69,15 +76,16 @@ DecidesBy words files builder name = NamesConfig words name ⊎ DecidesRecord wo
 abbrev pub NamesServe : List (List ℕ) → Type 0
 NamesServe words = (cfg_name : List ℕ) × (connections : ℕ) × IsServe words cfg_name connections
 
--- The text is what the words ask for: the line of `check`, the record of `check --record`, the report of `replay`, the lines of
+-- The text is what the words ask for: the line of `check`, the record of `check --record`, the report of `replay` or of `weave`, the lines of
 -- `drill`, or lines of help or of the version, which tests show. What `serve` writes is said with what it does.
 abbrev pub IsGood : List (List ℕ) → Option (List NamedBytes) → (text : List ℕ) → Type 0
 IsGood words files text =
     ((cfg_name : List ℕ) × IsCheck words cfg_name × IsCheckOf files cfg_name text)
     ⊎ (((rec_name : List ℕ) × IsCheckRecord words rec_name × IsRewritten files rec_name text)
     ⊎ (((cfg_name : List ℕ) × (rec_name : List ℕ) × IsReplay words cfg_name rec_name × IsReportOf files cfg_name rec_name text)
+    ⊎ (((cfg_name : List ℕ) × (rec_name : List ℕ) × (cores : ℕ) × IsWeave words cfg_name rec_name cores × IsWovenReportOf files cfg_name rec_name text)
     ⊎ (((seed : ℕ) × (exchanges : ℕ) × IsDrill words seed exchanges × IsDrilled seed exchanges text)
-    ⊎ (AsksText words × EndsLine text))))
+    ⊎ (AsksText words × EndsLine text)))))
 
 -- The text is what is written with this status, where the last failed read was of this name. The lines of a usage text are shown by tests.
 abbrev pub IsAnswer : List (List ℕ) → Option (List NamedBytes) → Builder → (last : List ℕ) → Status → (text : List ℕ) → Type 0
@@ -119,14 +127,14 @@ abbrev pub IsDue : List (List ℕ) → List NamedBytes → Status → Type 0
 IsDue words files Good =
     ((cfg_name : List ℕ) × (IsCheck words cfg_name ⊎ ((connections : ℕ) × IsServe words cfg_name connections)) × (cfg : Config) × Configured files cfg_name (Ok cfg))
     ⊎ (((rec_name : List ℕ) × IsCheckRecord words rec_name × (r : Recorded) × RecordIs files rec_name (Ok r))
-    ⊎ (((cfg_name : List ℕ) × (rec_name : List ℕ) × IsReplay words cfg_name rec_name × (cfg : Config) × (r : Recorded) × Say files cfg_name rec_name cfg r)
+    ⊎ (((cfg_name : List ℕ) × (rec_name : List ℕ) × RunsRecord words cfg_name rec_name × (cfg : Config) × (r : Recorded) × Say files cfg_name rec_name cfg r)
     ⊎ AsksNoFile words))
 IsDue words files Usage = IsUsage words
 IsDue words files ended.Config =
     (cfg_name : List ℕ) × NamesConfig words cfg_name × (line : ℕ) × (kind : CfgKind) × Configured files cfg_name (Err (line, kind))
 IsDue words files ended.Record =
     (rec_name : List ℕ) × (place : ℕ) × (kind : RecKind) × RecordIs files rec_name (Err (record { place = place; kind = kind }))
-    × (IsCheckRecord words rec_name ⊎ ((cfg_name : List ℕ) × IsReplay words cfg_name rec_name × (cfg : Config) × Configured files cfg_name (Ok cfg)))
+    × (IsCheckRecord words rec_name ⊎ ((cfg_name : List ℕ) × RunsRecord words cfg_name rec_name × (cfg : Config) × Configured files cfg_name (Ok cfg)))
 IsDue words files FileFault = ⊥
 IsDue words files OutFault = ⊥
 IsDue words files NetFault = ⊥

@@ -1,20 +1,23 @@
 //! The texts that commands make of their files. The first step that is refused decides: configuration file, configuration, record
 //! file, record, session.
-ghost use Rattle.std.specs.Prelude.{◌≡◌, ◌≤◌, ℕ, List, Option, Ok, IfOk, IfErr, OnOk};
+ghost use Rattle.std.specs.Prelude.{◌≡◌, ◌<◌, ◌≤◌, vec_len, ℕ, List, Option, Ok, IfOk, IfErr, OnOk};
 ghost use Rattle.px_link.specs.Told.{NamedBytes, Reads};
 ghost use Rattle.http_rules.specs.Valid.{IsValid};
-ghost use Rattle.px_command.specs.Command.{IsCheck, IsCheckRecord, IsReplay, IsDrill, NamesConfig};
-ghost use Rattle.proxy_call.specs.Files.{IfTold, Builder, Configured, IsBuilt, told_by};
+ghost use Rattle.px_command.specs.Command.{IsCheck, IsCheckRecord, IsReplay, IsWeave, RunsRecord, IsDrill, NamesConfig};
+ghost use Rattle.rec_format.specs.Numbered.{IsNumbered};
+ghost use Rattle.rec_format.specs.Read.{meaning_of};
+ghost use Rattle.rec_format.specs.Reports.{Reportable};
+ghost use Rattle.proxy_call.specs.Files.{IfTold, Builder, Configured, IsBuilt, Say, told_by};
 ghost use Rattle.proxy_call.specs.Stops.{Answers, ReadStops, StopsBy, given};
 
 use crate::lines::accepted_line;
-use crate::sessions::{drill_lines, replay_report};
+use crate::sessions::{drill_lines, replay_report, weave_report};
 use crate::stop::Stop;
 use cfg_parse::{Config, MAX_TEXT, load};
 use px_link::{Bytes, Fault, Files};
 use px_pattern::Patterns;
-use rec_format::laws::reportable;
-use rec_format::{read_record, write_record};
+use rec_format::laws::{numbered, reportable};
+use rec_format::{Record, read_record, write_record};
 use std::alloc::Global;
 
 /// The most bytes of a record.
@@ -88,6 +91,37 @@ pub fn check_record<'a, F: Files>(
     Ok(write_record(alloc, &record)?)
 }
 
+/// What the two files of `replay` and of `weave` say.
+#[derive(Drop)]
+pub struct TwoFiles {
+    pub config: Config,
+    pub record: Record,
+}
+
+/// The configuration and the record of two files, which are read in this order.
+fn two_files<'a, F: Files, P: Patterns>(
+    alloc: Global,
+    files: &mut F,
+    cfg_name: &'a str,
+    rec_name: &'a str,
+    pats: &mut P,
+) -> Result<TwoFiles, Stop<'a>>
+    ensures say { IfOk result (λ said. IfTold (F.files files.old) (λ fs. Say fs cfg_name.now rec_name.now said.config (meaning_of said.record))) }
+    ensures valid { IfOk result (λ said. IsValid said.config) }
+    ensures reportable { IfOk result (λ said. Reportable said.record.version (vec_len said.record.conns)) }
+    ensures numbered { IfOk result (λ said. IsNumbered (meaning_of said.record)) }
+    ensures built { OnOk result (P.refusals pats.new ≡ P.refusals pats.old) }
+    ensures stop { (words : List (List ℕ)) → RunsRecord words cfg_name.now rec_name.now
+        → IfErr result (StopsBy (given words (F.files files.old) (told_by (P.refusals pats.old) (P.refusals pats.new) (P.last_refused pats.new)) (F.last_failed files.new) (F.faults files.old) (F.faults files.new))) }
+{
+    let config = configuration(alloc, files, cfg_name, pats)?;
+    let text = read(alloc, files, rec_name, MAX_RECORD + 1)?;
+    let record = read_record(alloc, text.as_slice())?;
+    reportable();
+    numbered();
+    Ok(TwoFiles { config, record })
+}
+
 /// The report of `replay CFG REC`.
 pub fn replay<'a, F: Files, P: Patterns>(
     alloc: Global,
@@ -99,11 +133,25 @@ pub fn replay<'a, F: Files, P: Patterns>(
     ensures { (words : List (List ℕ)) → IsReplay words cfg_name.now rec_name.now
         → Answers (given words (F.files files.old) (told_by (P.refusals pats.old) (P.refusals pats.new) (P.last_refused pats.new)) (F.last_failed files.new) (F.faults files.old) (F.faults files.new)) result }
 {
-    let cfg = configuration(alloc, files, cfg_name, pats)?;
-    let text = read(alloc, files, rec_name, MAX_RECORD + 1)?;
-    let record = read_record(alloc, text.as_slice())?;
-    reportable();
-    Ok(replay_report(alloc, &cfg, &record)?)
+    let said = two_files(alloc, files, cfg_name, rec_name, pats)?;
+    Ok(replay_report(alloc, &said.config, &said.record)?)
+}
+
+/// The report of `weave CFG REC K`.
+pub fn weave<'a, F: Files, P: Patterns>(
+    alloc: Global,
+    files: &mut F,
+    cfg_name: &'a str,
+    rec_name: &'a str,
+    cores: u32,
+    pats: &mut P,
+) -> Result<Bytes, Stop<'a>>
+    requires { 0 < cores }
+    ensures { (words : List (List ℕ)) → IsWeave words cfg_name.now rec_name.now cores
+        → Answers (given words (F.files files.old) (told_by (P.refusals pats.old) (P.refusals pats.new) (P.last_refused pats.new)) (F.last_failed files.new) (F.faults files.old) (F.faults files.new)) result }
+{
+    let said = two_files(alloc, files, cfg_name, rec_name, pats)?;
+    Ok(weave_report(alloc, &said.config, &said.record, cores)?)
 }
 
 /// The lines of `drill SEED COUNT`. The configuration of generated sessions is accepted, so only memory can be in the way.

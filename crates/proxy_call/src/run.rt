@@ -5,7 +5,7 @@ ghost use Rattle.proxy_call.specs.Files.{told_by};
 ghost use Rattle.proxy_call.specs.Serving.{Serves};
 ghost use Rattle.proxy_call.specs.Stops.{Answers, Input, given};
 
-use crate::answer::{check, check_record, drill, replay};
+use crate::answer::{check, check_record, drill, replay, weave};
 use crate::serving::serve;
 use crate::stop::Stop;
 use px_command::{Asked, asked_by, help_of_text, help_text, version_text};
@@ -39,6 +39,9 @@ pub fn run<'a, F: Files, N: Net, K: Sink, P: Patterns>(
         Asked::Check { cfg } => write(check(alloc, files, cfg, pats), out),
         Asked::CheckRecord { rec } => write(check_record(alloc, files, rec), out),
         Asked::Replay { cfg, rec } => write(replay(alloc, files, cfg, rec, pats), out),
+        Asked::Weave { cfg, rec, cores } => {
+            write(weave(alloc, files, cfg, rec, cores, pats), out)
+        }
         Asked::Serve { cfg, connections } => serve(alloc, files, cfg, connections, net, out, pats),
         Asked::Drill { seed, exchanges } => write(drill(alloc, seed, exchanges, pats), out),
         Asked::Help => write(Ok(help_text(alloc)?), out),

@@ -4,6 +4,6 @@ mod cores;
 mod records;
 mod serving;
 
-pub use records::{drill_lines, replay_report, session_report};
+pub use records::{drill_lines, replay_report, session_report, weave_report};
 pub use serve_run::ServeFault;
 pub use serving::serve_clients;

@@ -1,4 +1,4 @@
--- Lists of one, two and three words, and a text behind another.
+-- Lists of one to four words, and a text behind another.
 use Rattle.std.proofs.Common.{◌≡◌, ◌<◌, ◌≤◌, List, [], ◌∷◌, ◌++◌, Bool, sym, ap, ◌∙◌, length, get_or, arith}
 use Rattle.std.specs.Prelude.{ℕ, map, string_bytes, IsTrue}
 use Rattle.std.specs.declared.string.String.{String}
@@ -27,6 +27,16 @@ three (x ∷ y ∷ []) a b d least most p q r = absurd (omega arith)
 three (x ∷ y ∷ z ∷ []) a b d least most p q r = cc
 three (x ∷ y ∷ z ∷ w ∷ ws) a b d least most p q r = absurd (omega arith)
 
+-- a list of four is its four items
+pub four : (ws : List (String Global)) (a b d e : String Global) → 4 ≤ length ws → length ws < 5 → a ≡ get_or ws 0 a → b ≡ get_or ws 1 b → d ≡ get_or ws 2 d → e ≡ get_or ws 3 e
+    → ws ≡ a ∷ b ∷ d ∷ e ∷ []
+four [] a b d e least most p q r s = absurd (omega arith)
+four (x ∷ []) a b d e least most p q r s = absurd (omega arith)
+four (x ∷ y ∷ []) a b d e least most p q r s = absurd (omega arith)
+four (x ∷ y ∷ z ∷ []) a b d e least most p q r s = absurd (omega arith)
+four (x ∷ y ∷ z ∷ w ∷ []) a b d e least most p q r s = cc
+four (x ∷ y ∷ z ∷ w ∷ v ∷ ws) a b d e least most p q r s = absurd (omega arith)
+
 head_is : (a b : List ℕ) → a ∷ [] ≡ b ∷ [] → a ≡ b
 head_is a b is = cc
 
@@ -36,11 +46,17 @@ first_of_two a b x y is = cc
 pub first_of_three : (a b d x y z : List ℕ) → a ∷ b ∷ d ∷ [] ≡ x ∷ y ∷ z ∷ [] → a ≡ x
 first_of_three a b d x y z is = cc
 
+pub first_of_four : (a b d e x y z w : List ℕ) → a ∷ b ∷ d ∷ e ∷ [] ≡ x ∷ y ∷ z ∷ w ∷ [] → a ≡ x
+first_of_four a b d e x y z w is = cc
+
 pub two_are : (a b x y : List ℕ) → a ≡ x → b ≡ y → a ∷ b ∷ [] ≡ x ∷ y ∷ []
 two_are a b x y p q = cc
 
 pub three_are : (a b d x y z : List ℕ) → a ≡ x → b ≡ y → d ≡ z → a ∷ b ∷ d ∷ [] ≡ x ∷ y ∷ z ∷ []
 three_are a b d x y z p q r = cc
+
+pub four_are : (a b d e x y z w : List ℕ) → a ≡ x → b ≡ y → d ≡ z → e ≡ w → a ∷ b ∷ d ∷ e ∷ [] ≡ x ∷ y ∷ z ∷ w ∷ []
+four_are a b d e x y z w p q r s = cc
 
 -- one word is alone where it is this one
 pub alone_word : (ws : List (String Global)) (a : String Global) (word : List ℕ) (result : Bool) → 1 ≤ length ws → length ws < 2 → a ≡ get_or ws 0 a

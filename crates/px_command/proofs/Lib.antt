@@ -1,3 +1,4 @@
 mod Accepted
 mod Items
 mod Passes
+mod ThreeWords

@@ -7,9 +7,10 @@ use Rattle.clap.specs.declared.error.Error.{Error}
 use Rattle.clap.specs.declared.error.kind.ErrorKind.{ErrorKind}
 use Rattle.clap.specs.declared.error.kind.ErrorKind.TheVariants.{OutOfMemory}
 use Rattle.clap.proofs.OnLiterals.{clap_on_literals}
-use Rattle.px_command.specs.Command.{IsFileWord, IsCheck, IsCheckRecord, IsReplay, IsServe, IsDrill, AsksText, IsUsage}
+use Rattle.px_command.specs.Command.{IsFileWord, IsCheck, IsCheckRecord, IsReplay, IsWeave, IsServe, IsDrill, AsksText, IsUsage}
 use Rattle.px_command.specs.Parser.{IsRefused, parser}
 use Rattle.px_command.proofs.Accepted.{number_word}
+use Rattle.px_command.proofs.ThreeWords.{weave_passes}
 
 -- ---- by computing, with words of which no dash stands in front
 
@@ -52,6 +53,12 @@ two_pass (x ∷ a) (y ∷ b) file other =
     let p : (x == 45) ≡ false = not_dash x file in
     let q : (y == 45) ≡ false = not_dash y other in (replay_passes x a p y b q, serve_passes x a p y b q, drill_passes x a p y b q)
 
+three_pass : (a b d : Text) → IsFileWord a → IsFileWord b → IsFileWord d → fault_of parser (codes "weave" ∷ a ∷ b ∷ d ∷ []) ≡ []
+three_pass [] b d file other third = absurd file
+three_pass (x ∷ a) [] d file other third = absurd other
+three_pass (x ∷ a) (y ∷ b) [] file other third = absurd third
+three_pass (x ∷ a) (y ∷ b) (z ∷ d) file other third = weave_passes x y z a b d (not_dash x file) (not_dash y other) (not_dash z third)
+
 passes_check : (ws : List Text) (cfg : Text) → IsCheck ws cfg → fault_of parser ws ≡ []
 passes_check ws cfg is = ap (fault_of parser) is.0 ∙ (one_passes cfg is.1).0
 
@@ -60,6 +67,9 @@ passes_check_record ws rec is = ap (fault_of parser) is.0 ∙ (one_passes rec is
 
 passes_replay : (ws : List Text) (cfg rec : Text) → IsReplay ws cfg rec → fault_of parser ws ≡ []
 passes_replay ws cfg rec is = ap (fault_of parser) is.0 ∙ (two_pass cfg rec is.1 is.2).0
+
+passes_weave : (ws : List Text) (cfg rec : Text) (cores : ℕ) → IsWeave ws cfg rec cores → fault_of parser ws ≡ []
+passes_weave ws cfg rec cores is = ap (fault_of parser) is.1 ∙ three_pass cfg rec is.0 is.2 is.3 (number_word 1 256 is.0 cores is.4)
 
 passes_serve : (ws : List Text) (cfg : Text) (connections : ℕ) → IsServe ws cfg connections → fault_of parser ws ≡ []
 passes_serve ws cfg connections is = ap (fault_of parser) is.1 ∙ (two_pass cfg is.0 is.2 (number_word 1 1000000 is.0 connections is.3)).1
@@ -88,6 +98,7 @@ refused_usage ws e refused other text =
       check = λ cfg is. only_memory ws e refused other (passes_check ws cfg is);
       check_record = λ rec is. only_memory ws e refused other (passes_check_record ws rec is);
       replay = λ cfg rec is. only_memory ws e refused other (passes_replay ws cfg rec is);
+      weave = λ cfg rec cores is. only_memory ws e refused other (passes_weave ws cfg rec cores is);
       serve = λ cfg connections is. only_memory ws e refused other (passes_serve ws cfg connections is);
       drill = λ seed exchanges is. only_memory ws e refused other (passes_drill ws seed exchanges is);
       text = text;

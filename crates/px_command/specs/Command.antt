@@ -2,7 +2,7 @@
 use Rattle.std.specs.Prelude.{◌≡◌, ◌≢◌, ℕ, ◌≤◌, List, [], ◌∷◌, ◌⊎◌, Some, codes}
 use Rattle.px_bytes.specs.Numbers.{decimal_of}
 use Rattle.px_command.specs.declared.name.CommandName.{CommandName}
-use Rattle.px_command.specs.declared.name.CommandName.TheVariants.{Check, Replay, Serve, Drill}
+use Rattle.px_command.specs.declared.name.CommandName.TheVariants.{Check, Replay, Weave, Serve, Drill}
 
 -- a word that may name a file: it isn't empty, and no dash stands in front
 abbrev pub IsFileWord : List ℕ → Type 0
@@ -25,6 +25,15 @@ IsCheckRecord words rec = (words ≡ codes "check" ∷ codes "--record" ∷ rec 
 abbrev pub IsReplay : List (List ℕ) → (cfg rec : List ℕ) → Type 0
 IsReplay words cfg rec = (words ≡ codes "replay" ∷ cfg ∷ rec ∷ []) × IsFileWord cfg × IsFileWord rec
 
+-- the words are `weave CFG REC K`, with 1 to 256 cores
+abbrev pub IsWeave : List (List ℕ) → (cfg rec : List ℕ) → (cores : ℕ) → Type 0
+IsWeave words cfg rec cores =
+    (count : List ℕ) × (words ≡ codes "weave" ∷ cfg ∷ rec ∷ count ∷ []) × IsFileWord cfg × IsFileWord rec × IsNumber 1 256 count cores
+
+-- the words are `replay` or `weave` of these two files
+abbrev pub RunsRecord : List (List ℕ) → (cfg rec : List ℕ) → Type 0
+RunsRecord words cfg rec = IsReplay words cfg rec ⊎ ((cores : ℕ) × IsWeave words cfg rec cores)
+
 -- the words are `serve CFG COUNT`, with 1 to 1000000 connections
 abbrev pub IsServe : List (List ℕ) → (cfg : List ℕ) → (connections : ℕ) → Type 0
 IsServe words cfg connections =
@@ -39,6 +48,7 @@ IsDrill words seed exchanges =
 abbrev pub word_of : CommandName → List ℕ
 word_of Check = codes "check"
 word_of Replay = codes "replay"
+word_of Weave = codes "weave"
 word_of Serve = codes "serve"
 word_of Drill = codes "drill"
 
@@ -64,10 +74,11 @@ pub record IsUsage (words : List (List ℕ)) : Type 0 where
   pub check : (cfg : List ℕ) → IsCheck words cfg → ⊥
   pub check_record : (rec : List ℕ) → IsCheckRecord words rec → ⊥
   pub replay : (cfg rec : List ℕ) → IsReplay words cfg rec → ⊥
+  pub weave : (cfg rec : List ℕ) (cores : ℕ) → IsWeave words cfg rec cores → ⊥
   pub serve : (cfg : List ℕ) (connections : ℕ) → IsServe words cfg connections → ⊥
   pub drill : (seed exchanges : ℕ) → IsDrill words seed exchanges → ⊥
   pub text : AsksText words → ⊥
 
 -- the configuration of a command is in the file of this name
 abbrev pub NamesConfig : List (List ℕ) → List ℕ → Type 0
-NamesConfig words cfg = IsCheck words cfg ⊎ (((rec : List ℕ) × IsReplay words cfg rec) ⊎ ((connections : ℕ) × IsServe words cfg connections))
+NamesConfig words cfg = IsCheck words cfg ⊎ (((rec : List ℕ) × RunsRecord words cfg rec) ⊎ ((connections : ℕ) × IsServe words cfg connections))

@@ -18,6 +18,10 @@ flag_rule name = record (new_rule name) { long = Some name; action = Some SetTru
 abbrev pub two_words : (name first second : Text) → App
 two_words name first second = with_rule (with_rule (new_app name) (word_rule first)) (word_rule second)
 
+-- `weave`, with two files and a number
+abbrev pub weave_shape : App
+weave_shape = with_rule (two_words (codes "weave") (codes "CFG") (codes "REC")) (word_rule (codes "K"))
+
 -- `check`, with a file and the flag that says that it is a record
 abbrev pub check_shape : App
 check_shape = with_rule (with_rule (new_app (codes "check")) (flag_rule (codes "record"))) (word_rule (codes "FILE"))
@@ -31,7 +35,8 @@ abbrev pub parser : App
 parser =
     let check = with_subcommand top_level check_shape.top in
     let replay = with_subcommand check (two_words (codes "replay") (codes "CFG") (codes "REC")).top in
-    let serve = with_subcommand replay (two_words (codes "serve") (codes "CFG") (codes "COUNT")).top in
+    let weave = with_subcommand replay weave_shape.top in
+    let serve = with_subcommand weave (two_words (codes "serve") (codes "CFG") (codes "COUNT")).top in
     with_subcommand serve (two_words (codes "drill") (codes "SEED") (codes "COUNT")).top
 
 -- `clap` refused the words with this error

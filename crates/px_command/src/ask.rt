@@ -6,7 +6,7 @@ ghost use Rattle.px_command.specs.Parser.{IsRefused};
 
 use crate::lists::{
     asks_help, asks_version, check_file, check_record_file, drill_numbers, help_command,
-    replay_files, serve_words,
+    replay_files, serve_words, weave_words,
 };
 use crate::name::CommandName;
 use crate::parser::command;
@@ -21,23 +21,46 @@ use std::alloc::Global;
 #[derive(Drop)]
 pub enum Asked<'a> {
     /// `check CFG`.
-    Check { cfg: &'a str },
+    Check {
+        cfg: &'a str,
+    },
     /// `check --record REC`.
-    CheckRecord { rec: &'a str },
+    CheckRecord {
+        rec: &'a str,
+    },
     /// `replay CFG REC`.
-    Replay { cfg: &'a str, rec: &'a str },
+    Replay {
+        cfg: &'a str,
+        rec: &'a str,
+    },
+    /// `weave CFG REC K`.
+    Weave {
+        cfg: &'a str,
+        rec: &'a str,
+        cores: u32,
+    },
     /// `serve CFG COUNT`.
-    Serve { cfg: &'a str, connections: u32 },
+    Serve {
+        cfg: &'a str,
+        connections: u32,
+    },
     /// `drill SEED COUNT`.
-    Drill { seed: u32, exchanges: u32 },
+    Drill {
+        seed: u32,
+        exchanges: u32,
+    },
     /// `--help`, `-h` or `help`.
     Help,
     /// `COMMAND --help`, `COMMAND -h` or `help COMMAND`.
-    HelpOf { command: CommandName },
+    HelpOf {
+        command: CommandName,
+    },
     /// `--version` or `-V`.
     Version,
     /// The words are no command. The text says what is wrong with them.
-    Usage { text: Bytes },
+    Usage {
+        text: Bytes,
+    },
 }
 
 /// What words ask for that `clap` took, and that ask for no text.
@@ -53,6 +76,9 @@ fn taken<'a>(alloc: Global, words: &'a [String]) -> Result<Asked<'a>, OutOfMemor
     }
     if let Some((cfg, rec)) = replay_files(words) {
         return Ok(Asked::Replay { cfg, rec });
+    }
+    if let Some((cfg, rec, cores)) = weave_words(words) {
+        return Ok(Asked::Weave { cfg, rec, cores });
     }
     if let Some((cfg, connections)) = serve_words(words) {
         return Ok(Asked::Serve { cfg, connections });

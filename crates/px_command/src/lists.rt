@@ -1,10 +1,10 @@
 //! The lists of words that name a command, or a text of the program.
 ghost use Rattle.std.specs.Prelude.{◌↔◌, ℕ, List, map, IsTrue, IfSome, IfNone, string_bytes};
-ghost use Rattle.px_command.specs.Command.{IsCheck, IsCheckRecord, IsReplay, IsServe, IsDrill, IsHelp, IsHelpOf, IsVersion};
+ghost use Rattle.px_command.specs.Command.{IsCheck, IsCheckRecord, IsReplay, IsWeave, IsServe, IsDrill, IsHelp, IsHelpOf, IsVersion};
 ghost use Rattle.px_command.specs.declared.name.CommandName.{CommandName as Named};
 
 use crate::name::CommandName;
-use crate::words::{are_two, is_alone, is_file_word, number, one_behind, two_behind};
+use crate::words::{are_two, is_alone, is_file_word, number, one_behind, three_behind, two_behind};
 
 /// The file of `check CFG`.
 pub fn check_file<'a>(words: &'a [String]) -> Option<&'a str>
@@ -43,6 +43,19 @@ pub fn replay_files<'a>(words: &'a [String]) -> Option<(&'a str, &'a str)>
         return None;
     }
     Some((cfg, rec))
+}
+
+/// The two files and the number of cores of `weave CFG REC K`.
+pub fn weave_words<'a>(words: &'a [String]) -> Option<(&'a str, &'a str, u32)>
+    ensures some { IfSome result (λ told. IsWeave (map string_bytes words.now) told.0.now told.1.now told.2) }
+    ensures none { IfNone result ((cfg rec : List ℕ) (cores : ℕ) → IsWeave (map string_bytes words.now) cfg rec cores → ⊥) }
+{
+    let (cfg, rec, count) = three_behind(words, "weave")?;
+    if !is_file_word(cfg) || !is_file_word(rec) {
+        return None;
+    }
+    let cores = number(count, 1, 256)?;
+    Some((cfg, rec, cores))
 }
 
 /// The file and the number of connections of `serve CFG COUNT`.
@@ -101,6 +114,9 @@ pub fn help_command(words: &[String]) -> Option<CommandName>
     }
     if asks_help_of(words, CommandName::Replay) {
         return Some(CommandName::Replay);
+    }
+    if asks_help_of(words, CommandName::Weave) {
+        return Some(CommandName::Weave);
     }
     if asks_help_of(words, CommandName::Serve) {
         return Some(CommandName::Serve);

@@ -5,6 +5,7 @@
 pub enum CommandName {
     Check,
     Replay,
+    Weave,
     Serve,
     Drill,
 }
@@ -20,6 +21,7 @@ impl CommandName {
         match self {
             CommandName::Check => "check",
             CommandName::Replay => "replay",
+            CommandName::Weave => "weave",
             CommandName::Serve => "serve",
             CommandName::Drill => "drill",
         }

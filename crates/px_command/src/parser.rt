@@ -2,7 +2,7 @@
 ghost use Rattle.std.specs.Prelude.{◌≡◌, ℕ, List, IfOk, false, codes};
 ghost use Rattle.clap.specs.Words.{App, app_of, new_app, rule_of, with_rule, with_subcommand};
 ghost use Rattle.clap.specs.declared.builder.command.Command.TheViews.{out-Command};
-ghost use Rattle.px_command.specs.Parser.{word_rule, flag_rule, two_words, check_shape, top_level, parser};
+ghost use Rattle.px_command.specs.Parser.{word_rule, flag_rule, two_words, weave_shape, check_shape, top_level, parser};
 
 use clap::{Arg, ArgAction, Command};
 use std::alloc::{AllocError, Global};
@@ -98,6 +98,24 @@ pub fn replay_command<'a>(alloc: Global) -> Result<Command<'a>, AllocError>
     )
 }
 
+/// `weave CFG REC K`.
+pub fn weave_command<'a>(alloc: Global) -> Result<Command<'a>, AllocError>
+    ensures app { IfOk result (λ c. app_of c ≡ weave_shape) }
+    ensures local { IfOk result (λ c. (out-Command c).has_globals ≡ false) }
+{
+    let about =
+        "Runs the sessions that a record holds over shared cores, and writes the report of what was sent";
+    let files = word_behind(
+        alloc,
+        "weave",
+        about,
+        cfg_word(alloc),
+        "REC",
+        "The file of the record",
+    )?;
+    files.arg(word(alloc, "K", "How many cores, 1 to 256"))
+}
+
 /// `serve CFG COUNT`.
 pub fn serve_command<'a>(alloc: Global) -> Result<Command<'a>, AllocError>
     ensures app { IfOk result (λ c. app_of c ≡ two_words (codes "serve") (codes "CFG") (codes "COUNT")) }
@@ -181,6 +199,7 @@ pub fn command<'a>(alloc: Global) -> Result<Command<'a>, AllocError>
 {
     let check = with_command(Ok(top_command(alloc)), check_command(alloc));
     let replay = with_command(check, replay_command(alloc));
-    let serve = with_command(replay, serve_command(alloc));
+    let weave = with_command(replay, weave_command(alloc));
+    let serve = with_command(weave, serve_command(alloc));
     with_command(serve, drill_command(alloc))
 }

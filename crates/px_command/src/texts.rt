@@ -3,7 +3,9 @@ ghost use Rattle.std.specs.Prelude.{IfOk, OnOk};
 ghost use Rattle.px_command.specs.Texts.{EndsLine};
 
 use crate::name::CommandName;
-use crate::parser::{check_command, command, drill_command, replay_command, serve_command};
+use crate::parser::{
+    check_command, command, drill_command, replay_command, serve_command, weave_command,
+};
 use crate::wrong::{Wrong, has_word, wrong_word};
 use clap::{Command, Error};
 use http_model::OutOfMemory;
@@ -15,6 +17,7 @@ const COMMANDS: &[u8] = b"
 Examples:
   htx_proxy check site.cfg            says what the configuration in site.cfg has, or which line of it is refused
   htx_proxy replay site.cfg site.rec  writes what becomes of the session that is recorded in site.rec
+  htx_proxy weave site.cfg site.rec 2 writes the same of each connection of site.rec, over two shared cores
   htx_proxy serve site.cfg 100        serves 100 connections, one after another
   htx_proxy check --help              says more of one command
 
@@ -56,6 +59,19 @@ Lines end with a line feed, and numbers have no zeros in front.";
 const REPLAY: &[u8] = b"
 Example:
   htx_proxy replay site.cfg site.rec  writes a report that begins with `PXREP 1`
+
+Refused in this order: the words (1), the file of the configuration (4), the configuration (2), the file of the record (4),
+the record (3), the output (5).";
+
+/// What the help of `weave` says behind its words.
+const WEAVE: &[u8] = b"
+Example:
+  htx_proxy weave site.cfg site.rec 2  writes a report that begins with `PXREP 2`
+
+All connections of the record are there at once. A connection has a core from its first move to its end; while all K are
+out, a turn of a connection without one moves nothing. The turns come in the record's order, whichever connection each is
+for. Behind them each connection from the first on makes one move, again and again until all have ended. Each comes to
+what `replay` makes of it alone, with those of its turns that found a core.
 
 Refused in this order: the words (1), the file of the configuration (4), the configuration (2), the file of the record (4),
 the record (3), the output (5).";
@@ -133,6 +149,7 @@ pub fn help_of_text(alloc: Global, command: CommandName) -> Result<Bytes, OutOfM
     match command {
         CommandName::Check => help_under(alloc, check_command(alloc), "htx_proxy check", CHECK),
         CommandName::Replay => help_under(alloc, replay_command(alloc), "htx_proxy replay", REPLAY),
+        CommandName::Weave => help_under(alloc, weave_command(alloc), "htx_proxy weave", WEAVE),
         CommandName::Serve => help_under(alloc, serve_command(alloc), "htx_proxy serve", SERVE),
         CommandName::Drill => help_under(alloc, drill_command(alloc), "htx_proxy drill", DRILL),
     }

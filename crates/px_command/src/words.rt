@@ -71,3 +71,17 @@ pub fn two_behind<'a>(words: &'a [String], command: &str) -> Option<(&'a str, &'
     }
     Some((first.as_str(), second.as_str()))
 }
+
+/// The three words behind a command, where they are the last.
+pub fn three_behind<'a>(words: &'a [String], command: &str) -> Option<(&'a str, &'a str, &'a str)>
+    ensures some { IfSome result (λ all. map string_bytes words.now ≡ command.now ∷ all.0.now ∷ all.1.now ∷ all.2.now ∷ []) }
+    ensures none { IfNone result ((first second third : List ℕ) → map string_bytes words.now ≡ command.now ∷ first ∷ second ∷ third ∷ [] → ⊥) }
+{
+    let [name, first, second, third] = words else {
+        return None;
+    };
+    if name.as_str() != command {
+        return None;
+    }
+    Some((first.as_str(), second.as_str(), third.as_str()))
+}

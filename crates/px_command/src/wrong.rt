@@ -44,9 +44,18 @@ fn wrong_number<'a>(
     })
 }
 
-/// The count of `serve`, where it is wrong.
-fn wrong_served(word: &str) -> Option<Wrong<'_>> {
-    wrong_number("COUNT", word, 1, 1000000, "1 to 1000000, in 1 to 10 digits")
+/// The first word that is wrong of the two of `serve`.
+fn wrong_serve<'a>(cfg: &'a str, count: &'a str) -> Option<Wrong<'a>> {
+    if let Some(wrong) = wrong_file("CFG", cfg) {
+        return Some(wrong);
+    }
+    wrong_number(
+        "COUNT",
+        count,
+        1,
+        1000000,
+        "1 to 1000000, in 1 to 10 digits",
+    )
 }
 
 /// The first word that is wrong of the two of `drill`.
@@ -56,6 +65,22 @@ fn wrong_drill<'a>(seed: &'a str, count: &'a str) -> Option<Wrong<'a>> {
         return Some(wrong);
     }
     wrong_number("COUNT", count, 0, 4000, "0 to 4000, in 1 to 10 digits")
+}
+
+/// The first word that is wrong of two files.
+fn wrong_files<'a>(cfg: &'a str, rec: &'a str) -> Option<Wrong<'a>> {
+    if let Some(wrong) = wrong_file("CFG", cfg) {
+        return Some(wrong);
+    }
+    wrong_file("REC", rec)
+}
+
+/// The first word that is wrong of the three of `weave`, the only command with so many.
+fn wrong_weave<'a>(cfg: &'a str, rec: &'a str, cores: &'a str) -> Option<Wrong<'a>> {
+    if let Some(wrong) = wrong_files(cfg, rec) {
+        return Some(wrong);
+    }
+    wrong_number("K", cores, 1, 256, "1 to 256, in 1 to 10 digits")
 }
 
 /// The first word that is wrong of the two behind a command.
@@ -70,19 +95,19 @@ fn wrong_of_two<'a>(command: &str, first: &'a str, second: &'a str) -> Option<Wr
             None
         };
     }
-    if let Some(wrong) = wrong_file("CFG", first) {
-        return Some(wrong);
-    }
     if command == "serve" {
-        return wrong_served(second);
+        return wrong_serve(first, second);
     }
-    wrong_file("REC", second)
+    wrong_files(first, second)
 }
 
 /// The first word that is wrong of those behind a command.
 pub fn wrong_word(words: &[String]) -> Option<Wrong<'_>> {
     if let Some(file) = one_behind(words, "check") {
         return wrong_file("FILE", file);
+    }
+    if let [_, cfg, rec, cores] = words {
+        return wrong_weave(cfg.as_str(), rec.as_str(), cores.as_str());
     }
     let [command, first, second] = words else {
         return None;

@@ -29,6 +29,14 @@ fn say_asked(alloc: Global, asked: &Asked<'_>, answers: &mut Answers) -> Result<
             answers.more(b" ");
             answers.bracket(rec.as_bytes());
         }
+        Asked::Weave { cfg, rec, cores } => {
+            answers.say(b"weave ");
+            answers.bracket(cfg.as_bytes());
+            answers.more(b" ");
+            answers.bracket(rec.as_bytes());
+            answers.more(b" ");
+            answers.more_count(u64::from(*cores));
+        }
         Asked::Serve { cfg, connections } => {
             answers.say(b"serve ");
             answers.bracket(cfg.as_bytes());

@@ -1,12 +1,14 @@
 //! The sessions of a record, and a generated one.
-ghost use Rattle.std.specs.Prelude.{◌≤◌, vec_len, IfOk};
+ghost use Rattle.std.specs.Prelude.{◌<◌, ◌≤◌, vec_len, IfOk};
 ghost use Rattle.http_rules.specs.Valid.{IsValid};
 ghost use Rattle.forward_core.specs.Meaning.Product.{meaning_of};
+ghost use Rattle.rec_format.specs.Numbered.{IsNumbered};
 ghost use Rattle.rec_format.specs.Read as read;
 ghost use Rattle.rec_format.specs.ReportParts.{out_of};
 ghost use Rattle.rec_format.specs.Reports.{Reportable};
 ghost use Rattle.htx_drive.specs.Replay.Replayed.{Replays};
 ghost use Rattle.htx_drive.specs.Replay.Written.{IsReplayOf, IsDrillOf};
+ghost use Rattle.htx_drive.specs.Weave.Recorded.{IsWeaveOf};
 ghost use Rattle.proxy_call.specs.Sessions.Driven.{stands_at, stands_for, seen_of};
 
 use crate::sessions::cores::RecordCores;
@@ -15,6 +17,7 @@ use forward_core::request::laws::total;
 use http_model::OutOfMemory;
 use http_rules::Config;
 use htx_drive::replay::{drill_text, replay_connection, replay_text};
+use htx_drive::weave::weave_text;
 use px_link::{Bytes, Turn};
 use rec_format::{Connection, Record, Report};
 use std::alloc::Global;
@@ -37,6 +40,28 @@ pub fn replay_report(
         window: config.limits.bufsize,
     };
     replay_text(alloc, &cores, &config.server, recorded)
+}
+
+/// The report of a record, always in the second format: its connections run over so many cores that they share, interleaved by the record's turns. Want of
+/// memory is the only error.
+pub fn weave_report(
+    alloc: Global,
+    config: &Config,
+    recorded: &Record,
+    sets: u32,
+) -> Result<Bytes, OutOfMemory>
+    requires valid { IsValid config.now }
+    requires some { 0 < sets }
+    requires numbered { IsNumbered (read.meaning_of recorded.now) }
+    ensures { IfOk result (IsWeaveOf (meaning_of config.now) (stands_for config.now) seen_of (read.meaning_of recorded.now)) }
+{
+    bounded();
+    total();
+    let cores = RecordCores {
+        config,
+        window: config.limits.bufsize,
+    };
+    weave_text(alloc, &cores, &config.server, recorded, sets)
 }
 
 /// What the session of one connection comes to with output windows of this size and these turns. Want of memory is the only error.

@@ -1,62 +1,19 @@
-use Rattle.std.proofs.Common.{ℕ, List, ◌≡◌, inl, inr, sym, subst, length, map, arith, vec_len}
-use Rattle.std.specs.Prelude.{Option}
-use Rattle.std.proofs.lemmas.List.{length-map}
-use Rattle.px_link.specs.Told.{NamedBytes, Reads}
-use Rattle.rec_format.specs.Read.{meaning_of, visit}
-use Rattle.rec_format.specs.Reports.{Reportable}
-use Rattle.rec_format.specs.declared.record.RecFault.{RecFault}
+use Rattle.std.proofs.Common.{inl, inr}
+use Rattle.rec_format.specs.Read.{meaning_of}
 use Rattle.proxy_call.specs.Files.{Builder, told_by}
-use Rattle.proxy_call.specs.Stops.{Input, given, stop_of_record}
-use Rattle.proxy_call.proofs.Causes.{accepted, answers_err, record_stops}
-use Rattle.proxy_call.proofs.Told.{said}
+use Rattle.proxy_call.specs.Stops.{Input, given}
+use Rattle.proxy_call.proofs.Causes.{answers_err}
 use Rattle.proxy_call.proofs.answer.replay.Goals as goal
 
-pub returns-in_err-cfg : goal.returns-in_err-cfg
-returns-in_err-cfg g c =
-    let builder : Builder = told_by (g.P.Patterns.refusals c.args.pats.now) (g.P.Patterns.refusals c.configuration.new.pats) (g.P.Patterns.last_refused c.configuration.new.pats) in
-    λ words replay.
-    let input : Input = given words (g.F.Files.files c.args.files.now) builder (g.F.Files.last_failed c.configuration.new.files) (g.F.Files.faults c.args.files.now) (g.F.Files.faults c.configuration.new.files) in
-    answers_err input c.from_residual.result c.in_err-cfg.field-0.0 c.from_residual.ensures.1 (c.in_err-cfg.ensures.stop words (inr (inl (c.args.rec_name.now, replay))))
-
-pub returns-in_err-record : goal.returns-in_err-record
-returns-in_err-record g c =
-    let told : Option (List NamedBytes) = g.F.Files.files c.args.files.now in
-    let text : List ℕ = c.as_slice.result.now in
-    let read : Reads told c.args.rec_name.now 67108865 text =
-    subst (λ (o : Option (List NamedBytes)). Reads o c.args.rec_name.now 67108865 text) c.in_ok-cfg.ensures.files
-    (subst (λ (t : List ℕ). Reads (g.F.Files.files c.configuration.new.files) c.args.rec_name.now 67108865 t) (sym c.as_slice.ensures) c.in_ok-text.ensures.bytes) in
-    let builder : Builder = told_by (g.P.Patterns.refusals c.args.pats.now) (g.P.Patterns.refusals c.configuration.new.pats) (g.P.Patterns.last_refused c.configuration.new.pats) in
-    let fault : RecFault = c.in_err-record.field-0.0 in
-    λ words replay.
-    let input : Input = given words told builder (g.F.Files.last_failed c.read.new.files) (g.F.Files.faults c.args.files.now) (g.F.Files.faults c.read.new.files) in
-    answers_err input c.from_residual-in_err-record.result (stop_of_record fault) c.from_residual-in_err-record.ensures.1
-    (record_stops input c.args.rec_name.now text fault (inr (c.args.cfg_name.now, replay, accepted told c.args.cfg_name.now c.in_ok-cfg.cfg c.in_ok-cfg.ensures.accepted, c.in_ok-cfg.ensures.built)) read c.in_err-record.ensures.refused)
-
-pub replay_report-requires-clause-reportable : goal.replay_report-requires-clause-reportable
-replay_report-requires-clause-reportable g c =
-    let conns = c.in_ok-record.record.conns in
-    let count : length (map visit conns.items) ≡ vec_len conns = omega (arith, length-map conns.items visit, conns.ok.0) in
-    subst (λ (n : ℕ). Reportable c.in_ok-record.record.version n) count
-    (c.reportable.ensures c.as_slice.result.now (meaning_of c.in_ok-record.record) c.in_ok-record.ensures.read)
+pub returns-in_err-said : goal.returns-in_err-said
+returns-in_err-said g c =
+    let builder : Builder = told_by (g.P.Patterns.refusals c.args.pats.now) (g.P.Patterns.refusals c.two_files.new.pats) (g.P.Patterns.last_refused c.two_files.new.pats) in
+    λ words is.
+    let input : Input = given words (g.F.Files.files c.args.files.now) builder (g.F.Files.last_failed c.two_files.new.files) (g.F.Files.faults c.args.files.now) (g.F.Files.faults c.two_files.new.files) in
+    answers_err input c.from_residual.result c.in_err-said.field-0.0 c.from_residual.ensures.1 (c.in_err-said.ensures.stop words (inl is))
 
 pub returns : goal.returns
-returns g c =
-    let told : Option (List NamedBytes) = g.F.Files.files c.args.files.now in
-    let text : List ℕ = c.as_slice.result.now in
-    let read : Reads told c.args.rec_name.now 67108865 text =
-    subst (λ (o : Option (List NamedBytes)). Reads o c.args.rec_name.now 67108865 text) c.in_ok-cfg.ensures.files
-    (subst (λ (t : List ℕ). Reads (g.F.Files.files c.configuration.new.files) c.args.rec_name.now 67108865 t) (sym c.as_slice.ensures) c.in_ok-text.ensures.bytes) in
-    λ words replay. (
-      inr (inr (inl (
-        c.args.cfg_name.now,
-        c.args.rec_name.now,
-        replay,
-        (
-          c.in_ok-cfg.cfg,
-          meaning_of c.in_ok-record.record,
-          said told c.args.cfg_name.now c.args.rec_name.now text c.in_ok-cfg.cfg (meaning_of c.in_ok-record.record) c.in_ok-cfg.ensures.accepted read c.in_ok-record.ensures.read,
-          c.in_ok-replay_report.ensures,
-        ),
-      ))),
-      c.in_ok-cfg.ensures.built,
-    )
+returns g c = λ words is. (
+  inr (inr (inl (c.args.cfg_name.now, c.args.rec_name.now, is, (c.in_ok-said.said.config, meaning_of c.in_ok-said.said.record, c.in_ok-said.ensures.say, c.in_ok-replay_report.ensures)))),
+  c.in_ok-said.ensures.built,
+)

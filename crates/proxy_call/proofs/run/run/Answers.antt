@@ -1,7 +1,7 @@
 use Rattle.std.proofs.Common.{ℕ, List, map, inl, inr, refl, subst}
 use Rattle.std.specs.Prelude.{string_bytes}
 use Rattle.px_command.specs.Asked.{IsAsked}
-use Rattle.px_command.specs.Command.{IsCheck, IsCheckRecord, IsReplay, IsServe, IsDrill, IsHelp, IsHelpOf, IsVersion}
+use Rattle.px_command.specs.Command.{IsCheck, IsCheckRecord, IsReplay, IsWeave, IsServe, IsDrill, IsHelp, IsHelpOf, IsVersion}
 use Rattle.proxy_call.specs.Files.{Builder, told_by}
 use Rattle.proxy_call.specs.Stops.{Input, given}
 use Rattle.proxy_call.proofs.run.run.Goals as goal
@@ -30,6 +30,14 @@ returns-in-Replay g c =
     let input : Input = given words (g.F.Files.files c.args.files.now) builder (g.F.Files.last_failed c.replay.new.files) (g.F.Files.faults c.args.files.now) (g.F.Files.faults c.replay.new.files) in
     inl (c.write-in-Replay.ensures input (c.replay.ensures words is), refl)
 
+pub returns-in-Weave : goal.returns-in-Weave
+returns-in-Weave g c =
+    let words : List (List ℕ) = map string_bytes c.args.words.now in
+    let is : IsWeave words c.in-Weave.cfg.now c.in-Weave.rec.now c.in-Weave.cores = subst (IsAsked words) c.in-Weave.is c.in_ok-cfg.ensures in
+    let builder : Builder = told_by (g.P.Patterns.refusals c.args.pats.now) (g.P.Patterns.refusals c.weave.new.pats) (g.P.Patterns.last_refused c.weave.new.pats) in
+    let input : Input = given words (g.F.Files.files c.args.files.now) builder (g.F.Files.last_failed c.weave.new.files) (g.F.Files.faults c.args.files.now) (g.F.Files.faults c.weave.new.files) in
+    inl (c.write-in-Weave.ensures input (c.weave.ensures words is), refl)
+
 pub returns-in-Serve : goal.returns-in-Serve
 returns-in-Serve g c =
     let words : List (List ℕ) = map string_bytes c.args.words.now in
@@ -50,7 +58,7 @@ returns-in_ok-help_text-in-Help g c =
     let is : IsHelp words = subst (IsAsked words) c.in-Help.is c.in_ok-cfg.ensures in
     let builder : Builder = told_by (g.P.Patterns.refusals c.args.pats.now) (g.P.Patterns.refusals c.args.pats.now) (g.P.Patterns.last_refused c.args.pats.now) in
     let input : Input = given words (g.F.Files.files c.args.files.now) builder (g.F.Files.last_failed c.args.files.now) (g.F.Files.faults c.args.files.now) (g.F.Files.faults c.args.files.now) in
-    inl (c.write-in-Help.ensures input (inr (inr (inr (inr (inl is, c.in_ok-help_text-in-Help.ensures)))), refl), refl)
+    inl (c.write-in-Help.ensures input (inr (inr (inr (inr (inr (inl is, c.in_ok-help_text-in-Help.ensures))))), refl), refl)
 
 pub returns-in_ok-help_of_text-in-HelpOf : goal.returns-in_ok-help_of_text-in-HelpOf
 returns-in_ok-help_of_text-in-HelpOf g c =
@@ -58,7 +66,7 @@ returns-in_ok-help_of_text-in-HelpOf g c =
     let is : IsHelpOf words c.in-HelpOf.command = subst (IsAsked words) c.in-HelpOf.is c.in_ok-cfg.ensures in
     let builder : Builder = told_by (g.P.Patterns.refusals c.args.pats.now) (g.P.Patterns.refusals c.args.pats.now) (g.P.Patterns.last_refused c.args.pats.now) in
     let input : Input = given words (g.F.Files.files c.args.files.now) builder (g.F.Files.last_failed c.args.files.now) (g.F.Files.faults c.args.files.now) (g.F.Files.faults c.args.files.now) in
-    inl (c.write-in-HelpOf.ensures input (inr (inr (inr (inr (inr (inl (c.in-HelpOf.command, is)), c.in_ok-help_of_text-in-HelpOf.ensures)))), refl), refl)
+    inl (c.write-in-HelpOf.ensures input (inr (inr (inr (inr (inr (inr (inl (c.in-HelpOf.command, is)), c.in_ok-help_of_text-in-HelpOf.ensures))))), refl), refl)
 
 pub returns-in_ok-version_text-in-Version : goal.returns-in_ok-version_text-in-Version
 returns-in_ok-version_text-in-Version g c =
@@ -66,4 +74,4 @@ returns-in_ok-version_text-in-Version g c =
     let is : IsVersion words = subst (IsAsked words) c.in-Version.is c.in_ok-cfg.ensures in
     let builder : Builder = told_by (g.P.Patterns.refusals c.args.pats.now) (g.P.Patterns.refusals c.args.pats.now) (g.P.Patterns.last_refused c.args.pats.now) in
     let input : Input = given words (g.F.Files.files c.args.files.now) builder (g.F.Files.last_failed c.args.files.now) (g.F.Files.faults c.args.files.now) (g.F.Files.faults c.args.files.now) in
-    inl (c.write-in-Version.ensures input (inr (inr (inr (inr (inr (inr is), c.in_ok-version_text-in-Version.ensures)))), refl), refl)
+    inl (c.write-in-Version.ensures input (inr (inr (inr (inr (inr (inr (inr is), c.in_ok-version_text-in-Version.ensures))))), refl), refl)

@@ -6,6 +6,7 @@ returns c = (
     check = c.in_default.ensures.none;
     check_record = c.in_default-check_record_file.ensures.none;
     replay = c.in_default-replay_files.ensures.none;
+    weave = c.in_default-weave_words.ensures.none;
     serve = c.in_default-serve_words.ensures.none;
     drill = c.in_default-drill_numbers.ensures.none;
     text = c.requires;

@@ -1,6 +1,6 @@
 use Rattle.std.proofs.Common.{codes}
 use Rattle.clap.specs.Words.{App, with_subcommand}
-use Rattle.px_command.specs.Parser.{check_shape, top_level, two_words}
+use Rattle.px_command.specs.Parser.{check_shape, top_level, two_words, weave_shape}
 use Rattle.px_command.proofs.parser.command.Goals as goal
 
 abbrev with_check : App → App
@@ -8,6 +8,9 @@ with_check level = with_subcommand level check_shape.top
 
 abbrev with_replay : App → App
 with_replay level = with_subcommand level (two_words (codes "replay") (codes "CFG") (codes "REC")).top
+
+abbrev with_weave : App → App
+with_weave level = with_subcommand level weave_shape.top
 
 abbrev with_serve : App → App
 with_serve level = with_subcommand level (two_words (codes "serve") (codes "CFG") (codes "COUNT")).top
@@ -22,5 +25,6 @@ returns c =
     let drill_shape = two_words (codes "drill") (codes "SEED") (codes "COUNT") in
     let check = c.with_command-check.ensures.app top_level check_shape c.top_command.ensures.app c.check_command.ensures.app in
     let replay = c.with_command-replay.ensures.app (with_check top_level) replay_shape check c.replay_command.ensures.app in
-    let serve = c.with_command-serve.ensures.app (with_replay (with_check top_level)) serve_shape replay c.serve_command.ensures.app in
-    c.with_command.ensures.app (with_serve (with_replay (with_check top_level))) drill_shape serve c.drill_command.ensures.app
+    let weave = c.with_command-weave.ensures.app (with_replay (with_check top_level)) weave_shape replay c.weave_command.ensures.app in
+    let serve = c.with_command-serve.ensures.app (with_weave (with_replay (with_check top_level))) serve_shape weave c.serve_command.ensures.app in
+    c.with_command.ensures.app (with_serve (with_weave (with_replay (with_check top_level)))) drill_shape serve c.drill_command.ensures.app
