@@ -7,7 +7,7 @@ mod loopback;
 mod session;
 
 use crate::loopback::{play_role, run_both};
-use crate::session::{session_made, windows_made};
+use crate::session::{session_made, windows_made, woven_made};
 use case_rows::{Fault, Row, Score, decoded};
 use std::alloc::{AllocError, Global};
 use std::process::{ExitCode, id};
@@ -134,6 +134,7 @@ fn bytes_in<R: Files + AllocGlobal>(
 fn made_of_files(alloc: Global, ending: &str, cfg: &[u8], rec: &[u8]) -> Result<Vec<u8>, Fault> {
     match ending {
         "windows" => windows_made(alloc, cfg, rec),
+        "woven" => woven_made(alloc, cfg, rec),
         _ => session_made(alloc, ending, cfg, rec),
     }
 }
