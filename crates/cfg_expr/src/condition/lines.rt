@@ -1,5 +1,5 @@
 //! `acl` lines.
-ghost use Rattle.std.specs.Prelude.{◌≡◌, count_by};
+ghost use Rattle.std.specs.Prelude.{◌≡◌, count_by, OnErr};
 ghost use Rattle.cfg_expr.specs.Faults.{Gives, ReadsText};
 ghost use Rattle.cfg_expr.specs.Condition.Lines.{is_named, with_line};
 ghost use Rattle.cfg_expr.specs.Condition.Conditions.{acl_line, line_read};
@@ -34,7 +34,8 @@ fn count_named(lines: &AclList, name: &[u8]) -> u32
 
 /// One more line, unless there are too many of all or of its name.
 fn push_line(lines: &mut AclList, line: AclLine) -> Result<(), TextFault>
-    ensures { Gives (λ nothing. lines.new) result (with_line lines.old line) }
+    ensures pushes { Gives (λ nothing. lines.new) result (with_line lines.old line) }
+    ensures unchanged { OnErr result (lines.new ≡ lines.old) }
 {
     let full = lines.len() >= MAX_LINES;
     if full || count_named(lines, line.name.as_slice()) >= MAX_LINES_OF_A_NAME {
@@ -77,7 +78,8 @@ pub fn read_acl<P: Patterns>(
     lines: &mut AclList,
     pats: &mut P,
 ) -> Result<(), TextFault>
-    ensures { ReadsText (λ nothing. lines.new) (acl_line lines.old words.entry) (P.refusals pats.old) (P.refusals pats.new) (P.last_refused pats.new) result }
+    ensures reads { ReadsText (λ nothing. lines.new) (acl_line lines.old words.entry) (P.refusals pats.old) (P.refusals pats.new) (P.last_refused pats.new) result }
+    ensures unchanged { OnErr result (lines.new ≡ lines.old) }
 {
     let line = read_line(alloc, words, pats)?;
     push_line(lines, line)
