@@ -11,12 +11,12 @@ use Rattle.body_filter.specs.Valid.{IsFilter, AreFilters}
 use Rattle.http_rules.specs.Valid.{is_replace, IsChain}
 use Rattle.cfg_parse.specs.declared.fault.CfgKind.{CfgKind}
 use Rattle.cfg_parse.specs.declared.fault.CfgKind.TheVariants as kinds
-use Rattle.cfg_parse.specs.declared.filters.Direction.{Direction}
+use Rattle.cfg_expr.specs.declared.side.Side.{Side}
 use Rattle.cfg_parse.specs.declared.filters.FilterName.{FilterName}
 use Rattle.cfg_parse.specs.declared.filters.FilterName.TheVariants as names
 use Rattle.cfg_parse.specs.Limits.{most_needle, most_filters}
 use Rattle.cfg_parse.specs.Reading.{◌>>=◌, argument, no_more}
-use Rattle.cfg_parse.specs.Filters.{filter_name_of, direction_of, count_of, text_of, limit_filter, deny_filter, replace_filter, named_filter, filter_line, with_filter}
+use Rattle.cfg_parse.specs.Filters.{filter_name_of, named_side, count_of, text_of, limit_filter, deny_filter, replace_filter, named_filter, filter_line, with_filter}
 use Rattle.cfg_parse.proofs.StepLemmas.{bind_ok, passed, given, ok_is, and_true}
 
 -- no filter at all
@@ -95,18 +95,18 @@ named_filter-good names.Replace arguments filter e =
     let short = text_of-within 0 c.0.0 d.0 d.1.0 in
     subst IsFilter (ok_is (Replace b.0 d.0) filter f.1.1) (omega (arith, within.0), within.1, short.1)
 
-same_filter : (direction : Direction) (filter : FilterSpec) (taken : Direction × FilterSpec) → given (direction, filter) ≡ given taken → IsFilter filter → IsFilter taken.1
+same_filter : (direction : Side) (filter : FilterSpec) (taken : Side × FilterSpec) → given (direction, filter) ≡ given taken → IsFilter filter → IsFilter taken.1
 same_filter direction filter taken same good =
-    let is : filter ≡ taken.1 = ap (λ (t : Direction × FilterSpec). t.1) (ok_is (direction, filter) taken same) in
+    let is : filter ≡ taken.1 = ap (λ (t : Side × FilterSpec). t.1) (ok_is (direction, filter) taken same) in
     subst IsFilter is good
 
 -- a line's filter is one that there may be
-pub filter_line-good : (arguments : List (List ℕ)) (taken : Direction × FilterSpec) → filter_line arguments ≡ Ok taken → IsFilter taken.1
+pub filter_line-good : (arguments : List (List ℕ)) (taken : Side × FilterSpec) → filter_line arguments ≡ Ok taken → IsFilter taken.1
 unfolding filter_line
 filter_line-good arguments taken e =
-    let a = bind_ok (argument arguments) (λ first. filter_name_of first.0 >>= λ name. argument first.1 >>= λ second. direction_of second.0 >>= λ direction. named_filter name second.1 >>= λ filter. Ok (direction, filter)) taken e in
-    let b = bind_ok (filter_name_of a.0.0) (λ name. argument a.0.1 >>= λ second. direction_of second.0 >>= λ direction. named_filter name second.1 >>= λ filter. Ok (direction, filter)) taken a.1.1 in
-    let c = bind_ok (argument a.0.1) (λ second. direction_of second.0 >>= λ direction. named_filter b.0 second.1 >>= λ filter. Ok (direction, filter)) taken b.1.1 in
-    let d = bind_ok (direction_of c.0.0) (λ direction. named_filter b.0 c.0.1 >>= λ filter. Ok (direction, filter)) taken c.1.1 in
+    let a = bind_ok (argument arguments) (λ first. filter_name_of first.0 >>= λ name. argument first.1 >>= λ second. named_side second.0 >>= λ direction. named_filter name second.1 >>= λ filter. Ok (direction, filter)) taken e in
+    let b = bind_ok (filter_name_of a.0.0) (λ name. argument a.0.1 >>= λ second. named_side second.0 >>= λ direction. named_filter name second.1 >>= λ filter. Ok (direction, filter)) taken a.1.1 in
+    let c = bind_ok (argument a.0.1) (λ second. named_side second.0 >>= λ direction. named_filter b.0 second.1 >>= λ filter. Ok (direction, filter)) taken b.1.1 in
+    let d = bind_ok (named_side c.0.0) (λ direction. named_filter b.0 c.0.1 >>= λ filter. Ok (direction, filter)) taken c.1.1 in
     let f = bind_ok (named_filter b.0 c.0.1) (λ filter. Ok (d.0, filter)) taken d.1.1 in
     same_filter d.0 f.0 taken f.1.1 (named_filter-good b.0 c.0.1 f.0 f.1.0)

@@ -32,8 +32,8 @@ use Rattle.cfg_parse.specs.declared.keywords.SectionWord.TheVariants.{Global, De
 use Rattle.cfg_parse.specs.Numbers.{number_up_to, size_of, is_time, is_colon, as_port, port_of, address_at, address_of, server_address_of}
 use Rattle.body_filter.specs.declared.filter_spec.FilterSpec.{FilterSpec}
 use Rattle.body_filter.specs.Valid.{IsFilter}
-use Rattle.cfg_parse.specs.declared.filters.Direction.{Direction}
-use Rattle.cfg_parse.specs.declared.filters.Direction.TheVariants.{Request, Response}
+use Rattle.cfg_expr.specs.declared.side.Side.{Side}
+use Rattle.cfg_expr.specs.declared.side.Side.TheVariants.{Request, Response}
 use Rattle.cfg_parse.specs.Filters.{with_filter, filter_line, filter_added, filter_setting}
 use Rattle.cfg_parse.proofs.StepLemmas.{bind_ok, guard_ok, passed, given, ok_is, or_false, and_true}
 use Rattle.cfg_parse.proofs.FilterLemmas.{none_chain, chain_more, filter_line-good}
@@ -179,7 +179,7 @@ rule_added-sound draft direction rule s good =
     keeps_if (has_room draft direction (tests_of rule.cond)) Limit _ (λ room.
     with_rule-sound draft direction rule s good (room_is draft direction (tests_of rule.cond) room))
 
-filter_added-sound : (draft : Draft) (direction : Direction) (filter : FilterSpec) → IsSound draft → IsFilter filter → Keeps (filter_added draft direction filter)
+filter_added-sound : (draft : Draft) (direction : Side) (filter : FilterSpec) → IsSound draft → IsFilter filter → Keeps (filter_added draft direction filter)
 filter_added-sound draft Request filter s good =
     keeps_bind (with_filter draft.req_filters filter) _ (λ filters is.
     record { bufsize = s.bufsize; bind = s.bind; server = s.server; request = s.request; response = s.response; after = s.after; req_filters = chain_more draft.req_filters filter filters s.req_filters good is; res_filters = s.res_filters })

@@ -5,8 +5,8 @@ use Rattle.std.specs.Str.{bytes_eq}
 use Rattle.px_bytes.specs.Numbers.{decimal_of}
 use Rattle.cfg_parse.specs.declared.fault.CfgKind.{CfgKind}
 use Rattle.cfg_parse.specs.declared.fault.CfgKind.TheVariants as kinds
-use Rattle.cfg_parse.specs.declared.filters.Direction.{Direction}
-use Rattle.cfg_parse.specs.declared.filters.Direction.TheVariants.{Request, Response}
+use Rattle.cfg_expr.specs.declared.side.Side.{Side}
+use Rattle.cfg_expr.specs.declared.side.Side.TheVariants.{Request, Response}
 use Rattle.cfg_parse.specs.declared.filters.FilterName.{FilterName}
 use Rattle.cfg_parse.specs.declared.filters.FilterName.TheVariants as names
 use Rattle.body_filter.specs.declared.filter_spec.FilterSpec.{FilterSpec}
@@ -25,8 +25,8 @@ filter_name_of word =
     else Err kinds.Keyword))
 
 -- `req` or `res`
-unfoldable pub direction_of : List ℕ → Result Direction CfgKind
-direction_of word =
+unfoldable pub named_side : List ℕ → Result Side CfgKind
+named_side word =
     if bytes_eq word (codes "req") then Ok Request
     else (if bytes_eq word (codes "res") then Ok Response
     else Err kinds.Argument)
@@ -70,21 +70,21 @@ replace_filter arguments = do
   ended ← no_more second.1
   Ok (Replace from to)
 
--- what stands behind the direction
+-- what stands behind the side
 abbrev pub named_filter : FilterName → List (List ℕ) → Result FilterSpec CfgKind
 named_filter names.Limit arguments = limit_filter arguments
 named_filter names.Deny arguments = deny_filter arguments
 named_filter names.Replace arguments = replace_filter arguments
 
 -- the words behind `filter`
-unfoldable pub filter_line : List (List ℕ) → Result (Direction × FilterSpec) CfgKind
+unfoldable pub filter_line : List (List ℕ) → Result (Side × FilterSpec) CfgKind
 filter_line arguments = do
   first ← argument arguments
   name ← filter_name_of first.0
   second ← argument first.1
-  direction ← direction_of second.0
+  side ← named_side second.0
   filter ← named_filter name second.1
-  Ok (direction, filter)
+  Ok (side, filter)
 
 -- one more filter of a direction: of at most 8, and of them one body-replace
 unfoldable pub with_filter : List FilterSpec → FilterSpec → Result (List FilterSpec) CfgKind
@@ -95,7 +95,7 @@ with_filter filters filter =
 -- ---- the line, and what it makes of the configuration so far
 
 -- one more filter of this direction
-abbrev pub filter_added : Draft → Direction → FilterSpec → Result Draft CfgKind
+abbrev pub filter_added : Draft → Side → FilterSpec → Result Draft CfgKind
 filter_added draft Request filter =
     with_filter draft.req_filters filter >>= λ filters. Ok (record draft { req_filters = filters })
 filter_added draft Response filter =

@@ -5,25 +5,18 @@ ghost use Rattle.body_filter.specs.Valid.{IsFilter};
 ghost use Rattle.cfg_parse.specs.Limits.{most_needle};
 ghost use Rattle.cfg_parse.specs.Reading.{Gives, Leaves};
 ghost use Rattle.http_rules.specs.Valid.{is_replace};
-ghost use Rattle.cfg_parse.specs.Filters.{filter_name_of, direction_of, count_of, text_of, limit_filter, deny_filter, replace_filter, named_filter, filter_line, with_filter, filter_added, filter_setting};
+ghost use Rattle.cfg_parse.specs.Filters.{filter_name_of, named_side, count_of, text_of, limit_filter, deny_filter, replace_filter, named_filter, filter_line, with_filter, filter_added, filter_setting};
 
 use crate::arguments::Arguments;
 use crate::draft::Draft;
 use crate::fault::{CfgKind, LineRefusal};
 use crate::limits::{MAX_DIGITS, MAX_FILTERS, MAX_NEEDLE};
 use body_filter::FilterSpec;
-use cfg_expr::is_word;
+use cfg_expr::{Side, is_word};
 use http_rules::Filters;
 use px_bytes::read_decimal;
 use px_link::Bytes;
 use std::alloc::Global;
-
-/// Whose bodies a filter changes.
-#[derive(Clone, Copy)]
-pub enum Direction {
-    Request,
-    Response,
-}
 
 #[derive(Clone, Copy)]
 enum FilterName {
@@ -47,14 +40,14 @@ fn filter_name_of(word: &[u8]) -> Result<FilterName, LineRefusal>
     }
 }
 
-#[tactic(auto, unfolding(crate::specs::Filters::direction_of))]
-fn direction_of(word: &[u8]) -> Result<Direction, LineRefusal>
-    ensures { Gives (λ direction. direction) result (direction_of word.now) }
+#[tactic(auto, unfolding(crate::specs::Filters::named_side))]
+fn named_side(word: &[u8]) -> Result<Side, LineRefusal>
+    ensures { Gives (λ side. side) result (named_side word.now) }
 {
     if is_word(word, b"req") {
-        Ok(Direction::Request)
+        Ok(Side::Request)
     } else if is_word(word, b"res") {
-        Ok(Direction::Response)
+        Ok(Side::Response)
     } else {
         Err(LineRefusal::Refused(CfgKind::Argument))
     }
@@ -126,7 +119,7 @@ fn replace_filter(alloc: Global, arguments: Arguments<'_>) -> Result<FilterSpec,
     Ok(FilterSpec::Replace(from, to))
 }
 
-/// What stands behind the direction.
+/// What stands behind the side.
 fn named_filter(
     alloc: Global,
     name: FilterName,
@@ -144,19 +137,16 @@ fn named_filter(
 
 /// The words behind `filter`.
 #[tactic(auto, unfolding(crate::specs::Filters::filter_line))]
-fn filter_line(
-    alloc: Global,
-    arguments: Arguments<'_>,
-) -> Result<(Direction, FilterSpec), LineRefusal>
+fn filter_line(alloc: Global, arguments: Arguments<'_>) -> Result<(Side, FilterSpec), LineRefusal>
     ensures line { Gives (λ taken. taken) result (filter_line arguments.entry) }
     ensures valid { IfOk result (λ taken. IsFilter taken.1) }
 {
     let (first, arguments) = arguments.argument()?;
     let name = filter_name_of(first)?;
     let (second, arguments) = arguments.argument()?;
-    let direction = direction_of(second)?;
+    let side = named_side(second)?;
     let filter = named_filter(alloc, name, arguments)?;
-    Ok((direction, filter))
+    Ok((side, filter))
 }
 
 fn is_replace(filter: &FilterSpec) -> bool
@@ -193,16 +183,12 @@ fn add_filter(filters: &mut Filters, filter: FilterSpec) -> Result<(), LineRefus
 }
 
 /// One more filter of this direction.
-fn add_directed(
-    draft: &mut Draft,
-    direction: Direction,
-    filter: FilterSpec,
-) -> Result<(), LineRefusal>
-    ensures { Leaves result draft.new (filter_added draft.old direction filter) }
+fn add_directed(draft: &mut Draft, side: Side, filter: FilterSpec) -> Result<(), LineRefusal>
+    ensures { Leaves result draft.new (filter_added draft.old side filter) }
 {
-    match direction {
-        Direction::Request => add_filter(&mut draft.req_filters, filter),
-        Direction::Response => add_filter(&mut draft.res_filters, filter),
+    match side {
+        Side::Request => add_filter(&mut draft.req_filters, filter),
+        Side::Response => add_filter(&mut draft.res_filters, filter),
     }
 }
 
@@ -215,6 +201,6 @@ pub fn set_filter(
 ) -> Result<(), LineRefusal>
     ensures { Leaves result draft.new (filter_setting draft.old arguments.entry) }
 {
-    let (direction, filter) = filter_line(alloc, arguments)?;
-    add_directed(draft, direction, filter)
+    let (side, filter) = filter_line(alloc, arguments)?;
+    add_directed(draft, side, filter)
 }
