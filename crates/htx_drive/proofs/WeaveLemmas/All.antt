@@ -1,7 +1,7 @@
 -- A move of one connection leads from a place of all to a place of all.
 use Rattle.std.proofs.Common.{◌≡◌, ◌≢◌, ℕ, suc, ◌+◌, ◌-◌, ◌<◌, List, [], ◌∷◌, length, map, Bool, true, false, cond, eqb, Option, Some, None, refl, sym, ap, subst, ◌∙◌, inl, inr, arith}
 use Rattle.std.specs.Prelude.{get_or, set, slice_get, Result, Ok, Err, OnOk, OnErr}
-use Rattle.std.specs.List.{AllByRecursion, filter}
+use Rattle.std.specs.List.{AllByRecursion, filter, sum_by}
 use Rattle.std.proofs.lemmas.Bool.{eq-eqb, ne_eqb, cases_eq}
 use Rattle.std.proofs.lemmas.List.{get_or-set_same, get_or-set_other, length-set}
 use Rattle.std.proofs.lemmas.List.Sums.{sum_by-set}
@@ -86,6 +86,12 @@ may_at sees sound sees_net old new conns number k conn e within =
     let P : ℕ → Type 0 = λ n. ((other : ℕ) → other ≢ n → core_of other new ≡ core_of other old) → MayMove sees sound conn.server (sees_net conn.net).lent conn.ran (core_of n new) → AllMay sees sound sees_net old conns → AllMay sees sound sees_net new (set conns k conn) in
     subst P (sym e) (may_all sees sound sees_net old new conns k conn within)
 
+-- what it paid is still part of the budget
+pub paid_on : (counts : List ℕ) (k count spare next budget : ℕ) → k < length counts → count + next ≡ get_or counts k 0 + spare → sum_by (λ (n : ℕ). n) counts + spare ≡ budget → sum_by (λ (n : ℕ). n) (set counts k count) + next ≡ budget
+paid_on counts k count spare next budget h pays paid =
+    let summed = sum_by-set (λ (n : ℕ). n) counts k count 0 h in
+    omega (arith, summed, pays, paid)
+
 -- ---- where all are
 
 module _ {C L N : Type 0} (M : Meaning) (stands : C → Past → Type 0) (sees : C → CoreSeen) (sound : C → Type 0) (seen : L → Seen) (wrote : L → List ℕ → Type 0) (sees_net : N → NetSeen) (to : Place) (prompt : Bool) (turns : List (ℕ × Turn)) where
@@ -115,22 +121,36 @@ module _ {C L N : Type 0} (M : Meaning) (stands : C → Past → Type 0) (sees :
       let d : ℕ → Type 0 = λ n. AtPlace M stands sees sound seen wrote sees_net to prompt turns behind f x new (suc place) n in
       subst d (sym (get_or-set_other counts k place count 0 ne)) (subst b (sym same) (subst a turned so))
 
+  -- the one that moves, with what it has paid
+  pub record Found (left : List (ℕ × Turn)) (firsts conns : List (Conn L N)) (old : Seats C) (counts : List ℕ) (spare k : ℕ) (was : Conn L N) : Type 0 where
+    pub within : k < length conns
+    pub counted : k < length counts
+    pub first : Conn L N
+    pub has : slice_get firsts k ≡ Some first
+    pub at : Pays (get_or counts k 0 + spare) spare (AtPlace M stands sees sound seen wrote sees_net to prompt turns left first was old (suc k))
+
+  pub finds : (left : List (ℕ × Turn)) (firsts conns : List (Conn L N)) (old : Seats C) (budget spare k : ℕ) (was : Conn L N) → slice_get conns k ≡ Some was → (all : AllAt M stands sees sound seen wrote sees_net to prompt turns left firsts conns old budget spare)
+      → Found left firsts conns old all.counts spare k was
+  finds left firsts conns old budget spare k was is all =
+      let within : k < length conns = slice_get_within conns k was is in
+      let as_many : length firsts ≡ length conns = all.as_many in
+      let as_counted : length all.counts ≡ length conns = all.counted in
+      let first : Conn L N = get_or firsts k was in
+      let has : slice_get firsts k ≡ Some first = slice_get-get_or firsts k was (omega (arith, within, as_many)) in
+      record { within = within; counted = omega (arith, within, as_counted); first = first; has = has; at = record { count = get_or all.counts k 0; is = refl; so = all.each k first was has is } }
+
   moves_all : (left behind : List (ℕ × Turn)) (firsts conns : List (Conn L N)) (old new : Seats C) (budget spare next k : ℕ) (was conn : Conn L N) → slice_get conns k ≡ Some was → length new.owners ≡ length old.owners → Stays left behind old new spare next (suc k) was conn
       → ((other : ℕ) → other ≢ suc k → core_of other new ≡ core_of other old) → ((other : ℕ) → other ≢ suc k → turns_of other left ≡ turns_of other behind) → Frees left old new spare (suc k) was
       → AllAt M stands sees sound seen wrote sees_net to prompt turns left firsts conns old budget spare → AllAt M stands sees sound seen wrote sees_net to prompt turns behind firsts (set conns k conn) new budget next
   moves_all left behind firsts conns old new budget spare next k was conn is sets one others turned fresh all =
-      let within : k < length conns = slice_get_within conns k was is in
+      let found = finds left firsts conns old budget spare k was is all in
+      let within = found.within in
+      let counted = found.counted in
+      let first = found.first in
+      let has = found.has in
       let as_many : length firsts ≡ length conns = all.as_many in
       let as_counted : length all.counts ≡ length conns = all.counted in
-      let counted : k < length all.counts = omega (arith, within, as_counted) in
-      let first : Conn L N = get_or firsts k was in
-      let has : slice_get firsts k ≡ Some first = slice_get-get_or firsts k was (omega (arith, within, as_many)) in
-      let count : ℕ = get_or all.counts k 0 in
-      let at : Pays (count + spare) spare (AtPlace M stands sees sound seen wrote sees_net to prompt turns left first was old (suc k)) = record { count = count; is = refl; so = all.each k first was has is } in
-      let p = one first (count + spare) at in
-      let summed = sum_by-set (λ (n : ℕ). n) all.counts k p.count 0 counted in
-      let pays = p.is in
-      let paid = all.paid in
+      let p = one first (get_or all.counts k 0 + spare) found.at in
       record {
         counts = set all.counts k p.count;
         room = λ e. let room = all.room e in let same = set_length conns k conn in omega (arith, room, same, sets);
@@ -142,8 +162,8 @@ module _ {C L N : Type 0} (M : Meaning) (stands : C → Past → Type 0) (sees :
               subst P (sym e) (same_place behind firsts conns new all.counts k p.count first conn within counted has p.so f x) hf hx)
           | inr ne ↦ other_place left behind old new all.counts k p.count place f x ne (turned (suc place) (λ e. ne (not_suc place k e))) (others (suc place) (λ e. ne (not_suc place k e))) (all.each place f x hf (set_past conns k place conn x ne hx))
         ];
-        paid = omega (arith, summed, pays, paid);
-        fresh = fresh first (count + spare) at;
+        paid = paid_on all.counts k p.count spare next budget counted p.is all.paid;
+        fresh = fresh first (get_or all.counts k 0 + spare) found.at;
       }
     where
       not_suc : (a b : ℕ) → suc a ≡ suc b → a ≡ b

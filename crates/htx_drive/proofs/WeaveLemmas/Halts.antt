@@ -1,10 +1,8 @@
 -- Behind a fault of one move each connection may be left.
-use Rattle.std.proofs.Common.{◌≡◌, ◌≢◌, ℕ, suc, ◌+◌, ◌<◌, List, length, Option, Some, None, refl, sym, subst, ◌∙◌, inl, inr, arith, Bool}
+use Rattle.std.proofs.Common.{◌≡◌, ◌≢◌, ℕ, suc, ◌+◌, ◌<◌, List, length, Option, Some, None, sym, subst, ◌∙◌, inl, inr, Bool}
 use Rattle.std.specs.Prelude.{get_or, set, slice_get, Result}
 use Rattle.std.proofs.lemmas.Bool.{cases_eq}
 use Rattle.std.proofs.lemmas.List.{get_or-set_same, get_or-set_other}
-use Rattle.std.proofs.lemmas.List.Sums.{sum_by-set}
-use Rattle.std.proofs.lemmas.Option.{slice_get-get_or, slice_get_within}
 use Rattle.session_model.specs.Meaning.{Meaning}
 use Rattle.session_core.specs.History.{Past}
 use Rattle.px_link.specs.declared.turns.Turn.{Turn}
@@ -21,7 +19,7 @@ use Rattle.htx_drive.specs.Weave.All.{AllMay, AtPlace, AllAt}
 use Rattle.htx_drive.specs.Weave.Halted.{Halted, AllHalted, IsLent, AllLent}
 use Rattle.htx_drive.specs.declared.weave.conn.Conn.{Conn}
 use Rattle.htx_drive.proofs.WeaveLemmas.Seating.{as_lent}
-use Rattle.htx_drive.proofs.WeaveLemmas.All.{some_is, set_at, set_length, set_past}
+use Rattle.htx_drive.proofs.WeaveLemmas.All.{some_is, set_at, set_length, set_past, finds, paid_on}
 use Rattle.htx_drive.proofs.WeaveLemmas.Halting.{halts}
 
 module _ {C L N : Type 0} (M : Meaning) (stands : C → Past → Type 0) (sees : C → CoreSeen) (sound : C → Type 0) (seen : L → Seen) (wrote : L → List ℕ → Type 0) (sees_net : N → NetSeen) (to : Place) (prompt : Bool) (turns : List (ℕ × Turn)) where
@@ -51,28 +49,19 @@ module _ {C L N : Type 0} (M : Meaning) (stands : C → Past → Type 0) (sees :
   halts_all : (left : List (ℕ × Turn)) (firsts conns : List (Conn L N)) (old : Seats C) (budget spare next k : ℕ) (was conn : Conn L N) → slice_get conns k ≡ Some was → Halts left old spare next (suc k) was conn
       → AllAt M stands sees sound seen wrote sees_net to prompt turns left firsts conns old budget spare → AllHalted M stands sees seen wrote sees_net to turns firsts (set conns k conn) budget next
   halts_all left firsts conns old budget spare next k was conn is one all =
-      let within : k < length conns = slice_get_within conns k was is in
-      let as_many : length firsts ≡ length conns = all.as_many in
+      let found = finds M stands sees sound seen wrote sees_net to prompt turns left firsts conns old budget spare k was is all in
       let as_counted : length all.counts ≡ length conns = all.counted in
-      let counted : k < length all.counts = omega (arith, within, as_counted) in
-      let first : Conn L N = get_or firsts k was in
-      let has : slice_get firsts k ≡ Some first = slice_get-get_or firsts k was (omega (arith, within, as_many)) in
-      let count : ℕ = get_or all.counts k 0 in
-      let at : Pays (count + spare) spare (AtPlace M stands sees sound seen wrote sees_net to prompt turns left first was old (suc k)) = record { count = count; is = refl; so = all.each k first was has is } in
-      let p = one first (count + spare) at in
-      let summed = sum_by-set (λ (n : ℕ). n) all.counts k p.count 0 counted in
-      let pays = p.is in
-      let paid = all.paid in
+      let p = one found.first (get_or all.counts k 0 + spare) found.at in
       record {
         counts = set all.counts k p.count;
         counted = set_length all.counts k p.count ∙ as_counted ∙ sym (set_length conns k conn);
         each = λ place f x hf hx. elim (cases_eq place k) [
           | inl e ↦ (
               let P : ℕ → Type 0 = λ n. slice_get firsts n ≡ Some f → slice_get (set conns k conn) n ≡ Some x → MayLeave f x (suc n) (get_or (set all.counts k p.count) n 0) in
-              subst P (sym e) (same_place firsts conns all.counts k p.count first conn within counted has p.so f x) hf hx)
+              subst P (sym e) (same_place firsts conns all.counts k p.count found.first conn found.within found.counted found.has p.so f x) hf hx)
           | inr ne ↦ other_place left old all.counts k p.count place f x ne (all.each place f x hf (set_past conns k place conn x ne hx))
         ];
-        paid = omega (arith, summed, pays, paid);
+        paid = paid_on all.counts k p.count spare next budget found.counted p.is all.paid;
       }
 
   -- of the connection of this number

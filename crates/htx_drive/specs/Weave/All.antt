@@ -61,3 +61,9 @@ pub record AllAt {C L N : Type 0} (M : Meaning) (stands : C → Past → Type 0)
   pub each : (place : ℕ) (first conn : Conn L N) → slice_get firsts place ≡ Some first → slice_get conns place ≡ Some conn → AtPlace M stands sees sound seen wrote sees_net to prompt turns left first conn pool (suc place) (get_or counts place 0)
   pub paid : sum_by (λ (n : ℕ). n) counts + spare ≡ budget
   pub fresh : AllByRecursion (IsFresh stands) (free_of pool)
+
+-- from their places to their places, whatever the list of turns and the budget that they began with
+abbrev pub LeadsAll : {S C L N : Type 0} → (meaning : S → Meaning) → (stands : S → C → Past → Type 0) → (sees : C → CoreSeen) → (sound : C → Type 0) → (seen : L → Seen) → (wrote : L → List ℕ → Type 0) → (sees_net : N → NetSeen) → Place → (left behind : List (ℕ × Turn)) → (old new : List (Conn L N)) → (old_pool new_pool : Seats C) → (before after : ℕ) → Type 0
+LeadsAll {S = S} {L = L} {N = N} meaning stands sees sound seen wrote sees_net to left behind old new old_pool new_pool before after =
+    (cfg : S) (prompt : Bool) (turns : List (ℕ × Turn)) (firsts : List (Conn L N)) (budget : ℕ) → AllAt (meaning cfg) (stands cfg) sees sound seen wrote sees_net to prompt turns left firsts old old_pool budget before
+    → AllAt (meaning cfg) (stands cfg) sees sound seen wrote sees_net to prompt turns behind firsts new new_pool budget after

@@ -1,11 +1,12 @@
 -- A connection behind a fault, before it is left.
-use Rattle.std.specs.Prelude.{◌≡◌, ℕ, ◌+◌, ◌<◌, ◌⊎◌, suc, List, length, get_or, slice_get, drop, true, false, is_some, Option, Some, None, Result}
+use Rattle.std.specs.Prelude.{◌≡◌, ℕ, ◌+◌, ◌<◌, ◌⊎◌, suc, List, length, get_or, slice_get, drop, true, false, is_some, Bool, Option, Some, None, Result}
 use Rattle.std.specs.List.{sum_by}
 use Rattle.session_model.specs.Meaning.{Meaning}
 use Rattle.session_core.specs.History.{Past}
 use Rattle.px_link.specs.declared.turns.Turn.{Turn}
 use Rattle.px_link.specs.Link.{Seen}
 use Rattle.px_link.specs.Net.{Place, NetSeen}
+use Rattle.px_pool.specs.Seats.{Seats}
 use Rattle.htx_drive.specs.Machine.{CoreSeen}
 use Rattle.htx_drive.specs.Replay.Memory.{turns_of}
 use Rattle.htx_drive.specs.Underway.{Stopped, LeftSo}
@@ -13,6 +14,7 @@ use Rattle.htx_drive.specs.declared.Ran.{Ran}
 use Rattle.htx_drive.specs.declared.SessionFault.{SessionFault}
 use Rattle.htx_drive.specs.Weave.Woven.{Going}
 use Rattle.htx_drive.specs.Weave.State.{Done}
+use Rattle.htx_drive.specs.Weave.All.{AllAt}
 use Rattle.htx_drive.specs.declared.weave.conn.Conn.{Conn}
 
 -- nothing of it was touched
@@ -51,6 +53,12 @@ pub record AllHalted {C L N : Type 0} (M : Meaning) (stands : C → Past → Typ
   pub each : (place : ℕ) (first conn : Conn L N) → slice_get firsts place ≡ Some first → slice_get conns place ≡ Some conn
       → Halted M stands sees (turns_of (suc place) turns) seen wrote first.client conn.client conn.server to (sees_net first.net) (sees_net conn.net) conn.ran (get_or counts place 0)
   pub paid : sum_by (λ (n : ℕ). n) counts + spare ≡ budget
+
+-- from their places to there
+abbrev pub HaltsAll : {S C L N : Type 0} → (meaning : S → Meaning) → (stands : S → C → Past → Type 0) → (sees : C → CoreSeen) → (sound : C → Type 0) → (seen : L → Seen) → (wrote : L → List ℕ → Type 0) → (sees_net : N → NetSeen) → Place → (left : List (ℕ × Turn)) → (old new : List (Conn L N)) → (old_pool : Seats C) → (before after : ℕ) → Type 0
+HaltsAll {S = S} {L = L} {N = N} meaning stands sees sound seen wrote sees_net to left old new old_pool before after =
+    (cfg : S) (prompt : Bool) (turns : List (ℕ × Turn)) (firsts : List (Conn L N)) (budget : ℕ) → AllAt (meaning cfg) (stands cfg) sees sound seen wrote sees_net to prompt turns left firsts old old_pool budget before
+    → AllHalted (meaning cfg) (stands cfg) sees seen wrote sees_net to turns firsts new budget after
 
 -- of a server's link that is open, its net knows that it was lent
 abbrev pub IsLent : {L : Type 0} → (server : Option L) → (lent : ℕ) → Type 0

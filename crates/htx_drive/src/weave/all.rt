@@ -5,8 +5,8 @@ ghost use Rattle.px_link.specs.declared.turns.Turn.{Turn};
 ghost use Rattle.px_link.specs.Turns.{rest_of};
 ghost use Rattle.px_pool.specs.Seats.{count_sets};
 ghost use Rattle.htx_drive.specs.Weave.Rounds.{RestedAt, AllMovedOn};
-ghost use Rattle.htx_drive.specs.Weave.All.{IsNext, AreWithin, MayGoOn, AllAt};
-ghost use Rattle.htx_drive.specs.Weave.Halted.{AllHalted, AllLent};
+ghost use Rattle.htx_drive.specs.Weave.All.{IsNext, AreWithin, MayGoOn, LeadsAll};
+ghost use Rattle.htx_drive.specs.Weave.Halted.{HaltsAll, AllLent};
 ghost use Rattle.htx_drive.specs.declared.weave.conn.Conn.{Conn};
 
 use crate::resources::Resources;
@@ -33,12 +33,8 @@ pub(crate) fn move_at<C: Resets, L: Link, N: Net<Link = L>>(
     ensures may { OnOk result (MayGoOn C.seen C.sound N.seen pool.new conns.new) }
     ensures length { length conns.new ≡ length conns.old }
     ensures sets { count_sets pool.new ≡ count_sets pool.old }
-    ensures at { (cfg : C.Settings) (prompt : Bool) (turns left : List (ℕ × Turn)) (firsts : List (Conn L N)) (budget : ℕ) → IsNext number turn left
-        → AllAt (C.meaning cfg) (C.stands cfg) C.seen C.sound L.seen L.wrote N.seen (address_of to.now) prompt turns left firsts conns.old pool.old budget resources.old.left
-        → OnOk result (AllAt (C.meaning cfg) (C.stands cfg) C.seen C.sound L.seen L.wrote N.seen (address_of to.now) prompt turns (rest_of left) firsts conns.new pool.new budget resources.new.left) }
-    ensures halted { (cfg : C.Settings) (prompt : Bool) (turns left : List (ℕ × Turn)) (firsts : List (Conn L N)) (budget : ℕ) → IsNext number turn left
-        → AllAt (C.meaning cfg) (C.stands cfg) C.seen C.sound L.seen L.wrote N.seen (address_of to.now) prompt turns left firsts conns.old pool.old budget resources.old.left
-        → OnErr result (AllHalted (C.meaning cfg) (C.stands cfg) C.seen L.seen L.wrote N.seen (address_of to.now) turns firsts conns.new budget resources.new.left) }
+    ensures at { (left : List (ℕ × Turn)) → IsNext number turn left → OnOk result (LeadsAll C.meaning C.stands C.seen C.sound L.seen L.wrote N.seen (address_of to.now) left (rest_of left) conns.old conns.new pool.old pool.new resources.old.left resources.new.left) }
+    ensures halted { (left : List (ℕ × Turn)) → IsNext number turn left → OnErr result (HaltsAll C.meaning C.stands C.seen C.sound L.seen L.wrote N.seen (address_of to.now) left conns.old conns.new pool.old resources.old.left resources.new.left) }
     ensures spent { IsErrOf result WeaveFault.Spent → resources.new.left ≡ 0 }
     ensures lent { OnErr result (AllLent N.seen conns.new) }
     ensures lowers { turn ≡ None → OnOk result (AllMovedOn conns.old conns.new resources.old.left resources.new.left ⊎ RestedAt (number - 1) pool.old pool.new conns.old conns.new resources.old.left resources.new.left) }
@@ -66,12 +62,8 @@ pub(crate) fn by_list<C: Resets, L: Link, N: Net<Link = L>, W: Weft>(
     ensures may { OnOk result (MayGoOn C.seen C.sound N.seen pool.new conns.new) }
     ensures length { length conns.new ≡ length conns.old }
     ensures sets { count_sets pool.new ≡ count_sets pool.old }
-    ensures at { (cfg : C.Settings) (prompt : Bool) (turns : List (ℕ × Turn)) (firsts : List (Conn L N)) (budget : ℕ)
-        → AllAt (C.meaning cfg) (C.stands cfg) C.seen C.sound L.seen L.wrote N.seen (address_of to.now) prompt turns (W.left weft.old) firsts conns.old pool.old budget resources.old.left
-        → OnOk result (AllAt (C.meaning cfg) (C.stands cfg) C.seen C.sound L.seen L.wrote N.seen (address_of to.now) prompt turns [] firsts conns.new pool.new budget resources.new.left) }
-    ensures halted { (cfg : C.Settings) (prompt : Bool) (turns : List (ℕ × Turn)) (firsts : List (Conn L N)) (budget : ℕ)
-        → AllAt (C.meaning cfg) (C.stands cfg) C.seen C.sound L.seen L.wrote N.seen (address_of to.now) prompt turns (W.left weft.old) firsts conns.old pool.old budget resources.old.left
-        → OnErr result (AllHalted (C.meaning cfg) (C.stands cfg) C.seen L.seen L.wrote N.seen (address_of to.now) turns firsts conns.new budget resources.new.left) }
+    ensures at { OnOk result (LeadsAll C.meaning C.stands C.seen C.sound L.seen L.wrote N.seen (address_of to.now) (W.left weft.old) [] conns.old conns.new pool.old pool.new resources.old.left resources.new.left) }
+    ensures halted { OnErr result (HaltsAll C.meaning C.stands C.seen C.sound L.seen L.wrote N.seen (address_of to.now) (W.left weft.old) conns.old conns.new pool.old resources.old.left resources.new.left) }
     ensures spent { IsErrOf result WeaveFault.Spent → resources.new.left ≡ 0 }
     ensures lent { OnErr result (AllLent N.seen conns.new) }
 {

@@ -4,8 +4,8 @@ ghost use Rattle.px_link.specs.Net.{address_of};
 ghost use Rattle.px_link.specs.declared.turns.Turn.{Turn};
 ghost use Rattle.px_pool.specs.Seats.{count_sets};
 ghost use Rattle.htx_drive.specs.Weave.Rounds.{unended};
-ghost use Rattle.htx_drive.specs.Weave.All.{MayGoOn, AllAt};
-ghost use Rattle.htx_drive.specs.Weave.Halted.{AllHalted, AllLent};
+ghost use Rattle.htx_drive.specs.Weave.All.{MayGoOn, LeadsAll};
+ghost use Rattle.htx_drive.specs.Weave.Halted.{HaltsAll, AllLent};
 ghost use Rattle.htx_drive.specs.declared.weave.conn.Conn.{Conn};
 
 use crate::resources::Resources;
@@ -42,12 +42,8 @@ fn round<C: Resets, L: Link, N: Net<Link = L>>(
     ensures may { OnOk result (MayGoOn C.seen C.sound N.seen pool.new conns.new) }
     ensures length { length conns.new ≡ length conns.old }
     ensures sets { count_sets pool.new ≡ count_sets pool.old }
-    ensures at { (cfg : C.Settings) (prompt : Bool) (turns : List (ℕ × Turn)) (firsts : List (Conn L N)) (budget : ℕ)
-        → AllAt (C.meaning cfg) (C.stands cfg) C.seen C.sound L.seen L.wrote N.seen (address_of to.now) prompt turns [] firsts conns.old pool.old budget resources.old.left
-        → OnOk result (AllAt (C.meaning cfg) (C.stands cfg) C.seen C.sound L.seen L.wrote N.seen (address_of to.now) prompt turns [] firsts conns.new pool.new budget resources.new.left) }
-    ensures halted { (cfg : C.Settings) (prompt : Bool) (turns : List (ℕ × Turn)) (firsts : List (Conn L N)) (budget : ℕ)
-        → AllAt (C.meaning cfg) (C.stands cfg) C.seen C.sound L.seen L.wrote N.seen (address_of to.now) prompt turns [] firsts conns.old pool.old budget resources.old.left
-        → OnErr result (AllHalted (C.meaning cfg) (C.stands cfg) C.seen L.seen L.wrote N.seen (address_of to.now) turns firsts conns.new budget resources.new.left) }
+    ensures at { OnOk result (LeadsAll C.meaning C.stands C.seen C.sound L.seen L.wrote N.seen (address_of to.now) [] [] conns.old conns.new pool.old pool.new resources.old.left resources.new.left) }
+    ensures halted { OnErr result (HaltsAll C.meaning C.stands C.seen C.sound L.seen L.wrote N.seen (address_of to.now) [] conns.old conns.new pool.old resources.old.left resources.new.left) }
     ensures spent { IsErrOf result WeaveFault.Spent → resources.new.left ≡ 0 }
     ensures lent { OnErr result (AllLent N.seen conns.new) }
     ensures lowers { 0 < unended conns.old → OnOk result (resources.new.left + unended conns.new < resources.old.left + unended conns.old) }
@@ -75,12 +71,8 @@ pub(crate) fn by_rounds<C: Resets, L: Link, N: Net<Link = L>>(
     ensures length { length conns.new ≡ length conns.old }
     ensures sets { count_sets pool.new ≡ count_sets pool.old }
     ensures ended { OnOk result (unended conns.new ≡ 0) }
-    ensures at { (cfg : C.Settings) (prompt : Bool) (turns : List (ℕ × Turn)) (firsts : List (Conn L N)) (budget : ℕ)
-        → AllAt (C.meaning cfg) (C.stands cfg) C.seen C.sound L.seen L.wrote N.seen (address_of to.now) prompt turns [] firsts conns.old pool.old budget resources.old.left
-        → OnOk result (AllAt (C.meaning cfg) (C.stands cfg) C.seen C.sound L.seen L.wrote N.seen (address_of to.now) prompt turns [] firsts conns.new pool.new budget resources.new.left) }
-    ensures halted { (cfg : C.Settings) (prompt : Bool) (turns : List (ℕ × Turn)) (firsts : List (Conn L N)) (budget : ℕ)
-        → AllAt (C.meaning cfg) (C.stands cfg) C.seen C.sound L.seen L.wrote N.seen (address_of to.now) prompt turns [] firsts conns.old pool.old budget resources.old.left
-        → OnErr result (AllHalted (C.meaning cfg) (C.stands cfg) C.seen L.seen L.wrote N.seen (address_of to.now) turns firsts conns.new budget resources.new.left) }
+    ensures at { OnOk result (LeadsAll C.meaning C.stands C.seen C.sound L.seen L.wrote N.seen (address_of to.now) [] [] conns.old conns.new pool.old pool.new resources.old.left resources.new.left) }
+    ensures halted { OnErr result (HaltsAll C.meaning C.stands C.seen C.sound L.seen L.wrote N.seen (address_of to.now) [] conns.old conns.new pool.old resources.old.left resources.new.left) }
     ensures spent { IsErrOf result WeaveFault.Spent → resources.new.left ≡ 0 }
     ensures lent { OnErr result (AllLent N.seen conns.new) }
 {

@@ -6,8 +6,8 @@ ghost use Rattle.px_pool.specs.Owners.{count_out};
 ghost use Rattle.px_pool.specs.Seats.{free_of, count_sets};
 ghost use Rattle.htx_drive.specs.Weave.State.{IsReady, IsFresh};
 ghost use Rattle.htx_drive.specs.Weave.Rounds.{unended};
-ghost use Rattle.htx_drive.specs.Weave.All.{AreWithin, MayGoOn, AllAt};
-ghost use Rattle.htx_drive.specs.Weave.Halted.{AllHalted, AllLent};
+ghost use Rattle.htx_drive.specs.Weave.All.{AreWithin, MayGoOn, LeadsAll};
+ghost use Rattle.htx_drive.specs.Weave.Halted.{HaltsAll, AllLent};
 ghost use Rattle.htx_drive.specs.Weave.Outcome.{AreNew, AllEnded, AllEndedAtOnce, AllLeft};
 ghost use Rattle.htx_drive.specs.declared.weave.conn.Conn.{Conn};
 
@@ -37,12 +37,8 @@ fn to_their_ends<C: Resets, L: Link, N: Net<Link = L>, W: Weft>(
     ensures length { length conns.new ≡ length conns.old }
     ensures sets { count_sets pool.new ≡ count_sets pool.old }
     ensures ended { OnOk result (unended conns.new ≡ 0) }
-    ensures at { (cfg : C.Settings) (prompt : Bool) (firsts : List (Conn L N)) (budget : ℕ)
-        → AllAt (C.meaning cfg) (C.stands cfg) C.seen C.sound L.seen L.wrote N.seen (address_of to.now) prompt (W.left turns.old) (W.left turns.old) firsts conns.old pool.old budget resources.old.left
-        → OnOk result (AllAt (C.meaning cfg) (C.stands cfg) C.seen C.sound L.seen L.wrote N.seen (address_of to.now) prompt (W.left turns.old) [] firsts conns.new pool.new budget resources.new.left) }
-    ensures halted { (cfg : C.Settings) (prompt : Bool) (firsts : List (Conn L N)) (budget : ℕ)
-        → AllAt (C.meaning cfg) (C.stands cfg) C.seen C.sound L.seen L.wrote N.seen (address_of to.now) prompt (W.left turns.old) (W.left turns.old) firsts conns.old pool.old budget resources.old.left
-        → OnErr result (AllHalted (C.meaning cfg) (C.stands cfg) C.seen L.seen L.wrote N.seen (address_of to.now) (W.left turns.old) firsts conns.new budget resources.new.left) }
+    ensures at { OnOk result (LeadsAll C.meaning C.stands C.seen C.sound L.seen L.wrote N.seen (address_of to.now) (W.left turns.old) [] conns.old conns.new pool.old pool.new resources.old.left resources.new.left) }
+    ensures halted { OnErr result (HaltsAll C.meaning C.stands C.seen C.sound L.seen L.wrote N.seen (address_of to.now) (W.left turns.old) conns.old conns.new pool.old resources.old.left resources.new.left) }
     ensures spent { IsErrOf result WeaveFault.Spent → resources.new.left ≡ 0 }
     ensures lent { OnErr result (AllLent N.seen conns.new) }
 {

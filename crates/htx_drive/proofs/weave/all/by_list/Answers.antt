@@ -22,11 +22,11 @@ turns-preserved g c =
       sets = c.in-Ok.ensures.sets ∙ c.turns.invariant.sets;
       at = λ cfg prompt turns firsts budget all.
           subst (λ (l : List (ℕ × Turn)). AllAt (g.C.Machine.meaning cfg) (g.C.Machine.stands cfg) g.C.Machine.seen g.C.Machine.sound g.L.Link.seen g.L.Link.wrote g.N.Net.seen (address_of c.args.to.now) prompt turns l firsts c.move_at.new.conns c.move_at.new.pool budget c.move_at.new.resources.left) (sym c.next.ensures.rest)
-          (c.in-Ok.ensures.at cfg prompt turns left firsts budget (rest_of left, head_is left _ some) (c.turns.invariant.at cfg prompt turns firsts budget all));
+          (c.in-Ok.ensures.at left (rest_of left, head_is left _ some) cfg prompt turns firsts budget (c.turns.invariant.at cfg prompt turns firsts budget all));
     }
 
 pub returns-in-Err-clause-halted : goal.returns-in-Err-clause-halted
 returns-in-Err-clause-halted g c = λ cfg prompt turns firsts budget all.
     let left : List (ℕ × Turn) = g.W.Weft.left c.turns.weft in
     let some : first_of left ≡ Some (c.in-Some.number, c.in-Some.turn) = search rules in
-    c.in-Err.ensures.halted cfg prompt turns left firsts budget (rest_of left, head_is left _ some) (c.turns.invariant.at cfg prompt turns firsts budget all)
+    c.in-Err.ensures.halted left (rest_of left, head_is left _ some) cfg prompt turns firsts budget (c.turns.invariant.at cfg prompt turns firsts budget all)

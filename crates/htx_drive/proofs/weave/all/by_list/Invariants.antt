@@ -1,9 +1,7 @@
-use Rattle.std.proofs.Common.{◌≡◌, ℕ, List, length, Bool}
+use Rattle.std.proofs.Common.{◌≡◌, length}
 use Rattle.px_link.specs.Net.{address_of}
-use Rattle.px_link.specs.declared.turns.Turn.{Turn}
 use Rattle.px_pool.specs.Seats.{count_sets}
-use Rattle.htx_drive.specs.Weave.All.{AreWithin, MayGoOn, AllAt}
-use Rattle.htx_drive.specs.declared.weave.conn.Conn.{Conn}
+use Rattle.htx_drive.specs.Weave.All.{AreWithin, MayGoOn, LeadsAll}
 use Rattle.htx_drive.proofs.weave.all.by_list.Given as goal
 
 abbrev pub invariant-turns : goal.invariant-turns
@@ -13,9 +11,7 @@ invariant-turns g l =
       may : MayGoOn g.C.Machine.seen g.C.Machine.sound g.N.Net.seen l.pool l.conns;
       len : length l.conns ≡ length l.initial.conns;
       sets : count_sets l.pool ≡ count_sets l.initial.pool;
-      at : (cfg : g.row.C-Settings.Denot) (prompt : Bool) (turns : List (ℕ × Turn)) (firsts : List (Conn g.row.L.Denot g.row.N.Denot)) (budget : ℕ)
-          → AllAt (g.C.Machine.meaning cfg) (g.C.Machine.stands cfg) g.C.Machine.seen g.C.Machine.sound g.L.Link.seen g.L.Link.wrote g.N.Net.seen (address_of l.to) prompt turns (g.W.Weft.left l.initial.weft) firsts l.initial.conns l.initial.pool budget l.initial.resources.left
-          → AllAt (g.C.Machine.meaning cfg) (g.C.Machine.stands cfg) g.C.Machine.seen g.C.Machine.sound g.L.Link.seen g.L.Link.wrote g.N.Net.seen (address_of l.to) prompt turns (g.W.Weft.left l.weft) firsts l.conns l.pool budget l.resources.left;
+      at : LeadsAll g.C.Machine.meaning g.C.Machine.stands g.C.Machine.seen g.C.Machine.sound g.L.Link.seen g.L.Link.wrote g.N.Net.seen (address_of l.to) (g.W.Weft.left l.initial.weft) (g.W.Weft.left l.weft) l.initial.conns l.conns l.initial.pool l.pool l.initial.resources.left l.resources.left;
     }
 
 abbrev pub decreases-turns : goal.decreases-turns

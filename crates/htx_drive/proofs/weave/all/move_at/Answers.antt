@@ -43,7 +43,7 @@ returns-clause-may g c =
     })
 
 pub returns-clause-at : goal.returns-clause-at
-returns-clause-at g c = λ cfg prompt turns left firsts budget next all.
+returns-clause-at g c = λ left next.
     let k : ℕ = c.args.number - 1 in
     let was : Conn g.row.L.Denot g.row.N.Denot = slice_index_or c.args.conns.now k c.index-conns-number.result in
     let conn : Conn g.row.L.Denot g.row.N.Denot = c.move_of.new.conn in
@@ -51,7 +51,7 @@ returns-clause-at g c = λ cfg prompt turns left firsts budget next all.
     let within = c.requires.within in
     let is : slice_get c.args.conns.now k ≡ Some was = slice_get-get_or c.args.conns.now k c.index-conns-number.result (omega (arith, some, within)) in
     let first_turn = next_first c.args.number c.args.turn left next in
-    on_ok_at c.move_of.result _ (λ a ok.
+    on_ok_at c.move_of.result _ (λ a ok cfg prompt turns firsts budget all.
     moves_at (g.C.Machine.meaning cfg) (g.C.Machine.stands cfg) g.C.Machine.seen g.C.Machine.sound g.L.Link.seen g.L.Link.wrote g.N.Net.seen (address_of c.args.to.now) prompt turns left (rest_of left) firsts c.args.conns.now c.args.pool.now c.move_of.new.pool budget c.args.resources.now.left c.move_of.new.resources.left
     c.args.number k was conn (of_number c.args.number some) is c.move_of.ensures.beside.sets
     (λ first total p.
@@ -63,14 +63,14 @@ returns-clause-at g c = λ cfg prompt turns left firsts budget next all.
     all)
 
 pub returns-clause-halted : goal.returns-clause-halted
-returns-clause-halted g c = λ cfg prompt turns left firsts budget next all.
+returns-clause-halted g c = λ left next.
     let k : ℕ = c.args.number - 1 in
     let was : Conn g.row.L.Denot g.row.N.Denot = slice_index_or c.args.conns.now k c.index-conns-number.result in
     let some = c.requires.some in
     let within = c.requires.within in
     let is : slice_get c.args.conns.now k ≡ Some was = slice_get-get_or c.args.conns.now k c.index-conns-number.result (omega (arith, some, within)) in
     let first_turn = next_first c.args.number c.args.turn left next in
-    on_err_at c.move_of.result _ (λ fault err.
+    on_err_at c.move_of.result _ (λ fault err cfg prompt turns firsts budget all.
     halts_at (g.C.Machine.meaning cfg) (g.C.Machine.stands cfg) g.C.Machine.seen g.C.Machine.sound g.L.Link.seen g.L.Link.wrote g.N.Net.seen (address_of c.args.to.now) prompt turns left firsts c.args.conns.now c.args.pool.now budget c.args.resources.now.left c.move_of.new.resources.left c.args.number k was c.move_of.new.conn
     (of_number c.args.number some) is
     (λ first total p. of_on_err c.move_of.result _ fault err (c.move_of.ensures.halted cfg prompt (turns_of c.args.number turns) (turns_of c.args.number left) total first.client first.net first_turn all.fresh p))

@@ -15,7 +15,7 @@ returns-in-Ok-clause-ended g c = λ cfg fresh.
     let turns = g.W.Weft.left c.args.turns.now in
     let begin = all_begin (g.C.Machine.meaning cfg) (g.C.Machine.stands cfg) g.C.Machine.seen g.C.Machine.sound g.L.Link.seen g.L.Link.wrote g.N.Net.seen (address_of c.args.to.now) false turns c.args.pool.now c.args.conns.now c.args.budget (λ e. absurd (false≢true e)) c.requires.unused c.requires.new fresh in
     all_done (g.C.Machine.meaning cfg) (g.C.Machine.stands cfg) g.C.Machine.seen g.C.Machine.sound g.L.Link.seen g.L.Link.wrote g.N.Net.seen (address_of c.args.to.now) false turns [] c.args.conns.now c.to_their_ends.new.conns c.to_their_ends.new.pool c.args.budget c.to_their_ends.new.resources.left c.in-Ok.ensures.ended
-    (c.in-Ok.ensures.at cfg false c.args.conns.now c.args.budget begin)
+    (c.in-Ok.ensures.at cfg false turns c.args.conns.now c.args.budget begin)
 
 pub returns-in-Ok-clause-out : goal.returns-in-Ok-clause-out
 returns-in-Ok-clause-out g c = all_back c.to_their_ends.new.pool.owners c.to_their_ends.new.conns c.in-Ok.ensures.ended c.in-Ok.ensures.may.seated
@@ -24,13 +24,13 @@ pub returns-in-Ok-clause-fresh : goal.returns-in-Ok-clause-fresh
 returns-in-Ok-clause-fresh g c = λ cfg fresh.
     let turns = g.W.Weft.left c.args.turns.now in
     let begin = all_begin (g.C.Machine.meaning cfg) (g.C.Machine.stands cfg) g.C.Machine.seen g.C.Machine.sound g.L.Link.seen g.L.Link.wrote g.N.Net.seen (address_of c.args.to.now) false turns c.args.pool.now c.args.conns.now c.args.budget (λ e. absurd (false≢true e)) c.requires.unused c.requires.new fresh in
-    (c.in-Ok.ensures.at cfg false c.args.conns.now c.args.budget begin).fresh
+    (c.in-Ok.ensures.at cfg false turns c.args.conns.now c.args.budget begin).fresh
 
 pub returns-in-Err-clause-given_up : goal.returns-in-Err-clause-given_up
 returns-in-Err-clause-given_up g c = λ cfg fresh.
     let turns = g.W.Weft.left c.args.turns.now in
     let begin = all_begin (g.C.Machine.meaning cfg) (g.C.Machine.stands cfg) g.C.Machine.seen g.C.Machine.sound g.L.Link.seen g.L.Link.wrote g.N.Net.seen (address_of c.args.to.now) false turns c.args.pool.now c.args.conns.now c.args.budget (λ e. absurd (false≢true e)) c.requires.unused c.requires.new fresh in
-    c.leave_all.ensures.left cfg turns c.args.conns.now (address_of c.args.to.now) c.args.budget c.to_their_ends.new.resources.left c.in-Err.fault (λ e. c.in-Err.ensures.spent (ap (λ f. Err f) e)) (c.in-Err.ensures.halted cfg false c.args.conns.now c.args.budget begin)
+    c.leave_all.ensures.left cfg turns c.args.conns.now (address_of c.args.to.now) c.args.budget c.to_their_ends.new.resources.left c.in-Err.fault (λ e. c.in-Err.ensures.spent (ap (λ f. Err f) e)) (c.in-Err.ensures.halted cfg false turns c.args.conns.now c.args.budget begin)
 
 pub returns-in-Ok-clause-at_once : goal.returns-in-Ok-clause-at_once
 returns-in-Ok-clause-at_once g c = λ cfg fresh room.
@@ -38,4 +38,4 @@ returns-in-Ok-clause-at_once g c = λ cfg fresh room.
     let most = free_most c.args.pool.now.owners c.args.pool.now.cores in
     let begin = all_begin (g.C.Machine.meaning cfg) (g.C.Machine.stands cfg) g.C.Machine.seen g.C.Machine.sound g.L.Link.seen g.L.Link.wrote g.N.Net.seen (address_of c.args.to.now) true turns c.args.pool.now c.args.conns.now c.args.budget (λ e. omega (arith, room, most)) c.requires.unused c.requires.new fresh in
     all_at_once (g.C.Machine.meaning cfg) (g.C.Machine.stands cfg) g.C.Machine.seen g.C.Machine.sound g.L.Link.seen g.L.Link.wrote g.N.Net.seen (address_of c.args.to.now) true turns [] c.args.conns.now c.to_their_ends.new.conns c.to_their_ends.new.pool c.args.budget c.to_their_ends.new.resources.left refl c.in-Ok.ensures.ended
-    (c.in-Ok.ensures.at cfg true c.args.conns.now c.args.budget begin)
+    (c.in-Ok.ensures.at cfg true turns c.args.conns.now c.args.budget begin)
