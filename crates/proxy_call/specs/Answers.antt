@@ -1,5 +1,5 @@
 -- What a command is answered: which text is written with which status, by the words and the files.
-use Rattle.std.specs.Prelude.{◌≡◌, ℕ, ◌+◌, List, ◌⊎◌, ⊤, length, Option, None, Ok, Err}
+use Rattle.std.specs.Prelude.{◌≡◌, ℕ, ◌+◌, ◌≤◌, List, ◌⊎◌, ⊤, length, Option, None, Ok, Err}
 use Rattle.px_link.specs.Told.{NamedBytes, GainsFront, Rose}
 use Rattle.http_rules.specs.declared.config.Config.{Config}
 use Rattle.cfg_parse.specs.Whole.{config_of}
@@ -52,11 +52,16 @@ abbrev pub IsReportOf : Option (List NamedBytes) → (cfg_name rec_name text : L
 IsReportOf files cfg_name rec_name text =
     (cfg : Config) × (rec : Recorded) × IfTold files (λ fs. Say fs cfg_name rec_name cfg rec) × IsReplayOf (meaning_of cfg) (stands_for cfg) seen_of rec text
 
--- the text is the report of the record, always in the second format, by what the configuration makes of its connections over cores that they share, each by its own
--- turns behind those that found none
-abbrev pub IsWovenReportOf : Option (List NamedBytes) → (cfg_name rec_name text : List ℕ) → Type 0
-IsWovenReportOf files cfg_name rec_name text =
-    (cfg : Config) × (rec : Recorded) × IfTold files (λ fs. Say fs cfg_name rec_name cfg rec) × IsWeaveOf (meaning_of cfg) (stands_for cfg) seen_of rec text
+-- The text is the report of a record, always in the second format, by what the configuration makes of its connections over so many cores that they share, each by its
+-- own turns behind those that found none. With a core for each connection none waits: it is the report of `replay` in that format.
+pub record IsWoven (cfg : Config) (cores : ℕ) (rec : Recorded) (text : List ℕ) : Type 0 where
+  pub woven : IsWeaveOf (meaning_of cfg) (stands_for cfg) seen_of rec text
+  pub at_once : length rec.connections ≤ cores → IsReplayOf (meaning_of cfg) (stands_for cfg) seen_of (record rec { version = 2 }) text
+
+-- the text is such a report of the record, by what the configuration makes of its connections
+abbrev pub IsWovenReportOf : Option (List NamedBytes) → (cfg_name rec_name : List ℕ) → (cores : ℕ) → (text : List ℕ) → Type 0
+IsWovenReportOf files cfg_name rec_name cores text =
+    (cfg : Config) × (rec : Recorded) × IfTold files (λ fs. Say fs cfg_name rec_name cfg rec) × IsWoven cfg cores rec text
 
 -- the text is the lines of the generated session, by what its own configuration makes of it
 abbrev pub IsDrilled : (seed exchanges : ℕ) → (text : List ℕ) → Type 0
@@ -83,7 +88,7 @@ IsGood words files text =
     ((cfg_name : List ℕ) × IsCheck words cfg_name × IsCheckOf files cfg_name text)
     ⊎ (((rec_name : List ℕ) × IsCheckRecord words rec_name × IsRewritten files rec_name text)
     ⊎ (((cfg_name : List ℕ) × (rec_name : List ℕ) × IsReplay words cfg_name rec_name × IsReportOf files cfg_name rec_name text)
-    ⊎ (((cfg_name : List ℕ) × (rec_name : List ℕ) × (cores : ℕ) × IsWeave words cfg_name rec_name cores × IsWovenReportOf files cfg_name rec_name text)
+    ⊎ (((cfg_name : List ℕ) × (rec_name : List ℕ) × (cores : ℕ) × IsWeave words cfg_name rec_name cores × IsWovenReportOf files cfg_name rec_name cores text)
     ⊎ (((seed : ℕ) × (exchanges : ℕ) × IsDrill words seed exchanges × IsDrilled seed exchanges text)
     ⊎ (AsksText words × EndsLine text)))))
 

@@ -1,5 +1,5 @@
 //! The sessions of a record, and a generated one.
-ghost use Rattle.std.specs.Prelude.{◌<◌, ◌≤◌, vec_len, IfOk};
+ghost use Rattle.std.specs.Prelude.{◌<◌, ◌≤◌, length, vec_len, IfOk};
 ghost use Rattle.http_rules.specs.Valid.{IsValid};
 ghost use Rattle.forward_core.specs.Meaning.Product.{meaning_of};
 ghost use Rattle.rec_format.specs.Numbered.{IsNumbered};
@@ -42,8 +42,8 @@ pub fn replay_report(
     replay_text(alloc, &cores, &config.server, recorded)
 }
 
-/// The report of a record, always in the second format: its connections run over so many cores that they share, interleaved by the record's turns. Want of
-/// memory is the only error.
+/// The report of a record, always in the second format: its connections run over so many cores that they share, interleaved by the record's turns. With a core
+/// for each connection it is that of `replay_report` in this format. Want of memory is the only error.
 pub fn weave_report(
     alloc: Global,
     config: &Config,
@@ -53,7 +53,8 @@ pub fn weave_report(
     requires valid { IsValid config.now }
     requires some { 0 < sets }
     requires numbered { IsNumbered (read.meaning_of recorded.now) }
-    ensures { IfOk result (IsWeaveOf (meaning_of config.now) (stands_for config.now) seen_of (read.meaning_of recorded.now)) }
+    ensures woven { IfOk result (IsWeaveOf (meaning_of config.now) (stands_for config.now) seen_of (read.meaning_of recorded.now)) }
+    ensures at_once { length (read.meaning_of recorded.now).connections ≤ sets → IfOk result (IsReplayOf (meaning_of config.now) (stands_for config.now) seen_of (record (read.meaning_of recorded.now) { version = 2 })) }
 {
     bounded();
     total();

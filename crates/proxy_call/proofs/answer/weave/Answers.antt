@@ -14,6 +14,6 @@ returns-in_err-said g c =
 
 pub returns : goal.returns
 returns g c = λ words is. (
-  inr (inr (inr (inl (c.args.cfg_name.now, c.args.rec_name.now, c.args.cores, is, (c.in_ok-said.said.config, meaning_of c.in_ok-said.said.record, c.in_ok-said.ensures.say, c.in_ok-weave_report.ensures))))),
+  inr (inr (inr (inl (c.args.cfg_name.now, c.args.rec_name.now, c.args.cores, is, (c.in_ok-said.said.config, meaning_of c.in_ok-said.said.record, c.in_ok-said.ensures.say, record { woven = c.in_ok-weave_report.ensures.woven; at_once = c.in_ok-weave_report.ensures.at_once }))))),
   c.in_ok-said.ensures.built,
 )
