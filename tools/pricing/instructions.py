@@ -47,6 +47,23 @@ def in_memory(exchanges, size, name):
     return collected(said, run.returncode)
 
 
+def recorded(command, connections, size, name):
+    """The instructions of this command (its words behind the record are `command[1:]`) over a record of so many connections with one exchange each."""
+    client, server = REQUEST, answer(size)
+    with open(f"{work}/m.cfg", "w") as it:
+        it.write(configuration(8080, 8081))
+    with open(f"{work}/m.rec", "wb") as it:
+        it.write(b"PXREC 2\nconnections %d\n" % connections)
+        for _ in range(connections):
+            it.write(b"client %d closed\n" % len(client) + client + b"\n")
+            it.write(b"server %d closed all\n" % len(server) + server + b"\n")
+        it.write(b"turns 0\nend\n")
+    run = counted([command[0], f"{work}/m.cfg", f"{work}/m.rec", *command[1:]], name)
+    said = run.communicate()[1].decode()
+    keep(name)
+    return collected(said, run.returncode)
+
+
 def served(connections, requests, size, name):
     """The instructions of a `serve` of so many connections with so many requests each."""
     front, back = free_port(), free_port()
@@ -69,3 +86,9 @@ for size in (2, 204800):
     one, hundred = served(1, 1, size, f"one-{size}"), served(1, 101, size, f"hundred-{size}")
     short, long = in_memory(10, size, f"short-{size}"), in_memory(110, size, f"long-{size}")
     print(f"{size:6} {(many - few) // 10:20,} {(hundred - one) // 100:24,} {(long - short) // 100:15,}")
+
+print("a record of 64 connections with one exchange each, in all")
+for size in (2, 204800):
+    alone = recorded(["replay"], 64, size, f"replay-64-{size}")
+    shared = [(k, recorded(["weave", str(k)], 64, size, f"weave-64-{k}-{size}")) for k in (1, 8, 64)]
+    print(f"{size:6} replay {alone:,}" + "".join(f", weave over {k} {it:,} ({it / alone:.2f})" for k, it in shared))
