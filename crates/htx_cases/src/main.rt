@@ -3,12 +3,10 @@
 //! starts itself twice, with the words of a role.
 #![tactic(auto)]
 
-mod loopback;
-mod session;
-
-use crate::loopback::{play_role, run_both};
-use crate::session::{session_made, windows_made, woven_made};
 use case_rows::{Fault, Row, Score, decoded};
+use case_sessions::session::session_made;
+use case_sessions::windows::windows_made;
+use px_loop::visit::{play_role, run_both};
 use std::alloc::{AllocError, Global};
 use std::process::{ExitCode, id};
 use std::rt::Files;
@@ -56,11 +54,19 @@ fn made_of_rules(alloc: Global, kind: &str, row: Row<'_>) -> Option<Result<Vec<u
     }
 }
 
+/// What a row of the program comes to.
+fn made_of_program(alloc: Global, kind: &str, row: Row<'_>) -> Option<Result<Vec<u8>, Fault>> {
+    match case_sessions::session::made(alloc, kind, row) {
+        Some(made) => Some(made),
+        None => case_sessions::served::made(alloc, kind, row),
+    }
+}
+
 /// What a row of conditions, of rules or of the program comes to.
 fn made_of_runs(alloc: Global, kind: &str, row: Row<'_>) -> Option<Result<Vec<u8>, Fault>> {
     match made_of_rules(alloc, kind, row) {
         Some(made) => Some(made),
-        None => session::made(alloc, kind, row),
+        None => made_of_program(alloc, kind, row),
     }
 }
 
@@ -134,7 +140,6 @@ fn bytes_in<R: Files + AllocGlobal>(
 fn made_of_files(alloc: Global, ending: &str, cfg: &[u8], rec: &[u8]) -> Result<Vec<u8>, Fault> {
     match ending {
         "windows" => windows_made(alloc, cfg, rec),
-        "woven" => woven_made(alloc, cfg, rec),
         _ => session_made(alloc, ending, cfg, rec),
     }
 }

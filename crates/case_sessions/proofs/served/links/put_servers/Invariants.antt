@@ -1,0 +1,7 @@
+use Rattle.std.proofs.Common.{◌≡◌, true}
+use Rattle.std.specs.List.{list_all}
+use Rattle.px_link.specs.MemLink.{is_unused_or_none}
+use Rattle.case_sessions.proofs.served.links.put_servers.Given as goal
+
+abbrev pub invariant-loop-entry : goal.invariant-loop-entry
+invariant-loop-entry l = list_all is_unused_or_none l.links.items ≡ true

@@ -1,0 +1,6 @@
+//! Rows that are sessions: of files, of clients over a net whose calls fail, and at other windows.
+#![tactic(auto)]
+
+pub mod served;
+pub mod session;
+pub mod windows;

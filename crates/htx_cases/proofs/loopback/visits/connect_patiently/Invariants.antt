@@ -1,5 +1,0 @@
-use Rattle.std.proofs.Common.{◌≡◌}
-use Rattle.htx_cases.proofs.loopback.visits.connect_patiently.Given as goal
-
-abbrev pub invariant-loop : goal.invariant-loop
-invariant-loop g l = (g.N.Net.seen l.net).lent ≡ (g.N.Net.seen l.initial.net).lent
