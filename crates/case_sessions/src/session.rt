@@ -3,7 +3,9 @@
 mod facts;
 mod records;
 mod sessions;
+mod weaves;
 
 pub use facts::facts_of;
 pub use records::record_in;
 pub use sessions::{made, session_made};
+pub use weaves::woven_made;

@@ -4,7 +4,7 @@
 #![tactic(auto)]
 
 use case_rows::{Fault, Row, Score, decoded};
-use case_sessions::session::session_made;
+use case_sessions::session::{session_made, woven_made};
 use case_sessions::windows::windows_made;
 use px_loop::visit::{play_role, run_both};
 use std::alloc::{AllocError, Global};
@@ -140,6 +140,7 @@ fn bytes_in<R: Files + AllocGlobal>(
 fn made_of_files(alloc: Global, ending: &str, cfg: &[u8], rec: &[u8]) -> Result<Vec<u8>, Fault> {
     match ending {
         "windows" => windows_made(alloc, cfg, rec),
+        "woven" => woven_made(alloc, cfg, rec),
         _ => session_made(alloc, ending, cfg, rec),
     }
 }

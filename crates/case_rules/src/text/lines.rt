@@ -1,9 +1,9 @@
 //! Words of lines, and configurations.
-use case_rows::{Answers, Fault, Row, decoded};
+use case_rows::{Answers, Fault, Row, decoded, place_of};
 use cfg_lex::{LineFault, Words, words_of_line};
 use cfg_parse::{CfgFault, load};
 use http_rules::Config;
-use px_pattern::RealPatterns;
+use px_pattern::{FakePatterns, Patterns, RealPatterns};
 use std::alloc::Global;
 
 /// Says each word of a line, in brackets.
@@ -60,11 +60,10 @@ fn say_config(config: &Config, answers: &mut Answers) {
     );
 }
 
-/// NAME, the text of a configuration, and what it comes to: what the configuration has, or the refused line and its kind.
-pub fn configured(alloc: Global, row: Row<'_>) -> Result<Vec<u8>, Fault> {
-    let text = decoded(alloc, row.field(1).as_bytes())?;
+/// What the text of a configuration comes to, by a builder of patterns.
+fn loaded<P: Patterns>(alloc: Global, text: &[u8], pats: &mut P) -> Result<Vec<u8>, Fault> {
     let mut answers = Answers::new(alloc);
-    match load(alloc, &text, &mut RealPatterns::new()) {
+    match load(alloc, text, pats) {
         Ok(config) => say_config(&config, &mut answers),
         Err(CfgFault::Refused { line, kind }) => {
             answers.count(u64::from(line));
@@ -74,4 +73,17 @@ pub fn configured(alloc: Global, row: Row<'_>) -> Result<Vec<u8>, Fault> {
         Err(CfgFault::OutOfMemory) => return Err(Fault::OutOfMemory),
     }
     answers.into_text()
+}
+
+/// NAME, the text of a configuration, and what it comes to: what the configuration has, or the refused line and its kind.
+pub fn configured(alloc: Global, row: Row<'_>) -> Result<Vec<u8>, Fault> {
+    let text = decoded(alloc, row.field(1).as_bytes())?;
+    loaded(alloc, &text, &mut RealPatterns::new())
+}
+
+/// NAME, the number of the build that is refused, counted from 1, or 0 where none is, the text of a configuration, and what it comes to.
+pub fn configured_refusing(alloc: Global, row: Row<'_>) -> Result<Vec<u8>, Fault> {
+    let refused = place_of(row.field(1).as_bytes())?;
+    let text = decoded(alloc, row.field(2).as_bytes())?;
+    loaded(alloc, &text, &mut FakePatterns::new(refused))
 }

@@ -9,14 +9,14 @@ use std::alloc::Global;
 
 /// How the program ended, and what it wrote.
 #[derive(Drop)]
-struct Reply {
-    status: Status,
-    out: MemSink,
+pub(crate) struct Reply {
+    pub(crate) status: Status,
+    pub(crate) out: MemSink,
 }
 
 /// What the program does with words over the files `c` and `r`, and a net to which no client comes. Its output fails at the writes
 /// of these numbers.
-fn reply_to(
+pub(crate) fn reply_to(
     alloc: Global,
     words: &str,
     cfg: &[u8],
