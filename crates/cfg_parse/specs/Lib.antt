@@ -10,4 +10,5 @@ pub mod Rules
 pub mod Lines
 pub mod Sound
 pub mod Whole
+pub mod Judged
 pub mod Action
