@@ -11,4 +11,5 @@ pub mod Lines
 pub mod Sound
 pub mod Whole
 pub mod Judged
+pub mod Meanings
 pub mod Action
