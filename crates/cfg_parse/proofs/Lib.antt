@@ -2,6 +2,8 @@ mod ListLemmas
 mod SizeLemmas
 mod LineLemmas
 mod TextLemmas
+mod JudgedLemmas
+mod JudgingLemmas
 mod SoundLemmas
 mod LineReadings
 mod StepLemmas

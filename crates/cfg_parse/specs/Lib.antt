@@ -10,4 +10,6 @@ pub mod Rules
 pub mod Lines
 pub mod Sound
 pub mod Whole
+pub mod Judged
+pub mod Meanings
 pub mod Action

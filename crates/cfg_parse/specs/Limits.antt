@@ -25,6 +25,10 @@ most_needle = 256
 abbrev pub most_digits : ℕ
 most_digits = 18
 
+-- the most refused lines that are kept
+abbrev pub most_kept : ℕ
+most_kept = 100
+
 -- the size of the buffer where no line gives it
 abbrev pub default_bufsize : ℕ
 default_bufsize = 16384

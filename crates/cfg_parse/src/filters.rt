@@ -1,5 +1,5 @@
 //! The lines of `filter`: which body is changed, and how.
-ghost use Rattle.std.specs.Prelude.{◌≡◌, ◌≤◌, length, IfOk};
+ghost use Rattle.std.specs.Prelude.{◌≡◌, ◌≤◌, length, IfOk, OnErr};
 ghost use Rattle.std.specs.List.{list_any};
 ghost use Rattle.body_filter.specs.Valid.{IsFilter};
 ghost use Rattle.cfg_parse.specs.Limits.{most_needle};
@@ -172,7 +172,8 @@ fn has_replace(filters: &Filters) -> bool
 /// One more filter of a direction.
 #[tactic(auto, unfolding(crate::specs::Filters::with_filter))]
 fn add_filter(filters: &mut Filters, filter: FilterSpec) -> Result<(), LineRefusal>
-    ensures { Leaves result filters.new (with_filter filters.old filter) }
+    ensures leaves { Leaves result filters.new (with_filter filters.old filter) }
+    ensures unchanged { OnErr result (filters.new ≡ filters.old) }
 {
     if filters.len() >= MAX_FILTERS || is_replace(&filter) && has_replace(filters) {
         drop(filter);
@@ -184,7 +185,8 @@ fn add_filter(filters: &mut Filters, filter: FilterSpec) -> Result<(), LineRefus
 
 /// One more filter of this direction.
 fn add_directed(draft: &mut Draft, side: Side, filter: FilterSpec) -> Result<(), LineRefusal>
-    ensures { Leaves result draft.new (filter_added draft.old side filter) }
+    ensures leaves { Leaves result draft.new (filter_added draft.old side filter) }
+    ensures unchanged { OnErr result (draft.new ≡ draft.old) }
 {
     match side {
         Side::Request => add_filter(&mut draft.req_filters, filter),
@@ -199,7 +201,8 @@ pub fn set_filter(
     draft: &mut Draft,
     arguments: Arguments<'_>,
 ) -> Result<(), LineRefusal>
-    ensures { Leaves result draft.new (filter_setting draft.old arguments.entry) }
+    ensures leaves { Leaves result draft.new (filter_setting draft.old arguments.entry) }
+    ensures unchanged { OnErr result (draft.new ≡ draft.old) }
 {
     let (side, filter) = filter_line(alloc, arguments)?;
     add_directed(draft, side, filter)

@@ -21,6 +21,9 @@ pub const MAX_DIGITS: u32 = 18;
 /// What a received head may take at least.
 pub const MIN_HEAD: u32 = 512;
 
+/// The most refused lines that are kept of a text.
+pub const MAX_KEPT: u32 = 100;
+
 /// The size of the buffer where no line gives it.
 pub const DEFAULT_BUFSIZE: u32 = 16384;
 

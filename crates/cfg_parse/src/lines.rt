@@ -1,6 +1,6 @@
 //! A line of a text, by its words.
 
-ghost use Rattle.std.specs.Prelude.{◌≡◌, OnOk};
+ghost use Rattle.std.specs.Prelude.{◌≡◌, OnOk, OnErr};
 ghost use Rattle.cfg_parse.specs.Asking.{ReadsLine};
 ghost use Rattle.cfg_parse.specs.Draft.{is_before, belongs};
 ghost use Rattle.cfg_parse.specs.Sound.{IsSound};
@@ -52,6 +52,7 @@ fn read_setting<P: Patterns>(
 ) -> Result<(), LineRefusal>
     ensures reads { ReadsLine (λ nothing. draft.new) (setting_line draft.old setting arguments.entry) (P.refusals pats.old) (P.refusals pats.new) (P.last_refused pats.new) result }
     ensures sound { IsSound draft.old → OnOk result (IsSound draft.new) }
+    ensures unchanged { OnErr result (draft.new ≡ draft.old) }
 {
     match setting {
         Setting::Bufsize => set_bufsize(draft, arguments),
@@ -82,6 +83,7 @@ fn read_known<P: Patterns>(
 ) -> Result<(), LineRefusal>
     ensures reads { ReadsLine (λ nothing. draft.new) (known_line draft.old setting places arguments.entry) (P.refusals pats.old) (P.refusals pats.new) (P.last_refused pats.new) result }
     ensures sound { IsSound draft.old → OnOk result (IsSound draft.new) }
+    ensures unchanged { OnErr result (draft.new ≡ draft.old) }
 {
     if is_before(draft.section) {
         return Err(LineRefusal::Refused(CfgKind::Section));
@@ -102,6 +104,7 @@ fn read_words<P: Patterns>(
 ) -> Result<(), LineRefusal>
     ensures reads { ReadsLine (λ nothing. draft.new) (words_line draft.old arguments.entry) (P.refusals pats.old) (P.refusals pats.new) (P.last_refused pats.new) result }
     ensures sound { IsSound draft.old → OnOk result (IsSound draft.new) }
+    ensures unchanged { OnErr result (draft.new ≡ draft.old) }
 {
     let Some(first) = arguments.next() else {
         return Ok(());
@@ -128,6 +131,7 @@ pub fn read_line<P: Patterns>(
 ) -> Result<(), LineRefusal>
     ensures reads { ReadsLine (λ nothing. draft.new) (line_of draft.old line.now) (P.refusals pats.old) (P.refusals pats.new) (P.last_refused pats.new) result }
     ensures sound { IsSound draft.old → OnOk result (IsSound draft.new) }
+    ensures unchanged { OnErr result (draft.new ≡ draft.old) }
 {
     let words = words_of_line(alloc, line)?;
     read_words(alloc, draft, Arguments::of(&words), pats)

@@ -1,6 +1,6 @@
 //! The lines of `acl`, `http-request`, `http-response` and `http-after-response`.
 
-ghost use Rattle.std.specs.Prelude.{◌≡◌, ◌-◌, ◌^◌, min, length, IfOk, OnOk};
+ghost use Rattle.std.specs.Prelude.{◌≡◌, ◌-◌, ◌^◌, min, length, IfOk, OnOk, OnErr};
 ghost use Rattle.cfg_parse.specs.Reading.{Leaves};
 ghost use Rattle.http_rules.specs.Rule.Valid.{IsGoodRule};
 ghost use Rattle.cfg_parse.specs.Action.Rules.{rule_of};
@@ -53,18 +53,20 @@ fn has_room(draft: &Draft, direction: Direction, cond: &Option<Cond>) -> bool
 /// One more rule of a direction.
 #[tactic(auto, unfolding(crate::specs::Rules::rule_added, crate::specs::Rules::has_room))]
 fn add_rule(draft: &mut Draft, direction: Direction, rule: Rule) -> Result<(), LineRefusal>
-    ensures { Leaves result draft.new (rule_added draft.old direction rule) }
+    ensures leaves { Leaves result draft.new (rule_added draft.old direction rule) }
+    ensures unchanged { OnErr result (draft.new ≡ draft.old) }
 {
     if !has_room(draft, direction, &rule.cond) {
         drop(rule);
         return Err(LineRefusal::Refused(CfgKind::Limit));
     }
-    draft.tests += tests_of(&rule.cond);
+    let tests = tests_of(&rule.cond);
     match direction {
         Direction::Request => draft.request.push(rule)?,
         Direction::Response => draft.response.push(rule)?,
         Direction::After => draft.after.push(rule)?,
     }
+    draft.tests += tests;
     Ok(())
 }
 
@@ -97,6 +99,7 @@ pub fn read_rule_line<P: Patterns>(
 ) -> Result<(), LineRefusal>
     ensures reads { ReadsLine (λ nothing. draft.new) (rule_line draft.old direction arguments.entry) (P.refusals pats.old) (P.refusals pats.new) (P.last_refused pats.new) result }
     ensures sound { IsSound draft.old → OnOk result (IsSound draft.new) }
+    ensures unchanged { OnErr result (draft.new ≡ draft.old) }
 {
     let rule = match rule_of_words(alloc, direction, &draft.acls, arguments, pats) {
         Ok(rule) => rule,
@@ -115,6 +118,7 @@ pub fn read_acl_line<P: Patterns>(
 ) -> Result<(), LineRefusal>
     ensures reads { ReadsLine (λ nothing. draft.new) (acl_setting draft.old arguments.entry) (P.refusals pats.old) (P.refusals pats.new) (P.last_refused pats.new) result }
     ensures sound { IsSound draft.old → OnOk result (IsSound draft.new) }
+    ensures unchanged { OnErr result (draft.new ≡ draft.old) }
 {
     match read_acl(alloc, arguments.left(), &mut draft.acls, pats) {
         Ok(()) => Ok(()),

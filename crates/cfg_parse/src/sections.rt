@@ -1,4 +1,5 @@
 //! The lines that begin a section: `global`, `defaults`, and one `listen`; any other is refused as a section.
+ghost use Rattle.std.specs.Prelude.{◌≡◌, OnErr};
 ghost use Rattle.cfg_parse.specs.Reading.{Leaves};
 ghost use Rattle.cfg_parse.specs.Settings.{section_line};
 
@@ -14,7 +15,8 @@ pub fn begin_section(
     word: SectionWord,
     arguments: Arguments<'_>,
 ) -> Result<(), LineRefusal>
-    ensures { Leaves result draft.new (section_line draft.old word arguments.entry) }
+    ensures leaves { Leaves result draft.new (section_line draft.old word arguments.entry) }
+    ensures unchanged { OnErr result (draft.new ≡ draft.old) }
 {
     match word {
         SectionWord::Global => {

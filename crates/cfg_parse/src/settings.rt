@@ -1,6 +1,6 @@
 //! The lines of a section, but for rules and filters.
 
-ghost use Rattle.std.specs.Prelude.{◌≡◌, Some, OnOk};
+ghost use Rattle.std.specs.Prelude.{◌≡◌, Some, OnOk, OnErr};
 ghost use Rattle.cfg_parse.specs.Reading.{Gives, Leaves, no_more};
 ghost use Rattle.cfg_parse.specs.Settings.{bufsize_line, maxrewrite_line, mode_line, timeout_line, bind_line, server_line};
 
@@ -18,7 +18,8 @@ use std::alloc::Global;
 
 #[tactic(auto, unfolding(crate::specs::Settings::bufsize_line))]
 pub fn set_bufsize(draft: &mut Draft, arguments: Arguments<'_>) -> Result<(), LineRefusal>
-    ensures { Leaves result draft.new (bufsize_line draft.old arguments.entry) }
+    ensures leaves { Leaves result draft.new (bufsize_line draft.old arguments.entry) }
+    ensures unchanged { OnErr result (draft.new ≡ draft.old) }
 {
     let (word, arguments) = arguments.argument()?;
     let size = size_of(word, MIN_BUFSIZE, MAX_BUFSIZE)?;
@@ -29,7 +30,8 @@ pub fn set_bufsize(draft: &mut Draft, arguments: Arguments<'_>) -> Result<(), Li
 
 #[tactic(auto, unfolding(crate::specs::Settings::maxrewrite_line))]
 pub fn set_maxrewrite(draft: &mut Draft, arguments: Arguments<'_>) -> Result<(), LineRefusal>
-    ensures { Leaves result draft.new (maxrewrite_line draft.old arguments.entry) }
+    ensures leaves { Leaves result draft.new (maxrewrite_line draft.old arguments.entry) }
+    ensures unchanged { OnErr result (draft.new ≡ draft.old) }
 {
     let (word, arguments) = arguments.argument()?;
     let size = number_up_to(word, MAX_BUFSIZE)?;
@@ -40,7 +42,8 @@ pub fn set_maxrewrite(draft: &mut Draft, arguments: Arguments<'_>) -> Result<(),
 
 #[tactic(auto, unfolding(crate::specs::Settings::mode_line))]
 pub fn read_mode(draft: &mut Draft, arguments: Arguments<'_>) -> Result<(), LineRefusal>
-    ensures { Leaves result draft.new (mode_line draft.old arguments.entry) }
+    ensures leaves { Leaves result draft.new (mode_line draft.old arguments.entry) }
+    ensures unchanged { OnErr result (draft.new ≡ draft.old) }
 {
     let (word, arguments) = arguments.argument()?;
     if !is_word(word, b"http") {
@@ -52,7 +55,8 @@ pub fn read_mode(draft: &mut Draft, arguments: Arguments<'_>) -> Result<(), Line
 
 #[tactic(auto, unfolding(crate::specs::Settings::timeout_line))]
 pub fn read_timeout(draft: &mut Draft, arguments: Arguments<'_>) -> Result<(), LineRefusal>
-    ensures { Leaves result draft.new (timeout_line draft.old arguments.entry) }
+    ensures leaves { Leaves result draft.new (timeout_line draft.old arguments.entry) }
+    ensures unchanged { OnErr result (draft.new ≡ draft.old) }
 {
     let (name, arguments) = arguments.argument()?;
     if !is_timeout_name(name) {
@@ -74,6 +78,7 @@ fn put_last(
 ) -> Result<(), LineRefusal>
     ensures last { Gives (λ nothing. nothing) result (no_more behind.entry) }
     ensures put { OnOk result (place.new ≡ Some address) }
+    ensures unchanged { OnErr result (place.new ≡ place.old) }
 {
     match behind.no_more() {
         Ok(()) => {
@@ -93,7 +98,8 @@ pub fn set_bind(
     draft: &mut Draft,
     arguments: Arguments<'_>,
 ) -> Result<(), LineRefusal>
-    ensures { Leaves result draft.new (bind_line draft.old arguments.entry) }
+    ensures leaves { Leaves result draft.new (bind_line draft.old arguments.entry) }
+    ensures unchanged { OnErr result (draft.new ≡ draft.old) }
 {
     if draft.bind.is_some() {
         return Err(LineRefusal::Refused(CfgKind::Argument));
@@ -109,7 +115,8 @@ pub fn set_server(
     draft: &mut Draft,
     arguments: Arguments<'_>,
 ) -> Result<(), LineRefusal>
-    ensures { Leaves result draft.new (server_line draft.old arguments.entry) }
+    ensures leaves { Leaves result draft.new (server_line draft.old arguments.entry) }
+    ensures unchanged { OnErr result (draft.new ≡ draft.old) }
 {
     if draft.server.is_some() {
         return Err(LineRefusal::Refused(CfgKind::Argument));
