@@ -10,6 +10,7 @@ pub fn made(alloc: Global, kind: &str, row: Row<'_>) -> Option<Result<Vec<u8>, F
         "lines" => Some(lines::words_in(alloc, row)),
         "configurations" => Some(lines::configured(alloc, row)),
         "refused_builds" => Some(lines::configured_refusing(alloc, row)),
+        "refused_lines" => Some(lines::judged(alloc, row)),
         "commands" => Some(commands::asked(alloc, row)),
         "help" => Some(commands::help_has(alloc, row)),
         "records" | "malformed_records" => Some(records::recorded(alloc, row)),

@@ -1,7 +1,7 @@
 //! Words of lines, and configurations.
 use case_rows::{Answers, Fault, Row, decoded, place_of};
 use cfg_lex::{LineFault, Words, words_of_line};
-use cfg_parse::{CfgFault, load};
+use cfg_parse::{CfgFault, RefusedLine, RefusedLines, Verdict, load, verdict_of};
 use http_rules::Config;
 use px_pattern::{FakePatterns, Patterns, RealPatterns};
 use std::alloc::Global;
@@ -86,4 +86,33 @@ pub fn configured_refusing(alloc: Global, row: Row<'_>) -> Result<Vec<u8>, Fault
     let refused = place_of(row.field(1).as_bytes())?;
     let text = decoded(alloc, row.field(2).as_bytes())?;
     loaded(alloc, &text, &mut FakePatterns::new(refused))
+}
+
+/// Says a refused line: its number, its kind, and its bytes in brackets.
+fn say_refused(line: &RefusedLine, answers: &mut Answers) {
+    answers.count(u64::from(line.line));
+    answers.more(b" ");
+    answers.more_name(&line.kind);
+    answers.bracket(line.text.as_slice());
+}
+
+/// Says the refused lines that are kept, and how many there are.
+fn say_all_refused(refused: &RefusedLines, answers: &mut Answers) {
+    for at in 0..refused.first.len() {
+        say_refused(refused.first.get(at), answers);
+    }
+    answers.count(u64::from(refused.count));
+    answers.more(b" refused");
+}
+
+/// NAME, the text of a configuration, and what it comes to: what the configuration has, or its refused lines.
+pub fn judged(alloc: Global, row: Row<'_>) -> Result<Vec<u8>, Fault> {
+    let text = decoded(alloc, row.field(1).as_bytes())?;
+    let mut answers = Answers::new(alloc);
+    match verdict_of(alloc, &text, &mut RealPatterns::new()) {
+        Ok(Verdict::Accepted(config)) => say_config(&config, &mut answers),
+        Ok(Verdict::Refused(refused)) => say_all_refused(&refused, &mut answers),
+        Err(_) => return Err(Fault::OutOfMemory),
+    }
+    answers.into_text()
 }
