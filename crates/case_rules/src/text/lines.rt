@@ -105,14 +105,28 @@ fn say_all_refused(refused: &RefusedLines, answers: &mut Answers) {
     answers.more(b" refused");
 }
 
+/// Says what the configuration of a text has, or its refused lines.
+fn say_verdict(verdict: &Verdict, answers: &mut Answers) {
+    match verdict {
+        Verdict::Accepted(config) => say_config(config, answers),
+        Verdict::Refused(refused) => say_all_refused(refused, answers),
+    }
+}
+
+/// The verdict on the text of a configuration.
+fn verdict_on(alloc: Global, text: &[u8]) -> Result<Verdict, Fault> {
+    match verdict_of(alloc, text, &mut RealPatterns::new()) {
+        Ok(verdict) => Ok(verdict),
+        Err(_) => Err(Fault::OutOfMemory),
+    }
+}
+
 /// NAME, the text of a configuration, and what it comes to: what the configuration has, or its refused lines.
 pub fn judged(alloc: Global, row: Row<'_>) -> Result<Vec<u8>, Fault> {
     let text = decoded(alloc, row.field(1).as_bytes())?;
+    let verdict = verdict_on(alloc, &text)?;
     let mut answers = Answers::new(alloc);
-    match verdict_of(alloc, &text, &mut RealPatterns::new()) {
-        Ok(Verdict::Accepted(config)) => say_config(&config, &mut answers),
-        Ok(Verdict::Refused(refused)) => say_all_refused(&refused, &mut answers),
-        Err(_) => return Err(Fault::OutOfMemory),
-    }
+    say_verdict(&verdict, &mut answers);
+    drop(verdict);
     answers.into_text()
 }
