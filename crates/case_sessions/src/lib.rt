@@ -1,6 +1,7 @@
 //! Rows that are sessions: of files, of clients over a net whose calls fail, and at other windows.
 #![tactic(auto)]
 
+pub mod interleaved;
 pub mod served;
 pub mod session;
 pub mod windows;

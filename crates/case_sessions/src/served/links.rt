@@ -26,7 +26,7 @@ fn link(
 }
 
 /// The link of a client, behind so many others.
-fn client(
+pub(crate) fn client(
     alloc: Global,
     conn: &Connection,
     failing: &Call<'_>,
@@ -69,7 +69,7 @@ fn clients(alloc: Global, conns: &[Connection], failing: &Call<'_>) -> Result<Ve
 }
 
 /// The links of the servers of one connection, behind others.
-fn put_servers(
+pub(crate) fn put_servers(
     alloc: Global,
     entries: &[Option<ServerSpec>],
     failing: &Call<'_>,

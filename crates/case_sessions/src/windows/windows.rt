@@ -71,7 +71,7 @@ fn turns_of(alloc: Global, piece: Option<u32>) -> Result<Vec<Turn>, Fault> {
 }
 
 /// The configuration of a file that is accepted.
-fn config_in(alloc: Global, text: &[u8]) -> Result<Config, Fault>
+pub(crate) fn config_in(alloc: Global, text: &[u8]) -> Result<Config, Fault>
     ensures valid { IfOk result IsValid }
 {
     let mut pats = RealPatterns::new();
