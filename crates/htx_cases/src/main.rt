@@ -54,11 +54,19 @@ fn made_of_rules(alloc: Global, kind: &str, row: Row<'_>) -> Option<Result<Vec<u
     }
 }
 
+/// What a row of connections over links and nets in memory comes to.
+fn made_of_links(alloc: Global, kind: &str, row: Row<'_>) -> Option<Result<Vec<u8>, Fault>> {
+    match case_sessions::served::made(alloc, kind, row) {
+        Some(made) => Some(made),
+        None => case_sessions::interleaved::made(alloc, kind, row),
+    }
+}
+
 /// What a row of the program comes to.
 fn made_of_program(alloc: Global, kind: &str, row: Row<'_>) -> Option<Result<Vec<u8>, Fault>> {
     match case_sessions::session::made(alloc, kind, row) {
         Some(made) => Some(made),
-        None => case_sessions::served::made(alloc, kind, row),
+        None => made_of_links(alloc, kind, row),
     }
 }
 
