@@ -7,7 +7,7 @@ use Rattle.clap.specs.declared.error.Error.{Error}
 use Rattle.clap.specs.declared.error.kind.ErrorKind.{ErrorKind}
 use Rattle.clap.specs.declared.error.kind.ErrorKind.TheVariants.{OutOfMemory}
 use Rattle.clap.proofs.OnLiterals.{clap_on_literals}
-use Rattle.px_command.specs.Command.{IsFileWord, IsCheck, IsCheckRecord, IsReplay, IsWeave, IsServe, IsDrill, AsksText, IsUsage}
+use Rattle.px_command.specs.Command.{IsFileWord, IsCheck, IsCheckAll, IsCheckRecord, IsReplay, IsWeave, IsServe, IsDrill, AsksText, IsUsage}
 use Rattle.px_command.specs.Parser.{IsRefused, parser}
 use Rattle.px_command.proofs.Accepted.{number_word}
 use Rattle.px_command.proofs.ThreeWords.{weave_passes}
@@ -18,6 +18,10 @@ module _ (x : ℕ) (a : List ℕ) (dash : (x == 45) ≡ false) where
   check_passes : fault_of parser (codes "check" ∷ (x ∷ a) ∷ []) ≡ []
   unfolding clap_on_literals
   check_passes = simp dash refl
+
+  check_all_passes : fault_of parser (codes "check" ∷ codes "--all" ∷ (x ∷ a) ∷ []) ≡ []
+  unfolding clap_on_literals
+  check_all_passes = simp dash refl
 
   check_record_passes : fault_of parser (codes "check" ∷ codes "--record" ∷ (x ∷ a) ∷ []) ≡ []
   unfolding clap_on_literals
@@ -41,9 +45,10 @@ module _ (x : ℕ) (a : List ℕ) (dash : (x == 45) ≡ false) where
 not_dash : (x : ℕ) → x ≢ 45 → (x == 45) ≡ false
 not_dash x differs = ne_eqb x 45 differs
 
-one_passes : (a : Text) → IsFileWord a → (fault_of parser (codes "check" ∷ a ∷ []) ≡ []) × (fault_of parser (codes "check" ∷ codes "--record" ∷ a ∷ []) ≡ [])
+one_passes : (a : Text) → IsFileWord a → (fault_of parser (codes "check" ∷ a ∷ []) ≡ []) × (fault_of parser (codes "check" ∷ codes "--all" ∷ a ∷ []) ≡ [])
+    × (fault_of parser (codes "check" ∷ codes "--record" ∷ a ∷ []) ≡ [])
 one_passes [] file = absurd file
-one_passes (x ∷ a) file = let p : (x == 45) ≡ false = not_dash x file in (check_passes x a p, check_record_passes x a p)
+one_passes (x ∷ a) file = let p : (x == 45) ≡ false = not_dash x file in (check_passes x a p, check_all_passes x a p, check_record_passes x a p)
 
 two_pass : (a b : Text) → IsFileWord a → IsFileWord b → (fault_of parser (codes "replay" ∷ a ∷ b ∷ []) ≡ [])
     × (fault_of parser (codes "serve" ∷ a ∷ b ∷ []) ≡ []) × (fault_of parser (codes "drill" ∷ a ∷ b ∷ []) ≡ [])
@@ -63,7 +68,10 @@ passes_check : (ws : List Text) (cfg : Text) → IsCheck ws cfg → fault_of par
 passes_check ws cfg is = ap (fault_of parser) is.0 ∙ (one_passes cfg is.1).0
 
 passes_check_record : (ws : List Text) (rec : Text) → IsCheckRecord ws rec → fault_of parser ws ≡ []
-passes_check_record ws rec is = ap (fault_of parser) is.0 ∙ (one_passes rec is.1).1
+passes_check_record ws rec is = ap (fault_of parser) is.0 ∙ (one_passes rec is.1).2
+
+passes_check_all : (ws : List Text) (cfg : Text) → IsCheckAll ws cfg → fault_of parser ws ≡ []
+passes_check_all ws cfg is = ap (fault_of parser) is.0 ∙ (one_passes cfg is.1).1
 
 passes_replay : (ws : List Text) (cfg rec : Text) → IsReplay ws cfg rec → fault_of parser ws ≡ []
 passes_replay ws cfg rec is = ap (fault_of parser) is.0 ∙ (two_pass cfg rec is.1 is.2).0
@@ -96,6 +104,7 @@ pub refused_usage : (ws : List Text) (e : Error) → IsRefused ws e → (kind_of
 refused_usage ws e refused other text =
     record {
       check = λ cfg is. only_memory ws e refused other (passes_check ws cfg is);
+      check_all = λ cfg is. only_memory ws e refused other (passes_check_all ws cfg is);
       check_record = λ rec is. only_memory ws e refused other (passes_check_record ws rec is);
       replay = λ cfg rec is. only_memory ws e refused other (passes_replay ws cfg rec is);
       weave = λ cfg rec cores is. only_memory ws e refused other (passes_weave ws cfg rec cores is);

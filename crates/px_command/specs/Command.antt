@@ -17,9 +17,17 @@ IsNumber least most word n = (decimal_of 10 word ≡ Some n) × (least ≤ n) ×
 abbrev pub IsCheck : List (List ℕ) → (cfg : List ℕ) → Type 0
 IsCheck words cfg = (words ≡ codes "check" ∷ cfg ∷ []) × IsFileWord cfg
 
+-- the words are `check`, this flag and this file
+abbrev pub IsFlagged : List (List ℕ) → (flag file : List ℕ) → Type 0
+IsFlagged words flag file = (words ≡ codes "check" ∷ flag ∷ file ∷ []) × IsFileWord file
+
+-- the words are `check --all CFG`
+abbrev pub IsCheckAll : List (List ℕ) → (cfg : List ℕ) → Type 0
+IsCheckAll words cfg = IsFlagged words (codes "--all") cfg
+
 -- the words are `check --record REC`
 abbrev pub IsCheckRecord : List (List ℕ) → (rec : List ℕ) → Type 0
-IsCheckRecord words rec = (words ≡ codes "check" ∷ codes "--record" ∷ rec ∷ []) × IsFileWord rec
+IsCheckRecord words rec = IsFlagged words (codes "--record") rec
 
 -- the words are `replay CFG REC`
 abbrev pub IsReplay : List (List ℕ) → (cfg rec : List ℕ) → Type 0
@@ -72,6 +80,7 @@ AsksText words = IsHelp words ⊎ (((command : CommandName) × IsHelpOf words co
 -- the words are none of the lists that the program takes
 pub record IsUsage (words : List (List ℕ)) : Type 0 where
   pub check : (cfg : List ℕ) → IsCheck words cfg → ⊥
+  pub check_all : (cfg : List ℕ) → IsCheckAll words cfg → ⊥
   pub check_record : (rec : List ℕ) → IsCheckRecord words rec → ⊥
   pub replay : (cfg rec : List ℕ) → IsReplay words cfg rec → ⊥
   pub weave : (cfg rec : List ℕ) (cores : ℕ) → IsWeave words cfg rec cores → ⊥
@@ -79,6 +88,10 @@ pub record IsUsage (words : List (List ℕ)) : Type 0 where
   pub drill : (seed exchanges : ℕ) → IsDrill words seed exchanges → ⊥
   pub text : AsksText words → ⊥
 
--- the configuration of a command is in the file of this name
+-- the configuration of a command that asks for its first refused line alone is in the file of this name
 abbrev pub NamesConfig : List (List ℕ) → List ℕ → Type 0
 NamesConfig words cfg = IsCheck words cfg ⊎ (((rec : List ℕ) × RunsRecord words cfg rec) ⊎ ((connections : ℕ) × IsServe words cfg connections))
+
+-- the configuration of a command, or that of `check --all`, is in the file of this name
+abbrev pub ReadsConfig : List (List ℕ) → List ℕ → Type 0
+ReadsConfig words cfg = NamesConfig words cfg ⊎ IsCheckAll words cfg

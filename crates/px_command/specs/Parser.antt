@@ -22,9 +22,9 @@ two_words name first second = with_rule (with_rule (new_app name) (word_rule fir
 abbrev pub weave_shape : App
 weave_shape = with_rule (two_words (codes "weave") (codes "CFG") (codes "REC")) (word_rule (codes "K"))
 
--- `check`, with a file and the flag that says that it is a record
+-- `check`, with a file, the flag that asks for each refused line, and the flag that says that it is a record
 abbrev pub check_shape : App
-check_shape = with_rule (with_rule (new_app (codes "check")) (flag_rule (codes "record"))) (word_rule (codes "FILE"))
+check_shape = with_rule (with_rule (with_rule (new_app (codes "check")) (flag_rule (codes "all"))) (flag_rule (codes "record"))) (word_rule (codes "FILE"))
 
 -- the program's own level: words stand without the program's name, and a command must be there
 abbrev pub top_level : App

@@ -5,8 +5,8 @@ ghost use Rattle.px_command.specs.Command.{AsksText};
 ghost use Rattle.px_command.specs.Parser.{IsRefused};
 
 use crate::lists::{
-    asks_help, asks_version, check_file, check_record_file, drill_numbers, help_command,
-    replay_files, serve_words, weave_words,
+    asks_help, asks_version, check_all_file, check_file, check_record_file, drill_numbers,
+    help_command, replay_files, serve_words, weave_words,
 };
 use crate::name::CommandName;
 use crate::parser::command;
@@ -22,6 +22,10 @@ use std::alloc::Global;
 pub enum Asked<'a> {
     /// `check CFG`.
     Check {
+        cfg: &'a str,
+    },
+    /// `check --all CFG`.
+    CheckAll {
         cfg: &'a str,
     },
     /// `check --record REC`.
@@ -70,6 +74,9 @@ fn taken<'a>(alloc: Global, words: &'a [String]) -> Result<Asked<'a>, OutOfMemor
 {
     if let Some(cfg) = check_file(words) {
         return Ok(Asked::Check { cfg });
+    }
+    if let Some(cfg) = check_all_file(words) {
+        return Ok(Asked::CheckAll { cfg });
     }
     if let Some(rec) = check_record_file(words) {
         return Ok(Asked::CheckRecord { rec });

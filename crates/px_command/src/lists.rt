@@ -1,6 +1,6 @@
 //! The lists of words that name a command, or a text of the program.
 ghost use Rattle.std.specs.Prelude.{◌↔◌, ℕ, List, map, IsTrue, IfSome, IfNone, string_bytes};
-ghost use Rattle.px_command.specs.Command.{IsCheck, IsCheckRecord, IsReplay, IsWeave, IsServe, IsDrill, IsHelp, IsHelpOf, IsVersion};
+ghost use Rattle.px_command.specs.Command.{IsFlagged, IsCheck, IsCheckAll, IsCheckRecord, IsReplay, IsWeave, IsServe, IsDrill, IsHelp, IsHelpOf, IsVersion};
 ghost use Rattle.px_command.specs.declared.name.CommandName.{CommandName as Named};
 
 use crate::name::CommandName;
@@ -18,19 +18,35 @@ pub fn check_file<'a>(words: &'a [String]) -> Option<&'a str>
     Some(cfg)
 }
 
+/// The file behind `check` and this flag.
+fn flagged_file<'a>(words: &'a [String], wanted: &str) -> Option<&'a str>
+    ensures some { IfSome result (λ file. IsFlagged (map string_bytes words.now) wanted.now file.now) }
+    ensures none { IfNone result ((file : List ℕ) → IsFlagged (map string_bytes words.now) wanted.now file → ⊥) }
+{
+    let (flag, file) = two_behind(words, "check")?;
+    if flag != wanted {
+        return None;
+    }
+    if !is_file_word(file) {
+        return None;
+    }
+    Some(file)
+}
+
+/// The file of `check --all CFG`.
+pub fn check_all_file<'a>(words: &'a [String]) -> Option<&'a str>
+    ensures some { IfSome result (λ cfg. IsCheckAll (map string_bytes words.now) cfg.now) }
+    ensures none { IfNone result ((cfg : List ℕ) → IsCheckAll (map string_bytes words.now) cfg → ⊥) }
+{
+    flagged_file(words, "--all")
+}
+
 /// The file of `check --record REC`.
 pub fn check_record_file<'a>(words: &'a [String]) -> Option<&'a str>
     ensures some { IfSome result (λ rec. IsCheckRecord (map string_bytes words.now) rec.now) }
     ensures none { IfNone result ((rec : List ℕ) → IsCheckRecord (map string_bytes words.now) rec → ⊥) }
 {
-    let (flag, rec) = two_behind(words, "check")?;
-    if flag != "--record" {
-        return None;
-    }
-    if !is_file_word(rec) {
-        return None;
-    }
-    Some(rec)
+    flagged_file(words, "--record")
 }
 
 /// The two files of `replay CFG REC`.

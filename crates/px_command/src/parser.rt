@@ -64,23 +64,28 @@ fn word_behind<'a>(
     one_argument(alloc, name, about, first)?.arg(word(alloc, second, help))
 }
 
-/// `check CFG` and `check --record REC`.
+/// `check CFG`, `check --all CFG` and `check --record REC`.
 pub fn check_command<'a>(alloc: Global) -> Result<Command<'a>, AllocError>
     ensures app { IfOk result (λ c. app_of c ≡ check_shape) }
     ensures local { IfOk result (λ c. (out-Command c).has_globals ≡ false) }
 {
-    word_behind(
+    let about = "Reads a configuration or a record, and says what it is or where it is refused";
+    let all = flag(
         alloc,
-        "check",
-        "Reads a configuration or a record, and says what it is or where it is refused",
-        flag(
-            alloc,
-            "record",
-            "The file is a record; writes it in the second format",
-        ),
+        "all",
+        "Writes each refused line of the configuration",
+    );
+    let record = flag(
+        alloc,
+        "record",
+        "The file is a record; writes it in the second format",
+    );
+    let flags = one_argument(alloc, "check", about, all)?.arg(record)?;
+    flags.arg(word(
+        alloc,
         "FILE",
         "The file of the configuration, or of the record behind --record",
-    )
+    ))
 }
 
 /// `replay CFG REC`.

@@ -27,7 +27,7 @@ standard output.
 Status:
   0  the command did what it was asked to
   1  the words are no command
-  2  the configuration is refused: `config: line L: KIND`
+  2  the configuration is refused: `config: line L: KIND`; of `check --all` each refused line
   3  the record is refused: `record: byte P: KIND`
   4  a file could not be read: `file: NAME`
   5  the output could not be written
@@ -38,7 +38,12 @@ Status:
 const CHECK: &[u8] = b"
 Examples:
   htx_proxy check site.cfg           writes `config ok: request rules 1, response rules 0, filters 0`
+  htx_proxy check --all site.cfg     writes each refused line of site.cfg, or what check writes where none is
   htx_proxy check --record site.rec  writes the record that site.rec holds, in its second format
+
+Behind --all a refused line is told by `FILE:LINE: KIND: TEXT`, and a second line says what is wrong and what stands there
+instead. A refused line is taken as blank. Line 0 is the file as a whole, has no TEXT, and comes last. 100 lines are
+written, and how many more there are.
 
 Refused in this order: the words (1), the file of the configuration (4), the configuration (2), the output (5); with
 --record the words (1), the file of the record (4), the record (3), the output (5).
@@ -241,6 +246,17 @@ fn wrong_text(alloc: Global, wrong: &Wrong<'_>) -> Result<Bytes, OutOfMemory>
     reason_and_help(alloc, reason.as_slice())
 }
 
+/// What is wrong with the flags of `check`.
+fn wrong_flag(words: &[String]) -> &'static [u8] {
+    if has_word(words, "--all") && has_word(words, "--record") {
+        return b"the argument '--all' cannot be used with '--record'";
+    }
+    if has_word(words, "--all") {
+        return b"the argument '--all' must stand in front of '<FILE>'";
+    }
+    b"the argument '--record' must stand in front of '<FILE>'"
+}
+
 /// What is wrong with words that `clap` took, and the lists don't.
 pub fn unlisted_text(alloc: Global, words: &[String]) -> Result<Bytes, OutOfMemory>
     ensures { IfOk result EndsLine }
@@ -250,9 +266,6 @@ pub fn unlisted_text(alloc: Global, words: &[String]) -> Result<Bytes, OutOfMemo
     }
     match wrong_word(words) {
         Some(wrong) => wrong_text(alloc, &wrong),
-        None => reason_and_help(
-            alloc,
-            b"the argument '--record' must stand in front of '<FILE>'",
-        ),
+        None => reason_and_help(alloc, wrong_flag(words)),
     }
 }

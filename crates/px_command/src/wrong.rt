@@ -89,7 +89,7 @@ fn wrong_of_two<'a>(command: &str, first: &'a str, second: &'a str) -> Option<Wr
         return wrong_drill(first, second);
     }
     if command == "check" {
-        return if first == "--record" {
+        return if first == "--record" || first == "--all" {
             wrong_file("FILE", second)
         } else {
             None
@@ -106,7 +106,10 @@ pub fn wrong_word(words: &[String]) -> Option<Wrong<'_>> {
     if let Some(file) = one_behind(words, "check") {
         return wrong_file("FILE", file);
     }
-    if let [_, cfg, rec, cores] = words {
+    if let [command, cfg, rec, cores] = words {
+        if command.as_str() == "check" {
+            return None;
+        }
         return wrong_weave(cfg.as_str(), rec.as_str(), cores.as_str());
     }
     let [command, first, second] = words else {

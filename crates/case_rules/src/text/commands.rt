@@ -19,6 +19,10 @@ fn say_asked(alloc: Global, asked: &Asked<'_>, answers: &mut Answers) -> Result<
             answers.say(b"check ");
             answers.bracket(cfg.as_bytes());
         }
+        Asked::CheckAll { cfg } => {
+            answers.say(b"check --all ");
+            answers.bracket(cfg.as_bytes());
+        }
         Asked::CheckRecord { rec } => {
             answers.say(b"check --record ");
             answers.bracket(rec.as_bytes());

@@ -4,6 +4,7 @@ pub returns : goal.returns
 returns c = (
   record {
     check = c.in_default.ensures.none;
+    check_all = c.in_default-check_all_file.ensures.none;
     check_record = c.in_default-check_record_file.ensures.none;
     replay = c.in_default-replay_files.ensures.none;
     weave = c.in_default-weave_words.ensures.none;
