@@ -4,19 +4,23 @@ use Rattle.std.specs.Prelude.{Option, Result, Ok, Err, IfErr, IsErrAnd}
 use Rattle.px_link.specs.Told.{NamedBytes, Reads, Rose}
 use Rattle.http_rules.specs.declared.config.Config.{Config}
 use Rattle.cfg_parse.specs.Whole.{Loads}
+use Rattle.cfg_parse.specs.Judged.{Judges, refused_of}
+use Rattle.cfg_parse.specs.declared.refused.RefusedLines.{RefusedLines}
+use Rattle.cfg_parse.specs.declared.refused.Verdict.{Verdict}
+use Rattle.cfg_parse.specs.declared.refused.Verdict.TheVariants.{Accepted, Refused}
 use Rattle.cfg_parse.specs.declared.fault.CfgFault.{CfgFault}
 use Rattle.cfg_parse.specs.declared.fault.CfgFault.TheVariants as configurations
 use Rattle.rec_format.specs.declared.record.RecFault.{RecFault}
 use Rattle.rec_format.specs.declared.record.RecFault.TheVariants as records
 use Rattle.rec_format.specs.Parts.{Refuses}
 use Rattle.rec_format.specs.Recorded.{record_of}
-use Rattle.px_command.specs.Command.{NamesConfig}
+use Rattle.px_command.specs.Command.{IsCheckAll, NamesConfig}
 use Rattle.proxy_call.specs.Answers.{DecidesBy, DecidesRecord, IsAccepted}
 use Rattle.proxy_call.specs.Files.{IfTold, Configured}
-use Rattle.proxy_call.specs.Stops.{Input, Answers, ReadStops, StopsBy, stop_of_configuration, stop_of_record}
+use Rattle.proxy_call.specs.Stops.{Input, Answers, ReadStops, SaysAll, SaysVerdict, StopsBy, stop_of_configuration, stop_of_record}
 use Rattle.proxy_call.specs.declared.stop.Stop.{Stop}
 use Rattle.proxy_call.specs.declared.stop.Stop.TheVariants as stops
-use Rattle.proxy_call.proofs.Told.{recorded, refused, weaker}
+use Rattle.proxy_call.proofs.Told.{configured, recorded, refused, refused_all, weaker}
 
 -- ---- what a `?` passes on
 
@@ -39,6 +43,7 @@ pub read_stops : (input : Input) (name : List ℕ) (before : ℕ) (stop : Stop) 
     → ReadStops name input.last before input.reads_now stop → StopsBy input stop
 read_stops input name before (stops.Usage text) decides least reads = absurd reads
 read_stops input name before (stops.Refused line kind) decides least reads = absurd reads
+read_stops input name before (stops.RefusedAll text) decides least reads = absurd reads
 read_stops input name before (stops.Record place kind) decides least reads = absurd reads
 read_stops input name before (stops.File failed) decides least reads =
     (rose_over input.reads before input.reads_now least reads.0, reads.1, subst (DecidesBy input.words input.files input.builder) (sym reads.2) decides)
@@ -62,3 +67,26 @@ record_stops input name bytes records.OutOfMemory decides read refuses = tt
 -- a configuration that is accepted is one
 pub accepted : (files : Option (List NamedBytes)) (cfg_name : List ℕ) (cfg : Config) → IfTold files (λ fs. Configured fs cfg_name (Ok cfg)) → IsAccepted files cfg_name
 accepted files cfg_name cfg is = weaker files (λ fs. Configured fs cfg_name (Ok cfg)) (λ fs. (c : Config) × Configured fs cfg_name (Ok c)) (λ fs h. (cfg, h)) is
+
+-- ---- all refused lines
+
+all_stops : (input : Input) (name bytes : List ℕ) (refused : RefusedLines) (stop : Stop) → IsCheckAll input.words name → Reads input.files name 1048577 bytes
+    → Judges bytes input.builder.before input.builder.now (Refused refused) → SaysAll name refused stop → StopsBy input stop
+all_stops input name bytes refused (stops.Usage text) is read judges says = absurd says
+all_stops input name bytes refused (stops.Refused line kind) is read judges says = absurd says
+all_stops input name bytes refused (stops.RefusedAll text) is read judges says =
+    (name, is, (refused_of bytes judges.answers, refused_all input.files input.builder name bytes (Refused refused) judges read judges.is.1, says (refused_of bytes judges.answers) judges.is.0))
+all_stops input name bytes refused (stops.Record place kind) is read judges says = absurd says
+all_stops input name bytes refused (stops.File failed) is read judges says = absurd says
+all_stops input name bytes refused stops.Output is read judges says = absurd says
+all_stops input name bytes refused stops.Net is read judges says = absurd says
+all_stops input name bytes refused stops.OutOfMemory is read judges says = tt
+
+-- what `check --all` says of a text that was read
+pub all_answers : (input : Input) (name bytes : List ℕ) (verdict : Verdict) (result : Result (List ℕ) Stop) → IsCheckAll input.words name → Reads input.files name 1048577 bytes
+    → Judges bytes input.builder.before input.builder.now verdict → SaysVerdict name verdict result → Answers input result
+all_answers input name bytes (Accepted cfg) (Ok text) is read judges says =
+    (inl (name, inr is, (cfg, configured input.files name bytes (Ok cfg) read judges.is.1, says)), judges.built)
+all_answers input name bytes (Accepted cfg) (Err stop) is read judges says = subst (StopsBy input) (sym says) tt
+all_answers input name bytes (Refused refused) (Ok text) is read judges says = absurd says
+all_answers input name bytes (Refused refused) (Err stop) is read judges says = all_stops input name bytes refused stop is read judges says

@@ -1,15 +1,17 @@
 -- What words and files call for is one status, and what the call gives is that one, or a fault or want of memory is in the way.
-use Rattle.std.proofs.Common.{◌≡◌, ℕ, List, ◌⊎◌, inl, inr, refl, subst}
+use Rattle.std.proofs.Common.{◌≡◌, ℕ, ◌<◌, List, [], ◌∷◌, length, ◌⊎◌, inl, inr, refl, subst, arith}
 use Rattle.std.specs.Prelude.{Option, Some, None, Result, Ok, Err}
 use Rattle.px_link.specs.Told.{NamedBytes, Rose, content_of}
 use Rattle.http_rules.specs.declared.config.Config.{Config}
 use Rattle.cfg_parse.specs.Whole.{config_of, Refusal}
+use Rattle.cfg_parse.specs.Judged.{IsNamed, StandsIn}
 use Rattle.cfg_parse.specs.declared.fault.CfgKind.{CfgKind}
+use Rattle.cfg_parse.specs.declared.refused.RefusedLine.{RefusedLine}
 use Rattle.rec_format.specs.Recorded as records
 use Rattle.rec_format.specs.Recorded.{Recorded, record_of}
-use Rattle.px_command.specs.Command.{IsCheck, IsCheckRecord, RunsRecord, IsServe, IsUsage, NamesConfig}
-use Rattle.proxy_call.specs.Answers.{DecidesRecord, IsDue, IsGood, IsRefused}
-use Rattle.proxy_call.specs.Files.{Builder, Configured, Holds, IfTold, RecordIs}
+use Rattle.px_command.specs.Command.{IsCheckAll, IsCheckRecord, RunsRecord, IsServe, IsUsage, NamesConfig, ReadsConfig}
+use Rattle.proxy_call.specs.Answers.{Checks, DecidesRecord, IsDue, IsGood, IsRefused, IsRefusedBy}
+use Rattle.proxy_call.specs.Files.{Builder, Configured, Holds, IfTold, RecordIs, RefusesAll}
 use Rattle.proxy_call.specs.declared.status.Status.{Status}
 use Rattle.proxy_call.specs.declared.status.Status.TheVariants.{Good, Usage, FileFault, OutFault, NetFault, OutOfMemory}
 use Rattle.proxy_call.specs.declared.status.Status.TheVariants as ended
@@ -48,16 +50,18 @@ record_named : (words : List (List ℕ)) (files : List NamedBytes) (rec : List �
 record_named words files rec (inl is) = inl is
 record_named words files rec (inr (cfg_name, is, cfg, ok)) = inr (cfg_name, is)
 
-config_named : (words : List (List ℕ)) (name : List ℕ) → IsCheck words name ⊎ ((connections : ℕ) × IsServe words name connections) → NamesConfig words name
-config_named words name (inl check) = inl check
-config_named words name (inr serve) = inr (inr serve)
+config_named : (words : List (List ℕ)) (name : List ℕ) → Checks words name ⊎ ((connections : ℕ) × IsServe words name connections) → ReadsConfig words name
+config_named words name (inl (inl check)) = inl (inl check)
+config_named words name (inl (inr all)) = inr all
+config_named words name (inr serve) = inl (inr (inr serve))
 
 runs_or_usage : (words : List (List ℕ)) (cfg rec : List ℕ) → RunsRecord words cfg rec → IsUsage words → ⊥
 runs_or_usage words cfg rec (inl replay) usage = usage.replay cfg rec replay
 runs_or_usage words cfg rec (inr (cores, weave)) usage = usage.weave cfg rec cores weave
 
 good_or_usage : (words : List (List ℕ)) (files : List NamedBytes) → IsDue words files Good → IsUsage words → ⊥
-good_or_usage words files (inl (name, inl check, cfg, ok)) usage = usage.check name check
+good_or_usage words files (inl (name, inl (inl check), cfg, ok)) usage = usage.check name check
+good_or_usage words files (inl (name, inl (inr all), cfg, ok)) usage = usage.check_all name all
 good_or_usage words files (inl (name, inr (count, serve), cfg, ok)) usage = usage.serve name count serve
 good_or_usage words files (inr (inl (rec, is, r, ok))) usage = usage.check_record rec is
 good_or_usage words files (inr (inr (inl (cfg, rec, is, c, r, say)))) usage = runs_or_usage words cfg rec is usage
@@ -65,9 +69,10 @@ good_or_usage words files (inr (inr (inr (inl (seed, exchanges, is))))) usage = 
 good_or_usage words files (inr (inr (inr (inr asks)))) usage = usage.text asks
 
 config_or_usage : (words : List (List ℕ)) (files : List NamedBytes) → IsDue words files ended.Config → IsUsage words → ⊥
-config_or_usage words files (name, inl check, line, kind, refused) usage = usage.check name check
-config_or_usage words files (name, inr (inl (rec, is)), line, kind, refused) usage = runs_or_usage words name rec is usage
-config_or_usage words files (name, inr (inr (count, is)), line, kind, refused) usage = usage.serve name count is
+config_or_usage words files (name, inl (inl check), line, kind, refused) usage = usage.check name check
+config_or_usage words files (name, inl (inr (inl (rec, is))), line, kind, refused) usage = runs_or_usage words name rec is usage
+config_or_usage words files (name, inl (inr (inr (count, is))), line, kind, refused) usage = usage.serve name count is
+config_or_usage words files (name, inr all, line, kind, refused) usage = usage.check_all name all
 
 record_or_usage : (words : List (List ℕ)) (files : List NamedBytes) → IsDue words files ended.Record → IsUsage words → ⊥
 record_or_usage words files (rec, place, kind, refused, inl is) usage = usage.check_record rec is
@@ -78,7 +83,7 @@ good_or_config words files (inl (name, how, cfg, ok)) (other, named, line, kind,
     accepted_or_refused files name other cfg (line, kind) (same_config_name words name other (config_named words name how) named) ok refused
 good_or_config words files (inr (inl (rec, is, r, ok))) (other, named, line, kind, refused) = record_or_config words rec other is named
 good_or_config words files (inr (inr (inl (name, rec, is, cfg, r, say)))) (other, named, line, kind, refused) =
-    accepted_or_refused files name other cfg (line, kind) (same_config_name words name other (inr (inl (rec, is))) named) say.configuration refused
+    accepted_or_refused files name other cfg (line, kind) (same_config_name words name other (inl (inr (inl (rec, is)))) named) say.configuration refused
 good_or_config words files (inr (inr (inr none))) (other, named, line, kind, refused) = fileless_or_config words other none named
 
 good_or_record : (words : List (List ℕ)) (files : List NamedBytes) → IsDue words files Good → IsDue words files ended.Record → ⊥
@@ -93,7 +98,7 @@ good_or_record words files (inr (inr (inr none))) (rec, place, kind, refused, ho
 config_or_record : (words : List (List ℕ)) (files : List NamedBytes) → IsDue words files ended.Config → IsDue words files ended.Record → ⊥
 config_or_record words files (name, named, line, kind, refused) (rec, place, what, err, inl is) = record_or_config words rec name is named
 config_or_record words files (name, named, line, kind, refused) (rec, place, what, err, inr (cfg_name, is, cfg, ok)) =
-    accepted_or_refused files cfg_name name cfg (line, kind) (same_config_name words cfg_name name (inr (inl (rec, is))) named) ok refused
+    accepted_or_refused files cfg_name name cfg (line, kind) (same_config_name words cfg_name name (inl (inr (inl (rec, is)))) named) ok refused
 
 pub due_once : (words : List (List ℕ)) (files : List NamedBytes) (a b : Status) → IsDue words files a → IsDue words files b → a ≡ b
 due_once words files Good Good p q = refl
@@ -150,10 +155,32 @@ unbuilt : (fs : List NamedBytes) (builder : Builder) (name : List ℕ) (line : �
 unbuilt fs builder name line kind never (None, (text, content, (refuses, builds))) = (text, content, refuses)
 unbuilt fs builder name line kind never (Some number, (text, content, (refuses, builds))) = absurd (never builds.0)
 
-pub refused_due : (words : List (List ℕ)) (files : Option (List NamedBytes)) (fs : List NamedBytes) (builder : Builder) (name : List ℕ) (line : ℕ) (kind : CfgKind) → files ≡ Some fs → (Rose builder.before builder.now → ⊥)
+refused_due : (words : List (List ℕ)) (files : Option (List NamedBytes)) (fs : List NamedBytes) (builder : Builder) (name : List ℕ) (line : ℕ) (kind : CfgKind) → files ≡ Some fs → (Rose builder.before builder.now → ⊥)
     → NamesConfig words name → IsRefused files builder name line kind → IsDue words fs ended.Config
 refused_due words files fs builder name line kind told never named refused =
-    (name, named, line, kind, unbuilt fs builder name line kind never (subst (λ (f : Option (List NamedBytes)). IsRefused f builder name line kind) told refused))
+    (name, inl named, line, kind, unbuilt fs builder name line kind never (subst (λ (f : Option (List NamedBytes)). IsRefused f builder name line kind) told refused))
+
+-- the first of all refused lines is the one that a load names
+first_due : (text : List ℕ) (builder : Builder) (all : List RefusedLine) → (Rose builder.before builder.now → ⊥) → 0 < length all
+    → ((line : RefusedLine) (others : List RefusedLine) → all ≡ line ∷ others → IsNamed text builder.before builder.now line) → (line : ℕ) × (kind : CfgKind) × (config_of text None ≡ Err (line, kind))
+first_due text builder [] never some first = absurd (omega arith)
+first_due text builder (line ∷ others) never some first = let named = first line others refl in by named.r named.names named.builds
+  where
+    by : (r : Option ℕ) → config_of text r ≡ Err (line.line, line.kind) → StandsIn text line.line r builder.before builder.now → (l : ℕ) × (k : CfgKind) × (config_of text None ≡ Err (l, k))
+    by None names builds = (line.line, line.kind, names)
+    by (Some place) names builds = absurd (never builds.0)
+
+all_due : (words : List (List ℕ)) (files : Option (List NamedBytes)) (fs : List NamedBytes) (builder : Builder) (name : List ℕ) (all : List RefusedLine) → files ≡ Some fs → (Rose builder.before builder.now → ⊥)
+    → IsCheckAll words name → IfTold files (λ f. RefusesAll f builder name all) → IsDue words fs ended.Config
+all_due words files fs builder name all told never is refused =
+    let held = of_told files fs (λ f. RefusesAll f builder name all) told refused in
+    let first = first_due held.0 builder all never held.2.some held.2.first in
+    (name, inr is, first.0, first.1, (held.0, held.1, first.2))
+
+pub refused_by_due : (words : List (List ℕ)) (files : Option (List NamedBytes)) (fs : List NamedBytes) (builder : Builder) (text : List ℕ) → files ≡ Some fs → (Rose builder.before builder.now → ⊥)
+    → IsRefusedBy words files builder text → IsDue words fs ended.Config
+refused_by_due words files fs builder text told never (inl (name, named, (line, kind, refused, is))) = refused_due words files fs builder name line kind told never named refused
+refused_by_due words files fs builder text told never (inr (name, all, (lines, refused, is))) = all_due words files fs builder name lines told never all refused
 
 decided : (words : List (List ℕ)) (files : Option (List NamedBytes)) (builder : Builder) (fs : List NamedBytes) (rec : List ℕ) → files ≡ Some fs → DecidesRecord words files builder rec
     → IsCheckRecord words rec ⊎ ((cfg_name : List ℕ) × RunsRecord words cfg_name rec × (cfg : Config) × Configured fs cfg_name (Ok cfg))

@@ -4,14 +4,14 @@ use Rattle.std.specs.Prelude.{Option, Some, Result, Ok, Err}
 use Rattle.px_link.specs.Told.{NamedBytes, Gains, Rose}
 use Rattle.px_link.specs.Link.{Seen}
 use Rattle.px_link.specs.Net.{Coming, Kept, NetSeen, address_of, with_address}
-use Rattle.px_command.specs.Command.{IsServe, IsUsage, NamesConfig}
+use Rattle.px_command.specs.Command.{IsServe, IsUsage}
 use Rattle.px_command.specs.Texts.{EndsLine}
 use Rattle.serve_run.specs.Lines.{net_line}
 use Rattle.serve_run.specs.Served.{Breaks, NetFails, ServedAll}
 use Rattle.serve_run.specs.Told.{Visited}
 use Rattle.serve_run.specs.declared.outcome.ServeFault.{ServeFault}
 use Rattle.serve_run.specs.declared.outcome.ServeFault.TheVariants as serving
-use Rattle.proxy_call.specs.Answers.{DecidesBy, DecidesRecord, IsDue, IsGood, IsRecordRefusedOf, IsRefusal, IsRefusedOf, NamesServe}
+use Rattle.proxy_call.specs.Answers.{DecidesBy, DecidesRecord, IsDue, IsGood, IsRecordRefusedOf, IsRefusal, IsRefusedBy, NamesServe}
 use Rattle.proxy_call.specs.Ends.{Ended, Output, PutsFront, Tells, status_after}
 use Rattle.proxy_call.specs.Files.{IsBuilt}
 use Rattle.proxy_call.specs.Lines.{file_line}
@@ -19,7 +19,7 @@ use Rattle.proxy_call.specs.Serving.{GainsBind, LostBy, ServedBy, Serves, Servin
 use Rattle.proxy_call.specs.Stops.{Input}
 use Rattle.proxy_call.specs.declared.status.Status.{Status}
 use Rattle.proxy_call.specs.declared.status.Status.TheVariants as ended
-use Rattle.proxy_call.proofs.Due.{due_once, good_due, of_told, record_due, refused_due}
+use Rattle.proxy_call.proofs.Due.{due_once, good_due, of_told, record_due, refused_by_due}
 use Rattle.proxy_call.proofs.Words.{good_or_serve, same_count}
 
 -- how a call ended whose net went from one state to another
@@ -51,10 +51,10 @@ module _ {L N : Type 0} (seen : L → Seen) (wrote : L → List ℕ → Type 0) 
   usage status end is = let a = only_told ended.Usage tt (at status ended.Usage end is) in (a.answer.0, a.text, a.answer.1, a.gains)
 
   pub config : (status : Status) → EndedBy seen wrote net_seen first now input output status → status ≡ ended.Config
-      → (name : List ℕ) × NamesConfig input.words name × (text : List ℕ) × IsRefusedOf input.files input.builder name text × Gains output.old output.new text
+      → (text : List ℕ) × IsRefusedBy input.words input.files input.builder text × Gains output.old output.new text
   config status end is =
       let a = only_told ended.Config tt (at status ended.Config end is) in
-      (a.answer.0, a.answer.1, a.text, a.answer.2, a.gains)
+      (a.text, a.answer, a.gains)
 
   pub record_refused : (status : Status) → EndedBy seen wrote net_seen first now input output status → status ≡ ended.Record
       → (name : List ℕ) × DecidesRecord input.words input.files input.builder name × (text : List ℕ) × IsRecordRefusedOf input.files name text × Gains output.old output.new text
@@ -212,7 +212,7 @@ module _ {L N : Type 0} (seen : L → Seen) (wrote : L → List ℕ → Type 0) 
   told_due fs ended.Good files reads writes builds a = inl (good_due input.words input.files fs a.text files a.answer)
   told_due fs ended.Usage files reads writes builds a = inl a.answer.0
   told_due fs ended.Config files reads writes builds a =
-      inl (refused_due input.words input.files fs input.builder a.answer.0 a.answer.2.0 a.answer.2.1 files builds a.answer.1 a.answer.2.2)
+      inl (refused_by_due input.words input.files fs input.builder a.text files builds a.answer)
   told_due fs ended.Record files reads writes builds a =
       inl (record_due input.words input.files input.builder fs a.answer.0 (record { place = a.answer.2.0; kind = a.answer.2.1 }) files a.answer.1 a.answer.2.2)
   told_due fs ended.FileFault files reads writes builds a = absurd (reads (a.cause refl))

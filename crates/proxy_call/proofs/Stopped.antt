@@ -26,6 +26,7 @@ tells input output ended.OutOfMemory a = absurd a.answer
 pub tells_stop : (input : Input) (output : Output) (s : Stop) → Says input output (Err s) → Tells input output (status_of s)
 tells_stop input output (stops.Usage text) said = absurd said
 tells_stop input output (stops.Refused line kind) said = absurd said
+tells_stop input output (stops.RefusedAll text) said = absurd said
 tells_stop input output (stops.Record place kind) said = absurd said
 tells_stop input output (stops.File name) said = absurd said
 tells_stop input output stops.Output said = said
@@ -48,6 +49,7 @@ stopped : (input : Input) (writes now later : ℕ) (old new last : Option (List 
     → (StopsBy input s → Tells input (put now later new last) status) → (IsSilent s → (status ≡ status_of s) × (later ≡ now) × (last ≡ new)) → Tells input (put writes later old last) status
 stopped input writes now later old new last (stops.Usage text) status wrote told silent = from_start input writes now later old new last status wrote.1.written wrote.1.writes (told wrote.0)
 stopped input writes now later old new last (stops.Refused line kind) status wrote told silent = from_start input writes now later old new last status wrote.1.written wrote.1.writes (told wrote.0)
+stopped input writes now later old new last (stops.RefusedAll text) status wrote told silent = from_start input writes now later old new last status wrote.1.written wrote.1.writes (told wrote.0)
 stopped input writes now later old new last (stops.Record place kind) status wrote told silent = from_start input writes now later old new last status wrote.1.written wrote.1.writes (told wrote.0)
 stopped input writes now later old new last (stops.File name) status wrote told silent = from_start input writes now later old new last status wrote.1.written wrote.1.writes (told wrote.0)
 stopped input writes now later old new last stops.Output status wrote told silent =

@@ -8,6 +8,9 @@ use Rattle.http_rules.specs.declared.config.Config.{Config}
 use Rattle.px_pattern.specs.Pattern.{Pattern}
 use Rattle.px_pattern.specs.Refusals.{Kept}
 use Rattle.cfg_parse.specs.Whole.{Placed, Refusal, read_whole, refused_at, decided, config_of, pattern_at, Builds, Loads}
+use Rattle.cfg_parse.specs.Judged.{Answer, Counted, IsNamed, Judges, StandsIn, refused_by, refused_of, refused_whole, unbuilt_of, walk_of}
+use Rattle.cfg_parse.specs.declared.refused.RefusedLine.{RefusedLine}
+use Rattle.cfg_parse.specs.declared.refused.Verdict.{Verdict}
 use Rattle.cfg_parse.specs.declared.fault.CfgFault.TheVariants as faults
 use Rattle.cfg_parse.specs.declared.fault.CfgKind.{CfgKind}
 use Rattle.cfg_parse.specs.declared.fault.CfgKind.TheVariants.{Limit}
@@ -15,7 +18,7 @@ use Rattle.rec_format.specs.Recorded as records
 use Rattle.rec_format.specs.Recorded.{Recorded, record_of, in_format, and_then, or_refuse, format_of}
 use Rattle.rec_format.specs.declared.record.RecKind.TheVariants as kinds
 use Rattle.proxy_call.specs.Answers.{IsRefused}
-use Rattle.proxy_call.specs.Files.{IfTold, Builder, Configured, RecordIs, Say}
+use Rattle.proxy_call.specs.Files.{IfTold, Builder, Configured, RecordIs, RefusesAll, Say}
 
 -- a text that is too long, and what of it decides
 too_long : Placed Config
@@ -82,6 +85,56 @@ refused (Some fs) builder name bytes line kind r loads =
           same_builds r.0 loads.r builder.before builder.now builder.kept builds,
         ),
       ),
+    )
+
+-- so are all of its refused lines
+same_refused : (t : List ℕ) (answers : List Answer) → (refused_of (take 1048577 t) answers ≡ refused_of t answers) × (unbuilt_of (take 1048577 t) answers ≡ unbuilt_of t answers)
+unfolding refused_of unbuilt_of
+same_refused t answers = by_size (cases_lt 1048576 (length t))
+  where
+    long_is : (text : List ℕ) → 1048576 < length text → (refused_of text answers ≡ refused_whole Limit) × (unbuilt_of text answers ≡ [])
+    long_is text many =
+        let is = lt-ltb 1048576 (length text) many in
+        (ap (λ b. cond b (refused_whole Limit) (refused_by (walk_of text answers))) is, ap (λ b. cond b [] (walk_of text answers).unbuilt) is)
+
+    by_size : (1048576 < length t) ⊎ (length t ≤ 1048576) → (refused_of (take 1048577 t) answers ≡ refused_of t answers) × (unbuilt_of (take 1048577 t) answers ≡ unbuilt_of t answers)
+    by_size (inr few) =
+        let is : take 1048577 t ≡ t = take_all 1048577 t (omega arith) in
+        (ap (λ x. refused_of x answers) is, ap (λ x. unbuilt_of x answers) is)
+    by_size (inl many) =
+        let full : length (take 1048577 t) ≡ 1048577 = length-take-le 1048577 t (omega arith) in
+        let front = long_is (take 1048577 t) (omega arith) in
+        let whole = long_is t many in
+        (front.0 ∙ sym whole.0, front.1 ∙ sym whole.1)
+
+same_stands : (t : List ℕ) (line before now : ℕ) (r : Option ℕ) → StandsIn (take 1048577 t) line r before now → StandsIn t line r before now
+same_stands t line before now None stands = tt
+same_stands t line before now (Some place) stands =
+    let There : Option (ℕ × Pattern) → Type 0 = λ o. IsSomeAnd o (λ (number, pattern). number ≡ line) in
+    (stands.0, subst There (same_pattern t place) stands.1)
+
+same_named : (t : List ℕ) (before now : ℕ) (line : RefusedLine) → IsNamed (take 1048577 t) before now line → IsNamed t before now line
+same_named t before now line named = record {
+  r = named.r;
+  names = sym (same_config t named.r) ∙ named.names;
+  builds = same_stands t line.line before now named.r named.builds;
+}
+
+-- the refused lines of the bytes that were read are those of the file
+pub refused_all : (files : Option (List NamedBytes)) (builder : Builder) (name bytes : List ℕ) (verdict : Verdict) (judges : Judges bytes builder.before builder.now verdict) → Reads files name 1048577 bytes
+    → 0 < length (refused_of bytes judges.answers) → IfTold files (λ fs. RefusesAll fs builder name (refused_of bytes judges.answers))
+refused_all None builder name bytes verdict judges r some = tt
+refused_all (Some fs) builder name bytes verdict judges r some =
+    let same = same_refused r.0 judges.answers in (
+      r.0,
+      r.1,
+      record {
+        answers = judges.answers;
+        lines = sym same.0 ∙ ap (λ t. refused_of t judges.answers) (sym r.2);
+        some = some;
+        counted = subst (λ (u : List (ℕ × Pattern)). Counted (length u) builder.before builder.now) (ap (λ t. unbuilt_of t judges.answers) r.2 ∙ same.1) judges.builds;
+        first = λ line others e. same_named r.0 builder.before builder.now line (subst (λ (t : List ℕ). IsNamed t builder.before builder.now line) r.2 (judges.first line others e));
+      },
     )
 
 -- where the build of a pattern was refused, there is no configuration

@@ -3,8 +3,8 @@ use Rattle.std.proofs.Common.{◌≡◌, ℕ, ◌+◌, ◌*◌, ◌==◌, ◌||�
 use Rattle.std.specs.Prelude.{Option, Some}
 use Rattle.px_bytes.specs.Numbers.{decimal_of}
 use Rattle.px_link.specs.Told.{NamedBytes}
-use Rattle.px_command.specs.Command.{IsCheck, IsCheckRecord, IsReplay, IsWeave, RunsRecord, IsServe, IsDrill, AsksText, IsFileWord, NamesConfig}
-use Rattle.proxy_call.specs.Answers.{AsksNoFile, IsGood, NamesServe}
+use Rattle.px_command.specs.Command.{IsCheck, IsCheckAll, IsCheckRecord, IsReplay, IsWeave, RunsRecord, IsServe, IsDrill, AsksText, IsFileWord, NamesConfig, ReadsConfig}
+use Rattle.proxy_call.specs.Answers.{AsksNoFile, Checks, IsGood, NamesServe}
 
 -- how many words stand behind the first, and its third letter
 abbrev key : List (List ℕ) → ℕ
@@ -24,6 +24,9 @@ third (a ∷ b ∷ d ∷ rest) = d
 
 check_key : (words : List (List ℕ)) (cfg : List ℕ) → IsCheck words cfg → key words ≡ 1101
 check_key words cfg is = ap key is.0
+
+all_key : (words : List (List ℕ)) (cfg : List ℕ) → IsCheckAll words cfg → key words ≡ 2101
+all_key words cfg is = ap key is.0
 
 record_key : (words : List (List ℕ)) (rec : List ℕ) → IsCheckRecord words rec → key words ≡ 2101
 record_key words rec is = ap key is.0
@@ -100,12 +103,34 @@ text_or_config words cfg text (inl check) = text_or_check words cfg text check
 text_or_config words cfg text (inr (inl (rec, is))) = no_bool (short words) (text_short words text) (runs_long words cfg rec is)
 text_or_config words cfg text (inr (inr (count, is))) = no_bool (short words) (text_short words text) (ap short is.1)
 
-pub record_or_config : (words : List (List ℕ)) (rec cfg : List ℕ) → IsCheckRecord words rec → NamesConfig words cfg → ⊥
-record_or_config words rec cfg is named = no_bool (has_config (key words)) (config_there words cfg named) (ap has_config (record_key words rec is))
+named_or_all : (words : List (List ℕ)) (cfg other : List ℕ) → NamesConfig words cfg → IsCheckAll words other → ⊥
+named_or_all words cfg other named all = no_bool (has_config (key words)) (config_there words cfg named) (ap has_config (all_key words other all))
 
-pub fileless_or_config : (words : List (List ℕ)) (cfg : List ℕ) → AsksNoFile words → NamesConfig words cfg → ⊥
-fileless_or_config words cfg (inl drill) named = no_bool (has_config (key words)) (config_there words cfg named) (ap has_config (drill_key words drill.0 drill.1 drill.2))
-fileless_or_config words cfg (inr text) named = text_or_config words cfg text named
+-- the third letter of the second word
+abbrev asks_all : List (List ℕ) → Bool
+asks_all words = get_or (second words) 2 0 == 97
+
+all_or_record : (words : List (List ℕ)) (cfg rec : List ℕ) → IsCheckAll words cfg → IsCheckRecord words rec → ⊥
+all_or_record words cfg rec all record_is = no_bool (asks_all words) (ap asks_all all.0) (ap asks_all record_is.0)
+
+pub record_or_config : (words : List (List ℕ)) (rec cfg : List ℕ) → IsCheckRecord words rec → ReadsConfig words cfg → ⊥
+record_or_config words rec cfg is (inl named) = no_bool (has_config (key words)) (config_there words cfg named) (ap has_config (record_key words rec is))
+record_or_config words rec cfg is (inr all) = all_or_record words cfg rec all is
+
+abbrev is_drill : ℕ → Bool
+is_drill k = k == 2105
+
+fileless_or_named : (words : List (List ℕ)) (cfg : List ℕ) → AsksNoFile words → NamesConfig words cfg → ⊥
+fileless_or_named words cfg (inl drill) named = no_bool (has_config (key words)) (config_there words cfg named) (ap has_config (drill_key words drill.0 drill.1 drill.2))
+fileless_or_named words cfg (inr text) named = text_or_config words cfg text named
+
+fileless_or_all : (words : List (List ℕ)) (cfg : List ℕ) → AsksNoFile words → IsCheckAll words cfg → ⊥
+fileless_or_all words cfg (inl drill) all = no_bool (is_drill (key words)) (ap is_drill (drill_key words drill.0 drill.1 drill.2)) (ap is_drill (all_key words cfg all))
+fileless_or_all words cfg (inr text) all = no_bool (short words) (text_short words text) (ap short all.0)
+
+pub fileless_or_config : (words : List (List ℕ)) (cfg : List ℕ) → AsksNoFile words → ReadsConfig words cfg → ⊥
+fileless_or_config words cfg none (inl named) = fileless_or_named words cfg none named
+fileless_or_config words cfg none (inr all) = fileless_or_all words cfg none all
 
 -- ---- which words name a record
 
@@ -125,8 +150,10 @@ pub fileless_or_record : (words : List (List ℕ)) (rec : List ℕ) → AsksNoFi
 fileless_or_record words rec (inl drill) named = no_bool (has_record (key words)) (record_there words rec named) (ap has_record (drill_key words drill.0 drill.1 drill.2))
 fileless_or_record words rec (inr text) named = text_or_record words rec text named
 
-pub check_or_record : (words : List (List ℕ)) (cfg rec : List ℕ) → IsCheck words cfg → IsCheckRecord words rec ⊎ ((c : List ℕ) × RunsRecord words c rec) → ⊥
-check_or_record words cfg rec is named = no_bool (has_record (key words)) (record_there words rec named) (ap has_record (check_key words cfg is))
+pub check_or_record : (words : List (List ℕ)) (cfg rec : List ℕ) → Checks words cfg → IsCheckRecord words rec ⊎ ((c : List ℕ) × RunsRecord words c rec) → ⊥
+check_or_record words cfg rec (inl is) named = no_bool (has_record (key words)) (record_there words rec named) (ap has_record (check_key words cfg is))
+check_or_record words cfg rec (inr all) (inl is) = all_or_record words cfg rec all is
+check_or_record words cfg rec (inr all) (inr (c, runs)) = named_or_all words c cfg (inr (inl (rec, runs))) all
 
 pub serve_or_record : (words : List (List ℕ)) (cfg rec : List ℕ) (count : ℕ) → IsServe words cfg count → IsCheckRecord words rec ⊎ ((c : List ℕ) × RunsRecord words c rec) → ⊥
 serve_or_record words cfg rec count is named = no_bool (has_record (key words)) (record_there words rec named) (ap has_record (serve_key words cfg count is))
@@ -140,7 +167,8 @@ serve_key_or : (words : List (List ℕ)) → is_serve (key words) ≡ false → 
 serve_key_or words other (cfg, count, is) = no_bool (is_serve (key words)) (ap is_serve (serve_key words cfg count is)) other
 
 pub good_or_serve : (words : List (List ℕ)) (text : List ℕ) (files : Option (List NamedBytes)) → IsGood words files text → NamesServe words → ⊥
-good_or_serve words text files (inl (cfg, is, made)) serve = serve_key_or words (ap is_serve (check_key words cfg is)) serve
+good_or_serve words text files (inl (cfg, inl is, made)) serve = serve_key_or words (ap is_serve (check_key words cfg is)) serve
+good_or_serve words text files (inl (cfg, inr all, made)) serve = serve_key_or words (ap is_serve (all_key words cfg all)) serve
 good_or_serve words text files (inr (inl (rec, is, made))) serve = serve_key_or words (ap is_serve (record_key words rec is)) serve
 good_or_serve words text files (inr (inr (inl (cfg, rec, is, made)))) serve = serve_key_or words (ap is_serve (replay_key words cfg rec is)) serve
 good_or_serve words text files (inr (inr (inr (inl (cfg, rec, cores, is, made))))) serve = serve_key_or words (ap is_serve (weave_key words cfg rec cores is)) serve
@@ -155,8 +183,17 @@ config_second words cfg (inr (inl (rec, inl is))) = ap second is.0
 config_second words cfg (inr (inl (rec, inr (cores, is)))) = ap second is.1
 config_second words cfg (inr (inr (count, is))) = ap second is.1
 
-pub same_config_name : (words : List (List ℕ)) (a b : List ℕ) → NamesConfig words a → NamesConfig words b → a ≡ b
-same_config_name words a b p q = let x = config_second words a p in let y = config_second words b q in cc
+same_named : (words : List (List ℕ)) (a b : List ℕ) → NamesConfig words a → NamesConfig words b → a ≡ b
+same_named words a b p q = let x = config_second words a p in let y = config_second words b q in cc
+
+same_third : (words : List (List ℕ)) (a b : List ℕ) → IsCheckAll words a → IsCheckAll words b → a ≡ b
+same_third words a b p q = let x : third words ≡ a = ap third p.0 in let y : third words ≡ b = ap third q.0 in cc
+
+pub same_config_name : (words : List (List ℕ)) (a b : List ℕ) → ReadsConfig words a → ReadsConfig words b → a ≡ b
+same_config_name words a b (inl p) (inl q) = same_named words a b p q
+same_config_name words a b (inl p) (inr q) = absurd (named_or_all words a b p q)
+same_config_name words a b (inr p) (inl q) = absurd (named_or_all words b a q p)
+same_config_name words a b (inr p) (inr q) = same_third words a b p q
 
 record_third : (words : List (List ℕ)) (rec : List ℕ) → IsCheckRecord words rec ⊎ ((cfg : List ℕ) × RunsRecord words cfg rec) → third words ≡ rec
 record_third words rec (inl is) = ap third is.0

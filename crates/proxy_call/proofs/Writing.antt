@@ -79,6 +79,7 @@ say_nothing input writes old s is = subst (λ (t : Stop). Says input (put writes
 pub stops_early : (input : Input) (writes : ℕ) (old : Option (List ℕ)) (s : Stop) → StopsBy input s → Writes input (put writes writes old old) (Err s)
 stops_early input writes old (stops.Usage text) given = (given, record { written = refl; writes = refl })
 stops_early input writes old (stops.Refused line kind) given = (given, record { written = refl; writes = refl })
+stops_early input writes old (stops.RefusedAll text) given = (given, record { written = refl; writes = refl })
 stops_early input writes old (stops.Record place kind) given = (given, record { written = refl; writes = refl })
 stops_early input writes old (stops.File name) given = (given, record { written = refl; writes = refl })
 stops_early input writes old stops.Output given = absurd given

@@ -4,9 +4,10 @@ use Rattle.px_link.specs.Told.{NamedBytes, GainsFront, Rose}
 use Rattle.http_rules.specs.declared.config.Config.{Config}
 use Rattle.cfg_parse.specs.Whole.{config_of}
 use Rattle.cfg_parse.specs.declared.fault.CfgKind.{CfgKind}
+use Rattle.cfg_parse.specs.declared.refused.RefusedLine.{RefusedLine}
 use Rattle.htx_drive.specs.Drill.Drill.{configuration}
 use Rattle.forward_core.specs.Meaning.Product.{meaning_of}
-use Rattle.px_command.specs.Command.{IsCheck, IsCheckRecord, IsReplay, IsWeave, RunsRecord, IsServe, IsDrill, AsksText, IsUsage, NamesConfig}
+use Rattle.px_command.specs.Command.{IsCheck, IsCheckAll, IsCheckRecord, IsReplay, IsWeave, RunsRecord, IsServe, IsDrill, AsksText, IsUsage, NamesConfig, ReadsConfig}
 use Rattle.px_command.specs.Texts.{EndsLine}
 use Rattle.rec_format.specs.declared.record.RecKind.{RecKind}
 use Rattle.rec_format.specs.Recorded.{Recorded}
@@ -15,7 +16,8 @@ use Rattle.htx_drive.specs.Replay.Written.{IsReplayOf, IsDrillOf}
 use Rattle.htx_drive.specs.Weave.Recorded.{IsWeaveOf}
 use Rattle.proxy_call.specs.Sessions.Driven.{stands_for, seen_of}
 use Rattle.proxy_call.specs.Lines.{accepted_line, refused_line, record_line, file_line}
-use Rattle.proxy_call.specs.Files.{IfTold, Builder, Configured, IsBuilt, RecordIs, Refuses, Say}
+use Rattle.proxy_call.specs.Refusals.{refused_text}
+use Rattle.proxy_call.specs.Files.{IfTold, Builder, Configured, IsBuilt, RecordIs, Refuses, RefusesAll, Say}
 use Rattle.proxy_call.specs.declared.status.Status.{Status}
 use Rattle.proxy_call.specs.declared.status.Status.TheVariants.{Good, Usage, FileFault, OutFault, NetFault, OutOfMemory}
 use Rattle.proxy_call.specs.declared.status.Status.TheVariants as ended
@@ -37,6 +39,16 @@ IsRefused files builder cfg_name line kind = IfTold files (λ fs. (r : Option �
 abbrev pub IsRefusedOf : Option (List NamedBytes) → Builder → (cfg_name text : List ℕ) → Type 0
 IsRefusedOf files builder cfg_name text =
     (line : ℕ) × (kind : CfgKind) × IsRefused files builder cfg_name line kind × (text ≡ refused_line line kind)
+
+-- the text is that of each refused line of a configuration
+abbrev pub IsAllRefusedOf : Option (List NamedBytes) → Builder → (cfg_name text : List ℕ) → Type 0
+IsAllRefusedOf files builder cfg_name text = (all : List RefusedLine) × IfTold files (λ fs. RefusesAll fs builder cfg_name all) × (text ≡ refused_text cfg_name all)
+
+-- The text is what is written of a refused configuration: of `check --all` each refused line, of any other command the first.
+abbrev pub IsRefusedBy : List (List ℕ) → Option (List NamedBytes) → Builder → (text : List ℕ) → Type 0
+IsRefusedBy words files builder text =
+    ((cfg_name : List ℕ) × NamesConfig words cfg_name × IsRefusedOf files builder cfg_name text)
+    ⊎ ((cfg_name : List ℕ) × IsCheckAll words cfg_name × IsAllRefusedOf files builder cfg_name text)
 
 -- the text is the record of the file in the second format
 abbrev pub IsRewritten : Option (List NamedBytes) → (rec_name text : List ℕ) → Type 0
@@ -75,17 +87,21 @@ DecidesRecord words files builder name =
 
 -- the name is that of a file whose read decides: the configuration's, which is read first, or the record's
 abbrev pub DecidesBy : List (List ℕ) → Option (List NamedBytes) → Builder → (name : List ℕ) → Type 0
-DecidesBy words files builder name = NamesConfig words name ⊎ DecidesRecord words files builder name
+DecidesBy words files builder name = ReadsConfig words name ⊎ DecidesRecord words files builder name
 
 -- the words are `serve`
 abbrev pub NamesServe : List (List ℕ) → Type 0
 NamesServe words = (cfg_name : List ℕ) × (connections : ℕ) × IsServe words cfg_name connections
 
+-- the words are `check` or `check --all` of this file
+abbrev pub Checks : List (List ℕ) → (cfg_name : List ℕ) → Type 0
+Checks words cfg_name = IsCheck words cfg_name ⊎ IsCheckAll words cfg_name
+
 -- The text is what the words ask for: the line of `check`, the record of `check --record`, the report of `replay` or of `weave`, the lines of
 -- `drill`, or lines of help or of the version, which tests show. What `serve` writes is said with what it does.
 abbrev pub IsGood : List (List ℕ) → Option (List NamedBytes) → (text : List ℕ) → Type 0
 IsGood words files text =
-    ((cfg_name : List ℕ) × IsCheck words cfg_name × IsCheckOf files cfg_name text)
+    ((cfg_name : List ℕ) × Checks words cfg_name × IsCheckOf files cfg_name text)
     ⊎ (((rec_name : List ℕ) × IsCheckRecord words rec_name × IsRewritten files rec_name text)
     ⊎ (((cfg_name : List ℕ) × (rec_name : List ℕ) × IsReplay words cfg_name rec_name × IsReportOf files cfg_name rec_name text)
     ⊎ (((cfg_name : List ℕ) × (rec_name : List ℕ) × (cores : ℕ) × IsWeave words cfg_name rec_name cores × IsWovenReportOf files cfg_name rec_name cores text)
@@ -96,7 +112,7 @@ IsGood words files text =
 abbrev pub IsAnswer : List (List ℕ) → Option (List NamedBytes) → Builder → (last : List ℕ) → Status → (text : List ℕ) → Type 0
 IsAnswer words files builder last Good text = IsGood words files text
 IsAnswer words files builder last Usage text = IsUsage words × EndsLine text
-IsAnswer words files builder last ended.Config text = (cfg_name : List ℕ) × NamesConfig words cfg_name × IsRefusedOf files builder cfg_name text
+IsAnswer words files builder last ended.Config text = IsRefusedBy words files builder text
 IsAnswer words files builder last ended.Record text = (rec_name : List ℕ) × DecidesRecord words files builder rec_name × IsRecordRefusedOf files rec_name text
 IsAnswer words files builder last FileFault text = DecidesBy words files builder last × (text ≡ file_line last)
 IsAnswer words files builder last OutFault text = ⊥
@@ -130,13 +146,13 @@ AsksNoFile words = ((seed : ℕ) × (exchanges : ℕ) × IsDrill words seed exch
 -- The words and the files, where they are told, call for this status: nothing but a fault or memory is in the way.
 abbrev pub IsDue : List (List ℕ) → List NamedBytes → Status → Type 0
 IsDue words files Good =
-    ((cfg_name : List ℕ) × (IsCheck words cfg_name ⊎ ((connections : ℕ) × IsServe words cfg_name connections)) × (cfg : Config) × Configured files cfg_name (Ok cfg))
+    ((cfg_name : List ℕ) × (Checks words cfg_name ⊎ ((connections : ℕ) × IsServe words cfg_name connections)) × (cfg : Config) × Configured files cfg_name (Ok cfg))
     ⊎ (((rec_name : List ℕ) × IsCheckRecord words rec_name × (r : Recorded) × RecordIs files rec_name (Ok r))
     ⊎ (((cfg_name : List ℕ) × (rec_name : List ℕ) × RunsRecord words cfg_name rec_name × (cfg : Config) × (r : Recorded) × Say files cfg_name rec_name cfg r)
     ⊎ AsksNoFile words))
 IsDue words files Usage = IsUsage words
 IsDue words files ended.Config =
-    (cfg_name : List ℕ) × NamesConfig words cfg_name × (line : ℕ) × (kind : CfgKind) × Configured files cfg_name (Err (line, kind))
+    (cfg_name : List ℕ) × ReadsConfig words cfg_name × (line : ℕ) × (kind : CfgKind) × Configured files cfg_name (Err (line, kind))
 IsDue words files ended.Record =
     (rec_name : List ℕ) × (place : ℕ) × (kind : RecKind) × RecordIs files rec_name (Err (record { place = place; kind = kind }))
     × (IsCheckRecord words rec_name ⊎ ((cfg_name : List ℕ) × RunsRecord words cfg_name rec_name × (cfg : Config) × Configured files cfg_name (Ok cfg)))

@@ -37,6 +37,7 @@ abbrev pub Writes : Input → Output → Result (Unit {0}) Stop → Type 0
 Writes input output (Ok done) = (text : List ℕ) × IsGood input.words input.files text × Gains output.old output.new text × IsBuilt input.builder
 Writes input output (Err (stops.Usage text)) = StopsBy input (stops.Usage text) × IsUntouched output
 Writes input output (Err (stops.Refused line kind)) = StopsBy input (stops.Refused line kind) × IsUntouched output
+Writes input output (Err (stops.RefusedAll text)) = StopsBy input (stops.RefusedAll text) × IsUntouched output
 Writes input output (Err (stops.Record place kind)) = StopsBy input (stops.Record place kind) × IsUntouched output
 Writes input output (Err (stops.File name)) = StopsBy input (stops.File name) × IsUntouched output
 Writes input output (Err stops.Output) = Rose output.writes output.writes_now × PutsFront input output
@@ -79,6 +80,7 @@ abbrev pub Says : Input → Output → Result Status Stop → Type 0
 Says input output (Ok status) = Answered input output status
 Says input output (Err (stops.Usage text)) = ⊥
 Says input output (Err (stops.Refused line kind)) = ⊥
+Says input output (Err (stops.RefusedAll text)) = ⊥
 Says input output (Err (stops.Record place kind)) = ⊥
 Says input output (Err (stops.File name)) = ⊥
 Says input output (Err stops.Output) = Rose output.writes output.writes_now × PutsFront input output

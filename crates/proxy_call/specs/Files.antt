@@ -1,9 +1,11 @@
 -- What the files tell, and the builder of patterns.
-use Rattle.std.specs.Prelude.{◌≡◌, ℕ, List, ⊤, Option, Some, None, Result, Ok, Err}
+use Rattle.std.specs.Prelude.{◌≡◌, ℕ, ◌<◌, List, ◌∷◌, length, ⊤, Option, Some, None, Result, Ok, Err}
 use Rattle.px_link.specs.Told.{NamedBytes, content_of}
 use Rattle.http_rules.specs.declared.config.Config.{Config}
 use Rattle.px_pattern.specs.Refusals.{Kept}
 use Rattle.cfg_parse.specs.Whole.{config_of, Refusal, Builds}
+use Rattle.cfg_parse.specs.Judged.{Answer, Counted, IsNamed, refused_of, unbuilt_of}
+use Rattle.cfg_parse.specs.declared.refused.RefusedLine.{RefusedLine}
 use Rattle.rec_format.specs.Recorded as records
 use Rattle.rec_format.specs.Recorded.{Recorded, record_of}
 
@@ -41,6 +43,19 @@ RecordIs files rec_name result = Holds files rec_name (λ text. record_of text �
 abbrev pub Refuses : List NamedBytes → Builder → (cfg_name : List ℕ) → (r : Option ℕ) → Refusal → Type 0
 Refuses files builder cfg_name r refusal =
     Holds files cfg_name (λ text. (config_of text r ≡ Err refusal) × Builds text r builder.before builder.now builder.kept)
+
+-- These are the refused lines of a text, one at least, for some answers of the builder. Its count rose by as many as it refused, and the first line
+-- is one that a load of the text names.
+pub record AreRefused (text : List ℕ) (builder : Builder) (all : List RefusedLine) : Type 0 where
+  pub answers : List Answer
+  pub lines : refused_of text answers ≡ all
+  pub some : 0 < length all
+  pub counted : Counted (length (unbuilt_of text answers)) builder.before builder.now
+  pub first : (line : RefusedLine) (others : List RefusedLine) → all ≡ line ∷ others → IsNamed text builder.before builder.now line
+
+-- these are the refused lines of this file
+abbrev pub RefusesAll : List NamedBytes → Builder → (cfg_name : List ℕ) → (all : List RefusedLine) → Type 0
+RefusesAll files builder cfg_name all = Holds files cfg_name (λ text. AreRefused text builder all)
 
 -- the two files say this: a configuration that is accepted, and a record that is
 pub record Say (files : List NamedBytes) (cfg_name rec_name : List ℕ) (cfg : Config) (rec : Recorded) : Type 0 where

@@ -2,6 +2,7 @@ pub mod Answers
 pub mod Ends
 pub mod Files
 pub mod Lines
+pub mod Refusals
 pub mod Serving
 pub mod Stops
 pub mod Sessions

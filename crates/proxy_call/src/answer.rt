@@ -1,19 +1,22 @@
 //! The texts that commands make of their files. The first step that is refused decides: configuration file, configuration, record
 //! file, record, session.
-ghost use Rattle.std.specs.Prelude.{◌≡◌, ◌<◌, ◌≤◌, vec_len, ℕ, List, Option, Ok, IfOk, IfErr, OnOk};
+ghost use Rattle.std.specs.Prelude.{◌≡◌, ◌+◌, ◌<◌, ◌≤◌, length, vec_len, ℕ, List, Option, Ok, IfOk, IfErr, OnOk};
 ghost use Rattle.px_link.specs.Told.{NamedBytes, Reads};
 ghost use Rattle.http_rules.specs.Valid.{IsValid};
-ghost use Rattle.px_command.specs.Command.{IsCheck, IsCheckRecord, IsReplay, IsWeave, RunsRecord, IsDrill, NamesConfig};
+ghost use Rattle.px_command.specs.Command.{IsCheck, IsCheckAll, IsCheckRecord, IsReplay, IsWeave, RunsRecord, IsDrill, NamesConfig};
 ghost use Rattle.rec_format.specs.Numbered.{IsNumbered};
 ghost use Rattle.rec_format.specs.Read.{meaning_of};
 ghost use Rattle.rec_format.specs.Reports.{Reportable};
 ghost use Rattle.proxy_call.specs.Files.{IfTold, Builder, Configured, IsBuilt, Say, told_by};
-ghost use Rattle.proxy_call.specs.Stops.{Answers, ReadStops, StopsBy, given};
+ghost use Rattle.proxy_call.specs.Stops.{Answers, ReadStops, SaysVerdict, StopsBy, given};
+ghost use Rattle.proxy_call.specs.Lines.{accepted_line};
 
 use crate::lines::accepted_line;
+use crate::refusals::refused_text;
 use crate::sessions::{drill_lines, replay_report, weave_report};
 use crate::stop::Stop;
-use cfg_parse::{Config, MAX_TEXT, load};
+use cfg_parse::{Config, MAX_TEXT, Verdict, load, verdict_of};
+use http_model::OutOfMemory;
 use px_link::{Bytes, Fault, Files};
 use px_pattern::Patterns;
 use rec_format::laws::{numbered, reportable};
@@ -62,6 +65,14 @@ pub fn configuration<'a, F: Files, P: Patterns>(
     Ok(cfg)
 }
 
+/// The line of an accepted configuration.
+fn counts_line(alloc: Global, cfg: &Config) -> Result<Bytes, OutOfMemory>
+    ensures { IfOk result (λ line. line ≡ accepted_line (length cfg.now.request) (length cfg.now.response + length cfg.now.after) (length cfg.now.req_filters + length cfg.now.res_filters)) }
+{
+    let answers = cfg.answer_rule_count();
+    accepted_line(alloc, cfg.request.len(), answers, cfg.filter_count())
+}
+
 /// The line of `check CFG` for an accepted configuration.
 pub fn check<'a, F: Files, P: Patterns>(
     alloc: Global,
@@ -73,8 +84,35 @@ pub fn check<'a, F: Files, P: Patterns>(
         → Answers (given words (F.files files.old) (told_by (P.refusals pats.old) (P.refusals pats.new) (P.last_refused pats.new)) (F.last_failed files.new) (F.faults files.old) (F.faults files.new)) result }
 {
     let cfg = configuration(alloc, files, name, pats)?;
-    let answers = cfg.answer_rule_count();
-    Ok(accepted_line(alloc, cfg.request.len(), answers, cfg.filter_count())?)
+    Ok(counts_line(alloc, &cfg)?)
+}
+
+/// What `check --all` says of a configuration's text, in the file of this name.
+fn verdict_text<'a>(alloc: Global, name: &'a str, verdict: Verdict) -> Result<Bytes, Stop<'a>>
+    ensures { SaysVerdict name.now verdict result }
+{
+    match verdict {
+        Verdict::Accepted(cfg) => Ok(counts_line(alloc, &cfg)?),
+        Verdict::Refused(refused) => {
+            let text = refused_text(alloc, name, &refused)?;
+            Err(Stop::RefusedAll { text })
+        }
+    }
+}
+
+/// The line of `check --all CFG` for an accepted configuration, or each of its refused lines.
+pub fn check_all<'a, F: Files, P: Patterns>(
+    alloc: Global,
+    files: &mut F,
+    name: &'a str,
+    pats: &mut P,
+) -> Result<Bytes, Stop<'a>>
+    ensures { (words : List (List ℕ)) → IsCheckAll words name.now
+        → Answers (given words (F.files files.old) (told_by (P.refusals pats.old) (P.refusals pats.new) (P.last_refused pats.new)) (F.last_failed files.new) (F.faults files.old) (F.faults files.new)) result }
+{
+    let text = read(alloc, files, name, MAX_TEXT + 1)?;
+    let verdict = verdict_of(alloc, text.as_slice(), pats)?;
+    verdict_text(alloc, name, verdict)
 }
 
 /// The record of `check --record REC`, in the second format.

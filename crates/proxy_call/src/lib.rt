@@ -3,6 +3,7 @@
 
 mod answer;
 mod lines;
+mod refusals;
 mod reply;
 mod run;
 mod serving;

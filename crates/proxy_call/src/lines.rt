@@ -8,7 +8,7 @@ use px_link::Bytes;
 use rec_format::RecKind;
 use std::alloc::Global;
 
-fn kind_name(kind: CfgKind) -> &'static str
+pub fn kind_name(kind: CfgKind) -> &'static str
     ensures { result.now ≡ kind_name kind }
 {
     match kind {

@@ -30,6 +30,10 @@ fn reply_to<'a>(alloc: Global, stop: Stop<'a>) -> Result<Reply, Stop<'a>>
             status: Status::Config,
             text: refused_line(alloc, line, kind)?,
         }),
+        Stop::RefusedAll { text } => Ok(Reply {
+            status: Status::Config,
+            text,
+        }),
         Stop::Record { place, kind } => Ok(Reply {
             status: Status::Record,
             text: record_line(alloc, place, kind)?,

@@ -5,7 +5,7 @@ ghost use Rattle.proxy_call.specs.Files.{told_by};
 ghost use Rattle.proxy_call.specs.Serving.{Serves};
 ghost use Rattle.proxy_call.specs.Stops.{Answers, Input, given};
 
-use crate::answer::{check, check_record, drill, replay, weave};
+use crate::answer::{check, check_all, check_record, drill, replay, weave};
 use crate::serving::serve;
 use crate::stop::Stop;
 use px_command::{Asked, asked_by, help_of_text, help_text, version_text};
@@ -37,6 +37,7 @@ pub fn run<'a, F: Files, N: Net, K: Sink, P: Patterns>(
 {
     match asked_by(alloc, words)? {
         Asked::Check { cfg } => write(check(alloc, files, cfg, pats), out),
+        Asked::CheckAll { cfg } => write(check_all(alloc, files, cfg, pats), out),
         Asked::CheckRecord { rec } => write(check_record(alloc, files, rec), out),
         Asked::Replay { cfg, rec } => write(replay(alloc, files, cfg, rec, pats), out),
         Asked::Weave { cfg, rec, cores } => {

@@ -16,6 +16,8 @@ pub enum Stop<'a> {
     Usage { text: Bytes },
     /// The configuration is refused at this line.
     Refused { line: u32, kind: CfgKind },
+    /// Lines of the configuration are refused. The text tells each of them.
+    RefusedAll { text: Bytes },
     /// The record is refused at this byte.
     Record { place: u32, kind: RecKind },
     /// The file of this name could not be read.
@@ -35,7 +37,7 @@ impl<'a> Stop<'a> {
     {
         match self {
             Stop::Usage { .. } => Status::Usage,
-            Stop::Refused { .. } => Status::Config,
+            Stop::Refused { .. } | Stop::RefusedAll { .. } => Status::Config,
             Stop::Record { .. } => Status::Record,
             Stop::File { .. } => Status::FileFault,
             Stop::Output => Status::OutFault,

@@ -2,13 +2,13 @@
 ghost use Rattle.std.specs.Prelude.{◌≡◌, ◌⊎◌, ℕ, List, Option, map, string_bytes, Some};
 ghost use Rattle.px_link.specs.Net.{Coming, Kept, address_of, with_address};
 ghost use Rattle.px_link.specs.Told.{NamedBytes, Rose, Gains};
-ghost use Rattle.px_command.specs.Command.{IsServe, IsUsage, NamesConfig};
+ghost use Rattle.px_command.specs.Command.{IsServe, IsUsage};
 ghost use Rattle.px_command.specs.Texts.{EndsLine};
 ghost use Rattle.serve_run.specs.Lines.{net_line};
 ghost use Rattle.serve_run.specs.Served.{Breaks, NetFails, ServedAll};
 ghost use Rattle.serve_run.specs.Told.{Visited};
 ghost use Rattle.proxy_call.specs.Lines.{file_line};
-ghost use Rattle.proxy_call.specs.Answers.{IsGood, IsRefusal, IsRefusedOf, IsRecordRefusedOf, DecidesRecord, DecidesBy, NamesServe, WritesFront, IsDue};
+ghost use Rattle.proxy_call.specs.Answers.{IsGood, IsRefusal, IsRefusedBy, IsRecordRefusedOf, DecidesRecord, DecidesBy, NamesServe, WritesFront, IsDue};
 ghost use Rattle.proxy_call.specs.Files.{told_by};
 ghost use Rattle.proxy_call.specs.Serving.{GainsBind, LostBy, ServedBy, Serving};
 
@@ -53,9 +53,9 @@ pub fn htx_proxy<F: Files, N: Net, K: Sink, P: Patterns>(
         × (text : List ℕ) × EndsLine text × Gains (K.written out.old) (K.written out.new) text }
 
     // Config comes only where the configuration is refused, and has written the line and what is wrong there: Pattern only
-    // where the builder refused a pattern of the file, and it was the last one.
-    ensures config { result ≡ Status.Config → (name : List ℕ) × NamesConfig (map string_bytes words.now) name
-        × (text : List ℕ) × IsRefusedOf (F.files files.old) (told_by (P.refusals pats.old) (P.refusals pats.new) (P.last_refused pats.new)) name text × Gains (K.written out.old) (K.written out.new) text }
+    // where the builder refused a pattern of the file, and it was the last one. Of `check --all` it has written each refused line.
+    ensures config { result ≡ Status.Config → (text : List ℕ)
+        × IsRefusedBy (map string_bytes words.now) (F.files files.old) (told_by (P.refusals pats.old) (P.refusals pats.new) (P.last_refused pats.new)) text × Gains (K.written out.old) (K.written out.new) text }
 
     // Record comes only where the record is refused, and has written the first byte of the line and what must stand there.
     ensures record_refused { result ≡ Status.Record → (name : List ℕ) × DecidesRecord (map string_bytes words.now) (F.files files.old) (told_by (P.refusals pats.old) (P.refusals pats.new) (P.last_refused pats.new)) name

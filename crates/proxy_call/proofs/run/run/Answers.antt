@@ -1,7 +1,7 @@
 use Rattle.std.proofs.Common.{ℕ, List, map, inl, inr, refl, subst}
 use Rattle.std.specs.Prelude.{string_bytes}
 use Rattle.px_command.specs.Asked.{IsAsked}
-use Rattle.px_command.specs.Command.{IsCheck, IsCheckRecord, IsReplay, IsWeave, IsServe, IsDrill, IsHelp, IsHelpOf, IsVersion}
+use Rattle.px_command.specs.Command.{IsCheck, IsCheckAll, IsCheckRecord, IsReplay, IsWeave, IsServe, IsDrill, IsHelp, IsHelpOf, IsVersion}
 use Rattle.proxy_call.specs.Files.{Builder, told_by}
 use Rattle.proxy_call.specs.Stops.{Input, given}
 use Rattle.proxy_call.proofs.run.run.Goals as goal
@@ -13,6 +13,14 @@ returns-in-Check g c =
     let builder : Builder = told_by (g.P.Patterns.refusals c.args.pats.now) (g.P.Patterns.refusals c.check.new.pats) (g.P.Patterns.last_refused c.check.new.pats) in
     let input : Input = given words (g.F.Files.files c.args.files.now) builder (g.F.Files.last_failed c.check.new.files) (g.F.Files.faults c.args.files.now) (g.F.Files.faults c.check.new.files) in
     inl (c.write.ensures input (c.check.ensures words is), refl)
+
+pub returns-in-CheckAll : goal.returns-in-CheckAll
+returns-in-CheckAll g c =
+    let words : List (List ℕ) = map string_bytes c.args.words.now in
+    let is : IsCheckAll words c.in-CheckAll.cfg.now = subst (IsAsked words) c.in-CheckAll.is c.in_ok-cfg.ensures in
+    let builder : Builder = told_by (g.P.Patterns.refusals c.args.pats.now) (g.P.Patterns.refusals c.check_all.new.pats) (g.P.Patterns.last_refused c.check_all.new.pats) in
+    let input : Input = given words (g.F.Files.files c.args.files.now) builder (g.F.Files.last_failed c.check_all.new.files) (g.F.Files.faults c.args.files.now) (g.F.Files.faults c.check_all.new.files) in
+    inl (c.write-in-CheckAll.ensures input (c.check_all.ensures words is), refl)
 
 pub returns-in-CheckRecord : goal.returns-in-CheckRecord
 returns-in-CheckRecord g c =
