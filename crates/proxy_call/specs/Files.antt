@@ -44,7 +44,7 @@ abbrev pub Refuses : List NamedBytes → Builder → (cfg_name : List ℕ) → (
 Refuses files builder cfg_name r refusal =
     Holds files cfg_name (λ text. (config_of text r ≡ Err refusal) × Builds text r builder.before builder.now builder.kept)
 
--- These are the refused lines of a text, one at least, for some answers of the builder. Its count rose by as many as it refused, and the first line
+-- These are the refused lines of a text, one at least, for some answers of the builder. Its count rose by at least as many as it refused, and the first line
 -- is one that a load of the text names.
 pub record AreRefused (text : List ℕ) (builder : Builder) (all : List RefusedLine) : Type 0 where
   pub answers : List Answer
