@@ -198,9 +198,13 @@ def refuse_each(name, words, beside=None):
 
 refuse_each("check", ["check", "all.cfg"])
 refuse_each("check, refused", ["check", "wrong.cfg"])
+refuse_each("check --all", ["check", "--all", "all.cfg"])
+refuse_each("check --all, refused", ["check", "--all", "wrong.cfg"])
 refuse_each("check --record", ["check", "--record", "all.rec"])
 refuse_each("replay", ["replay", "plain.cfg", "two.rec"])
 refuse_each("replay of patterns, filters and after rules", ["replay", "all.cfg", "all.rec"])
+refuse_each("weave over one core", ["weave", "plain.cfg", "two.rec", "1"])
+refuse_each("weave over two cores of patterns, filters and after rules", ["weave", "all.cfg", "all.rec", "2"])
 refuse_each("replay, refused", ["replay", "plain.cfg", "wrong.rec"])
 refuse_each("replay, no file", ["replay", "plain.cfg", "none.rec"])
 refuse_each("drill", ["drill", "1", "3"])
