@@ -18,6 +18,9 @@ mod mem_sink;
 mod net;
 mod sink;
 mod turns;
+mod waits;
+mod waits_net;
+mod wakes;
 
 pub use address::Address;
 pub use bytes::Bytes;
@@ -34,3 +37,6 @@ pub use mem_sink::MemSink;
 pub use net::Net;
 pub use sink::Sink;
 pub use turns::{Turn, Turns};
+pub use waits::Waits;
+pub use waits_net::WaitsNet;
+pub use wakes::{Readiness, Wake, Wakes, Watched};
