@@ -5,7 +5,7 @@ use crate::{Address, Net};
 
 /// A net that tells whether a call would wait. What contracts see of it stays.
 pub trait WaitsNet: Net {
-    /// Whether an accept can be made now: a link waits.
+    /// Whether an accept can be made now: a link waits, or the accept fails at once, as where the system has no room for one more.
     fn can_accept(&mut self) -> bool
         ensures seen { Self.seen self.new ≡ Self.seen self.old };
 
