@@ -10,6 +10,7 @@ mod real_files;
 mod real_link;
 mod real_net;
 mod real_sink;
+mod stream_calls;
 
 pub use real_files::RealFiles;
 pub use real_link::RealLink;

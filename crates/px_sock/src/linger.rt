@@ -1,29 +1,81 @@
-//! The end of a stream whose peer may still be sending.
-use std::io::Read;
-use std::net::{OpenStream, Shutdown};
-use std::time::Duration;
+//! The end of a stream whose peer may still be sending: what it sends is read and thrown away, until it ends too. A system that gets bytes for a
+//! socket that is gone answers with a reset, and a reset may take from the peer what it hasn't read yet (RFC 9112 section 9.6).
+use crate::stream_calls::read_open;
+use std::io;
+use std::io::{ErrorKind, Read};
+use std::net::OpenStream;
+use std::time::{Clock, Duration, Instant};
 
-/// How long one read waits for the peer.
-const WAIT_MILLIS: u64 = 500;
+/// How long a peer has to end too, in all.
+const PATIENCE_MILLIS: u64 = 2000;
 
-/// How many reads there are at most, and how many bytes each throws away at most.
-const READS: u32 = 256;
+/// How many bytes are thrown away at most, but for the last piece.
+const MOST: usize = 1048576;
 
 const PIECE: usize = 16384;
 
-/// Sends the end, and then reads and throws away what the peer still sends, until it ends too. A system that gets bytes for a
-/// socket that is gone answers with a reset, and a reset may take from the peer what it hasn't read yet (RFC 9112 section 9.6).
-pub fn linger<S: Read + OpenStream>(stream: &mut S) {
-    let wait = Some(Duration::from_millis(WAIT_MILLIS));
-    if stream.shutdown(Shutdown::Write).is_err() || stream.set_read_timeout(wait).is_err() {
-        return;
-    }
+/// What came of a read whose bytes are thrown away.
+enum Thrown {
+    /// So many bytes.
+    Bytes(usize),
+    /// Nothing is there now.
+    Nothing,
+    /// The peer has ended, or the stream has failed.
+    Ended,
+}
+
+/// Reads a piece, and throws it away.
+fn throw_piece<S: Read>(stream: &mut Option<S>) -> Thrown {
     let mut piece = [0u8; PIECE];
-    for _ in 0..READS {
-        match stream.read(&mut piece) {
-            Ok(0) => return,
-            Ok(_) => {}
-            Err(_) => return,
+    match read_open(stream, &mut piece) {
+        Ok(0) => Thrown::Ended,
+        Ok(n) => Thrown::Bytes(n),
+        Err(error) if error.kind() == ErrorKind::WouldBlock => Thrown::Nothing,
+        Err(_) => Thrown::Ended,
+    }
+}
+
+/// How much of the time is left; none where it is over, or can't be told.
+fn time_left<R: Clock>(rt: &R, start: Instant) -> Option<Duration> {
+    let Ok(now) = Instant::now(rt) else {
+        return None;
+    };
+    let patience = Duration::from_millis(PATIENCE_MILLIS);
+    let spent = now.saturating_duration_since(start);
+    if spent >= patience {
+        return None;
+    }
+    Some(patience.saturating_sub(spent))
+}
+
+/// Has the next read wait for at most this time.
+fn patient<S: OpenStream>(stream: &Option<S>, wait: Duration) -> io::Result<()> {
+    match stream {
+        Some(stream) => stream.set_read_timeout(Some(wait)),
+        None => Err(io::Error::from(ErrorKind::NotConnected)),
+    }
+}
+
+/// Waits for the end of the peer of a stream that blocks, for at most the time that there is, and throws away what comes.
+pub fn linger<R: Clock, S: Read + OpenStream>(rt: &R, stream: &mut Option<S>) {
+    let Ok(start) = Instant::now(rt) else {
+        return;
+    };
+    let mut thrown = 0usize;
+    for _ in 0..MOST {
+        let Some(wait) = time_left(rt, start) else {
+            return;
+        };
+        if patient(stream, wait).is_err() {
+            return;
+        }
+        match throw_piece(stream) {
+            Thrown::Bytes(n) => thrown = thrown.saturating_add(n),
+            Thrown::Nothing => return,
+            Thrown::Ended => return,
+        }
+        if thrown >= MOST {
+            return;
         }
     }
 }

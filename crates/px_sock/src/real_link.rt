@@ -1,21 +1,23 @@
 //! A link over a stream of the system.
-ghost use Rattle.std.specs.Prelude.{◌≡◌, ◌<◌, ◌≤◌, length, IfOk};
-ghost use Rattle.std.specs.Io.{ReadsAtMost};
+ghost use Rattle.std.specs.Prelude.{◌≡◌};
 ghost use Rattle.px_link.specs.Link.{untold};
 
 use crate::faults::{count, counted};
 use crate::linger::linger;
+use crate::stream_calls::{read_open, sends_end, write_open};
 use px_link::{Close, Failed, Fault, Link};
-use std::io;
-use std::io::{ErrorKind, Read, Write};
+use std::io::{Read, Write};
 use std::marker::Model;
 use std::net::OpenStream;
+use std::time::Clock;
 
 /// A link over a stream. Contracts see its two counts.
 #[derive(Drop)]
 pub struct RealLink<S> {
     /// None once it was closed.
     stream: Option<S>,
+    /// Behind the close: its stream, where the peer has still to end.
+    closing: Option<S>,
     /// The peer may still send when the link is closed, and wants what it was sent.
     lingers: bool,
     read_faults: u64,
@@ -31,14 +33,15 @@ impl<S> Model for RealLink<S> {
 }
 
 impl<S: OpenStream + Drop> RealLink<S> {
-    /// A link over this stream, of which each piece is sent at once. One that lingers waits for the end of its peer when it is
-    /// closed clean.
+    /// A link over this stream, of which each piece is sent at once. One that lingers is closed so that its peer loses nothing, where
+    /// `wait_for_end` comes behind the close.
     pub fn new(stream: S, lingers: bool) -> Self
         ensures { result ≡ untold 0 0 }
     {
         let _ = stream.set_nodelay(true);
         RealLink {
             stream: Some(stream),
+            closing: None,
             lingers,
             read_faults: 0,
             write_faults: 0,
@@ -46,27 +49,14 @@ impl<S: OpenStream + Drop> RealLink<S> {
     }
 }
 
-/// Reads from a stream that is open.
-fn read_open<S: Read>(stream: &mut Option<S>, into: &mut [u8]) -> io::Result<usize>
-    ensures { ReadsAtMost result into.new }
-{
-    match stream {
-        Some(stream) => stream.read(into),
-        None => Err(io::Error::from(ErrorKind::NotConnected)),
-    }
-}
-
-/// Writes some of a piece to a stream that is open; one that takes nothing fails.
-fn write_open<S: Write>(stream: &mut Option<S>, piece: &[u8]) -> io::Result<usize>
-    ensures { IfOk result (λ n. (0 < n) × (n ≤ length piece.now)) }
-{
-    let Some(stream) = stream else {
-        return Err(io::Error::from(ErrorKind::NotConnected));
-    };
-    match stream.write(piece) {
-        Ok(0) => Err(io::Error::from(ErrorKind::WriteZero)),
-        Ok(n) => Ok(n),
-        Err(error) => Err(error),
+impl<S: Read + OpenStream + Drop> RealLink<S> {
+    /// Waits for the end of the peer of a link that was closed and lingers, for two seconds in all.
+    pub(crate) fn wait_for_end<R: Clock>(&mut self, rt: &R)
+        ensures { self.new ≡ self.old }
+    {
+        if self.closing.is_some() {
+            linger(rt, &mut self.closing);
+        }
     }
 }
 
@@ -97,12 +87,11 @@ impl<S: Read + Write + OpenStream + Drop> Link for RealLink<S> {
         }
     }
 
-    /// The socket is closed. A peer can't tell a failed end from a clean one by it.
-    fn close(&mut self, how: Close) {
-        if let Some(mut stream) = self.stream.take() {
-            if self.lingers && how == Close::Clean {
-                linger(&mut stream);
-            }
+    /// The peer gets the end behind what was written, whichever way the link is closed: it can't tell a failed end from a clean one by it.
+    fn close(&mut self, _: Close) {
+        let stream = self.stream.take();
+        if self.lingers && sends_end(&stream) {
+            self.closing = stream;
         }
     }
 }

@@ -11,6 +11,7 @@ use std::alloc::Global;
 use std::io::ErrorKind;
 use std::marker::Model;
 use std::net::{OpenListener, SocketAddr, TcpListener, TcpStream};
+use std::time::Clock;
 use std::{io, net};
 
 /// A net over sockets. It listens at the address of the last bind that was answered Ok. Contracts see the addresses of its binds and
@@ -106,7 +107,7 @@ fn accept_from<L: OpenListener>(listener: &Option<L>) -> io::Result<L::Stream> {
     }
 }
 
-impl<'a, R: net::Net> Net for RealNet<'a, R> {
+impl<'a, R: net::Net + Clock> Net for RealNet<'a, R> {
     type Link = RealLink<R::Stream>;
 
     ghost seen = { λ n. n };
@@ -159,8 +160,10 @@ impl<'a, R: net::Net> Net for RealNet<'a, R> {
         }
     }
 
-    fn keep(&mut self, link: RealLink<R::Stream>) {
+    /// A link whose peer may still send lets it end first.
+    fn keep(&mut self, mut link: RealLink<R::Stream>) {
         self.lent -= 1;
+        link.wait_for_end(self.rt);
         drop(link);
     }
 }

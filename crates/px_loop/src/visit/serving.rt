@@ -8,6 +8,7 @@ use px_sock::{RealNet, RealSink};
 use std::alloc::Global;
 use std::net::Net;
 use std::process::ExitCode;
+use std::time::Clock;
 
 /// The word that asks for it.
 pub const WORD: &str = "serve";
@@ -42,7 +43,7 @@ fn files(alloc: Global, ports: Ports) -> Result<MemFiles, OutOfMemory> {
 }
 
 /// Serves two clients at one port, with the server at another. The process ends with the program's status.
-pub fn serve<R: Net + Print + AllocGlobal>(rt: &R, ports: Ports) -> ExitCode {
+pub fn serve<R: Net + Clock + Print + AllocGlobal>(rt: &R, ports: Ports) -> ExitCode {
     let alloc = rt.alloc();
     let (Ok(words), Ok(mut files)) = (words(alloc), files(alloc, ports)) else {
         return ExitCode::from(Status::OutOfMemory.number());
