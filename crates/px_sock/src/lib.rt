@@ -3,15 +3,25 @@
 #![tactic(auto)]
 
 mod addresses;
+mod dialling;
 mod faults;
 mod linger;
 mod numeric;
+mod ready;
+mod ready_link;
+mod ready_net;
+mod ready_poll;
 mod real_files;
 mod real_link;
 mod real_net;
 mod real_sink;
 mod stream_calls;
+mod stream_waits;
+mod tokens;
 
+pub use ready_link::ReadyLink;
+pub use ready_net::ReadyNet;
+pub use ready_poll::ReadyPoll;
 pub use real_files::RealFiles;
 pub use real_link::RealLink;
 pub use real_net::RealNet;

@@ -35,6 +35,30 @@ fn throw_piece<S: Read>(stream: &mut Option<S>) -> Thrown {
     }
 }
 
+/// What a stream's end has come to.
+#[derive(Clone, Copy, Debug, PartialEq, Eq)]
+pub enum Lingering {
+    /// The peer may still send.
+    GoesOn,
+    /// The peer has ended too, or has sent too much.
+    Over,
+}
+
+/// Throws away what is there now, of a stream that doesn't block. `thrown` is how many bytes that were in all.
+pub fn linger_now<S: Read>(stream: &mut Option<S>, thrown: &mut usize) -> Lingering {
+    for _ in 0..MOST {
+        if *thrown >= MOST {
+            return Lingering::Over;
+        }
+        match throw_piece(stream) {
+            Thrown::Bytes(n) => *thrown = thrown.saturating_add(n),
+            Thrown::Nothing => return Lingering::GoesOn,
+            Thrown::Ended => return Lingering::Over,
+        }
+    }
+    Lingering::Over
+}
+
 /// How much of the time is left; none where it is over, or can't be told.
 fn time_left<R: Clock>(rt: &R, start: Instant) -> Option<Duration> {
     let Ok(now) = Instant::now(rt) else {

@@ -1,0 +1,232 @@
+//! A net over sockets that don't block.
+ghost use Rattle.std.specs.Prelude.{◌≡◌, ◌<◌, []};
+ghost use Rattle.px_sock.specs.Untold.{untold_net};
+
+use crate::addresses::Addresses;
+use crate::dialling::Dialling;
+use crate::faults::{count, counted};
+use crate::numeric::{Numeric, place_of};
+use crate::ready_link::ReadyLink;
+use mio::net::TcpListener;
+use px_link::{Address, Fault, Net, WaitsNet};
+use std::alloc::Global;
+use std::io::ErrorKind;
+use std::marker::Model;
+use std::net::{IpAddr, SocketAddr, TcpStream};
+use std::os::fd::{AsRawFd, RawFd};
+use std::{io, net};
+
+/// A net over sockets that don't block. It listens at the address of the last bind that was answered Ok. Contracts see the addresses of its binds
+/// and connects, how many links are lent, and its two counts.
+#[derive(Drop)]
+pub struct ReadyNet<'a, R: net::Net> {
+    rt: &'a R,
+    alloc: Global,
+    listener: Option<TcpListener>,
+    /// What the system answered to an accept that is still to be made.
+    came: Option<io::Result<TcpStream>>,
+    /// A connect that is still to be made.
+    dialling: Dialling,
+    bound: Addresses,
+    dialled: Addresses,
+    /// The last address of numbers that was dialled. Only speed rests on it.
+    numeric: Option<Numeric>,
+    lent: u64,
+    bind_faults: u64,
+    connect_faults: u64,
+}
+
+impl<'a, R: net::Net> Model for ReadyNet<'a, R> {
+    ghost use Rattle.px_link.specs.Net.{NetSeen};
+    ghost use Rattle.px_sock.specs.Untold.{untold_net};
+
+    ghost Value = { NetSeen };
+
+    ghost view = { λ n. untold_net n.bound n.dialled n.lent n.bind_faults n.connect_faults };
+}
+
+impl<'a, R: net::Net> ReadyNet<'a, R> {
+    /// A net on which no call was made yet.
+    pub fn new(alloc: Global, rt: &'a R) -> Self
+        ensures { result ≡ untold_net [] [] 0 0 0 }
+    {
+        ReadyNet {
+            rt,
+            alloc,
+            listener: None,
+            came: None,
+            dialling: Dialling::Nothing,
+            bound: Addresses::new(alloc),
+            dialled: Addresses::new(alloc),
+            numeric: None,
+            lent: 0,
+            bind_faults: 0,
+            connect_faults: 0,
+        }
+    }
+
+    /// The number of its listener, by which a wait is told of it.
+    pub(crate) fn listener(&self) -> Option<RawFd> {
+        match &self.listener {
+            Some(listener) => Some(listener.as_raw_fd()),
+            None => None,
+        }
+    }
+
+    /// The number of the connect that was begun.
+    pub(crate) fn connecting(&self) -> Option<RawFd> {
+        self.dialling.descriptor()
+    }
+
+    /// Gives up the connect that was begun.
+    pub(crate) fn give_up_connect(&mut self)
+        ensures { self.new ≡ self.old }
+    {
+        self.dialling.fail();
+    }
+}
+
+/// The host of an address, which is text.
+fn host_of(address: &Address) -> io::Result<&str> {
+    match str::from_utf8(address.host.as_slice()) {
+        Ok(host) => Ok(host),
+        Err(_) => Err(io::Error::from(ErrorKind::InvalidInput)),
+    }
+}
+
+/// The address to listen at. No host, and `*`, are every local address of IPv4 (Configuration Manual, `bind`).
+fn local(at: &Address) -> io::Result<SocketAddr> {
+    let host = match host_of(at)? {
+        "" => "0.0.0.0",
+        "*" => "0.0.0.0",
+        host => host,
+    };
+    match host.parse::<IpAddr>() {
+        Ok(ip) => Ok(SocketAddr::new(ip, at.port)),
+        Err(_) => Err(io::Error::from(ErrorKind::InvalidInput)),
+    }
+}
+
+/// A listener at this address.
+fn listen<R: net::Net>(rt: &R, at: &Address) -> io::Result<TcpListener> {
+    TcpListener::bind(rt, local(at)?)
+}
+
+/// The next stream that comes in. A peer that was gone before it was accepted is none.
+fn next_stream(listener: &TcpListener) -> io::Result<TcpStream> {
+    for _ in 0..u64::MAX {
+        match listener.accept() {
+            Ok((stream, _)) => return Ok(TcpStream::from(stream)),
+            Err(error) => {
+                if error.kind() != ErrorKind::ConnectionAborted {
+                    return Err(error);
+                }
+            }
+        }
+    }
+    Err(io::Error::from(ErrorKind::ConnectionAborted))
+}
+
+/// The next stream that comes in to a listener.
+fn accept_from(listener: &Option<TcpListener>) -> io::Result<TcpStream> {
+    match listener {
+        Some(listener) => next_stream(listener),
+        None => Err(io::Error::from(ErrorKind::NotConnected)),
+    }
+}
+
+/// What the system answers to an accept, where it doesn't say that none waits.
+fn answer_of(listener: &Option<TcpListener>) -> Option<io::Result<TcpStream>> {
+    match accept_from(listener) {
+        Ok(stream) => Some(Ok(stream)),
+        Err(error) if error.kind() == ErrorKind::WouldBlock => None,
+        Err(error) => Some(Err(error)),
+    }
+}
+
+/// What the system answered before, or answers now.
+fn next_answer(
+    came: &mut Option<io::Result<TcpStream>>,
+    listener: &Option<TcpListener>,
+) -> io::Result<TcpStream> {
+    match came.take() {
+        Some(answer) => answer,
+        None => accept_from(listener),
+    }
+}
+
+impl<'a, R: net::Net> Net for ReadyNet<'a, R> {
+    type Link = ReadyLink<TcpStream>;
+
+    ghost seen = { λ n. n };
+
+    fn bind(&mut self, at: &Address) -> Result<(), Fault> {
+        self.bound.push(at)?;
+        let answer = listen(self.rt, at);
+        match counted(&mut self.bind_faults, answer) {
+            Ok(listener) => {
+                self.listener = Some(listener);
+                Ok(())
+            }
+            Err(Fault::Failed) => Err(Fault::Failed),
+            Err(Fault::OutOfMemory) => Err(Fault::OutOfMemory),
+        }
+    }
+
+    /// An accept before a bind that was answered Ok fails, as does one for which nothing waits.
+    fn accept(&mut self) -> Result<ReadyLink<TcpStream>, Fault> {
+        if self.lent == u64::MAX {
+            count(&mut self.bind_faults);
+            return Err(Fault::Failed);
+        }
+        let answer = next_answer(&mut self.came, &self.listener);
+        match counted(&mut self.bind_faults, answer) {
+            Ok(stream) => {
+                self.lent += 1;
+                Ok(ReadyLink::new(stream, true))
+            }
+            Err(Fault::Failed) => Err(Fault::Failed),
+            Err(Fault::OutOfMemory) => Err(Fault::OutOfMemory),
+        }
+    }
+
+    /// What came of the connect that was begun; one that is not over is given up.
+    fn connect(&mut self, to: &Address) -> Result<ReadyLink<TcpStream>, Fault> {
+        self.dialled.note(to)?;
+        if self.lent == u64::MAX {
+            count(&mut self.connect_faults);
+            return Err(Fault::Failed);
+        }
+        let answer = self.dialling.take();
+        match counted(&mut self.connect_faults, answer) {
+            Ok(stream) => {
+                self.lent += 1;
+                Ok(ReadyLink::new(stream, false))
+            }
+            Err(Fault::Failed) => Err(Fault::Failed),
+            Err(Fault::OutOfMemory) => Err(Fault::OutOfMemory),
+        }
+    }
+
+    fn keep(&mut self, link: ReadyLink<TcpStream>) {
+        self.lent -= 1;
+        drop(link);
+    }
+}
+
+impl<'a, R: net::Net> WaitsNet for ReadyNet<'a, R> {
+    fn can_accept(&mut self) -> bool {
+        if self.came.is_none() {
+            self.came = answer_of(&self.listener);
+        }
+        self.came.is_some()
+    }
+
+    fn can_connect(&mut self, to: &Address) -> bool {
+        if self.dialling.is_idle() {
+            let numbers = place_of(&mut self.numeric, self.alloc, to);
+            self.dialling = Dialling::begin(self.rt, numbers);
+        }
+        self.dialling.settles()
+    }
+}
