@@ -14,9 +14,7 @@ use Rattle.session_core.specs.Drives.{WantsMean, IsAlone, WantsSay, BegunSays, I
 use Rattle.session_core.specs.declared.machine.At.{At}
 use Rattle.session_core.specs.declared.Phase.{Phase}
 use Rattle.session_core.specs.declared.Phase.TheVariants as phase
-use Rattle.session_core.proofs.Exists.{over_perhaps}
 use Rattle.session_core.proofs.Events.{open_of}
-use Rattle.session_core.proofs.Fronts.{perhaps_told}
 use Rattle.session_core.proofs.Consequences.{final}
 use Rattle.session_core.proofs.InHand.{in_hand_of, in_phase}
 
@@ -240,8 +238,8 @@ begun_so M at q a p past is turned h =
       text = h.taken;
       has_begun = λ e stream on.
           let Q : Coming → Type 0 = λ s. Continues s stream in
-          over_perhaps (perhaps_told a.told (b.answers.1 stream (subst Q k.2.1.stream on)))
-          (λ (g : AnswerGoes M a.told a.answered a.begun p.asking p.to_client p.now stream). record { answered = g.answered; answers = g.answers; byte = (g.began e).0; more = (g.began e).1; begun = (g.began e).2 });
+          let g : AnswerGoes M a.told a.answered a.begun p.asking p.to_client p.now stream = b.answers.1 stream (subst Q k.2.1.stream on) in
+          record { answered = g.answered; answers = g.answers; byte = (g.began e).0; more = (g.began e).1; begun = (g.began e).2 };
       before = λ e. subst P (sym k.2.1.stream) (b.before e);
     }
 

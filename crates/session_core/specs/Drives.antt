@@ -6,7 +6,7 @@ use Rattle.session_model.specs.Meaning.{Meaning}
 use Rattle.session_model.specs.Answering.{Answered, AnswersFrom, sent_interim}
 use Rattle.session_model.specs.Session.{interim_text}
 use Rattle.session_core.specs.History.{Past, Connect, Continues, IsPrefix, close_by}
-use Rattle.session_core.specs.Sided.{Sided, RequestSeen, AnswerSeen, Asking, asker_in, Perhaps, RequestAsks, Interims, IsTurned, finished_blocks}
+use Rattle.session_core.specs.Sided.{Sided, RequestSeen, AnswerSeen, Asking, asker_in, RequestAsks, Interims, IsTurned, finished_blocks}
 use Rattle.session_core.specs.Awaits.{awaits_continue}
 use Rattle.session_core.specs.InHand.{InHand, ServesInHand, RefusesInHand, RepliesInHand}
 use Rattle.session_core.specs.Waits.{is_empty}
@@ -61,7 +61,7 @@ pub record BegunSays (M : Meaning) (past : Past) (window : List ℕ) (begun : Bo
   pub asks : (stream : Stream) → Continues in_hand.came stream → RequestAsks M in_hand.vars asking stream
   pub put : List ℕ
   pub text : past.taken ++ window ≡ in_hand.done.client ++ put
-  pub has_begun : begun ≡ true → (stream : Stream) → Continues connect.stream stream → Perhaps (HasBegun M asking put stream)
+  pub has_begun : begun ≡ true → (stream : Stream) → Continues connect.stream stream → HasBegun M asking put stream
   pub before : begun ≡ false → Interims M (asker_in asking) connect.stream put
 
 -- While a refusal goes out with no server open: the exchange in hand, and whether a byte of the refusal was put out.
