@@ -60,7 +60,8 @@ pub fn wants_say<S: Works>()
 {}
 
 /// What `begun` says of the bytes put out: while a server's answer goes out (`answer`); while a refusal or a reply does, exactly whether a byte of it
-/// was put out, with no server open (`refusal`, `reply`) and behind interim heads, in place of a server's answer (`turned`).
+/// was put out, with no server open (`refusal`, `reply`) and behind interim heads, in place of a server's answer (`turned`). Behind the close of the
+/// server's link it is what it was (`closed`, `closed_turned`).
 pub fn begun_says<S: Works>()
     ensures answer { (cfg : S.Settings) (sides : S) (at : At) (past : Past) → Stands (S.meaning cfg) S.request S.answer (S.stands cfg) sides at past
         → at.phase ≡ phase.Serving → is_turned at.cut ≡ false → BegunSays (S.meaning cfg) past (S.answer sides).window (S.answer sides).begun }
@@ -70,6 +71,10 @@ pub fn begun_says<S: Works>()
         → IsPlaced (S.placed sides) (S.answer sides) at.phase at.cut → at.phase ≡ phase.Replying kept → ReplyBegun (S.meaning cfg) (S.stands cfg sides) kept (S.answer sides) at past }
     ensures turned { (cfg : S.Settings) (sides : S) (at : At) (past : Past) → Stands (S.meaning cfg) S.request S.answer (S.stands cfg) sides at past
         → IsPlaced (S.placed sides) (S.answer sides) at.phase at.cut → at.phase ≡ phase.Serving → at.cut ≡ Some false → TurnedBegun (S.meaning cfg) (S.stands cfg sides) (S.request sides) (S.answer sides) at past }
+    ensures closed { (cfg : S.Settings) (sides : S) (at : At) (past : Past) → Stands (S.meaning cfg) S.request S.answer (S.stands cfg) sides at past
+        → at.phase ≡ phase.Served → is_turned at.cut ≡ false → BegunSays (S.meaning cfg) past (S.answer sides).window (S.answer sides).begun }
+    ensures closed_turned { (cfg : S.Settings) (sides : S) (at : At) (past : Past) → Stands (S.meaning cfg) S.request S.answer (S.stands cfg) sides at past
+        → IsPlaced (S.placed sides) (S.answer sides) at.phase at.cut → at.phase ≡ phase.Served → at.cut ≡ Some false → TurnedBegun (S.meaning cfg) (S.stands cfg sides) (S.request sides) (S.answer sides) at past }
 {}
 
 /// While a server is to be opened, the finished list of the request in hand stands in the array.
