@@ -1,7 +1,6 @@
 -- What a reader has told, and what bytes in the place of a body come to.
 use Rattle.std.proofs.Common.{◌≡◌, ℕ, ◌<◌, ◌≤◌, inl, inr, Bool, true, false, List, [], ◌∷◌, ◌++◌, refl, sym, ap, ◌∙◌, arith, length, subst, length-append}
 use Rattle.std.specs.Prelude.{Option, Some, None}
-use Rattle.std.specs.List.{fold}
 use Rattle.std.proofs.lemmas.List.{append-nil}
 use Rattle.std.proofs.lemmas.Nat.{le-div}
 use Rattle.httparse.specs.Grammar as grammar
@@ -16,10 +15,10 @@ use Rattle.http_model.specs.Reading.{Whole, Broke, Bad}
 use Rattle.h1_body.specs.declared.stages.Stage.{Stage}
 use Rattle.h1_body.specs.declared.stages.Stage.TheVariants as stage
 use Rattle.h1_body.specs.declared.reader.BodyReader.{BodyReader}
-use Rattle.h1_body.specs.Body.{BodyAt, Left, UntilClose, InLine, InData, AtReturn, AtFeed, InSection, Over, Hopeless, line_start, step, data_in, Goes}
+use Rattle.h1_body.specs.Body.{BodyAt, Left, UntilClose, InLine, InData, AtReturn, AtFeed, InSection, Over, Hopeless, line_start, Goes}
 use Rattle.h1_body.specs.Section.{section_limit, BeginsFields, BeginsSection, HasNoSectionWithin, IsHopelessSection, trailers_of, HasTrailers}
 use Rattle.h1_body.specs.Stands.{Stands, start_of, section_in, section_at, state_at, state_of, ends_at, ends_of, HasRead}
-use Rattle.h1_body.specs.BodyOf.{BodyRead, Reads, More, IsBodyOf, BodyOf, Tells, SectionTells, unfinished, closes, StateTells, ClosedIsWhole, ClosedIsCut}
+use Rattle.h1_body.specs.BodyOf.{BodyRead, Reads, More, IsBodyOf, BodyOf, Tells, SectionTells, StateTells, ClosedIsWhole, ClosedIsCut}
 use Rattle.h1_body.proofs.Sections.{some_section}
 
 -- ---- the empty section
@@ -126,29 +125,6 @@ tells_at limits framing bytes found at end read g x =
 pub one_reading : (limits : Limits) (framing : Framing) (bytes : List ℕ) (end : Option Ending) (a b : BodyRead) → IsBodyOf limits framing bytes end a → IsBodyOf limits framing bytes end b → a ≡ b
 one_reading limits framing bytes end a b x y =
     one_telling (section_limit limits) x.at x.found end a b x.tells (tells_at limits framing bytes x.found x.at end b x.goes y)
-
--- ---- some reading
-
-some_telling : (most : ℕ) (at : BodyAt) (found : List ℕ) (end : Option Ending) → ((read : BodyRead) → ¬ (Tells most at found end read)) → ⊥
-some_telling most (Over rest) found end none = none (Reads (Whole found [] rest)) refl
-some_telling most UntilClose found end none = none (closes found end) refl
-some_telling most Hopeless found end none = none (Reads (Bad found)) refl
-some_telling most (Left left) found end none = none (unfinished found end) refl
-some_telling most (InLine place n) found end none = none (unfinished found end) refl
-some_telling most (InData left) found end none = none (unfinished found end) refl
-some_telling most AtReturn found end none = none (unfinished found end) refl
-some_telling most AtFeed found end none = none (unfinished found end) refl
-some_telling most (InSection section) found None none =
-    none (More found) (refl, λ fields rest b. none (Reads (Whole found (trailers_of fields) rest)) (refl, (fields, b, refl)), λ never. none (Reads (Bad found)) (refl, never))
-some_telling most (InSection section) found (Some e) none =
-    none (Reads (Broke found)) (refl, λ fields rest b. none (Reads (Whole found (trailers_of fields) rest)) (refl, (fields, b, refl)), λ never. none (Reads (Bad found)) (refl, never))
-
-pub some_reading : (limits : Limits) (framing : Framing) (bytes : List ℕ) (end : Option Ending) → ((read : BodyRead) → ¬ (IsBodyOf limits framing bytes end read)) → ⊥
-some_reading limits framing bytes end none =
-    let at : BodyAt = fold step (start_of framing) bytes in
-    let found : List ℕ = data_in (start_of framing) bytes in
-    some_telling (section_limit limits) at found end
-    (λ read tells. none read (record { at = at; found = found; goes = record { place = refl; piece = refl }; tells = tells }))
 
 -- ---- where a Closed comes
 

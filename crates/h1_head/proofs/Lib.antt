@@ -22,3 +22,5 @@ mod Soundness
 mod Judging
 mod Parsed
 mod Places
+mod Settled
+mod Known

@@ -32,12 +32,6 @@ pub known_reading : (K : HeadKind) (limits : Limits) (stream : List ℕ) → IsK
 known_reading K limits stream (inl h) = by_head K limits stream h.0 h.1 h.2 (K.decides limits h.0) refl
 known_reading K limits stream (inr none) = without K limits stream (behind stream) refl none
 
-pub some_reading : (K : HeadKind) (limits : Limits) (stream : List ℕ) → ((r : HeadReading) → ¬ (HeadOf K limits stream r)) → ⊥
-some_reading K limits stream never =
-    let none : HasNoHead K limits (behind stream) = λ h rest b. let r = known_reading K limits stream (inl (h, rest, b)) in never r.0 r.1 in
-    let r = known_reading K limits stream (inr none) in
-    never r.0 r.1
-
 -- ---- what is refused where more may not be asked for
 
 -- where a head within the limits begins a longer text and none begins the text, the text may wait

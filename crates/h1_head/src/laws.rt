@@ -33,14 +33,14 @@ pub fn is_received()
     ensures { (side : Side) → (limits : Limits) (stream : List ℕ) (got : Received) (rest : List ℕ) → HeadOf (kind_of side) limits stream (Begins got rest) → IsReceived (kind_of side) limits got.head }
 {}
 
-/// It cannot be that a stream has no reading.
-pub fn some_reading()
-    ensures { (side : Side) → (limits : Limits) (stream : List ℕ) → ((r : HeadReading) → ¬ (HeadOf (kind_of side) limits stream r)) → ⊥ }
+/// Whether a head within the limits begins a text is decided, whatever the text is.
+pub fn is_known()
+    ensures { (side : Side) → (limits : Limits) (text : List ℕ) → IsKnown (kind_of side) limits text }
 {}
 
-/// The reading itself, where it is known whether a head within the limits begins the stream behind its empty lines.
-pub fn reading_where_known()
-    ensures { (side : Side) → (limits : Limits) (stream : List ℕ) → IsKnown (kind_of side) limits (behind stream) → (r : HeadReading) × HeadOf (kind_of side) limits stream r }
+/// Each stream has a reading: a head, a refusal, or nothing where it is empty lines alone.
+pub fn some_reading()
+    ensures { (side : Side) → (limits : Limits) (stream : List ℕ) → (r : HeadReading) × HeadOf (kind_of side) limits stream r }
 {}
 
 /// What is refused where no more may be asked for is refused whatever follows.

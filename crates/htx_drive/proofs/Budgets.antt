@@ -201,7 +201,7 @@ moved_within M first client to first_net net xs m answers ks past b one requests
     let t = dials.told answers ks told_answers told_kept in
     let s = told_size first_net net _ answers t.dials t.left past.connects t.connects t.chain t.each in
     less (moved past) (enough (length xs) (sum_by coming_size answers) m M.limits.bufsize)
-    (λ spent. front.1 (λ f. never_spent M past (enough (length xs) (sum_by coming_size answers) m M.limits.bufsize) m xs o.rest _ b one requests o.bytes s (omega arith) spent front.0 f))
+    (λ spent. never_spent M past (enough (length xs) (sum_by coming_size answers) m M.limits.bufsize) m xs o.rest _ b one requests o.bytes s (omega arith) spent front.0 front.1)
   where
     less : (a b : ℕ) → (b ≤ a → ⊥) → a < b
     less a b h = elim (cases_lt a b) [

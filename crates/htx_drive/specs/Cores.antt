@@ -3,13 +3,13 @@ use Rattle.std.proofs.Common.{◌≡◌, ◌≢◌, ℕ, ◌<◌, List, [], ◌�
 use Rattle.http_model.specs.declared.End.{End}
 use Rattle.session_model.specs.Meaning.{Meaning}
 use Rattle.session_core.specs.History.{Past}
-use Rattle.session_core.specs.Sided.{Sided, RequestSeen, AnswerSeen, Perhaps}
+use Rattle.session_core.specs.Sided.{Sided, RequestSeen, AnswerSeen}
 use Rattle.session_core.specs.Waits.{wants_of, is_serving}
 use Rattle.session_core.specs.Consequences.{IsTotal, IsFinal, IsFront, out_of_past}
 use Rattle.session_core.specs.Drives.{WantsSay}
 use Rattle.session_core.specs.Leads.{Stands}
 use Rattle.session_core.specs.declared.machine.At.{At}
-use Rattle.session_core.proofs.PublicLaws.{front, mean, says, final_taken, front_taken, over_perhaps}
+use Rattle.session_core.proofs.PublicLaws.{front, mean, says, final_taken, front_taken}
 use Rattle.htx_drive.specs.Machine.{CoreSeen, WantsMean}
 
 -- a window with bytes is one that isn't empty
@@ -58,10 +58,9 @@ pub core_over : (M : Meaning) {D : Type 0} (request : D → RequestSeen) (answer
 core_over M request answer stands sides at past how s over = final_taken M at (request sides) (answer sides) s.sided past how s.holds over
 
 pub core_front : (M : Meaning) → IsTotal M → {D : Type 0} (request : D → RequestSeen) (answer : D → AnswerSeen) (stands : D → Sided M → Type 0) (sides : D) (at : At) (past : Past)
-    → Stands M request answer stands sides at past → Perhaps (IsFront M past [] [] (answer sides).begun)
+    → Stands M request answer stands sides at past → IsFront M past [] [] (answer sides).begun
 core_front M total request answer stands sides at past s =
-    over_perhaps (front M total at (request sides) (answer sides) s.sided past s.holds)
-    (front_taken M past (answer sides).window (request sides).window (answer sides).begun)
+    front_taken M past (answer sides).window (request sides).window (answer sides).begun (front M total at (request sides) (answer sides) s.sided past s.holds)
 
 -- a core whose directions are as they were
 pub core_lends : {D C : Type 0} {old new : D} (core : D → C) → new ≡ old → core new ≡ core old

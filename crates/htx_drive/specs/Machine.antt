@@ -2,7 +2,6 @@
 use Rattle.std.specs.Prelude.{◌≡◌, ℕ, ◌<◌, List, [], length, Bool, true, false, Option, None}
 use Rattle.session_model.specs.Meaning.{Meaning}
 use Rattle.session_core.specs.History.{Event, Past, after}
-use Rattle.session_core.specs.Sided.{Perhaps}
 use Rattle.session_core.specs.Consequences.{IsFront}
 use Rattle.session_core.specs.declared.machine.Wants.{Wants}
 
@@ -33,7 +32,7 @@ pub record WantsMean (core : CoreSeen) : Type 0 where
 abbrev pub Leads : {Settings Core : Type 0} → (stands : Settings → Core → Past → Type 0) → (old new : Core) → Event → Type 0
 Leads {Settings} stands old new event = (cfg : Settings) (past : Past) → stands cfg old past → stands cfg new (after past event)
 
--- It is not so that what was taken is no front of what a session puts out in which each stream without an ending breaks off
--- here and each further connect is refused.
+-- What was taken is a front of what a session puts out in which each stream without an ending breaks off here and each further
+-- connect is refused.
 abbrev pub TookFront : (M : Meaning) → Past → Type 0
-TookFront M past = (begun : Bool) × Perhaps (IsFront M past [] [] begun)
+TookFront M past = (begun : Bool) × IsFront M past [] [] begun

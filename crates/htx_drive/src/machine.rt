@@ -6,7 +6,6 @@ ghost use Rattle.session_model.specs.Meaning.{Meaning};
 ghost use Rattle.session_core.specs.History.{Past, FromClient, ClientEnded, ClientTook, ServerOpened, FromServer, ServerEnded, ServerTook, ServerStopped, ServerClosed, Work};
 ghost use Rattle.session_core.specs.Waits.{wants_any};
 ghost use Rattle.session_core.specs.Consequences.{IsFinal, IsFront, out_of_past};
-ghost use Rattle.session_core.specs.Sided.{Perhaps};
 ghost use Rattle.session_core.specs.Drives.{WantsSay};
 ghost use Rattle.std.specs.Borrow.{sem};
 ghost use Rattle.session_core.specs.Lending.{LendsText};
@@ -154,5 +153,5 @@ pub trait Machine {
     ghost over_is_the_session: { (cfg : Self.Settings) (c : Self) (past : Past) (how : End) → stands cfg c past → (seen c).wants.over ≡ Some how → IsFinal (meaning cfg) past (out_of_past past past.taken (seen c).exchanges how) };
 
     /// At every moment what was taken is a front.
-    ghost taken_is_a_front: { (cfg : Self.Settings) (c : Self) (past : Past) → stands cfg c past → Perhaps (IsFront (meaning cfg) past [] [] (seen c).begun) };
+    ghost taken_is_a_front: { (cfg : Self.Settings) (c : Self) (past : Past) → stands cfg c past → IsFront (meaning cfg) past [] [] (seen c).begun };
 }

@@ -5,7 +5,6 @@ use Rattle.px_link.specs.Link.{Seen}
 use Rattle.px_link.specs.Net.{Coming, Kept, NetSeen, address_of}
 use Rattle.http_rules.specs.declared.config.Config.{Config}
 use Rattle.htx_drive.specs.Dialled.{Dialled}
-use Rattle.forward_core.specs.Meaning.Product.{meaning_of}
 use Rattle.proxy_call.specs.Sessions.Connections.{ServesClient}
 use Rattle.px_command.specs.Command.{IsServe}
 use Rattle.serve_run.specs.Lines.{net_line}
@@ -24,12 +23,12 @@ Serving words files P =
 -- a connection that was served by a configuration, with its outcome: its session is that of the configuration
 abbrev pub ServedBy : {L N : Type 0} (seen : L → Seen) (wrote : L → List ℕ → Type 0) (net_seen : N → NetSeen) → Config → N → N → Outcome → Type 0
 ServedBy seen wrote net_seen cfg =
-    ServedOne seen wrote net_seen (λ first client first_net net result. ServesClient (meaning_of cfg) seen wrote (address_of cfg.server) first client (net_seen first_net) (net_seen net) result) (address_of cfg.server)
+    ServedOne seen wrote net_seen (λ first client first_net net result. ServesClient cfg seen wrote (address_of cfg.server) first client (net_seen first_net) (net_seen net) result) (address_of cfg.server)
 
 -- a connection whose session, that of the configuration, was given up for want of memory
 abbrev pub LostBy : {L N : Type 0} (seen : L → Seen) (wrote : L → List ℕ → Type 0) (net_seen : N → NetSeen) → Config → N → N → Type 0
 LostBy seen wrote net_seen cfg =
-    LostOne seen wrote net_seen (λ first client first_net net result. ServesClient (meaning_of cfg) seen wrote (address_of cfg.server) first client (net_seen first_net) (net_seen net) result) (address_of cfg.server)
+    LostOne seen wrote net_seen (λ first client first_net net result. ServesClient cfg seen wrote (address_of cfg.server) first client (net_seen first_net) (net_seen net) result) (address_of cfg.server)
 
 -- the net was bound once more, where the configuration says
 abbrev pub GainsBind : NetSeen → NetSeen → Config → Type 0

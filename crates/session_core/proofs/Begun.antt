@@ -4,15 +4,15 @@ use Rattle.std.proofs.lemmas.Bool.{lt-ltb, le-ltb, ltb-true, ltb-false}
 use Rattle.session_model.specs.Meaning.{Meaning}
 use Rattle.session_model.specs.Answering.{sent_interim}
 use Rattle.session_model.specs.Session.{interim_text}
-use Rattle.session_core.specs.History.{Past, IsPrefix}
+use Rattle.session_core.specs.History.{Past, Connect, IsPrefix}
 use Rattle.session_core.specs.Sided.{Sided, RequestSeen, AnswerSeen, asker_in, IsTurned}
-use Rattle.session_core.specs.Stands.{Serves, InPhase, Holds}
+use Rattle.session_core.specs.Stands.{Serves, IsServing, InPhase, Holds}
 use Rattle.session_core.specs.InHand.{RefusesInHand, RepliesInHand, ServesInHand}
 use Rattle.session_core.specs.Waits.{is_empty}
 use Rattle.session_core.specs.Drives.{RefusalBegun, ReplyBegun, TurnedBegun, IsBegunBehind}
 use Rattle.session_core.specs.declared.machine.At.{At}
 use Rattle.session_core.specs.declared.Phase.TheVariants as phase
-use Rattle.session_core.proofs.InHand.{in_phase, refuses_so, replies_so, serves_so}
+use Rattle.session_core.proofs.InHand.{in_phase, refuses_so, replies_so, serves_by}
 
 -- ---- lists
 
@@ -77,13 +77,12 @@ reply_begun M S at kept q a p past is s begins h =
     let hand : RepliesInHand M S kept a at past = replies_so M S at kept q a p past is s h in
     record { hand = hand; begun = begins ∙ begun_any p.to_client p.saying.left p.saying.text hand.replies.said }
 
-pub turned_begun : (M : Meaning) (S : Sided M → Type 0) (at : At) (q : RequestSeen) (a : AnswerSeen) (p : Sided M) (past : Past)
-    → at.phase ≡ phase.Serving → at.cut ≡ Some false → S p → BeginsSo a p → Holds M at q a p past → TurnedBegun M S q a at past
-unfolding serves_so
-turned_begun M S at q a p past is cut s begins h =
-    let hand : ServesInHand M S q a at past = serves_so M S at q a p past is s h in
-    let k : InPhase M q a p h.hand at.cut h.now phase.Serving = in_phase M at phase.Serving q a p past is h in
-    let serves : Serves M q a p (Some false) = let P : Option Bool → Type 0 = λ c. Serves M q a p c in subst P cut k.2.2 in
+turned_by : (M : Meaning) (S : Sided M → Type 0) (at : At) (q : RequestSeen) (a : AnswerSeen) (p : Sided M) (past : Past) (connect : Connect)
+    → at.cut ≡ Some false → S p → BeginsSo a p → (h : Holds M at q a p past) → h.hand ≡ 1 → IsServing M q a p at.cut h.now connect → TurnedBegun M S q a at past
+unfolding serves_by
+turned_by M S at q a p past connect cut s begins h one k =
+    let hand : ServesInHand M S q a at past = serves_by M S at q a p past connect s h one k in
+    let serves : Serves M q a p (Some false) = let P : Option Bool → Type 0 = λ c. Serves M q a p c in subst P cut k.2 in
     let t : IsTurned M a p serves.1 = serves.3 in
     record {
       hand = hand;
@@ -91,3 +90,15 @@ turned_begun M S at q a p past is cut s begins h =
       turned = t;
       begun = begun_behind a.begun (interim_text (sent_interim (asker_in p.asking) t.heads)) p.to_client p.saying.left p.saying.text t.said begins;
     }
+
+pub turned_begun : (M : Meaning) (S : Sided M → Type 0) (at : At) (q : RequestSeen) (a : AnswerSeen) (p : Sided M) (past : Past)
+    → at.phase ≡ phase.Serving → at.cut ≡ Some false → S p → BeginsSo a p → Holds M at q a p past → TurnedBegun M S q a at past
+turned_begun M S at q a p past is cut s begins h =
+    let k : InPhase M q a p h.hand at.cut h.now phase.Serving = in_phase M at phase.Serving q a p past is h in
+    turned_by M S at q a p past k.1 cut s begins h k.0 k.2
+
+pub turned_closed : (M : Meaning) (S : Sided M → Type 0) (at : At) (q : RequestSeen) (a : AnswerSeen) (p : Sided M) (past : Past)
+    → at.phase ≡ phase.Served → at.cut ≡ Some false → S p → BeginsSo a p → Holds M at q a p past → TurnedBegun M S q a at past
+turned_closed M S at q a p past is cut s begins h =
+    let k : InPhase M q a p h.hand at.cut h.now phase.Served = in_phase M at phase.Served q a p past is h in
+    turned_by M S at q a p past k.2 cut s begins h k.0 k.4

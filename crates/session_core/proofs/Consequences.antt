@@ -11,7 +11,7 @@ use Rattle.session_model.specs.Meaning.{Meaning}
 use Rattle.session_model.specs.Asking.{Asks}
 use Rattle.session_model.specs.Session.{Exchange, Over, Follow, first_bit, Out, out_of, close_of}
 use Rattle.session_core.specs.History.{Past, Coming, Connect, Continues, ContinuesServer, IsPrefix, Fronts, BitFits, sent_of, prepend, prepended, broken, broken_server, connected}
-use Rattle.session_core.specs.Sided.{Sided, asker_in, replied_to, RequestSeen, AnswerSeen, RequestsAsk, RequestAsks, Perhaps}
+use Rattle.session_core.specs.Sided.{Sided, asker_in, replied_to, RequestSeen, AnswerSeen, RequestsAsk, RequestAsks}
 use Rattle.session_core.specs.Stands.{One, Puts, Follows, IsUnopened, IsServing, Refusing, IsReplying, EndsWith, IsOver, InPhase, Holds, most, kept_with}
 use Rattle.session_core.specs.Consequences.{IsTotal, IsFront, IsFinal, out_of_past}
 use Rattle.session_core.specs.declared.Phase.{Phase}
@@ -21,7 +21,8 @@ use Rattle.session_core.specs.Splits.{Splits}
 use Rattle.session_core.proofs.Streams.{Falls, falls, splits, continue_broken, continues_broken}
 use Rattle.session_core.proofs.Puts.{puts_both, first_of_both}
 use Rattle.session_core.proofs.Said.{unserved_sent, not_there, replied_exchange, reply_one}
-use Rattle.session_core.proofs.Exists.{sure, further, over_perhaps, spelling_exists}
+use Rattle.session_core.proofs.Exists.{spelling_exists}
+use Rattle.session_core.proofs.Serving.{InHand}
 use Rattle.session_core.proofs.Fronts.{Fronted, IsFronted, fronted_by_one, fronted_by_none, OneServer, one_server, serving_in_hand, fronts_join}
 
 unserved_fronted : (M : Meaning) → IsTotal M → (q : RequestSeen) (a : AnswerSeen) (p : Sided M) (cut : Option Bool) (now : List Connect)
@@ -42,12 +43,12 @@ serving_fronted M total q a p cut now connect h stream servers c s =
     let S : List Connect → Type 0 = λ now. AllZip ContinuesServer now servers in
     let o : OneServer connect servers = one_server connect servers h.1.there (subst S h.0 s) in
     let on : Continues p.server o.stream = let P : Coming → Type 0 = λ c. Continues c o.stream in subst P h.1.stream o.continues in
-    further (serving_in_hand M q a p cut stream o.stream o.stopped h.2 c on (o.stopped_is ∙ h.1.stopped)) (λ e.
+    let e : InHand M p cut a.begun stream o.stream o.stopped = serving_in_hand M q a p cut stream o.stream o.stopped h.2 c on (o.stopped_is ∙ h.1.stopped) in
     let one : One M p.vars stream servers e.exchange = let P : List Server → Type 0 = λ ss. One M p.vars stream ss e.exchange in subst P (sym o.servers_are) e.one in
     let front : IsPrefix (connect.taken ++ q.window) e.sent.bytes = let P : List ℕ → Type 0 = λ xs. IsPrefix xs e.sent.bytes in subst P (sym h.1.taken) e.to_server in
     let sent : Fronts (connect ∷ []) q.window e.exchange.connects = let P : List (Option Sent) → Type 0 = λ ss. Fronts (connect ∷ []) q.window ss in subst P (sym e.connects) front in
     let F : List Connect → Type 0 = λ now. Fronts now q.window e.exchange.connects in
-    fronted_by_one M total p now q.window cut a.begun stream servers e.exchange one e.client (subst F (sym h.0) sent) e.bit)
+    fronted_by_one M total p now q.window cut a.begun stream servers e.exchange one e.client (subst F (sym h.0) sent) e.bit
 
 sent_fronts : (cs : List Connect) (window : List ℕ) → Fronts cs [] (map sent_of cs) → window ≡ [] → Fronts cs window (map sent_of cs)
 sent_fronts cs window f none = let P : List ℕ → Type 0 = λ w. Fronts cs w (map sent_of cs) in subst P (sym none) f
@@ -69,7 +70,7 @@ over_fronted M q a p hand cut now how none fronts over stream servers c s =
     let e : EndsWith M p.vars p.to_client hand now cut how stream servers = over stream servers c s in
     let F : List (Option Sent) → Type 0 = λ ss. Fronts now q.window ss in
     let G : List Server → Type 0 = λ ss. Follow M e.exchanges p.vars stream ss how in
-    sure (record {
+    record {
       exchanges = e.exchanges;
       how = how;
       refused = 0;
@@ -77,7 +78,7 @@ over_fronted M q a p hand cut now how none fronts over stream servers c s =
       client = ([], append-nil p.to_client ∙ sym e.puts.client);
       sent = subst F (sym e.puts.connects) (sent_fronts now q.window fronts none);
       bit = fits cut (first_bit e.exchanges) e.puts.bit;
-    })
+    }
   where
     fits : (cut bit : Option Bool) → bit ≡ cut → BitFits cut a.begun bit
     fits None bit is = let P : Option Bool → Type 0 = λ b. BitFits None a.begun b in subst P (sym is) tt
@@ -121,13 +122,13 @@ pub split_past : (used : List ℕ) (came client : Coming) (s : Stream) → clien
 split_past used came client s is h = let P : Coming → Type 0 = λ c. Continues c s in splits used came s (subst P is h)
 
 pub front : (M : Meaning) → IsTotal M → (c : At) (q : RequestSeen) (a : AnswerSeen) (p : Sided M) (past : Past)
-    → Holds M c q a p past → Perhaps (IsFront M past a.window q.window a.begun)
+    → Holds M c q a p past → IsFront M past a.window q.window a.begun
 front M total c q a p past h =
     let servers : List Server = map broken_server past.connects in
     let s : Splits h.used p.came (broken past.client) = split_past h.used p.came past.client (broken past.client) h.client (continues_broken past.client) in
     let Z : List Connect → Type 0 = λ cs. AllZip ContinuesServer cs servers in
     let f : Falls ContinuesServer h.before h.now servers = falls ContinuesServer h.before h.now servers (subst Z h.connects (continue_broken past.connects)) in
-    over_perhaps (fronted M total q a p h.hand c.cut h.now c.phase h.phase s.rest f.behind s.continues f.behinds) (λ (x : Fronted M p h.now q.window c.cut a.begun s.rest f.behind).
+    let x : Fronted M p h.now q.window c.cut a.begun s.rest f.behind = fronted M total q a p h.hand c.cut h.now c.phase h.phase s.rest f.behind s.continues f.behinds in
     let all : Follows M h.done (prepend h.used s.rest) (f.front ++ (f.behind ++ replicate x.refused NotThere)) x.how x.exchanges =
     h.behind s.rest f.front (f.behind ++ replicate x.refused NotThere) x.how x.exchanges s.continues f.fronts x.follow in
     let es : List (Exchange M.Vars) = all.exchanges ++ x.exchanges in
@@ -155,7 +156,7 @@ front M total c q a p past h =
           let P : Option Bool → Type 0 = λ n. BitFits n a.begun (first_bit es) in
           let R : Option Bool → Type 0 = λ b. BitFits c.cut a.begun b in
           subst P (sym h.note) (subst R (sym bit) x.bit);
-    })
+    }
 
 out_is : (m n : ℕ) (how : End) (cut bit : Option Bool) (client text : List ℕ) (sent servers : List (Option Sent)) → m ≡ n → cut ≡ bit → client ≡ text → sent ≡ servers
     → (let o : Out = record { exchanges = m; how = how; cut = cut; client = record { bytes = client; close = close_of how }; servers = sent } in o)

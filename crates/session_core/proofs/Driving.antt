@@ -7,16 +7,14 @@ use Rattle.session_model.specs.Stream.{Sent}
 use Rattle.session_model.specs.Meaning.{Meaning}
 use Rattle.session_core.specs.History.{Past, Coming, Connect, Continues, IsPrefix, IsFrontOf, Fronts, close_by}
 use Rattle.session_core.specs.Sided.{Sided, RequestSeen, AnswerSeen, asker_in, AnswersSo, AnswerGoes, IsBefore, Interims}
-use Rattle.session_core.specs.Stands.{Serves, InPhase, Holds}
+use Rattle.session_core.specs.Stands.{Serves, IsServing, InPhase, Holds}
 use Rattle.session_core.specs.Waits.{is_empty, is_serving, is_opening, is_telling, is_turned, has_ended, takes_client, over_by, wants_of}
 use Rattle.session_core.specs.Consequences.{IsFinal, IsFront, out_of_past}
 use Rattle.session_core.specs.Drives.{WantsMean, IsAlone, WantsSay, BegunSays, IsAskedFor}
 use Rattle.session_core.specs.declared.machine.At.{At}
 use Rattle.session_core.specs.declared.Phase.{Phase}
 use Rattle.session_core.specs.declared.Phase.TheVariants as phase
-use Rattle.session_core.proofs.Exists.{over_perhaps}
 use Rattle.session_core.proofs.Events.{open_of}
-use Rattle.session_core.proofs.Fronts.{perhaps_told}
 use Rattle.session_core.proofs.Consequences.{final}
 use Rattle.session_core.proofs.InHand.{in_hand_of, in_phase}
 
@@ -223,27 +221,39 @@ began M q a p None turned s = record { answers = s.1; before = s.3 }
 began M q a p (Some true) turned s = record { answers = s.1; before = λ e. let no : true ≡ false = sym s.4 ∙ e in absurd (grind (arith, no)) }
 began M q a p (Some false) turned s = absurd (grind (arith, turned))
 
-pub begun_so : (M : Meaning) (at : At) (q : RequestSeen) (a : AnswerSeen) (p : Sided M) (past : Past) → at.phase ≡ phase.Serving → is_turned at.cut ≡ false → (h : Holds M at q a p past)
-    → BegunSays M past a.window a.begun
-begun_so M at q a p past is turned h =
-    let k : InPhase M q a p h.hand at.cut h.now phase.Serving = in_phase M at phase.Serving q a p past is h in
-    let b : Began M a p = began M q a p at.cut turned k.2.2 in
+begun_by : (M : Meaning) (at : At) (q : RequestSeen) (a : AnswerSeen) (p : Sided M) (past : Past) (connect : Connect) → is_turned at.cut ≡ false → (h : Holds M at q a p past)
+    → IsServing M q a p at.cut h.now connect → BegunSays M past a.window a.begun
+begun_by M at q a p past connect turned h k =
+    let b : Began M a p = began M q a p at.cut turned k.2 in
     let P : Coming → Type 0 = λ s. Interims M (asker_in p.asking) s p.to_client in
     record {
       in_hand = in_hand_of M at q a p past h;
-      connect = k.1;
-      now = k.2.0;
-      there = k.2.1.there;
+      connect = connect;
+      now = k.0;
+      there = k.1.there;
       asking = p.asking;
-      asks = k.2.4;
+      asks = k.4;
       put = p.to_client;
       text = h.taken;
       has_begun = λ e stream on.
           let Q : Coming → Type 0 = λ s. Continues s stream in
-          over_perhaps (perhaps_told a.told (b.answers.1 stream (subst Q k.2.1.stream on)))
-          (λ (g : AnswerGoes M a.told a.answered a.begun p.asking p.to_client p.now stream). record { answered = g.answered; answers = g.answers; byte = (g.began e).0; more = (g.began e).1; begun = (g.began e).2 });
-      before = λ e. subst P (sym k.2.1.stream) (b.before e);
+          let g : AnswerGoes M a.told a.answered a.begun p.asking p.to_client p.now stream = b.answers.1 stream (subst Q k.1.stream on) in
+          record { answered = g.answered; answers = g.answers; byte = (g.began e).0; more = (g.began e).1; begun = (g.began e).2 };
+      before = λ e. subst P (sym k.1.stream) (b.before e);
     }
+
+pub begun_so : (M : Meaning) (at : At) (q : RequestSeen) (a : AnswerSeen) (p : Sided M) (past : Past) → at.phase ≡ phase.Serving → is_turned at.cut ≡ false → (h : Holds M at q a p past)
+    → BegunSays M past a.window a.begun
+begun_so M at q a p past is turned h =
+    let k : InPhase M q a p h.hand at.cut h.now phase.Serving = in_phase M at phase.Serving q a p past is h in
+    begun_by M at q a p past k.1 turned h k.2
+
+-- behind the close of its server's link
+pub begun_closed : (M : Meaning) (at : At) (q : RequestSeen) (a : AnswerSeen) (p : Sided M) (past : Past) → at.phase ≡ phase.Served → is_turned at.cut ≡ false → (h : Holds M at q a p past)
+    → BegunSays M past a.window a.begun
+begun_closed M at q a p past is turned h =
+    let k : InPhase M q a p h.hand at.cut h.now phase.Served = in_phase M at phase.Served q a p past is h in
+    begun_by M at q a p past k.2 turned h k.4
 
 -- ---- a server is to be opened
 

@@ -14,7 +14,6 @@ use Rattle.session_core.specs.declared.Phase.{Phase}
 use Rattle.session_core.specs.declared.Phase.TheVariants as phase
 use Rattle.session_core.specs.declared.Source.{Source}
 use Rattle.session_core.specs.declared.Source.TheVariants as source
-use Rattle.session_core.proofs.Exists.{over_perhaps}
 use Rattle.session_core.proofs.Streams.{continues_gains, continues_ends}
 
 pub holds_at : (M : Meaning) (at : At) (q r : RequestSeen) (a b : AnswerSeen) (p : Sided M) (past : Past)

@@ -18,7 +18,6 @@ use Rattle.session_model.specs.Asking.{Forwarded, Asked, asked_by, forwards, Ask
 use Rattle.session_model.specs.Amending.{reply_sent, refusal_sent, behind_reply}
 use Rattle.session_model.specs.Session.{Exchange, After, Over, Next, Follow, GoesOn, Goes, first_bit}
 use Rattle.session_core.proofs.Said.{replied_exchange, is_replied}
-use Rattle.session_core.specs.Sided.{Perhaps}
 use Rattle.session_core.specs.Consequences.{IsTotal}
 
 -- ---- every message has a spelling
@@ -81,16 +80,7 @@ refusal_exists M vars client code no_body method behind asks =
     let t : (text : List ℕ) × Spells true no_body m text = spelling_exists true no_body m in
     one_exists M vars client (Refused code no_body method behind) 0 t.0 [] asks (refl, record { said = t.0; spelled = t.1; exchange = refl })
 
--- ---- what is not impossible
-
-pub sure : {A : Type 0} → A → Perhaps A
-sure a = λ n. n a
-
-pub further : {A B : Type 0} → Perhaps A → (A → Perhaps B) → Perhaps B
-further p f = λ n. p (λ a. f a n)
-
-pub over_perhaps : {A B : Type 0} → Perhaps A → (A → B) → Perhaps B
-over_perhaps p f = λ n. p (λ a. n (f a))
+-- ---- a session of each stream
 
 unserved_exists : (M : Meaning) (vars : M.Vars) (client : Stream) (f : Forwarded M.Vars) → Asks M vars client (Sends f) → Exists M vars client
 unserved_exists M vars client f asks =
@@ -99,23 +89,23 @@ unserved_exists M vars client f asks =
     one_exists M vars client (Sends f) 1 t.0 (None ∷ []) asks (refl, record { said = t.0; spelled = t.1; exchange = refl })
 
 reply_exists : (M : Meaning) (vars : M.Vars) (client : Stream) (m : Message) (no_body keep : Bool) (rest : Stream) (method : List ℕ) (next : M.Vars)
-    → Asks M vars client (Replied m no_body keep rest method next) → ((after : M.Vars) → Perhaps (Exists M after rest)) → Perhaps (Exists M vars client)
+    → Asks M vars client (Replied m no_body keep rest method next) → ((after : M.Vars) → Exists M after rest) → Exists M vars client
 reply_exists M vars client m no_body keep rest method next asks on =
     let t : (text : List ℕ) × Spells true no_body (reply_sent M m method (M.answering next) keep) text = spelling_exists true no_body (reply_sent M m method (M.answering next) keep) in
     by t.0 t.1 (behind_reply M m method (M.answering next) keep) refl
   where
-    by : (text : List ℕ) → Spells true no_body (reply_sent M m method (M.answering next) keep) text → (behind : Option M.Vars) → behind_reply M m method (M.answering next) keep ≡ behind → Perhaps (Exists M vars client)
+    by : (text : List ℕ) → Spells true no_body (reply_sent M m method (M.answering next) keep) text → (behind : Option M.Vars) → behind_reply M m method (M.answering next) keep ≡ behind → Exists M vars client
     by text spelled None is =
-        sure (one_exists M vars client (Replied m no_body keep rest method next) 0 text [] asks (refl, is_replied M m no_body keep rest method next None text spelled is))
+        one_exists M vars client (Replied m no_body keep rest method next) 0 text [] asks (refl, is_replied M m no_body keep rest method next None text spelled is)
     by text spelled (Some after) is =
-        over_perhaps (on (M.renewed after)) (λ x.
+        let x : Exists M (M.renewed after) rest = on (M.renewed after) in
         record {
           exchanges = replied_exchange M rest text (Some after) ∷ x.exchanges;
           how = x.how;
           refused = x.refused;
           follow = (Replied m no_body keep rest method next, replicate x.refused NotThere, asks, (refl, is_replied M m no_body keep rest method next (Some after) text spelled is), x.follow);
           uncut = x.uncut;
-        })
+        }
 
 forward_exists : (M : Meaning) (vars : M.Vars) (client : Stream) (received : Received) (rest : Stream) (head : Head) (next : M.Vars)
     → ((asked : Asked M.Vars) → asked ≡ forwards M received head next rest → Asks M vars client asked)
@@ -131,37 +121,37 @@ forward_exists M vars client received rest head next up false true l f =
 
 verdict_exists : (M : Meaning) (vars : M.Vars) (client : Stream) (received : Received) (rest : Stream) (v : Verdict M.Vars)
     → ((asked : Asked M.Vars) → asked ≡ asked_by M received rest v → Asks M vars client asked)
-    → ((next : M.Vars) → Perhaps (Exists M next rest))
-    → Perhaps (Exists M vars client)
+    → ((next : M.Vars) → Exists M next rest)
+    → Exists M vars client
 verdict_exists M vars client received rest (Deny code env) up on =
-    sure (refusal_exists M vars client code (is_head_request received.head) (method_in env) env.vars (up (Refused code (is_head_request received.head) (method_in env) env.vars) refl))
+    refusal_exists M vars client code (is_head_request received.head) (method_in env) env.vars (up (Refused code (is_head_request received.head) (method_in env) env.vars) refl)
 verdict_exists M vars client received rest (Fail why env) up on =
-    sure (refusal_exists M vars client 500 (is_head_request received.head) (method_in env) env.vars (up (Refused 500 (is_head_request received.head) (method_in env) env.vars) refl))
+    refusal_exists M vars client 500 (is_head_request received.head) (method_in env) env.vars (up (Refused 500 (is_head_request received.head) (method_in env) env.vars) refl)
 verdict_exists M vars client received rest (Reply m env) up on =
     reply_exists M vars client m (is_head_request received.head) (keeps received && is_bodiless received.framing) rest (method_in env) env.vars
     (up (Replied m (is_head_request received.head) (keeps received && is_bodiless received.framing) rest (method_in env) env.vars) refl) on
 verdict_exists M vars client received rest (Pass env) up on =
-    sure (forward_exists M vars client received rest env.head env.vars up (declares_too_much M.request_filters received.declared) (request_fits M received env.head) refl refl)
+    forward_exists M vars client received rest env.head env.vars up (declares_too_much M.request_filters received.declared) (request_fits M received env.head) refl refl
 
 head_exists : (M : Meaning) → IsTotal M → (vars : M.Vars) (client : Stream) (r : HeadReading) → M.reads_request client.bytes r
-    → ((next : M.Vars) (rest : List ℕ) → length rest < length client.bytes → Perhaps (Exists M next (record { bytes = rest; ending = client.ending })))
-    → Perhaps (Exists M vars client)
+    → ((next : M.Vars) (rest : List ℕ) → length rest < length client.bytes → Exists M next (record { bytes = rest; ending = client.ending }))
+    → Exists M vars client
 head_exists M total vars client reading.Nothing reads on =
-    sure (record { exchanges = []; how = end.Done; refused = 0; follow = (record { head = reading.Nothing; reads = reads; asks = refl }, refl, refl); uncut = refl })
+    record { exchanges = []; how = end.Done; refused = 0; follow = (record { head = reading.Nothing; reads = reads; asks = refl }, refl, refl); uncut = refl }
 head_exists M total vars client (reading.Refused code) reads on =
-    sure (refusal_exists M vars client code false [] vars (record { head = reading.Refused code; reads = reads; asks = refl }))
+    refusal_exists M vars client code false [] vars (record { head = reading.Refused code; reads = reads; asks = refl })
 head_exists M total vars client (reading.Begins received rest) reads on =
     verdict_exists M vars client received (record { bytes = rest; ending = client.ending }) (M.request_rules (request_env vars received.head))
     (λ asked h. record { head = reading.Begins received rest; reads = reads; asks = h })
     (λ next. on next rest (total.shorter client.bytes received rest reads))
 
-exists_within : (M : Meaning) → IsTotal M → (n : ℕ) (vars : M.Vars) (client : Stream) → length client.bytes < n → Perhaps (Exists M vars client)
+exists_within : (M : Meaning) → IsTotal M → (n : ℕ) (vars : M.Vars) (client : Stream) → length client.bytes < n → Exists M vars client
 exists_within M total zero vars client short = absurd (omega (arith, short))
 exists_within M total (suc n) vars client short =
-    further (total.heads client.bytes) (λ h. head_exists M total vars client h.0 h.1
-    (λ next rest less. exists_within M total n next (record { bytes = rest; ending = client.ending }) (omega (arith, less, short))))
+    let h = total.heads client.bytes in
+    head_exists M total vars client h.0 h.1 (λ next rest less. exists_within M total n next (record { bytes = rest; ending = client.ending }) (omega (arith, less, short)))
 
-pub session_exists : (M : Meaning) → IsTotal M → (vars : M.Vars) (client : Stream) → Perhaps (Exists M vars client)
+pub session_exists : (M : Meaning) → IsTotal M → (vars : M.Vars) (client : Stream) → Exists M vars client
 session_exists M total vars client = exists_within M total (suc (length client.bytes)) vars client (omega arith)
 
 -- ---- behind one exchange
@@ -173,7 +163,8 @@ pub record GoesOnSo (M : Meaning) (a : After M.Vars) : Type 0 where
   pub on : GoesOn a more (replicate refused NotThere) how (λ rest next. Follow M more next rest (replicate refused NotThere) how)
   pub uncut : first_bit more ≡ None
 
-pub goes_on_so : (M : Meaning) → IsTotal M → (a : After M.Vars) → Perhaps (GoesOnSo M a)
-goes_on_so M total (Over how) = sure (record { more = []; how = how; refused = 0; on = (refl, refl, refl); uncut = refl })
+pub goes_on_so : (M : Meaning) → IsTotal M → (a : After M.Vars) → GoesOnSo M a
+goes_on_so M total (Over how) = record { more = []; how = how; refused = 0; on = (refl, refl, refl); uncut = refl }
 goes_on_so M total (Next rest vars) =
-    over_perhaps (session_exists M total vars rest) (λ x. record { more = x.exchanges; how = x.how; refused = x.refused; on = x.follow; uncut = x.uncut })
+    let x : Exists M vars rest = session_exists M total vars rest in
+    record { more = x.exchanges; how = x.how; refused = x.refused; on = x.follow; uncut = x.uncut }

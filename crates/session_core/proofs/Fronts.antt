@@ -12,13 +12,11 @@ use Rattle.session_core.specs.History.{Connect, Continues, ContinuesServer, IsPr
 use Rattle.session_model.specs.Answering.{sent_interim}
 use Rattle.session_core.specs.declared.Source.{Source}
 use Rattle.session_core.specs.declared.Source.TheVariants as source
-use Rattle.session_core.specs.declared.Told.{Told}
-use Rattle.session_core.specs.declared.Told.TheVariants as told
-use Rattle.session_core.specs.Sided.{Sided, asker_in, RequestSeen, AnswerSeen, RequestGoes, AnswerGoes, is_all, IsBefore, IsTurned, SourceIs, Perhaps, IfTold}
+use Rattle.session_core.specs.Sided.{Sided, asker_in, RequestSeen, AnswerSeen, RequestGoes, AnswerGoes, is_all, IsBefore, IsTurned, SourceIs}
 use Rattle.session_core.specs.Stands.{One, Serves}
 use Rattle.session_core.specs.Consequences.{IsTotal}
 use Rattle.session_core.proofs.Puts.{one_follows}
-use Rattle.session_core.proofs.Exists.{Exists, session_exists, goes_on_so, spelling_exists, sure, further, over_perhaps}
+use Rattle.session_core.proofs.Exists.{Exists, session_exists, goes_on_so, GoesOnSo, spelling_exists}
 use Rattle.session_core.proofs.Serving.{made, InHand, answered_in_hand, refused_in_hand}
 
 -- ---- fronts
@@ -66,13 +64,13 @@ pub record Fronted (M : Meaning) (p : Sided M) (now : List Connect) (window : Li
 abbrev pub IsFronted : (M : Meaning) → RequestSeen → AnswerSeen → Sided M → Option Bool → List Connect → Type 0
 IsFronted M q a p cut now =
     (stream : Stream) (servers : List Server) → Continues p.came stream → AllZip ContinuesServer now servers
-    → Perhaps (Fronted M p now q.window cut a.begun stream servers)
+    → Fronted M p now q.window cut a.begun stream servers
 
 pub fronted_by_one : (M : Meaning) → IsTotal M → (p : Sided M) (now : List Connect) (window : List ℕ) (cut : Option Bool) (begun : Bool) (stream : Stream) (servers : List Server) (e : Exchange M.Vars)
     → One M p.vars stream servers e → IsPrefix p.to_client e.client → Fronts now window e.connects → BitFits cut begun e.bit
-    → Perhaps (Fronted M p now window cut begun stream servers)
+    → Fronted M p now window cut begun stream servers
 fronted_by_one M total p now window cut begun stream servers e one client sent bit =
-    over_perhaps (goes_on_so M total e.after) (λ on.
+    let on : GoesOnSo M e.after = goes_on_so M total e.after in
     record {
       exchanges = e ∷ on.more;
       how = on.how;
@@ -81,26 +79,26 @@ fronted_by_one M total p now window cut begun stream servers e one client sent b
       client = prefix_more p.to_client e.client (flat_map (λ e. e.client) on.more) client;
       sent = fronts_more now window e.connects (flat_map (λ e. e.connects) on.more) sent;
       bit = let P : Option Bool → Type 0 = λ b. BitFits cut begun b in subst P (sym (first_alone e on.more on.uncut)) bit;
-    })
+    }
 
 -- nothing was put out, and there is no connect
 pub fronted_by_none : (M : Meaning) → IsTotal M → (q : RequestSeen) (a : AnswerSeen) (p : Sided M) (cut : Option Bool) (now : List Connect)
     → cut ≡ None → q.window ≡ [] → p.to_client ≡ [] → now ≡ [] → IsFronted M q a p cut now
 fronted_by_none M total q a p cut now uncut window none alone stream servers c s =
     let P : List Connect → Type 0 = λ now. AllZip ContinuesServer now servers in
-    let F : (x : Exists M p.vars stream) → List Connect → Type 0 = λ x now. Fronts now q.window (flat_map (λ e. e.connects) x.exchanges) in
-    let B : (x : Exists M p.vars stream) → Option Bool → Type 0 = λ x c. BitFits c a.begun (first_bit x.exchanges) in
+    let x : Exists M p.vars stream = session_exists M total p.vars stream in
+    let F : List Connect → Type 0 = λ now. Fronts now q.window (flat_map (λ e. e.connects) x.exchanges) in
+    let B : Option Bool → Type 0 = λ c. BitFits c a.begun (first_bit x.exchanges) in
     let C : Option Bool → Type 0 = λ b. BitFits None a.begun b in
-    over_perhaps (session_exists M total p.vars stream) (λ x.
     record {
       exchanges = x.exchanges;
       how = x.how;
       refused = x.refused;
       follow = no_servers servers (subst P alone s) x;
       client = (flat_map (λ e. e.client) x.exchanges, ap (λ xs. xs ++ flat_map (λ e. e.client) x.exchanges) none);
-      sent = subst (F x) (sym alone) window;
-      bit = subst (B x) (sym uncut) (subst C (sym x.uncut) tt);
-    })
+      sent = subst F (sym alone) window;
+      bit = subst B (sym uncut) (subst C (sym x.uncut) tt);
+    }
   where
     no_servers : (servers : List Server) → AllZip ContinuesServer [] servers → (x : Exists M p.vars stream) → Follow M x.exchanges p.vars stream (servers ++ replicate x.refused NotThere) x.how
     no_servers [] s x = x.follow
@@ -120,14 +118,8 @@ one_server c (NotThere ∷ servers) is s = let no : c.there ≡ false = s.0 in a
 one_server c (Open stream stopped ∷ []) is s = record { stream = stream; stopped = stopped; servers_are = refl; stopped_is = s.0.1; continues = s.0.2 }
 one_server c (Open stream stopped ∷ server ∷ servers) is s = absurd s.1
 
-pub perhaps_told : {A : Type 0} (so : Told) → IfTold so A → Perhaps A
-perhaps_told told.Going a = a
-perhaps_told told.Closes a = sure a
-perhaps_told told.Whole a = sure a
-perhaps_told told.Cut a = sure a
-
 pub serving_in_hand : (M : Meaning) (q : RequestSeen) (a : AnswerSeen) (p : Sided M) (cut : Option Bool) (stream server : Stream) (stopped : Bool)
-    → Serves M q a p cut → Continues p.came stream → Continues p.server server → stopped ≡ q.dropped → Perhaps (InHand M p cut a.begun stream server stopped)
+    → Serves M q a p cut → Continues p.came stream → Continues p.server server → stopped ≡ q.dropped → InHand M p cut a.begun stream server stopped
 serving_in_hand M q a p None stream server stopped s c on halts = by_begun a.begun refl
   where
     by_request : (begun : Bool) → a.begun ≡ begun → (g : RequestGoes M q.source (is_all q) q.dropped p.vars p.asking p.to_server stream) → (h : AnswerGoes M a.told a.answered a.begun p.asking p.to_client p.now server) → (was : Option ℕ) → (made g).cut ≡ was → InHand M p None begun stream server stopped
@@ -139,18 +131,17 @@ serving_in_hand M q a p None stream server stopped s c on halts = by_begun a.beg
         refused_in_hand M q.source (is_all q) q.dropped p stream server stopped None false code g halts cut refl on b.heads b.begins t.0 t.1
         (prefix_more p.to_client (interim_text (sent_interim (asker_in p.asking) b.heads)) t.0 b.front)
 
-    by_begun : (begun : Bool) → a.begun ≡ begun → Perhaps (InHand M p None a.begun stream server stopped)
+    by_begun : (begun : Bool) → a.begun ≡ begun → InHand M p None a.begun stream server stopped
     by_begun begun is =
         let P : Bool → Type 0 = λ b. InHand M p None b stream server stopped in
         let g : RequestGoes M q.source (is_all q) q.dropped p.vars p.asking p.to_server stream = s.0 stream c in
-        over_perhaps (perhaps_told a.told (s.1.1 server on)) (λ h. subst P (sym is) (by_request begun is g h (made g).cut refl))
+        subst P (sym is) (by_request begun is g (s.1.1 server on) (made g).cut refl)
 serving_in_hand M q a p (Some true) stream server stopped s c on halts =
     let g : RequestGoes M q.source (is_all q) q.dropped p.vars p.asking p.to_server stream = s.0 stream c in
-    over_perhaps (perhaps_told a.told (s.1.1 server on)) (λ h.
     let cut : (made g).cut ≡ Some s.2 = let P : Source → Type 0 = λ so. SourceIs so (made g).cut in subst P s.3 g.goes.source in
-    answered_in_hand M q.source (is_all q) q.dropped a.told a.answered a.begun p stream server stopped (Some true) a.begun g h halts (Some s.2) cut (λ n. cc) (λ code so. refl))
+    answered_in_hand M q.source (is_all q) q.dropped a.told a.answered a.begun p stream server stopped (Some true) a.begun g (s.1.1 server on) halts (Some s.2) cut (λ n. cc) (λ code so. refl)
 serving_in_hand M q a p (Some false) stream server stopped s c on halts =
     let g : RequestGoes M q.source (is_all q) q.dropped p.vars p.asking p.to_server stream = s.0 stream c in
     let cut : (made g).cut ≡ Some s.1 = let P : Source → Type 0 = λ so. SourceIs so (made g).cut in subst P s.2 g.goes.source in
     let t : IsTurned M a p s.1 = s.3 in
-    sure (refused_in_hand M q.source (is_all q) q.dropped p stream server stopped (Some false) a.begun s.1 g halts cut refl on t.heads t.begins p.saying.text t.spelled (p.saying.left, t.said))
+    refused_in_hand M q.source (is_all q) q.dropped p stream server stopped (Some false) a.begun s.1 g halts cut refl on t.heads t.begins p.saying.text t.spelled (p.saying.left, t.said)

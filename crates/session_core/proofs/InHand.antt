@@ -3,7 +3,7 @@ use Rattle.std.proofs.Common.{◌≡◌, ℕ, ◌+◌, List, Bool, Option, min, 
 use Rattle.session_model.specs.Meaning.{Meaning}
 use Rattle.session_core.specs.History.{Past, Connect}
 use Rattle.session_core.specs.Sided.{Sided, RequestSeen, AnswerSeen}
-use Rattle.session_core.specs.Stands.{EndsWith, InPhase, Holds, most}
+use Rattle.session_core.specs.Stands.{IsServing, EndsWith, InPhase, Holds, most}
 use Rattle.session_core.specs.InHand.{InHand, ReadsInHand, ServesInHand, RefusesInHand, RepliesInHand, Begun, ExchangesAre}
 use Rattle.session_core.specs.declared.machine.At.{At}
 use Rattle.session_core.specs.declared.Phase.{Phase}
@@ -47,27 +47,33 @@ reads_so M S at q a p past is s h =
       count = omega (arith, was, zero_in_hand);
     }
 
-unfoldable pub serves_so : (M : Meaning) (S : Sided M → Type 0) (at : At) (q : RequestSeen) (a : AnswerSeen) (p : Sided M) (past : Past)
-    → at.phase ≡ phase.Serving → S p → Holds M at q a p past → ServesInHand M S q a at past
-serves_so M S at q a p past is s h =
-    let k : InPhase M q a p h.hand at.cut h.now phase.Serving = in_phase M at phase.Serving q a p past is h in
+-- its one connect, while its server is open, and when that was closed
+unfoldable pub serves_by : (M : Meaning) (S : Sided M → Type 0) (at : At) (q : RequestSeen) (a : AnswerSeen) (p : Sided M) (past : Past) (connect : Connect)
+    → S p → (h : Holds M at q a p past) → h.hand ≡ 1 → IsServing M q a p at.cut h.now connect → ServesInHand M S q a at past
+serves_by M S at q a p past connect s h one k =
     record {
       sided = p;
       stand = s;
       in_hand = in_hand_of M at q a p past h;
       vars = refl;
       came = refl;
-      connect = k.1;
-      now = k.2.0;
-      there = k.2.1.there;
-      stopped = k.2.1.stopped;
-      stream = k.2.1.stream;
-      to_server = k.2.1.taken;
+      connect = connect;
+      now = k.0;
+      there = k.1.there;
+      stopped = k.1.stopped;
+      stream = k.1.stream;
+      to_server = k.1.taken;
       to_client = h.taken;
-      asks = k.2.4;
-      serves = k.2.2;
-      count = h.count ∙ ap (λ n. min (h.done.count + n) most) k.0;
+      asks = k.4;
+      serves = k.2;
+      count = h.count ∙ ap (λ n. min (h.done.count + n) most) one;
     }
+
+pub serves_so : (M : Meaning) (S : Sided M → Type 0) (at : At) (q : RequestSeen) (a : AnswerSeen) (p : Sided M) (past : Past)
+    → at.phase ≡ phase.Serving → S p → Holds M at q a p past → ServesInHand M S q a at past
+serves_so M S at q a p past is s h =
+    let k : InPhase M q a p h.hand at.cut h.now phase.Serving = in_phase M at phase.Serving q a p past is h in
+    serves_by M S at q a p past k.1 s h k.0 k.2
 
 unfoldable pub refuses_so : (M : Meaning) (S : Sided M → Type 0) (at : At) (q : RequestSeen) (a : AnswerSeen) (p : Sided M) (past : Past)
     → at.phase ≡ phase.Refusing → S p → Holds M at q a p past → RefusesInHand M S a at past

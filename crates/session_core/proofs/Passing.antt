@@ -17,13 +17,13 @@ use Rattle.session_model.specs.Amending.{refusal_sent, reply_sent, plain_refusal
 use Rattle.session_model.specs.Answering.{Final, Refuses, Replies, Answers, Plain, Answered, AnswersFrom, AnswersReading, AnswersBy, AnswersWith, AnswersAmended, BeginsWithInterim, sent_interim, answer_by, response_declares_too_much, response_fits}
 use Rattle.session_model.specs.Session.{SpellsFinal, interim_text}
 use Rattle.session_core.specs.History.{Coming, Continues, IsPrefix, prepend}
-use Rattle.session_core.specs.Sided.{Asking, asker_in, AnswerGoes, Interims, Perhaps, IfTold}
+use Rattle.session_core.specs.Sided.{Asking, asker_in, AnswerGoes, Interims}
 use Rattle.session_core.specs.Lanes.{HeadsPassed, LastSo, AnswerBody, IsTotalAnswers}
 use Rattle.session_core.specs.declared.Told.{Told}
 use Rattle.session_core.specs.declared.Told.TheVariants as told
 use Rattle.session_core.specs.Splits.{Splits}
 use Rattle.session_core.proofs.Consequences.{split_past}
-use Rattle.session_core.proofs.Exists.{spelling_exists, sure, further, over_perhaps}
+use Rattle.session_core.proofs.Exists.{spelling_exists}
 
 -- ---- every stream of a server is answered
 
@@ -48,48 +48,49 @@ alone M asker before bytes ending head final reads answers =
     record { heads = []; final = final; begins = (head, reads, answers); text = t.0; spelled = t.1 }
 
 edited_exists : (M : Meaning) → IsTotalAnswers M → (asker : Asker) (received : Received) (rest : Stream) (head : Head) (vars : M.Vars) (fits : Bool)
-    → response_fits M asker received head ≡ fits → Perhaps ((final : Final M.Vars) × AnswersAmended M asker received rest (Edited head vars) final)
-edited_exists M total asker received rest head vars false f = sure (Plain, rw f refl)
+    → response_fits M asker received head ≡ fits → (final : Final M.Vars) × AnswersAmended M asker received rest (Edited head vars) final
+edited_exists M total asker received rest head vars false f = (Plain, rw f refl)
 edited_exists M total asker received rest head vars true f =
     let b = total.bodies received.framing rest.bytes rest.ending in
-    sure (answer_by M asker received head vars b.0, rw f (b.0, b.1, refl))
+    (answer_by M asker received head vars b.0, rw f (b.0, b.1, refl))
 
-amended_exists : (M : Meaning) → IsTotalAnswers M → (asker : Asker) (received : Received) (rest : Stream) (x : Amended M.Vars) → Perhaps ((final : Final M.Vars) × AnswersAmended M asker received rest x final)
+amended_exists : (M : Meaning) → IsTotalAnswers M → (asker : Asker) (received : Received) (rest : Stream) (x : Amended M.Vars) → (final : Final M.Vars) × AnswersAmended M asker received rest x final
 amended_exists M total asker received rest (Edited head vars) = edited_exists M total asker received rest head vars (response_fits M asker received head) refl
-amended_exists M total asker received rest env.Plain = sure (Plain, refl)
+amended_exists M total asker received rest env.Plain = (Plain, refl)
 
 with_exists : (M : Meaning) → IsTotalAnswers M → (asker : Asker) (received : Received) (rest : Stream) (at : Env M.Vars) (long : Bool)
-    → response_declares_too_much M received ≡ long → Perhaps ((final : Final M.Vars) × AnswersWith M asker received rest at final)
-with_exists M total asker received rest at true l = sure (Refuses 502 asker.method at.vars, rw l refl)
-with_exists M total asker received rest at false l = over_perhaps (amended_exists M total asker received rest (M.after_rules at)) (λ x. (x.0, rw l x.1))
+    → response_declares_too_much M received ≡ long → (final : Final M.Vars) × AnswersWith M asker received rest at final
+with_exists M total asker received rest at true l = (Refuses 502 asker.method at.vars, rw l refl)
+with_exists M total asker received rest at false l = let x = amended_exists M total asker received rest (M.after_rules at) in (x.0, rw l x.1)
 
-by_exists : (M : Meaning) → IsTotalAnswers M → (asker : Asker) (received : Received) (rest : Stream) (v : Verdict M.Vars) → Perhaps ((final : Final M.Vars) × AnswersBy M asker received rest v final)
-by_exists M total asker received rest (Deny code at) = sure (Refuses code asker.method at.vars, refl)
-by_exists M total asker received rest (Fail why at) = sure (Refuses 500 asker.method at.vars, refl)
-by_exists M total asker received rest (Reply m at) = sure (Replies m asker.method at.vars, refl)
+by_exists : (M : Meaning) → IsTotalAnswers M → (asker : Asker) (received : Received) (rest : Stream) (v : Verdict M.Vars) → (final : Final M.Vars) × AnswersBy M asker received rest v final
+by_exists M total asker received rest (Deny code at) = (Refuses code asker.method at.vars, refl)
+by_exists M total asker received rest (Fail why at) = (Refuses 500 asker.method at.vars, refl)
+by_exists M total asker received rest (Reply m at) = (Replies m asker.method at.vars, refl)
 by_exists M total asker received rest (Pass at) = with_exists M total asker received rest at (response_declares_too_much M received) refl
 
 head_answers : (M : Meaning) → IsTotalAnswers M → (asker : Asker) (before : M.Vars) (bytes : List ℕ) (ending : Ending) (r : HeadReading) → M.reads_response asker.head_asked bytes r
-    → ((received : Received) (rest : List ℕ) → M.reads_response asker.head_asked bytes (reading.Begins received rest) → Perhaps (AnswerExists M asker before rest ending)) → Perhaps (AnswerExists M asker before bytes ending)
-head_answers M total asker before bytes ending reading.Nothing reads on = sure (alone M asker before bytes ending reading.Nothing (Refuses 502 asker.method before) reads refl)
-head_answers M total asker before bytes ending (reading.Refused code) reads on = sure (alone M asker before bytes ending (reading.Refused code) (Refuses 502 asker.method before) reads refl)
+    → ((received : Received) (rest : List ℕ) → M.reads_response asker.head_asked bytes (reading.Begins received rest) → AnswerExists M asker before rest ending) → AnswerExists M asker before bytes ending
+head_answers M total asker before bytes ending reading.Nothing reads on = alone M asker before bytes ending reading.Nothing (Refuses 502 asker.method before) reads refl
+head_answers M total asker before bytes ending (reading.Refused code) reads on = alone M asker before bytes ending (reading.Refused code) (Refuses 502 asker.method before) reads refl
 head_answers M total asker before bytes ending (reading.Begins received rest) reads on = by (is_interim received.head) refl
   where
-    by : (interim : Bool) → is_interim received.head ≡ interim → Perhaps (AnswerExists M asker before bytes ending)
+    by : (interim : Bool) → is_interim received.head ≡ interim → AnswerExists M asker before bytes ending
     by true is =
-        over_perhaps (on received rest reads) (λ x.
-        record { heads = received.head ∷ x.heads; final = x.final; begins = (received, rest, reads, is, refl, x.begins); text = x.text; spelled = x.spelled })
+        let x : AnswerExists M asker before rest ending = on received rest reads in
+        record { heads = received.head ∷ x.heads; final = x.final; begins = (received, rest, reads, is, refl, x.begins); text = x.text; spelled = x.spelled }
     by false is =
-        over_perhaps (by_exists M total asker received (record { bytes = rest; ending = ending }) (M.response_rules (response_env before asker.method received.head))) (λ a.
-        alone M asker before bytes ending (reading.Begins received rest) a.0 reads (is, a.1))
+        let a = by_exists M total asker received (record { bytes = rest; ending = ending }) (M.response_rules (response_env before asker.method received.head)) in
+        alone M asker before bytes ending (reading.Begins received rest) a.0 reads (is, a.1)
 
-answers_within : (M : Meaning) → IsTotalAnswers M → (n : ℕ) (asker : Asker) (before : M.Vars) (bytes : List ℕ) (ending : Ending) → length bytes < n → Perhaps (AnswerExists M asker before bytes ending)
+answers_within : (M : Meaning) → IsTotalAnswers M → (n : ℕ) (asker : Asker) (before : M.Vars) (bytes : List ℕ) (ending : Ending) → length bytes < n → AnswerExists M asker before bytes ending
 answers_within M total zero asker before bytes ending short = absurd (omega (arith, short))
 answers_within M total (suc n) asker before bytes ending short =
-    further (total.heads asker.head_asked bytes) (λ r. head_answers M total asker before bytes ending r.0 r.1
-    (λ received rest reads. answers_within M total n asker before rest ending (omega (arith, total.shorter asker.head_asked bytes received rest reads, short))))
+    let r = total.heads asker.head_asked bytes in
+    head_answers M total asker before bytes ending r.0 r.1
+    (λ received rest reads. answers_within M total n asker before rest ending (omega (arith, total.shorter asker.head_asked bytes received rest reads, short)))
 
-answer_exists : (M : Meaning) → IsTotalAnswers M → (asker : Asker) (before : M.Vars) (bytes : List ℕ) (ending : Ending) → Perhaps (AnswerExists M asker before bytes ending)
+answer_exists : (M : Meaning) → IsTotalAnswers M → (asker : Asker) (before : M.Vars) (bytes : List ℕ) (ending : Ending) → AnswerExists M asker before bytes ending
 answer_exists M total asker before bytes ending = answers_within M total (suc (length bytes)) asker before bytes ending (omega arith)
 
 -- ---- interim heads
@@ -146,11 +147,10 @@ answer_open M asking server left heads used put now h front stream s x =
 -- until a final head has come: whatever comes, what was put out is a front of its answer
 pub answers_open : (M : Meaning) → IsTotalAnswers M → (asking : Asking M.Vars) (server left : Coming) (heads : List Head) (used put : List ℕ) (now : M.Vars)
     → HeadsPassed M (asker_in asking) server heads used left → IsPrefix put (interim_text (sent_interim (asker_in asking) heads))
-    → (stream : Stream) → Continues server stream → Perhaps (AnswerGoes M told.Going false false asking put now stream)
+    → (stream : Stream) → Continues server stream → AnswerGoes M told.Going false false asking put now stream
 answers_open M total asking server left heads used put now h front stream c =
     let s : Splits used left stream = split_past used left server stream h.server_is c in
-    over_perhaps (answer_exists M total (asker_in asking) (M.answering asking.vars) s.rest.bytes s.rest.ending) (λ x.
-    answer_open M asking server left heads used put now h front stream s x)
+    answer_open M asking server left heads used put now h front stream s (answer_exists M total (asker_in asking) (M.answering asking.vars) s.rest.bytes s.rest.ending)
 
 -- and the client got interim heads alone
 pub interims_so : (M : Meaning) (asker : Asker) (server left : Coming) (heads : List Head) (used put : List ℕ)
@@ -164,12 +164,6 @@ interims_so M asker server left heads used put h front =
           subst P (sym s.is) (begins_only M asker heads (used ++ s.rest.bytes) s.rest.bytes (h.begins s.rest s.continues));
       front = front;
     }
-
-if_told : {A B : Type 0} (so : Told) → (A → B) → IfTold so A → IfTold so B
-if_told told.Going f a = over_perhaps a f
-if_told told.Closes f a = f a
-if_told told.Whole f a = f a
-if_told told.Cut f a = f a
 
 last_goes : (M : Meaning) (asking : Asking M.Vars) (heads : List Head) (used put : List ℕ) (so : Told) (now : M.Vars) (all begun : Bool) (stream rest : Stream)
     → stream ≡ prepend used rest → BeginsWithInterim M (asker_in asking) heads (used ++ rest.bytes) (λ bytes. bytes ≡ rest.bytes)
@@ -190,11 +184,11 @@ last_goes M asking heads used put so now all begun stream rest is begins l =
 -- a last that answers behind interim heads
 pub answers_last : (M : Meaning) (asking : Asking M.Vars) (server left : Coming) (heads : List Head) (used put : List ℕ) (so : Told) (now : M.Vars) (all begun : Bool)
     → HeadsPassed M (asker_in asking) server heads used left
-    → ((rest : Stream) → Continues left rest → IfTold so (LastSo M (asker_in asking) (M.answering asking.vars) (interim_text (sent_interim (asker_in asking) heads)) so now all begun put rest))
-    → (stream : Stream) → Continues server stream → IfTold so (AnswerGoes M so all begun asking put now stream)
+    → ((rest : Stream) → Continues left rest → LastSo M (asker_in asking) (M.answering asking.vars) (interim_text (sent_interim (asker_in asking) heads)) so now all begun put rest)
+    → (stream : Stream) → Continues server stream → AnswerGoes M so all begun asking put now stream
 answers_last M asking server left heads used put so now all begun h last stream c =
     let s : Splits used left stream = split_past used left server stream h.server_is c in
-    if_told so (λ l. last_goes M asking heads used put so now all begun stream s.rest s.is (h.begins s.rest s.continues) l) (last s.rest s.continues)
+    last_goes M asking heads used put so now all begun stream s.rest s.is (h.begins s.rest s.continues) (last s.rest s.continues)
 
 -- A final head, rules that pass, a length within the limits, a finished head that fits, and a body are such a last.
 pub body_is_last : (M : Meaning) (asker : Asker) (before : M.Vars) (interim : List ℕ) (received : Received) (at : Env M.Vars) (head : Head) (vars now : M.Vars) (so : Told) (all begun : Bool) (put more : List ℕ) (rest : Stream)

@@ -5,7 +5,7 @@ use Rattle.session_model.specs.Stream.{Stream, Server}
 use Rattle.http_model.specs.declared.Ending.{Ending}
 use Rattle.session_core.specs.Splits.{Splits}
 use Rattle.session_model.specs.Meaning.{Meaning, is_interim, declares_too_much, HoldsOn}
-use Rattle.session_core.specs.Sided.{Sided, RequestSeen, AnswerSeen, Perhaps, Asking, asker_in, AnswerGoes, Interims, IfTold}
+use Rattle.session_core.specs.Sided.{Sided, RequestSeen, AnswerSeen, Asking, asker_in, AnswerGoes, Interims}
 use Rattle.session_core.specs.Stands.{Holds}
 use Rattle.session_core.specs.Consequences.{IsTotal, IsFront, IsFinal, out_of_past}
 use Rattle.session_core.specs.declared.machine.At.{At}
@@ -27,7 +27,6 @@ use Rattle.session_core.specs.declared.Told.TheVariants as told
 use Rattle.http_model.specs.Reading as reading
 use Rattle.session_core.proofs.Streams as streams
 use Rattle.session_core.proofs.Consequences as consequences
-use Rattle.session_core.proofs.Exists as exists
 use Rattle.session_core.proofs.Passing as passing
 use Rattle.session_core.proofs.Heads as heads
 use Rattle.session_core.proofs.MeaningLaws.Decides as decides
@@ -54,19 +53,15 @@ continues_ends = streams.continues_ends
 pub split_past : (used : List ℕ) (came client : Coming) (s : Stream) → client ≡ prepended used came → Continues client s → Splits used came s
 split_past = consequences.split_past
 
--- Where each stream has a meaning, it is not so that what was put out is no front of a session.
+-- Where each stream has a meaning, what was put out is a front of a session.
 pub front : (M : Meaning) → IsTotal M → (c : At) (q : RequestSeen) (a : AnswerSeen) (p : Sided M) (past : Past)
-    → Holds M c q a p past → Perhaps (IsFront M past a.window q.window a.begun)
+    → Holds M c q a p past → IsFront M past a.window q.window a.begun
 front = consequences.front
 
--- What follows from a fact is perhaps so where the fact perhaps is.
-pub over_perhaps : {A B : Type 0} → Perhaps A → (A → B) → Perhaps B
-over_perhaps = exists.over_perhaps
-
--- Until a final head has come, what was put out is perhaps a front of the answer, whatever comes.
+-- Until a final head has come, what was put out is a front of the answer, whatever comes.
 pub answers_open : (M : Meaning) → IsTotalAnswers M → (asking : Asking M.Vars) (server left : Coming) (heads : List Head) (used put : List ℕ) (now : M.Vars)
     → HeadsPassed M (asker_in asking) server heads used left → IsPrefix put (interim_text (sent_interim (asker_in asking) heads))
-    → (stream : Stream) → Continues server stream → Perhaps (AnswerGoes M told.Going false false asking put now stream)
+    → (stream : Stream) → Continues server stream → AnswerGoes M told.Going false false asking put now stream
 answers_open = passing.answers_open
 
 -- Where interim heads alone came, the client got interim heads alone.
@@ -77,8 +72,8 @@ interims_so = passing.interims_so
 -- A last that answers behind interim heads is an answer that goes so.
 pub answers_last : (M : Meaning) (asking : Asking M.Vars) (server left : Coming) (heads : List Head) (used put : List ℕ) (so : Told) (now : M.Vars) (all begun : Bool)
     → HeadsPassed M (asker_in asking) server heads used left
-    → ((rest : Stream) → Continues left rest → IfTold so (LastSo M (asker_in asking) (M.answering asking.vars) (interim_text (sent_interim (asker_in asking) heads)) so now all begun put rest))
-    → (stream : Stream) → Continues server stream → IfTold so (AnswerGoes M so all begun asking put now stream)
+    → ((rest : Stream) → Continues left rest → LastSo M (asker_in asking) (M.answering asking.vars) (interim_text (sent_interim (asker_in asking) heads)) so now all begun put rest)
+    → (stream : Stream) → Continues server stream → AnswerGoes M so all begun asking put now stream
 answers_last = passing.answers_last
 
 -- A final head, rules that pass, a length within the limits, a finished head that fits, and a body are such a last.

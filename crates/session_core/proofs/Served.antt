@@ -15,7 +15,7 @@ use Rattle.session_model.specs.Answering.{Answered, sent_interim}
 use Rattle.session_model.specs.Session.{Exchange, After, Over, Next, ServerGets, after_final, interim_text}
 use Rattle.session_model.specs.Session as session
 use Rattle.session_core.specs.History.{Past, Coming, Connect, Continues, ContinuesServer, IsPrefix, IsFrontOf, Fronts, sent_of, close_by, prepend}
-use Rattle.session_core.specs.Sided.{IfTold, Sided, RequestSeen, AnswerSeen, Requests, RequestGoes, is_all, AnswerGoes, IsUncut, IsSettled, SourceIs, ToldIs, IsTold, goes_on_with, asker_in, forwarded_to, IsTurned, Turned}
+use Rattle.session_core.specs.Sided.{Sided, RequestSeen, AnswerSeen, Requests, RequestGoes, is_all, AnswerGoes, IsUncut, IsSettled, SourceIs, ToldIs, IsTold, goes_on_with, asker_in, forwarded_to, IsTurned, Turned}
 use Rattle.session_core.specs.Stands.{One, IsConnect, Serves, IsOver, InPhase, Holds}
 use Rattle.session_core.specs.Leads.{Renews, renewed_at, Follows}
 use Rattle.session_core.specs.declared.machine.At.{At}
@@ -136,12 +136,6 @@ ends_served M q a p hand cut now how h closes =
     ) in
     (h.1.taken, o.0, subst H (sym h.0) o.1)
 
-now_told : {A : Type 0} (so : Told) → IsTold so → IfTold so A → A
-now_told told.Going s a = absurd s
-now_told told.Closes s a = a
-now_told told.Whole s a = a
-now_told told.Cut s a = a
-
 whole_source : (so : Source) → IsUncut so → IsSettled so → so ≡ source.Whole
 whole_source source.Going u s = absurd s
 whole_source source.Whole u s = refl
@@ -155,7 +149,7 @@ closes_answered : (M : Meaning) (q : RequestSeen) (a : AnswerSeen) (p : Sided M)
     → Closes M p c cut after stream server stopped
 closes_answered M q a p None c stream server stopped after other sent window answered is serves settled d on stop follows =
     let g : RequestGoes M q.source (is_all q) q.dropped p.vars p.asking p.to_server stream = serves.0 stream d in
-    let h : AnswerGoes M a.told a.answered a.begun p.asking p.to_client p.now server = now_told a.told (serves.1.0 answered) (serves.1.1 server on) in
+    let h : AnswerGoes M a.told a.answered a.begun p.asking p.to_client p.now server = serves.1.1 server on in
     let none : (made g).cut ≡ None = let P : Source → Type 0 = λ so. SourceIs so (made g).cut in subst P (whole_source q.source serves.2 settled) g.goes.source in
     let A : After M.Vars → Type 0 = λ f. One M p.vars stream (Open server stopped ∷ []) (exchange_of M c.taken Clean (interim_text h.answered.interim ++ h.final) None f) in
     record {
@@ -165,7 +159,7 @@ closes_answered M q a p None c stream server stopped after other sent window ans
     }
 closes_answered M q a p (Some true) c stream server stopped after other sent window answered is serves settled d on stop follows =
     let g : RequestGoes M q.source (is_all q) q.dropped p.vars p.asking p.to_server stream = serves.0 stream d in
-    let h : AnswerGoes M a.told a.answered a.begun p.asking p.to_client p.now server = now_told a.told (serves.1.0 answered) (serves.1.1 server on) in
+    let h : AnswerGoes M a.told a.answered a.begun p.asking p.to_client p.now server = serves.1.1 server on in
     let cut : (made g).cut ≡ Some serves.2 = let P : Source → Type 0 = λ so. SourceIs so (made g).cut in subst P serves.3 g.goes.source in
     let A : After M.Vars → Type 0 = λ f. One M p.vars stream (Open server stopped ∷ []) (exchange_of M c.taken Failed (interim_text h.answered.interim ++ h.final) (Some true) f) in
     record {
@@ -272,7 +266,7 @@ served_next M S at q r a b p past is none whole keep opened window same re h =
       subst G (sym k.4.0) (λ rest servers d z.
           let o : OneServer c servers = one_server c servers k.4.1.there z in
           let on : Continues p.server o.stream = let P : Coming → Type 0 = λ c. Continues c o.stream in subst P k.4.1.stream o.continues in
-          passes c rest servers o on (re.whole.goes rest d) (now_told a.told (s.1.0 k.1.all_answered) (s.1.1 o.stream on)) k.1.all_sent k.1.taken k.1.all_answered k.4.1 closed),
+          passes c rest servers o on (re.whole.goes rest d) (s.1.1 o.stream on) k.1.all_sent k.1.taken k.1.all_answered k.4.1 closed),
     )) h
   where
     passes : (c : Connect) (rest : Stream) (servers : List Server) (o : OneServer c servers) → Continues p.server o.stream

@@ -6,12 +6,11 @@ use Rattle.http_model.specs.Reading.{HeadReading, Begins, Received}
 use Rattle.session_model.specs.Stream.{Stream, Server, NotThere}
 use Rattle.session_model.specs.Meaning.{Meaning}
 use Rattle.session_model.specs.Session.{Session, Out, close_of}
-use Rattle.session_core.specs.Sided.{Perhaps}
 use Rattle.session_core.specs.History.{Past, Continues, ContinuesServer, broken, broken_server, sent_of, IsPrefix, Fronts, BitFits}
 
--- No stream is without a reading, and a head is at least one byte.
+-- Each stream has a head's reading, and a head is at least one byte.
 pub record IsTotal (M : Meaning) : Type 0 where
-  pub heads : (bytes : List ℕ) → Perhaps ((r : HeadReading) × M.reads_request bytes r)
+  pub heads : (bytes : List ℕ) → (r : HeadReading) × M.reads_request bytes r
   pub shorter : (bytes : List ℕ) (received : Received) (rest : List ℕ) → M.reads_request bytes (Begins received rest) → length rest < length bytes
 
 -- what a past that is over comes to

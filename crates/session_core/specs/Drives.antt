@@ -6,7 +6,7 @@ use Rattle.session_model.specs.Meaning.{Meaning}
 use Rattle.session_model.specs.Answering.{Answered, AnswersFrom, sent_interim}
 use Rattle.session_model.specs.Session.{interim_text}
 use Rattle.session_core.specs.History.{Past, Connect, Continues, IsPrefix, close_by}
-use Rattle.session_core.specs.Sided.{Sided, RequestSeen, AnswerSeen, Asking, asker_in, Perhaps, RequestAsks, Interims, IsTurned, finished_blocks}
+use Rattle.session_core.specs.Sided.{Sided, RequestSeen, AnswerSeen, Asking, asker_in, RequestAsks, Interims, IsTurned, finished_blocks}
 use Rattle.session_core.specs.Awaits.{awaits_continue}
 use Rattle.session_core.specs.InHand.{InHand, ServesInHand, RefusesInHand, RepliesInHand}
 use Rattle.session_core.specs.Waits.{is_empty}
@@ -49,9 +49,9 @@ pub record HasBegun (M : Meaning) (asking : Asking M.Vars) (put : List ℕ) (str
   pub more : List ℕ
   pub begun : put ≡ interim_text answered.interim ++ byte ∷ more
 
--- What `begun` says while a server's answer goes out. The exchange in hand has one connect, and its request asks for a server for
--- this head. Of the bytes put out those behind the exchanges that are done hold a byte of the last that answers where `begun` says
--- so, and are a front of interim heads alone where it does not.
+-- What `begun` says while a server's answer goes out, and behind the close of its link. The exchange in hand has one connect, and its
+-- request asks for a server for this head. Of the bytes put out those behind the exchanges that are done hold a byte of the last that
+-- answers where `begun` says so, and are a front of interim heads alone where it does not.
 pub record BegunSays (M : Meaning) (past : Past) (window : List ℕ) (begun : Bool) : Type 0 where
   pub in_hand : InHand M past
   pub connect : Connect
@@ -61,7 +61,7 @@ pub record BegunSays (M : Meaning) (past : Past) (window : List ℕ) (begun : Bo
   pub asks : (stream : Stream) → Continues in_hand.came stream → RequestAsks M in_hand.vars asking stream
   pub put : List ℕ
   pub text : past.taken ++ window ≡ in_hand.done.client ++ put
-  pub has_begun : begun ≡ true → (stream : Stream) → Continues connect.stream stream → Perhaps (HasBegun M asking put stream)
+  pub has_begun : begun ≡ true → (stream : Stream) → Continues connect.stream stream → HasBegun M asking put stream
   pub before : begun ≡ false → Interims M (asker_in asking) connect.stream put
 
 -- While a refusal goes out with no server open: the exchange in hand, and whether a byte of the refusal was put out.
@@ -79,8 +79,8 @@ abbrev pub IsBegunBehind : (begun : Bool) → (front put : List ℕ) → Type 0
 IsBegunBehind true front put = (byte : ℕ) × (more : List ℕ) × (put ≡ front ++ byte ∷ more)
 IsBegunBehind false front put = IsPrefix put front
 
--- While a refusal goes out in place of a server's answer: the exchange in hand, and whether a byte of the refusal was put out, behind the
--- interim heads in front of it.
+-- While a refusal goes out in place of a server's answer, and behind the close of its link: the exchange in hand, and whether a byte of the
+-- refusal was put out, behind the interim heads in front of it.
 pub record TurnedBegun (M : Meaning) (stands : Sided M → Type 0) (q : RequestSeen) (a : AnswerSeen) (at : At) (past : Past) : Type 0 where
   pub hand : ServesInHand M stands q a at past
   pub code : ℕ

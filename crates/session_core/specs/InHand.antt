@@ -44,8 +44,8 @@ pub record ReadsInHand (M : Meaning) (stands : Sided M → Type 0) (a : AnswerSe
   pub to_client : past.taken ++ a.window ≡ in_hand.done.client ++ sided.to_client
   pub count : at.exchanges ≡ min in_hand.done.count most
 
--- While a server is open: the directions stand for a past of the exchange in hand, whose one connect this is, with all that both
--- have made of it.
+-- While a server is open, and behind the close of its link: the directions stand for a past of the exchange in hand, whose one connect this
+-- is, with all that both have made of it.
 pub record ServesInHand (M : Meaning) (stands : Sided M → Type 0) (q : RequestSeen) (a : AnswerSeen) (at : At) (past : Past) : Type 0 where
   pub sided : Sided M
   pub stand : stands sided

@@ -10,7 +10,7 @@ use Rattle.session_model.specs.Asking.{Asker}
 use Rattle.session_model.specs.Answering.{Final, AnswersReading, answer_by, BeginsWithInterim}
 use Rattle.session_model.specs.Session.{SpellsFinal}
 use Rattle.session_core.specs.History.{Coming, Continues, IsPrefix, prepended}
-use Rattle.session_core.specs.Sided.{ToldIs, Perhaps}
+use Rattle.session_core.specs.Sided.{ToldIs}
 use Rattle.session_core.specs.declared.Told.{Told}
 
 -- the stream begins with this head, however it goes on
@@ -49,8 +49,8 @@ pub record AnswerBody (M : Meaning) (asker : Asker) (interim : List ℕ) (receiv
   pub sent : all ≡ true → put ≡ interim ++ text
   pub began : begun ≡ true → (byte : ℕ) × (more : List ℕ) × (put ≡ interim ++ byte ∷ more)
 
--- no stream of a server is without a reading, each body has one, and a head is at least one byte
+-- each stream of a server has a head's reading, each body has one, and a head is at least one byte
 pub record IsTotalAnswers (M : Meaning) : Type 0 where
-  pub heads : (head_asked : Bool) (bytes : List ℕ) → Perhaps ((r : HeadReading) × M.reads_response head_asked bytes r)
+  pub heads : (head_asked : Bool) (bytes : List ℕ) → (r : HeadReading) × M.reads_response head_asked bytes r
   pub shorter : (head_asked : Bool) (bytes : List ℕ) (received : Received) (rest : List ℕ) → M.reads_response head_asked bytes (Begins received rest) → length rest < length bytes
   pub bodies : (framing : Framing) (bytes : List ℕ) (ending : Ending) → (r : BodyReading) × M.reads_body framing bytes ending r

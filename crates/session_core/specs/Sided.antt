@@ -139,11 +139,6 @@ IsSettled source.Going = ⊥
 IsSettled source.Whole = ⊤
 IsSettled (source.Cut code) = ⊤
 
--- It is not so that there is none. Of a stream whose reading is still open, definitions say no more: that each stream has a
--- reading is known in this form.
-abbrev pub Perhaps : Type 0 → Type 0
-Perhaps A = (A → ⊥) → ⊥
-
 -- the stream asks for a server for this head
 pub record RequestAsks (M : Meaning) (vars : M.Vars) (asking : Asking M.Vars) (stream : Stream) : Type 0 where
   pub rest : Stream
@@ -221,17 +216,11 @@ pub record AnswerGoes (M : Meaning) (so : Told) (all begun : Bool) (asking : Ask
   -- where the answer has begun, a byte of the last was put out
   pub began : begun ≡ true → (byte : ℕ) × (more : List ℕ) × (put ≡ interim_text answered.interim ++ byte ∷ more)
 
-abbrev pub IfTold : Told → Type 0 → Type 0
-IfTold told.Going A = Perhaps A
-IfTold told.Closes A = A
-IfTold told.Whole A = A
-IfTold told.Cut A = A
-
 -- so however the server's stream goes on
 abbrev pub AnswersSo : (M : Meaning) → AnswerSeen → Sided M → Type 0
 AnswersSo M a p =
     (a.answered ≡ true → IsTold a.told)
-    × ((stream : Stream) → Continues p.server stream → IfTold a.told (AnswerGoes M a.told a.answered a.begun p.asking p.to_client p.now stream))
+    × ((stream : Stream) → Continues p.server stream → AnswerGoes M a.told a.answered a.begun p.asking p.to_client p.now stream)
 
 -- the server's stream begins with these interim heads, however it goes on
 abbrev pub BeginsAlways : (M : Meaning) → Asker → Coming → List Head → Type 0

@@ -3,7 +3,7 @@ ghost use Rattle.std.specs.Prelude.{◌≡◌, ◌++◌, ◌∷◌, [], List, Bo
 ghost use Rattle.http_model.specs.declared.End.{End};
 ghost use Rattle.session_core.specs.History.{Event, Past, past_of};
 ghost use Rattle.session_core.specs.Consequences.{IsFinal, IsFront, out_of_past};
-ghost use Rattle.session_core.specs.Sided.{RequestSeen, AnswerSeen, Perhaps};
+ghost use Rattle.session_core.specs.Sided.{RequestSeen, AnswerSeen};
 ghost use Rattle.session_core.specs.Waits.{wants_of, is_serving, is_turned};
 ghost use Rattle.session_core.specs.Drives.{WantsMean, IsAlone, WantsSay, BegunSays, RefusalBegun, ReplyBegun, TurnedBegun, IsAskedFor};
 ghost use Rattle.session_core.specs.InHand.{ReadsInHand, ServesInHand, RefusesInHand, RepliesInHand, ExchangesAre};
@@ -20,16 +20,16 @@ pub fn over_is_the_session<S: Works>()
         → (wants_of (S.request sides) (S.answer sides) at).over ≡ Some how → IsFinal (S.meaning cfg) past (out_of_past past past.taken at.exchanges how) }
 {}
 
-/// At every moment it is not so that what was put out is no front of a session of the streams so far.
+/// At every moment what was put out is a front of a session in which streams without an ending break off here.
 pub fn put_out_is_a_front<S: Works>()
     ensures { (cfg : S.Settings) (sides : S) (at : At) (past : Past) → Stands (S.meaning cfg) S.request S.answer (S.stands cfg) sides at past
-        → Perhaps (IsFront (S.meaning cfg) past (S.answer sides).window (S.request sides).window (S.answer sides).begun) }
+        → IsFront (S.meaning cfg) past (S.answer sides).window (S.request sides).window (S.answer sides).begun }
 {}
 
 /// The same of what was taken, the windows left out.
 pub fn taken_is_a_front<S: Works>()
     ensures { (cfg : S.Settings) (sides : S) (at : At) (past : Past) → Stands (S.meaning cfg) S.request S.answer (S.stands cfg) sides at past
-        → Perhaps (IsFront (S.meaning cfg) past [] [] (S.answer sides).begun) }
+        → IsFront (S.meaning cfg) past [] [] (S.answer sides).begun }
 {}
 
 /// A call that leads from a core to another does so for whole histories.
@@ -60,7 +60,8 @@ pub fn wants_say<S: Works>()
 {}
 
 /// What `begun` says of the bytes put out: while a server's answer goes out (`answer`); while a refusal or a reply does, exactly whether a byte of it
-/// was put out, with no server open (`refusal`, `reply`) and behind interim heads, in place of a server's answer (`turned`).
+/// was put out, with no server open (`refusal`, `reply`) and behind interim heads, in place of a server's answer (`turned`). Behind the close of the
+/// server's link it is what it was (`closed`, `closed_turned`).
 pub fn begun_says<S: Works>()
     ensures answer { (cfg : S.Settings) (sides : S) (at : At) (past : Past) → Stands (S.meaning cfg) S.request S.answer (S.stands cfg) sides at past
         → at.phase ≡ phase.Serving → is_turned at.cut ≡ false → BegunSays (S.meaning cfg) past (S.answer sides).window (S.answer sides).begun }
@@ -70,6 +71,10 @@ pub fn begun_says<S: Works>()
         → IsPlaced (S.placed sides) (S.answer sides) at.phase at.cut → at.phase ≡ phase.Replying kept → ReplyBegun (S.meaning cfg) (S.stands cfg sides) kept (S.answer sides) at past }
     ensures turned { (cfg : S.Settings) (sides : S) (at : At) (past : Past) → Stands (S.meaning cfg) S.request S.answer (S.stands cfg) sides at past
         → IsPlaced (S.placed sides) (S.answer sides) at.phase at.cut → at.phase ≡ phase.Serving → at.cut ≡ Some false → TurnedBegun (S.meaning cfg) (S.stands cfg sides) (S.request sides) (S.answer sides) at past }
+    ensures closed { (cfg : S.Settings) (sides : S) (at : At) (past : Past) → Stands (S.meaning cfg) S.request S.answer (S.stands cfg) sides at past
+        → at.phase ≡ phase.Served → is_turned at.cut ≡ false → BegunSays (S.meaning cfg) past (S.answer sides).window (S.answer sides).begun }
+    ensures closed_turned { (cfg : S.Settings) (sides : S) (at : At) (past : Past) → Stands (S.meaning cfg) S.request S.answer (S.stands cfg) sides at past
+        → IsPlaced (S.placed sides) (S.answer sides) at.phase at.cut → at.phase ≡ phase.Served → at.cut ≡ Some false → TurnedBegun (S.meaning cfg) (S.stands cfg sides) (S.request sides) (S.answer sides) at past }
 {}
 
 /// While a server is to be opened, the finished list of the request in hand stands in the array.

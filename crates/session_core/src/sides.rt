@@ -46,7 +46,7 @@ pub trait Sides {
 
     ghost stands: { (cfg : Self.Settings) → Self → Sided (meaning cfg) → Type 0 };
 
-    /// Where they stand for a past, no stream of a client is without a reading, and a head is at least one byte.
+    /// Where they stand for a past, each stream of a client has a head's reading, and a head is at least one byte.
     ghost total: { (cfg : Self.Settings) (sides : Self) (p : Sided (meaning cfg)) → stands cfg sides p → IsTotal (meaning cfg) };
 
     /// They are sound, and stand at this place of the exchange in hand.

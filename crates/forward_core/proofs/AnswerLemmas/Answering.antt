@@ -9,7 +9,7 @@ use Rattle.http_model.specs.Head.{Head}
 use Rattle.http_model.specs.Reading.{BodyReading, Received, Begins}
 use Rattle.body_filter.specs.declared.filter_spec.FilterSpec.{FilterSpec}
 use Rattle.h1_head.specs.Response.{ResponseOf}
-use Rattle.h1_body.specs.BodyOf.{BodyOf, IsBodyOf}
+use Rattle.h1_body.specs.BodyOf.{BodyOf}
 use Rattle.px_sample.specs.Variables.{Variables}
 use Rattle.http_rules.specs.declared.config.Config.{Config}
 use Rattle.http_rules.specs.Lives.{answering}
@@ -19,15 +19,14 @@ use Rattle.session_model.specs.Asking.{Asker}
 use Rattle.session_model.specs.Answering.{sent_interim}
 use Rattle.session_model.specs.Session.{interim_text}
 use Rattle.session_core.specs.History.{Coming, Continues, IsPrefix, prepend}
-use Rattle.session_core.specs.Sided.{Asking, asker_in, AnswerGoes, Interims, IfTold, IsTold, Perhaps, BeginsAlways, Saying}
+use Rattle.session_core.specs.Sided.{Asking, asker_in, AnswerGoes, Interims, IsTold, BeginsAlways, Saying}
 use Rattle.session_core.specs.Lanes.{LastSo, IsTotalAnswers}
 use Rattle.session_core.specs.declared.Told.{Told}
 use Rattle.session_core.specs.declared.Told.TheVariants as told
 use Rattle.session_core.specs.Splits.{Splits}
 use Rattle.session_core.proofs.PublicLaws.{split_past, answers_open, answers_last, interims_so, body_is_last}
-use Rattle.lane.specs.Direction.Promise.{Promise, HasBody}
+use Rattle.lane.specs.Direction.Promise.{Promise}
 use Rattle.lane.specs.Direction.Sends.{Past, Stands}
-use Rattle.lane.specs.declared.direction.lane.Lane.{Lane}
 use Rattle.lane.specs.declared.direction.stage.Source.{Source}
 use Rattle.lane.specs.declared.direction.stage.Source.TheVariants as source
 use Rattle.lane.specs.Answering.{Exchange, BeginsWithInterim, Last, Answers, AnswersAt, AnswersLast, AnswerPromise, IsLast, HeadsCame, Reads, NotYet, Serves, Replies, phase_of, has_begun, stage_of, source_of, shows_last}
@@ -35,14 +34,13 @@ use Rattle.lane.specs.declared.phase.Phase.{Phase}
 use Rattle.lane.specs.declared.phase.Phase.TheVariants as phase
 use Rattle.lane.specs.declared.response_lane.ResponseLane.{ResponseLane}
 use Rattle.forward_core.specs.Answer.Seen.{told_by, is_done, told_at, answered_at, is_last}
-use Rattle.forward_core.specs.Answer.Stands.{IsInHand, IsResponse, IsInstead, IsFor, Decides, StandsAt, AnswerStands, HasBodies, list_text, is_serving}
+use Rattle.forward_core.specs.Answer.Stands.{IsInHand, IsResponse, IsInstead, IsFor, Decides, StandsAt, AnswerStands, list_text, is_serving}
 use Rattle.forward_core.specs.declared.answer.place.Place.{Place}
 use Rattle.forward_core.specs.declared.answer.place.Place.TheVariants as place
 use Rattle.forward_core.specs.declared.answer.side.AnswerSide.{AnswerSide}
 use Rattle.forward_core.proofs.AnswerLemmas.Heads.{More, more_of, as_session, Came, came, response_end}
 use Rattle.forward_core.proofs.AnswerLemmas.Texts.{ListGoes, list_goes, some_bytes}
-use Rattle.forward_core.proofs.AnswerLemmas.Totals.{reads_over}
-use Rattle.forward_core.proofs.AnswerLemmas.Bodies.{Serving, body_goes, done_is, goes_on}
+use Rattle.forward_core.proofs.AnswerLemmas.Bodies.{Serving, body_goes, done_is}
 
 -- ---- while no final head has come
 
@@ -123,11 +121,6 @@ instead_keeps cfg asking lane server put e now for h shows promise i stream c =
 
 -- ---- the server's response
 
--- the laws of the lane below
-pub record Laws (lane : Lane) : Type 0 where
-  pub promise : (q : Past) → Stands lane q → Promise lane q
-  pub has_body : (q : Past) → Stands lane q → lane.source ≡ source.Whole → HasBody lane q
-
 -- what a lane knows of the response that goes out, with the server's bytes behind its head
 record ResponseGoes (cfg : Config) (asker : Asker) (received : Received) (head : Head) (interim put : List ℕ) (lane : ResponseLane) (server : Coming) (read : List Head) : Type 0 where
   pub past : Past
@@ -193,39 +186,12 @@ response_last cfg asker before lane server put e now h r g rest used behind is l
     (body_is_last (meaning_of cfg) asker before interim r.received r.at r.head now now (told_by (source_of lane)) (is_done (stage_of lane)) (has_begun lane) put used behind r.is_final head r.rules r.short r.after r.fits
     (body_goes cfg asker r.received r.head now interim put (has_begun lane) lane.lane g.past g.text g.serving behind m_lane body reads))
 
-if_body : (cfg : Config) (framing : Framing) (behind : Stream) (so : Told) (A : Type 0) → IsTotalAnswers (meaning_of cfg) → (so ≡ told.Closes → ⊥) → (so ≡ told.Whole → (body : BodyReading) × BodyOf cfg.limits framing behind.bytes behind.ending body)
-    → (so ≡ told.Cut → HasBodies cfg) → ((body : BodyReading) → BodyOf cfg.limits framing behind.bytes behind.ending body → A) → IfTold so A
-if_body cfg framing behind told.Going A total off whole has f = let b = total.bodies framing behind.bytes behind.ending in λ none. none (f b.0 b.1)
-if_body cfg framing behind told.Closes A total off whole has f = absurd (off refl)
-if_body cfg framing behind told.Whole A total off whole has f = let b = whole refl in f b.0 b.1
-if_body cfg framing behind told.Cut A total off whole has f = let b = has refl framing behind.bytes behind.ending in f b.0 b.1
-
-never_closes : (src : Source) → told_by src ≡ told.Closes → ⊥
-never_closes source.Going e = let both : told.Going ≡ told.Closes = e in cc both
-never_closes source.Whole e = let both : told.Whole ≡ told.Closes = e in cc both
-never_closes (source.Cut code) e = let both : told.Cut ≡ told.Closes = e in cc both
-
-is_whole : (src : Source) → told_by src ≡ told.Whole → src ≡ source.Whole
-is_whole source.Going e = absurd (let both : told.Going ≡ told.Whole = e in cc both)
-is_whole source.Whole e = refl
-is_whole (source.Cut code) e = absurd (let both : told.Cut ≡ told.Whole = e in cc both)
-
--- where the source is whole, its body has a reading
-whole_body : (cfg : Config) (asker : Asker) (received : Received) (head : Head) (interim put : List ℕ) (lane : ResponseLane) (server : Coming) (q : Past) (text : List ℕ) → Serving cfg asker received head interim put (has_begun lane) lane.lane q text
-    → HasBody lane.lane q → (behind : Stream) (m : More lane.lane.ended q.bytes behind) → (body : BodyReading) × BodyOf cfg.limits received.framing behind.bytes behind.ending body
-whole_body cfg asker received head interim put lane server q text s has behind m =
-    let read = has m.more (Some behind.ending) (goes_on lane.lane.ended q.bytes behind m) in
-    reads_over cfg.limits received.framing behind.bytes behind.ending read.0
-    (subst (λ (xs : List ℕ). IsBodyOf cfg.limits received.framing xs (Some behind.ending) read.0) (sym m.bytes)
-    (subst (λ (f : Framing). IsBodyOf cfg.limits f (q.bytes ++ m.more) (Some behind.ending) read.0) s.framed
-    (subst (λ (l : Limits). IsBodyOf l q.reads (q.bytes ++ m.more) (Some behind.ending) read.0) s.limits read.1)))
-
-response_answers : (cfg : Config) (asking : Asking Variables) (lane : ResponseLane) (server : Coming) (put : List ℕ) (e : Exchange) (now : Variables) → IsTotalAnswers (meaning_of cfg) → (told_by (source_of lane) ≡ told.Cut → HasBodies cfg)
-    → IsFor cfg lane → IsInHand (asker_in asking) lane server put e → AnswersLast lane e → Laws lane.lane → IsResponse cfg (asker_in asking) (answering asking.vars) now e
-    → (stream : Stream) → Continues server stream → IfTold (told_by (source_of lane)) (AnswerGoes (meaning_of cfg) (told_by (source_of lane)) (is_done (stage_of lane)) (has_begun lane) asking put now stream)
-response_answers cfg asking lane server put e now total has for h a laws r stream c =
+response_answers : (cfg : Config) (asking : Asking Variables) (lane : ResponseLane) (server : Coming) (put : List ℕ) (e : Exchange) (now : Variables) → IsTotalAnswers (meaning_of cfg)
+    → IsFor cfg lane → IsInHand (asker_in asking) lane server put e → AnswersLast lane e → ((q : Past) → Stands lane.lane q → Promise lane.lane q) → IsResponse cfg (asker_in asking) (answering asking.vars) now e
+    → (stream : Stream) → Continues server stream → AnswerGoes (meaning_of cfg) (told_by (source_of lane)) (is_done (stage_of lane)) (has_begun lane) asking put now stream
+response_answers cfg asking lane server put e now total for h a promises r stream c =
     let asker : Asker = asker_in asking in
-    let g : ResponseGoes cfg asker r.received r.head (interim_text (sent_interim asker e.read)) put lane server e.read = response_goes cfg asker (answering asking.vars) lane server put e now for h a laws.promise r in
+    let g : ResponseGoes cfg asker r.received r.head (interim_text (sent_interim asker e.read)) put lane server e.read = response_goes cfg asker (answering asking.vars) lane server put e now for h a promises r in
     let heads : Came cfg asker server e.read g.left = came cfg asker server e.read g.left g.came in
     let now_reads : ResponseOf asker.head_asked cfg.limits g.left (Begins r.received g.past.bytes) =
     subst (λ (xs : List ℕ). ResponseOf asker.head_asked cfg.limits g.left (Begins r.received xs)) (append-nil g.past.bytes)
@@ -235,10 +201,8 @@ response_answers cfg asking lane server put e now total has for h a laws r strea
     answers_last (meaning_of cfg) asking server (C g.left) e.read heads.used put (told_by (source_of lane)) now (is_done (stage_of lane)) (has_begun lane) heads.passed
     (λ rest cr.
     let s : Splits used.0 (C g.past.bytes) rest = split_past used.0 (C g.past.bytes) (C g.left) rest (ap C used.1) cr in
-    let m : More lane.lane.ended g.past.bytes s.rest = subst (λ (o : Option Ending). More o g.past.bytes s.rest) (sym h.ending) (more_of server.ending g.past.bytes s.rest s.continues) in
-    if_body cfg r.received.framing s.rest (told_by (source_of lane)) _ total (never_closes (source_of lane))
-    (λ is. whole_body cfg asker r.received r.head (interim_text (sent_interim asker e.read)) put lane server g.past g.text g.serving (laws.has_body g.past g.stands (is_whole (source_of lane) is)) s.rest m) has
-    (λ body reads. response_last cfg asker (answering asking.vars) lane server put e now h r g rest used.0 s.rest s.is used.1 s.continues body reads)) stream c
+    let body = total.bodies r.received.framing s.rest.bytes s.rest.ending in
+    response_last cfg asker (answering asking.vars) lane server put e now h r g rest used.0 s.rest s.is used.1 s.continues body.0 body.1) stream c
 
 -- ---- the whole
 
@@ -257,29 +221,29 @@ settled (source.Cut code) off = tt
 done_told : (lane : ResponseLane) (e : Exchange) → AnswersLast lane e → is_done (stage_of lane) ≡ true → IsTold (told_by (source_of lane))
 done_told lane e a done = settled lane.lane.source (a.stands.done (done_is lane.lane.stage done))
 
-pub so_at : (at : Place) (cfg : Config) (asking : Asking Variables) (lane : ResponseLane) (server : Coming) (put : List ℕ) (now : Variables) (saying : Saying) → IsTotalAnswers (meaning_of cfg) → (told_at at (source_of lane) ≡ told.Cut → HasBodies cfg)
-    → ((e : Exchange) → Answers lane e → AnswerPromise lane e) → Laws lane.lane → IsFor cfg lane → is_serving at ≡ true → StandsAt at cfg (asker_in asking) (answering asking.vars) lane server put now saying
+pub so_at : (at : Place) (cfg : Config) (asking : Asking Variables) (lane : ResponseLane) (server : Coming) (put : List ℕ) (now : Variables) (saying : Saying) → IsTotalAnswers (meaning_of cfg)
+    → ((e : Exchange) → Answers lane e → AnswerPromise lane e) → ((q : Past) → Stands lane.lane q → Promise lane.lane q) → IsFor cfg lane → is_serving at ≡ true → StandsAt at cfg (asker_in asking) (answering asking.vars) lane server put now saying
     → (answered_at at (stage_of lane) ≡ true → IsTold (told_at at (source_of lane)))
-    × ((stream : Stream) → Continues server stream → IfTold (told_at at (source_of lane)) (AnswerGoes (meaning_of cfg) (told_at at (source_of lane)) (answered_at at (stage_of lane)) (has_begun lane) asking put now stream))
-so_at place.Idle cfg asking lane server put now saying total has promise laws for serves s = absurd (let both : false ≡ true = serves in cc both)
-so_at place.Saying cfg asking lane server put now saying total has promise laws for serves s = absurd (let both : false ≡ true = serves in cc both)
-so_at place.Heads cfg asking lane server put now saying total has promise laws for serves s =
+    × ((stream : Stream) → Continues server stream → AnswerGoes (meaning_of cfg) (told_at at (source_of lane)) (answered_at at (stage_of lane)) (has_begun lane) asking put now stream)
+so_at place.Idle cfg asking lane server put now saying total promise promises for serves s = absurd (let both : false ≡ true = serves in cc both)
+so_at place.Saying cfg asking lane server put now saying total promise promises for serves s = absurd (let both : false ≡ true = serves in cc both)
+so_at place.Heads cfg asking lane server put now saying total promise promises for serves s =
     let e : Exchange = s.0 in
     let none : has_begun lane ≡ false = unbegun lane e s.2 s.1.answers in
     let left = heads_came cfg (asker_in asking) lane server put e for s.1 (promise e s.1.answers) in
     let heads : Came cfg (asker_in asking) server e.read left.0 = came cfg (asker_in asking) server e.read left.0 left.1 in (
       λ answered. absurd (let both : false ≡ true = answered in cc both),
-      λ stream c. subst (λ (b : Bool). Perhaps (AnswerGoes (meaning_of cfg) told.Going false b asking put now stream)) (sym none)
+      λ stream c. subst (λ (b : Bool). AnswerGoes (meaning_of cfg) told.Going false b asking put now stream) (sym none)
           (answers_open (meaning_of cfg) total asking server (record { bytes = left.0; ending = server.ending }) e.read heads.used put now heads.passed
           (interim_front (asker_in asking) lane server put e s.1 (promise e s.1.answers) none) stream c),
     )
-so_at place.Response cfg asking lane server put now saying total has promise laws for serves s =
+so_at place.Response cfg asking lane server put now saying total promise promises for serves s =
     let e : Exchange = s.0 in
     let a = answering_at lane.phase lane e _ _ _ _ refl s.2 s.3.last s.1.answers in
-    (done_told lane e a.1, response_answers cfg asking lane server put e now total has for s.1 a.1 laws s.3)
-so_at place.Closing cfg asking lane server put now saying total has promise laws for serves s =
+    (done_told lane e a.1, response_answers cfg asking lane server put e now total for s.1 a.1 promises s.3)
+so_at place.Closing cfg asking lane server put now saying total promise promises for serves s =
     (λ answered. tt, instead_closes cfg asking lane server put s.0 now for s.1 s.2 (promise s.0 s.1.answers) s.3)
-so_at place.Keeping cfg asking lane server put now saying total has promise laws for serves s =
+so_at place.Keeping cfg asking lane server put now saying total promise promises for serves s =
     (λ answered. tt, instead_keeps cfg asking lane server put s.0 now for s.1 s.2 (promise s.0 s.1.answers) s.3)
 
 pub in_hand_at : (at : Place) (cfg : Config) (asking : Asking Variables) (lane : ResponseLane) (server : Coming) (put : List ℕ) (now : Variables) (saying : Saying) → is_serving at ≡ true

@@ -1,15 +1,12 @@
 -- What the answer direction of a session stands for, over what it has of the past of an exchange.
 use Rattle.std.specs.Prelude.{◌≡◌, ◌≢◌, ◌⊎◌, ℕ, List, [], ◌++◌, Bool, true, false, Some, is_none, nat_lt, length, ⊤}
-use Rattle.http_model.specs.declared.Framing.{Framing}
 use Rattle.http_model.specs.Head.{Head}
 use Rattle.http_model.specs.Finish.{response_framing}
-use Rattle.http_model.specs.Reading.{Received, HeadReading, BodyReading}
+use Rattle.http_model.specs.Reading.{Received, HeadReading}
 use Rattle.http_model.specs.Spelling.{head_text}
-use Rattle.http_model.specs.declared.Ending.{Ending}
 use Rattle.px_sample.specs.Variables.{Variables}
 use Rattle.http_rules.specs.declared.config.Config.{Config}
 use Rattle.http_rules.specs.Lives.{answering}
-use Rattle.h1_body.specs.BodyOf.{BodyOf}
 use Rattle.h1_head.specs.Decides.{MayWait}
 use Rattle.h1_head.specs.Kind.{response_heads}
 use Rattle.forward_core.specs.Meaning.Product.{meaning_of, replaces}
@@ -186,9 +183,3 @@ is_serving place.Response = true
 is_serving place.Closing = true
 is_serving place.Keeping = true
 is_serving place.Saying = false
-
--- ---- what its laws rest on
-
--- every body has a reading
-abbrev pub HasBodies : Config → Type 0
-HasBodies cfg = (framing : Framing) (bytes : List ℕ) (ending : Ending) → (body : BodyReading) × BodyOf cfg.limits framing bytes ending body

@@ -86,7 +86,7 @@ KeepsMethod asked.Sending kept method = kept ≡ method
 KeepsMethod asked.Idle kept method = ⊤
 KeepsMethod asked.Replied kept method = ⊤
 
--- They stand for this past, under this configuration; no stream of a client is without a reading.
+-- They stand for this past, under this configuration; each stream of a client has a head's reading.
 pub record DirectionsStand (cfg : Config) (d : Directions) (p : Sided (meaning_of cfg)) : Type 0 where
   pub config : settings_of d ≡ cfg
   pub total : IsTotal (meaning_of cfg)

@@ -29,7 +29,7 @@ ghost use Rattle.forward_core.specs.declared.answer.side.AnswerSide.{AnswerSide}
 
 use h1_body::readings::reading;
 
-/// No stream of a server is without a reading, and a head is at least one byte.
+/// Each stream of a server has a head's reading, each body has one, and a head is at least one byte.
 pub fn total()
     ensures { (cfg : Config) → IsTotalAnswers (meaning_of cfg) }
 {
@@ -44,10 +44,8 @@ pub fn answers()
         → AnswerStands cfg side p.asking p.server p.to_client p.now p.saying → is_serving (place_of side) ≡ true → AnswersSo (meaning_of cfg) (seen side) p }
 {
     total();
-    reading();
     lane::laws::answer_promise();
     lane::direction::laws::promise();
-    lane::direction::laws::has_body();
 }
 
 /// While the last that answers hasn't begun, the client got interim heads alone.

@@ -27,7 +27,7 @@ use h1_body::readings::reading;
 use h1_head::laws as heads;
 use lane::laws as lanes;
 
-/// No stream of a client is without a reading, and a head is at least one byte.
+/// Each stream of a client has a head's reading, and a head is at least one byte.
 pub fn total()
     ensures { (cfg : Config) → IsTotal (meaning_of cfg) }
 {

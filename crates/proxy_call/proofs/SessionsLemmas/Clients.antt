@@ -12,7 +12,7 @@ use Rattle.htx_drive.specs.Headline.{IsSessionOf}
 use Rattle.htx_drive.specs.declared.Ran.{Ran}
 use Rattle.htx_drive.specs.declared.SessionFault.{SessionFault}
 use Rattle.serve_run.specs.Drove.{Drove}
-use Rattle.proxy_call.specs.Sessions.Connections.{ServesClient}
+use Rattle.proxy_call.specs.Sessions.Connections.{ServesWith}
 
 -- a session that ran is that of its links, where they tell
 abbrev pub IsLaw : {C L : Type 0} (M : Meaning) (stands : C → Past → Type 0) (seen : L → Seen) (wrote : L → List ℕ → Type 0) (to : Place) (first client : L) (first_net net : NetSeen) → Type 0
@@ -23,10 +23,10 @@ IsLaw {C} {L} M stands seen wrote to first client first_net net =
 
 pub serves : {S C L : Type 0} (meaning : S → Meaning) (stands : S → C → Past → Type 0) (core_seen : C → CoreSeen) (seen : L → Seen) (wrote : L → List ℕ → Type 0) (cfg : S) (to : Place) (first client : L) (first_net net : NetSeen)
     → IsLaw (meaning cfg) (stands cfg) seen wrote to first client first_net net → (result : Result Ran SessionFault)
-    → Drove meaning stands core_seen seen wrote cfg to first client first_net net result → ServesClient (meaning cfg) seen wrote to first client first_net net result
+    → Drove meaning stands core_seen seen wrote cfg to first client first_net net result → ServesWith (meaning cfg) (stands cfg) core_seen seen wrote to first client first_net net result
 serves meaning stands core_seen seen wrote cfg to first client first_net net law (Ok ran) h =
-    λ own ending answers kept a b c d. law h.0 ran own ending answers kept a b c d h.1
+    (λ own ending answers kept a b c d. law h.0 ran own ending answers kept a b c d h.1, h.0, h.1)
 serves meaning stands core_seen seen wrote cfg to first client first_net net law (Err fault) (inl h) =
     let g = h.1 in
-    inl (record { past = g.past; front = g.front; came = g.came; put = g.put; closed = g.closed; dials = g.dials; spent = g.spent; spent_in_turns = g.spent_in_turns })
+    inl (record { past = g.past; front = g.front; came = g.came; put = g.put; closed = g.closed; dials = g.dials; spent = g.spent; spent_in_turns = g.spent_in_turns; turned = h.2 })
 serves meaning stands core_seen seen wrote cfg to first client first_net net law (Err fault) (inr h) = inr h

@@ -6,7 +6,7 @@ use Rattle.forward_core.specs.Meaning.Product.{meaning_of}
 use Rattle.session_core.specs.Consequences.{IsTotal}
 use Rattle.session_core.specs.MeaningLaws.Bound.{IsBounded}
 
--- It is valid, and an output window has room for the shortest text that isn't split; no stream is without a reading, and what is put out is bounded.
+-- It is valid, and an output window has room for the shortest text that isn't split; each stream has a reading, and what is put out is bounded.
 pub record IsReady (cfg : Config) (window : ℕ) : Type 0 where
   pub valid : IsValid cfg
   pub window_room : 64 ≤ window

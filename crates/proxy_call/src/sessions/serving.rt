@@ -4,7 +4,6 @@ ghost use Rattle.http_rules.specs.Valid.{IsValid};
 ghost use Rattle.htx_drive.specs.Dialled.{Dialled};
 ghost use Rattle.px_link.specs.Net.{Coming, Kept, address_of};
 ghost use Rattle.px_link.specs.Told.{Rose};
-ghost use Rattle.forward_core.specs.Meaning.Product.{meaning_of};
 ghost use Rattle.proxy_call.specs.Sessions.Connections.{ServesClient};
 ghost use Rattle.serve_run.specs.Lines.{net_line};
 ghost use Rattle.serve_run.specs.Served.{Breaks, LostOne, NetFails, ServedAll, ServedOne};
@@ -25,7 +24,6 @@ struct ConfigSessions<'c> {
 
 impl<'c, N: Net> Sessions<N> for ConfigSessions<'c> {
     ghost use Rattle.px_link.specs.Net.{address_of};
-    ghost use Rattle.forward_core.specs.Meaning.Product.{meaning_of};
     ghost use Rattle.proxy_call.specs.Sessions.Connections.{ServesClient};
 
     type Settings = (Config, Address);
@@ -35,7 +33,7 @@ impl<'c, N: Net> Sessions<N> for ConfigSessions<'c> {
     ghost to = { λ settings. address_of settings.1 };
 
     ghost session = { λ settings first client first_net net result.
-        ServesClient (meaning_of settings.0) N.Link.seen N.Link.wrote (address_of settings.1) first client (N.seen first_net) (N.seen net) result };
+        ServesClient settings.0 N.Link.seen N.Link.wrote (address_of settings.1) first client (N.seen first_net) (N.seen net) result };
 
     fn run(&mut self, client: &mut N::Link, net: &mut N) -> Result<Ran, SessionFault> {
         ran_is_the_session::<ConfigCore<'c>, N::Link, N>();
@@ -53,19 +51,19 @@ pub fn serve_clients<N: Net, K: Sink>(
 ) -> Result<(), ServeFault>
     requires valid { IsValid config.now }
     ensures good { OnOk result (ServedAll N.seen (ServedOne N.Link.seen N.Link.wrote N.seen
-        (λ first client first_net net result. ServesClient (meaning_of config.now) N.Link.seen N.Link.wrote (address_of config.now.server) first client (N.seen first_net) (N.seen net) result) (address_of config.now.server))
+        (λ first client first_net net result. ServesClient config.now N.Link.seen N.Link.wrote (address_of config.now.server) first client (N.seen first_net) (N.seen net) result) (address_of config.now.server))
         (address_of config.now.bind) count net.old net.new (K.written out.old) (K.written out.new)) }
     ensures told { (coming : List Coming) (answers : List (Option Coming)) (kept : List Kept)
         → (N.seen net.old).accepts ≡ Some coming → (N.seen net.old).answers ≡ Some answers → (N.seen net.old).kept ≡ Some kept
         → OnOk result (Visited (N.seen net.new) coming kept count) }
     ensures net { IsErrOf result ServeFault.Net → NetFails N.seen (ServedOne N.Link.seen N.Link.wrote N.seen
-        (λ first client first_net net result. ServesClient (meaning_of config.now) N.Link.seen N.Link.wrote (address_of config.now.server) first client (N.seen first_net) (N.seen net) result) (address_of config.now.server))
+        (λ first client first_net net result. ServesClient config.now N.Link.seen N.Link.wrote (address_of config.now.server) first client (N.seen first_net) (N.seen net) result) (address_of config.now.server))
         (address_of config.now.bind) count net_line net.old net.new (K.written out.old) (K.written out.new) }
     ensures output { IsErrOf result ServeFault.Output → Rose (K.faults out.old) (K.faults out.new) }
     ensures front { OnErr result (Breaks N.seen (ServedOne N.Link.seen N.Link.wrote N.seen
-        (λ first client first_net net result. ServesClient (meaning_of config.now) N.Link.seen N.Link.wrote (address_of config.now.server) first client (N.seen first_net) (N.seen net) result) (address_of config.now.server))
+        (λ first client first_net net result. ServesClient config.now N.Link.seen N.Link.wrote (address_of config.now.server) first client (N.seen first_net) (N.seen net) result) (address_of config.now.server))
         (LostOne N.Link.seen N.Link.wrote N.seen
-        (λ first client first_net net result. ServesClient (meaning_of config.now) N.Link.seen N.Link.wrote (address_of config.now.server) first client (N.seen first_net) (N.seen net) result) (address_of config.now.server))
+        (λ first client first_net net result. ServesClient config.now N.Link.seen N.Link.wrote (address_of config.now.server) first client (N.seen first_net) (N.seen net) result) (address_of config.now.server))
         (address_of config.now.bind) count net.old net.new (K.written out.old) (K.written out.new)) }
     ensures binds { OnOk result ((N.seen net.new).bound ≡ (N.seen net.old).bound ++ address_of config.now.bind ∷ []) }
     ensures bound { ((N.seen net.new).bound ≡ (N.seen net.old).bound) ⊎ ((N.seen net.new).bound ≡ (N.seen net.old).bound ++ address_of config.now.bind ∷ []) }

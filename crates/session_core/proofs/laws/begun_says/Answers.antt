@@ -1,6 +1,6 @@
 use Rattle.std.proofs.Common.{refl}
-use Rattle.session_core.proofs.Begun.{refusal_begun, reply_begun, turned_begun}
-use Rattle.session_core.proofs.Driving.{begun_so}
+use Rattle.session_core.proofs.Begun.{refusal_begun, reply_begun, turned_begun, turned_closed}
+use Rattle.session_core.proofs.Driving.{begun_so, begun_closed}
 use Rattle.session_core.proofs.Placing.{placed_in, says}
 use Rattle.session_core.specs.declared.Phase.TheVariants as phase
 use Rattle.session_core.proofs.laws.begun_says.Goals as goal
@@ -25,3 +25,12 @@ returns-clause-turned g c = λ cfg sides at past s placed is cut.
     let a = g.S.Sides.answer sides in
     let begins = g.met.S.Sides.begins_so cfg sides s.sided _ s.stand refl (says (g.S.Sides.placed sides) at.cut cut (placed_in (g.S.Sides.placed sides) a at.phase phase.Serving at.cut is placed)) in
     turned_begun (g.S.Sides.meaning cfg) (g.S.Sides.stands cfg sides) at (g.S.Sides.request sides) a s.sided past is cut s.stand begins s.holds
+
+pub returns-clause-closed : goal.returns-clause-closed
+returns-clause-closed g c = λ cfg sides at past s is turned. begun_closed (g.S.Sides.meaning cfg) at (g.S.Sides.request sides) (g.S.Sides.answer sides) s.sided past is turned s.holds
+
+pub returns-clause-closed_turned : goal.returns-clause-closed_turned
+returns-clause-closed_turned g c = λ cfg sides at past s placed is cut.
+    let a = g.S.Sides.answer sides in
+    let begins = g.met.S.Sides.begins_so cfg sides s.sided _ s.stand refl (says (g.S.Sides.placed sides) at.cut cut (placed_in (g.S.Sides.placed sides) a at.phase phase.Served at.cut is placed).0) in
+    turned_closed (g.S.Sides.meaning cfg) (g.S.Sides.stands cfg sides) at (g.S.Sides.request sides) a s.sided past is cut s.stand begins s.holds

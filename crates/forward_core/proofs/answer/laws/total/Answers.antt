@@ -5,7 +5,7 @@ use Rattle.forward_core.proofs.answer.laws.total.Goals as goal
 
 pub returns : goal.returns
 returns c = λ cfg. record {
-  heads = λ head_asked bytes none. c.some_reading.ensures (Response head_asked) cfg.limits bytes (λ r x. none (r, x));
+  heads = λ head_asked bytes. c.some_reading.ensures (Response head_asked) cfg.limits bytes;
   shorter = λ head_asked bytes received rest x. c.has_bytes.ensures (Response head_asked) cfg.limits bytes received rest x;
   bodies = λ framing bytes how.
       let read = c.reading.ensures cfg.limits framing bytes (Some how) in

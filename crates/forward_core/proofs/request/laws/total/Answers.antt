@@ -3,6 +3,6 @@ use Rattle.forward_core.proofs.request.laws.total.Goals as goal
 
 pub returns : goal.returns
 returns c = λ cfg. record {
-  heads = λ bytes none. c.some_reading.ensures side.Request cfg.limits bytes (λ r h. none (r, h));
+  heads = λ bytes. c.some_reading.ensures side.Request cfg.limits bytes;
   shorter = λ bytes received rest h. c.has_bytes.ensures side.Request cfg.limits bytes received rest h;
 }

@@ -1,5 +1,0 @@
-use Rattle.h1_body.proofs.Told as lemmas
-use Rattle.h1_body.proofs.laws.some_reading.Goals as goal
-
-pub returns : goal.returns
-returns c = lemmas.some_reading

@@ -1,6 +1,0 @@
-use Rattle.h1_head.specs.Sides.{kind_of}
-use Rattle.h1_head.proofs.Totals as totals
-use Rattle.h1_head.proofs.laws.reading_where_known.Goals as goal
-
-pub returns : goal.returns
-returns c = λ side. totals.known_reading (kind_of side)
