@@ -2,6 +2,8 @@
 language, with which reports are compared. Rules aren't in it."""
 import re
 
+from authority import is_one
+
 TOKEN = rb"[!#$%&'*+.^_`|~0-9A-Za-z-]+"
 VALUE = rb"[\t\x20-\x7e\x80-\xff]*"
 FIELD = re.compile(rb"(" + TOKEN + rb"):(" + VALUE + rb")\r?\n")
@@ -65,8 +67,8 @@ def head_of(text, at, line, limits, code):
     fields = read[0]
     version = first.group(3) if asked else first.group(1)
     if any(len(n) > 255 for n, _ in fields): raise Refusal(code)
-    hosts = sum(n.lower() == b"host" for n, _ in fields)
-    if asked and (hosts > 1 or (hosts == 0 and version == b"1")): raise Refusal(code)
+    hosts = [v for n, v in fields if n.lower() == b"host"]
+    if asked and (len(hosts) > 1 or (not hosts and version == b"1") or not is_one(first.group(1), first.group(2), hosts)): raise Refusal(code)
     if (asked and first.group(1) == b"CONNECT") or (not asked and first.group(2) == b"101"): raise Refusal(501 if asked else 502)
     codings = [e for e in elements(fields, b"transfer-encoding") if e]
     has_coding = any(n.lower() == b"transfer-encoding" for n, _ in fields)

@@ -71,8 +71,8 @@ def some_long():
 
 def some_request():
     head = b"%s %s HTTP/1.%d\r\n" % (draw.choice([b"GET", b"GET", b"POST", b"POST", b"HEAD", b"PUT", b"CONNECT", b"OPTIONS"]),
-                                    draw.choice([b"/a", b"/a?b=1", b"/b/ab?x", b"*", b"http://h/p?q", b"/old/x", b"/d", b"/r", b"/"]), draw.choice([1] * 9 + [0]))
-    fields = ([b"Host: h"] if draw.random() < 0.95 else []) + draw.sample(FIELDS, draw.choice([0, 0, 1, 2])) + some_long()
+                                    draw.choice([b"/a", b"/a?b=1", b"/b/ab?x", b"*", b"http://h/p?q", b"HTTP://H:80?q", b"http://k/", b"h:1", b"a/b", b"/old/x", b"/d", b"/r", b"/"]), draw.choice([1] * 9 + [0]))
+    fields = ([draw.choice([b"Host: h"] * 9 + [b"Host: H:80", b"Host: k", b"Host: h, k", b"Host:", b"Host: [::1]:1", b"Host: u@h"])] if draw.random() < 0.95 else []) + draw.sample(FIELDS, draw.choice([0, 0, 1, 2])) + some_long()
     return draw.choice([b""] * 8 + [b"\r\n", b"\n"]) + framed(head + b"".join(f + b"\r\n" for f in fields))
 
 

@@ -16,7 +16,7 @@ use Rattle.h1_head.specs.declared.answer.HeadWhy.{HeadWhy}
 use Rattle.h1_head.specs.declared.answer.HeadWhy.TheVariants as why
 use Rattle.h1_head.specs.declared.survey.Survey.{Survey}
 use Rattle.h1_head.specs.Answers.{IsKept}
-use Rattle.h1_head.specs.Rows.{Parts, ResponseParts, has_long_name, kept_head, kept_reading, refusal_of, response_refusal_of, is_over, unless_refused, decided, framing_told, framing_of}
+use Rattle.h1_head.specs.Rows.{Parts, ResponseParts, has_long_name, fits_target, kept_head, kept_reading, refusal_of, response_refusal_of, is_over, unless_refused, decided, framing_told, framing_of}
 use Rattle.h1_head.specs.Spans.{IsNamed, HasGoodName}
 use Rattle.h1_head.specs.Survey.{survey_of, declared_by, row_of, response_row_of}
 use Rattle.h1_head.proofs.Soundness.{at_most}
@@ -46,9 +46,9 @@ decided_light limits refusal framed line fields e light = passed limits refusal 
 
 -- ---- of a survey
 
-pub row_is : (p : Parts) (s : Survey) (method : List ℕ) → s ≡ survey_of p.fields → method ≡ p.method → row_of method p.minor s ≡ refusal_of p
-row_is p s method is same =
-    ap (λ m. row_of m p.minor s) same ∙ ap (λ t. row_of p.method p.minor t) is ∙ surveyed_row p
+pub row_is : (p : Parts) (s : Survey) (method : List ℕ) (fits : Bool) → s ≡ survey_of p.fields → method ≡ p.method → fits ≡ fits_target p → row_of method p.minor fits s ≡ refusal_of p
+row_is p s method fits is same fit =
+    ap (λ m. row_of m p.minor fits s) same ∙ ap (λ b. row_of p.method p.minor b s) fit ∙ ap (λ t. row_of p.method p.minor (fits_target p) t) is ∙ surveyed_row p
 
 pub response_row_is : (p : ResponseParts) (s : Survey) → s ≡ survey_of p.fields → response_row_of p.status p.minor s ≡ response_refusal_of p
 response_row_is p s is = ap (λ t. response_row_of p.status p.minor t) is ∙ surveyed_response_row p

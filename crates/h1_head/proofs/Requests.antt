@@ -9,7 +9,7 @@ use Rattle.httparse.proofs.GrammarLemmas.{print_request-append, ReadsRequest-app
 use Rattle.http_model.specs.declared.Limits.{Limits}
 use Rattle.h1_head.specs.declared.answer.HeadWhy.TheVariants as why
 use Rattle.h1_head.specs.Kind.{request_heads, parts_of}
-use Rattle.h1_head.specs.Rows.{Parts, has_long_name, host_is_good, framing_is_bad, coding_is_unknown, request_line, refusal_of}
+use Rattle.h1_head.specs.Rows.{Parts, has_long_name, host_is_one, framing_is_bad, coding_is_unknown, request_line, refusal_of}
 use Rattle.h1_head.specs.Stream.{behind}
 use Rattle.h1_head.specs.Feeds.{feeds}
 use Rattle.h1_head.proofs.Heads.{feeds-append, feeds-cons, no_feeds, token_feeds, feeds-print_end, feeds-print_version, feeds-fields, tail_ends, feeds-before, front_in, no_blank}
@@ -97,7 +97,7 @@ rows : (limits : Limits) (h : RequestHead) → row_or_kept (request_heads.decide
 rows limits h =
     let p : Parts = parts_of h in
     decides_row (refusal_of p) _ limits (request_line p) p.fields
-    (chain (has_long_name p.fields) (not (host_is_good p.minor p.fields)) (bytes_eq p.method (codes "CONNECT")) (framing_is_bad p.minor p.fields) (coding_is_unknown p.fields))
+    (chain (has_long_name p.fields) (not (host_is_one p)) (bytes_eq p.method (codes "CONNECT")) (framing_is_bad p.minor p.fields) (coding_is_unknown p.fields))
 
 pub requests_are_lawful : IsLawful request_heads
 requests_are_lawful = record {

@@ -13,7 +13,7 @@ use Rattle.h1_head.specs.declared.survey.Lengths.TheVariants.{Unread, One, Diffe
 use Rattle.h1_head.specs.declared.survey.Codings.{Codings}
 use Rattle.h1_head.specs.declared.survey.Codings.TheVariants.{Unnamed, Chunked, Unknown}
 use Rattle.h1_head.specs.declared.survey.Survey.{Survey}
-use Rattle.h1_head.specs.Rows.{Parts, elements_named, has_option, has_long_name, is_length, is_number, if_all_are, one_length, declared_length, is_none, is_chunked_alone, is_nonempty, refusal_of, ResponseParts, response_refusal_of}
+use Rattle.h1_head.specs.Rows.{Parts, elements_named, has_option, has_long_name, is_length, is_number, if_all_are, one_length, declared_length, is_none, is_chunked_alone, is_nonempty, fits_target, refusal_of, ResponseParts, response_refusal_of}
 use Rattle.h1_head.specs.Survey.{by_number, next_length, lengths_after, by_coding, next_coding, codings_after, has_value, has_option_in, has_taking, removes_some, add_field, survey_after, no_survey, survey_of, are_one, are_chunked, declared_by, row_of, response_row_of}
 
 or_false : (a : Bool) → (a || false) ≡ a
@@ -244,13 +244,13 @@ tells fields =
       close = surveyed_close no_survey fields ∙ option_in (codes "close") fields;
     }
 
-same_row : (s : Survey) (p : Parts) → Tells s p.fields → row_of p.method p.minor s ≡ refusal_of p
+same_row : (s : Survey) (p : Parts) → Tells s p.fields → row_of p.method p.minor (fits_target p) s ≡ refusal_of p
 same_row s p t = simp (t.long, t.hosts, t.sized, t.none, t.coded, t.chunked) refl
 
 same_response_row : (s : Survey) (p : ResponseParts) → Tells s p.fields → response_row_of p.status p.minor s ≡ response_refusal_of p
 same_response_row s p t = simp (t.long, t.sized, t.none, t.coded, t.chunked) refl
 
-pub surveyed_row : (p : Parts) → row_of p.method p.minor (survey_of p.fields) ≡ refusal_of p
+pub surveyed_row : (p : Parts) → row_of p.method p.minor (fits_target p) (survey_of p.fields) ≡ refusal_of p
 surveyed_row p = same_row (survey_of p.fields) p (tells p.fields)
 
 pub surveyed_response_row : (p : ResponseParts) → response_row_of p.status p.minor (survey_of p.fields) ≡ response_refusal_of p

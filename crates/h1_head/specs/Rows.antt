@@ -10,8 +10,11 @@ use Rattle.http_model.specs.declared.Framing.{Framing}
 use Rattle.http_model.specs.declared.Framing.TheVariants as framing
 use Rattle.http_model.specs.declared.Limits.{Limits}
 use Rattle.http_model.specs.Head.{Field, StartLine, RequestLine, StatusLine, Head, head_blocks}
-use Rattle.http_model.specs.Fields.{same_name, is_named_among, has_field, fields_named}
+use Rattle.http_model.specs.Fields.{same_name, is_named, is_named_among, has_field, fields_named}
 use Rattle.http_model.specs.Reading.{Received}
+use Rattle.uri_parts.specs.Authority.{is_authority}
+use Rattle.uri_parts.specs.Same.{host_agrees}
+use Rattle.uri_parts.specs.Forms.{target_fits}
 use Rattle.px_bytes.specs.Numbers.{decimal_of}
 use Rattle.px_bytes.specs.Values.{values_in}
 use Rattle.http_model.specs.Sizes.{most_name}
@@ -166,11 +169,28 @@ decided refusal framed limits line fields =
 abbrev pub request_line : Parts → StartLine
 request_line p = RequestLine p.method p.target (print_version p.minor)
 
+-- the field is not named Host, or its value is empty or an authority, and that of the target where the target has one
+abbrev pub is_host_for : (target : List ℕ) → Field → Bool
+is_host_for target field =
+    not (is_named (codes "host") field) || (is_authority field.1 && host_agrees target field.1)
+
+-- each Host field may stand beside this target
+abbrev pub hosts_fit : (target : List ℕ) → List Field → Bool
+hosts_fit target fields = list_all (is_host_for target) fields
+
+-- the target has a form that its method may have, and each Host field may stand beside it
+unfoldable pub fits_target : Parts → Bool
+fits_target p = target_fits p.method p.target && hosts_fit p.target p.fields
+
+-- there are as many Host fields as the version asks for, and target and Host name one authority
+abbrev pub host_is_one : Parts → Bool
+host_is_one p = host_is_good p.minor p.fields && fits_target p
+
 -- the first row in front of the weight that applies
 abbrev pub refusal_of : Parts → Option HeadWhy
 refusal_of p =
     if has_long_name p.fields then Some why.Name
-    else if not (host_is_good p.minor p.fields) then Some why.Host
+    else if not (host_is_one p) then Some why.Host
     else if bytes_eq p.method (codes "CONNECT") then Some why.Method
     else framing_refusal p.minor p.fields
 

@@ -159,10 +159,10 @@ framing_row minor s =
     else None
 
 -- the first row in front of the weight that applies
-abbrev pub row_of : (method : List ℕ) → (minor : ℕ) → Survey → Option HeadWhy
-row_of method minor s =
+abbrev pub row_of : (method : List ℕ) → (minor : ℕ) → (fits : Bool) → Survey → Option HeadWhy
+row_of method minor fits s =
     if s.long_name then Some why.Name
-    else if not (hosts_are_good minor s) then Some why.Host
+    else if not (hosts_are_good minor s && fits) then Some why.Host
     else if bytes_eq method (codes "CONNECT") then Some why.Method
     else framing_row minor s
 

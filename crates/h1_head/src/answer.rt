@@ -49,7 +49,8 @@ pub enum HeadWhy {
     Long = 2,
     /// A field name of more than 255 bytes.
     Name = 3,
-    /// No Host field in HTTP/1.1, or several (RFC 9112 section 3.2).
+    /// No Host field in HTTP/1.1, or several; a target of no form that its method may have; a Host that is no authority, or not that of the target (RFC 9112
+    /// sections 3.2 and 3.2.2).
     Host = 4,
     /// CONNECT, or a response that switches protocols: neither is implemented (RFC 9110 sections 9.3.6 and 15.2.2).
     Method = 5,

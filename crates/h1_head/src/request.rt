@@ -14,6 +14,7 @@ ghost use Rattle.httparse.specs.Outcome.{IfComplete, OnPartial};
 ghost use Rattle.httparse.specs.Spans.{IsRequestWithin, IsRequestOf, RequestOverflows};
 ghost use Rattle.h1_head.specs.Decides.{OnEachStream, MayWait, RefusesFor, WhereLong, IsTooLong};
 
+use crate::host::fits_target;
 use crate::lines::empty_lines;
 use crate::received::push_head;
 use crate::survey::survey_fields;
@@ -52,7 +53,8 @@ fn receive(
     ensures size { to.new.size ≡ to.old.size }
 {
     let survey = survey_fields(text, fields);
-    if let Some(why) = survey.refusal(head.method.of(text), head.version) {
+    let fits = fits_target(text, head, fields);
+    if let Some(why) = survey.refusal(head.method.of(text), head.version, fits) {
         return Err(why);
     }
     let pushed = push_head(text, head, fields, survey.removes, to);

@@ -65,13 +65,13 @@ impl Survey {
         }
     }
 
-    /// The first row that applies to a request.
-    pub fn refusal(&self, method: &[u8], minor: u8) -> Option<HeadWhy>
-        ensures { result ≡ row_of method.now minor self.now }
+    /// The first row that applies to a request, whose target and Host fields fit each other and the method or don't.
+    pub fn refusal(&self, method: &[u8], minor: u8, fits: bool) -> Option<HeadWhy>
+        ensures { result ≡ row_of method.now minor fits self.now }
     {
         if self.long_name {
             Some(HeadWhy::Name)
-        } else if !self.has_good_hosts(minor) {
+        } else if !(self.has_good_hosts(minor) && fits) {
             Some(HeadWhy::Host)
         } else if method == b"CONNECT".as_slice() {
             Some(HeadWhy::Method)

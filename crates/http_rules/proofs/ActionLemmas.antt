@@ -3,6 +3,7 @@ pub mod Came
 pub mod Lines
 pub mod Targets
 pub mod Doing
+pub mod Hosts
 pub mod Texted
 pub mod Replaced
 pub mod Groups

@@ -4,6 +4,7 @@ pub mod Given
 pub mod Edits
 pub mod Pieces
 pub mod Lines
+pub mod Hosts
 pub mod Replacing
 pub mod Replies
 pub mod Steps

@@ -5,6 +5,7 @@ mod act;
 mod extent;
 mod fields;
 mod filled;
+mod hosts;
 mod joining;
 mod line;
 mod listed;

@@ -2,7 +2,7 @@
 use Rattle.std.specs.Prelude.{ℕ, List, [], ◌∷◌, map, filter, Bool, not, ◌&&◌, Ok}
 use Rattle.std.specs.Str.{str_to_ascii_lowercase}
 use Rattle.http_model.specs.Head.{Head, Field}
-use Rattle.http_model.specs.Fields.{same_name, is_named_among, add_field, set_field}
+use Rattle.http_model.specs.Fields.{same_name, is_named_among, add_field}
 use Rattle.http_model.specs.Finish.{framing_names}
 use Rattle.session_model.specs.Env.{env_with_vars}
 use Rattle.header_ops.specs.Matching.{begins_with, ends_with, has_part}
@@ -20,6 +20,7 @@ use Rattle.http_rules.specs.declared.action.part.TargetPart.TheVariants.{Path, P
 use Rattle.http_rules.specs.Action.Given.{Env, text_on, sample_on}
 use Rattle.http_rules.specs.Action.Edits.{Step, edited, by_text, by_value}
 use Rattle.http_rules.specs.Action.Lines.{retargeted, remethoded, restated, reason_by, with_part, with_query, part_of, on_request, sent_to}
+use Rattle.http_rules.specs.Action.Hosts.{reset, reuri}
 use Rattle.http_rules.specs.Action.Replacing.{matches, by_match, places, replace_whole, replace_values}
 
 -- ---- fields
@@ -27,9 +28,9 @@ use Rattle.http_rules.specs.Action.Replacing.{matches, by_match, places, replace
 abbrev pub add_step : (size : ℕ) → (name : List ℕ) → Fmt → Step
 add_step size name fmt env = by_text size (text_on size env fmt) (λ text. by_value size env text (λ value. add_field name value env.head))
 
--- the text is made on the environment that has the fields which go
+-- The text is made on the environment that has the fields which go. Host stays the authority of the target.
 abbrev pub set_step : (size : ℕ) → (name : List ℕ) → Fmt → Step
-set_step size name fmt env = by_text size (text_on size env fmt) (λ text. by_value size env text (λ value. set_field name value env.head))
+set_step size name fmt env = by_text size (text_on size env fmt) (λ text. reset size env name text)
 
 -- the name is meant
 abbrev pub is_meant : DelBy → List ℕ → Bool
@@ -61,6 +62,10 @@ method_step size fmt env = by_text size (text_on size env fmt) (remethoded size 
 abbrev pub part_step : (size : ℕ) → TargetPart → Fmt → Step
 part_step size part fmt env = by_text size (text_on size env fmt) (λ text. retargeted size env (λ target. with_part part target text))
 
+-- the whole target, whose authority stays that of Host
+abbrev pub uri_step : (size : ℕ) → Fmt → Step
+uri_step size fmt env = by_text size (text_on size env fmt) (λ text. reuri size env text)
+
 abbrev pub query_step : (size : ℕ) → Fmt → Step
 query_step size fmt env = by_text size (text_on size env fmt) (λ text. retargeted size env (λ target. with_query target text))
 
@@ -74,7 +79,7 @@ unfoldable pub line_step : (size : ℕ) → Action → Step
 line_step size (actions.SetMethod fmt) env = method_step size fmt env
 line_step size (actions.SetPath fmt) env = part_step size Path fmt env
 line_step size (actions.SetPathq fmt) env = part_step size Pathq fmt env
-line_step size (actions.SetUri fmt) env = part_step size Uri fmt env
+line_step size (actions.SetUri fmt) env = uri_step size fmt env
 line_step size (actions.SetQuery fmt) env = query_step size fmt env
 line_step size (actions.ReplacePath pat fmt) env = replace_part size Path pat fmt env
 line_step size (actions.ReplacePathq pat fmt) env = replace_part size Pathq pat fmt env

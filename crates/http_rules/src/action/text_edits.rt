@@ -8,7 +8,8 @@ ghost use Rattle.http_rules.specs.Action.Given.{Env};
 ghost use Rattle.http_rules.specs.Action.TextEdits.{format_of, text_edit, text_step};
 ghost use Rattle.http_rules.specs.Action.Outcome.{IsScratch, IsAt, Came, IsFront};
 
-use crate::action::fields::{add_made, set_made};
+use crate::action::fields::add_made;
+use crate::action::hosts::{put_uri, set_beside};
 use crate::action::line::{put_method, put_part, put_query};
 use crate::action::part::TargetPart;
 use crate::action::place::{Place, Setting};
@@ -58,11 +59,11 @@ fn edit_by_text(action: &Action, msg: &mut Arena, scratch: &mut Scratch) -> Step
     let text = text.bytes();
     match action {
         Action::AddHeader(name, _) => add_made(msg, name.as_slice(), text),
-        Action::SetHeader(name, _) => set_made(msg, name.as_slice(), text),
+        Action::SetHeader(name, _) => set_beside(msg, name.as_slice(), text),
         Action::SetMethod(_) => put_method(msg, text, buf, spare),
         Action::SetPath(_) => put_part(msg, TargetPart::Path, text, made, buf, spare),
         Action::SetPathq(_) => put_part(msg, TargetPart::Pathq, text, made, buf, spare),
-        Action::SetUri(_) => put_part(msg, TargetPart::Uri, text, made, buf, spare),
+        Action::SetUri(_) => put_uri(msg, text, made, buf, spare),
         Action::SetQuery(_) => put_query(msg, text, made, buf, spare),
         _ => Stepped::Done,
     }

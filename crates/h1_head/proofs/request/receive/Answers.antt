@@ -14,12 +14,12 @@ pub returns-in-Some-clause-refused : goal.returns-in-Some-clause-refused
 returns-in-Some-clause-refused c =
     let p : Parts = span_parts c.args.text.now c.args.head.now c.args.fields.now in
     decided_row c.args.limits (refusal_of p) _ (request_line p) p.fields c.in-Some.why
-    (sym (row_is p c.survey_fields-survey.result c.of.result.now c.survey_fields-survey.ensures c.of.ensures) ∙ sym c.refusal.ensures ∙ c.in-Some.is)
+    (sym (row_is p c.survey_fields-survey.result c.of.result.now c.fits_target-fits.result c.survey_fields-survey.ensures c.of.ensures c.fits_target-fits.ensures) ∙ sym c.refusal.ensures ∙ c.in-Some.is)
 
 pub push_head-pushed-requires-clause-named : goal.push_head-pushed-requires-clause-named
 push_head-pushed-requires-clause-named c =
     let p : Parts = span_parts c.args.text.now c.args.head.now c.args.fields.now in
-    let none : refusal_of p ≡ None = sym (row_is p c.survey_fields-survey.result c.of.result.now c.survey_fields-survey.ensures c.of.ensures) ∙ sym c.refusal.ensures ∙ c.in_default.is in
+    let none : refusal_of p ≡ None = sym (row_is p c.survey_fields-survey.result c.of.result.now c.fits_target-fits.result c.survey_fields-survey.ensures c.of.ensures c.fits_target-fits.ensures) ∙ sym c.refusal.ensures ∙ c.in_default.is in
     good_names c.args.text.now c.args.fields.now c.requires.spans.named.named (names_passed p none)
 
 pub push_head-pushed-requires-clause-removes : goal.push_head-pushed-requires-clause-removes
@@ -31,7 +31,7 @@ push_head-pushed-requires-clause-removes c =
 pub returns-then-is_err-clause-refused : goal.returns-then-is_err-clause-refused
 returns-then-is_err-clause-refused c =
     let p : Parts = span_parts c.args.text.now c.args.head.now c.args.fields.now in
-    let none : refusal_of p ≡ None = sym (row_is p c.survey_fields-survey.result c.of.result.now c.survey_fields-survey.ensures c.of.ensures) ∙ sym c.refusal.ensures ∙ c.in_default.is in
+    let none : refusal_of p ≡ None = sym (row_is p c.survey_fields-survey.result c.of.result.now c.fits_target-fits.result c.survey_fields-survey.ensures c.of.ensures c.fits_target-fits.ensures) ∙ sym c.refusal.ensures ∙ c.in_default.is in
     elim c.then-is_err.branch [
       | then-is_err-via-then-is_err w ↦
           let past : c.args.to.now.size < weight_of (request_line p) p.fields = search rules in
@@ -47,7 +47,7 @@ returns-then-is_err-clause-refused c =
 pub returns-clause-kept : goal.returns-clause-kept
 returns-clause-kept c =
     let p : Parts = span_parts c.args.text.now c.args.head.now c.args.fields.now in
-    let none : refusal_of p ≡ None = sym (row_is p c.survey_fields-survey.result c.of.result.now c.survey_fields-survey.ensures c.of.ensures) ∙ sym c.refusal.ensures ∙ c.in_default.is in
+    let none : refusal_of p ≡ None = sym (row_is p c.survey_fields-survey.result c.of.result.now c.fits_target-fits.result c.survey_fields-survey.ensures c.of.ensures c.fits_target-fits.ensures) ∙ sym c.refusal.ensures ∙ c.in_default.is in
     let blocks : c.push_head-pushed.new.to.blocks ≡ head_blocks (kept_head (request_line p) p.fields) = search rules in
     kept_is c.args.limits (refusal_of p) _ (request_line p) p.fields c.survey_fields-survey.result c.push_head-pushed.new.to.blocks c.framing.result c.declared.result c.survey_fields-survey.result.close
     c.survey_fields-survey.ensures none blocks (search rules) (c.framing.ensures ∙ framing_is _ p.fields c.survey_fields-survey.result c.survey_fields-survey.ensures) c.declared.ensures (search rules)

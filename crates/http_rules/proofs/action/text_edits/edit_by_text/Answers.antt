@@ -21,8 +21,8 @@ pub returns-in-SetUri-clause-came : goal.returns-in-SetUri-clause-came
 unfolding text_edit
 returns-in-SetUri-clause-came c =
     λ side env vars at.
-    edited_as side env c.args.msg.now.size c.args.action.now (actions.SetUri c.in-SetUri.field-0) c.args.scratch.now.text.bytes c.bytes-text.result.now c.put_part-in-SetUri.result c.put_part-in-SetUri.new.msg.blocks vars
-    c.in-SetUri.is c.bytes-text.ensures.bytes (c.put_part-in-SetUri.ensures.came side env vars at)
+    edited_as side env c.args.msg.now.size c.args.action.now (actions.SetUri c.in-SetUri.field-0) c.args.scratch.now.text.bytes c.bytes-text.result.now c.put_uri.result c.put_uri.new.msg.blocks vars
+    c.in-SetUri.is c.bytes-text.ensures.bytes (c.put_uri.ensures.came side env vars at)
 
 pub returns-in-SetQuery-clause-came : goal.returns-in-SetQuery-clause-came
 unfolding text_edit
