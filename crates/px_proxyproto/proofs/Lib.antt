@@ -1,0 +1,9 @@
+mod Ports
+mod Joins
+mod Cuts
+mod Fronts
+mod Lengths
+mod Prefix
+mod Shown
+mod Bits
+mod Written
