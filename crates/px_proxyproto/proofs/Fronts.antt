@@ -1,12 +1,12 @@
 -- Bytes that have one beginning with a word, and bytes that go on.
-use Rattle.std.proofs.Common.{◌≡◌, ◌≢◌, ℕ, zero, suc, ◌+◌, ◌-◌, ◌≤◌, ◌<◌, Bool, true, false, List, [], ◌∷◌, ◌++◌, length, take, drop, get_or, All, inl, inr, refl, sym, ap, subst, ◌∙◌, arith, append_assoc, take-append-drop, length-append}
+use Rattle.std.proofs.Common.{◌≡◌, ℕ, zero, suc, ◌≤◌, Bool, true, false, List, [], ◌∷◌, ◌++◌, length, take, drop, inl, inr, refl, sym, ap, subst, ◌∙◌, arith, append_assoc, take-append-drop}
 use Rattle.std.specs.Prelude.{Option, Some, None, codes}
-use Rattle.std.proofs.lemmas.List.{append-nil, take_all, take-take, length-take, length-take-le}
+use Rattle.std.proofs.lemmas.List.{append-nil, take_all, take-take, length-take-le}
 use Rattle.std.proofs.lemmas.Bool.{cases_lt}
 use Rattle.std.proofs.lemmas.Slice.Eq.{bytes_eq-Decides}
 use Rattle.px_peer.specs.declared.Pair.{Pair}
 use Rattle.px_proxyproto.specs.Binary.{IsBinary, signature, is_signed}
-use Rattle.px_proxyproto.specs.Lines.{Agrees, IsInLine, IsLineOf, IsText, LeavesLine, NoText, family_word, line_end}
+use Rattle.px_proxyproto.specs.Lines.{Agrees, IsLineOf, IsText, family_word, line_end}
 
 heads : (x y : ℕ) (xs ys : List ℕ) → x ∷ xs ≡ y ∷ ys → (x ≡ y) × (xs ≡ ys)
 heads x y xs ys e = (cc, cc)
@@ -77,7 +77,7 @@ binary_apart bytes rest pair never is =
 pub binary_front_apart : (bytes front rest : List ℕ) (pair : Option Pair) → bytes ≡ front ++ rest → ¬ (Agrees bytes signature) → IsBinary front pair → ⊥
 binary_front_apart bytes front rest pair e never is =
     never (agrees_by bytes [] signature (drop 12 front ++ rest)
-      (append-nil bytes ∙ (e ∙ (ap (λ (t : List ℕ). t ++ rest) (signed_whole front is.signed) ∙ append_assoc signature (drop 12 front) rest))))
+    (append-nil bytes ∙ (e ∙ (ap (λ (t : List ℕ). t ++ rest) (signed_whole front is.signed) ∙ append_assoc signature (drop 12 front) rest))))
 
 -- ---- what is kept of the bytes begins as they do
 
@@ -88,8 +88,8 @@ pub agrees_whole : (bytes : List ℕ) → Agrees (take 107 bytes) signature → 
 agrees_whole bytes a =
     elim (cases_lt 107 (length bytes)) [
       | inl long ↦
-        let len : length (take 107 bytes) ≡ 107 = length-take-le 107 bytes (omega (arith, long)) in
-        signed_agrees bytes (sym (kept_12 bytes) ∙ agrees_signed (take 107 bytes) a (omega (arith, len)))
+          let len : length (take 107 bytes) ≡ 107 = length-take-le 107 bytes (omega (arith, long)) in
+          signed_agrees bytes (sym (kept_12 bytes) ∙ agrees_signed (take 107 bytes) a (omega (arith, len)))
       | inr short ↦ subst (λ (t : List ℕ). Agrees t signature) (take_all 107 bytes short) a
     ]
 

@@ -1,18 +1,17 @@
 -- No header is a front of another, and a header has one pair.
-use Rattle.std.proofs.Common.{◌≡◌, ℕ, ◌+◌, ◌^◌, ◌<◌, ◌≤◌, Bool, true, false, List, [], ◌∷◌, ◌++◌, length, take, drop, get_or, All, inl, inr, refl, sym, ap, subst, ◌∙◌, arith, append_assoc, length-append}
-use Rattle.std.specs.Prelude.{Option, Some, None, codes, decimal}
+use Rattle.std.proofs.Common.{◌≡◌, ℕ, ◌≤◌, Bool, true, false, List, [], ◌∷◌, ◌++◌, length, drop, get_or, inl, inr, refl, sym, ap, subst, ◌∙◌, arith, append_assoc, length-append}
+use Rattle.std.specs.Prelude.{Option, Some, None, codes}
 use Rattle.std.specs.Net.Addr.{ipv4_bits, ipv6_bits}
 use Rattle.std.proofs.lemmas.List.{append-nil, append_cancel_left, nil_from_length}
 use Rattle.std.proofs.lemmas.Fmt.{decimal_injective}
 use Rattle.std.proofs.NetLemmas.Theorems.{IsIpv4Text_unique, IsIpv6Text_unique}
-use Rattle.px_peer.specs.declared.Peer.{Peer}
 use Rattle.px_peer.specs.declared.Pair.{Pair}
 use Rattle.px_proxyproto.specs.Addresses.{IsAddress, IsPort}
-use Rattle.px_proxyproto.specs.Binary.{IsBinary, signature, block_len, pair_in}
-use Rattle.px_proxyproto.specs.Lines.{IsInLine, IsInWord, Words, AreWords, AreOf, IsPairText, IsFamilyLine, IsLineOf, IsText, family_word, line_end}
+use Rattle.px_proxyproto.specs.Binary.{IsBinary, pair_in}
+use Rattle.px_proxyproto.specs.Lines.{IsInLine, Words, AreOf, IsPairText, IsFamilyLine, IsLineOf, IsText, family_word, line_end}
 use Rattle.px_proxyproto.specs.Headers.{IsHeader}
 use Rattle.px_proxyproto.proofs.Cuts.{cut_at, words_only}
-use Rattle.px_proxyproto.proofs.Fronts.{signed_agrees, signed_is, text_front_apart, text_apart}
+use Rattle.px_proxyproto.proofs.Fronts.{signed_agrees, text_front_apart, text_apart}
 use Rattle.px_proxyproto.proofs.Lengths.{more_len}
 
 address_only : (v6 : Bool) (text : List ℕ) (x y : ℕ) → IsAddress v6 text x → IsAddress v6 text y → x ≡ y

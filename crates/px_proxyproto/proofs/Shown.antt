@@ -1,10 +1,9 @@
 -- The texts of numbers and addresses: no space, CR or LF stands in them, and they are read as they were written.
-use Rattle.std.proofs.Common.{◌≡◌, ℕ, suc, ◌+◌, ◌*◌, ◌/◌, ◌%◌, ◌^◌, ◌<◌, ◌≤◌, Bool, true, false, List, [], ◌∷◌, ◌++◌, length, get_or, All, flat_map, inl, inr, refl, sym, ap, subst, ◌∙◌, arith, append_assoc, lt-ltb}
-use Rattle.std.specs.Prelude.{decimal, codes, slice_index}
+use Rattle.std.proofs.Common.{ℕ, suc, ◌^◌, ◌<◌, ◌≤◌, Bool, false, List, [], ◌∷◌, ◌++◌, get_or, All, flat_map, inl, inr, refl, arith, append_assoc, lt-ltb}
+use Rattle.std.specs.Prelude.{decimal}
 use Rattle.std.specs.Char.{digit_value}
-use Rattle.std.specs.Fmt.{digits}
 use Rattle.std.specs.Str.Parse.{AllDigits}
-use Rattle.std.specs.Net.Grammar.{IsDotted, IsGroup, IsGroupsAfter, IsGroups, IsColonHex}
+use Rattle.std.specs.Net.Grammar.{IsDotted, IsGroup, IsGroupsAfter, IsGroups}
 use Rattle.std.proofs.lemmas.Bool.{cases_lt}
 use Rattle.std.proofs.lemmas.Fmt.{digits_is_IsNumeral, decimal_is_IsNumeral}
 use Rattle.std.proofs.lemmas.List.Elements.{All-nil, All-cons, All-append, All-weaker}
@@ -86,5 +85,5 @@ pub dotted_is : (a b c d : ℕ) → a < 256 → b < 256 → c < 256 → d < 256
 dotted_is a b c d ha hb hc hd = (
   dotted_by a b c d ha hb hc hd,
   dot_shown a (decimal b ++ (46 ∷ (decimal c ++ (46 ∷ decimal d)))) ha
-    (dot_shown b (decimal c ++ (46 ∷ decimal d)) hb (dot_shown c (decimal d) hc (decimal_shown d (omega (arith, hd))))),
+      (dot_shown b (decimal c ++ (46 ∷ decimal d)) hb (dot_shown c (decimal d) hc (decimal_shown d (omega (arith, hd))))),
 )

@@ -1,5 +1,5 @@
 -- A header that is written of a pair is a header with that pair.
-use Rattle.std.proofs.Common.{◌≡◌, ℕ, suc, ◌+◌, ◌*◌, ◌%◌, ◌^◌, ◌<◌, ◌≤◌, Bool, true, false, ◌&&◌, cond, List, [], ◌∷◌, ◌++◌, length, get_or, All, flat_map, inl, inr, refl, sym, ap, subst, ◌∙◌, arith, append_assoc, length-append}
+use Rattle.std.proofs.Common.{◌≡◌, ℕ, suc, ◌*◌, ◌%◌, ◌^◌, ◌<◌, ◌≤◌, Bool, true, false, ◌&&◌, cond, List, [], ◌∷◌, ◌++◌, length, All, flat_map, inl, inr, refl, sym, ap, subst, ◌∙◌, arith, append_assoc, length-append}
 use Rattle.std.specs.Prelude.{Option, Some, None, decimal, codes, nat_lt, ◌==◌}
 use Rattle.std.specs.List.{list_all}
 use Rattle.std.specs.Int.{w16, w32, w128, to_be_bytes, from_be_bytes}
@@ -9,14 +9,13 @@ use Rattle.std.proofs.lemmas.Nat.{from_be_bytes-to_be_bytes_2, from_be_bytes-to_
 use Rattle.std.proofs.lemmas.Fmt.{length-decimal-le}
 use Rattle.std.proofs.lemmas.List.Elements.{All-nil, All-cons, All-append}
 use Rattle.px_bytes.proofs.PublicLaws.{length-hex-le}
-use Rattle.px_peer.specs.declared.Peer.{Peer}
 use Rattle.px_peer.specs.declared.Pair.{Pair}
 use Rattle.px_proxyproto.specs.Addresses.{IsAddress, IsPair}
-use Rattle.px_proxyproto.specs.Binary.{IsBinary, signature, pair_4, pair_6, pair_in}
+use Rattle.px_proxyproto.specs.Binary.{IsBinary, pair_4, pair_6}
 use Rattle.px_proxyproto.specs.Lines.{IsInLine, IsPairText, IsFamilyLine, IsLineOf, IsText, four_words, family_word, line_end}
 use Rattle.px_proxyproto.specs.Headers.{IsHeader}
-use Rattle.px_proxyproto.specs.Texts.{octets_4, octets_6, group_text, next_group, groups_text, dotted_text, address_text, addresses_text, ports_text, line_text, ports_block, text_of, binary_of, header_of}
-use Rattle.px_proxyproto.proofs.Shown.{AreOctets, AreSegments, IsShown, in_word, in_line, decimal_shown, groups_shown, groups_are, dotted_is}
+use Rattle.px_proxyproto.specs.Texts.{octets_4, octets_6, group_text, next_group, groups_text, dotted_text, address_text, addresses_text, ports_text, line_text, text_of, binary_of, header_of}
+use Rattle.px_proxyproto.proofs.Shown.{AreSegments, IsShown, in_word, in_line, decimal_shown, groups_shown, groups_are, dotted_is}
 use Rattle.px_proxyproto.proofs.Bits.{wide, number_back, bytes_small, octets_back, segments_small}
 
 -- ---- addresses
@@ -36,9 +35,16 @@ octet_len n fits = length-decimal-le 3 n (omega arith) (omega (arith, fits)) (om
 
 dotted_len : (a b c d : ℕ) → a < 256 → b < 256 → c < 256 → d < 256 → length (dotted_text (a ∷ b ∷ c ∷ d ∷ [])) ≤ 15
 dotted_len a b c d ha hb hc hd =
-    omega (arith, octet_len a ha, octet_len b hb, octet_len c hc, octet_len d hd,
+    omega (
+      arith,
+      octet_len a ha,
+      octet_len b hb,
+      octet_len c hc,
+      octet_len d hd,
       length-append (decimal a) (46 ∷ (decimal b ++ (46 ∷ (decimal c ++ (46 ∷ decimal d))))),
-      length-append (decimal b) (46 ∷ (decimal c ++ (46 ∷ decimal d))), length-append (decimal c) (46 ∷ decimal d))
+      length-append (decimal b) (46 ∷ (decimal c ++ (46 ∷ decimal d))),
+      length-append (decimal c) (46 ∷ decimal d),
+    )
 
 -- what is written of an address reads as it, shows alone, and is short
 record IsWritten (v6 : Bool) (addr : ℕ) (text : List ℕ) : Type 0 where
@@ -114,9 +120,20 @@ text_by word a b p q hw ha hb hp hq =
 len_by : (word a b p q : List ℕ) → length word ≡ 11 → length a ≤ 40 → length b ≤ 40 → length p ≤ 5 → length q ≤ 5 → length ((word ++ ((a ++ (32 ∷ (b ++ (32 ∷ [])))) ++ (p ++ (32 ∷ q)))) ++ line_end) ≤ 107
 len_by word a b p q hw ha hb hp hq =
     let all = (a ++ (32 ∷ (b ++ (32 ∷ [])))) ++ (p ++ (32 ∷ q)) in
-    omega (arith, hw, ha, hb, hp, hq, length-append (word ++ ((a ++ (32 ∷ (b ++ (32 ∷ [])))) ++ (p ++ (32 ∷ q)))) line_end,
-      length-append word ((a ++ (32 ∷ (b ++ (32 ∷ [])))) ++ (p ++ (32 ∷ q))), ap length (whole a b p q),
-      length-append a (32 ∷ (b ++ (32 ∷ (p ++ (32 ∷ q))))), length-append b (32 ∷ (p ++ (32 ∷ q))), length-append p (32 ∷ q))
+    omega (
+      arith,
+      hw,
+      ha,
+      hb,
+      hp,
+      hq,
+      length-append (word ++ ((a ++ (32 ∷ (b ++ (32 ∷ [])))) ++ (p ++ (32 ∷ q)))) line_end,
+      length-append word ((a ++ (32 ∷ (b ++ (32 ∷ [])))) ++ (p ++ (32 ∷ q))),
+      ap length (whole a b p q),
+      length-append a (32 ∷ (b ++ (32 ∷ (p ++ (32 ∷ q))))),
+      length-append b (32 ∷ (p ++ (32 ∷ q))),
+      length-append p (32 ∷ q),
+    )
 
 port_len : (n : ℕ) → n < 2 ^ 16 → length (decimal n) ≤ 5
 port_len n fits = length-decimal-le 5 n (omega arith) (omega (arith, fits)) (omega (arith, fits))

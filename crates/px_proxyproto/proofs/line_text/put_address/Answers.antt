@@ -1,4 +1,4 @@
-use Rattle.std.proofs.Common.{◌≡◌, ℕ, Bool, List, ◌++◌, take, ap, sym, ◌∙◌}
+use Rattle.std.proofs.Common.{Bool, ◌++◌, take, ap, sym, ◌∙◌}
 use Rattle.px_proxyproto.specs.Texts.{address_text}
 use Rattle.px_proxyproto.proofs.line_text.put_address.Goals as goal
 

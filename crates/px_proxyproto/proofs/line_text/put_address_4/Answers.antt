@@ -1,5 +1,5 @@
-use Rattle.std.proofs.Common.{◌≡◌, ℕ, List, ◌++◌, take, ap, ◌∙◌}
-use Rattle.px_proxyproto.specs.Texts.{octets_4, dotted_text}
+use Rattle.std.proofs.Common.{ℕ, List, ◌++◌, take, ap, ◌∙◌}
+use Rattle.px_proxyproto.specs.Texts.{dotted_text}
 use Rattle.px_proxyproto.proofs.line_text.put_address_4.Goals as goal
 
 pub returns-clause-front : goal.returns-clause-front

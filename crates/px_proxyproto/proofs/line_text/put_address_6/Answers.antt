@@ -1,6 +1,5 @@
-use Rattle.std.proofs.Common.{◌≡◌, ℕ, List, ◌++◌, take, ap, ◌∙◌}
-use Rattle.std.specs.Int.{w128, to_be_bytes}
-use Rattle.std.specs.Net.Addr.{IsIpv6OfBits, segments_of}
+use Rattle.std.proofs.Common.{ℕ, List, ◌++◌, take, ap, ◌∙◌}
+use Rattle.std.specs.Net.Addr.{IsIpv6OfBits}
 use Rattle.px_proxyproto.specs.Texts.{octets_6, groups_text}
 use Rattle.px_proxyproto.proofs.line_text.put_address_6.Goals as goal
 
