@@ -1,0 +1,15 @@
+mod Ports
+mod Joins
+mod Cuts
+mod Fronts
+mod Kept
+mod Lengths
+mod Lines
+mod Blocks
+mod Reading
+mod LinkReads
+mod Prefix
+mod Shown
+mod Bits
+mod Written
+mod Sending
