@@ -12,10 +12,11 @@ use crate::source::Source;
 use px_link::OutOfMemory;
 use std::alloc::Global;
 
-/// A chain of at most eight filters, and how far it came in a body.
+/// A chain of at most eight filters, and how far it came in a body. The filters stand in memory of their own, so that what has a chain, or room
+/// for one, is small: they have 1,600 bytes.
 #[derive(Drop)]
 pub struct Chain {
-    line: Line<Line<Line<Line<Line<Line<Line<Source>>>>>>>,
+    line: Box<Line<Line<Line<Line<Line<Line<Line<Source>>>>>>>>,
 }
 
 impl Chain {
@@ -26,7 +27,9 @@ impl Chain {
         ensures { IfOk result (λ chain. HasFiltered filters.now [] [] chain) }
     {
         let line = Line::open(alloc, filters)?;
-        Ok(Chain { line })
+        Ok(Chain {
+            line: Box::new(alloc, line)?,
+        })
     }
 
     /// Begins a new body.

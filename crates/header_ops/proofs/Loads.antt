@@ -1,5 +1,5 @@
 -- What headers of a name weigh.
-use Rattle.std.proofs.Common.{◌≡◌, ℕ, ◌+◌, ◌≤◌, ◌<◌, List, [], ◌∷◌, ◌++◌, Bool, true, false, cond, not, length, take, ap, ◌∙◌, arith}
+use Rattle.std.proofs.Common.{◌≡◌, ℕ, ◌+◌, ◌≤◌, ◌<◌, List, [], ◌∷◌, ◌++◌, Bool, true, false, cond, not, length, take, refl, sym, ap, ◌∙◌, arith}
 use Rattle.std.proofs.lemmas.List.Sums.{sum_by_more, sum_by_more_le, get_or-le-sum_by, sum_by-cons}
 use Rattle.std.proofs.lemmas.List.{take_more}
 use Rattle.http_model.specs.Block.{Block, RequestLine, ResponseLine, Header, EndHeaders, Data, Trailer, EndTrailers, weight, name_of, value_of}
@@ -56,3 +56,31 @@ weight_if_named-le name b = by_test (is_header_named name b)
     by_test false = omega arith
 
 pub ruleset sums = (load-without-more, load-take-more, load-take-more-le, weight_if_named-le)
+
+-- the others weigh no more than all
+without-le : (name : List ℕ) (bs : List Block) → load (without_headers name bs) ≤ load bs
+without-le name [] = omega arith
+without-le name (b ∷ bs) = omega (arith, one_more name b bs, without-le name bs, sum_by-cons weight b bs)
+
+some_weight : (b : Block) → 8 ≤ weight b
+some_weight (RequestLine x y z) = omega arith
+some_weight (ResponseLine x y z) = omega arith
+some_weight (Header n v) = omega arith
+some_weight EndHeaders = omega arith
+some_weight (Data p) = omega arith
+some_weight (Trailer n v) = omega arith
+some_weight EndTrailers = omega arith
+
+-- where the others weigh as much as all, no header has the name
+all_others : (name : List ℕ) (bs : List Block) → load (without_headers name bs) ≡ load bs → without_headers name bs ≡ bs
+all_others name [] e = refl
+all_others name (b ∷ bs) e = by_test (all_others name bs) (is_header_named name b) (e ∙ sum_by-cons weight b bs)
+  where
+    by_test : (load (without_headers name bs) ≡ load bs → without_headers name bs ≡ bs) → (t : Bool)
+        → load (cond (not t) (b ∷ without_headers name bs) (without_headers name bs)) ≡ weight b + load bs
+        → cond (not t) (b ∷ without_headers name bs) (without_headers name bs) ≡ b ∷ bs
+    by_test again true same = absurd (omega (arith, same, some_weight b, without-le name bs))
+    by_test again false same = ap (λ (l : List Block). b ∷ l) (again (omega (arith, same, sum_by-cons weight b (without_headers name bs))))
+
+pub none_named : (name : List ℕ) (bs : List Block) (n : ℕ) → n + load (without_headers name bs) ≡ load bs → n ≡ 0 → bs ≡ without_headers name bs
+none_named name bs n e none = sym (all_others name bs (omega (arith, e, none)))

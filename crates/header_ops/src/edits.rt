@@ -75,6 +75,18 @@ fn is_within(room: usize, name: &[u8], value: &[u8]) -> bool
     value.len() <= room && 8 + name.len() + value.len() <= room
 }
 
+/// Removes the headers of this name, which weigh so much. Where that is nothing there are none, and no block is looked at.
+fn clear_named(msg: &mut Arena, name: &[u8], weight: u32)
+    requires weight { weight + load (without_headers name.now msg.old.blocks) ≡ load msg.old.blocks }
+    ensures blocks { msg.new.blocks ≡ without_headers name.now msg.old.blocks }
+    ensures end { HasEnd msg.old.blocks → HasEnd msg.new.blocks }
+    ensures size { msg.new.size ≡ msg.old.size }
+{
+    if weight > 0 {
+        remove_named(msg, name);
+    }
+}
+
 /// Removes each header of this name and puts one of this value behind the others. The name is in lower case.
 #[tactic(auto, using(crate::proofs::Ends::ends))]
 pub fn set_field(msg: &mut Arena, name: &[u8], value: &[u8]) -> Result<(), Full>
@@ -87,10 +99,11 @@ pub fn set_field(msg: &mut Arena, name: &[u8], value: &[u8]) -> Result<(), Full>
     ensures end { HasEnd msg.new.blocks }
     ensures size { msg.new.size ≡ msg.old.size }
 {
-    let room = msg.room() as usize + load_of_named(msg, name) as usize;
+    let weight = load_of_named(msg, name);
+    let room = msg.room() as usize + weight as usize;
     if !is_within(room, name, value) {
         return Err(Full);
     }
-    remove_named(msg, name);
+    clear_named(msg, name, weight);
     add_field(msg, name, value)
 }

@@ -85,6 +85,65 @@ fn make_room(ring: &mut HeapCircularBuffer<u8>, begin: usize, len: usize, more: 
     0
 }
 
+/// Writes a piece over bytes that are as many. No call is made for an empty one.
+fn lay(room: &mut [u8], piece: &[u8])
+    requires { length room.old ≡ length piece.now }
+    ensures { room.new ≡ piece.now }
+{
+    if piece.is_empty() {
+        return;
+    }
+    room.copy_from_slice(piece);
+}
+
+/// Five pieces that go into a window one behind another.
+#[derive(Drop)]
+struct Pieces<'a> {
+    first: &'a [u8],
+    second: &'a [u8],
+    third: &'a [u8],
+    fourth: &'a [u8],
+    fifth: &'a [u8],
+}
+
+/// How many bytes they have.
+fn count_of(pieces: &Pieces<'_>) -> usize
+    requires { length (pieces.now.first.now ++ (pieces.now.second.now ++ (pieces.now.third.now ++ (pieces.now.fourth.now ++ pieces.now.fifth.now)))) < 2 ^ 32 }
+    ensures { result ≡ length (pieces.now.first.now ++ (pieces.now.second.now ++ (pieces.now.third.now ++ (pieces.now.fourth.now ++ pieces.now.fifth.now)))) }
+{
+    pieces.first.len()
+        + pieces.second.len()
+        + pieces.third.len()
+        + pieces.fourth.len()
+        + pieces.fifth.len()
+}
+
+/// Writes them over bytes that are as many.
+fn lay_out(room: &mut [u8], pieces: &Pieces<'_>)
+    requires { length room.old ≡ length (pieces.now.first.now ++ (pieces.now.second.now ++ (pieces.now.third.now ++ (pieces.now.fourth.now ++ pieces.now.fifth.now)))) }
+    ensures { room.new ≡ pieces.now.first.now ++ (pieces.now.second.now ++ (pieces.now.third.now ++ (pieces.now.fourth.now ++ pieces.now.fifth.now))) }
+{
+    let (part, room) = room.split_at_mut(pieces.first.len());
+    lay(part, pieces.first);
+    let (part, room) = room.split_at_mut(pieces.second.len());
+    lay(part, pieces.second);
+    let (part, room) = room.split_at_mut(pieces.third.len());
+    lay(part, pieces.third);
+    let (part, room) = room.split_at_mut(pieces.fourth.len());
+    lay(part, pieces.fourth);
+    lay(room, pieces.fifth);
+}
+
+/// Writes them, which have so many bytes, over the items from a place on.
+fn write_pieces(ring: &mut HeapCircularBuffer<u8>, at: usize, count: usize, pieces: &Pieces<'_>)
+    requires count { count ≡ length (pieces.now.first.now ++ (pieces.now.second.now ++ (pieces.now.third.now ++ (pieces.now.fourth.now ++ pieces.now.fifth.now)))) }
+    requires within { at + count ≤ length ring.old.items }
+    ensures items { ring.new.items ≡ overwritten ring.old.items at (pieces.now.first.now ++ (pieces.now.second.now ++ (pieces.now.third.now ++ (pieces.now.fourth.now ++ pieces.now.fifth.now)))) }
+    ensures capacity { ring.new.capacity ≡ ring.old.capacity }
+{
+    lay_out(&mut ring.make_contiguous()[at..at + count], pieces);
+}
+
 impl Window {
     ghost use Rattle.std.specs.Borrow.{sem};
     ghost use Rattle.wire_buf.specs.Lends.{LendsBytes};
@@ -133,6 +192,34 @@ impl Window {
         self.begin = begin;
         self.len = len + count;
         count
+    }
+
+    /// Takes five pieces, one behind another, for all of which there is room. One that is empty is none.
+    pub fn push_five(
+        &mut self,
+        first: &[u8],
+        second: &[u8],
+        third: &[u8],
+        fourth: &[u8],
+        fifth: &[u8],
+    )
+        requires room { length self.old.items + length (first.now ++ (second.now ++ (third.now ++ (fourth.now ++ fifth.now)))) ≤ self.old.capacity }
+        ensures items { self.new.items ≡ self.old.items ++ (first.now ++ (second.now ++ (third.now ++ (fourth.now ++ fifth.now)))) }
+        ensures capacity { self.new.capacity ≡ self.old.capacity }
+    {
+        let (begin, len) = (self.begin, self.len);
+        let pieces = Pieces {
+            first,
+            second,
+            third,
+            fourth,
+            fifth,
+        };
+        let count = count_of(&pieces);
+        let begin = make_room(&mut self.ring, begin, len, count);
+        write_pieces(&mut self.ring, begin + len, count, &pieces);
+        self.begin = begin;
+        self.len = len + count;
     }
 
     /// Drops the first `n` bytes.
