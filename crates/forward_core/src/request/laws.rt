@@ -56,7 +56,7 @@ pub fn edited()
     ensures size { (side : RequestSide) → HasHead side → array_size_of side ≡ (limits_of side).bufsize }
     ensures edits { (side : RequestSide) (msg : Contents) → msg.size ≡ array_size_of side → place_of side ≡ place.Idle → HasHead side → Edits side (with_head side msg) }
 {
-    lanes::edited_request();
+    lanes::edited_lane();
 }
 
 /// Where the source is whole the request has come whole, and what stands in the input window follows it.

@@ -107,9 +107,9 @@ impl ResponseLane {
         ensures sound { IsSoundAnswer self.new }
         ensures filters { (filters : List FilterSpec) → HasFilters self.old filters → HasFilters self.new filters }
     {
-        let before = self.lane.put();
+        let before = self.lane.output_len();
         self.lane.step();
-        if self.lane.put() > before {
+        if self.lane.output_len() > before {
             self.begun = true;
         }
     }

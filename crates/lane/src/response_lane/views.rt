@@ -68,6 +68,6 @@ impl ResponseLane {
     pub fn output_len(&self) -> usize
         ensures { result ≡ length (output_of self.now) }
     {
-        self.lane.put()
+        self.lane.output_len()
     }
 }

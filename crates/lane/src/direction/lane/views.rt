@@ -66,7 +66,7 @@ impl Lane {
     }
 
     /// How many bytes are put out and were not taken.
-    pub fn put(&self) -> usize
+    pub fn output_len(&self) -> usize
         ensures { result ≡ length self.now.output.items }
     {
         self.output.len()

@@ -1,8 +1,9 @@
 use Rattle.std.proofs.Common.{◌++◌, ◌+◌, ◌-◌, false, ap, sym, ◌∙◌, length}
 use Rattle.std.specs.Prelude.{is_none}
-use Rattle.lane.specs.Asking.{ended_of, input_of, most_of, output_of, is_dropping}
+use Rattle.h1_head.specs.declared.answer.Side.TheVariants as side
+use Rattle.lane.specs.Direction.State.{LaneState}
 use Rattle.forward_core.specs.Request.Seen.{unread_at, to_read}
-use Rattle.forward_core.proofs.RequestLemmas.Events.{Takes, takes, for_same}
+use Rattle.forward_core.proofs.RequestLemmas.Events.{Takes, takes, for_same, same_by}
 use Rattle.forward_core.proofs.RequestLemmas.Sounds.{none_is, sound_keeps, room_less, unread_more, seen_as}
 use Rattle.forward_core.proofs.RequestLemmas.Resting.{unrested}
 use Rattle.forward_core.proofs.request.side.RequestSide.take_client.Goals as goal
@@ -11,8 +12,9 @@ pub returns-clause-sound : goal.returns-clause-sound
 returns-clause-sound c =
     let e = c.take.ensures in
     record {
-      well = e.well c.requires.sound.well;
-      at = sound_keeps c.args.self.now.place c.args.self.now.lane c.take.new.self e.reading (λ none. e.output ∙ none) e.stage e.dropping (λ p s. (record p { bytes = p.bytes ++ c.args.bytes.now }, e.sends p s)) c.requires.sound.at;
+      well = e.sound c.requires.sound.well;
+      at = sound_keeps c.args.self.now.place c.args.self.now.lane c.take.new.self (e.reading side.Request) (λ none. ap (λ (l : LaneState). l.output.items) e.same ∙ none) (ap (λ (l : LaneState). l.stage) e.same) (ap (λ (l : LaneState). l.dropped) e.same)
+          (λ p s. (record p { bytes = p.bytes ++ c.args.bytes.now }, e.stands p s)) c.requires.sound.at;
       rests = unrested c.args.self.now.place c.take.new.self;
     }
 
@@ -20,13 +22,13 @@ pub returns-clause-leads : goal.returns-clause-leads
 returns-clause-leads c = λ cfg vars came asking to_server reply h.
     let e = c.take.ensures in
     let t : Takes c.args.self.now.lane c.take.new.self c.args.bytes.now = record {
-      same = record { limits = e.limits; filters = λ cfg has. e.filters cfg.req_filters has };
-      open_ = none_is (ended_of c.args.self.now.lane) c.requires.open;
-      still = e.ended;
+      same = same_by c.args.self.now.lane c.take.new.self (ap (λ (l : LaneState). l.limits) e.same) (ap (λ (l : LaneState). l.sieve) e.same);
+      open_ = none_is c.args.self.now.lane.ended c.requires.open;
+      still = ap (λ (l : LaneState). l.ended) e.same ∙ none_is c.args.self.now.lane.ended c.requires.open;
       input = e.input;
-      output = e.output;
-      dropped = e.dropping;
-      sends = e.sends;
+      output = ap (λ (l : LaneState). l.output.items) e.same;
+      dropped = ap (λ (l : LaneState). l.dropped) e.same;
+      sends = e.stands;
     } in
     record { is_for = for_same cfg c.args.self.now.lane c.take.new.self t.same h.is_for; at = takes c.args.self.now.place cfg c.args.self.now.lane c.take.new.self c.args.bytes.now vars came asking to_server reply t h.at }
 
@@ -36,7 +38,7 @@ returns-clause-seen c =
     let old = c.args.self.now.lane in
     let new = c.take.new.self in
     let at = c.args.self.now.place in
-    seen_as old new at c.args.self.now.awaits c.args.self.now.at_rest false (is_none (ended_of old)) (is_dropping old)
-    (most_of old - length (input_of old) - length c.args.bytes.now) (unread_at at (input_of old) + to_read at (length c.args.bytes.now)) (output_of old)
-    (ap is_none (e.ended ∙ sym (none_is (ended_of old) c.requires.open))) (room_less old new c.args.bytes.now c.requires.sound.well (e.well c.requires.sound.well) e.limits e.input)
-    (unread_more at old new c.args.bytes.now e.input) e.output e.source e.stage e.dropping e.array
+    seen_as old new at c.args.self.now.awaits c.args.self.now.at_rest false (is_none old.ended) old.dropped
+    (old.input.capacity - length old.input.items - length c.args.bytes.now) (unread_at at old.input.items + to_read at (length c.args.bytes.now)) old.output.items
+    (ap (λ (l : LaneState). is_none l.ended) e.same) (room_less old new c.args.bytes.now c.requires.sound.well (e.sound c.requires.sound.well) (ap (λ (l : LaneState). l.limits) e.same) e.input)
+    (unread_more at old new c.args.bytes.now e.input) (ap (λ (l : LaneState). l.output.items) e.same) (ap (λ (l : LaneState). l.source) e.same) (ap (λ (l : LaneState). l.stage) e.same) (ap (λ (l : LaneState). l.dropped) e.same) (ap (λ (l : LaneState). l.msg) e.same)
