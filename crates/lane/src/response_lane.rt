@@ -72,7 +72,7 @@ impl ResponseLane {
     }
 
     /// Bytes of the server's stream come.
-    pub fn take(&mut self, bytes: &[u8])
+    pub fn push(&mut self, bytes: &[u8])
         requires open { IsOpen self.old }
         requires room { length (input_of self.old) + length bytes.now ≤ most_of self.old }
         ensures answers { (p : Exchange) → Answers self.old p → Answers self.new (with_bytes p bytes.now) }
@@ -87,7 +87,7 @@ impl ResponseLane {
         ensures sound { IsSoundAnswer self.old → IsSoundAnswer self.new }
         ensures filters { (filters : List FilterSpec) → HasFilters self.old filters → HasFilters self.new filters }
     {
-        self.lane.take(bytes);
+        self.lane.push(bytes);
     }
 
     /// The server's stream ends.

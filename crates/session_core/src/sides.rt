@@ -159,7 +159,7 @@ pub trait Lends: Sides {
 
 /// What peers give and take.
 pub trait Peers: Sides {
-    fn take_client(&mut self, bytes: &[u8])
+    fn from_client(&mut self, bytes: &[u8])
         requires open { IsTrue (Self.request self.old).is_open }
         requires room { length bytes.now ≤ (Self.request self.old).room }
         requires placed { IsSomewhere (Self.placed self.old) }
@@ -168,7 +168,7 @@ pub trait Peers: Sides {
         ensures request { (unread : ℕ) × (Self.request self.new ≡ record (Self.request self.old) { room = (Self.request self.old).room - length bytes.now; unread = unread; at_rest = false }) }
         ensures answer { Self.answer self.new ≡ Self.answer self.old };
 
-    fn end_client(&mut self, how: Ending)
+    fn client_ended(&mut self, how: Ending)
         requires open { IsTrue (Self.request self.old).is_open }
         requires placed { IsSomewhere (Self.placed self.old) }
         ensures placed { Stay (Self.placed self.old) (Self.placed self.new) }
@@ -184,7 +184,7 @@ pub trait Peers: Sides {
         ensures request { Self.request self.new ≡ Self.request self.old }
         ensures answer { Self.answer self.new ≡ record (Self.answer self.old) { window = drop n (Self.answer self.old).window; at_rest = false } };
 
-    fn take_server(&mut self, bytes: &[u8])
+    fn from_server(&mut self, bytes: &[u8])
         requires open { IsTrue (Self.answer self.old).is_open }
         requires room { length bytes.now ≤ (Self.answer self.old).room }
         requires placed { IsSomewhere (Self.placed self.old) }
@@ -193,7 +193,7 @@ pub trait Peers: Sides {
         ensures request { Self.request self.new ≡ Self.request self.old }
         ensures answer { Self.answer self.new ≡ record (Self.answer self.old) { room = (Self.answer self.old).room - length bytes.now; at_rest = false } };
 
-    fn end_server(&mut self, how: Ending)
+    fn server_ended(&mut self, how: Ending)
         requires open { IsTrue (Self.answer self.old).is_open }
         requires placed { IsSomewhere (Self.placed self.old) }
         ensures placed { Stay (Self.placed self.old) (Self.placed self.new) }

@@ -125,24 +125,24 @@ impl<'c> Lends for Directions<'c> {
 }
 
 impl<'c> Peers for Directions<'c> {
-    fn take_client(&mut self, bytes: &[u8]) {
-        self.request.take_client(bytes);
+    fn from_client(&mut self, bytes: &[u8]) {
+        self.request.from_client(bytes);
     }
 
-    fn end_client(&mut self, how: Ending) {
-        self.request.end_client(how);
+    fn client_ended(&mut self, how: Ending) {
+        self.request.client_ended(how);
     }
 
     fn client_took(&mut self, n: usize) {
         self.answer.client_took(n);
     }
 
-    fn take_server(&mut self, bytes: &[u8]) {
-        self.answer.take_server(bytes);
+    fn from_server(&mut self, bytes: &[u8]) {
+        self.answer.from_server(bytes);
     }
 
-    fn end_server(&mut self, how: Ending) {
-        self.answer.end_server(how);
+    fn server_ended(&mut self, how: Ending) {
+        self.answer.server_ended(how);
     }
 
     fn server_took(&mut self, n: usize) {

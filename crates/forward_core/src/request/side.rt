@@ -74,7 +74,7 @@ impl RequestSide {
     }
 
     /// Bytes of the client's stream come.
-    pub fn take_client(&mut self, bytes: &[u8])
+    pub fn from_client(&mut self, bytes: &[u8])
         requires sound { IsSound self.old }
         requires open { is_open self.old ≡ true }
         requires room { length bytes.now ≤ room_of self.old }
@@ -85,12 +85,12 @@ impl RequestSide {
         ensures limits { limits_of self.new ≡ limits_of self.old }
         ensures window_size { window_size_of self.new ≡ window_size_of self.old }
     {
-        self.lane.take(bytes);
+        self.lane.push(bytes);
         self.at_rest = false;
     }
 
     /// The client's stream ends.
-    pub fn end_client(&mut self, how: Ending)
+    pub fn client_ended(&mut self, how: Ending)
         requires sound { IsSound self.old }
         requires open { is_open self.old ≡ true }
         ensures sound { IsSound self.new }

@@ -102,7 +102,7 @@ impl Lane {
     }
 
     /// Bytes of the stream come.
-    pub fn take(&mut self, bytes: &[u8])
+    pub fn push(&mut self, bytes: &[u8])
         requires open { self.old.ended ≡ None }
         requires room { length self.old.input.items + length bytes.now ≤ self.old.input.capacity }
         ensures input { self.new.input.items ≡ self.old.input.items ++ bytes.now }

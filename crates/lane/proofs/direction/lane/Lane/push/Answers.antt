@@ -3,7 +3,7 @@ use Rattle.lane.specs.Direction.State.{LaneState}
 use Rattle.lane.specs.contracts.direction.lane.Lane.{the_view}
 use Rattle.std.specs.Prelude.{None}
 use Rattle.std.proofs.Common.{◌≡◌, sym, subst}
-use Rattle.lane.proofs.direction.lane.Lane.take.Goals as goal
+use Rattle.lane.proofs.direction.lane.Lane.push.Goals as goal
 
 pub returns-clause-stands : goal.returns-clause-stands
 returns-clause-stands c =

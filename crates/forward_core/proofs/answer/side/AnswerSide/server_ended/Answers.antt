@@ -8,7 +8,7 @@ use Rattle.forward_core.specs.Answer.Seen.{told_at, answered_at}
 use Rattle.forward_core.proofs.AnswerLemmas.Events.{ends_at, for_new, none_of}
 use Rattle.forward_core.proofs.AnswerLemmas.HeardLemmas.{heard_ends}
 use Rattle.forward_core.proofs.AnswerLemmas.Views.{seen_same, fits_same}
-use Rattle.forward_core.proofs.answer.side.AnswerSide.end_server.Goals as goal
+use Rattle.forward_core.proofs.answer.side.AnswerSide.server_ended.Goals as goal
 
 pub end-requires : goal.end-requires
 end-requires c = none_of (ended_of c.args.self.now.lane) c.requires.open

@@ -4,7 +4,7 @@ use Rattle.lane.specs.Direction.State.{LaneState}
 use Rattle.forward_core.proofs.RequestLemmas.Events.{EndsSo, ended, for_same, same_by}
 use Rattle.forward_core.proofs.RequestLemmas.Sounds.{none_is, sound_keeps}
 use Rattle.forward_core.proofs.RequestLemmas.Resting.{unrested}
-use Rattle.forward_core.proofs.request.side.RequestSide.end_client.Goals as goal
+use Rattle.forward_core.proofs.request.side.RequestSide.client_ended.Goals as goal
 
 pub returns-clause-sound : goal.returns-clause-sound
 returns-clause-sound c =
