@@ -13,7 +13,7 @@ mod work;
 
 pub use http_model::{Close, End, Ending, OutOfMemory};
 pub use machine::{At, Core, Wants};
-pub use sides::{Asked, Lends, Peers, Renewable, Shows, Sides, Works};
+pub use sides::{Asked, Renewable, Works};
 
 /// How the source of a request stands.
 #[derive(Clone, Copy)]

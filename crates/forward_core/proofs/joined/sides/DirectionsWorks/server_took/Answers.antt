@@ -1,6 +1,6 @@
 use Rattle.forward_core.proofs.JoinedLemmas.Joining.{request_placed}
 use Rattle.forward_core.proofs.JoinedLemmas.Windows.{session_request}
-use Rattle.forward_core.proofs.joined.sides.DirectionsPeers.server_took.Goals as goal
+use Rattle.forward_core.proofs.joined.sides.DirectionsWorks.server_took.Goals as goal
 
 pub returns-clause-placed : goal.returns-clause-placed
 returns-clause-placed c =

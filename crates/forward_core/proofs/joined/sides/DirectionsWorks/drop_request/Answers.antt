@@ -1,7 +1,7 @@
 use Rattle.std.proofs.Common.{◌∙◌}
 use Rattle.forward_core.proofs.JoinedLemmas.Joining.{at_request, stands_request}
 use Rattle.forward_core.proofs.JoinedLemmas.Stepping.{was_put}
-use Rattle.forward_core.proofs.joined.sides.DirectionsPeers.drop_request.Goals as goal
+use Rattle.forward_core.proofs.joined.sides.DirectionsWorks.drop_request.Goals as goal
 
 pub returns-clause-placed : goal.returns-clause-placed
 returns-clause-placed c = λ at x.

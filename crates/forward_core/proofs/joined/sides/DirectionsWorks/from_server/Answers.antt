@@ -1,7 +1,7 @@
 use Rattle.session_core.specs.History.{gains}
 use Rattle.forward_core.proofs.JoinedLemmas.Joining.{answer_placed}
 use Rattle.forward_core.proofs.JoinedLemmas.Windows.{session_answer}
-use Rattle.forward_core.proofs.joined.sides.DirectionsPeers.from_server.Goals as goal
+use Rattle.forward_core.proofs.joined.sides.DirectionsWorks.from_server.Goals as goal
 
 pub returns-clause-placed : goal.returns-clause-placed
 returns-clause-placed c =

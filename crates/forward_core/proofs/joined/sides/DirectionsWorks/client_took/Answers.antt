@@ -1,6 +1,6 @@
 use Rattle.forward_core.proofs.JoinedLemmas.Joining.{answer_placed}
 use Rattle.forward_core.proofs.JoinedLemmas.Windows.{session_answer}
-use Rattle.forward_core.proofs.joined.sides.DirectionsPeers.client_took.Goals as goal
+use Rattle.forward_core.proofs.joined.sides.DirectionsWorks.client_took.Goals as goal
 
 pub returns-clause-placed : goal.returns-clause-placed
 returns-clause-placed c =

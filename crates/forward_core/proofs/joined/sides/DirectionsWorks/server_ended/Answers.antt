@@ -1,7 +1,7 @@
 use Rattle.session_core.specs.History.{ends}
 use Rattle.forward_core.proofs.JoinedLemmas.Joining.{answer_placed}
 use Rattle.forward_core.proofs.JoinedLemmas.Windows.{session_answer}
-use Rattle.forward_core.proofs.joined.sides.DirectionsPeers.server_ended.Goals as goal
+use Rattle.forward_core.proofs.joined.sides.DirectionsWorks.server_ended.Goals as goal
 
 pub returns-clause-placed : goal.returns-clause-placed
 returns-clause-placed c =

@@ -1,7 +1,7 @@
 use Rattle.session_core.specs.History.{ends}
 use Rattle.forward_core.proofs.JoinedLemmas.Joining.{request_placed}
 use Rattle.forward_core.proofs.JoinedLemmas.Windows.{session_request}
-use Rattle.forward_core.proofs.joined.sides.DirectionsPeers.client_ended.Goals as goal
+use Rattle.forward_core.proofs.joined.sides.DirectionsWorks.client_ended.Goals as goal
 
 pub returns-clause-placed : goal.returns-clause-placed
 returns-clause-placed c =

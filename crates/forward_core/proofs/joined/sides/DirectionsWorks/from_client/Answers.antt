@@ -3,7 +3,7 @@ use Rattle.forward_core.specs.Request.Seen.{unread_of, place_of, to_read}
 use Rattle.session_core.specs.History.{gains}
 use Rattle.forward_core.proofs.JoinedLemmas.Joining.{request_placed}
 use Rattle.forward_core.proofs.JoinedLemmas.Windows.{session_request}
-use Rattle.forward_core.proofs.joined.sides.DirectionsPeers.from_client.Goals as goal
+use Rattle.forward_core.proofs.joined.sides.DirectionsWorks.from_client.Goals as goal
 
 pub returns-clause-placed : goal.returns-clause-placed
 returns-clause-placed c =

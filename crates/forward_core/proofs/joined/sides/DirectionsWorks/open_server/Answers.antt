@@ -2,7 +2,7 @@ use Rattle.std.proofs.Common.{ap, ◌∙◌}
 use Rattle.session_core.specs.History.{no_stream}
 use Rattle.forward_core.specs.Answer.Stands.{is_serving}
 use Rattle.forward_core.proofs.JoinedLemmas.Serving.{opens, sound_both}
-use Rattle.forward_core.proofs.joined.sides.DirectionsPeers.open_server.Goals as goal
+use Rattle.forward_core.proofs.joined.sides.DirectionsWorks.open_server.Goals as goal
 
 pub returns-clause-placed : goal.returns-clause-placed
 returns-clause-placed c =
