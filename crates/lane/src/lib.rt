@@ -8,6 +8,6 @@ mod phase;
 mod response_lane;
 mod sieve;
 
-pub use crate::direction::{Lane, LaneHead, Source, Stage};
+pub use crate::direction::{Lane, LaneHead, Stage};
 pub use phase::Phase;
 pub use response_lane::ResponseLane;

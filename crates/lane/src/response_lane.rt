@@ -12,17 +12,17 @@ ghost use Rattle.lane.specs.Answering.{Exchange, Answers, HeadComes, HeadStands,
 ghost use Rattle.lane.specs.declared.phase.Phase.TheVariants as phase;
 ghost use Rattle.lane.specs.declared.direction.stage.LaneHead.TheVariants as says;
 ghost use Rattle.lane.specs.declared.direction.stage.Stage.TheVariants as stage;
-ghost use Rattle.lane.specs.declared.direction.stage.Source.TheVariants as source;
+ghost use Rattle.http_model.specs.declared.Source.TheVariants as source;
 
 mod stepping;
 mod views;
 
-use crate::direction::{Lane, LaneHead, Source, Stage};
+use crate::direction::{Lane, LaneHead, Stage};
 use crate::phase::Phase;
 use body_filter::FilterSpec;
 use h1_head::Side;
 use header_ops::laws::edits_of_heads;
-use http_model::{Ending, Framing, Limits};
+use http_model::{Ending, Framing, Limits, Source};
 use htx_arena::Arena;
 use htx_model::OutOfMemory;
 use std::alloc::Global;

@@ -15,17 +15,6 @@ pub use http_model::{Close, End, Ending, OutOfMemory};
 pub use machine::{At, Core, Wants};
 pub use sides::{Asked, Renewable, Works};
 
-/// How the source of a request stands.
-#[derive(Clone, Copy)]
-pub enum Source {
-    /// It goes on.
-    Going,
-    /// It came whole.
-    Whole,
-    /// It is cut, with the code of the refusal.
-    Cut(u16),
-}
-
 /// How the last that answers stands.
 #[derive(Clone, Copy)]
 pub enum Told {

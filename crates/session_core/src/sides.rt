@@ -11,8 +11,8 @@ ghost use Rattle.session_core.specs.Place.{Place, is_saying, place_behind, IsSom
 ghost use Rattle.session_core.specs.Lending.{LendsText};
 ghost use Rattle.session_core.specs.Leads.{StepsRequest, KeepsRequest, StepsAnswer, AnswerWaits, Says, Refuses, Turns, AsksTo, AskKeeps, Renews, RenewsReplied, IsFresh};
 
-use crate::{Source, Told};
-use http_model::{Ending, OutOfMemory};
+use crate::Told;
+use http_model::{Ending, OutOfMemory, Source};
 
 /// What the client's next request asks for.
 #[derive(Clone, Copy)]

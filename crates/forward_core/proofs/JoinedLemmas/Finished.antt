@@ -15,7 +15,7 @@ use Rattle.http_rules.specs.Run.{IsHead}
 use Rattle.session_core.specs.History.{Coming}
 use Rattle.session_core.specs.Place as at
 use Rattle.session_core.specs.Sided.{Asking, Reply, RequestSeen, asker_in, Saying}
-use Rattle.session_core.specs.declared.Source.TheVariants as source
+use Rattle.http_model.specs.declared.Source.TheVariants as source
 use Rattle.forward_core.specs.declared.request.kept.Kept.{Kept}
 use Rattle.forward_core.specs.Request.Reads.{HasHead, SendsOn}
 use Rattle.forward_core.specs.Request.Stands.{IsSound, RequestStands}

@@ -7,11 +7,10 @@ use Rattle.session_model.specs.Stream.{Stream}
 use Rattle.session_model.specs.Meaning.{Meaning}
 use Rattle.session_core.specs.History.{Coming, Continues}
 use Rattle.session_core.specs.Sided.{Sided, Asking, Reply, RequestGoes, Requests}
-use Rattle.session_core.specs.declared.Source.{Source}
-use Rattle.session_core.specs.declared.Source.TheVariants as source
+use Rattle.http_model.specs.declared.Source.{Source}
+use Rattle.http_model.specs.declared.Source.TheVariants as source
 use Rattle.lane.specs.Direction.Sends.{Past}
 use Rattle.lane.specs.declared.direction.stage.Stage.{Stage}
-use Rattle.lane.specs.declared.direction.stage.Source.{Source as LaneSource}
 use Rattle.lane.specs.Direction.State.{LaneState}
 use Rattle.forward_core.specs.Request.Seen as requests
 use Rattle.forward_core.specs.Request.Seen.{source_at, sent_at, window_of}
@@ -22,7 +21,7 @@ use Rattle.forward_core.specs.declared.request.place.Place.TheVariants as asked
 use Rattle.forward_core.specs.declared.request.side.RequestSide.{RequestSide}
 
 -- where no request goes out, what is seen of it doesn't hang on its lane, and nothing is put out
-still_source : (pl : Asked) (x y : LaneSource) → pl ≢ asked.Sending → source_at pl x ≡ source_at pl y
+still_source : (pl : Asked) (x y : Source) → pl ≢ asked.Sending → source_at pl x ≡ source_at pl y
 still_source asked.Reading x y idle = refl
 still_source asked.Sending x y idle = absurd (idle refl)
 still_source asked.Idle x y idle = refl

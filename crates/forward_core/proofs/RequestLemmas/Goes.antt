@@ -12,7 +12,7 @@ use Rattle.session_model.specs.Asking.{Asks, Sends, asked_by}
 use Rattle.session_model.specs.Env.{request_env}
 use Rattle.session_core.specs.History.{Coming, Continues, IsPrefix}
 use Rattle.session_core.specs.Sided.{Asking, Reply, BodyGoes, RequestGoes, SourceIs, forwarded_to, request_to}
-use Rattle.session_core.specs.declared.Source.TheVariants as source
+use Rattle.http_model.specs.declared.Source.TheVariants as source
 use Rattle.session_core.specs.HeadAsks.{HeadAsks}
 use Rattle.session_core.proofs.PublicLaws.{head_asks, sends_head}
 use Rattle.px_sample.specs.Variables.{Variables}
@@ -25,10 +25,9 @@ use Rattle.lane.specs.Direction.Sends.{Past, put_out, Stands}
 use Rattle.lane.specs.Direction.Promise.{Promise, BodyTaken, body_sent, finish_of, filter_of, IsCutWith, IsWholeWith}
 use Rattle.lane.specs.declared.direction.stage.Stage.{Stage}
 use Rattle.lane.specs.declared.direction.stage.Stage.TheVariants as stage
-use Rattle.lane.specs.declared.direction.stage.Source.{Source as LaneSource}
-use Rattle.lane.specs.declared.direction.stage.Source.TheVariants as came
+use Rattle.http_model.specs.declared.Source.{Source}
 use Rattle.lane.specs.Direction.State.{LaneState}
-use Rattle.forward_core.specs.Request.Seen.{source_by, source_at, is_done, sent_at}
+use Rattle.forward_core.specs.Request.Seen.{source_at, is_done, sent_at}
 use Rattle.forward_core.specs.Request.Stands.{IsFor, coming, HasPut, GoesOut, StandsAt, message_to}
 use Rattle.forward_core.specs.declared.request.place.Place.{Place}
 use Rattle.forward_core.specs.declared.request.place.Place.TheVariants as place
@@ -108,13 +107,13 @@ texts cfg lane vars came asks to_server g rest b r promise true done dropped is 
 -- ---- the source
 
 source_is : (cfg : Config) (lane : LaneState) (vars : Variables) (came_ : Coming) (asks : Asking Variables) (to_server : List ℕ) (g : GoesOut cfg lane vars came_ asks to_server) (rest : Stream) (b : BodyReading)
-    → Reading cfg lane g.past b rest → Promise lane g.past → (so : LaneSource) → lane.source ≡ so → SourceIs (source_by so) (request_to (meaning_of cfg) asks rest b).cut
-source_is cfg lane vars came_ asks to_server g rest b r promise came.Going e = tt
-source_is cfg lane vars came_ asks to_server g rest b r promise came.Whole e =
+    → Reading cfg lane g.past b rest → Promise lane g.past → (so : Source) → lane.source ≡ so → SourceIs so (request_to (meaning_of cfg) asks rest b).cut
+source_is cfg lane vars came_ asks to_server g rest b r promise source.Going e = tt
+source_is cfg lane vars came_ asks to_server g rest b r promise source.Whole e =
     let w : IsWholeWith cfg.req_filters (lane.input.items ++ r.follows.more) (Reads b) =
     subst (λ (fs : List FilterSpec). IsWholeWith fs (lane.input.items ++ r.follows.more) (Reads b)) g.filters (promise.whole e r.follows.more (Some rest.ending) r.follows.goes (Reads b) r.taken) in
     (uncut cfg asks rest b (lane.input.items ++ r.follows.more) w).cut
-source_is cfg lane vars came_ asks to_server g rest b r promise (came.Cut code) e =
+source_is cfg lane vars came_ asks to_server g rest b r promise (source.Cut code) e =
     cut_code cfg asks rest b code (subst (λ (fs : List FilterSpec). IsCutWith code fs (Reads b)) g.filters (promise.cut code e r.follows.more (Some rest.ending) r.follows.goes (Reads b) r.taken))
 
 -- ---- the body
@@ -136,7 +135,7 @@ taken_of cfg lane vars came_ asks to_server g is rest read f x =
 -- of a reading of what follows the head, what was put out is a front
 pub body_goes : (cfg : Config) (lane : LaneState) (vars : Variables) (came_ : Coming) (asks : Asking Variables) (to_server : List ℕ) (g : GoesOut cfg lane vars came_ asks to_server) → IsFor cfg lane → Promise lane g.past
     → (rest : Stream) → Follows lane.ended g.past.bytes rest → (b : BodyReading) → BodyOf cfg.limits asks.received.framing rest.bytes rest.ending b
-    → BodyGoes (meaning_of cfg) asks (source_by lane.source) (is_done lane.stage && not lane.dropped) lane.dropped to_server rest
+    → BodyGoes (meaning_of cfg) asks lane.source (is_done lane.stage && not lane.dropped) lane.dropped to_server rest
 body_goes cfg lane vars came_ asks to_server g is promise rest f b reads =
     let r : Reading cfg lane g.past b rest = record { follows = f; taken = taken_of cfg lane vars came_ asks to_server g is rest (Reads b) f reads } in
     let t : Texts cfg asks rest b (is_done lane.stage && not lane.dropped) lane.dropped to_server =
@@ -169,15 +168,10 @@ asks_for cfg lane vars came_ asks to_server g stream rest a =
     subst (λ (x : Asking Variables). Asks (meaning_of cfg) vars stream (Sends (forwarded_to x rest))) (sym g.asks)
     (sends_head (meaning_of cfg) vars asks.received g.env stream rest g.rules g.short g.fits a)
 
-pub whole_source : (so : LaneSource) → source_by so ≡ source.Whole → so ≡ came.Whole
-whole_source came.Going e = absurd (cc)
-whole_source came.Whole e = refl
-whole_source (came.Cut code) e = absurd (cc)
-
 pub requests : (cfg : Config) (lane : LaneState) (vars : Variables) (came_ : Coming) (asks : Asking Variables) (to_server : List ℕ) (g : GoesOut cfg lane vars came_ asks to_server) → IsFor cfg lane → Promise lane g.past
     → ((bytes : List ℕ) (end : Option Ending) → (read : BodyRead) × IsBodyOf cfg.limits asks.received.framing bytes end read)
     → (stream : Stream) → Continues came_ stream
-    → RequestGoes (meaning_of cfg) (source_by lane.source) (is_done lane.stage && not lane.dropped) lane.dropped vars asks to_server stream
+    → RequestGoes (meaning_of cfg) lane.source (is_done lane.stage && not lane.dropped) lane.dropped vars asks to_server stream
 requests cfg lane vars came_ asks to_server g is promise reading stream c =
     let M : Meaning = meaning_of cfg in
     let a : HeadAsks M vars (coming lane g.past.bytes) asks.received stream = head_asks M vars came_ (coming lane g.past.bytes) asks.received g.used g.head stream c in

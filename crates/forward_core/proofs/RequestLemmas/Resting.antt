@@ -7,7 +7,7 @@ use Rattle.http_model.specs.declared.Framing.{Framing}
 use Rattle.http_model.specs.declared.Limits.{Limits}
 use Rattle.session_core.specs.History.{Coming}
 use Rattle.session_core.specs.Sided.{Asking, Reply}
-use Rattle.session_core.specs.declared.Source.TheVariants as source
+use Rattle.http_model.specs.declared.Source.TheVariants as source
 use Rattle.px_sample.specs.Variables.{Variables}
 use Rattle.http_rules.specs.declared.config.Config.{Config}
 use Rattle.body_filter.specs.declared.filter_spec.FilterSpec.{FilterSpec}
@@ -26,12 +26,11 @@ use Rattle.lane.specs.Direction.Promise.{BodyTaken, EndsInSection, body_in, sent
 use Rattle.lane.specs.Direction.Promise as lanes
 use Rattle.lane.specs.declared.direction.stage.Stage.{Stage}
 use Rattle.lane.specs.declared.direction.stage.Stage.TheVariants as stage
-use Rattle.lane.specs.declared.direction.stage.Source.{Source as LaneSource}
-use Rattle.lane.specs.declared.direction.stage.Source.TheVariants as came
+use Rattle.http_model.specs.declared.Source.{Source}
 use Rattle.lane.specs.Direction.State.{LaneState}
 use Rattle.forward_core.specs.declared.request.place.Place.{Place}
 use Rattle.forward_core.specs.declared.request.place.Place.TheVariants as place
-use Rattle.forward_core.specs.Request.Seen.{source_by, source_at}
+use Rattle.forward_core.specs.Request.Seen.{source_at}
 use Rattle.forward_core.specs.Request.Rests.{IsStill, WaitsForHead, RestsAt}
 use Rattle.forward_core.specs.Request.Stands.{IsFor, ReadsOn, SoundAt, HasPut, GoesOut, StandsAt, coming, message_to}
 use Rattle.forward_core.specs.Request.Shown.{ShowsNoCut, PutsAll, NoHeadCame}
@@ -101,11 +100,6 @@ no_head_at place.Replied cfg lane vars came_ asks to_server reply e h is w = abs
 
 -- ---- where a request goes out
 
-going_source : (so : LaneSource) → source_by so ≡ source.Going → so ≡ came.Going
-going_source came.Going e = refl
-going_source came.Whole e = absurd (cc)
-going_source (came.Cut code) e = absurd (cc)
-
 -- a reading of what came behind the head is one of what the lane took
 taken : (cfg : Config) (lane : LaneState) (asks : Asking Variables) (p : Past) (read : BodyRead) → lane.limits ≡ cfg.limits → p.reads ≡ asks.received.framing → lane.ended ≡ None
     → IsBodyOf cfg.limits asks.received.framing p.bytes None read → BodyTaken lane p [] lane.ended read
@@ -161,11 +155,11 @@ puts cfg lane vars came_ asks to_server g is kept ended h =
 
 -- what a lane of requests shows where it waits
 abbrev pub Shows : LaneState → Type 0
-Shows lane = (p : Past) → Stands lane p → lane.source ≡ came.Going → RestsFor lane → lanes.ShowsNoCut lane p
+Shows lane = (p : Past) → Stands lane p → lane.source ≡ source.Going → RestsFor lane → lanes.ShowsNoCut lane p
 
 -- what it has put out where it holds nothing back
 abbrev pub Puts : LaneState → Type 0
-Puts lane = (p : Past) → Stands lane p → lane.dropped ≡ false → lane.source ≡ came.Going → IsAtRest lane
+Puts lane = (p : Past) → Stands lane p → lane.dropped ≡ false → lane.source ≡ source.Going → IsAtRest lane
     → (read : BodyRead) → BodyTaken lane p [] lane.ended read → SpellsAs p.sent (sent_so_far p read) Cut (put_out lane p)
 
 pub shows_at : (at : Place) (cfg : Config) (lane : LaneState) (vars : Variables) (came_ : Coming) (asks : Asking Variables) (to_server : List ℕ) (reply : Reply Variables) → at ≡ place.Sending
@@ -173,8 +167,7 @@ pub shows_at : (at : Place) (cfg : Config) (lane : LaneState) (vars : Variables)
     → (lane.output.items ≡ []) ⊎ (lane.dropped ≡ true) → ShowsNoCut cfg came_ asks
 shows_at place.Reading cfg lane vars came_ asks to_server reply e h is rests going law waits = absurd (cc)
 shows_at place.Sending cfg lane vars came_ asks to_server reply e h is rests going law waits =
-    let so : lane.source ≡ came.Going = going_source lane.source going in
-    shows cfg lane vars came_ asks to_server h is (law h.past h.sends so ((rests so).no_cut waits))
+    shows cfg lane vars came_ asks to_server h is (law h.past h.sends going ((rests going).no_cut waits))
 shows_at place.Idle cfg lane vars came_ asks to_server reply e h is rests going law waits = absurd (cc)
 shows_at place.Replied cfg lane vars came_ asks to_server reply e h is rests going law waits = absurd (cc)
 
@@ -183,8 +176,7 @@ pub puts_at : (at : Place) (cfg : Config) (lane : LaneState) (vars : Variables) 
     → lane.output.items ≡ [] → lane.dropped ≡ false → PutsAll cfg came_ asks to_server
 puts_at place.Reading cfg lane vars came_ asks to_server reply e h is rests going law all none kept = absurd (cc)
 puts_at place.Sending cfg lane vars came_ asks to_server reply e h is rests going law all none kept =
-    let so : lane.source ≡ came.Going = going_source lane.source going in
-    let still : IsStill lane = rests so in
-    puts cfg lane vars came_ asks to_server h is kept (law h.past h.sends so (still.no_cut (inl none))).ended (all h.past h.sends kept so (still.nothing_back none kept))
+    let still : IsStill lane = rests going in
+    puts cfg lane vars came_ asks to_server h is kept (law h.past h.sends going (still.no_cut (inl none))).ended (all h.past h.sends kept going (still.nothing_back none kept))
 puts_at place.Idle cfg lane vars came_ asks to_server reply e h is rests going law all none kept = absurd (cc)
 puts_at place.Replied cfg lane vars came_ asks to_server reply e h is rests going law all none kept = absurd (cc)

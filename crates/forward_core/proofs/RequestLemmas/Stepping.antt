@@ -5,19 +5,17 @@ use Rattle.std.proofs.lemmas.List.{append-nil}
 use Rattle.session_core.specs.History.{Coming}
 use Rattle.session_core.specs.Leads.{KeepsRequest, StaysSettled}
 use Rattle.session_core.specs.Sided.{Asking, Reply, IsSettled}
-use Rattle.session_core.specs.declared.Source.{Source}
-use Rattle.session_core.specs.declared.Source.TheVariants as source
+use Rattle.http_model.specs.declared.Source.{Source}
+use Rattle.http_model.specs.declared.Source.TheVariants as source
 use Rattle.px_sample.specs.Variables.{Variables}
 use Rattle.http_rules.specs.declared.config.Config.{Config}
 use Rattle.lane.specs.Direction.Sends.{Past, GoesOn, Stands}
 use Rattle.lane.specs.declared.direction.stage.Stage.{Stage}
 use Rattle.lane.specs.declared.direction.stage.Stage.TheVariants as stage
-use Rattle.lane.specs.declared.direction.stage.Source.{Source as LaneSource}
-use Rattle.lane.specs.declared.direction.stage.Source.TheVariants as came
 use Rattle.lane.specs.Direction.State.{LaneState}
 use Rattle.forward_core.specs.declared.request.place.Place.{Place}
 use Rattle.forward_core.specs.declared.request.place.Place.TheVariants as place
-use Rattle.forward_core.specs.Request.Seen.{seen, unread_at, source_by, source_at, sent_at, is_done}
+use Rattle.forward_core.specs.Request.Seen.{seen, unread_at, source_at, sent_at, is_done}
 use Rattle.forward_core.specs.Request.Stands.{SoundAt, StandsAt}
 use Rattle.forward_core.specs.Request.Steps.{Puts}
 use Rattle.forward_core.proofs.RequestLemmas.Events.{Keeps, steps}
@@ -29,7 +27,7 @@ pub record Steps (old new : LaneState) : Type 0 where
   pub dropped : new.dropped ≡ old.dropped
   pub drops : old.dropped ≡ true → new.output.items ≡ old.output.items
   pub shrinks : length new.input.items ≤ length old.input.items
-  pub settled : old.source ≢ came.Going → new.source ≡ old.source
+  pub settled : old.source ≢ source.Going → new.source ≡ old.source
   pub sends : (p : Past) → Stands old p → Stands new p
   pub at : (new.stage ≡ stage.Sending) ⊎ (new.stage ≡ stage.Done)
   pub goes_on : (p : Past) → Stands old p → new.stage ≡ stage.Sending → GoesOn new
@@ -51,20 +49,20 @@ step_stands place.Replied cfg old new vars came_ asking to_server put reply e t 
 
 -- ---- what is seen
 
-settles : (was now : LaneSource) → (was ≢ came.Going → now ≡ was) → StaysSettled (source_by was) (source_by now)
-settles came.Going now h = tt
-settles came.Whole now h = ap source_by (h (λ e. cc))
-settles (came.Cut code) now h = ap source_by (h (λ e. cc))
+settles : (was now : Source) → (was ≢ source.Going → now ≡ was) → StaysSettled was now
+settles source.Going now h = tt
+settles source.Whole now h = h (λ e. cc)
+settles (source.Cut code) now h = h (λ e. cc)
 
 still : (so : Source) → StaysSettled so so
 still source.Going = tt
 still source.Whole = refl
 still (source.Cut code) = refl
 
-is_settled : (so : LaneSource) → so ≢ came.Going → IsSettled (source_by so)
-is_settled came.Going h = absurd (h refl)
-is_settled came.Whole h = tt
-is_settled (came.Cut code) h = tt
+is_settled : (so : Source) → so ≢ source.Going → IsSettled so
+is_settled source.Going h = absurd (h refl)
+is_settled source.Whole h = tt
+is_settled (source.Cut code) h = tt
 
 done_is : (st : Stage) → is_done st ≡ true → st ≡ stage.Done
 done_is stage.Reading e = absurd (cc)
@@ -92,7 +90,7 @@ some_text (x ∷ xs) h e = cc
 
 goes_on_so : (at : Place) (lane : LaneState) → at ≡ place.Sending → GoesOn lane → SeenWaits at lane
 goes_on_so at lane e (inl some) = inl (some_text lane.output.items some)
-goes_on_so at lane e (inr (going, room, open_)) = inr (ap (λ (a : Place). source_at a lane.source) e ∙ ap source_by going, ap is_none open_, omega (arith, room))
+goes_on_so at lane e (inr (going, room, open_)) = inr (ap (λ (a : Place). source_at a lane.source) e ∙ going, ap is_none open_, omega (arith, room))
 
 step_waits : (at : Place) (old new : LaneState) → at ≡ place.Sending → Steps old new → SoundAt at old → sent_at at new.stage ≡ false → SeenWaits at new
 step_waits place.Reading old new e t s h = absurd (cc)

@@ -8,8 +8,8 @@ use Rattle.session_model.specs.Asking.{Asks, Sends, asked_by}
 use Rattle.session_model.specs.Env.{request_env}
 use Rattle.session_core.specs.History.{Coming, Continues, prepend, prepended}
 use Rattle.session_core.specs.Sided.{Asking, Reply, BodyGoes, RequestGoes, RequestAsks, forwarded_to, request_to}
-use Rattle.session_core.specs.declared.Source.{Source}
-use Rattle.session_core.specs.declared.Source.TheVariants as source
+use Rattle.http_model.specs.declared.Source.{Source}
+use Rattle.http_model.specs.declared.Source.TheVariants as source
 use Rattle.session_core.specs.HeadAsks.{HeadAsks}
 use Rattle.session_core.proofs.PublicLaws.{continues_prepend, head_asks}
 use Rattle.px_sample.specs.Variables.{Variables}
@@ -19,16 +19,15 @@ use Rattle.body_filter.specs.declared.filter_spec.FilterSpec.{FilterSpec}
 use Rattle.h1_body.specs.BodyOf.{BodyRead, Reads, IsBodyOf}
 use Rattle.lane.specs.Direction.Sends.{Past, Stands}
 use Rattle.lane.specs.Direction.Promise.{Promise, HasBody, IsWholeWith}
-use Rattle.lane.specs.declared.direction.stage.Source.TheVariants as came
 use Rattle.lane.specs.Direction.State.{LaneState}
 use Rattle.forward_core.specs.declared.request.place.Place.{Place}
 use Rattle.forward_core.specs.declared.request.place.Place.TheVariants as place
-use Rattle.forward_core.specs.Request.Seen.{source_by, source_at, is_done}
+use Rattle.forward_core.specs.Request.Seen.{source_at, is_done}
 use Rattle.forward_core.specs.Request.Stands.{IsFor, coming, GoesOut, IsReplied, StandsAt}
 use Rattle.forward_core.specs.Request.Steps.{WholeCame}
 use Rattle.forward_core.proofs.RequestLemmas.Bodies.{Follows, follows, is_read}
 use Rattle.forward_core.proofs.RequestLemmas.Messages.{uncut, reading_in}
-use Rattle.forward_core.proofs.RequestLemmas.Goes.{reads_of, body_goes, body_is, asks_for, whole_source}
+use Rattle.forward_core.proofs.RequestLemmas.Goes.{reads_of, body_goes, body_is, asks_for}
 
 -- the head asks for a server, however the stream goes on
 asks_always : (cfg : Config) (lane : LaneState) (vars : Variables) (came_ : Coming) (asks : Asking Variables) (to_server : List ℕ) (g : GoesOut cfg lane vars came_ asks to_server) (stream : Stream) → Continues came_ stream
@@ -51,8 +50,8 @@ GoesWhole cfg lane so vars asks to_server stream rest =
     × ((request_to (meaning_of cfg) asks g.rest g.goes.body).cut ≡ None) × ((request_to (meaning_of cfg) asks g.rest g.goes.body).rest ≡ rest)
 
 goes_whole : (cfg : Config) (lane : LaneState) (vars : Variables) (came_ : Coming) (asks : Asking Variables) (to_server : List ℕ) (g : GoesOut cfg lane vars came_ asks to_server) → IsFor cfg lane → Promise lane g.past
-    → lane.source ≡ came.Whole → HasBody lane g.past → (read : List ℕ) → g.past.bytes ≡ read ++ lane.input.items → (rest : Stream) → Continues (coming lane lane.input.items) rest
-    → GoesWhole cfg lane (source_by lane.source) vars asks to_server (prepend (g.used ++ read) rest) rest
+    → lane.source ≡ source.Whole → HasBody lane g.past → (read : List ℕ) → g.past.bytes ≡ read ++ lane.input.items → (rest : Stream) → Continues (coming lane lane.input.items) rest
+    → GoesWhole cfg lane lane.source vars asks to_server (prepend (g.used ++ read) rest) rest
 goes_whole cfg lane vars came_ asks to_server g is promise e has read bytes rest c =
     let M : Meaning = meaning_of cfg in
     let with_bytes : List ℕ → Stream = λ bs. record { bytes = bs; ending = rest.ending } in
@@ -77,7 +76,7 @@ goes_whole cfg lane vars came_ asks to_server g is promise e has read bytes rest
     let a : Asks M vars (prepend g.used behind) (asked_by M asks.received behind (M.request_rules (request_env vars asks.received.head))) = record { head = Begins asks.received behind.bytes; reads = g.head.reads behind on; asks = refl } in
     let s : Asks M vars (prepend (g.used ++ read) rest) (Sends (forwarded_to asks behind)) =
     subst (λ (st : Stream). Asks M vars st (Sends (forwarded_to asks behind))) (sym (ap with_bytes (append_assoc g.used read rest.bytes))) (asks_for cfg lane vars came_ asks to_server g (prepend g.used behind) behind a) in
-    let goes : BodyGoes M asks (source_by lane.source) (is_done lane.stage && not lane.dropped) lane.dropped to_server behind = body_goes cfg lane vars came_ asks to_server g is promise behind f b y in
+    let goes : BodyGoes M asks lane.source (is_done lane.stage && not lane.dropped) lane.dropped to_server behind = body_goes cfg lane vars came_ asks to_server g is promise behind f b y in
     let body : b ≡ goes.body = sym (body_is cfg lane vars came_ asks to_server g is promise behind f b y) in (
       record { rest = behind; asks = s; goes = goes },
       subst (λ (x : BodyReading). (request_to M asks behind x).cut ≡ None) body u.cut,
@@ -92,16 +91,15 @@ came_behind cfg lane vars came_ asks to_server g read bytes =
 
 pub whole_at : (at : Place) (cfg : Config) (lane : LaneState) (awaits rests : Bool) (vars : Variables) (came_ : Coming) (asks : Asking Variables) (to_server : List ℕ) (reply : Reply Variables)
     → source_at at lane.source ≡ source.Whole → StandsAt at cfg lane vars came_ asks to_server reply → IsFor cfg lane → ((p : Past) → Stands lane p → Promise lane p)
-    → ((p : Past) → Stands lane p → lane.source ≡ came.Whole → HasBody lane p)
+    → ((p : Past) → Stands lane p → lane.source ≡ source.Whole → HasBody lane p)
     → WholeCame cfg (record { lane = lane; place = at; awaits = awaits; at_rest = rests }) vars came_ asks to_server (coming lane lane.input.items)
 whole_at place.Reading cfg lane awaits rests vars came_ asks to_server reply e h is promise has = absurd (cc)
 whole_at place.Sending cfg lane awaits rests vars came_ asks to_server reply e h is promise has =
-    let whole : lane.source ≡ came.Whole = whole_source lane.source e in
     let read : List ℕ = h.sends.sends.used in
     record {
       used = h.used ++ read;
       came_is = came_behind cfg lane vars came_ asks to_server h read h.sends.sends.bytes;
-      goes = goes_whole cfg lane vars came_ asks to_server h is (promise h.past h.sends) whole (has h.past h.sends whole) read h.sends.sends.bytes;
+      goes = goes_whole cfg lane vars came_ asks to_server h is (promise h.past h.sends) e (has h.past h.sends e) read h.sends.sends.bytes;
     }
 whole_at place.Idle cfg lane awaits rests vars came_ asks to_server reply e h is promise has = absurd (cc)
 whole_at place.Replied cfg lane awaits rests vars came_ asks to_server reply e h is promise has = absurd (cc)

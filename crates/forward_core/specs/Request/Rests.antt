@@ -2,7 +2,7 @@
 use Rattle.std.specs.Prelude.{◌≡◌, ◌⊎◌, [], true, false, None, ⊤}
 use Rattle.h1_head.specs.Decides.{MayWait}
 use Rattle.h1_head.specs.Kind.{request_heads}
-use Rattle.lane.specs.declared.direction.stage.Source.TheVariants as came
+use Rattle.http_model.specs.declared.Source.TheVariants as source
 use Rattle.lane.specs.Direction.Sends.{IsAtRest, RestsFor}
 use Rattle.lane.specs.Direction.State.{LaneState}
 use Rattle.forward_core.specs.declared.request.place.Place.{Place}
@@ -21,6 +21,6 @@ pub record WaitsForHead (lane : LaneState) : Type 0 where
 -- how the lane stands at rest, by what is made of the next request
 abbrev pub RestsAt : Place → LaneState → Type 0
 RestsAt place.Reading lane = WaitsForHead lane
-RestsAt place.Sending lane = lane.source ≡ came.Going → IsStill lane
+RestsAt place.Sending lane = lane.source ≡ source.Going → IsStill lane
 RestsAt place.Idle lane = ⊤
 RestsAt place.Replied lane = ⊤

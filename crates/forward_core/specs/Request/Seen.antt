@@ -5,25 +5,17 @@ use Rattle.htx_model.specs.Block.{Block}
 use Rattle.http_model.specs.declared.Limits.{Limits}
 use Rattle.lane.specs.declared.direction.stage.Stage.{Stage}
 use Rattle.lane.specs.declared.direction.stage.Stage.TheVariants as stage
-use Rattle.lane.specs.declared.direction.stage.Source.{Source as LaneSource}
-use Rattle.lane.specs.declared.direction.stage.Source.TheVariants as came
+use Rattle.http_model.specs.declared.Source.{Source}
+use Rattle.http_model.specs.declared.Source.TheVariants as source
 use Rattle.session_core.specs.Sided.{RequestSeen}
-use Rattle.session_core.specs.declared.Source.{Source}
-use Rattle.session_core.specs.declared.Source.TheVariants as source
 use Rattle.forward_core.specs.declared.request.place.Place.{Place}
 use Rattle.forward_core.specs.declared.request.place.Place.TheVariants as place
 use Rattle.forward_core.specs.declared.request.side.RequestSide.{RequestSide}
 
--- how the body of a request stands, in the words of a core
-abbrev pub source_by : LaneSource → Source
-source_by came.Going = source.Going
-source_by came.Whole = source.Whole
-source_by (came.Cut code) = source.Cut code
-
 -- where no request goes out none is to come whole
-abbrev pub source_at : Place → LaneSource → Source
+abbrev pub source_at : Place → Source → Source
 source_at place.Reading so = source.Cut 400
-source_at place.Sending so = source_by so
+source_at place.Sending so = so
 source_at place.Idle so = source.Cut 400
 source_at place.Replied so = source.Cut 400
 

@@ -3,9 +3,9 @@ ghost use Rattle.std.specs.Prelude.{◌≡◌};
 
 use crate::joined::directions::Directions;
 use crate::joined::saying;
-use http_model::{Ending, OutOfMemory};
+use http_model::{Ending, OutOfMemory, Source};
 use http_rules::Config;
-use session_core::{Asked, Renewable, Source, Told, Works};
+use session_core::{Asked, Renewable, Told, Works};
 
 impl<'c> Works for Directions<'c> {
     /// The configuration, and how many bytes an output window has.

@@ -9,7 +9,7 @@ ghost use Rattle.session_core.specs.Consequences.{IsTotal};
 ghost use Rattle.session_model.specs.Stream.{Stream};
 ghost use Rattle.session_core.specs.History.{Coming, Continues};
 ghost use Rattle.session_core.specs.Sided.{Asking, Reply, RequestAsks};
-ghost use Rattle.session_core.specs.declared.Source.TheVariants as source;
+ghost use Rattle.http_model.specs.declared.Source.TheVariants as source;
 ghost use Rattle.px_sample.specs.Variables.{Variables};
 ghost use Rattle.http_rules.specs.declared.config.Config.{Config};
 ghost use Rattle.forward_core.specs.Meaning.Product.{meaning_of};

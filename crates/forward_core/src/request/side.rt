@@ -8,7 +8,7 @@ ghost use Rattle.http_rules.specs.declared.config.Config.{Config};
 ghost use Rattle.session_core.specs.History.{Coming, no_stream, gains, ends};
 ghost use Rattle.session_core.specs.Sided.{Asking, Reply};
 ghost use Rattle.session_core.specs.Leads.{KeepsRequest};
-ghost use Rattle.session_core.specs.declared.Source.TheVariants as source;
+ghost use Rattle.http_model.specs.declared.Source.TheVariants as source;
 ghost use Rattle.lane.specs.declared.direction.stage.Stage.TheVariants as stage;
 
 mod views;
@@ -21,7 +21,6 @@ use http_model::{Ending, Framing, Limits, OutOfMemory};
 use htx_arena::Arena;
 use lane::laws::promise;
 use lane::{Lane, LaneHead, Stage};
-use session_core::Source;
 use std::alloc::Global;
 
 /// The request direction of a session.

@@ -3,8 +3,8 @@ ghost use Rattle.std.specs.Prelude.{◌≡◌, ◌+◌, length, is_none};
 ghost use Rattle.htx_arena.specs.Layout.Held.{held, blocks_of as told};
 
 use crate::direction::lane::Lane;
-use crate::direction::stage::{Source, Stage};
-use http_model::Framing;
+use crate::direction::stage::Stage;
+use http_model::{Framing, Source};
 
 impl Lane {
     /// Where the lane stands.
