@@ -47,6 +47,17 @@ pub enum Why {
     Bytes,
 }
 
+/// Where the body of a message on its way stands.
+#[derive(Clone, Copy)]
+pub enum Source {
+    /// It still comes.
+    Going,
+    /// It came whole.
+    Whole,
+    /// It broke off, was none, or is refused: this code refuses the message.
+    Cut(u16),
+}
+
 /// How a stream of bytes ended.
 #[derive(Clone, Copy, Debug)]
 pub enum Ending {

@@ -79,37 +79,7 @@ fn idle_turn<C: Machine, L: Link, T: Turns>(
     }
 }
 
-/// An exchange with a server, or a turn of the client.
-fn step<C: Machine, L: Link, N: Net<Link = L>, T: Turns>(
-    core: &mut C,
-    to: &Address,
-    client: &mut L,
-    net: &mut N,
-    turns: &mut T,
-    resources: &mut Resources,
-    wants: &Wants,
-) -> Result<(), SessionFault>
-    requires wants { wants.now ≡ (C.seen core.old).wants }
-    requires idle { (C.seen core.old).serving ≡ false }
-    requires some { wants.now.server_open ≡ false → moves_bytes wants.now ≡ true }
-    requires going { wants.now.over ≡ None }
-    requires left { 0 < resources.old.left }
-    requires sound { C.sound core.old }
-    ensures sound { OnOk result (C.sound core.new) }
-    ensures goes { (cfg : C.Settings) (all : List Turn) (budget : ℕ) (first : L) (first_net : N) (past : Past) → Idle (Rests (WorkedIn (C.stands cfg) C.seen all (T.left turns.old) budget resources.old.left core.old)) L.seen L.wrote first client.old false past → Dials (address_of to.now) (N.seen first_net) (N.seen net.old) past.connects
-        → Ends result (λ _. Goes (Rests (StandsIn (C.stands cfg) C.seen all (T.left turns.new) budget resources.new.left core.new)) L.seen L.wrote first client.new false (address_of to.now) (N.seen first_net) (N.seen net.new) past resources.old.left resources.new.left) (λ failed. Goes (Left (C.meaning cfg) (C.stands cfg) C.seen all (T.left turns.new) budget resources.new.left core.new) L.seen L.wrote first client.new failed (address_of to.now) (N.seen first_net) (N.seen net.new) past resources.old.left resources.new.left) }
-    ensures serving { OnOk result ((C.seen core.new).serving ≡ false) }
-    ensures less { OnOk result (resources.new.left + length (T.left turns.new) < resources.old.left + length (T.left turns.old)) }
-    ensures spent { IsErrOf result SessionFault.Spent → resources.new.left ≡ 0 }
-{
-    if wants.server_open {
-        exchange(core, to, client, net, turns, resources)
-    } else {
-        idle_turn(core, client, turns, resources, wants)
-    }
-}
-
-/// Exchanges, until the session is over, and how.
+/// Exchanges with servers, and turns of the client between them, until the session is over, and how.
 fn exchanges<C: Machine, L: Link, N: Net<Link = L>, T: Turns>(
     core: &mut C,
     to: &Address,
@@ -138,7 +108,13 @@ fn exchanges<C: Machine, L: Link, N: Net<Link = L>, T: Turns>(
         if resources.left == 0 {
             return Err(SessionFault::Spent);
         }
-        match step(core, to, client, net, turns, resources, &wants) {
+        if wants.server_open {
+            match exchange(core, to, client, net, turns, resources) {
+                Ok(()) => continue 'steps,
+                Err(fault) => return Err(fault),
+            }
+        }
+        match idle_turn(core, client, turns, resources, &wants) {
             Ok(()) => {}
             Err(fault) => return Err(fault),
         }

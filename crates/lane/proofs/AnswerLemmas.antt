@@ -13,7 +13,7 @@ use Rattle.lane.specs.Direction.Shown.{Shows, Goes}
 use Rattle.lane.specs.Answering.{Exchange, Last, NotYet, Serves, Replies, HeadsCame, Reads, HeadsAt, ShowsLast, AnswersLast, AnswersAt, Answers, IsSoundAt, IsSoundAnswer, IsLast, interim_text, fresh, with_bytes, with_put, is_interim, shows_head, HasBegun, AnswerPromise}
 use Rattle.lane.specs.declared.direction.stage.Stage.{Stage}
 use Rattle.lane.specs.declared.direction.stage.Stage.TheVariants as stage
-use Rattle.lane.specs.declared.direction.stage.Source.TheVariants as source
+use Rattle.http_model.specs.declared.Source.TheVariants as source
 use Rattle.lane.specs.declared.direction.lane.Lane.{Lane}
 use Rattle.lane.specs.declared.phase.Phase.{Phase}
 use Rattle.lane.specs.declared.phase.Phase.TheVariants as phase

@@ -17,8 +17,8 @@ use Rattle.lane.specs.Direction.Promise.{BodyTaken, EndsInSection, body_in}
 use Rattle.lane.specs.Direction.Sends.{Past, Stands, put_out}
 use Rattle.lane.specs.Direction.Sent.{Sent, Cut, SpellsAs, message_of}
 use Rattle.lane.specs.declared.direction.stage.Stage.TheVariants as stage
-use Rattle.lane.specs.declared.direction.stage.Source.{Source}
-use Rattle.lane.specs.declared.direction.stage.Source.TheVariants as source
+use Rattle.http_model.specs.declared.Source.{Source}
+use Rattle.http_model.specs.declared.Source.TheVariants as source
 use Rattle.lane.specs.declared.direction.lane.Lane.{Lane}
 use Rattle.lane.proofs.DirectionLemmas.PromiseLemmas.{spelled_cut, text_is}
 use Rattle.lane.proofs.DirectionLemmas.RestLemmas as shared

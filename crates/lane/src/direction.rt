@@ -9,4 +9,4 @@ mod sift;
 mod stage;
 
 pub use lane::Lane;
-pub use stage::{LaneHead, Source, Stage};
+pub use stage::{LaneHead, Stage};

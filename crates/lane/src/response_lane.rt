@@ -12,17 +12,17 @@ ghost use Rattle.lane.specs.Answering.{Exchange, Answers, HeadComes, HeadStands,
 ghost use Rattle.lane.specs.declared.phase.Phase.TheVariants as phase;
 ghost use Rattle.lane.specs.declared.direction.stage.LaneHead.TheVariants as says;
 ghost use Rattle.lane.specs.declared.direction.stage.Stage.TheVariants as stage;
-ghost use Rattle.lane.specs.declared.direction.stage.Source.TheVariants as source;
+ghost use Rattle.http_model.specs.declared.Source.TheVariants as source;
 
 mod stepping;
 mod views;
 
-use crate::direction::{Lane, LaneHead, Source, Stage};
+use crate::direction::{Lane, LaneHead, Stage};
 use crate::phase::Phase;
 use body_filter::FilterSpec;
 use h1_head::Side;
 use header_ops::laws::edits_of_heads;
-use http_model::{Ending, Framing, Limits};
+use http_model::{Ending, Framing, Limits, Source};
 use htx_arena::Arena;
 use htx_model::OutOfMemory;
 use std::alloc::Global;
@@ -72,7 +72,7 @@ impl ResponseLane {
     }
 
     /// Bytes of the server's stream come.
-    pub fn take(&mut self, bytes: &[u8])
+    pub fn push(&mut self, bytes: &[u8])
         requires open { IsOpen self.old }
         requires room { length (input_of self.old) + length bytes.now ≤ most_of self.old }
         ensures answers { (p : Exchange) → Answers self.old p → Answers self.new (with_bytes p bytes.now) }
@@ -87,7 +87,7 @@ impl ResponseLane {
         ensures sound { IsSoundAnswer self.old → IsSoundAnswer self.new }
         ensures filters { (filters : List FilterSpec) → HasFilters self.old filters → HasFilters self.new filters }
     {
-        self.lane.take(bytes);
+        self.lane.push(bytes);
     }
 
     /// The server's stream ends.

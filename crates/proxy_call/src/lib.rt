@@ -6,7 +6,6 @@ mod lines;
 mod refusals;
 mod reply;
 mod run;
-mod serving;
 pub mod sessions;
 mod status;
 mod stop;

@@ -9,7 +9,7 @@ use Rattle.session_core.specs.History.{Past, Connect, connected}
 use Rattle.session_core.specs.Sided.{Sided, asker_in, RequestSeen, AnswerSeen, AnswersSo, unsaid}
 use Rattle.session_core.specs.Stands.{Serves, IsOpenServer, Refusing, InPhase, Holds}
 use Rattle.session_core.specs.Leads.{StepsAnswer, Says, Refuses}
-use Rattle.session_core.specs.declared.Source.{Source}
+use Rattle.http_model.specs.declared.Source.{Source}
 use Rattle.session_core.specs.declared.machine.At.{At}
 use Rattle.session_core.specs.declared.Phase.{Phase}
 use Rattle.session_core.specs.declared.Phase.TheVariants as phase

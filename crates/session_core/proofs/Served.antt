@@ -19,8 +19,8 @@ use Rattle.session_core.specs.Sided.{Sided, RequestSeen, AnswerSeen, Requests, R
 use Rattle.session_core.specs.Stands.{One, IsConnect, Serves, IsOver, InPhase, Holds}
 use Rattle.session_core.specs.Leads.{Renews, renewed_at, Follows}
 use Rattle.session_core.specs.declared.machine.At.{At}
-use Rattle.session_core.specs.declared.Source.{Source}
-use Rattle.session_core.specs.declared.Source.TheVariants as source
+use Rattle.http_model.specs.declared.Source.{Source}
+use Rattle.http_model.specs.declared.Source.TheVariants as source
 use Rattle.session_core.specs.declared.Told.{Told}
 use Rattle.session_core.specs.declared.Told.TheVariants as told
 use Rattle.session_core.specs.declared.Phase.{Phase}

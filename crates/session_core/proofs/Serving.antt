@@ -17,7 +17,7 @@ use Rattle.session_model.specs.Session as session
 use Rattle.session_core.specs.History.{Continues, IsPrefix, BitFits}
 use Rattle.session_core.specs.Sided.{Sided, Asking, asker_in, forwarded_to, request_to, RequestGoes, AnswerGoes, BeginsAlways}
 use Rattle.session_core.specs.Stands.{One}
-use Rattle.session_core.specs.declared.Source.{Source}
+use Rattle.http_model.specs.declared.Source.{Source}
 use Rattle.session_core.specs.declared.Told.{Told}
 
 -- ---- the request that a stream brings

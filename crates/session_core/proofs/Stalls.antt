@@ -4,7 +4,7 @@ use Rattle.session_core.specs.Sided.{RequestSeen, AnswerSeen}
 use Rattle.session_core.specs.Leads.{AnswerWaits}
 use Rattle.session_core.specs.History.{close_by}
 use Rattle.session_core.specs.Waits.{is_empty, is_serving, is_opening, takes_client, is_turned, has_ended, SayWaits, wants_of, wants_any, RequestWaits, AnswerWaitsAt, Stepped, Answered, Ready, IsSaying, refused_phase, Settled}
-use Rattle.session_core.specs.declared.Source.TheVariants as source
+use Rattle.http_model.specs.declared.Source.TheVariants as source
 use Rattle.session_core.specs.declared.Told.TheVariants as told
 use Rattle.session_core.specs.declared.Phase.{Phase}
 use Rattle.session_core.specs.declared.Phase.TheVariants as phase

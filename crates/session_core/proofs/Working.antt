@@ -9,8 +9,8 @@ use Rattle.session_core.specs.Sided.{Sided, RequestSeen, AnswerSeen, Requests, I
 use Rattle.session_core.specs.Stands.{IsBehind, IsConnect, Serves, IsOpenServer, IsServing, InPhase, Holds}
 use Rattle.session_core.specs.Leads.{StepsRequest, KeepsRequest, StaysSettled, Turns, Stands}
 use Rattle.session_core.specs.declared.machine.At.{At}
-use Rattle.session_core.specs.declared.Source.{Source}
-use Rattle.session_core.specs.declared.Source.TheVariants as source
+use Rattle.http_model.specs.declared.Source.{Source}
+use Rattle.http_model.specs.declared.Source.TheVariants as source
 use Rattle.session_core.specs.declared.Phase.{Phase}
 use Rattle.session_core.specs.declared.Phase.TheVariants as phase
 

@@ -12,8 +12,8 @@ use Rattle.session_core.specs.Sided.{Sided, Saying, unsaid, finished_blocks, Ask
 use Rattle.session_core.specs.Awaits.{awaits_continue}
 use Rattle.session_core.specs.Stands.{Holds, kept_with}
 use Rattle.session_core.specs.declared.machine.At.{At}
-use Rattle.session_core.specs.declared.Source.{Source}
-use Rattle.session_core.specs.declared.Source.TheVariants as source
+use Rattle.http_model.specs.declared.Source.{Source}
+use Rattle.http_model.specs.declared.Source.TheVariants as source
 use Rattle.session_core.specs.declared.Told.{Told}
 use Rattle.session_core.specs.declared.Told.TheVariants as told
 use Rattle.session_core.specs.declared.sides.Asked.{Asked}

@@ -13,8 +13,8 @@ use Rattle.session_model.specs.Amending.{behind_reply}
 use Rattle.session_model.specs.Answering.{Final, Refuses, Replies, Answers, Plain, Answered, AnswersFrom, BeginsWithInterim, sent_interim}
 use Rattle.session_model.specs.Session.{SpellsFinal, SpellsRefusal, interim_text}
 use Rattle.session_core.specs.History.{Coming, Continues, IsPrefix, prepend, prepended}
-use Rattle.session_core.specs.declared.Source.{Source}
-use Rattle.session_core.specs.declared.Source.TheVariants as source
+use Rattle.http_model.specs.declared.Source.{Source}
+use Rattle.http_model.specs.declared.Source.TheVariants as source
 use Rattle.session_core.specs.declared.Told.{Told}
 use Rattle.session_core.specs.declared.Told.TheVariants as told
 

@@ -15,8 +15,8 @@ use Rattle.session_model.specs.Session.{Exchange, Over, Goes, Follow, first_bit}
 use Rattle.session_core.specs.History.{Past, Coming, Connect, Continues, ContinuesServer, prepend, prepended, sent_of, Fronts, close_by, connected}
 use Rattle.session_core.specs.Sided.{Sided, Saying, finished_blocks, Reply, replied_to, RequestSeen, AnswerSeen, Requests, RequestsAsk, AnswersSo, IsBefore, IsTurned, IsUncut, IsSettled}
 use Rattle.session_core.specs.Awaits.{awaits_continue}
-use Rattle.session_core.specs.declared.Source.{Source}
-use Rattle.session_core.specs.declared.Source.TheVariants as source
+use Rattle.http_model.specs.declared.Source.{Source}
+use Rattle.http_model.specs.declared.Source.TheVariants as source
 use Rattle.session_core.specs.declared.Phase.{Phase}
 use Rattle.session_core.specs.declared.machine.At.{At}
 use Rattle.session_core.specs.declared.Phase.TheVariants as phase

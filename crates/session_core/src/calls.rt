@@ -21,7 +21,7 @@ impl<S: Works> Core<S> {
         ensures serving { is_serving self.new.at.phase ≡ is_serving self.old.at.phase }
         ensures lost { self.new.lost ≡ self.old.lost }
     {
-        self.sides.take_client(bytes);
+        self.sides.from_client(bytes);
     }
 
     /// The client's stream has ended.
@@ -33,7 +33,7 @@ impl<S: Works> Core<S> {
         ensures serving { is_serving self.new.at.phase ≡ is_serving self.old.at.phase }
         ensures lost { self.new.lost ≡ self.old.lost }
     {
-        self.sides.end_client(how);
+        self.sides.client_ended(how);
     }
 
     /// The client took so many bytes of its output window.
@@ -76,7 +76,7 @@ impl<S: Works> Core<S> {
         ensures serving { is_serving self.new.at.phase ≡ is_serving self.old.at.phase }
         ensures lost { self.new.lost ≡ self.old.lost }
     {
-        self.sides.take_server(bytes);
+        self.sides.from_server(bytes);
     }
 
     /// The server's stream has ended.
@@ -89,7 +89,7 @@ impl<S: Works> Core<S> {
         ensures serving { is_serving self.new.at.phase ≡ is_serving self.old.at.phase }
         ensures lost { self.new.lost ≡ self.old.lost }
     {
-        self.sides.end_server(how);
+        self.sides.server_ended(how);
     }
 
     /// The server took so many bytes of its output window.

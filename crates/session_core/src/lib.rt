@@ -13,18 +13,7 @@ mod work;
 
 pub use http_model::{Close, End, Ending, OutOfMemory};
 pub use machine::{At, Core, Wants};
-pub use sides::{Asked, Lends, Peers, Renewable, Shows, Sides, Works};
-
-/// How the source of a request stands.
-#[derive(Clone, Copy)]
-pub enum Source {
-    /// It goes on.
-    Going,
-    /// It came whole.
-    Whole,
-    /// It is cut, with the code of the refusal.
-    Cut(u16),
-}
+pub use sides::{Asked, Renewable, Works};
 
 /// How the last that answers stands.
 #[derive(Clone, Copy)]

@@ -11,8 +11,8 @@ ghost use Rattle.session_core.specs.Place.{Place, is_saying, place_behind, IsSom
 ghost use Rattle.session_core.specs.Lending.{LendsText};
 ghost use Rattle.session_core.specs.Leads.{StepsRequest, KeepsRequest, StepsAnswer, AnswerWaits, Says, Refuses, Turns, AsksTo, AskKeeps, Renews, RenewsReplied, IsFresh};
 
-use crate::{Source, Told};
-use http_model::{Ending, OutOfMemory};
+use crate::Told;
+use http_model::{Ending, OutOfMemory, Source};
 
 /// What the client's next request asks for.
 #[derive(Clone, Copy)]
@@ -30,8 +30,8 @@ pub enum Asked {
 }
 
 /// The two directions: their lanes, the rules and the variables. Contracts see what a core sees of each, and that the
-/// directions stand for a past of the exchange in hand. Here is what a core asks of the exchange in hand; `Works` is the whole.
-pub trait Sides {
+/// directions stand for a past of the exchange in hand.
+pub trait Works {
     /// The configuration.
     type Settings;
 
@@ -97,6 +97,212 @@ pub trait Sides {
         requires placed { IsSomewhere (placed self.now) }
         ensures { result ≡ (answer self.now).heard };
 
+    // ---- what it sees of streams and windows
+
+    fn client_is_open(&self) -> bool
+        requires placed { IsSomewhere (placed self.now) }
+        ensures { result ≡ (request self.now).is_open };
+
+    fn client_room(&self) -> usize
+        requires placed { IsSomewhere (placed self.now) }
+        ensures { result ≡ (request self.now).room };
+
+    fn server_is_open(&self) -> bool
+        requires placed { IsSomewhere (placed self.now) }
+        ensures { result ≡ (answer self.now).is_open };
+
+    fn server_room(&self) -> usize
+        requires placed { IsSomewhere (placed self.now) }
+        ensures { result ≡ (answer self.now).room };
+
+    /// Bytes wait for the client.
+    fn has_to_client(&self) -> bool
+        requires placed { IsSomewhere (placed self.now) }
+        ensures { result ≡ not (is_empty (answer self.now).window) };
+
+    /// Bytes wait for the server.
+    fn has_to_server(&self) -> bool
+        requires placed { IsSomewhere (placed self.now) }
+        ensures { result ≡ not (is_empty (request self.now).window) };
+
+    /// The array on which request rules run.
+    fn request_raw(&self) -> &[u8]
+        requires placed { IsSomewhere (placed self.now) }
+        ensures { HoldsList result.now (request self.now).list };
+
+    // ---- the texts that wait, to be read alone
+
+    /// The bytes that wait for the client, to be read alone.
+    fn to_client(&mut self) -> &mut [u8]
+        requires placed { IsSomewhere (placed self.old) }
+        ensures* back { sem 𝓛 (LendsText Self.row self.entry result with_to_client) }
+        ensures value { result.now ≡ (answer self.old).window };
+
+    /// The bytes that wait for the server, to be read alone.
+    fn to_server(&mut self) -> &mut [u8]
+        requires placed { IsSomewhere (placed self.old) }
+        ensures* back { sem 𝓛 (LendsText Self.row self.entry result with_to_server) }
+        ensures value { result.now ≡ (request self.old).window };
+
+    // ---- what peers give and take
+
+    fn from_client(&mut self, bytes: &[u8])
+        requires open { IsTrue (request self.old).is_open }
+        requires room { length bytes.now ≤ (request self.old).room }
+        requires placed { IsSomewhere (placed self.old) }
+        ensures placed { Stay (placed self.old) (placed self.new) }
+        ensures leads { (cfg : Self.Settings) (p : Sided (meaning cfg)) → stands cfg self.old p → stands cfg self.new (record p { came = gains p.came bytes.now }) }
+        ensures request { (unread : ℕ) × (request self.new ≡ record (request self.old) { room = (request self.old).room - length bytes.now; unread = unread; at_rest = false }) }
+        ensures answer { answer self.new ≡ answer self.old };
+
+    fn client_ended(&mut self, how: Ending)
+        requires open { IsTrue (request self.old).is_open }
+        requires placed { IsSomewhere (placed self.old) }
+        ensures placed { Stay (placed self.old) (placed self.new) }
+        ensures leads { (cfg : Self.Settings) (p : Sided (meaning cfg)) → stands cfg self.old p → stands cfg self.new (record p { came = ends p.came how }) }
+        ensures request { request self.new ≡ record (request self.old) { is_open = false; at_rest = false } }
+        ensures answer { answer self.new ≡ answer self.old };
+
+    fn client_took(&mut self, n: usize)
+        requires within { n ≤ length (answer self.old).window }
+        requires placed { IsSomewhere (placed self.old) }
+        ensures placed { Stay (placed self.old) (placed self.new) }
+        ensures leads { (cfg : Self.Settings) (p : Sided (meaning cfg)) → stands cfg self.old p → stands cfg self.new p }
+        ensures request { request self.new ≡ request self.old }
+        ensures answer { answer self.new ≡ record (answer self.old) { window = drop n (answer self.old).window; at_rest = false } };
+
+    fn from_server(&mut self, bytes: &[u8])
+        requires open { IsTrue (answer self.old).is_open }
+        requires room { length bytes.now ≤ (answer self.old).room }
+        requires placed { IsSomewhere (placed self.old) }
+        ensures placed { Stay (placed self.old) (placed self.new) }
+        ensures leads { (cfg : Self.Settings) (p : Sided (meaning cfg)) → stands cfg self.old p → stands cfg self.new (record p { server = gains p.server bytes.now }) }
+        ensures request { request self.new ≡ request self.old }
+        ensures answer { answer self.new ≡ record (answer self.old) { room = (answer self.old).room - length bytes.now; at_rest = false } };
+
+    fn server_ended(&mut self, how: Ending)
+        requires open { IsTrue (answer self.old).is_open }
+        requires placed { IsSomewhere (placed self.old) }
+        ensures placed { Stay (placed self.old) (placed self.new) }
+        ensures leads { (cfg : Self.Settings) (p : Sided (meaning cfg)) → stands cfg self.old p → stands cfg self.new (record p { server = ends p.server how }) }
+        ensures request { request self.new ≡ request self.old }
+        ensures answer { answer self.new ≡ record (answer self.old) { is_open = false; at_rest = false } };
+
+    fn server_took(&mut self, n: usize)
+        requires within { n ≤ length (request self.old).window }
+        requires placed { IsSomewhere (placed self.old) }
+        ensures placed { Stay (placed self.old) (placed self.new) }
+        ensures leads { (cfg : Self.Settings) (p : Sided (meaning cfg)) → stands cfg self.old p → stands cfg self.new p }
+        ensures request { request self.new ≡ record (request self.old) { window = drop n (request self.old).window; at_rest = false } }
+        ensures answer { answer self.new ≡ answer self.old };
+
+    /// The server takes nothing more: what stands in its window, and all that follows, is dropped. No block is left in the array on which
+    /// request rules run.
+    fn drop_request(&mut self)
+        requires waits { (request self.old).window ≢ [] }
+        requires placed { IsSomewhere (placed self.old) }
+        ensures placed { Stay (placed self.old) (placed self.new) }
+        ensures leads { (cfg : Self.Settings) (p : Sided (meaning cfg)) (put : List ℕ) → stands cfg self.old p → put ++ (request self.old).window ≡ p.to_server → stands cfg self.new (record p { to_server = put }) }
+        ensures request { request self.new ≡ record (request self.old) { window = []; dropped = true; at_rest = false; list = [] } }
+        ensures answer { answer self.new ≡ answer self.old };
+
+    /// A server is open for the request in hand.
+    fn open_server(&mut self)
+        requires placed { placed self.old place.Opens }
+        ensures placed { placed self.new place.Serves }
+        ensures leads { (cfg : Self.Settings) (p : Sided (meaning cfg)) → stands cfg self.old p → stands cfg self.new (record p { server = no_stream }) }
+        ensures answers { (cfg : Self.Settings) (p : Sided (meaning cfg)) → stands cfg self.old p → p.to_client ≡ [] → AnswersSo (meaning cfg) (answer self.new) (record p { server = no_stream }) }
+        ensures request { request self.new ≡ request self.old }
+        ensures open { (answer self.new).is_open ≡ true }
+        ensures begun { (answer self.new).begun ≡ false }
+        ensures heard { (answer self.new).heard ≡ false }
+        ensures window { (answer self.new).window ≡ (answer self.old).window };
+
+    // ---- what the directions do
+
+    /// Reads the next request, runs its rules and finishes it.
+    fn ask(&mut self) -> Result<Asked, OutOfMemory>
+        requires placed { placed self.old place.Reads }
+        ensures placed { IfOk result (λ asked. placed self.new (place_behind asked)) }
+        ensures succeeds { (cfg : Self.Settings) (p : Sided (meaning cfg)) → stands cfg self.old p → needs cfg ≡ false → IsOk result }
+        ensures leads { IfOk result (λ asked. (cfg : Self.Settings) (p : Sided (meaning cfg)) → stands cfg self.old p → AsksTo (meaning cfg) (stands cfg self.new) (request self.new) p asked) }
+        ensures request { IfOk result (AskKeeps (request self.old) (request self.new)) }
+        ensures window { OnOk result ((answer self.new).window ≡ (answer self.old).window) }
+        ensures starts { OnOk result ((answer self.new).answered ≡ false) }
+        ensures heard { OnOk result ((answer self.new).heard ≡ false) };
+
+    /// Reads, filters and puts out as much of the request as there is room for, while a server is open for it.
+    fn step_request(&mut self)
+        requires placed { IsAtServer (placed self.old) }
+        ensures placed { Stay (placed self.old) (placed self.new) }
+        ensures leads { (cfg : Self.Settings) (p : Sided (meaning cfg)) → stands cfg self.old p → Requests (meaning cfg) (request self.old) p → StepsRequest (meaning cfg) (stands cfg self.new) (request self.old) (request self.new) p }
+        ensures keeps { KeepsRequest (request self.old) (request self.new) }
+        ensures answer { answer self.new ≡ answer self.old };
+
+    /// Reads heads of the server, runs the rules on the final one, and puts out as much of the answer as there is room for.
+    fn step_answer(&mut self) -> Result<(), OutOfMemory>
+        requires placed { placed self.old place.Serves }
+        ensures placed { OnOk result (placed self.new place.Serves) }
+        ensures succeeds { (cfg : Self.Settings) (p : Sided (meaning cfg)) → stands cfg self.old p → needs cfg ≡ false → IsOk result }
+        ensures leads { OnOk result ((cfg : Self.Settings) (p : Sided (meaning cfg)) → stands cfg self.old p → AnswersSo (meaning cfg) (answer self.old) p
+            → StepsAnswer (meaning cfg) (stands cfg self.new) (answer self.old) (answer self.new) p) }
+        ensures waits { OnOk result (AnswerWaits (answer self.new)) }
+        ensures open { OnOk result ((answer self.new).is_open ≡ (answer self.old).is_open) }
+        ensures request { request self.new ≡ request self.old };
+
+    /// Begins the refusal of the request in hand, for which no server is open.
+    fn refuse(&mut self, code: u16) -> Result<(), OutOfMemory>
+        requires placed { placed self.old place.Opens }
+        ensures placed { OnOk result (placed self.new place.Says) }
+        ensures succeeds { (cfg : Self.Settings) (p : Sided (meaning cfg)) → stands cfg self.old p → needs cfg ≡ false → IsOk result }
+        ensures leads { OnOk result ((cfg : Self.Settings) (p : Sided (meaning cfg)) → stands cfg self.old p → Refuses (meaning cfg) (stands cfg self.new) p code) }
+        ensures request { OnOk result (request self.new ≡ request self.old) }
+        ensures window { OnOk result ((answer self.new).window ≡ (answer self.old).window) }
+        ensures starts { OnOk result ((answer self.new).answered ≡ false) };
+
+    /// In place of the server's answer, which hasn't begun, the client is refused behind the interim heads, each whole. No
+    /// rule runs on this refusal.
+    fn turn(&mut self, code: u16)
+        requires placed { placed self.old place.Serves }
+        requires begun { (answer self.old).begun ≡ false }
+        ensures placed { placed self.new place.Says }
+        ensures leads { (cfg : Self.Settings) (p : Sided (meaning cfg)) → stands cfg self.old p → IsBefore (meaning cfg) p → Turns (meaning cfg) (stands cfg self.new) (answer self.new) p code }
+        ensures request { request self.new ≡ request self.old }
+        ensures window { (answer self.new).window ≡ (answer self.old).window }
+        ensures open { (answer self.new).is_open ≡ (answer self.old).is_open };
+
+    /// Puts out as much of a refusal or reply as there is room for.
+    fn say(&mut self)
+        requires placed { (at : Place) × (is_saying at ≡ true) × placed self.old at }
+        ensures placed { (at : Place) → is_saying at ≡ true → placed self.old at → placed self.new at }
+        ensures leads { (cfg : Self.Settings) (p : Sided (meaning cfg)) → stands cfg self.old p → Says (meaning cfg) (stands cfg self.new) (answer self.old) (answer self.new) p }
+        ensures waits { (answer self.new).answered ≡ false → (answer self.new).window ≢ [] }
+        ensures open { (answer self.new).is_open ≡ (answer self.old).is_open }
+        ensures request { request self.new ≡ request self.old };
+
+    /// The next exchange begins behind a request that came whole.
+    fn next(&mut self)
+        requires placed { placed self.old place.Serves }
+        requires answered { (answer self.old).answered ≡ true }
+        ensures placed { placed self.new place.Reads }
+        ensures leads { (cfg : Self.Settings) (p : Sided (meaning cfg)) → stands cfg self.old p → Requests (meaning cfg) (request self.old) p → (request self.old).source ≡ Source.Whole → (request self.old).sent ≡ true
+            → Renews (meaning cfg) (stands cfg self.new) (request self.old) p }
+        ensures request { (request self.new).is_open ≡ (request self.old).is_open }
+        ensures window { (request self.new).window ≡ [] }
+        ensures unread { (request self.new).unread ≤ (request self.old).unread }
+        ensures answer { (answer self.new).window ≡ (answer self.old).window };
+
+    /// The next exchange begins behind a request that was replied to.
+    fn next_replied(&mut self)
+        requires placed { placed self.old place.Replies }
+        requires answered { (answer self.old).answered ≡ true }
+        ensures placed { placed self.new place.Reads }
+        ensures leads { (cfg : Self.Settings) (p : Sided (meaning cfg)) → stands cfg self.old p → RenewsReplied (meaning cfg) (stands cfg self.new) p }
+        ensures request { (request self.new).is_open ≡ (request self.old).is_open }
+        ensures window { (request self.new).window ≡ [] }
+        ensures unread { (request self.new).unread ≤ (request self.old).unread }
+        ensures answer { (answer self.new).window ≡ (answer self.old).window };
+
     // ---- laws
 
     ghost lends_to_client: { (sides : Self) → with_to_client sides (answer sides).window ≡ sides };
@@ -106,216 +312,6 @@ pub trait Sides {
     /// A refusal or a reply that goes out has begun exactly where less than all of it is left.
     ghost begins_so: { (cfg : Self.Settings) (sides : Self) (p : Sided (meaning cfg)) (at : Place) → stands cfg sides p → is_saying at ≡ true → placed sides at
         → (answer sides).begun ≡ nat_lt (length p.saying.left) (length p.saying.text) };
-}
-
-/// What a core sees of streams and windows.
-pub trait Shows: Sides {
-    fn client_is_open(&self) -> bool
-        requires placed { IsSomewhere (Self.placed self.now) }
-        ensures { result ≡ (Self.request self.now).is_open };
-
-    fn client_room(&self) -> usize
-        requires placed { IsSomewhere (Self.placed self.now) }
-        ensures { result ≡ (Self.request self.now).room };
-
-    fn server_is_open(&self) -> bool
-        requires placed { IsSomewhere (Self.placed self.now) }
-        ensures { result ≡ (Self.answer self.now).is_open };
-
-    fn server_room(&self) -> usize
-        requires placed { IsSomewhere (Self.placed self.now) }
-        ensures { result ≡ (Self.answer self.now).room };
-
-    /// Bytes wait for the client.
-    fn has_to_client(&self) -> bool
-        requires placed { IsSomewhere (Self.placed self.now) }
-        ensures { result ≡ not (is_empty (Self.answer self.now).window) };
-
-    /// Bytes wait for the server.
-    fn has_to_server(&self) -> bool
-        requires placed { IsSomewhere (Self.placed self.now) }
-        ensures { result ≡ not (is_empty (Self.request self.now).window) };
-
-    /// The array on which request rules run.
-    fn request_raw(&self) -> &[u8]
-        requires placed { IsSomewhere (Self.placed self.now) }
-        ensures { HoldsList result.now (Self.request self.now).list };
-}
-
-/// The texts that wait, to be read alone.
-pub trait Lends: Sides {
-    /// The bytes that wait for the client, to be read alone.
-    fn to_client(&mut self) -> &mut [u8]
-        requires placed { IsSomewhere (Self.placed self.old) }
-        ensures* back { sem 𝓛 (LendsText Self.row self.entry result Self.with_to_client) }
-        ensures value { result.now ≡ (Self.answer self.old).window };
-
-    /// The bytes that wait for the server, to be read alone.
-    fn to_server(&mut self) -> &mut [u8]
-        requires placed { IsSomewhere (Self.placed self.old) }
-        ensures* back { sem 𝓛 (LendsText Self.row self.entry result Self.with_to_server) }
-        ensures value { result.now ≡ (Self.request self.old).window };
-}
-
-/// What peers give and take.
-pub trait Peers: Sides {
-    fn take_client(&mut self, bytes: &[u8])
-        requires open { IsTrue (Self.request self.old).is_open }
-        requires room { length bytes.now ≤ (Self.request self.old).room }
-        requires placed { IsSomewhere (Self.placed self.old) }
-        ensures placed { Stay (Self.placed self.old) (Self.placed self.new) }
-        ensures leads { (cfg : Self.Settings) (p : Sided (Self.meaning cfg)) → Self.stands cfg self.old p → Self.stands cfg self.new (record p { came = gains p.came bytes.now }) }
-        ensures request { (unread : ℕ) × (Self.request self.new ≡ record (Self.request self.old) { room = (Self.request self.old).room - length bytes.now; unread = unread; at_rest = false }) }
-        ensures answer { Self.answer self.new ≡ Self.answer self.old };
-
-    fn end_client(&mut self, how: Ending)
-        requires open { IsTrue (Self.request self.old).is_open }
-        requires placed { IsSomewhere (Self.placed self.old) }
-        ensures placed { Stay (Self.placed self.old) (Self.placed self.new) }
-        ensures leads { (cfg : Self.Settings) (p : Sided (Self.meaning cfg)) → Self.stands cfg self.old p → Self.stands cfg self.new (record p { came = ends p.came how }) }
-        ensures request { Self.request self.new ≡ record (Self.request self.old) { is_open = false; at_rest = false } }
-        ensures answer { Self.answer self.new ≡ Self.answer self.old };
-
-    fn client_took(&mut self, n: usize)
-        requires within { n ≤ length (Self.answer self.old).window }
-        requires placed { IsSomewhere (Self.placed self.old) }
-        ensures placed { Stay (Self.placed self.old) (Self.placed self.new) }
-        ensures leads { (cfg : Self.Settings) (p : Sided (Self.meaning cfg)) → Self.stands cfg self.old p → Self.stands cfg self.new p }
-        ensures request { Self.request self.new ≡ Self.request self.old }
-        ensures answer { Self.answer self.new ≡ record (Self.answer self.old) { window = drop n (Self.answer self.old).window; at_rest = false } };
-
-    fn take_server(&mut self, bytes: &[u8])
-        requires open { IsTrue (Self.answer self.old).is_open }
-        requires room { length bytes.now ≤ (Self.answer self.old).room }
-        requires placed { IsSomewhere (Self.placed self.old) }
-        ensures placed { Stay (Self.placed self.old) (Self.placed self.new) }
-        ensures leads { (cfg : Self.Settings) (p : Sided (Self.meaning cfg)) → Self.stands cfg self.old p → Self.stands cfg self.new (record p { server = gains p.server bytes.now }) }
-        ensures request { Self.request self.new ≡ Self.request self.old }
-        ensures answer { Self.answer self.new ≡ record (Self.answer self.old) { room = (Self.answer self.old).room - length bytes.now; at_rest = false } };
-
-    fn end_server(&mut self, how: Ending)
-        requires open { IsTrue (Self.answer self.old).is_open }
-        requires placed { IsSomewhere (Self.placed self.old) }
-        ensures placed { Stay (Self.placed self.old) (Self.placed self.new) }
-        ensures leads { (cfg : Self.Settings) (p : Sided (Self.meaning cfg)) → Self.stands cfg self.old p → Self.stands cfg self.new (record p { server = ends p.server how }) }
-        ensures request { Self.request self.new ≡ Self.request self.old }
-        ensures answer { Self.answer self.new ≡ record (Self.answer self.old) { is_open = false; at_rest = false } };
-
-    fn server_took(&mut self, n: usize)
-        requires within { n ≤ length (Self.request self.old).window }
-        requires placed { IsSomewhere (Self.placed self.old) }
-        ensures placed { Stay (Self.placed self.old) (Self.placed self.new) }
-        ensures leads { (cfg : Self.Settings) (p : Sided (Self.meaning cfg)) → Self.stands cfg self.old p → Self.stands cfg self.new p }
-        ensures request { Self.request self.new ≡ record (Self.request self.old) { window = drop n (Self.request self.old).window; at_rest = false } }
-        ensures answer { Self.answer self.new ≡ Self.answer self.old };
-
-    /// The server takes nothing more: what stands in its window, and all that follows, is dropped. No block is left in the array on which
-    /// request rules run.
-    fn drop_request(&mut self)
-        requires waits { (Self.request self.old).window ≢ [] }
-        requires placed { IsSomewhere (Self.placed self.old) }
-        ensures placed { Stay (Self.placed self.old) (Self.placed self.new) }
-        ensures leads { (cfg : Self.Settings) (p : Sided (Self.meaning cfg)) (put : List ℕ) → Self.stands cfg self.old p → put ++ (Self.request self.old).window ≡ p.to_server → Self.stands cfg self.new (record p { to_server = put }) }
-        ensures request { Self.request self.new ≡ record (Self.request self.old) { window = []; dropped = true; at_rest = false; list = [] } }
-        ensures answer { Self.answer self.new ≡ Self.answer self.old };
-
-    /// A server is open for the request in hand.
-    fn open_server(&mut self)
-        requires placed { Self.placed self.old place.Opens }
-        ensures placed { Self.placed self.new place.Serves }
-        ensures leads { (cfg : Self.Settings) (p : Sided (Self.meaning cfg)) → Self.stands cfg self.old p → Self.stands cfg self.new (record p { server = no_stream }) }
-        ensures answers { (cfg : Self.Settings) (p : Sided (Self.meaning cfg)) → Self.stands cfg self.old p → p.to_client ≡ [] → AnswersSo (Self.meaning cfg) (Self.answer self.new) (record p { server = no_stream }) }
-        ensures request { Self.request self.new ≡ Self.request self.old }
-        ensures open { (Self.answer self.new).is_open ≡ true }
-        ensures begun { (Self.answer self.new).begun ≡ false }
-        ensures heard { (Self.answer self.new).heard ≡ false }
-        ensures window { (Self.answer self.new).window ≡ (Self.answer self.old).window };
-}
-
-/// The two directions at work, with all that a core asks of them.
-pub trait Works: Shows + Lends + Peers {
-    /// Reads the next request, runs its rules and finishes it.
-    fn ask(&mut self) -> Result<Asked, OutOfMemory>
-        requires placed { Self.placed self.old place.Reads }
-        ensures placed { IfOk result (λ asked. Self.placed self.new (place_behind asked)) }
-        ensures succeeds { (cfg : Self.Settings) (p : Sided (Self.meaning cfg)) → Self.stands cfg self.old p → Self.needs cfg ≡ false → IsOk result }
-        ensures leads { IfOk result (λ asked. (cfg : Self.Settings) (p : Sided (Self.meaning cfg)) → Self.stands cfg self.old p → AsksTo (Self.meaning cfg) (Self.stands cfg self.new) (Self.request self.new) p asked) }
-        ensures request { IfOk result (AskKeeps (Self.request self.old) (Self.request self.new)) }
-        ensures window { OnOk result ((Self.answer self.new).window ≡ (Self.answer self.old).window) }
-        ensures starts { OnOk result ((Self.answer self.new).answered ≡ false) }
-        ensures heard { OnOk result ((Self.answer self.new).heard ≡ false) };
-
-    /// Reads, filters and puts out as much of the request as there is room for, while a server is open for it.
-    fn step_request(&mut self)
-        requires placed { IsAtServer (Self.placed self.old) }
-        ensures placed { Stay (Self.placed self.old) (Self.placed self.new) }
-        ensures leads { (cfg : Self.Settings) (p : Sided (Self.meaning cfg)) → Self.stands cfg self.old p → Requests (Self.meaning cfg) (Self.request self.old) p → StepsRequest (Self.meaning cfg) (Self.stands cfg self.new) (Self.request self.old) (Self.request self.new) p }
-        ensures keeps { KeepsRequest (Self.request self.old) (Self.request self.new) }
-        ensures answer { Self.answer self.new ≡ Self.answer self.old };
-
-    /// Reads heads of the server, runs the rules on the final one, and puts out as much of the answer as there is room for.
-    fn step_answer(&mut self) -> Result<(), OutOfMemory>
-        requires placed { Self.placed self.old place.Serves }
-        ensures placed { OnOk result (Self.placed self.new place.Serves) }
-        ensures succeeds { (cfg : Self.Settings) (p : Sided (Self.meaning cfg)) → Self.stands cfg self.old p → Self.needs cfg ≡ false → IsOk result }
-        ensures leads { OnOk result ((cfg : Self.Settings) (p : Sided (Self.meaning cfg)) → Self.stands cfg self.old p → AnswersSo (Self.meaning cfg) (Self.answer self.old) p
-            → StepsAnswer (Self.meaning cfg) (Self.stands cfg self.new) (Self.answer self.old) (Self.answer self.new) p) }
-        ensures waits { OnOk result (AnswerWaits (Self.answer self.new)) }
-        ensures open { OnOk result ((Self.answer self.new).is_open ≡ (Self.answer self.old).is_open) }
-        ensures request { Self.request self.new ≡ Self.request self.old };
-
-    /// Begins the refusal of the request in hand, for which no server is open.
-    fn refuse(&mut self, code: u16) -> Result<(), OutOfMemory>
-        requires placed { Self.placed self.old place.Opens }
-        ensures placed { OnOk result (Self.placed self.new place.Says) }
-        ensures succeeds { (cfg : Self.Settings) (p : Sided (Self.meaning cfg)) → Self.stands cfg self.old p → Self.needs cfg ≡ false → IsOk result }
-        ensures leads { OnOk result ((cfg : Self.Settings) (p : Sided (Self.meaning cfg)) → Self.stands cfg self.old p → Refuses (Self.meaning cfg) (Self.stands cfg self.new) p code) }
-        ensures request { OnOk result (Self.request self.new ≡ Self.request self.old) }
-        ensures window { OnOk result ((Self.answer self.new).window ≡ (Self.answer self.old).window) }
-        ensures starts { OnOk result ((Self.answer self.new).answered ≡ false) };
-
-    /// In place of the server's answer, which hasn't begun, the client is refused behind the interim heads, each whole. No
-    /// rule runs on this refusal.
-    fn turn(&mut self, code: u16)
-        requires placed { Self.placed self.old place.Serves }
-        requires begun { (Self.answer self.old).begun ≡ false }
-        ensures placed { Self.placed self.new place.Says }
-        ensures leads { (cfg : Self.Settings) (p : Sided (Self.meaning cfg)) → Self.stands cfg self.old p → IsBefore (Self.meaning cfg) p → Turns (Self.meaning cfg) (Self.stands cfg self.new) (Self.answer self.new) p code }
-        ensures request { Self.request self.new ≡ Self.request self.old }
-        ensures window { (Self.answer self.new).window ≡ (Self.answer self.old).window }
-        ensures open { (Self.answer self.new).is_open ≡ (Self.answer self.old).is_open };
-
-    /// Puts out as much of a refusal or reply as there is room for.
-    fn say(&mut self)
-        requires placed { (at : Place) × (is_saying at ≡ true) × Self.placed self.old at }
-        ensures placed { (at : Place) → is_saying at ≡ true → Self.placed self.old at → Self.placed self.new at }
-        ensures leads { (cfg : Self.Settings) (p : Sided (Self.meaning cfg)) → Self.stands cfg self.old p → Says (Self.meaning cfg) (Self.stands cfg self.new) (Self.answer self.old) (Self.answer self.new) p }
-        ensures waits { (Self.answer self.new).answered ≡ false → (Self.answer self.new).window ≢ [] }
-        ensures open { (Self.answer self.new).is_open ≡ (Self.answer self.old).is_open }
-        ensures request { Self.request self.new ≡ Self.request self.old };
-
-    /// The next exchange begins behind a request that came whole.
-    fn next(&mut self)
-        requires placed { Self.placed self.old place.Serves }
-        requires answered { (Self.answer self.old).answered ≡ true }
-        ensures placed { Self.placed self.new place.Reads }
-        ensures leads { (cfg : Self.Settings) (p : Sided (Self.meaning cfg)) → Self.stands cfg self.old p → Requests (Self.meaning cfg) (Self.request self.old) p → (Self.request self.old).source ≡ Source.Whole → (Self.request self.old).sent ≡ true
-            → Renews (Self.meaning cfg) (Self.stands cfg self.new) (Self.request self.old) p }
-        ensures request { (Self.request self.new).is_open ≡ (Self.request self.old).is_open }
-        ensures window { (Self.request self.new).window ≡ [] }
-        ensures unread { (Self.request self.new).unread ≤ (Self.request self.old).unread }
-        ensures answer { (Self.answer self.new).window ≡ (Self.answer self.old).window };
-
-    /// The next exchange begins behind a request that was replied to.
-    fn next_replied(&mut self)
-        requires placed { Self.placed self.old place.Replies }
-        requires answered { (Self.answer self.old).answered ≡ true }
-        ensures placed { Self.placed self.new place.Reads }
-        ensures leads { (cfg : Self.Settings) (p : Sided (Self.meaning cfg)) → Self.stands cfg self.old p → RenewsReplied (Self.meaning cfg) (Self.stands cfg self.new) p }
-        ensures request { (Self.request self.new).is_open ≡ (Self.request self.old).is_open }
-        ensures window { (Self.request self.new).window ≡ [] }
-        ensures unread { (Self.request self.new).unread ≤ (Self.request self.old).unread }
-        ensures answer { (Self.answer self.new).window ≡ (Self.answer self.old).window };
 }
 
 /// Two directions that can begin again in the same memory.

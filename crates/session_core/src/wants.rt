@@ -6,8 +6,8 @@ ghost use Rattle.session_core.specs.Place.{IsPlaced, IsSomewhere};
 
 use crate::machine::{Core, Wants};
 use crate::sides::Works;
-use crate::{Phase, Source, Told};
-use http_model::{Close, End};
+use crate::{Phase, Told};
+use http_model::{Close, End, Source};
 
 impl<S: Works> Core<S> {
     /// Both directions of the open server have ended.

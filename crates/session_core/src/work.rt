@@ -6,10 +6,10 @@ ghost use Rattle.session_core.specs.Waits.{wants_of, wants_any, is_serving, Requ
 ghost use Rattle.session_core.specs.Leads.{Stands, Leads, Keeps, IsNote, Meets};
 ghost use Rattle.session_core.specs.Place.{IsPlaced, IsSomewhere};
 
+use crate::Phase;
 use crate::machine::Core;
 use crate::sides::Works;
-use crate::{Phase, Source};
-use http_model::OutOfMemory;
+use http_model::{OutOfMemory, Source};
 
 impl<S: Works> Core<S> {
     /// Does all that can be done without another event.

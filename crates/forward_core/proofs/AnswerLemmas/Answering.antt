@@ -27,8 +27,8 @@ use Rattle.session_core.specs.Splits.{Splits}
 use Rattle.session_core.proofs.PublicLaws.{split_past, answers_open, answers_last, interims_so, body_is_last}
 use Rattle.lane.specs.Direction.Promise.{Promise}
 use Rattle.lane.specs.Direction.Sends.{Past, Stands}
-use Rattle.lane.specs.declared.direction.stage.Source.{Source}
-use Rattle.lane.specs.declared.direction.stage.Source.TheVariants as source
+use Rattle.http_model.specs.declared.Source.{Source}
+use Rattle.http_model.specs.declared.Source.TheVariants as source
 use Rattle.lane.specs.Answering.{Exchange, BeginsWithInterim, Last, Answers, AnswersAt, AnswersLast, AnswerPromise, IsLast, HeadsCame, Reads, NotYet, Serves, Replies, phase_of, has_begun, stage_of, source_of, shows_last}
 use Rattle.lane.specs.declared.phase.Phase.{Phase}
 use Rattle.lane.specs.declared.phase.Phase.TheVariants as phase

@@ -32,8 +32,8 @@ use Rattle.lane.specs.Direction.Sent.{Sent, SpellsAs, IsFrontOf, is_whole, trail
 use Rattle.lane.specs.Direction.Sends.{Past, put_out}
 use Rattle.lane.specs.Direction.Promise.{Promise, BodyTaken, GoesOnWith, ends_as, filter_of, finish_of, IsCutWith, IsWholeWith}
 use Rattle.lane.specs.declared.direction.lane.Lane.{Lane}
-use Rattle.lane.specs.declared.direction.stage.Source.{Source}
-use Rattle.lane.specs.declared.direction.stage.Source.TheVariants as source
+use Rattle.http_model.specs.declared.Source.{Source}
+use Rattle.http_model.specs.declared.Source.TheVariants as source
 use Rattle.lane.specs.declared.direction.stage.Stage.TheVariants as stage
 use Rattle.lane.specs.declared.direction.stage.Stage.{Stage}
 use Rattle.forward_core.specs.Answer.Seen.{told_by, is_done}

@@ -13,7 +13,7 @@ use Rattle.session_model.specs.Amending.{reply_sent, behind_reply}
 use Rattle.session_model.specs.Answering.{Replies}
 use Rattle.session_model.specs.Session.{SpellsFinal}
 use Rattle.session_core.specs.Sided.{ToldIs}
-use Rattle.lane.specs.declared.direction.stage.Source.TheVariants as source
+use Rattle.http_model.specs.declared.Source.TheVariants as source
 use Rattle.lane.specs.Answering.{IsSoundAnswer, ended_of, limits_of, phase_of, source_of, output_of, shows_last}
 use Rattle.forward_core.specs.Answer.Seen.{window_size_of, is_last}
 use Rattle.forward_core.specs.Answer.Stands.{FitsAt}

@@ -9,8 +9,8 @@ use Rattle.session_core.specs.History.{Coming}
 use Rattle.session_core.specs.declared.Told.TheVariants as told
 use Rattle.session_core.specs.Sided.{Saying}
 use Rattle.lane.specs.declared.direction.stage.Stage.{Stage}
-use Rattle.lane.specs.declared.direction.stage.Source.{Source}
-use Rattle.lane.specs.declared.direction.stage.Source.TheVariants as source
+use Rattle.http_model.specs.declared.Source.{Source}
+use Rattle.http_model.specs.declared.Source.TheVariants as source
 use Rattle.lane.specs.Answering.{Exchange, Answers, MayGoOn, with_put, ended_of, phase_of, source_of, output_of, shows_last}
 use Rattle.lane.specs.declared.response_lane.ResponseLane.{ResponseLane}
 use Rattle.forward_core.specs.Answer.Seen.{told_at, answered_at, is_done, is_last, told_by, seen}

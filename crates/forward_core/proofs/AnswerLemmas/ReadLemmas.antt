@@ -13,7 +13,7 @@ use Rattle.session_core.specs.History.{Coming}
 use Rattle.session_core.specs.Sided.{Asking, asker_in, Saying}
 use Rattle.lane.specs.declared.direction.stage.Stage.{Stage}
 use Rattle.lane.specs.declared.direction.stage.Stage.TheVariants as stage
-use Rattle.lane.specs.declared.direction.stage.Source.TheVariants as source
+use Rattle.http_model.specs.declared.Source.TheVariants as source
 use Rattle.lane.specs.Answering.{Exchange, Answers, HasFilters, IsSoundAnswer, IsSoundAt, IsAmongHeads, MayGoOn, NotYet, ended_of, limits_of, phase_of, stage_of, source_of, shows_last, output_of, framing_of, declared_of, passes, drops, with_put}
 use Rattle.lane.specs.declared.phase.Phase.{Phase}
 use Rattle.lane.specs.declared.phase.Phase.TheVariants as phase

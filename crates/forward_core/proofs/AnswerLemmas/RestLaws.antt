@@ -25,8 +25,8 @@ use Rattle.session_model.specs.Session.{interim_text}
 use Rattle.session_core.specs.History.{Coming}
 use Rattle.session_core.specs.Sided.{Asking, asker_in, Saying}
 use Rattle.session_core.specs.declared.Told.TheVariants as told
-use Rattle.lane.specs.declared.direction.stage.Source.{Source}
-use Rattle.lane.specs.declared.direction.stage.Source.TheVariants as source
+use Rattle.http_model.specs.declared.Source.{Source}
+use Rattle.http_model.specs.declared.Source.TheVariants as source
 use Rattle.lane.specs.declared.direction.stage.Stage.TheVariants as stage
 use Rattle.lane.specs.Answering.{BeginsWithInterim, Exchange, Answers, AnswersAt, AnswerPromise, Serves, HeadsCame, Reads, SameLines, IsSoundAnswer, HoldsNothingBack, phase_of, source_of, stage_of, output_of, input_of, has_begun, shows_last, limits_of}
 use Rattle.lane.specs.Resting.{IsAllServed}

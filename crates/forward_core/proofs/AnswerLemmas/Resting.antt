@@ -5,8 +5,8 @@ use Rattle.http_rules.specs.declared.config.Config.{Config}
 use Rattle.session_model.specs.Asking.{Asker}
 use Rattle.session_core.specs.History.{Coming}
 use Rattle.session_core.specs.Sided.{Saying}
-use Rattle.lane.specs.declared.direction.stage.Source.{Source}
-use Rattle.lane.specs.declared.direction.stage.Source.TheVariants as source
+use Rattle.http_model.specs.declared.Source.{Source}
+use Rattle.http_model.specs.declared.Source.TheVariants as source
 use Rattle.lane.specs.declared.direction.stage.Stage.TheVariants as stage
 use Rattle.lane.specs.Answering.{HoldsNothingBack, MayGoOn, phase_of, source_of, stage_of, output_of}
 use Rattle.lane.specs.declared.phase.Phase.TheVariants as phase

@@ -12,7 +12,7 @@ use Rattle.session_core.specs.History.{Coming}
 use Rattle.session_core.specs.Sided.{BeginsAlways, Saying, unsaid}
 use Rattle.lane.specs.declared.direction.stage.Stage.{Stage}
 use Rattle.lane.specs.declared.direction.stage.Stage.TheVariants as stage
-use Rattle.lane.specs.declared.direction.stage.Source.TheVariants as source
+use Rattle.http_model.specs.declared.Source.TheVariants as source
 use Rattle.lane.specs.Answering.{Exchange, Answers, AnswersAt, AnswerPromise, HasBegun, MayGoOn, replies, with_put, has_begun, phase_of, stage_of, source_of, output_of, shows_last}
 use Rattle.lane.specs.declared.phase.Phase.{Phase}
 use Rattle.lane.specs.declared.phase.Phase.TheVariants as phase

@@ -10,7 +10,6 @@ use Rattle.session_core.specs.Leads.{AsksTo, AskUses}
 use Rattle.session_core.specs.declared.sides.Asked.{Asked}
 use Rattle.session_core.specs.declared.sides.Asked.TheVariants as asks
 use Rattle.lane.specs.declared.direction.stage.LaneHead.TheVariants as says
-use Rattle.lane.specs.Asking.{input_of}
 use Rattle.forward_core.specs.Request.Reads.{HeadTells, HeadComes, UsesBytes}
 use Rattle.forward_core.specs.Request.Seen as requests
 use Rattle.forward_core.specs.Request.Seen.{list_of, unread_at}
@@ -43,7 +42,7 @@ placed_behind old new asks was leads is_at =
 
 -- while a head is to be read, all that came is unread
 unread_reading : (side : RequestSide) → requests.place_of side ≡ read.Reading → requests.unread_of side ≡ requests.input_size_of side
-unread_reading side e = ap (λ (x : Read). unread_at x (input_of side.lane)) e
+unread_reading side e = ap (λ (x : Read). unread_at x side.lane.input.items) e
 
 uses_less : (old new : RequestSeen) (asks : Asked) → UsesLess new.unread old.unread asks → AskUses old new asks
 uses_less old new asks.More h = tt
@@ -115,7 +114,7 @@ pub asks_refused : (d : Directions) (r : RequestSide) (new : Directions) (code :
     → requests.window_size_of r ≡ requests.window_size_of d.request → HeadTells d.request r (says.Refuse code) → UsesBytes d.request r (says.Refuse code) → RefusesSo (record d { request = r }) new code [] false → AsksSo d new asks.Refuse
 asks_refused d r new code was is_open window size tells uses refuses =
     let goes : GoesOn (record d { request = r }) new asks.Refuse = refusal_goes (record d { request = r }) new code [] false tells.place refuses in
-    let none : (request_of new).unread ≡ 0 = ap (λ (x : RequestSide). requests.unread_of x) refuses.request ∙ ap (λ (x : Read). unread_at x (input_of r.lane)) tells.place in
+    let none : (request_of new).unread ≡ 0 = ap (λ (x : RequestSide). requests.unread_of x) refuses.request ∙ ap (λ (x : Read). unread_at x r.lane.input.items) tells.place in
     let some : requests.unread_of d.request ≡ requests.input_size_of d.request = unread_reading d.request was.is_at.stand.0 in
     let less : (request_of new).unread < requests.unread_of d.request = subst (λ (n : ℕ). n < requests.unread_of d.request) (sym none) (subst (λ (n : ℕ). 0 < n) (sym some) uses) in
     record {

@@ -15,8 +15,7 @@ use Rattle.http_rules.specs.Run.{IsHead}
 use Rattle.session_core.specs.History.{Coming}
 use Rattle.session_core.specs.Place as at
 use Rattle.session_core.specs.Sided.{Asking, Reply, RequestSeen, asker_in, Saying}
-use Rattle.session_core.specs.declared.Source.TheVariants as source
-use Rattle.lane.specs.Asking.{array_of}
+use Rattle.http_model.specs.declared.Source.TheVariants as source
 use Rattle.forward_core.specs.declared.request.kept.Kept.{Kept}
 use Rattle.forward_core.specs.Request.Reads.{HasHead, SendsOn}
 use Rattle.forward_core.specs.Request.Stands.{IsSound, RequestStands}
@@ -75,7 +74,7 @@ finishes laws r was msg framing idle has blocks size same finished fits =
     }
 
 -- it doesn't
-pub finishes_not : (laws : AreEdits) (r : RequestSide) (was msg : Contents) (framing : Framing) → requests.place_of r ≡ asked.Idle → HasHead r → was ≡ array_of r.lane → msg ≡ was
+pub finishes_not : (laws : AreEdits) (r : RequestSide) (was msg : Contents) (framing : Framing) → requests.place_of r ≡ asked.Idle → HasHead r → was ≡ r.lane.msg → msg ≡ was
     → ((head : Head) → was.blocks ≡ head_blocks head → (false ≡ true) ↔ (load (head_blocks (finish_request head framing)) ≤ was.size))
     → FinishesHead r (with_head r msg) framing false
 finishes_not laws r was msg framing idle has is same fits =

@@ -13,12 +13,11 @@ use Rattle.session_core.specs.Stands.{Serves as ServesSo}
 use Rattle.session_core.specs.Waits.{Settled, RequestWaits, AnswerWaitsAt, is_turned}
 use Rattle.session_core.specs.declared.Phase.{Phase}
 use Rattle.session_core.specs.declared.Phase.TheVariants as phase
-use Rattle.session_core.specs.declared.Source.{Source}
-use Rattle.session_core.specs.declared.Source.TheVariants as source
+use Rattle.http_model.specs.declared.Source.{Source}
+use Rattle.http_model.specs.declared.Source.TheVariants as source
 use Rattle.session_core.specs.declared.Told.TheVariants as told
 use Rattle.session_core.specs.declared.machine.At.{At}
 use Rattle.lane.specs.Answering.{source_of, has_begun}
-use Rattle.lane.specs.declared.direction.stage.Source.{Source as LaneSource}
 use Rattle.forward_core.specs.Request.Shown.{ShowsNoCut, PutsAll, NoHeadCame}
 use Rattle.forward_core.specs.Answer.Resting.{AwaitsHead, PutsOutBody}
 use Rattle.forward_core.specs.Answer.Seen.{seen, told_at, place_of}
@@ -143,7 +142,7 @@ answered_so_far cfg size d at past s puts =
     }
 
 -- a response goes out
-response_at : (pl : Answered) (side : AnswerSide) (body : LaneSource) → FitsAt pl side → is_serving pl ≡ true → told_at pl body ≡ told.Going → has_begun side.lane ≡ true → pl ≡ answered.Response
+response_at : (pl : Answered) (side : AnswerSide) (body : Source) → FitsAt pl side → is_serving pl ≡ true → told_at pl body ≡ told.Going → has_begun side.lane ≡ true → pl ≡ answered.Response
 response_at answered.Idle side body fits serves tells begun = absurd (let e : false ≡ true = serves in cc e)
 response_at answered.Heads side body fits serves tells begun = absurd (let e : false ≡ true = sym fits.0 ∙ begun in cc e)
 response_at answered.Response side body fits serves tells begun = refl

@@ -28,7 +28,6 @@ use Rattle.session_core.specs.declared.sides.Asked.{Asked}
 use Rattle.session_core.specs.declared.sides.Asked.TheVariants as asks
 use Rattle.forward_core.specs.Rules.Ruling.{config_of, IsReady, HasReply}
 use Rattle.forward_core.specs.declared.rules.rules.SessionRules.{SessionRules}
-use Rattle.lane.specs.Asking.{array_of}
 use Rattle.forward_core.specs.declared.request.kept.Kept.{Kept}
 use Rattle.forward_core.specs.Request.Kept.{IsKept}
 use Rattle.forward_core.specs.Request.Reads.{Holds}
@@ -114,7 +113,7 @@ rules_ran d r rules method verdict stays none read head edits ready config cap a
     }
 
 -- on the array that the request direction lends
-pub rules_ran_on : (laws : AreEdits) (d : Directions) (was ran msg : Contents) (rules : SessionRules) (method : Buffer) (verdict : Verdict) → BodyStays → NoTrailers → HasRead d → IsHead (list_of d.request) → was ≡ array_of d.request.lane
+pub rules_ran_on : (laws : AreEdits) (d : Directions) (was ran msg : Contents) (rules : SessionRules) (method : Buffer) (verdict : Verdict) → BodyStays → NoTrailers → HasRead d → IsHead (list_of d.request) → was ≡ d.request.lane.msg
     → ran.size ≡ was.size → msg ≡ ran → IsReady rules → config_of rules ≡ config_of d.rules → method.cap ≡ d.method.cap → method.bytes ≡ method_at msg.blocks
     → ((head : Head) → was.blocks ≡ head_blocks head
     → Leaves sides.Request ((meaning_of (settings_of d)).request_rules (request_env d.rules.vars head)) verdict ran.blocks rules.vars rules.said.blocks)
@@ -127,7 +126,7 @@ rules_ran_on laws d was ran msg rules method verdict stays none read head lent s
     rules_ran d (with_head d.request msg) rules method verdict stays none read head (edits_head laws d msg read sized) ready config cap asks each
 
 -- and the method fits its buffer
-pub method_room : (laws : AreEdits) (d : Directions) (was ran msg : Contents) → HasRead d → was ≡ array_of d.request.lane → ran.size ≡ was.size → msg ≡ ran → msg.size ≤ d.method.cap
+pub method_room : (laws : AreEdits) (d : Directions) (was ran msg : Contents) → HasRead d → was ≡ d.request.lane.msg → ran.size ≡ was.size → msg ≡ ran → msg.size ≤ d.method.cap
 method_room laws d was ran msg read lent size same =
     let sized : msg.size ≡ (settings_of d).limits.bufsize = ap (λ (x : Contents). x.size) same ∙ (size ∙ (ap (λ (x : Contents). x.size) lent ∙ array_sized laws d read)) in
     let held : d.method.cap ≡ (settings_of d).limits.bufsize = read.still.sound.method in

@@ -17,7 +17,6 @@ use Rattle.session_core.specs.Leads.{AsksRefusal}
 use Rattle.session_core.specs.declared.sides.Asked.TheVariants as asks
 use Rattle.forward_core.specs.Rules.Ruling.{config_of, IsReady}
 use Rattle.forward_core.specs.declared.rules.rules.SessionRules.{SessionRules}
-use Rattle.lane.specs.Asking.{input_of}
 use Rattle.forward_core.specs.declared.request.kept.Kept.{Kept}
 use Rattle.forward_core.specs.Request.Seen as requests
 use Rattle.forward_core.specs.Request.Seen.{unread_at}
@@ -114,7 +113,7 @@ refusal_goes old new code method no_body idle r =
       is_open = ap (λ (x : RequestSide). requests.is_open x) r.request;
       window = ap (λ (x : RequestSide). requests.window_of x) r.request;
       waits = tt;
-      less = λ before h. subst (λ (x : RequestSide). requests.unread_of x < before) (sym r.request) (less_unread old.request.place (input_of old.request.lane) before idle h);
+      less = λ before h. subst (λ (x : RequestSide). requests.unread_of x < before) (sym r.request) (less_unread old.request.place old.request.lane.input.items before idle h);
       answer = r.window;
       starts = r.starts;
       heard = r.heard;

@@ -35,7 +35,6 @@ use Rattle.forward_core.specs.Request.Stands.{IsSound, RequestStands, left_of}
 use Rattle.forward_core.specs.declared.request.place.Place.{Place as Asked}
 use Rattle.forward_core.specs.declared.request.place.Place.TheVariants as asked
 use Rattle.forward_core.specs.declared.request.side.RequestSide.{RequestSide}
-use Rattle.lane.specs.Asking.{input_of}
 use Rattle.forward_core.specs.Answer.Listed.{IsListed, IsSentAsItIs}
 use Rattle.forward_core.specs.Answer.Seen as answers
 use Rattle.forward_core.specs.Answer.Stands.{AnswerStands, StandsAt}
@@ -165,7 +164,7 @@ reply_goes d a rules r going read s sound limits size place is_open window input
       is_open = is_open;
       window = window;
       waits = tt;
-      less = λ before h. less_replied (requests.place_of r) (input_of r.lane) before place (subst (λ (n : ℕ). n < before) (sym input) h);
+      less = λ before h. less_replied (requests.place_of r) r.lane.input.items before place (subst (λ (n : ℕ). n < before) (sym input) h);
       answer = s.window;
       starts = s.starts;
       heard = s.heard;

@@ -18,8 +18,8 @@ use Rattle.session_model.specs.Meaning.{Meaning, declares_too_much}
 use Rattle.session_model.specs.Asking.{Sends, Asks, request_fits}
 use Rattle.session_core.specs.Sided.{Sided, AnswerSeen, Asking, asker_in, forwarded_to, IsUncut, IsSettled}
 use Rattle.session_core.specs.Leads.{AsksServer}
-use Rattle.session_core.specs.declared.Source.{Source}
-use Rattle.session_core.specs.declared.Source.TheVariants as source
+use Rattle.http_model.specs.declared.Source.{Source}
+use Rattle.http_model.specs.declared.Source.TheVariants as source
 use Rattle.session_core.specs.declared.sides.Asked.TheVariants as asks
 use Rattle.forward_core.specs.Rules.Ruling.{config_of}
 use Rattle.forward_core.specs.declared.rules.rules.SessionRules.{SessionRules}

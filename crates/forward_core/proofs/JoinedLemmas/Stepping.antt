@@ -7,14 +7,11 @@ use Rattle.session_model.specs.Stream.{Stream}
 use Rattle.session_model.specs.Meaning.{Meaning}
 use Rattle.session_core.specs.History.{Coming, Continues}
 use Rattle.session_core.specs.Sided.{Sided, Asking, Reply, RequestGoes, Requests}
-use Rattle.session_core.specs.declared.Source.{Source}
-use Rattle.session_core.specs.declared.Source.TheVariants as source
-use Rattle.lane.specs.Asking.{stage_of, output_of, is_dropping}
-use Rattle.lane.specs.Asking as lanes
+use Rattle.http_model.specs.declared.Source.{Source}
+use Rattle.http_model.specs.declared.Source.TheVariants as source
 use Rattle.lane.specs.Direction.Sends.{Past}
 use Rattle.lane.specs.declared.direction.stage.Stage.{Stage}
-use Rattle.lane.specs.declared.direction.stage.Source.{Source as LaneSource}
-use Rattle.lane.specs.declared.request_lane.RequestLane.{RequestLane}
+use Rattle.lane.specs.Direction.State.{LaneState}
 use Rattle.forward_core.specs.Request.Seen as requests
 use Rattle.forward_core.specs.Request.Seen.{source_at, sent_at, window_of}
 use Rattle.forward_core.specs.Request.Stands.{IsSound, SoundAt, RequestStands, StandsAt, HasPut}
@@ -24,7 +21,7 @@ use Rattle.forward_core.specs.declared.request.place.Place.TheVariants as asked
 use Rattle.forward_core.specs.declared.request.side.RequestSide.{RequestSide}
 
 -- where no request goes out, what is seen of it doesn't hang on its lane, and nothing is put out
-still_source : (pl : Asked) (x y : LaneSource) → pl ≢ asked.Sending → source_at pl x ≡ source_at pl y
+still_source : (pl : Asked) (x y : Source) → pl ≢ asked.Sending → source_at pl x ≡ source_at pl y
 still_source asked.Reading x y idle = refl
 still_source asked.Sending x y idle = absurd (idle refl)
 still_source asked.Idle x y idle = refl
@@ -36,7 +33,7 @@ still_sent asked.Sending x y idle = absurd (idle refl)
 still_sent asked.Idle x y idle = refl
 still_sent asked.Replied x y idle = refl
 
-still_window : (pl : Asked) (lane : RequestLane) → SoundAt pl lane → pl ≢ asked.Sending → output_of lane ≡ []
+still_window : (pl : Asked) (lane : LaneState) → SoundAt pl lane → pl ≢ asked.Sending → lane.output.items ≡ []
 still_window asked.Reading lane h idle = h.1
 still_window asked.Sending lane h idle = absurd (idle refl)
 still_window asked.Idle lane h idle = h
@@ -60,7 +57,7 @@ requests_same M p so so' sent sent' dropped dropped' put put' a b c d h =
 
 -- a step leaves what was put out a front of the request
 pub requests_on : (cfg : Config) (old new : RequestSide) (p : Sided (meaning_of cfg)) (put : List ℕ) → IsSound old → IsSound new → requests.place_of new ≡ requests.place_of old
-    → is_dropping new.lane ≡ is_dropping old.lane → window_of new ≡ window_of old ++ put
+    → new.lane.dropped ≡ old.lane.dropped → window_of new ≡ window_of old ++ put
     → (requests.place_of new ≡ asked.Sending → RequestsSo cfg new p.vars p.came p.asking (p.to_server ++ put))
     → Requests (meaning_of cfg) (requests.seen old) p → (at : (requests.place_of new ≡ asked.Sending) ⊎ (requests.place_of new ≢ asked.Sending))
     → Requests (meaning_of cfg) (requests.seen new) (record p { to_server = p.to_server ++ put })
@@ -68,10 +65,10 @@ requests_on cfg old new p put s t place drops w law was (inl sends) = law sends
 requests_on cfg old new p put s t place drops w law was (inr idle) =
     let idle_old = λ (e : requests.place_of old ≡ asked.Sending). idle (place ∙ e) in
     let none : put ≡ [] = none_put (window_of old) (window_of new) put w (still_window old.place old.lane s.at idle_old) (still_window new.place new.lane t.at idle) in
-    requests_same (meaning_of cfg) p (requests.source_of old) (requests.source_of new) (sent_at old.place (stage_of old.lane)) (sent_at new.place (stage_of new.lane))
-    (is_dropping old.lane) (is_dropping new.lane) p.to_server (p.to_server ++ put)
-    (ap (λ (x : Asked). source_at x (lanes.source_of new.lane)) place ∙ still_source old.place (lanes.source_of new.lane) (lanes.source_of old.lane) idle_old)
-    (ap (λ (x : Asked). sent_at x (stage_of new.lane)) place ∙ still_sent old.place (stage_of new.lane) (stage_of old.lane) idle_old)
+    requests_same (meaning_of cfg) p (requests.source_of old) (requests.source_of new) (sent_at old.place old.lane.stage) (sent_at new.place new.lane.stage)
+    old.lane.dropped new.lane.dropped p.to_server (p.to_server ++ put)
+    (ap (λ (x : Asked). source_at x new.lane.source) place ∙ still_source old.place new.lane.source old.lane.source idle_old)
+    (ap (λ (x : Asked). sent_at x new.lane.stage) place ∙ still_sent old.place new.lane.stage old.lane.stage idle_old)
     drops
     (ap (λ (xs : List ℕ). p.to_server ++ xs) none ∙ append-nil p.to_server)
     was
@@ -84,15 +81,15 @@ sends_or_not asked.Replied = inr (λ (e : asked.Replied ≡ asked.Sending). cc e
 
 -- ---- what is dropped
 
-put_by : (b : Bool) (lane : RequestLane) (past : Past) (to_server : List ℕ) → (b ≡ true → output_of lane ≡ []) → output_of lane ≢ [] → HasPut b lane past to_server
-    → (put : List ℕ) × (put ++ output_of lane ≡ to_server)
+put_by : (b : Bool) (lane : LaneState) (past : Past) (to_server : List ℕ) → (b ≡ true → lane.output.items ≡ []) → lane.output.items ≢ [] → HasPut b lane past to_server
+    → (put : List ℕ) × (put ++ lane.output.items ≡ to_server)
 put_by false lane past to_server drops some h = (past.took, sym h)
 put_by true lane past to_server drops some h = absurd (some (drops refl))
 
-put_at : (pl : Asked) (cfg : Config) (lane : RequestLane) (vars : Variables) (came : Coming) (asking : Asking Variables) (to_server : List ℕ) (reply : Reply Variables)
-    → SoundAt pl lane → output_of lane ≢ [] → StandsAt pl cfg lane vars came asking to_server reply → (put : List ℕ) × (put ++ output_of lane ≡ to_server)
+put_at : (pl : Asked) (cfg : Config) (lane : LaneState) (vars : Variables) (came : Coming) (asking : Asking Variables) (to_server : List ℕ) (reply : Reply Variables)
+    → SoundAt pl lane → lane.output.items ≢ [] → StandsAt pl cfg lane vars came asking to_server reply → (put : List ℕ) × (put ++ lane.output.items ≡ to_server)
 put_at asked.Reading cfg lane vars came asking to_server reply s some h = absurd (some s.1)
-put_at asked.Sending cfg lane vars came asking to_server reply s some h = put_by (is_dropping lane) lane h.past to_server s.drops some h.put
+put_at asked.Sending cfg lane vars came asking to_server reply s some h = put_by lane.dropped lane h.past to_server s.drops some h.put
 put_at asked.Idle cfg lane vars came asking to_server reply s some h = absurd (some s)
 put_at asked.Replied cfg lane vars came asking to_server reply s some h = absurd (some s)
 

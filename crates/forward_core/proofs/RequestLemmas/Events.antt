@@ -15,11 +15,12 @@ use Rattle.http_rules.specs.declared.config.Config.{Config}
 use Rattle.forward_core.specs.Meaning.Product.{meaning_of}
 use Rattle.h1_head.specs.Stream.{behind}
 use Rattle.h1_body.specs.BodyOf.{BodyRead}
+use Rattle.body_filter.specs.declared.filter_spec.FilterSpec.{FilterSpec}
+use Rattle.lane.specs.Direction.Filtering.{AreThese}
 use Rattle.lane.specs.Direction.Sent.{IsFrontOf}
-use Rattle.lane.specs.Direction.Sends.{Past, put_out}
+use Rattle.lane.specs.Direction.Sends.{Past, put_out, Stands}
 use Rattle.lane.specs.Direction.Promise.{Promise, OnEachBody, body_sent, finish_of}
-use Rattle.lane.specs.Asking.{input_of, ended_of, output_of, is_dropping, limits_of, HasFilters, Sends}
-use Rattle.lane.specs.declared.request_lane.RequestLane.{RequestLane}
+use Rattle.lane.specs.Direction.State.{LaneState}
 use Rattle.forward_core.specs.declared.request.place.Place.{Place}
 use Rattle.forward_core.specs.declared.request.place.Place.TheVariants as place
 use Rattle.forward_core.specs.Request.Stands.{SoundAt, IsFor, coming, ReadsOn, Lacks, HasPut, GoesOut, IsReplied, StandsAt}
@@ -42,52 +43,55 @@ ends_is : (came left : Coming) (used : List ℕ) (how : Ending) → came ≡ pre
 ends_is came left used how e = ap (λ (c : Coming). ends c how) e
 
 -- the same bytes, with the ending of another lane
-same_coming : (old new : RequestLane) (bytes : List ℕ) → ended_of new ≡ ended_of old → coming new bytes ≡ coming old bytes
+same_coming : (old new : LaneState) (bytes : List ℕ) → new.ended ≡ old.ended → coming new bytes ≡ coming old bytes
 same_coming old new bytes e = ap (λ (o : Option Ending). let c : Coming = record { bytes = bytes; ending = o } in c) e
 
 -- ---- what a call keeps
 
-pub record Same (old new : RequestLane) : Type 0 where
-  pub limits : limits_of new ≡ limits_of old
-  pub filters : (cfg : Config) → HasFilters old cfg.req_filters → HasFilters new cfg.req_filters
+pub record Same (old new : LaneState) : Type 0 where
+  pub limits : new.limits ≡ old.limits
+  pub filters : (filters : List FilterSpec) → AreThese old.sieve filters → AreThese new.sieve filters
 
-pub for_same : (cfg : Config) (old new : RequestLane) → Same old new → IsFor cfg old → IsFor cfg new
-for_same cfg old new s h = record { limits = s.limits ∙ h.limits; filters = s.filters cfg h.filters }
+pub same_by : (old new : LaneState) → new.limits ≡ old.limits → new.sieve ≡ old.sieve → Same old new
+same_by old new limits sieve = record { limits = limits; filters = λ filters has. subst (λ (s : Option Sieve). AreThese s filters) (sym sieve) has }
+
+pub for_same : (cfg : Config) (old new : LaneState) → Same old new → IsFor cfg old → IsFor cfg new
+for_same cfg old new s h = record { limits = s.limits ∙ h.limits; filters = s.filters cfg.req_filters h.filters }
 
 -- what a server lacks, by a call that keeps the past but for what came
-lacks_as : (old new : RequestLane) (p q : Past) → q ≡ record p { bytes = q.bytes } → ((P : BodyRead → Type 0) → OnEachBody old.lane p P → OnEachBody new.lane q P) → Lacks old p → Lacks new q
+lacks_as : (old new : LaneState) (p q : Past) → q ≡ record p { bytes = q.bytes } → ((P : BodyRead → Type 0) → OnEachBody old p P → OnEachBody new q P) → Lacks old p → Lacks new q
 lacks_as old new p q e each h =
     let P : Past → BodyRead → Type 0 = λ x read. IsFrontOf x.sent (body_sent x read) (finish_of x.filters read) (x.took ++ h.text) in
-    record { text = h.text; some = h.some; front = subst (λ (x : Past). OnEachBody new.lane q (P x)) (sym e) (each (P p) h.front) }
+    record { text = h.text; some = h.some; front = subst (λ (x : Past). OnEachBody new q (P x)) (sym e) (each (P p) h.front) }
 
 -- ---- bytes of the client
 
-pub record Takes (old new : RequestLane) (bytes : List ℕ) : Type 0 where
+pub record Takes (old new : LaneState) (bytes : List ℕ) : Type 0 where
   pub same : Same old new
-  pub open_ : ended_of old ≡ None
-  pub still : ended_of new ≡ None
-  pub input : input_of new ≡ input_of old ++ bytes
-  pub output : output_of new ≡ output_of old
-  pub dropped : is_dropping new ≡ is_dropping old
-  pub sends : (p : Past) → Sends old p → Sends new (record p { bytes = p.bytes ++ bytes })
+  pub open_ : old.ended ≡ None
+  pub still : new.ended ≡ None
+  pub input : new.input.items ≡ old.input.items ++ bytes
+  pub output : new.output.items ≡ old.output.items
+  pub dropped : new.dropped ≡ old.dropped
+  pub sends : (p : Past) → Stands old p → Stands new (record p { bytes = p.bytes ++ bytes })
 
-takes_coming : (old new : RequestLane) (bytes so_far : List ℕ) → Takes old new bytes → gains (coming old so_far) bytes ≡ coming new (so_far ++ bytes)
+takes_coming : (old new : LaneState) (bytes so_far : List ℕ) → Takes old new bytes → gains (coming old so_far) bytes ≡ coming new (so_far ++ bytes)
 takes_coming old new bytes so_far t = ap (λ (o : Option Ending). let c : Coming = record { bytes = so_far ++ bytes; ending = o } in c) (t.open_ ∙ sym t.still)
 
-takes_narrows : (old new : RequestLane) (bytes so_far : List ℕ) → Takes old new bytes → (rest : Stream) → Continues (coming new (so_far ++ bytes)) rest → Continues (coming old so_far) rest
+takes_narrows : (old new : LaneState) (bytes so_far : List ℕ) → Takes old new bytes → (rest : Stream) → Continues (coming new (so_far ++ bytes)) rest → Continues (coming old so_far) rest
 takes_narrows old new bytes so_far t rest c =
     continues_gains (coming old so_far) bytes rest t.open_ (subst (λ (x : Coming). Continues x rest) (sym (takes_coming old new bytes so_far t)) c)
 
-takes_put : (d : Bool) (old new : RequestLane) (bytes : List ℕ) (p : Past) (to_server : List ℕ) → Takes old new bytes → HasPut d old p to_server → HasPut d new (record p { bytes = p.bytes ++ bytes }) to_server
+takes_put : (d : Bool) (old new : LaneState) (bytes : List ℕ) (p : Past) (to_server : List ℕ) → Takes old new bytes → HasPut d old p to_server → HasPut d new (record p { bytes = p.bytes ++ bytes }) to_server
 takes_put false old new bytes p to_server t h = h ∙ ap (λ (w : List ℕ). p.took ++ w) (sym t.output)
 takes_put true old new bytes p to_server t h =
-    (h.0, lacks_as old new p (record p { bytes = p.bytes ++ bytes }) refl (λ P. each_more old.lane new.lane p bytes P t.open_ t.same.limits) h.1)
+    (h.0, lacks_as old new p (record p { bytes = p.bytes ++ bytes }) refl (λ P. each_more old new p bytes P t.open_ t.same.limits) h.1)
 
-pub takes : (at : Place) (cfg : Config) (old new : RequestLane) (bytes : List ℕ) (vars : Variables) (came : Coming) (asking : Asking Variables) (to_server : List ℕ) (reply : Reply Variables)
+pub takes : (at : Place) (cfg : Config) (old new : LaneState) (bytes : List ℕ) (vars : Variables) (came : Coming) (asking : Asking Variables) (to_server : List ℕ) (reply : Reply Variables)
     → Takes old new bytes → StandsAt at cfg old vars came asking to_server reply → StandsAt at cfg new vars (gains came bytes) asking to_server reply
 takes place.Reading cfg old new bytes vars came asking to_server reply t h = record {
   ending = h.ending ∙ t.open_ ∙ sym t.still;
-  lines = λ more. ap behind (append_assoc came.bytes bytes more) ∙ h.lines (bytes ++ more) ∙ ap behind (sym (append_assoc (input_of old) bytes more)) ∙ ap (λ (i : List ℕ). behind (i ++ more)) (sym t.input);
+  lines = λ more. ap behind (append_assoc came.bytes bytes more) ∙ h.lines (bytes ++ more) ∙ ap behind (sym (append_assoc old.input.items bytes more)) ∙ ap (λ (i : List ℕ). behind (i ++ more)) (sym t.input);
 }
 takes place.Sending cfg old new bytes vars came asking to_server reply t h =
     let M : Meaning = meaning_of cfg in
@@ -105,38 +109,38 @@ takes place.Sending cfg old new bytes vars came asking to_server reply t h =
       message = h.message;
       filters = h.filters;
       reads = h.reads;
-      put = subst (λ (d : Bool). HasPut d new (record h.past { bytes = h.past.bytes ++ bytes }) to_server) (sym t.dropped) (takes_put (is_dropping old) old new bytes h.past to_server t h.put);
+      put = subst (λ (d : Bool). HasPut d new (record h.past { bytes = h.past.bytes ++ bytes }) to_server) (sym t.dropped) (takes_put old.dropped old new bytes h.past to_server t h.put);
     }
 takes place.Idle cfg old new bytes vars came asking to_server reply t h = tt
 takes place.Replied cfg old new bytes vars came asking to_server reply t h =
-    let left : List ℕ = input_of old in
-    let narrows : (rest : Stream) → Continues (coming new (input_of new)) rest → Continues (coming old left) rest =
+    let left : List ℕ = old.input.items in
+    let narrows : (rest : Stream) → Continues (coming new new.input.items) rest → Continues (coming old left) rest =
     λ rest c. takes_narrows old new bytes left t rest (subst (λ (i : List ℕ). Continues (coming new i) rest) t.input c) in
-    replied_goes cfg vars came (gains came bytes) (coming old left) (coming new (input_of new)) reply h
+    replied_goes cfg vars came (gains came bytes) (coming old left) (coming new new.input.items) reply h
     (gains_is came (coming old left) h.used bytes h.came_is ∙ ap (prepended h.used) (takes_coming old new bytes left t) ∙ ap (λ (i : List ℕ). prepended h.used (coming new i)) (sym t.input)) narrows
 
 -- ---- the end of the client's stream
 
-pub record EndsSo (old new : RequestLane) (how : Ending) : Type 0 where
+pub record EndsSo (old new : LaneState) (how : Ending) : Type 0 where
   pub same : Same old new
-  pub open_ : ended_of old ≡ None
-  pub ended : ended_of new ≡ Some how
-  pub input : input_of new ≡ input_of old
-  pub output : output_of new ≡ output_of old
-  pub dropped : is_dropping new ≡ is_dropping old
-  pub sends : (p : Past) → Sends old p → Sends new p
+  pub open_ : old.ended ≡ None
+  pub ended : new.ended ≡ Some how
+  pub input : new.input.items ≡ old.input.items
+  pub output : new.output.items ≡ old.output.items
+  pub dropped : new.dropped ≡ old.dropped
+  pub sends : (p : Past) → Stands old p → Stands new p
 
-ends_coming : (old new : RequestLane) (how : Ending) (bytes : List ℕ) → EndsSo old new how → ends (coming old bytes) how ≡ coming new bytes
+ends_coming : (old new : LaneState) (how : Ending) (bytes : List ℕ) → EndsSo old new how → ends (coming old bytes) how ≡ coming new bytes
 ends_coming old new how bytes t = ap (λ (o : Option Ending). let c : Coming = record { bytes = bytes; ending = o } in c) (sym t.ended)
 
-ends_narrows : (old new : RequestLane) (how : Ending) (bytes : List ℕ) → EndsSo old new how → (rest : Stream) → Continues (coming new bytes) rest → Continues (coming old bytes) rest
+ends_narrows : (old new : LaneState) (how : Ending) (bytes : List ℕ) → EndsSo old new how → (rest : Stream) → Continues (coming new bytes) rest → Continues (coming old bytes) rest
 ends_narrows old new how bytes t rest c = continues_ends (coming old bytes) how rest t.open_ (subst (λ (x : Coming). Continues x rest) (sym (ends_coming old new how bytes t)) c)
 
-ends_put : (d : Bool) (old new : RequestLane) (how : Ending) (p : Past) (to_server : List ℕ) → EndsSo old new how → HasPut d old p to_server → HasPut d new p to_server
+ends_put : (d : Bool) (old new : LaneState) (how : Ending) (p : Past) (to_server : List ℕ) → EndsSo old new how → HasPut d old p to_server → HasPut d new p to_server
 ends_put false old new how p to_server t h = h ∙ ap (λ (w : List ℕ). p.took ++ w) (sym t.output)
-ends_put true old new how p to_server t h = (h.0, lacks_as old new p p refl (λ P. each_ended old.lane new.lane p P t.open_ t.same.limits) h.1)
+ends_put true old new how p to_server t h = (h.0, lacks_as old new p p refl (λ P. each_ended old new p P t.open_ t.same.limits) h.1)
 
-pub ended : (at : Place) (cfg : Config) (old new : RequestLane) (how : Ending) (vars : Variables) (came : Coming) (asking : Asking Variables) (to_server : List ℕ) (reply : Reply Variables)
+pub ended : (at : Place) (cfg : Config) (old new : LaneState) (how : Ending) (vars : Variables) (came : Coming) (asking : Asking Variables) (to_server : List ℕ) (reply : Reply Variables)
     → EndsSo old new how → StandsAt at cfg old vars came asking to_server reply → StandsAt at cfg new vars (ends came how) asking to_server reply
 ended place.Reading cfg old new how vars came asking to_server reply t h = record {
   ending = sym t.ended;
@@ -158,35 +162,35 @@ ended place.Sending cfg old new how vars came asking to_server reply t h =
       message = h.message;
       filters = h.filters;
       reads = h.reads;
-      put = subst (λ (d : Bool). HasPut d new h.past to_server) (sym t.dropped) (ends_put (is_dropping old) old new how h.past to_server t h.put);
+      put = subst (λ (d : Bool). HasPut d new h.past to_server) (sym t.dropped) (ends_put old.dropped old new how h.past to_server t h.put);
     }
 ended place.Idle cfg old new how vars came asking to_server reply t h = tt
 ended place.Replied cfg old new how vars came asking to_server reply t h =
-    let left : List ℕ = input_of old in
-    replied_goes cfg vars came (ends came how) (coming old left) (coming new (input_of new)) reply h
+    let left : List ℕ = old.input.items in
+    replied_goes cfg vars came (ends came how) (coming old left) (coming new new.input.items) reply h
     (ends_is came (coming old left) h.used how h.came_is ∙ ap (prepended h.used) (ends_coming old new how left t) ∙ ap (λ (i : List ℕ). prepended h.used (coming new i)) (sym t.input))
     (λ rest c. ends_narrows old new how left t rest (subst (λ (i : List ℕ). Continues (coming new i) rest) t.input c))
 
 -- ---- calls that keep the client's stream
 
-pub record Keeps (old new : RequestLane) : Type 0 where
+pub record Keeps (old new : LaneState) : Type 0 where
   pub same : Same old new
-  pub ended : ended_of new ≡ ended_of old
+  pub ended : new.ended ≡ old.ended
 
-keeps_narrows : (old new : RequestLane) (bytes : List ℕ) → Keeps old new → (rest : Stream) → Continues (coming new bytes) rest → Continues (coming old bytes) rest
+keeps_narrows : (old new : LaneState) (bytes : List ℕ) → Keeps old new → (rest : Stream) → Continues (coming new bytes) rest → Continues (coming old bytes) rest
 keeps_narrows old new bytes k rest c = subst (λ (x : Coming). Continues x rest) (same_coming old new bytes k.ended) c
 
 -- where the input stays
-pub stays : (cfg : Config) (old new : RequestLane) (vars : Variables) (came : Coming) (reply : Reply Variables) → Keeps old new → input_of new ≡ input_of old
-    → (ReadsOn old came → ReadsOn new came) × (IsReplied cfg vars came reply (coming old (input_of old)) → IsReplied cfg vars came reply (coming new (input_of new)))
+pub stays : (cfg : Config) (old new : LaneState) (vars : Variables) (came : Coming) (reply : Reply Variables) → Keeps old new → new.input.items ≡ old.input.items
+    → (ReadsOn old came → ReadsOn new came) × (IsReplied cfg vars came reply (coming old old.input.items) → IsReplied cfg vars came reply (coming new new.input.items))
 stays cfg old new vars came reply k e = (
   λ h. record { ending = h.ending ∙ sym k.ended; lines = λ more. h.lines more ∙ ap (λ (i : List ℕ). behind (i ++ more)) (sym e) },
-  λ h. subst (λ (x : Coming). IsReplied cfg vars came reply x) (sym (ap (coming new) e ∙ same_coming old new (input_of old) k.ended)) h,
+  λ h. subst (λ (x : Coming). IsReplied cfg vars came reply x) (sym (ap (coming new) e ∙ same_coming old new old.input.items k.ended)) h,
 )
 
 -- a request that goes out, with a past that has the same but for what was taken
-pub goes_as : (cfg : Config) (old new : RequestLane) (vars : Variables) (came : Coming) (asking : Asking Variables) (was to_server : List ℕ) (h : GoesOut cfg old vars came asking was) (took : List ℕ) → Keeps old new
-    → Sends new (record h.past { took = took }) → HasPut (is_dropping new) new (record h.past { took = took }) to_server → GoesOut cfg new vars came asking to_server
+pub goes_as : (cfg : Config) (old new : LaneState) (vars : Variables) (came : Coming) (asking : Asking Variables) (was to_server : List ℕ) (h : GoesOut cfg old vars came asking was) (took : List ℕ) → Keeps old new
+    → Stands new (record h.past { took = took }) → HasPut new.dropped new (record h.past { took = took }) to_server → GoesOut cfg new vars came asking to_server
 goes_as cfg old new vars came asking was to_server h took k sends put = record {
   past = record h.past { took = took };
   sends = sends;
@@ -212,50 +216,50 @@ drop_none n = search rules
 take_none : (n : ℕ) → take n (let none : List ℕ = [] in none) ≡ []
 take_none n = search rules
 
-took_put : (d : Bool) (old new : RequestLane) (n : ℕ) (p : Past) (to_server : List ℕ) → Keeps old new → output_of new ≡ drop n (output_of old) → (d ≡ true → output_of old ≡ [])
-    → HasPut d old p to_server → HasPut d new (record p { took = p.took ++ take n (output_of old) }) to_server
+took_put : (d : Bool) (old new : LaneState) (n : ℕ) (p : Past) (to_server : List ℕ) → Keeps old new → new.output.items ≡ drop n old.output.items → (d ≡ true → old.output.items ≡ [])
+    → HasPut d old p to_server → HasPut d new (record p { took = p.took ++ take n old.output.items }) to_server
 took_put false old new n p to_server k out none h =
-    h ∙ ap (λ (w : List ℕ). p.took ++ w) (sym (take-append-drop n (output_of old))) ∙ sym (append_assoc p.took (take n (output_of old)) (drop n (output_of old)))
-    ∙ ap (λ (w : List ℕ). (p.took ++ take n (output_of old)) ++ w) (sym out)
+    h ∙ ap (λ (w : List ℕ). p.took ++ w) (sym (take-append-drop n old.output.items)) ∙ sym (append_assoc p.took (take n old.output.items) (drop n old.output.items))
+    ∙ ap (λ (w : List ℕ). (p.took ++ take n old.output.items) ++ w) (sym out)
 took_put true old new n p to_server k out none h =
-    let nothing : take n (output_of old) ≡ [] = ap (take n) (none refl) ∙ take_none n in
-    let same : p.took ≡ p.took ++ take n (output_of old) = sym (append-nil p.took) ∙ ap (λ (w : List ℕ). p.took ++ w) (sym nothing) in
-    let put : HasPut true new p to_server = (h.0, lacks_as old new p p refl (λ P. each_same old.lane new.lane p P k.ended k.same.limits) h.1) in
+    let nothing : take n old.output.items ≡ [] = ap (take n) (none refl) ∙ take_none n in
+    let same : p.took ≡ p.took ++ take n old.output.items = sym (append-nil p.took) ∙ ap (λ (w : List ℕ). p.took ++ w) (sym nothing) in
+    let put : HasPut true new p to_server = (h.0, lacks_as old new p p refl (λ P. each_same old new p P k.ended k.same.limits) h.1) in
     subst (λ (t : List ℕ). HasPut true new (record p { took = t }) to_server) same put
 
-pub server_takes : (at : Place) (cfg : Config) (old new : RequestLane) (n : ℕ) (vars : Variables) (came : Coming) (asking : Asking Variables) (to_server : List ℕ) (reply : Reply Variables)
-    → Keeps old new → SoundAt at old → input_of new ≡ input_of old → output_of new ≡ drop n (output_of old) → is_dropping new ≡ is_dropping old
-    → ((p : Past) → Sends old p → Sends new (record p { took = p.took ++ take n (output_of old) }))
+pub server_takes : (at : Place) (cfg : Config) (old new : LaneState) (n : ℕ) (vars : Variables) (came : Coming) (asking : Asking Variables) (to_server : List ℕ) (reply : Reply Variables)
+    → Keeps old new → SoundAt at old → new.input.items ≡ old.input.items → new.output.items ≡ drop n old.output.items → new.dropped ≡ old.dropped
+    → ((p : Past) → Stands old p → Stands new (record p { took = p.took ++ take n old.output.items }))
     → StandsAt at cfg old vars came asking to_server reply → StandsAt at cfg new vars came asking to_server reply
 server_takes place.Reading cfg old new n vars came asking to_server reply k s input out dropped sends h = (stays cfg old new vars came reply k input).0 h
 server_takes place.Sending cfg old new n vars came asking to_server reply k s input out dropped sends h =
-    goes_as cfg old new vars came asking to_server to_server h (h.past.took ++ take n (output_of old)) k (sends h.past h.sends)
-    (subst (λ (d : Bool). HasPut d new (record h.past { took = h.past.took ++ take n (output_of old) }) to_server) (sym dropped)
-    (took_put (is_dropping old) old new n h.past to_server k out s.drops h.put))
+    goes_as cfg old new vars came asking to_server to_server h (h.past.took ++ take n old.output.items) k (sends h.past h.sends)
+    (subst (λ (d : Bool). HasPut d new (record h.past { took = h.past.took ++ take n old.output.items }) to_server) (sym dropped)
+    (took_put old.dropped old new n h.past to_server k out s.drops h.put))
 server_takes place.Idle cfg old new n vars came asking to_server reply k s input out dropped sends h = tt
 server_takes place.Replied cfg old new n vars came asking to_server reply k s input out dropped sends h = (stays cfg old new vars came reply k input).1 h
 
 -- ---- the server takes no more
 
-drop_put : (d : Bool) (old new : RequestLane) (p : Past) (to_server put : List ℕ) → Keeps old new → output_of old ≢ [] → (d ≡ true → output_of old ≡ []) → is_dropping old ≡ d → Promise old.lane p
-    → put ++ output_of old ≡ to_server → HasPut d old p to_server → HasPut true new p put
+drop_put : (d : Bool) (old new : LaneState) (p : Past) (to_server put : List ℕ) → Keeps old new → old.output.items ≢ [] → (d ≡ true → old.output.items ≡ []) → old.dropped ≡ d → Promise old p
+    → put ++ old.output.items ≡ to_server → HasPut d old p to_server → HasPut true new p put
 drop_put true old new p to_server put k some none is promise e h = absurd (some (none refl))
 drop_put false old new p to_server put k some none is promise e h = (
-  append_cancel_right put p.took (output_of old) (e ∙ h),
+  append_cancel_right put p.took old.output.items (e ∙ h),
   record {
-    text = output_of old;
+    text = old.output.items;
     some = some;
-    front = each_same old.lane new.lane p (λ read. IsFrontOf p.sent (body_sent p read) (finish_of p.filters read) (put_out old.lane p)) k.ended k.same.limits (promise.front is);
+    front = each_same old new p (λ read. IsFrontOf p.sent (body_sent p read) (finish_of p.filters read) (put_out old p)) k.ended k.same.limits (promise.front is);
   },
 )
 
-pub drops : (at : Place) (cfg : Config) (old new : RequestLane) (vars : Variables) (came : Coming) (asking : Asking Variables) (to_server put : List ℕ) (reply : Reply Variables)
-    → Keeps old new → SoundAt at old → input_of new ≡ input_of old → output_of old ≢ [] → is_dropping new ≡ true → ((p : Past) → Sends old p → Sends new p) → ((p : Past) → Sends old p → Promise old.lane p)
-    → put ++ output_of old ≡ to_server → StandsAt at cfg old vars came asking to_server reply → StandsAt at cfg new vars came asking put reply
+pub drops : (at : Place) (cfg : Config) (old new : LaneState) (vars : Variables) (came : Coming) (asking : Asking Variables) (to_server put : List ℕ) (reply : Reply Variables)
+    → Keeps old new → SoundAt at old → new.input.items ≡ old.input.items → old.output.items ≢ [] → new.dropped ≡ true → ((p : Past) → Stands old p → Stands new p) → ((p : Past) → Stands old p → Promise old p)
+    → put ++ old.output.items ≡ to_server → StandsAt at cfg old vars came asking to_server reply → StandsAt at cfg new vars came asking put reply
 drops place.Reading cfg old new vars came asking to_server put reply k s input some dropped sends promise e h = (stays cfg old new vars came reply k input).0 h
 drops place.Sending cfg old new vars came asking to_server put reply k s input some dropped sends promise e h =
     goes_as cfg old new vars came asking to_server put h h.past.took k (sends h.past h.sends)
-    (subst (λ (d : Bool). HasPut d new h.past put) (sym dropped) (drop_put (is_dropping old) old new h.past to_server put k some s.drops refl (promise h.past h.sends) e h.put))
+    (subst (λ (d : Bool). HasPut d new h.past put) (sym dropped) (drop_put old.dropped old new h.past to_server put k some s.drops refl (promise h.past h.sends) e h.put))
 drops place.Idle cfg old new vars came asking to_server put reply k s input some dropped sends promise e h = tt
 drops place.Replied cfg old new vars came asking to_server put reply k s input some dropped sends promise e h = (stays cfg old new vars came reply k input).1 h
 
@@ -269,17 +273,17 @@ pub nothing_more : (xs put : List ℕ) → xs ≡ xs ++ put → put ≡ []
 nothing_more [] put e = sym e
 nothing_more (x ∷ xs) put e = nothing_more xs put (ap tail_of e)
 
-step_put : (d : Bool) (old new : RequestLane) (p : Past) (to_server put : List ℕ) → Keeps old new → output_of new ≡ output_of old ++ put → (d ≡ true → output_of new ≡ output_of old)
+step_put : (d : Bool) (old new : LaneState) (p : Past) (to_server put : List ℕ) → Keeps old new → new.output.items ≡ old.output.items ++ put → (d ≡ true → new.output.items ≡ old.output.items)
     → HasPut d old p to_server → HasPut d new p (to_server ++ put)
 step_put false old new p to_server put k out same h =
-    ap (λ (w : List ℕ). w ++ put) h ∙ append_assoc p.took (output_of old) put ∙ ap (λ (w : List ℕ). p.took ++ w) (sym out)
+    ap (λ (w : List ℕ). w ++ put) h ∙ append_assoc p.took old.output.items put ∙ ap (λ (w : List ℕ). p.took ++ w) (sym out)
 step_put true old new p to_server put k out same h =
-    let none : put ≡ [] = nothing_more (output_of old) put (sym (same refl) ∙ out) in
-    (ap (λ (w : List ℕ). to_server ++ w) none ∙ append-nil to_server ∙ h.0, lacks_as old new p p refl (λ P. each_same old.lane new.lane p P k.ended k.same.limits) h.1)
+    let none : put ≡ [] = nothing_more old.output.items put (sym (same refl) ∙ out) in
+    (ap (λ (w : List ℕ). to_server ++ w) none ∙ append-nil to_server ∙ h.0, lacks_as old new p p refl (λ P. each_same old new p P k.ended k.same.limits) h.1)
 
-pub steps : (cfg : Config) (old new : RequestLane) (vars : Variables) (came : Coming) (asking : Asking Variables) (to_server put : List ℕ)
-    → Keeps old new → output_of new ≡ output_of old ++ put → is_dropping new ≡ is_dropping old → (is_dropping old ≡ true → output_of new ≡ output_of old) → ((p : Past) → Sends old p → Sends new p)
+pub steps : (cfg : Config) (old new : LaneState) (vars : Variables) (came : Coming) (asking : Asking Variables) (to_server put : List ℕ)
+    → Keeps old new → new.output.items ≡ old.output.items ++ put → new.dropped ≡ old.dropped → (old.dropped ≡ true → new.output.items ≡ old.output.items) → ((p : Past) → Stands old p → Stands new p)
     → GoesOut cfg old vars came asking to_server → GoesOut cfg new vars came asking (to_server ++ put)
 steps cfg old new vars came asking to_server put k out dropped same sends h =
     goes_as cfg old new vars came asking to_server (to_server ++ put) h h.past.took k (sends h.past h.sends)
-    (subst (λ (d : Bool). HasPut d new h.past (to_server ++ put)) (sym dropped) (step_put (is_dropping old) old new h.past to_server put k out same h.put))
+    (subst (λ (d : Bool). HasPut d new h.past (to_server ++ put)) (sym dropped) (step_put old.dropped old new h.past to_server put k out same h.put))

@@ -21,8 +21,8 @@ use Rattle.lane.specs.Direction.Promise.{GoesOnWith}
 use Rattle.h1_head.specs.Decides.{OnEachStream}
 use Rattle.h1_head.specs.declared.answer.Side.TheVariants as side
 use Rattle.lane.specs.Direction.Heads.{HasHead as LaneHas, Waits, IsEnd}
-use Rattle.lane.specs.Asking.{input_of, ended_of, limits_of, output_of, MayRead}
-use Rattle.lane.specs.declared.request_lane.RequestLane.{RequestLane}
+use Rattle.lane.specs.Direction.Sends.{IsReading}
+use Rattle.lane.specs.Direction.State.{LaneState}
 use Rattle.forward_core.specs.declared.request.place.Place.{Place}
 use Rattle.forward_core.specs.declared.request.place.Place.TheVariants as place
 use Rattle.forward_core.specs.declared.request.side.RequestSide.{RequestSide}
@@ -71,42 +71,42 @@ ended_none (Some how) more last g e = g.0
 -- ---- what a lane tells
 
 -- a stream that goes on from what came reads as the bytes in the window do
-reads_as : (cfg : Config) (old : RequestLane) (came : Coming) (r : List ℕ → HeadReading) → IsFor cfg old → ReadsOn old came
-    → OnEachStream (is_some (ended_of old)) (λ more. HeadOf request_heads (limits_of old) (input_of old ++ more) (r more))
-    → (more : List ℕ) → (is_some (ended_of old) ≡ true → more ≡ []) → RequestOf cfg.limits (came.bytes ++ more) (r more)
+reads_as : (cfg : Config) (old : LaneState) (came : Coming) (r : List ℕ → HeadReading) → IsFor cfg old → ReadsOn old came
+    → OnEachStream (is_some old.ended) (λ more. HeadOf request_heads old.limits (old.input.items ++ more) (r more))
+    → (more : List ℕ) → (is_some old.ended ≡ true → more ≡ []) → RequestOf cfg.limits (came.bytes ++ more) (r more)
 reads_as cfg old came r is on each more ends =
     subst (λ (l : Limits). RequestOf l (came.bytes ++ more) (r more)) is.limits
-    (read_alike (limits_of old) (input_of old ++ more) (came.bytes ++ more) (r more) (on.lines more) (each more ends))
+    (read_alike old.limits (old.input.items ++ more) (came.bytes ++ more) (r more) (on.lines more) (each more ends))
 
 -- what follows what came
-came_follows : (old : RequestLane) (came : Coming) (stream : Stream) → ReadsOn old came → Continues came stream → Follows (ended_of old) came.bytes stream
-came_follows old came stream on c = follows (ended_of old) came.bytes stream (subst (λ (o : Option Ending). ContinuesBy o came.bytes stream) on.ending c)
+came_follows : (old : LaneState) (came : Coming) (stream : Stream) → ReadsOn old came → Continues came stream → Follows old.ended came.bytes stream
+came_follows old came stream on c = follows old.ended came.bytes stream (subst (λ (o : Option Ending). ContinuesBy o came.bytes stream) on.ending c)
 
 -- a reading that needs nothing of what follows is asked by
-pub asks_reading : (cfg : Config) (old : RequestLane) (vars : Variables) (came : Coming) (r : HeadReading) → IsFor cfg old → ReadsOn old came
-    → OnEachStream (is_some (ended_of old)) (λ more. HeadOf request_heads (limits_of old) (input_of old ++ more) r)
+pub asks_reading : (cfg : Config) (old : LaneState) (vars : Variables) (came : Coming) (r : HeadReading) → IsFor cfg old → ReadsOn old came
+    → OnEachStream (is_some old.ended) (λ more. HeadOf request_heads old.limits (old.input.items ++ more) r)
     → (stream : Stream) → Continues came stream → Asks (meaning_of cfg) vars stream (asked_of (meaning_of cfg) vars stream.ending r)
 asks_reading cfg old vars came r is on each stream c =
     let f = came_follows old came stream on c in
     record {
       head = r;
-      reads = subst (λ (xs : List ℕ). RequestOf cfg.limits xs r) (sym f.is) (reads_as cfg old came (λ more. r) is on each f.more (ended_none (ended_of old) f.more stream.ending f.goes));
+      reads = subst (λ (xs : List ℕ). RequestOf cfg.limits xs r) (sym f.is) (reads_as cfg old came (λ more. r) is on each f.more (ended_none old.ended f.more stream.ending f.goes));
       asks = refl;
     }
 
 -- the stream has ended in empty lines
-pub each_nothing : (old new : RequestLane) → IsEnd side.Request old.lane new.lane → OnEachStream (is_some (ended_of old)) (λ more. HeadOf request_heads (limits_of old) (input_of old ++ more) Nothing)
-each_nothing old new h more ends = ap (λ (xs : List ℕ). behind (input_of old ++ xs)) (ends h.ended) ∙ ap behind (append-nil (input_of old)) ∙ h.nothing
+pub each_nothing : (old new : LaneState) → IsEnd side.Request old new → OnEachStream (is_some old.ended) (λ more. HeadOf request_heads old.limits (old.input.items ++ more) Nothing)
+each_nothing old new h more ends = ap (λ (xs : List ℕ). behind (old.input.items ++ xs)) (ends h.ended) ∙ ap behind (append-nil old.input.items) ∙ h.nothing
 
 -- a head came
-pub head_read : (cfg : Config) (old : RequestLane) (new : RequestSide) (came : Coming) → IsFor cfg old → IsFor cfg new.lane → ended_of new.lane ≡ ended_of old → ReadsOn old came
-    → (h : LaneHas side.Request old.lane new.lane.lane)
-    → HeadRead cfg new came (record { head = h.head; framing = new.lane.lane.framing; declared = new.lane.lane.declared; close = new.lane.lane.close })
+pub head_read : (cfg : Config) (old : LaneState) (new : RequestSide) (came : Coming) → IsFor cfg old → IsFor cfg new.lane → new.lane.ended ≡ old.ended → ReadsOn old came
+    → (h : LaneHas side.Request old new.lane)
+    → HeadRead cfg new came (record { head = h.head; framing = new.lane.framing; declared = new.lane.declared; close = new.lane.close })
 head_read cfg old new came is now ended on h =
-    let got : Received = record { head = h.head; framing = new.lane.lane.framing; declared = new.lane.lane.declared; close = new.lane.lane.close } in
-    let input : List ℕ = input_of new.lane in
+    let got : Received = record { head = h.head; framing = new.lane.framing; declared = new.lane.declared; close = new.lane.close } in
+    let input : List ℕ = new.lane.input.items in
     let r : List ℕ → HeadReading = λ more. Begins got (input ++ more) in
-    let at : (more : List ℕ) → (is_some (ended_of old) ≡ true → more ≡ []) → RequestOf cfg.limits (came.bytes ++ more) (r more) = reads_as cfg old came r is on h.begins in
+    let at : (more : List ℕ) → (is_some old.ended ≡ true → more ≡ []) → RequestOf cfg.limits (came.bytes ++ more) (r more) = reads_as cfg old came r is on h.begins in
     let first : RequestOf cfg.limits came.bytes (Begins got input) =
     subst (λ (xs : List ℕ). RequestOf cfg.limits xs (Begins got input)) (append-nil came.bytes) (subst (λ (xs : List ℕ). RequestOf cfg.limits (came.bytes ++ []) (Begins got xs)) (append-nil input) (at [] (λ e. refl))) in
     let e = rest_ends cfg.limits came.bytes got input first in
@@ -117,16 +117,16 @@ head_read cfg old new came is now ended on h =
       used = e.0;
       head = record {
         came_is = ap with_bytes e.1 ∙ ap with_ending (on.ending ∙ sym ended);
-        reads = λ rest c. (let f = follows (ended_of new.lane) input rest c in
+        reads = λ rest c. (let f = follows new.lane.ended input rest c in
             let same : e.0 ++ rest.bytes ≡ came.bytes ++ f.more = ap (λ (xs : List ℕ). e.0 ++ xs) f.is ∙ sym (append_assoc e.0 input f.more) ∙ ap (λ (xs : List ℕ). xs ++ f.more) (sym e.1) in
-            let ends : is_some (ended_of old) ≡ true → f.more ≡ [] = λ some. ended_none (ended_of new.lane) f.more rest.ending f.goes (ap is_some ended ∙ some) in
+            let ends : is_some old.ended ≡ true → f.more ≡ [] = λ some. ended_none new.lane.ended f.more rest.ending f.goes (ap is_some ended ∙ some) in
             subst (λ (xs : List ℕ). RequestOf cfg.limits xs (Begins got rest.bytes)) (sym same)
             (subst (λ (xs : List ℕ). RequestOf cfg.limits (came.bytes ++ f.more) (Begins got xs)) (sym f.is) (at f.more ends)));
       };
     }
 
 -- where more is to come the window still stands for what came
-pub reads_on : (old new : RequestLane) (came : Coming) → ended_of new ≡ ended_of old → Waits side.Request old.lane new.lane → ReadsOn old came → ReadsOn new came
+pub reads_on : (old new : LaneState) (came : Coming) → new.ended ≡ old.ended → Waits side.Request old new → ReadsOn old came → ReadsOn new came
 reads_on old new came ended w h = record { ending = h.ending ∙ sym ended; lines = λ more. h.lines more ∙ w.front more }
 
 -- ---- sizes
@@ -136,27 +136,27 @@ some_room most input h = omega (arith, h)
 
 -- ---- by the place
 
-pub at_reading : (at : Place) (cfg : Config) (lane : RequestLane) (vars : Variables) (came : Coming) (asking : Asking Variables) (to_server : List ℕ) (reply : Reply Variables) → at ≡ place.Reading
+pub at_reading : (at : Place) (cfg : Config) (lane : LaneState) (vars : Variables) (came : Coming) (asking : Asking Variables) (to_server : List ℕ) (reply : Reply Variables) → at ≡ place.Reading
     → StandsAt at cfg lane vars came asking to_server reply → ReadsOn lane came
 at_reading place.Reading cfg lane vars came asking to_server reply e h = h
 at_reading place.Sending cfg lane vars came asking to_server reply e h = absurd (cc)
 at_reading place.Idle cfg lane vars came asking to_server reply e h = absurd (cc)
 at_reading place.Replied cfg lane vars came asking to_server reply e h = absurd (cc)
 
-pub on_reading : (at : Place) (cfg : Config) (lane : RequestLane) (vars : Variables) (came : Coming) (asking : Asking Variables) (to_server : List ℕ) (reply : Reply Variables) → at ≡ place.Reading
+pub on_reading : (at : Place) (cfg : Config) (lane : LaneState) (vars : Variables) (came : Coming) (asking : Asking Variables) (to_server : List ℕ) (reply : Reply Variables) → at ≡ place.Reading
     → ReadsOn lane came → StandsAt at cfg lane vars came asking to_server reply
 on_reading place.Reading cfg lane vars came asking to_server reply e h = h
 on_reading place.Sending cfg lane vars came asking to_server reply e h = absurd (cc)
 on_reading place.Idle cfg lane vars came asking to_server reply e h = absurd (cc)
 on_reading place.Replied cfg lane vars came asking to_server reply e h = absurd (cc)
 
-pub still_reading : (at : Place) (old new : RequestLane) → at ≡ place.Reading → SoundAt at old → MayRead new → output_of new ≡ output_of old → SoundAt at new
+pub still_reading : (at : Place) (old new : LaneState) → at ≡ place.Reading → SoundAt at old → IsReading side.Request new → new.output.items ≡ old.output.items → SoundAt at new
 still_reading place.Reading old new e s reads out = (reads, out ∙ s.1)
 still_reading place.Sending old new e s reads out = absurd (cc)
 still_reading place.Idle old new e s reads out = absurd (cc)
 still_reading place.Replied old new e s reads out = absurd (cc)
 
-pub nothing_out : (at : Place) (lane : RequestLane) → at ≡ place.Reading → SoundAt at lane → output_of lane ≡ []
+pub nothing_out : (at : Place) (lane : LaneState) → at ≡ place.Reading → SoundAt at lane → lane.output.items ≡ []
 nothing_out place.Reading lane e s = s.1
 nothing_out place.Sending lane e s = absurd (cc)
 nothing_out place.Idle lane e s = absurd (cc)

@@ -18,41 +18,41 @@ use Rattle.http_rules.specs.declared.config.Config.{Config}
 use Rattle.forward_core.specs.Meaning.Product.{meaning_of, replaces}
 use Rattle.body_filter.specs.declared.filter_spec.FilterSpec.{FilterSpec}
 use Rattle.lane.specs.Direction.Sent.{Sent}
-use Rattle.lane.specs.Direction.Sends.{Past}
+use Rattle.lane.specs.Direction.Sends.{Past, IsSound as IsWell, Stands, begun}
 use Rattle.lane.specs.declared.direction.stage.Stage.TheVariants as stage
-use Rattle.lane.specs.Asking.{stage_of, input_of, output_of, is_dropping, blocks_of, framing_of, HasFilters, IsWell, Sends, begins}
-use Rattle.lane.specs.declared.request_lane.RequestLane.{RequestLane}
+use Rattle.lane.specs.Direction.Filtering.{AreThese}
+use Rattle.lane.specs.Direction.State.{LaneState}
 use Rattle.forward_core.specs.Request.Stands.{IsFor, GoesSoundly, GoesOut, HasPut, IsReplied, coming}
 use Rattle.forward_core.specs.Request.Reads.{reply_to}
 use Rattle.forward_core.proofs.RequestLemmas.Events.{Keeps}
 
--- what the lane says where it begins to send
-pub record IsBegun (old new : RequestLane) (framed : Framing) : Type 0 where
+-- what the lane says where it begun to send
+pub record IsBegun (old new : LaneState) (framed : Framing) : Type 0 where
   pub keeps : Keeps old new
-  pub input : input_of new ≡ input_of old
-  pub output : output_of new ≡ output_of old
-  pub kept : is_dropping new ≡ false
-  pub sends : (filters : List FilterSpec) (head : Head) → HasFilters old filters → blocks_of old ≡ head_blocks head → Sends new (begins old filters head framed false)
+  pub input : new.input.items ≡ old.input.items
+  pub output : new.output.items ≡ old.output.items
+  pub kept : new.dropped ≡ false
+  pub sends : (filters : List FilterSpec) (head : Head) → AreThese old.sieve filters → old.msg.blocks ≡ head_blocks head → Stands new (begun old filters head framed false)
 
-pub sends_sound : (old new : RequestLane) (framed : Framing) (head : Head) → IsBegun old new framed → IsWell old → output_of old ≡ [] → stage_of new ≡ stage.Sending → blocks_of old ≡ head_blocks head → GoesSoundly new
+pub sends_sound : (old new : LaneState) (framed : Framing) (head : Head) → IsBegun old new framed → IsWell old → old.output.items ≡ [] → new.stage ≡ stage.Sending → old.msg.blocks ≡ head_blocks head → GoesSoundly new
 sends_sound old new framed head b well none at blocks =
     let filters = well.sized.filters in
-    record { past = begins old filters.0 head framed false; sends = b.sends filters.0 head filters.1 blocks; stage = inl at; drops = λ d. b.output ∙ none }
+    record { past = begun old filters.0 head framed false; sends = b.sends filters.0 head filters.1 blocks; stage = inl at; drops = λ d. b.output ∙ none }
 
-put_none : (d : Bool) (new : RequestLane) (p : Past) → d ≡ false → p.took ≡ [] → output_of new ≡ [] → HasPut d new p []
+put_none : (d : Bool) (new : LaneState) (p : Past) → d ≡ false → p.took ≡ [] → new.output.items ≡ [] → HasPut d new p []
 put_none true new p e took none = absurd (cc)
-put_none false new p e took none = sym (ap (λ (t : List ℕ). t ++ output_of new) took ∙ none)
+put_none false new p e took none = sym (ap (λ (t : List ℕ). t ++ new.output.items) took ∙ none)
 
-pub sends_on : (cfg : Config) (old new : RequestLane) (framed : Framing) (vars : Variables) (came : Coming) (received : Received) (env : Env Variables) (used : List ℕ) → IsBegun old new framed → IsFor cfg old → output_of old ≡ []
-    → HeadCame (meaning_of cfg) came received used (coming old (input_of old)) → framing_of old ≡ received.framing → (meaning_of cfg).request_rules (request_env vars received.head) ≡ Pass env
+pub sends_on : (cfg : Config) (old new : LaneState) (framed : Framing) (vars : Variables) (came : Coming) (received : Received) (env : Env Variables) (used : List ℕ) → IsBegun old new framed → IsFor cfg old → old.output.items ≡ []
+    → HeadCame (meaning_of cfg) came received used (coming old old.input.items) → old.framing ≡ received.framing → (meaning_of cfg).request_rules (request_env vars received.head) ≡ Pass env
     → declares_too_much (meaning_of cfg).request_filters received.declared ≡ false → request_fits (meaning_of cfg) received env.head ≡ true
-    → framed ≡ request_framing (replaces cfg.req_filters) received.framing → blocks_of old ≡ head_blocks (finish_request env.head framed)
+    → framed ≡ request_framing (replaces cfg.req_filters) received.framing → old.msg.blocks ≡ head_blocks (finish_request env.head framed)
     → GoesOut cfg new vars came (record { received = received; head = env.head; vars = env.vars }) []
 sends_on cfg old new framed vars came received env used b is none head framing rules short fits framed_is blocks =
     let asks : Asking Variables = record { received = received; head = env.head; vars = env.vars } in
-    let past : Past = begins old cfg.req_filters (finish_request env.head framed) framed false in
+    let past : Past = begun old cfg.req_filters (finish_request env.head framed) framed false in
     let message : Framing → List ℕ → Sent = λ f before. record { head = finish_request env.head f; given = []; framing = f; no_body = false; before = before } in
-    let same : coming old (input_of old) ≡ coming new (input_of old) = ap (λ (o : Option Ending). let c : Coming = record { bytes = input_of old; ending = o } in c) (sym b.keeps.ended) in
+    let same : coming old old.input.items ≡ coming new old.input.items = ap (λ (o : Option Ending). let c : Coming = record { bytes = old.input.items; ending = o } in c) (sym b.keeps.ended) in
     record {
       past = past;
       sends = b.sends cfg.req_filters (finish_request env.head framed) is.filters blocks;
@@ -63,10 +63,10 @@ sends_on cfg old new framed vars came received env used b is none head framing r
       asks = refl;
       short = short;
       fits = fits;
-      message = ap (λ (f : Framing). message f (output_of old)) framed_is ∙ ap (message (request_framing (replaces cfg.req_filters) received.framing)) none;
+      message = ap (λ (f : Framing). message f old.output.items) framed_is ∙ ap (message (request_framing (replaces cfg.req_filters) received.framing)) none;
       filters = refl;
       reads = framing;
-      put = put_none (is_dropping new) new past b.kept refl (b.output ∙ none);
+      put = put_none new.dropped new past b.kept refl (b.output ∙ none);
     }
 
 pub replies_to : (cfg : Config) (vars : Variables) (came left : Coming) (received : Received) (m : Message) (env : Env Variables) (used : List ℕ) → HeadCame (meaning_of cfg) came received used left

@@ -3,11 +3,11 @@ use Rattle.std.proofs.Common.{◌≡◌, ◌≢◌, ℕ, ◌⊎◌, List, [], �
 use Rattle.std.specs.Prelude.{Option, Some, None, is_none}
 use Rattle.std.proofs.lemmas.List.{length-append}
 use Rattle.http_model.specs.declared.Ending.{Ending}
-use Rattle.lane.specs.Direction.Sends.{Past}
+use Rattle.lane.specs.Direction.Sends.{Past, IsSound as IsWell, Stands, IsReading}
 use Rattle.lane.specs.declared.direction.stage.Stage.{Stage}
 use Rattle.lane.specs.declared.direction.stage.Stage.TheVariants as stage
-use Rattle.lane.specs.Asking.{stage_of, source_of, input_of, most_of, ended_of, output_of, is_dropping, limits_of, array_of, blocks_of, IsWell, MayRead, Sends}
-use Rattle.lane.specs.declared.request_lane.RequestLane.{RequestLane}
+use Rattle.h1_head.specs.declared.answer.Side.TheVariants as side
+use Rattle.lane.specs.Direction.State.{LaneState}
 use Rattle.forward_core.specs.declared.request.place.Place.{Place}
 use Rattle.forward_core.specs.declared.request.place.Place.TheVariants as place
 use Rattle.forward_core.specs.Request.Seen.{seen, unread_at, to_read, source_at, sent_at}
@@ -19,8 +19,8 @@ none_is (Some how) e = absurd (cc)
 
 -- ---- where the lane stands
 
-pub sound_keeps : (at : Place) (old new : RequestLane) → (MayRead old → MayRead new) → (output_of old ≡ [] → output_of new ≡ []) → stage_of new ≡ stage_of old → is_dropping new ≡ is_dropping old
-    → ((p : Past) → Sends old p → (q : Past) × Sends new q) → SoundAt at old → SoundAt at new
+pub sound_keeps : (at : Place) (old new : LaneState) → (IsReading side.Request old → IsReading side.Request new) → (old.output.items ≡ [] → new.output.items ≡ []) → new.stage ≡ old.stage → new.dropped ≡ old.dropped
+    → ((p : Past) → Stands old p → (q : Past) × Stands new q) → SoundAt at old → SoundAt at new
 sound_keeps place.Reading old new reads empties stays dropped sends s = (reads s.0, empties s.1)
 sound_keeps place.Sending old new reads empties stays dropped sends s =
     let q = sends s.past s.sends in
@@ -28,7 +28,7 @@ sound_keeps place.Sending old new reads empties stays dropped sends s =
 sound_keeps place.Idle old new reads empties stays dropped sends s = empties s
 sound_keeps place.Replied old new reads empties stays dropped sends s = empties s
 
-pub sound_drops : (at : Place) (old new : RequestLane) → output_of old ≢ [] → output_of new ≡ [] → stage_of new ≡ stage_of old → ((p : Past) → Sends old p → Sends new p) → SoundAt at old → SoundAt at new
+pub sound_drops : (at : Place) (old new : LaneState) → old.output.items ≢ [] → new.output.items ≡ [] → new.stage ≡ old.stage → ((p : Past) → Stands old p → Stands new p) → SoundAt at old → SoundAt at new
 sound_drops place.Reading old new some empty stays sends s = absurd (some s.1)
 sound_drops place.Sending old new some empty stays sends s =
     record { past = s.past; sends = sends s.past s.sends; stage = subst (λ (st : Stage). (st ≡ stage.Sending) ⊎ (st ≡ stage.Done)) (sym stays) s.stage; drops = λ d. empty }
@@ -37,29 +37,29 @@ sound_drops place.Replied old new some empty stays sends s = empty
 
 -- ---- what is seen
 
-pub room_same : (old new : RequestLane) → IsWell old → IsWell new → limits_of new ≡ limits_of old → input_of new ≡ input_of old → most_of new - length (input_of new) ≡ most_of old - length (input_of old)
+pub room_same : (old new : LaneState) → IsWell old → IsWell new → new.limits ≡ old.limits → new.input.items ≡ old.input.items → new.input.capacity - length new.input.items ≡ old.input.capacity - length old.input.items
 room_same old new was now limits input =
-    let most : most_of new ≡ most_of old = now.sized.input ∙ ap (λ l. l.bufsize) limits ∙ sym was.sized.input in
+    let most : new.input.capacity ≡ old.input.capacity = now.sized.input ∙ ap (λ l. l.bufsize) limits ∙ sym was.sized.input in
     λ i. most i - length (input i)
 
 -- where these bytes came behind the others
-pub room_less : (old new : RequestLane) (bytes : List ℕ) → IsWell old → IsWell new → limits_of new ≡ limits_of old → input_of new ≡ input_of old ++ bytes
-    → most_of new - length (input_of new) ≡ most_of old - length (input_of old) - length bytes
+pub room_less : (old new : LaneState) (bytes : List ℕ) → IsWell old → IsWell new → new.limits ≡ old.limits → new.input.items ≡ old.input.items ++ bytes
+    → new.input.capacity - length new.input.items ≡ old.input.capacity - length old.input.items - length bytes
 room_less old new bytes was now limits input =
-    let most : most_of new ≡ most_of old = now.sized.input ∙ ap (λ l. l.bufsize) limits ∙ sym was.sized.input in
-    let long : length (input_of new) ≡ length (input_of old) + length bytes = ap length input ∙ length-append (input_of old) bytes in
+    let most : new.input.capacity ≡ old.input.capacity = now.sized.input ∙ ap (λ l. l.bufsize) limits ∙ sym was.sized.input in
+    let long : length new.input.items ≡ length old.input.items + length bytes = ap length input ∙ length-append old.input.items bytes in
     omega (arith, most, long)
 
 -- and those of them that are to be read
-pub unread_more : (at : Place) (old new : RequestLane) (bytes : List ℕ) → input_of new ≡ input_of old ++ bytes → unread_at at (input_of new) ≡ unread_at at (input_of old) + to_read at (length bytes)
-unread_more place.Reading old new bytes input = ap length input ∙ length-append (input_of old) bytes
-unread_more place.Sending old new bytes input = ap length input ∙ length-append (input_of old) bytes
+pub unread_more : (at : Place) (old new : LaneState) (bytes : List ℕ) → new.input.items ≡ old.input.items ++ bytes → unread_at at new.input.items ≡ unread_at at old.input.items + to_read at (length bytes)
+unread_more place.Reading old new bytes input = ap length input ∙ length-append old.input.items bytes
+unread_more place.Sending old new bytes input = ap length input ∙ length-append old.input.items bytes
 unread_more place.Idle old new bytes input = refl
-unread_more place.Replied old new bytes input = ap length input ∙ length-append (input_of old) bytes
+unread_more place.Replied old new bytes input = ap length input ∙ length-append old.input.items bytes
 
-pub seen_as : (old new : RequestLane) (at : Place) (awaits was now open_ dropped : Bool) (room unread : ℕ) (window : List ℕ)
-    → is_none (ended_of new) ≡ open_ → most_of new - length (input_of new) ≡ room → unread_at at (input_of new) ≡ unread → output_of new ≡ window
-    → source_of new ≡ source_of old → stage_of new ≡ stage_of old → is_dropping new ≡ dropped → array_of new ≡ array_of old
+pub seen_as : (old new : LaneState) (at : Place) (awaits was now open_ dropped : Bool) (room unread : ℕ) (window : List ℕ)
+    → is_none new.ended ≡ open_ → new.input.capacity - length new.input.items ≡ room → unread_at at new.input.items ≡ unread → new.output.items ≡ window
+    → new.source ≡ old.source → new.stage ≡ old.stage → new.dropped ≡ dropped → new.msg ≡ old.msg
     → seen (record { lane = new; place = at; awaits = awaits; at_rest = now })
     ≡ record (seen (record { lane = old; place = at; awaits = awaits; at_rest = was })) { is_open = open_; room = room; unread = unread; window = window; dropped = dropped; at_rest = now }
 seen_as old new at awaits was now open_ dropped room unread window is_open is_room is_unread is_window source stays is_dropped array =
@@ -77,8 +77,8 @@ seen_as old new at awaits was now open_ dropped room unread window is_open is_ro
     }
 
 -- what is seen once the text that waits is dropped
-pub seen_dropped : (old new : RequestLane) (at : Place) (awaits was now : Bool) → IsWell old → IsWell new → limits_of new ≡ limits_of old → input_of new ≡ input_of old
-    → ended_of new ≡ ended_of old → output_of new ≡ [] → source_of new ≡ source_of old → stage_of new ≡ stage_of old → is_dropping new ≡ true → blocks_of new ≡ []
+pub seen_dropped : (old new : LaneState) (at : Place) (awaits was now : Bool) → IsWell old → IsWell new → new.limits ≡ old.limits → new.input.items ≡ old.input.items
+    → new.ended ≡ old.ended → new.output.items ≡ [] → new.source ≡ old.source → new.stage ≡ old.stage → new.dropped ≡ true → new.msg.blocks ≡ []
     → seen (record { lane = new; place = at; awaits = awaits; at_rest = now })
     ≡ record (seen (record { lane = old; place = at; awaits = awaits; at_rest = was })) { window = []; dropped = true; at_rest = now; list = [] }
 seen_dropped old new at awaits was now well_old well_new limits input ended output source stays dropping blocks =

@@ -2,8 +2,8 @@
 use Rattle.std.specs.Prelude.{ℕ, ◌-◌, Bool, true, false, length, is_none}
 use Rattle.lane.specs.declared.direction.stage.Stage.{Stage}
 use Rattle.lane.specs.declared.direction.stage.Stage.TheVariants as stage
-use Rattle.lane.specs.declared.direction.stage.Source.{Source}
-use Rattle.lane.specs.declared.direction.stage.Source.TheVariants as source
+use Rattle.http_model.specs.declared.Source.{Source}
+use Rattle.http_model.specs.declared.Source.TheVariants as source
 use Rattle.lane.specs.Answering.{stage_of, source_of, input_of, most_of, ended_of, output_of, window_of, limits_of, has_begun}
 use Rattle.session_core.specs.Sided.{AnswerSeen}
 use Rattle.session_core.specs.declared.Told.{Told}

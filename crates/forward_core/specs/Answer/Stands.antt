@@ -22,8 +22,8 @@ use Rattle.session_core.specs.declared.Told.{Told}
 use Rattle.session_core.specs.declared.Told.TheVariants as told
 use Rattle.lane.specs.Answering.{Exchange, Answers, Serves, Replies, NotYet, HeadsCame, HasFilters, HoldsNothingBack, IsOpen, IsSoundAnswer, interim_text, limits_of, stage_of, source_of, input_of, output_of, ended_of, phase_of, has_begun, shows_last}
 use Rattle.lane.specs.declared.direction.stage.Stage.TheVariants as stage
-use Rattle.lane.specs.declared.direction.stage.Source.{Source}
-use Rattle.lane.specs.declared.direction.stage.Source.TheVariants as source
+use Rattle.http_model.specs.declared.Source.{Source}
+use Rattle.http_model.specs.declared.Source.TheVariants as source
 use Rattle.lane.specs.declared.response_lane.ResponseLane.{ResponseLane}
 use Rattle.forward_core.specs.Answer.HeadsRead.{HeardAt}
 use Rattle.forward_core.specs.declared.answer.asker.Asker.{Asker as AskerSeen}

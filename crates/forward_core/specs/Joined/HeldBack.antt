@@ -11,8 +11,8 @@ use Rattle.session_core.specs.Leads.{Stands}
 use Rattle.session_core.specs.Place.{IsPlaced}
 use Rattle.session_core.specs.Sided.{Asking, asker_in, RequestAsks}
 use Rattle.session_core.specs.Waits.{Settled}
-use Rattle.session_core.specs.declared.Source.TheVariants as source
-use Rattle.session_core.specs.declared.Source.{Source}
+use Rattle.http_model.specs.declared.Source.TheVariants as source
+use Rattle.http_model.specs.declared.Source.{Source}
 use Rattle.session_core.specs.declared.machine.At.{At}
 use Rattle.forward_core.specs.Request.Shown.{ShowsNoCut, PutsAll, NoHeadCame}
 use Rattle.forward_core.specs.Answer.Resting.{AwaitsHead, PutsOutBody}

@@ -41,7 +41,7 @@ output_back : (lane : Lane) → buffer (refill (length lane.output.items) lane.o
 output_back lane = ap (λ (xs : List ℕ). buffer xs lane.output.capacity) (refilled lane.output.items)
 
 server_text : (side : RequestSide) → requests.with_text side (window_of side) ≡ side
-server_text side = λ i. record side { lane = record side.lane { lane = record side.lane.lane { output = output_back side.lane.lane i } } }
+server_text side = λ i. record side { lane = record side.lane { output = output_back side.lane i } }
 
 client_text : (side : AnswerSide) → answers.with_text side (seen side).window ≡ side
 client_text side = λ i. record side { lane = record side.lane { lane = record side.lane.lane { output = output_back side.lane.lane i } } }

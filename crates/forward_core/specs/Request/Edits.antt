@@ -7,8 +7,7 @@ use Rattle.htx_arena.specs.contracts.arena.Arena as arena
 use Rattle.http_model.specs.Reading.{Received}
 use Rattle.session_core.specs.History.{Coming}
 use Rattle.http_rules.specs.declared.config.Config.{Config}
-use Rattle.lane.specs.Asking as lane
-use Rattle.lane.specs.Lending as lanes
+use Rattle.lane.specs.Direction.Lending.{with_msg, with_output}
 use Rattle.forward_core.specs.Request.Seen.{place_of, is_open, room_of, window_of, window_size_of, array_of, input_size_of, limits_of}
 use Rattle.forward_core.specs.Request.Stands.{IsSound}
 use Rattle.forward_core.specs.Request.Reads.{HasHead, HeadRead}
@@ -17,14 +16,14 @@ use Rattle.forward_core.specs.contracts.request.side.RequestSide.{the_row}
 
 -- how the body of the head is framed, and the length that was declared
 abbrev pub framing_of : RequestSide → Framing
-framing_of side = lane.framing_of side.lane
+framing_of side = side.lane.framing
 
 abbrev pub declared_of : RequestSide → Option ℕ
-declared_of side = lane.declared_of side.lane
+declared_of side = side.lane.declared
 
 -- whether a Connection element was `close`
 abbrev pub close_of : RequestSide → Bool
-close_of side = lane.close_of side.lane
+close_of side = side.lane.close
 
 -- the size of the array, in bytes
 abbrev pub array_size_of : RequestSide → ℕ
@@ -32,7 +31,7 @@ array_size_of side = (array_of side).size
 
 -- the side with this array
 abbrev pub with_head : RequestSide → Contents → RequestSide
-with_head side msg = record side { lane = lanes.with_head side.lane msg }
+with_head side msg = record side { lane = with_msg side.lane msg }
 
 -- the side has the array that the borrow leaves
 abbrev pub LendsHead : MutBor RequestSide → MutBor Contents → Fml
@@ -40,7 +39,7 @@ LendsHead side r = Lends the_row arena.the_row side r (with_head side.now)
 
 -- the side with these bytes as the text that was not taken, as many as stood there
 abbrev pub with_text : RequestSide → List ℕ → RequestSide
-with_text side text = record side { lane = lanes.with_text side.lane text }
+with_text side text = record side { lane = with_output side.lane text }
 
 -- the side has the text that the borrow leaves, as long as it was
 abbrev pub LendsText : MutBor RequestSide → MutBor (List ℕ) → Fml

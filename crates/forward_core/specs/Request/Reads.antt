@@ -19,7 +19,7 @@ use Rattle.forward_core.specs.Meaning.Product.{meaning_of, replaces}
 use Rattle.lane.specs.declared.direction.stage.LaneHead.{LaneHead}
 use Rattle.lane.specs.declared.direction.stage.LaneHead.TheVariants as says
 use Rattle.lane.specs.declared.direction.stage.Stage.TheVariants as stage
-use Rattle.lane.specs.Asking.{stage_of, blocks_of, framing_of, declared_of, close_of, MaySend}
+use Rattle.lane.specs.Direction.Sends.{IsReady}
 use Rattle.forward_core.specs.declared.request.place.Place.TheVariants as place
 use Rattle.forward_core.specs.declared.request.side.RequestSide.{RequestSide}
 use Rattle.forward_core.specs.Request.Seen.{seen, place_of, is_open, room_of, input_size_of}
@@ -27,15 +27,15 @@ use Rattle.forward_core.specs.Request.Stands.{IsFor, RequestStands, Leads, left_
 
 -- a head stands in the array, for rules to run on; nothing of it goes out yet
 pub record HasHead (side : RequestSide) : Type 0 where
-  pub ready : MaySend side.lane
-  pub stage : stage_of side.lane ≡ stage.Head
+  pub ready : IsReady side.lane
+  pub stage : side.lane.stage ≡ stage.Head
 
 -- the array and what is kept beside it are this head
 pub record Holds (side : RequestSide) (received : Received) : Type 0 where
-  pub blocks : blocks_of side.lane ≡ head_blocks received.head
-  pub framing : framing_of side.lane ≡ received.framing
-  pub declared : declared_of side.lane ≡ received.declared
-  pub close : close_of side.lane ≡ received.close
+  pub blocks : side.lane.msg.blocks ≡ head_blocks received.head
+  pub framing : side.lane.framing ≡ received.framing
+  pub declared : side.lane.declared ≡ received.declared
+  pub close : side.lane.close ≡ received.close
 
 -- the client's stream begins with this head, and then comes what is left
 pub record HeadRead (cfg : Config) (side : RequestSide) (came : Coming) (received : Received) : Type 0 where
@@ -95,9 +95,9 @@ UsesBytes old new (says.Refuse code) = 0 < input_size_of old
 abbrev pub SendsOn : RequestSide → RequestSide → Framing → Type 0
 SendsOn old new framed =
     (cfg : Config) (vars : Variables) (came : Coming) (received : Received) (env : Env Variables) (reply : Reply Variables)
-    → HeadRead cfg old came received → framing_of old.lane ≡ received.framing → (meaning_of cfg).request_rules (request_env vars received.head) ≡ Pass env
+    → HeadRead cfg old came received → old.lane.framing ≡ received.framing → (meaning_of cfg).request_rules (request_env vars received.head) ≡ Pass env
     → declares_too_much (meaning_of cfg).request_filters received.declared ≡ false → request_fits (meaning_of cfg) received env.head ≡ true
-    → framed ≡ request_framing (replaces cfg.req_filters) received.framing → blocks_of old.lane ≡ head_blocks (finish_request env.head framed)
+    → framed ≡ request_framing (replaces cfg.req_filters) received.framing → old.lane.msg.blocks ≡ head_blocks (finish_request env.head framed)
     → RequestStands cfg new vars came (record { received = received; head = env.head; vars = env.vars }) [] reply
 
 -- the reply of rules to this head

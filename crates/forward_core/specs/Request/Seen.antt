@@ -3,29 +3,19 @@ use Rattle.std.specs.Prelude.{ℕ, ◌-◌, List, Bool, true, false, is_none, le
 use Rattle.htx_arena.specs.Layout.Contents.{Contents}
 use Rattle.htx_model.specs.Block.{Block}
 use Rattle.http_model.specs.declared.Limits.{Limits}
-use Rattle.lane.specs.Asking as lanes
-use Rattle.lane.specs.Asking.{stage_of, input_of, most_of, ended_of, output_of, is_dropping}
 use Rattle.lane.specs.declared.direction.stage.Stage.{Stage}
 use Rattle.lane.specs.declared.direction.stage.Stage.TheVariants as stage
-use Rattle.lane.specs.declared.direction.stage.Source.{Source as LaneSource}
-use Rattle.lane.specs.declared.direction.stage.Source.TheVariants as came
+use Rattle.http_model.specs.declared.Source.{Source}
+use Rattle.http_model.specs.declared.Source.TheVariants as source
 use Rattle.session_core.specs.Sided.{RequestSeen}
-use Rattle.session_core.specs.declared.Source.{Source}
-use Rattle.session_core.specs.declared.Source.TheVariants as source
 use Rattle.forward_core.specs.declared.request.place.Place.{Place}
 use Rattle.forward_core.specs.declared.request.place.Place.TheVariants as place
 use Rattle.forward_core.specs.declared.request.side.RequestSide.{RequestSide}
 
--- how the body of a request stands, in the words of a core
-abbrev pub source_by : LaneSource → Source
-source_by came.Going = source.Going
-source_by came.Whole = source.Whole
-source_by (came.Cut code) = source.Cut code
-
 -- where no request goes out none is to come whole
-abbrev pub source_at : Place → LaneSource → Source
+abbrev pub source_at : Place → Source → Source
 source_at place.Reading so = source.Cut 400
-source_at place.Sending so = source_by so
+source_at place.Sending so = so
 source_at place.Idle so = source.Cut 400
 source_at place.Replied so = source.Cut 400
 
@@ -48,19 +38,19 @@ place_of side = side.place
 
 -- the client's stream hasn't ended
 abbrev pub is_open : RequestSide → Bool
-is_open side = is_none (ended_of side.lane)
+is_open side = is_none side.lane.ended
 
 -- how many bytes of it can be taken
 abbrev pub room_of : RequestSide → ℕ
-room_of side = most_of side.lane - length (input_of side.lane)
+room_of side = side.lane.input.capacity - length side.lane.input.items
 
 -- the text for the server that was put out and not taken
 abbrev pub window_of : RequestSide → List ℕ
-window_of side = output_of side.lane
+window_of side = side.lane.output.items
 
 -- how many bytes its window can hold
 abbrev pub window_size_of : RequestSide → ℕ
-window_size_of side = lanes.window_size_of side.lane
+window_size_of side = side.lane.output.capacity
 
 -- its bytes that are not read yet; behind a head that ends the session none is
 abbrev pub unread_at : Place → List ℕ → ℕ
@@ -77,27 +67,27 @@ to_read place.Idle n = 0
 to_read place.Replied n = n
 
 abbrev pub unread_of : RequestSide → ℕ
-unread_of side = unread_at side.place (input_of side.lane)
+unread_of side = unread_at side.place side.lane.input.items
 
 -- how the body of the request stands that goes to a server
 abbrev pub source_of : RequestSide → Source
-source_of side = source_at side.place (lanes.source_of side.lane)
+source_of side = source_at side.place side.lane.source
 
 -- the sizes that it was made with
 abbrev pub limits_of : RequestSide → Limits
-limits_of side = lanes.limits_of side.lane
+limits_of side = side.lane.limits
 
 -- how many bytes of the client's stream stand in its window
 abbrev pub input_size_of : RequestSide → ℕ
-input_size_of side = length (input_of side.lane)
+input_size_of side = length side.lane.input.items
 
 -- the array on which rules run
 abbrev pub array_of : RequestSide → Contents
-array_of side = lanes.array_of side.lane
+array_of side = side.lane.msg
 
 -- its blocks
 abbrev pub list_of : RequestSide → List Block
-list_of side = lanes.blocks_of side.lane
+list_of side = side.lane.msg.blocks
 
 -- all that a core sees
 abbrev pub seen : RequestSide → RequestSeen
@@ -108,8 +98,8 @@ seen side =
       unread = unread_of side;
       window = window_of side;
       source = source_of side;
-      sent = sent_at side.place (stage_of side.lane);
-      dropped = is_dropping side.lane;
+      sent = sent_at side.place side.lane.stage;
+      dropped = side.lane.dropped;
       awaits = side.awaits;
       at_rest = side.at_rest;
       list = list_of side;

@@ -12,12 +12,13 @@ use Rattle.px_sample.specs.Variables.{Variables}
 use Rattle.http_rules.specs.declared.config.Config.{Config}
 use Rattle.forward_core.specs.Meaning.Product.{meaning_of, replaces}
 use Rattle.lane.specs.Direction.Sent.{Sent, IsFrontOf}
-use Rattle.lane.specs.Direction.Sends.{Past}
+use Rattle.lane.specs.Direction.Sends.{Past, IsSound as IsWell, IsReading, Stands}
 use Rattle.lane.specs.Direction.Promise.{OnEachBody, body_sent, finish_of}
 use Rattle.lane.specs.declared.direction.stage.Stage.TheVariants as stage
-use Rattle.lane.specs.Asking.{stage_of, input_of, ended_of, output_of, is_dropping, limits_of, HasFilters, IsWell, MayRead, Sends}
+use Rattle.lane.specs.Direction.Filtering.{AreThese}
+use Rattle.h1_head.specs.declared.answer.Side.TheVariants as side
 use Rattle.lane.specs.Answering.{SameLines}
-use Rattle.lane.specs.declared.request_lane.RequestLane.{RequestLane}
+use Rattle.lane.specs.Direction.State.{LaneState}
 use Rattle.forward_core.specs.declared.request.place.Place.{Place}
 use Rattle.forward_core.specs.declared.request.place.Place.TheVariants as place
 use Rattle.forward_core.specs.declared.request.side.RequestSide.{RequestSide}
@@ -26,18 +27,18 @@ use Rattle.forward_core.specs.Request.Rests.{RestsAt}
 -- ---- at any moment
 
 -- a request goes out, or has gone out; nothing waits for a server that stopped
-pub record GoesSoundly (lane : RequestLane) : Type 0 where
+pub record GoesSoundly (lane : LaneState) : Type 0 where
   pub past : Past
-  pub sends : Sends lane past
-  pub stage : (stage_of lane ≡ stage.Sending) ⊎ (stage_of lane ≡ stage.Done)
-  pub drops : is_dropping lane ≡ true → output_of lane ≡ []
+  pub sends : Stands lane past
+  pub stage : (lane.stage ≡ stage.Sending) ⊎ (lane.stage ≡ stage.Done)
+  pub drops : lane.dropped ≡ true → lane.output.items ≡ []
 
 -- where the lane stands, by what is made of the next request
-abbrev pub SoundAt : Place → RequestLane → Type 0
-SoundAt place.Reading lane = MayRead lane × (output_of lane ≡ [])
+abbrev pub SoundAt : Place → LaneState → Type 0
+SoundAt place.Reading lane = IsReading side.Request lane × (lane.output.items ≡ [])
 SoundAt place.Sending lane = GoesSoundly lane
-SoundAt place.Idle lane = output_of lane ≡ []
-SoundAt place.Replied lane = output_of lane ≡ []
+SoundAt place.Idle lane = lane.output.items ≡ []
+SoundAt place.Replied lane = lane.output.items ≡ []
 
 -- its lane has the sizes that it was made with, and stands where the place says; at rest it has left nothing undone
 pub record IsSound (side : RequestSide) : Type 0 where
@@ -48,22 +49,22 @@ pub record IsSound (side : RequestSide) : Type 0 where
 -- ---- for a past
 
 -- the lane is for this configuration
-pub record IsFor (cfg : Config) (lane : RequestLane) : Type 0 where
-  pub limits : limits_of lane ≡ cfg.limits
-  pub filters : HasFilters lane cfg.req_filters
+pub record IsFor (cfg : Config) (lane : LaneState) : Type 0 where
+  pub limits : lane.limits ≡ cfg.limits
+  pub filters : AreThese lane.sieve cfg.req_filters
 
 -- these bytes, and the ending that the lane has
-abbrev pub coming : RequestLane → List ℕ → Coming
-coming lane bytes = record { bytes = bytes; ending = ended_of lane }
+abbrev pub coming : LaneState → List ℕ → Coming
+coming lane bytes = record { bytes = bytes; ending = lane.ended }
 
 -- what is left of the client's stream
 abbrev pub left_of : RequestSide → Coming
-left_of side = coming side.lane (input_of side.lane)
+left_of side = coming side.lane side.lane.input.items
 
 -- what came stands in the window, but for empty lines in front
-pub record ReadsOn (lane : RequestLane) (came : Coming) : Type 0 where
-  pub ending : came.ending ≡ ended_of lane
-  pub lines : SameLines came.bytes (input_of lane)
+pub record ReadsOn (lane : LaneState) (came : Coming) : Type 0 where
+  pub ending : came.ending ≡ lane.ended
+  pub lines : SameLines came.bytes lane.input.items
 
 -- the message that goes to the server, as its head tells
 abbrev pub message_to : Config → Asking Variables → Sent
@@ -77,20 +78,20 @@ message_to cfg asking =
     }
 
 -- behind what the server took some text more is a front of whatever the request comes to
-pub record Lacks (lane : RequestLane) (past : Past) : Type 0 where
+pub record Lacks (lane : LaneState) (past : Past) : Type 0 where
   pub text : List ℕ
   pub some : text ≢ []
-  pub front : OnEachBody lane.lane past (λ read. IsFrontOf past.sent (body_sent past read) (finish_of past.filters read) (past.took ++ text))
+  pub front : OnEachBody lane past (λ read. IsFrontOf past.sent (body_sent past read) (finish_of past.filters read) (past.took ++ text))
 
 -- what was put out: taken or in the window; once text is dropped, what the server took, which is not all
-abbrev pub HasPut : (dropped : Bool) → RequestLane → Past → (to_server : List ℕ) → Type 0
-HasPut false lane past to_server = to_server ≡ past.took ++ output_of lane
+abbrev pub HasPut : (dropped : Bool) → LaneState → Past → (to_server : List ℕ) → Type 0
+HasPut false lane past to_server = to_server ≡ past.took ++ lane.output.items
 HasPut true lane past to_server = (to_server ≡ past.took) × Lacks lane past
 
 -- a head came, the rules let it pass, its length is within the limits and its finished list fits, and the lane sends it
-pub record GoesOut (cfg : Config) (lane : RequestLane) (vars : Variables) (came : Coming) (asking : Asking Variables) (to_server : List ℕ) : Type 0 where
+pub record GoesOut (cfg : Config) (lane : LaneState) (vars : Variables) (came : Coming) (asking : Asking Variables) (to_server : List ℕ) : Type 0 where
   pub past : Past
-  pub sends : Sends lane past
+  pub sends : Stands lane past
   pub used : List ℕ
   pub env : Env Variables
   pub head : HeadCame (meaning_of cfg) came asking.received used (coming lane past.bytes)
@@ -101,7 +102,7 @@ pub record GoesOut (cfg : Config) (lane : RequestLane) (vars : Variables) (came 
   pub message : past.sent ≡ message_to cfg asking
   pub filters : past.filters ≡ cfg.req_filters
   pub reads : past.reads ≡ asking.received.framing
-  pub put : HasPut (is_dropping lane) lane past to_server
+  pub put : HasPut lane.dropped lane past to_server
 
 -- a head came, and the rules reply to it
 pub record IsReplied (cfg : Config) (vars : Variables) (came : Coming) (reply : Reply Variables) (left : Coming) : Type 0 where
@@ -109,11 +110,11 @@ pub record IsReplied (cfg : Config) (vars : Variables) (came : Coming) (reply : 
   pub came_is : came ≡ prepended used left
   pub asks : (rest : Stream) → Continues left rest → Asks (meaning_of cfg) vars (prepend used rest) (replied_to reply rest)
 
-abbrev pub StandsAt : Place → Config → RequestLane → (vars : Variables) → (came : Coming) → Asking Variables → (to_server : List ℕ) → Reply Variables → Type 0
+abbrev pub StandsAt : Place → Config → LaneState → (vars : Variables) → (came : Coming) → Asking Variables → (to_server : List ℕ) → Reply Variables → Type 0
 StandsAt place.Reading cfg lane vars came asking to_server reply = ReadsOn lane came
 StandsAt place.Sending cfg lane vars came asking to_server reply = GoesOut cfg lane vars came asking to_server
 StandsAt place.Idle cfg lane vars came asking to_server reply = ⊤
-StandsAt place.Replied cfg lane vars came asking to_server reply = IsReplied cfg vars came reply (coming lane (input_of lane))
+StandsAt place.Replied cfg lane vars came asking to_server reply = IsReplied cfg vars came reply (coming lane lane.input.items)
 
 -- The request direction of this configuration stands for this past: the variables in front of the exchange, the client's stream
 -- from there on, the request that goes to a server and its text so far, and the reply of its rules.

@@ -6,7 +6,6 @@ use Rattle.session_core.specs.Sided.{Asking, Reply, RequestGoes, request_to}
 use Rattle.px_sample.specs.Variables.{Variables}
 use Rattle.http_rules.specs.declared.config.Config.{Config}
 use Rattle.forward_core.specs.Meaning.Product.{meaning_of}
-use Rattle.lane.specs.Asking.{stage_of, is_dropping}
 use Rattle.forward_core.specs.Request.Seen.{source_of, sent_at, window_of}
 use Rattle.forward_core.specs.Request.Stands.{RequestStands, left_of}
 use Rattle.forward_core.specs.declared.request.side.RequestSide.{RequestSide}
@@ -15,14 +14,14 @@ use Rattle.forward_core.specs.declared.request.side.RequestSide.{RequestSide}
 abbrev pub RequestsSo : Config → RequestSide → (vars : Variables) → (came : Coming) → Asking Variables → (to_server : List ℕ) → Type 0
 RequestsSo cfg side vars came asking to_server =
     (stream : Stream) → Continues came stream
-    → RequestGoes (meaning_of cfg) (source_of side) (sent_at side.place (stage_of side.lane) && not (is_dropping side.lane)) (is_dropping side.lane) vars asking to_server stream
+    → RequestGoes (meaning_of cfg) (source_of side) (sent_at side.place side.lane.stage && not side.lane.dropped) side.lane.dropped vars asking to_server stream
 
 -- The request has come whole: the exchange used these bytes, and this is left.
 pub record WholeCame (cfg : Config) (side : RequestSide) (vars : Variables) (came : Coming) (asking : Asking Variables) (to_server : List ℕ) (left : Coming) : Type 0 where
   pub used : List ℕ
   pub came_is : came ≡ prepended used left
   pub goes : (rest : Stream) → Continues left rest
-      → (g : RequestGoes (meaning_of cfg) (source_of side) (sent_at side.place (stage_of side.lane) && not (is_dropping side.lane)) (is_dropping side.lane) vars asking to_server (prepend used rest))
+      → (g : RequestGoes (meaning_of cfg) (source_of side) (sent_at side.place side.lane.stage && not side.lane.dropped) side.lane.dropped vars asking to_server (prepend used rest))
       × ((request_to (meaning_of cfg) asking g.rest g.goes.body).cut ≡ None) × ((request_to (meaning_of cfg) asking g.rest g.goes.body).rest ≡ rest)
 
 -- a step puts text out to the server

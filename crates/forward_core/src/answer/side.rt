@@ -86,7 +86,7 @@ impl AnswerSide {
     }
 
     /// Bytes of the server come.
-    pub fn take_server(&mut self, bytes: &[u8])
+    pub fn from_server(&mut self, bytes: &[u8])
         requires sound { IsSoundSide self.old }
         requires open { (seen self.old).is_open ≡ true }
         requires room { length bytes.now ≤ (seen self.old).room }
@@ -98,12 +98,12 @@ impl AnswerSide {
         ensures size { size_of self.new ≡ size_of self.old }
         ensures window_size { window_size_of self.new ≡ window_size_of self.old }
     {
-        self.lane.take(bytes);
+        self.lane.push(bytes);
         self.at_rest = false;
     }
 
     /// The server's stream ends.
-    pub fn end_server(&mut self, how: Ending)
+    pub fn server_ended(&mut self, how: Ending)
         requires sound { IsSoundSide self.old }
         requires open { (seen self.old).is_open ≡ true }
         ensures leads { (cfg : Config) (asking : Asking Variables) (server : Coming) (put : List ℕ) (now : Variables) (saying : Saying) → AnswerStands cfg self.old asking server put now saying

@@ -3,7 +3,7 @@ ghost use Rattle.std.specs.Prelude.{◌≡◌, ◌⊎◌, ℕ, [], None, true, f
 ghost use Rattle.http_rules.specs.declared.config.Config.{Config};
 ghost use Rattle.session_core.specs.History.{Past};
 ghost use Rattle.session_core.specs.declared.Phase.TheVariants as phase;
-ghost use Rattle.session_core.specs.declared.Source.TheVariants as source;
+ghost use Rattle.http_model.specs.declared.Source.TheVariants as source;
 ghost use Rattle.session_core.specs.declared.Told.TheVariants as told;
 ghost use Rattle.session_core.specs.declared.machine.At.{At};
 ghost use Rattle.forward_core.specs.Joined.HeldBack.{HasWorked, IsUncutSoFar, IsSentSoFar, AwaitsAnswer, IsAnsweredSoFar, AwaitsRequest};

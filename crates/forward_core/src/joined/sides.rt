@@ -3,18 +3,19 @@ ghost use Rattle.std.specs.Prelude.{◌≡◌};
 
 use crate::joined::directions::Directions;
 use crate::joined::saying;
-use http_model::{Ending, OutOfMemory};
+use http_model::{Ending, OutOfMemory, Source};
 use http_rules::Config;
-use session_core::{Asked, Lends, Peers, Renewable, Shows, Sides, Source, Told, Works};
+use session_core::{Asked, Renewable, Told, Works};
 
-impl<'c> Sides for Directions<'c> {
+impl<'c> Works for Directions<'c> {
     /// The configuration, and how many bytes an output window has.
     type Settings = (Config, u32);
 
     ghost use Rattle.forward_core.specs.Meaning.Product.{meaning_of};
     ghost use Rattle.forward_core.specs.Rules.Ruling.{holds_pattern};
     ghost use Rattle.forward_core.specs.Joined.Joined.{SessionStands, Placed, request_of, answer_of};
-    ghost use Rattle.forward_core.specs.Joined.Lent.{with_to_client, with_to_server, client_lent, server_lent};
+    ghost use Rattle.forward_core.specs.Joined.Lent.{with_to_client, with_to_server, LendsToClient, LendsToServer, client_lent, server_lent};
+    ghost use Rattle.std.specs.Borrow.{sem};
     ghost use Rattle.forward_core.specs.Joined.Begins.{begins};
 
     ghost meaning = { λ settings. meaning_of settings.0 };
@@ -67,14 +68,6 @@ impl<'c> Sides for Directions<'c> {
         self.answer.has_heard()
     }
 
-    ghost lends_to_client = { client_lent };
-
-    ghost lends_to_server = { server_lent };
-
-    ghost begins_so = { λ settings d p at s says placed. begins settings.0 d p at s.directions says placed };
-}
-
-impl<'c> Shows for Directions<'c> {
     fn client_is_open(&self) -> bool {
         self.request.client_is_open()
     }
@@ -102,12 +95,6 @@ impl<'c> Shows for Directions<'c> {
     fn request_raw(&self) -> &[u8] {
         self.request.request_raw()
     }
-}
-
-impl<'c> Lends for Directions<'c> {
-    ghost use Rattle.forward_core.specs.Joined.Joined.{request_of, answer_of};
-    ghost use Rattle.forward_core.specs.Joined.Lent.{LendsToClient, LendsToServer};
-    ghost use Rattle.std.specs.Borrow.{sem};
 
     fn to_client(&mut self) -> &mut [u8]
         ensures* back { sem 𝓛 (LendsToClient self.entry result) }
@@ -122,27 +109,25 @@ impl<'c> Lends for Directions<'c> {
     {
         self.request.to_server()
     }
-}
 
-impl<'c> Peers for Directions<'c> {
-    fn take_client(&mut self, bytes: &[u8]) {
-        self.request.take_client(bytes);
+    fn from_client(&mut self, bytes: &[u8]) {
+        self.request.from_client(bytes);
     }
 
-    fn end_client(&mut self, how: Ending) {
-        self.request.end_client(how);
+    fn client_ended(&mut self, how: Ending) {
+        self.request.client_ended(how);
     }
 
     fn client_took(&mut self, n: usize) {
         self.answer.client_took(n);
     }
 
-    fn take_server(&mut self, bytes: &[u8]) {
-        self.answer.take_server(bytes);
+    fn from_server(&mut self, bytes: &[u8]) {
+        self.answer.from_server(bytes);
     }
 
-    fn end_server(&mut self, how: Ending) {
-        self.answer.end_server(how);
+    fn server_ended(&mut self, how: Ending) {
+        self.answer.server_ended(how);
     }
 
     fn server_took(&mut self, n: usize) {
@@ -158,9 +143,7 @@ impl<'c> Peers for Directions<'c> {
         self.rules.begin_answer();
         self.answer.open_server();
     }
-}
 
-impl<'c> Works for Directions<'c> {
     fn ask(&mut self) -> Result<Asked, OutOfMemory> {
         self.ask_next()
     }
@@ -215,6 +198,12 @@ impl<'c> Works for Directions<'c> {
         self.answer.next();
         self.rules.begin_exchange();
     }
+
+    ghost lends_to_client = { client_lent };
+
+    ghost lends_to_server = { server_lent };
+
+    ghost begins_so = { λ settings d p at s says placed. begins settings.0 d p at s.directions says placed };
 }
 
 impl<'c> Renewable for Directions<'c> {

@@ -9,7 +9,7 @@ ghost use Rattle.session_core.specs.Consequences.{IsTotal};
 ghost use Rattle.session_model.specs.Stream.{Stream};
 ghost use Rattle.session_core.specs.History.{Coming, Continues};
 ghost use Rattle.session_core.specs.Sided.{Asking, Reply, RequestAsks};
-ghost use Rattle.session_core.specs.declared.Source.TheVariants as source;
+ghost use Rattle.http_model.specs.declared.Source.TheVariants as source;
 ghost use Rattle.px_sample.specs.Variables.{Variables};
 ghost use Rattle.http_rules.specs.declared.config.Config.{Config};
 ghost use Rattle.forward_core.specs.Meaning.Product.{meaning_of};
@@ -56,7 +56,7 @@ pub fn edited()
     ensures size { (side : RequestSide) → HasHead side → array_size_of side ≡ (limits_of side).bufsize }
     ensures edits { (side : RequestSide) (msg : Contents) → msg.size ≡ array_size_of side → place_of side ≡ place.Idle → HasHead side → Edits side (with_head side msg) }
 {
-    lanes::edited_request();
+    lanes::edited_lane();
 }
 
 /// Where the source is whole the request has come whole, and what stands in the input window follows it.

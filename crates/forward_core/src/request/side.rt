@@ -8,26 +8,25 @@ ghost use Rattle.http_rules.specs.declared.config.Config.{Config};
 ghost use Rattle.session_core.specs.History.{Coming, no_stream, gains, ends};
 ghost use Rattle.session_core.specs.Sided.{Asking, Reply};
 ghost use Rattle.session_core.specs.Leads.{KeepsRequest};
-ghost use Rattle.session_core.specs.declared.Source.TheVariants as source;
-ghost use Rattle.lane.specs.Asking.{stage_of};
+ghost use Rattle.http_model.specs.declared.Source.TheVariants as source;
 ghost use Rattle.lane.specs.declared.direction.stage.Stage.TheVariants as stage;
 
 mod views;
 
 use crate::request::place::Place;
 use body_filter::FilterSpec;
+use h1_head::Side;
 use h1_head::laws::has_bytes;
 use http_model::{Ending, Framing, Limits, OutOfMemory};
 use htx_arena::Arena;
 use lane::laws::promise;
-use lane::{LaneHead, RequestLane, Source as LaneSource, Stage};
-use session_core::Source;
+use lane::{Lane, LaneHead, Stage};
 use std::alloc::Global;
 
 /// The request direction of a session.
 #[derive(Drop)]
 pub struct RequestSide {
-    lane: RequestLane,
+    lane: Lane,
     place: Place,
     /// The client waits for a response head before it sends the body (RFC 9110 section 10.1.1).
     awaits: bool,
@@ -65,10 +64,8 @@ impl RequestSide {
         ensures window { IfOk result (λ side. window_of side ≡ []) }
         ensures window_size { IfOk result (λ side. window_size_of side ≡ window) }
     {
-        let mut lane = RequestLane::new(alloc, limits, window, filters)?;
-        lane.next();
         Ok(RequestSide {
-            lane,
+            lane: Lane::new(alloc, limits, window, filters)?,
             place: Place::Reading,
             awaits: false,
             at_rest: false,
@@ -76,7 +73,7 @@ impl RequestSide {
     }
 
     /// Bytes of the client's stream come.
-    pub fn take_client(&mut self, bytes: &[u8])
+    pub fn from_client(&mut self, bytes: &[u8])
         requires sound { IsSound self.old }
         requires open { is_open self.old ≡ true }
         requires room { length bytes.now ≤ room_of self.old }
@@ -87,12 +84,12 @@ impl RequestSide {
         ensures limits { limits_of self.new ≡ limits_of self.old }
         ensures window_size { window_size_of self.new ≡ window_size_of self.old }
     {
-        self.lane.take(bytes);
+        self.lane.push(bytes);
         self.at_rest = false;
     }
 
     /// The client's stream ends.
-    pub fn end_client(&mut self, how: Ending)
+    pub fn client_ended(&mut self, how: Ending)
         requires sound { IsSound self.old }
         requires open { is_open self.old ≡ true }
         ensures sound { IsSound self.new }
@@ -160,8 +157,8 @@ impl RequestSide {
     /// Whether text of a request is still to go out.
     fn is_going_out(&self) -> bool
         ensures place { result ≡ true → place_of self.now ≡ place.Sending }
-        ensures stage { result ≡ true → stage_of self.now.lane ≡ stage.Sending }
-        ensures rests { result ≡ false → place_of self.now ≡ place.Sending → stage_of self.now.lane ≢ stage.Sending }
+        ensures stage { result ≡ true → self.now.lane.stage ≡ stage.Sending }
+        ensures rests { result ≡ false → place_of self.now ≡ place.Sending → self.now.lane.stage ≢ stage.Sending }
     {
         match self.place {
             Place::Sending => self.lane.stage() == Stage::Sending,
@@ -185,7 +182,7 @@ impl RequestSide {
     {
         has_bytes();
         self.at_rest = false;
-        match self.lane.read_head() {
+        match self.lane.read_head(Side::Request) {
             LaneHead::More => {
                 self.at_rest = true;
                 LaneHead::More
@@ -263,6 +260,7 @@ impl RequestSide {
         ensures window_size { window_size_of self.new ≡ window_size_of self.old }
     {
         self.lane.next();
+        self.lane.clear_output();
         self.place = Place::Reading;
         self.at_rest = false;
     }
@@ -279,7 +277,8 @@ impl RequestSide {
         ensures open { is_open self.new ≡ true }
         ensures window { window_of self.new ≡ [] }
     {
-        self.lane.renew();
+        self.lane.new_stream();
+        self.lane.clear_output();
         self.place = Place::Reading;
         self.awaits = false;
         self.at_rest = false;

@@ -14,6 +14,7 @@ use crate::replay::links::{client_link, net_for};
 use crate::replay::outcome::report_of;
 use crate::replay::record_net::RecordNet;
 use crate::replay::turns::turns_of;
+use crate::weave::Conn;
 use crate::{Address, Machine, OutOfMemory, Ran, SessionFault, Turn, run_session};
 use px_link::{ListTurns, MemLink};
 use rec_format::{Connection, Record, Report};
@@ -34,23 +35,22 @@ fn run_over<C: Machine, K: Cores<C>>(
     core: &mut C,
     to: &Address,
     conn: &Connection,
-    client: &mut MemLink,
-    net: &mut RecordNet,
+    over: &mut Conn<MemLink, RecordNet>,
     turns: &mut ListTurns,
 ) -> Result<Ran, OutOfMemory>
     requires ready { K.ready cores.now }
     requires stands { C.stands (K.settings cores.now) core.old nothing_yet }
     requires idle { (C.seen core.old).serving ≡ false }
     requires sound { C.sound core.old }
-    requires client { IsFresh (visit conn.now).client None client.old }
-    requires net { IsFreshNet (visit conn.now).servers net.old.net net.old.refused }
-    ensures { IfOk result (RanByTurns (C.meaning (K.settings cores.now)) (C.stands (K.settings cores.now)) C.seen turns.old turns.new (visit conn.now) (address_of to.now) client.old client.new net.old.net net.old.refused net.new.net net.new.refused) }
+    requires client { IsFresh (visit conn.now).client None over.old.client }
+    requires net { IsFreshNet (visit conn.now).servers over.old.net.net over.old.net.refused }
+    ensures { IfOk result (RanByTurns (C.meaning (K.settings cores.now)) (C.stands (K.settings cores.now)) C.seen turns.old turns.new (visit conn.now) (address_of to.now) over.old.client over.new.client over.old.net.net over.old.net.refused over.new.net.net over.new.net.refused) }
 {
     let Some(budget) = budget_of(conn, cores.bufsize()) else {
         return Err(OutOfMemory);
     };
     only_want_of_memory_gives_up::<C, K>();
-    match run_session(core, to, client, net, turns, budget) {
+    match run_session(core, to, &mut over.client, &mut over.net, turns, budget) {
         Ok(ran) => Ok(ran),
         Err(fault) => Err(only_memory(fault)),
     }
@@ -67,20 +67,18 @@ pub fn replay_connection<C: Machine + Drop, K: Cores<C>>(
     requires ready { K.ready cores.now }
     ensures { IfOk result (λ report. Replays (C.meaning (K.settings cores.now)) (C.stands (K.settings cores.now)) C.seen turns.items (visit conn.now) (out_of report)) }
 {
-    let mut client = client_link(alloc, &conn.client)?;
-    let mut net = net_for(alloc, &conn.servers)?;
+    let client = client_link(alloc, &conn.client)?;
+    let net = net_for(alloc, &conn.servers)?;
+    let mut over = Conn {
+        client,
+        net,
+        server: None,
+        ran: None,
+    };
     let mut turns = ListTurns::new(turns);
     let mut core = cores.core(alloc)?;
-    let ran = run_over(
-        cores,
-        &mut core,
-        to,
-        conn,
-        &mut client,
-        &mut net,
-        &mut turns,
-    )?;
-    report_of(alloc, ran, &client, &net)
+    let ran = run_over(cores, &mut core, to, conn, &mut over, &mut turns)?;
+    report_of(alloc, ran, &over.client, &over.net)
 }
 
 /// Runs the sessions of a record one after another, each with a core of its own and by the turns of its number. Want of memory is the

@@ -11,8 +11,8 @@ use Rattle.htx_model.proofs.PublicLaws.{flow-append}
 use Rattle.h1_write.proofs.PublicLaws.{grown_told}
 use Rattle.lane.specs.Direction.Sent.{Sent, message_of}
 use Rattle.lane.specs.Direction.Carried.{Carried, CarriesFront, Carries}
-use Rattle.lane.specs.declared.direction.stage.Source.{Source}
-use Rattle.lane.specs.declared.direction.stage.Source.TheVariants as source
+use Rattle.http_model.specs.declared.Source.{Source}
+use Rattle.http_model.specs.declared.Source.TheVariants as source
 use Rattle.lane.proofs.DirectionLemmas.FlowLemmas.{head_flow, flow-middle, flow_none, none_first, none_second}
 
 -- ---- text is put out

@@ -22,8 +22,8 @@ use Rattle.lane.specs.Direction.Filtering.{HasPassed, AreThese, SieveFits, Sieve
 use Rattle.lane.specs.Direction.Holding.{Holds, MeetsEnd, HoldsSo, HoldsNext, HoldsBy}
 use Rattle.lane.specs.Direction.Sends.{Past, Sends, SourceIs, RestsFor, put_out, end_left}
 use Rattle.lane.specs.Direction.Sends as sends
-use Rattle.lane.specs.declared.direction.stage.Source.{Source}
-use Rattle.lane.specs.declared.direction.stage.Source.TheVariants as source
+use Rattle.http_model.specs.declared.Source.{Source}
+use Rattle.http_model.specs.declared.Source.TheVariants as source
 use Rattle.lane.specs.Direction.State.{LaneState}
 use Rattle.lane.proofs.DirectionLemmas.PullLemmas.{Feeds, piece_length, waits_here}
 use Rattle.lane.proofs.DirectionLemmas.ReadLemmas.{more_section}

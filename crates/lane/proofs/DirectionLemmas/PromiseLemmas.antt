@@ -25,8 +25,8 @@ use Rattle.lane.specs.Direction.Carried.{Carried, CarriesFront, Carries, EndIsOu
 use Rattle.lane.specs.Direction.Sends.{Past, Sends, Stands, SourceIs, IsAllOut, put_out}
 use Rattle.lane.specs.Direction.Filtering.{IsWholeAt, IsCutAt, CutBy, Broken, RefusedNow, RefusedAtEnd}
 use Rattle.lane.specs.Direction.Promise.{Promise, BodyTaken, HasBody, OnEachBody, GoesOnWith, body_in, body_sent, filter_of, finish_of, ends_as, IsCut, IsCutWith}
-use Rattle.lane.specs.declared.direction.stage.Source.{Source}
-use Rattle.lane.specs.declared.direction.stage.Source.TheVariants as source
+use Rattle.http_model.specs.declared.Source.{Source}
+use Rattle.http_model.specs.declared.Source.TheVariants as source
 use Rattle.lane.specs.Direction.State.{LaneState}
 use Rattle.htx_model.proofs.PublicLaws.{flow-front}
 use Rattle.lane.proofs.DirectionLemmas.FlowLemmas.{front_flow, front_more, front_ended}

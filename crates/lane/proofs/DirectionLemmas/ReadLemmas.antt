@@ -28,8 +28,8 @@ use Rattle.htx_model.proofs.PublicLaws.{flow-front}
 use Rattle.lane.proofs.DirectionLemmas.FlowLemmas.{front_flow, front_more, front_ended, same_trailers}
 use Rattle.lane.specs.Direction.Pulled.{Pulls, IsWaiting}
 use Rattle.lane.specs.Direction.Sends.{Past, Sends, SourceIs, put_out}
-use Rattle.lane.specs.declared.direction.stage.Source.{Source}
-use Rattle.lane.specs.declared.direction.stage.Source.TheVariants as source
+use Rattle.http_model.specs.declared.Source.{Source}
+use Rattle.http_model.specs.declared.Source.TheVariants as source
 use Rattle.lane.specs.Direction.State.{LaneState}
 use Rattle.lane.proofs.DirectionLemmas.RoomLemmas.{some_end}
 use Rattle.lane.specs.declared.sieve.sieve.Sieve.{Sieve}

@@ -18,7 +18,7 @@ use Rattle.lane.specs.Direction.Pulled.{IsWaiting}
 use Rattle.lane.specs.Direction.Sends.{Past, Sends, Stands, IsAtRest, RestsFor, IsOver, Waits, put_out}
 use Rattle.lane.specs.Direction.Filtering.{HasPassed, SieveRests}
 use Rattle.lane.specs.Direction.Promise.{BodyTaken, body_in, sent_so_far, ShowsNoCut, EndsInSection}
-use Rattle.lane.specs.declared.direction.stage.Source.TheVariants as source
+use Rattle.http_model.specs.declared.Source.TheVariants as source
 use Rattle.lane.specs.Direction.State.{LaneState}
 use Rattle.lane.proofs.DirectionLemmas.BodyLemmas.{waiting_body, waiting_open}
 use Rattle.lane.proofs.DirectionLemmas.SendLemmas.{plain_settled}

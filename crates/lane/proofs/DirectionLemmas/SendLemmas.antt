@@ -18,8 +18,8 @@ use Rattle.lane.specs.declared.sieve.sieve.BodyEnd.{BodyEnd}
 use Rattle.lane.specs.declared.sieve.sieve.Sieve.{Sieve}
 use Rattle.lane.specs.Direction.Filtering.{HasPassed, SieveRests, GoesOnBy, EndsAt, Broken}
 use Rattle.lane.specs.Direction.Sends.{Past, Sends, SourceIs, put_out}
-use Rattle.lane.specs.declared.direction.stage.Source.{Source}
-use Rattle.lane.specs.declared.direction.stage.Source.TheVariants as source
+use Rattle.http_model.specs.declared.Source.{Source}
+use Rattle.http_model.specs.declared.Source.TheVariants as source
 use Rattle.lane.specs.Direction.State.{LaneState}
 use Rattle.lane.proofs.DirectionLemmas.CarryLemmas.{carries_closed}
 

@@ -34,8 +34,8 @@ use Rattle.lane.specs.Direction.Sent.{message_of}
 use Rattle.lane.specs.Direction.Sends.{Past, Sends, SourceIs, put_out, is_going, end_left}
 use Rattle.lane.specs.declared.direction.sift.Came.{Came}
 use Rattle.lane.specs.declared.direction.sift.Came.TheVariants as came
-use Rattle.lane.specs.declared.direction.stage.Source.{Source}
-use Rattle.lane.specs.declared.direction.stage.Source.TheVariants as source
+use Rattle.http_model.specs.declared.Source.{Source}
+use Rattle.http_model.specs.declared.Source.TheVariants as source
 use Rattle.lane.specs.Direction.State.{LaneState}
 use Rattle.lane.proofs.DirectionLemmas.RoomLemmas.{trailers_fit}
 use Rattle.lane.proofs.DirectionLemmas.ReadLemmas.{carried, further, read_on, read_last}

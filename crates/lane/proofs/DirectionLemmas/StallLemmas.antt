@@ -21,11 +21,11 @@ use Rattle.lane.specs.declared.sieve.sieve.BodyEnd.{BodyEnd}
 use Rattle.lane.specs.declared.sieve.sieve.BodyEnd.TheVariants as body_end
 use Rattle.lane.specs.declared.sieve.sieve.Sieve.{Sieve}
 use Rattle.lane.specs.Direction.Filtering.{IsWholeAt, IsCutAt, EndsAt, GoesOnBy, IsEndAt, CutBy, Broken, RefusedNow, RefusedAtEnd, held_left}
-use Rattle.lane.specs.declared.direction.stage.Source.{Source}
+use Rattle.http_model.specs.declared.Source.{Source}
 use Rattle.lane.specs.Direction.Sends.{Past, Sends, SourceIs, IsAtRest, IsDrained, RestsFor, IsOver, Waits, GoesOn, IsAllOut, Stands, reads_left, brings_left, end_left, is_going}
 use Rattle.lane.specs.declared.direction.stage.Stage.{Stage as LaneStage}
 use Rattle.lane.specs.declared.direction.stage.Stage.TheVariants as stage
-use Rattle.lane.specs.declared.direction.stage.Source.TheVariants as source
+use Rattle.http_model.specs.declared.Source.TheVariants as source
 use Rattle.lane.specs.Direction.State.{LaneState}
 
 -- a window in which nothing can be used is short

@@ -12,7 +12,7 @@ use Rattle.lane.specs.Direction.Filtering.{HasPassed, AreThese, SieveFits, Sieve
 use Rattle.lane.specs.Direction.Sends.{IsSized, Keeps, is_going, end_left, reads_left}
 use Rattle.lane.specs.declared.direction.sift.Came.{Came}
 use Rattle.lane.specs.declared.direction.sift.Came.TheVariants as came
-use Rattle.lane.specs.declared.direction.stage.Source.{Source}
+use Rattle.http_model.specs.declared.Source.{Source}
 use Rattle.lane.specs.Direction.State.{LaneState}
 use Rattle.lane.proofs.DirectionLemmas.SiftLemmas.{Steps, after_sift, these_on, more_left, waits_left, ends_left}
 

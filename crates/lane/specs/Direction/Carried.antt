@@ -8,8 +8,8 @@ use Rattle.h1_write.specs.declared.writer.Writer.{Writer}
 use Rattle.h1_write.specs.Spelled.{HasWritten, has_ended, is_done, IsEven}
 use Rattle.http_model.specs.Head.{front_blocks, message_blocks}
 use Rattle.lane.specs.Direction.Sent.{Sent, message_of}
-use Rattle.lane.specs.declared.direction.stage.Source.{Source}
-use Rattle.lane.specs.declared.direction.stage.Source.TheVariants as source
+use Rattle.http_model.specs.declared.Source.{Source}
+use Rattle.http_model.specs.declared.Source.TheVariants as source
 
 -- The writer has put out this text, behind what stood before it; the blocks that it took, those that are left for it and those behind them are
 -- these blocks, but for bounds between data.

@@ -14,8 +14,8 @@ use Rattle.lane.specs.declared.sieve.sieve.Sifted.TheVariants as sifted
 use Rattle.lane.specs.declared.sieve.sieve.Sieve.{Sieve}
 use Rattle.lane.specs.declared.direction.sift.Came.{Came}
 use Rattle.lane.specs.declared.direction.sift.Came.TheVariants as came
-use Rattle.lane.specs.declared.direction.stage.Source.{Source}
-use Rattle.lane.specs.declared.direction.stage.Source.TheVariants as source
+use Rattle.http_model.specs.declared.Source.{Source}
+use Rattle.http_model.specs.declared.Source.TheVariants as source
 
 -- what the filters' answer comes to
 abbrev pub came_at : Sifted → Came

@@ -16,7 +16,7 @@ use Rattle.body_filter.specs.Filter.{Filtered, filtered}
 use Rattle.lane.specs.Direction.Sent.{Finish, Cut, Ends, SpellsAs, IsFrontOf}
 use Rattle.lane.specs.Direction.Sends.{Past, put_out}
 use Rattle.lane.specs.declared.direction.stage.Stage.TheVariants as stage
-use Rattle.lane.specs.declared.direction.stage.Source.TheVariants as source
+use Rattle.http_model.specs.declared.Source.TheVariants as source
 use Rattle.lane.specs.Direction.State.{LaneState}
 
 -- the bytes of a body, however far it is

@@ -22,8 +22,8 @@ use Rattle.h1_write.specs.Spelled.{IsEven}
 use Rattle.lane.specs.Direction.Carried.{Carries, EndIsOut}
 use Rattle.lane.specs.Direction.Pulled.{IsWaiting}
 use Rattle.lane.specs.declared.direction.stage.Stage.TheVariants as stage
-use Rattle.lane.specs.declared.direction.stage.Source.{Source}
-use Rattle.lane.specs.declared.direction.stage.Source.TheVariants as source
+use Rattle.http_model.specs.declared.Source.{Source}
+use Rattle.http_model.specs.declared.Source.TheVariants as source
 use Rattle.lane.specs.Direction.State.{LaneState}
 
 -- What happened to a lane since `send`: the message that was begun, the filters of its body, how that body is framed where it

@@ -8,7 +8,7 @@ use Rattle.wire_buf.specs.Buffer.{Buffer}
 use Rattle.lane.specs.declared.sieve.sieve.Sieve.{Sieve}
 use Rattle.h1_body.specs.declared.reader.BodyReader.{BodyReader}
 use Rattle.h1_write.specs.declared.writer.Writer.{Writer}
-use Rattle.lane.specs.declared.direction.stage.Source.{Source}
+use Rattle.http_model.specs.declared.Source.{Source}
 use Rattle.lane.specs.declared.direction.stage.Stage.{Stage}
 
 -- A lane between two calls.

@@ -9,11 +9,11 @@ mod telling;
 mod views;
 
 use crate::direction::input::Input;
-use crate::direction::stage::{Source, Stage};
+use crate::direction::stage::Stage;
 use crate::sieve::Sieve;
 use h1_body::BodyReader;
 use h1_write::Writer;
-use http_model::{Ending, Framing, Limits};
+use http_model::{Ending, Framing, Limits, Source};
 use htx_arena::Arena;
 use std::marker::Model;
 use wire_buf::Window;

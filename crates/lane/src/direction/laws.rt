@@ -5,7 +5,7 @@ ghost use Rattle.lane.specs.Direction.Promise.{Promise, HasBody, BodyTaken, Show
 ghost use Rattle.lane.specs.Direction.Sent.{Cut, SpellsAs};
 ghost use Rattle.lane.specs.Direction.Sends.{Past, Stands, IsAtRest, RestsFor, put_out};
 ghost use Rattle.lane.specs.Direction.State.{LaneState};
-ghost use Rattle.lane.specs.declared.direction.stage.Source.TheVariants as source;
+ghost use Rattle.http_model.specs.declared.Source.TheVariants as source;
 
 /// What a lane that sends a message has put out, and what its source says, is the meaning of what it took.
 pub fn promise()

@@ -5,8 +5,8 @@ ghost use Rattle.lane.specs.declared.sieve.sieve.BodyEnd.TheVariants as body_end
 ghost use Rattle.lane.specs.Direction.Coming.{Comes, ComesBy, came_at};
 ghost use Rattle.lane.specs.Direction.Filtering.{SieveFits};
 
-use crate::direction::stage::Source;
 use crate::sieve::{BodyEnd, Sieve, Sifted};
+use http_model::Source;
 use htx_arena::Arena;
 
 /// What a step of the filters came to.

@@ -3,7 +3,7 @@ ghost use Rattle.std.specs.Prelude.{◌≡◌, ◌≤◌, [], length, true, fals
 ghost use Rattle.body_filter.specs.declared.filter_spec.FilterSpec.{FilterSpec};
 ghost use Rattle.lane.specs.Answering.{Exchange, Answers, PutsOut, IsSoundAnswer, IsAmongHeads, HoldsNothingBack, Rests, MayGoOn, HasFilters, shows_last, stage_of, source_of, input_of, ended_of, output_of, window_of, limits_of, has_begun, phase_of};
 ghost use Rattle.lane.specs.declared.phase.Phase.TheVariants as phase;
-ghost use Rattle.lane.specs.declared.direction.stage.Source.TheVariants as source;
+ghost use Rattle.http_model.specs.declared.Source.TheVariants as source;
 ghost use Rattle.lane.specs.declared.direction.stage.Stage.TheVariants as stage;
 
 use crate::phase::Phase;
@@ -107,9 +107,9 @@ impl ResponseLane {
         ensures sound { IsSoundAnswer self.new }
         ensures filters { (filters : List FilterSpec) → HasFilters self.old filters → HasFilters self.new filters }
     {
-        let before = self.lane.put();
+        let before = self.lane.output_len();
         self.lane.step();
-        if self.lane.put() > before {
+        if self.lane.output_len() > before {
             self.begun = true;
         }
     }

@@ -3,9 +3,9 @@ ghost use Rattle.std.specs.Prelude.{◌≡◌, ◌+◌, length};
 ghost use Rattle.htx_arena.specs.Layout.Held.{held};
 ghost use Rattle.lane.specs.Answering.{stage_of, source_of, input_of, output_of, most_of, blocks_of, addrs_of, framing_of, declared_of, close_of, has_begun};
 
-use crate::direction::{Source, Stage};
+use crate::direction::Stage;
 use crate::response_lane::ResponseLane;
-use http_model::Framing;
+use http_model::{Framing, Source};
 
 impl ResponseLane {
     /// Where the lane stands.
@@ -68,6 +68,6 @@ impl ResponseLane {
     pub fn output_len(&self) -> usize
         ensures { result ≡ length (output_of self.now) }
     {
-        self.lane.put()
+        self.lane.output_len()
     }
 }

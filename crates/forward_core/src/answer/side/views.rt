@@ -6,7 +6,8 @@ ghost use Rattle.forward_core.specs.Answer.Stands.{IsSoundSide};
 
 use crate::answer::place::Place;
 use crate::answer::side::AnswerSide;
-use lane::{Source, Stage};
+use http_model::Source;
+use lane::Stage;
 use session_core::Told;
 
 /// How a response stands, by its body.

@@ -2,26 +2,14 @@
 ghost use Rattle.std.specs.Prelude.{◌≡◌, not};
 ghost use Rattle.session_core.specs.Sided.{HoldsList};
 ghost use Rattle.session_core.specs.Waits.{is_empty};
-ghost use Rattle.forward_core.specs.Request.Seen.{seen, place_of, is_open, room_of, window_of, array_of, source_by};
+ghost use Rattle.forward_core.specs.Request.Seen.{seen, place_of, is_open, room_of, window_of, array_of};
 ghost use Rattle.forward_core.specs.Request.Edits.{framing_of, declared_of, close_of};
 
 use crate::request::place::Place;
 use crate::request::side::RequestSide;
-use http_model::Framing;
+use http_model::{Framing, Source};
 use htx_arena::Arena;
-use lane::{Source as LaneSource, Stage};
-use session_core::Source;
-
-/// How a body stands, in the words of a core.
-fn source_by(source: LaneSource) -> Source
-    ensures { result ≡ source_by source }
-{
-    match source {
-        LaneSource::Going => Source::Going,
-        LaneSource::Whole => Source::Whole,
-        LaneSource::Cut(code) => Source::Cut(code),
-    }
-}
+use lane::Stage;
 
 impl RequestSide {
     ghost use Rattle.std.specs.Borrow.{sem};
@@ -39,7 +27,7 @@ impl RequestSide {
         ensures { result ≡ (seen self.now).source }
     {
         match self.place {
-            Place::Sending => source_by(self.lane.source()),
+            Place::Sending => self.lane.source(),
             Place::Reading => Source::Cut(400),
             Place::Idle => Source::Cut(400),
             Place::Replied => Source::Cut(400),

@@ -10,19 +10,19 @@ ghost use Rattle.lane.specs.Direction.Filtering.{AreThese, HasPassed, SieveFits,
 ghost use Rattle.header_ops.specs.Headers.{without_framing};
 ghost use Rattle.h1_head.specs.declared.answer.Side.{Side};
 ghost use Rattle.lane.specs.Direction.Sends.{Past, Stands, GoesOn, IsAtRest, IsAllOut, IsSound, IsReady, IsReading, RestsFor, begun};
-ghost use Rattle.lane.specs.declared.direction.stage.Source.TheVariants as source;
+ghost use Rattle.http_model.specs.declared.Source.TheVariants as source;
 ghost use Rattle.lane.specs.declared.direction.stage.Stage.TheVariants as stage;
 
 use crate::direction::input::Input;
 use crate::direction::lane::Lane;
-use crate::direction::stage::{Source, Stage};
+use crate::direction::stage::Stage;
 use crate::sieve::Sieve;
 use body_filter::FilterSpec;
 use h1_body::BodyReader;
 use h1_head::laws::stays_scanned;
 use h1_write::Writer;
 use header_ops::remove_framing;
-use http_model::{Ending, Framing, Limits};
+use http_model::{Ending, Framing, Limits, Source};
 use htx_arena::Arena;
 use htx_model::OutOfMemory;
 use std::alloc::Global;
@@ -102,7 +102,7 @@ impl Lane {
     }
 
     /// Bytes of the stream come.
-    pub fn take(&mut self, bytes: &[u8])
+    pub fn push(&mut self, bytes: &[u8])
         requires open { self.old.ended ≡ None }
         requires room { length self.old.input.items + length bytes.now ≤ self.old.input.capacity }
         ensures input { self.new.input.items ≡ self.old.input.items ++ bytes.now }

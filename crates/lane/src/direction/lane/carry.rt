@@ -4,12 +4,13 @@ ghost use Rattle.body_filter.specs.declared.filter_spec.FilterSpec.{FilterSpec};
 ghost use Rattle.lane.specs.Direction.Filtering.{AreThese, SieveRests, held_left};
 ghost use Rattle.lane.specs.Direction.Sends.{Stands, GoesOn, IsAllOut, IsSound, Past, Sends, Leads, Keeps, IsAtRest, IsDrained, reads_left, brings_left, is_going, IsSized};
 ghost use Rattle.h1_write.specs.Spelled.{IsEven, is_done};
-ghost use Rattle.lane.specs.declared.direction.stage.Source.TheVariants as source;
+ghost use Rattle.http_model.specs.declared.Source.TheVariants as source;
 ghost use Rattle.lane.specs.declared.direction.stage.Stage.TheVariants as stage;
 
 use crate::direction::lane::Lane;
 use crate::direction::sift::{Came, sift};
-use crate::direction::stage::{Source, Stage};
+use crate::direction::stage::Stage;
+use http_model::Source;
 use htx_xfer::xfer;
 
 impl Lane {

@@ -3,7 +3,7 @@ ghost use Rattle.std.specs.Prelude.{◌≡◌, ◌≢◌, ◌≤◌, ◌<◌, �
 ghost use Rattle.body_filter.specs.declared.filter_spec.FilterSpec.{FilterSpec};
 ghost use Rattle.lane.specs.Direction.Filtering.{AreThese, SieveRests, held_left};
 ghost use Rattle.lane.specs.Direction.Sends.{Stands, GoesOn, IsAllOut, IsSound, Past, Sends, Leads, Keeps, RestsFor, reads_left, is_going, IsSized};
-ghost use Rattle.lane.specs.declared.direction.stage.Source.TheVariants as source;
+ghost use Rattle.http_model.specs.declared.Source.TheVariants as source;
 ghost use Rattle.lane.specs.declared.direction.stage.Stage.TheVariants as stage;
 
 use crate::direction::lane::Lane;

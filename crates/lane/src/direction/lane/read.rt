@@ -5,13 +5,12 @@ ghost use Rattle.lane.specs.Direction.Sends.{Past, Sends, Leads, Keeps, RestsFor
 ghost use Rattle.lane.specs.Direction.Pulled.{IsWaiting};
 ghost use Rattle.h1_body.specs.Stands.{state_of, ends_of};
 ghost use Rattle.h1_body.specs.declared.reader.BodyState.TheVariants as state;
-ghost use Rattle.lane.specs.declared.direction.stage.Source.TheVariants as source;
+ghost use Rattle.http_model.specs.declared.Source.TheVariants as source;
 
 use crate::direction::hold::hold;
 use crate::direction::lane::Lane;
-use crate::direction::stage::Source;
 use h1_body::{BodyReader, BodyState};
-use http_model::Ending;
+use http_model::{Ending, Source};
 
 /// What a closed stream makes of a body.
 fn source_at_close(reader: &BodyReader) -> Source

@@ -9,14 +9,14 @@ ghost use Rattle.h1_write.specs.Spelled.{is_done};
 ghost use Rattle.lane.specs.Direction.Shown.{Shows, Goes};
 ghost use Rattle.lane.specs.Direction.Sends.{Stands, IsSound, IsReady, said};
 ghost use Rattle.lane.specs.declared.direction.stage.Stage.TheVariants as stage;
-ghost use Rattle.lane.specs.declared.direction.stage.Source.TheVariants as source;
+ghost use Rattle.http_model.specs.declared.Source.TheVariants as source;
 
 use crate::direction::lane::Lane;
 use crate::direction::lane::calls::reset;
-use crate::direction::stage::{Source, Stage};
+use crate::direction::stage::Stage;
 use h1_body::BodyReader;
 use h1_write::Writer;
-use http_model::Framing;
+use http_model::{Framing, Source};
 use htx_arena::Arena;
 use htx_xfer::xfer;
 

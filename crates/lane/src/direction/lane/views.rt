@@ -3,8 +3,8 @@ ghost use Rattle.std.specs.Prelude.{◌≡◌, ◌+◌, length, is_none};
 ghost use Rattle.htx_arena.specs.Layout.Held.{held, blocks_of as told};
 
 use crate::direction::lane::Lane;
-use crate::direction::stage::{Source, Stage};
-use http_model::Framing;
+use crate::direction::stage::Stage;
+use http_model::{Framing, Source};
 
 impl Lane {
     /// Where the lane stands.
@@ -66,7 +66,7 @@ impl Lane {
     }
 
     /// How many bytes are put out and were not taken.
-    pub fn put(&self) -> usize
+    pub fn output_len(&self) -> usize
         ensures { result ≡ length self.now.output.items }
     {
         self.output.len()

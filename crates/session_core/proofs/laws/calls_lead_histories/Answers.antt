@@ -10,5 +10,5 @@ one_more p (d ∷ h) e = one_more (after p d) h e
 
 pub returns : goal.returns
 returns g c = λ cfg old new old_at new_at h e leads s.
-    let P : Past → Type 0 = λ p. Stands (g.S.Sides.meaning cfg) g.S.Sides.request g.S.Sides.answer (g.S.Sides.stands cfg) new new_at p in
+    let P : Past → Type 0 = λ p. Stands (g.S.Works.meaning cfg) g.S.Works.request g.S.Works.answer (g.S.Works.stands cfg) new new_at p in
     subst P (sym (one_more nothing_yet h e)) (leads cfg (past_of h) s)

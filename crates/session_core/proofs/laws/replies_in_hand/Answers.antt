@@ -2,4 +2,4 @@ use Rattle.session_core.proofs.InHand.{replies_so}
 use Rattle.session_core.proofs.laws.replies_in_hand.Goals as goal
 
 pub returns : goal.returns
-returns g c = λ cfg sides at past kept s is. replies_so (g.S.Sides.meaning cfg) (g.S.Sides.stands cfg sides) at kept (g.S.Sides.request sides) (g.S.Sides.answer sides) s.sided past is s.stand s.holds
+returns g c = λ cfg sides at past kept s is. replies_so (g.S.Works.meaning cfg) (g.S.Works.stands cfg sides) at kept (g.S.Works.request sides) (g.S.Works.answer sides) s.sided past is s.stand s.holds

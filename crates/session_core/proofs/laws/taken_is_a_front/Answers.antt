@@ -4,5 +4,5 @@ use Rattle.session_core.proofs.laws.taken_is_a_front.Goals as goal
 
 pub returns : goal.returns
 returns g c = λ cfg sides at past s.
-    front_taken (g.S.Sides.meaning cfg) past (g.S.Sides.answer sides).window (g.S.Sides.request sides).window (g.S.Sides.answer sides).begun
-    (front (g.S.Sides.meaning cfg) (g.S.Sides.total cfg sides s.sided s.stand) at (g.S.Sides.request sides) (g.S.Sides.answer sides) s.sided past s.holds)
+    front_taken (g.S.Works.meaning cfg) past (g.S.Works.answer sides).window (g.S.Works.request sides).window (g.S.Works.answer sides).begun
+    (front (g.S.Works.meaning cfg) (g.S.Works.total cfg sides s.sided s.stand) at (g.S.Works.request sides) (g.S.Works.answer sides) s.sided past s.holds)

@@ -7,19 +7,19 @@ use Rattle.session_core.proofs.machine.Core.client_ended.Goals as goal
 
 pub returns-clause-leads : goal.returns-clause-leads
 returns-clause-leads g c = λ cfg past s.
-    let M = g.S.Sides.meaning cfg in
+    let M = g.S.Works.meaning cfg in
     let at = c.args.self.now.at in
-    let q = g.S.Sides.request c.args.self.now.sides in
-    let a = g.S.Sides.answer c.args.self.now.sides in
+    let q = g.S.Works.request c.args.self.now.sides in
+    let a = g.S.Works.answer c.args.self.now.sides in
     record {
       sided = record s.sided { came = ends s.sided.came c.args.how };
-      stand = c.end_client.ensures.leads cfg s.sided s.stand;
-      holds = holds_at M at (record q { is_open = false; at_rest = false }) (g.S.Sides.request c.end_client.new.self) a (g.S.Sides.answer c.end_client.new.self) _ _ c.end_client.ensures.request c.end_client.ensures.answer
+      stand = c.client_ended.ensures.leads cfg s.sided s.stand;
+      holds = holds_at M at (record q { is_open = false; at_rest = false }) (g.S.Works.request c.client_ended.new.self) a (g.S.Works.answer c.client_ended.new.self) _ _ c.client_ended.ensures.request c.client_ended.ensures.answer
           (client_ends M at q a s.sided past c.args.how c.requires.open s.holds);
     }
 
-pub end_client-requires-clause-placed : goal.end_client-requires-clause-placed
-end_client-requires-clause-placed g c = is_somewhere (g.S.Sides.placed c.args.self.now.sides) (g.S.Sides.answer c.args.self.now.sides) c.args.self.now.at.phase c.args.self.now.at.cut c.requires.placed
+pub client_ended-requires-clause-placed : goal.client_ended-requires-clause-placed
+client_ended-requires-clause-placed g c = is_somewhere (g.S.Works.placed c.args.self.now.sides) (g.S.Works.answer c.args.self.now.sides) c.args.self.now.at.phase c.args.self.now.at.cut c.requires.placed
 
 pub returns-clause-placed : goal.returns-clause-placed
-returns-clause-placed g c = stay_placed (g.S.Sides.placed c.args.self.now.sides) (g.S.Sides.placed c.end_client.new.self) (g.S.Sides.answer c.args.self.now.sides) (g.S.Sides.answer c.end_client.new.self) c.args.self.now.at.phase c.args.self.now.at.cut c.end_client.ensures.placed (ap (λ (a : AnswerSeen). a.answered) c.end_client.ensures.answer) c.requires.placed
+returns-clause-placed g c = stay_placed (g.S.Works.placed c.args.self.now.sides) (g.S.Works.placed c.client_ended.new.self) (g.S.Works.answer c.args.self.now.sides) (g.S.Works.answer c.client_ended.new.self) c.args.self.now.at.phase c.args.self.now.at.cut c.client_ended.ensures.placed (ap (λ (a : AnswerSeen). a.answered) c.client_ended.ensures.answer) c.requires.placed

@@ -6,17 +6,17 @@ use Rattle.session_core.proofs.machine.Core.end_refused.Goals as goal
 
 pub returns-then-is_answered-clause-keeps : goal.returns-then-is_answered-clause-keeps
 returns-then-is_answered-clause-keeps g c = λ cfg past s.
-    let M = g.S.Sides.meaning cfg in
+    let M = g.S.Works.meaning cfg in
     let at = c.args.self.now.at in
-    let q = g.S.Sides.request c.args.self.now.sides in
-    let a = g.S.Sides.answer c.args.self.now.sides in
+    let q = g.S.Works.request c.args.self.now.sides in
+    let a = g.S.Works.answer c.args.self.now.sides in
     record { sided = s.sided; stand = s.stand; holds = ends_refusing M at q a s.sided past c.requires.phase (sym c.is_answered.ensures ∙ c.if-is_answered.true) s.holds }
 
 pub returns-else-is_answered-clause-keeps : goal.returns-else-is_answered-clause-keeps
-returns-else-is_answered-clause-keeps g c = λ cfg past s. still (g.S.Sides.meaning cfg) g.S.Sides.request g.S.Sides.answer (g.S.Sides.stands cfg) c.args.self.now.sides c.args.self.now.at past s
+returns-else-is_answered-clause-keeps g c = λ cfg past s. still (g.S.Works.meaning cfg) g.S.Works.request g.S.Works.answer (g.S.Works.stands cfg) c.args.self.now.sides c.args.self.now.at past s
 
 pub is_answered-requires : goal.is_answered-requires
-is_answered-requires g c = record { placed = is_somewhere (g.S.Sides.placed c.args.self.now.sides) (g.S.Sides.answer c.args.self.now.sides) c.args.self.now.at.phase c.args.self.now.at.cut c.requires.placed }
+is_answered-requires g c = record { placed = is_somewhere (g.S.Works.placed c.args.self.now.sides) (g.S.Works.answer c.args.self.now.sides) c.args.self.now.at.phase c.args.self.now.at.cut c.requires.placed }
 
 pub returns-then-is_answered-clause-placed : goal.returns-then-is_answered-clause-placed
-returns-then-is_answered-clause-placed g c = is_somewhere (g.S.Sides.placed c.args.self.now.sides) (g.S.Sides.answer c.args.self.now.sides) c.args.self.now.at.phase c.args.self.now.at.cut c.requires.placed
+returns-then-is_answered-clause-placed g c = is_somewhere (g.S.Works.placed c.args.self.now.sides) (g.S.Works.answer c.args.self.now.sides) c.args.self.now.at.phase c.args.self.now.at.cut c.requires.placed

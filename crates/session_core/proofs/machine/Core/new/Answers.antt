@@ -6,5 +6,5 @@ returns-clause-stands g c = λ cfg p s fresh.
     record {
       sided = p;
       stand = s;
-      holds = holds_first (g.S.Sides.meaning cfg) (g.S.Sides.request c.args.sides) (g.S.Sides.answer c.args.sides) p fresh;
+      holds = holds_first (g.S.Works.meaning cfg) (g.S.Works.request c.args.sides) (g.S.Works.answer c.args.sides) p fresh;
     }

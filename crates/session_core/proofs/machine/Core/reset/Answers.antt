@@ -7,5 +7,5 @@ returns-clause-stands g c = λ cfg past s.
     record {
       sided = r.0;
       stand = r.1;
-      holds = holds_first (g.S.Sides.meaning cfg) (g.S.Sides.request c.renew.new.self) (g.S.Sides.answer c.renew.new.self) r.0 r.2;
+      holds = holds_first (g.S.Works.meaning cfg) (g.S.Works.request c.renew.new.self) (g.S.Works.answer c.renew.new.self) r.0 r.2;
     }

@@ -16,7 +16,7 @@ loop-self-init g c =
           (c.end_exchange.ensures.cut ∙ ap (λ (t : At). t.cut) c.in_ok-run_answer.ensures.at ∙ c.in_ok-refuse_unserved.ensures.cut);
       ended =
           c.end_exchange.ensures.ended (ready_first c.run_request.new.self.at.phase c.refuse_unserved.new.self.at.phase c.run_answer.new.self.at.phase c.run_answer.new.self.at.cut
-          (g.S.Sides.request c.run_request.new.self.sides) (g.S.Sides.request c.refuse_unserved.new.self.sides) (g.S.Sides.request c.run_answer.new.self.sides) (g.S.Sides.answer c.run_answer.new.self.sides)
+          (g.S.Works.request c.run_request.new.self.sides) (g.S.Works.request c.refuse_unserved.new.self.sides) (g.S.Works.request c.run_answer.new.self.sides) (g.S.Works.answer c.run_answer.new.self.sides)
           c.run_request.ensures.stepped c.in_ok-refuse_unserved.ensures.phase c.in_ok-refuse_unserved.ensures.request (ap (λ (t : At). t.phase) c.in_ok-run_answer.ensures.at) c.run_answer.ensures.request c.in_ok-run_answer.ensures.answered);
       serving =
           c.end_exchange.ensures.serving ∙ ap (λ (t : At). is_serving t.phase) c.in_ok-run_answer.ensures.at ∙ ap (λ ph. is_serving ph) c.in_ok-refuse_unserved.ensures.phase
@@ -33,7 +33,7 @@ loop-self-preserved g c =
           (c.end_exchange-in-loop-self.ensures.cut ∙ ap (λ (t : At). t.cut) c.in_ok-run_answer-2.ensures.at ∙ c.in_ok-begin_exchange.ensures.cut);
       ended =
           c.end_exchange-in-loop-self.ensures.ended (ready_again c.begin_exchange.new.self.at.phase c.run_answer-in-loop-self.new.self.at.phase c.run_answer-in-loop-self.new.self.at.cut
-          (g.S.Sides.request c.run_answer-in-loop-self.new.self.sides) (g.S.Sides.answer c.run_answer-in-loop-self.new.self.sides)
+          (g.S.Works.request c.run_answer-in-loop-self.new.self.sides) (g.S.Works.answer c.run_answer-in-loop-self.new.self.sides)
           (c.in_ok-begin_exchange.ensures.saying c.if-branch.true) (ap (λ (t : At). t.phase) c.in_ok-run_answer-2.ensures.at) c.in_ok-run_answer-2.ensures.answered);
       serving =
           c.end_exchange-in-loop-self.ensures.serving ∙ ap (λ (t : At). is_serving t.phase) c.in_ok-run_answer-2.ensures.at ∙ c.in_ok-begin_exchange.ensures.serving ∙ c.loop-self.invariant.serving;

@@ -7,10 +7,10 @@ use Rattle.session_core.proofs.machine.Core.server_closed.Goals as goal
 
 pub returns-clause-leads : goal.returns-clause-leads
 returns-clause-leads g c = λ cfg past s.
-    let M = g.S.Sides.meaning cfg in
+    let M = g.S.Works.meaning cfg in
     let at = c.args.self.now.at in
-    let q = g.S.Sides.request c.args.self.now.sides in
-    let a = g.S.Sides.answer c.args.self.now.sides in
+    let q = g.S.Works.request c.args.self.now.sides in
+    let a = g.S.Works.answer c.args.self.now.sides in
     record {
       sided = s.sided;
       stand = s.stand;
@@ -19,4 +19,4 @@ returns-clause-leads g c = λ cfg past s.
     }
 
 pub returns-clause-placed : goal.returns-clause-placed
-returns-clause-placed g c = (placed_in (g.S.Sides.placed c.args.self.now.sides) (g.S.Sides.answer c.args.self.now.sides) c.args.self.now.at.phase phase.Serving c.args.self.now.at.cut c.requires.serving c.requires.placed, c.requires.answered)
+returns-clause-placed g c = (placed_in (g.S.Works.placed c.args.self.now.sides) (g.S.Works.answer c.args.self.now.sides) c.args.self.now.at.phase phase.Serving c.args.self.now.at.cut c.requires.serving c.requires.placed, c.requires.answered)

@@ -2,4 +2,4 @@ use Rattle.session_core.proofs.Placing.{is_somewhere}
 use Rattle.session_core.proofs.machine.Core.wants.Goals as goal
 
 pub wants_here-requires : goal.wants_here-requires
-wants_here-requires g c = record { placed = is_somewhere (g.S.Sides.placed c.args.self.now.sides) (g.S.Sides.answer c.args.self.now.sides) c.args.self.now.at.phase c.args.self.now.at.cut c.requires.placed }
+wants_here-requires g c = record { placed = is_somewhere (g.S.Works.placed c.args.self.now.sides) (g.S.Works.answer c.args.self.now.sides) c.args.self.now.at.phase c.args.self.now.at.cut c.requires.placed }

@@ -5,11 +5,11 @@ use Rattle.session_core.proofs.machine.Core.work.Goals as goal
 
 pub returns-in-Ok-clause-leads : goal.returns-in-Ok-clause-leads
 returns-in-Ok-clause-leads g c =
-    let n = noted g.S.Sides.meaning g.S.Sides.request g.S.Sides.answer g.S.Sides.stands c.args.self.now.sides c.args.self.now.at c.run.new.self.sides c.run.new.self.at _ c.in-Ok.ensures.keeps c.in-Ok.ensures.met in
+    let n = noted g.S.Works.meaning g.S.Works.request g.S.Works.answer g.S.Works.stands c.args.self.now.sides c.args.self.now.at c.run.new.self.sides c.run.new.self.at _ c.in-Ok.ensures.keeps c.in-Ok.ensures.met in
     (n.note, n.is, n.leads)
 
 pub returns-in-Ok-clause-wants : goal.returns-in-Ok-clause-wants
-returns-in-Ok-clause-wants g c = some_want (g.S.Sides.request c.run.new.self.sides) (g.S.Sides.answer c.run.new.self.sides) c.run.new.self.at c.in-Ok.ensures.settled
+returns-in-Ok-clause-wants g c = some_want (g.S.Works.request c.run.new.self.sides) (g.S.Works.answer c.run.new.self.sides) c.run.new.self.at c.in-Ok.ensures.settled
 
 pub returns-in-Err-clause-succeeds : goal.returns-in-Err-clause-succeeds
 returns-in-Err-clause-succeeds g c = λ cfg past s e. absurd (false≢true (c.in-Err.ensures.succeeds cfg past s e))

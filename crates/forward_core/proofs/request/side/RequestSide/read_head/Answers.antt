@@ -1,10 +1,10 @@
-use Rattle.std.proofs.Common.{false, ap, ◌∙◌, refl}
+use Rattle.std.proofs.Common.{ℕ, false, ap, ◌∙◌, refl}
 use Rattle.std.specs.Prelude.{is_none, is_some}
 use Rattle.http_model.specs.Reading.{Nothing, Refused}
+use Rattle.wire_buf.specs.Buffer.{Buffer}
 use Rattle.h1_head.specs.declared.answer.Side.TheVariants as side
-use Rattle.lane.specs.Asking.{input_of, most_of, limits_of, ended_of}
 use Rattle.forward_core.specs.declared.request.place.Place.TheVariants as place
-use Rattle.forward_core.proofs.RequestLemmas.Events.{for_same}
+use Rattle.forward_core.proofs.RequestLemmas.Events.{for_same, same_by}
 use Rattle.forward_core.proofs.RequestLemmas.Reading.{at_reading, on_reading, still_reading, nothing_out, each_nothing, asks_reading, head_read, reads_on, some_room, refuses_bytes, head_uses}
 use Rattle.forward_core.proofs.RequestLemmas.Resting.{more_rests}
 use Rattle.forward_core.proofs.request.side.RequestSide.read_head.Goals as goal
@@ -14,7 +14,7 @@ returns-in-More-clause-sound c =
     let e = c.in-More.ensures in
     record {
       well = e.tells.reading.ready.sound;
-      at = still_reading c.args.self.now.place c.args.self.now.lane c.read_head.new.self c.requires.place c.requires.sound.at e.tells.reading e.output;
+      at = still_reading c.args.self.now.place c.args.self.now.lane c.read_head.new.self c.requires.place c.requires.sound.at e.tells.reading (ap (λ (b : Buffer ℕ). b.items) e.output);
       rests = λ rest. more_rests c.args.self.now.place c.args.self.now.lane c.read_head.new.self c.requires.place e.limits e.ended e.tells;
     }
 
@@ -26,17 +26,17 @@ returns-in-More-clause-tells c =
     record {
       place = c.requires.place;
       is_open = ap is_none (e.ended ∙ e.tells.ended);
-      room = some_room (most_of new) (input_of new) e.tells.room;
+      room = some_room new.input.capacity new.input.items e.tells.room;
       rests = refl;
       leads = λ cfg vars came asking to_server reply h. record {
-        is_for = for_same cfg old new (record { limits = e.limits; filters = λ cfg has. e.filters cfg.req_filters has }) h.is_for;
+        is_for = for_same cfg old new (same_by old new e.limits e.sieve) h.is_for;
         at = on_reading c.args.self.now.place cfg new vars came asking to_server reply c.requires.place (reads_on old new came e.ended e.tells (at_reading c.args.self.now.place cfg old vars came asking to_server reply c.requires.place h.at));
       };
     }
 
 pub returns-in-Nothing-clause-sound : goal.returns-in-Nothing-clause-sound
 returns-in-Nothing-clause-sound c =
-    record { well = c.in-Nothing.ensures.tells.reading.ready.sound; at = c.in-Nothing.ensures.output ∙ nothing_out c.args.self.now.place c.args.self.now.lane c.requires.place c.requires.sound.at; rests = λ e. tt }
+    record { well = c.in-Nothing.ensures.tells.reading.ready.sound; at = ap (λ (b : Buffer ℕ). b.items) c.in-Nothing.ensures.output ∙ nothing_out c.args.self.now.place c.args.self.now.lane c.requires.place c.requires.sound.at; rests = λ e. tt }
 
 pub returns-in-Nothing-clause-tells : goal.returns-in-Nothing-clause-tells
 returns-in-Nothing-clause-tells c =
@@ -46,7 +46,7 @@ returns-in-Nothing-clause-tells c =
     record {
       place = refl;
       leads = λ cfg vars came asking to_server reply h. record {
-        is_for = for_same cfg old new (record { limits = e.limits; filters = λ cfg has. e.filters cfg.req_filters has }) h.is_for;
+        is_for = for_same cfg old new (same_by old new e.limits e.sieve) h.is_for;
         at = tt;
       };
       asks = λ cfg vars came asking to_server reply h stream on.
@@ -55,7 +55,7 @@ returns-in-Nothing-clause-tells c =
 
 pub returns-in-Head-clause-sound : goal.returns-in-Head-clause-sound
 returns-in-Head-clause-sound c =
-    record { well = c.in-Head.ensures.tells.ready.sound; at = c.in-Head.ensures.output ∙ nothing_out c.args.self.now.place c.args.self.now.lane c.requires.place c.requires.sound.at; rests = λ e. tt }
+    record { well = c.in-Head.ensures.tells.ready.sound; at = ap (λ (b : Buffer ℕ). b.items) c.in-Head.ensures.output ∙ nothing_out c.args.self.now.place c.args.self.now.lane c.requires.place c.requires.sound.at; rests = λ e. tt }
 
 pub returns-in-Head-clause-tells : goal.returns-in-Head-clause-tells
 returns-in-Head-clause-tells c =
@@ -64,18 +64,18 @@ returns-in-Head-clause-tells c =
     let new = c.read_head.new.self in
     record {
       place = refl;
-      received = record { head = e.tells.head; framing = new.lane.framing; declared = new.lane.declared; close = new.lane.close };
+      received = record { head = e.tells.head; framing = new.framing; declared = new.declared; close = new.close };
       has = record { ready = e.tells.ready; stage = e.tells.stage };
       holds = record { blocks = e.tells.blocks; framing = refl; declared = refl; close = refl };
       is_request = e.tells.received.line;
       came = λ cfg vars came asking to_server reply h.
           head_read cfg old (record { lane = new; place = place.Idle; awaits = c.args.self.now.awaits; at_rest = false }) came h.is_for
-          (for_same cfg old new (record { limits = e.limits; filters = λ cfg has. e.filters cfg.req_filters has }) h.is_for) e.ended (at_reading c.args.self.now.place cfg old vars came asking to_server reply c.requires.place h.at) e.tells;
+          (for_same cfg old new (same_by old new e.limits e.sieve) h.is_for) e.ended (at_reading c.args.self.now.place cfg old vars came asking to_server reply c.requires.place h.at) e.tells;
     }
 
 pub returns-in-Refuse-clause-sound : goal.returns-in-Refuse-clause-sound
 returns-in-Refuse-clause-sound c =
-    record { well = c.in-Refuse.ensures.tells.sound; at = c.in-Refuse.ensures.output ∙ nothing_out c.args.self.now.place c.args.self.now.lane c.requires.place c.requires.sound.at; rests = λ e. tt }
+    record { well = c.in-Refuse.ensures.tells.sound; at = ap (λ (b : Buffer ℕ). b.items) c.in-Refuse.ensures.output ∙ nothing_out c.args.self.now.place c.args.self.now.lane c.requires.place c.requires.sound.at; rests = λ e. tt }
 
 pub returns-in-Refuse-clause-tells : goal.returns-in-Refuse-clause-tells
 returns-in-Refuse-clause-tells c =
@@ -85,7 +85,7 @@ returns-in-Refuse-clause-tells c =
     record {
       place = refl;
       leads = λ cfg vars came asking to_server reply h. record {
-        is_for = for_same cfg old new (record { limits = e.limits; filters = λ cfg has. e.filters cfg.req_filters has }) h.is_for;
+        is_for = for_same cfg old new (same_by old new e.limits e.sieve) h.is_for;
         at = tt;
       };
       asks = λ cfg vars came asking to_server reply h stream on.
@@ -96,10 +96,10 @@ pub returns-in-Head-clause-uses : goal.returns-in-Head-clause-uses
 returns-in-Head-clause-uses c =
     let old = c.args.self.now.lane in
     let t = c.in-Head.ensures.tells in
-    head_uses (limits_of old) (input_of old) (input_of c.read_head.new.self) (is_some (ended_of old)) (record { head = t.head; framing = c.read_head.new.self.lane.framing; declared = c.read_head.new.self.lane.declared; close = c.read_head.new.self.lane.close })
-    (λ stream got rest h. c.has_bytes.ensures side.Request (limits_of old) stream got rest h) t.begins
+    head_uses old.limits old.input.items c.read_head.new.self.input.items (is_some old.ended) (record { head = t.head; framing = c.read_head.new.self.framing; declared = c.read_head.new.self.declared; close = c.read_head.new.self.close })
+    (λ stream got rest h. c.has_bytes.ensures side.Request old.limits stream got rest h) t.begins
 
 pub returns-in-Refuse-clause-uses : goal.returns-in-Refuse-clause-uses
 returns-in-Refuse-clause-uses c =
     let old = c.args.self.now.lane in
-    refuses_bytes (limits_of old) (input_of old) (is_some (ended_of old)) c.in-Refuse.code c.in-Refuse.ensures.tells.refused
+    refuses_bytes old.limits old.input.items (is_some old.ended) c.in-Refuse.code c.in-Refuse.ensures.tells.refused

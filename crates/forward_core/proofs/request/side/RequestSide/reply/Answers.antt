@@ -1,7 +1,6 @@
 use Rattle.std.proofs.Common.{subst}
 use Rattle.forward_core.specs.declared.request.place.Place.{Place}
 use Rattle.forward_core.specs.Request.Stands.{SoundAt, coming}
-use Rattle.lane.specs.Asking.{input_of}
 use Rattle.forward_core.proofs.RequestLemmas.Sending.{replies_to}
 use Rattle.forward_core.proofs.request.side.RequestSide.reply.Goals as goal
 
@@ -11,5 +10,5 @@ returns-clause-sound c = record { well = c.requires.sound.well; at = subst (λ (
 pub returns-clause-leads : goal.returns-clause-leads
 returns-clause-leads c = λ cfg vars came received m left asking to_server h rules. record {
   is_for = h.is_for;
-  at = replies_to cfg vars came (coming c.args.self.now.lane (input_of c.args.self.now.lane)) received m left h.used h.head rules;
+  at = replies_to cfg vars came (coming c.args.self.now.lane c.args.self.now.lane.input.items) received m left h.used h.head rules;
 }

@@ -1,4 +1,5 @@
-use Rattle.std.proofs.Common.{true, refl}
+use Rattle.std.proofs.Common.{ℕ, true, ap, refl}
+use Rattle.wire_buf.specs.Buffer.{Buffer}
 use Rattle.forward_core.proofs.RequestLemmas.Events.{for_same}
 use Rattle.forward_core.proofs.RequestLemmas.Resting.{step_rests, rest_rests}
 use Rattle.forward_core.proofs.RequestLemmas.Stepping.{Steps, step_sound, step_stands, step_keeps, rest_keeps, nothing_put}
@@ -32,21 +33,21 @@ returns c =
     let new = c.step.new.self in
     let sending = c.is_going_out.ensures.place c.if-not-is_going_out.false in
     let t : Steps old new = record {
-      keeps = record { same = record { limits = e.limits; filters = λ cfg has. e.filters cfg.req_filters has }; ended = e.ended };
+      keeps = record { same = record { limits = e.limits; filters = e.filters }; ended = e.ended };
       most = e.capacity;
-      dropped = e.dropping;
-      drops = e.drops;
+      dropped = e.kept;
+      drops = λ d. ap (λ (b : Buffer ℕ). b.items) (e.drops d);
       shrinks = e.shrinks;
       settled = e.settled;
-      sends = e.sends;
+      sends = e.stands;
       at = e.stage;
       goes_on = e.no_stall;
     } in
     record {
       sound = record {
-        well = e.well;
+        well = e.sound;
         at = step_sound c.args.self.now.place old new sending t c.requires.sound.at;
-        rests = λ rest. step_rests c.args.self.now.place old new sending (λ p s. record { no_cut = e.no_cut p s; nothing_back = e.nothing_back p s }) c.requires.sound.at;
+        rests = λ rest. step_rests c.args.self.now.place old new sending (λ p s. record { no_cut = e.no_cut p s; nothing_back = e.all p s }) c.requires.sound.at;
       };
       puts = record {
         put = e.grows.0;

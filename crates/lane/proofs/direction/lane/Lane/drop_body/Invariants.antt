@@ -1,5 +1,5 @@
 use Rattle.std.proofs.Common.{◌≡◌, ◌≢◌, ◌≤◌, [], true, length}
-use Rattle.lane.specs.declared.direction.stage.Source.TheVariants as source
+use Rattle.http_model.specs.declared.Source.TheVariants as source
 use Rattle.lane.specs.Direction.Sends.{IsSized, Keeps, Leads, reads_left}
 use Rattle.lane.proofs.direction.lane.Lane.drop_body.Given as goal
 

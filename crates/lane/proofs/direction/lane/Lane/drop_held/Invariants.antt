@@ -1,6 +1,6 @@
 use Rattle.std.proofs.Common.{◌≡◌, ◌≢◌, ◌≤◌, ◌+◌, [], true}
 use Rattle.lane.specs.Direction.Filtering.{held_left}
-use Rattle.lane.specs.declared.direction.stage.Source.TheVariants as source
+use Rattle.http_model.specs.declared.Source.TheVariants as source
 use Rattle.lane.specs.Direction.Sends.{IsSized, Keeps, Leads, reads_left, is_going}
 use Rattle.lane.proofs.direction.lane.Lane.drop_held.Given as goal
 

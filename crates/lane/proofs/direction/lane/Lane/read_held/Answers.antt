@@ -4,7 +4,7 @@ use Rattle.lane.specs.Direction.State.{LaneState}
 use Rattle.lane.specs.contracts.direction.lane.Lane.{the_view}
 use Rattle.lane.specs.Direction.Sends.{IsSized}
 use Rattle.lane.specs.Direction.Filtering.{SieveRests}
-use Rattle.lane.specs.declared.direction.stage.Source.TheVariants as source
+use Rattle.http_model.specs.declared.Source.TheVariants as source
 use Rattle.std.specs.Prelude.{None}
 use Rattle.lane.proofs.direction.lane.Lane.read_held.Goals as goal
 

@@ -2,7 +2,7 @@ use Rattle.std.proofs.Common.{◌≡◌, ◌≢◌, true, false, rules, sym, ◌
 use Rattle.lane.specs.Direction.State.{LaneState}
 use Rattle.lane.specs.Direction.Sends.{Past, Sends, Stands}
 use Rattle.lane.proofs.DirectionLemmas.StallLemmas.{going_on}
-use Rattle.lane.specs.declared.direction.stage.Source.TheVariants as source
+use Rattle.http_model.specs.declared.Source.TheVariants as source
 use Rattle.lane.specs.declared.direction.stage.Stage.TheVariants as stage
 use Rattle.lane.proofs.direction.lane.Lane.read_out.Goals as goal
 

@@ -5,8 +5,8 @@ use Rattle.h1_body.specs.declared.reader.BodyReader.{BodyReader}
 use Rattle.h1_body.specs.Stands.{state_of}
 use Rattle.lane.specs.Direction.Pulled.{IsWaiting}
 use Rattle.lane.specs.Direction.Sends.{end_left}
-use Rattle.lane.specs.declared.direction.stage.Source.{Source}
-use Rattle.lane.specs.declared.direction.stage.Source.TheVariants as source
+use Rattle.http_model.specs.declared.Source.{Source}
+use Rattle.http_model.specs.declared.Source.TheVariants as source
 use Rattle.lane.proofs.DirectionLemmas.ReadLemmas.{Reads, sends_more, sends_whole, sends_bad, read_waits, read_nearer}
 use Rattle.lane.specs.Direction.State.{LaneState}
 use Rattle.lane.specs.contracts.direction.lane.Lane.{the_view}

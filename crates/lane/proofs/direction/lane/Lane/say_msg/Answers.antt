@@ -3,7 +3,7 @@ use Rattle.std.proofs.lemmas.List.{append-nil}
 use Rattle.http_model.specs.declared.Framing.TheVariants as framing
 use Rattle.lane.specs.Direction.Sent.{Sent}
 use Rattle.lane.specs.Direction.Carried.{Carries}
-use Rattle.lane.specs.declared.direction.stage.Source.TheVariants as source
+use Rattle.http_model.specs.declared.Source.TheVariants as source
 use Rattle.lane.proofs.DirectionLemmas.StepLemmas.{these_now, nothing_over}
 use Rattle.lane.proofs.DirectionLemmas.CarryLemmas.{carries_head, carries_closed}
 use Rattle.lane.proofs.DirectionLemmas.ShowLemmas.{absent_over}

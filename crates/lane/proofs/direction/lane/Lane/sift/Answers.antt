@@ -6,7 +6,7 @@ use Rattle.lane.proofs.DirectionLemmas.StepLemmas.{step_sized, step_keeps, step_
 use Rattle.lane.specs.Direction.State.{LaneState}
 use Rattle.lane.specs.contracts.direction.lane.Lane.{the_view}
 use Rattle.lane.specs.Direction.Sends.{IsSized}
-use Rattle.lane.specs.declared.direction.stage.Source.TheVariants as source
+use Rattle.http_model.specs.declared.Source.TheVariants as source
 use Rattle.lane.proofs.direction.lane.Lane.sift.Goals as goal
 
 pub sift-requires-clause-sieve : goal.sift-requires-clause-sieve

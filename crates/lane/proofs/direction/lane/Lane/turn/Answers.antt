@@ -2,8 +2,8 @@ use Rattle.std.proofs.Common.{◌≡◌, ◌<◌, ◌∙◌, inr, ap, sym, subst
 use Rattle.htx_arena.specs.Layout.Contents.{Contents}
 use Rattle.h1_write.specs.Spelled.{IsEven}
 use Rattle.lane.specs.Direction.Carried.{EndIsOut}
-use Rattle.lane.specs.declared.direction.stage.Source.{Source}
-use Rattle.lane.specs.declared.direction.stage.Source.TheVariants as source
+use Rattle.http_model.specs.declared.Source.{Source}
+use Rattle.http_model.specs.declared.Source.TheVariants as source
 use Rattle.lane.proofs.DirectionLemmas.StallLemmas.{drained}
 use Rattle.lane.proofs.direction.lane.Lane.turn.Goals as goal
 

@@ -2,7 +2,7 @@ use Rattle.std.proofs.Common.{◌++◌, ◌∙◌, subst, sym, ℕ, ◌≤◌, [
 use Rattle.lane.proofs.DirectionLemmas.CarryLemmas.{carries_put}
 use Rattle.lane.specs.Direction.State.{LaneState}
 use Rattle.lane.specs.contracts.direction.lane.Lane.{the_view}
-use Rattle.lane.specs.declared.direction.stage.Source.TheVariants as source
+use Rattle.http_model.specs.declared.Source.TheVariants as source
 use Rattle.lane.proofs.direction.lane.Lane.write.Goals as goal
 
 pub returns-clause-leads : goal.returns-clause-leads
