@@ -14,7 +14,7 @@ IsUpTo most bytes = (0 < length bytes) × (length bytes ≤ most)
 
 -- the most bytes that one read asks for
 abbrev pub most_read : ℕ
-most_read = 4096
+most_read = 16376
 
 -- what one read brings
 abbrev pub IsRead : ℕ → List ℕ → Type 0
@@ -50,7 +50,7 @@ is_work _ = false
 
 -- These turns led to this past, one after another, and those are left; `worked` where the core has worked behind the last event. Each is taken where
 -- a core that stands for the past so far has worked, wants bytes to be moved and nothing to be opened or closed. It does what that core's wants make of
--- it (`act_of`): it moves something, no more than its number of bytes and for a read no more than 4096, or it moves nothing where it is to do
+-- it (`act_of`): it moves something, no more than its number of bytes and for a read no more than 16376, or it moves nothing where it is to do
 -- nothing. Behind the list each takes the first want that stands.
 pub data InTurns {C : Type 0} (stands : C → Past → Type 0) (seen : C → CoreSeen) (turns : List Turn) : (worked : Bool) → List Turn → Past → Type 0 where
   starts : InTurns stands seen turns false turns nothing_yet

@@ -5,7 +5,7 @@ ghost use Rattle.px_link.specs.Link.{Writes};
 ghost use Rattle.htx_drive.specs.Driven.{Idle, ClientMoves, Ends};
 ghost use Rattle.htx_drive.specs.declared.act.Act.TheVariants as act;
 
-use crate::resources::MOST;
+use crate::resources::MOST_READ;
 use crate::{Machine, SessionFault};
 use px_link::{Ending, Failed, Fault, Link};
 
@@ -13,7 +13,7 @@ use px_link::{Ending, Failed, Fault, Link};
 pub(crate) fn read_client<C: Machine, L: Link>(
     core: &mut C,
     client: &mut L,
-    buffer: &mut [u8; MOST],
+    buffer: &mut [u8; MOST_READ],
     most: u32,
 )
     requires wanted { (C.seen core.old).wants.client_read ≡ true }
@@ -23,7 +23,7 @@ pub(crate) fn read_client<C: Machine, L: Link>(
     ensures moves { (cfg : C.Settings) (first : L) (past : Past) → Idle (C.stands cfg core.old) L.seen L.wrote first client.old false past → ClientMoves (act.ClientRead most) (C.stands cfg core.new) L.seen L.wrote first client.new past }
     ensures serving { (C.seen core.new).serving ≡ (C.seen core.old).serving }
 {
-    let n = MOST.min(core.client_room()).min(most as usize);
+    let n = MOST_READ.min(core.client_room()).min(most as usize);
     match client.read(&mut buffer[..n]) {
         Ok(given) => {
             if given == 0 {

@@ -6,7 +6,7 @@ ghost use Rattle.htx_drive.specs.Driven.{Hand, HandGoes, Left, Ends, paid_by, pa
 ghost use Rattle.htx_drive.specs.Turned.{StandsIn, WorkedIn, FailsIn};
 ghost use Rattle.htx_drive.specs.Acts.{moves_bytes};
 
-use crate::resources::{MOST, Resources};
+use crate::resources::{MOST_READ, Resources};
 use crate::turn::turn_open;
 use crate::{Machine, SessionFault, Wants};
 use px_link::{Close, Link, OutOfMemory, Turns};
@@ -17,7 +17,7 @@ fn serve_turn<C: Machine, L: Link, T: Turns>(
     client: &mut L,
     link: &mut L,
     turns: &mut T,
-    buffer: &mut [u8; MOST],
+    buffer: &mut [u8; MOST_READ],
     wants: &Wants,
 ) -> Result<bool, SessionFault>
     requires wants { wants.now ≡ (C.seen core.old).wants }

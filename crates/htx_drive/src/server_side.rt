@@ -5,7 +5,7 @@ ghost use Rattle.px_link.specs.Link.{Writes};
 ghost use Rattle.htx_drive.specs.Driven.{Linked, ServerMoves, Ends};
 ghost use Rattle.htx_drive.specs.declared.act.Act.TheVariants as act;
 
-use crate::resources::MOST;
+use crate::resources::MOST_READ;
 use crate::{Machine, SessionFault};
 use px_link::{Ending, Failed, Fault, Link};
 
@@ -13,7 +13,7 @@ use px_link::{Ending, Failed, Fault, Link};
 pub(crate) fn read_server<C: Machine, L: Link>(
     core: &mut C,
     link: &mut L,
-    buffer: &mut [u8; MOST],
+    buffer: &mut [u8; MOST_READ],
     most: u32,
 )
     requires wanted { (C.seen core.old).wants.server_read ≡ true }
@@ -24,7 +24,7 @@ pub(crate) fn read_server<C: Machine, L: Link>(
         → ServerMoves (act.ServerRead most) (C.stands cfg core.new) L.seen L.wrote first link.new before past c }
     ensures serving { (C.seen core.new).serving ≡ (C.seen core.old).serving }
 {
-    let n = MOST.min(core.server_room()).min(most as usize);
+    let n = MOST_READ.min(core.server_room()).min(most as usize);
     match link.read(&mut buffer[..n]) {
         Ok(given) => {
             if given == 0 {

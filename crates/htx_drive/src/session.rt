@@ -12,7 +12,7 @@ ghost use Rattle.htx_drive.specs.Dialled.{Goes, Dials};
 ghost use Rattle.htx_drive.specs.Ran.{RanSo, GaveUp};
 
 use crate::exchange::exchange;
-use crate::resources::{MOST, Resources};
+use crate::resources::{MOST_READ, Resources};
 use crate::turn::turn_idle;
 use crate::{Machine, Ran, SessionFault, Wants};
 use px_link::{Address, Close, End, Link, Net, OutOfMemory, Turns};
@@ -22,7 +22,7 @@ fn client_turn<C: Machine, L: Link, T: Turns>(
     core: &mut C,
     client: &mut L,
     turns: &mut T,
-    buffer: &mut [u8; MOST],
+    buffer: &mut [u8; MOST_READ],
     wants: &Wants,
 ) -> Result<bool, SessionFault>
     requires wants { wants.now ≡ (C.seen core.old).wants }
@@ -133,11 +133,11 @@ pub(crate) fn close_of(end: End) -> Close
 }
 
 /// Runs the session of a core to which nothing has happened over the client's link and the servers that the net connects to
-/// this one address. Each turn that moves something takes one of the budget, and so does an opening.
+/// this one address. Each turn that moves something takes one of what is left of the budget, and so does an opening.
 ///
 /// It works, then opens and closes servers at once; else it takes the next turn of the list, one read or one write of at most
 /// so many bytes, and behind the list the first want that stands: server write, client write, client read, server read. A read
-/// takes at most 4096 bytes. A read that fails is a broken end of the stream; a server's write that fails stops that server; a
+/// takes at most 16376 bytes. A read that fails is a broken end of the stream; a server's write that fails stops that server; a
 /// connect that fails is a refused server. The client's link is closed at the end, and each server's link is closed and kept.
 pub fn run_session<C: Machine, L: Link, N: Net<Link = L>, T: Turns>(
     core: &mut C,
@@ -145,23 +145,19 @@ pub fn run_session<C: Machine, L: Link, N: Net<Link = L>, T: Turns>(
     client: &mut L,
     net: &mut N,
     turns: &mut T,
-    budget: u64,
+    resources: &mut Resources,
 ) -> Result<Ran, SessionFault>
     requires serving { (C.seen core.old).serving ≡ false }
     requires sound { C.sound core.old }
     ensures sound { OnOk result (C.sound core.new) }
     ensures ran { (cfg : C.Settings) → C.stands cfg core.old nothing_yet → IfOk result (λ ran. RanSo (C.meaning cfg) (C.stands cfg core.new) L.seen L.wrote client.old client.new (address_of to.now) (N.seen net.old) (N.seen net.new) ran) }
-    ensures gave_up { (cfg : C.Settings) → C.stands cfg core.old nothing_yet → IfErr result (λ fault. GaveUp (C.meaning cfg) (C.stands cfg) core.new (C.seen core.new).lost L.seen L.wrote client.old client.new (address_of to.now) (N.seen net.old) (N.seen net.new) budget fault) }
+    ensures gave_up { (cfg : C.Settings) → C.stands cfg core.old nothing_yet → IfErr result (λ fault. GaveUp (C.meaning cfg) (C.stands cfg) core.new (C.seen core.new).lost L.seen L.wrote client.old client.new (address_of to.now) (N.seen net.old) (N.seen net.new) resources.old.left fault) }
     ensures in_turns { (cfg : C.Settings) → C.stands cfg core.old nothing_yet → IfOk result (λ ran. (so : RanSo (C.meaning cfg) (C.stands cfg core.new) L.seen L.wrote client.old client.new (address_of to.now) (N.seen net.old) (N.seen net.new) ran)
         × InTurns (C.stands cfg) C.seen (T.left turns.old) true (T.left turns.new) so.past) }
-    ensures up_to_a_fault { (cfg : C.Settings) → C.stands cfg core.old nothing_yet → IfErr result (λ fault. (so : GaveUp (C.meaning cfg) (C.stands cfg) core.new (C.seen core.new).lost L.seen L.wrote client.old client.new (address_of to.now) (N.seen net.old) (N.seen net.new) budget fault)
-        × (turned : UpToAFault (C.stands cfg) C.seen (T.left turns.old) (T.left turns.new) so.past) × (fault ≡ SessionFault.Spent → budget ≤ turns_up_to turned)) }
+    ensures up_to_a_fault { (cfg : C.Settings) → C.stands cfg core.old nothing_yet → IfErr result (λ fault. (so : GaveUp (C.meaning cfg) (C.stands cfg) core.new (C.seen core.new).lost L.seen L.wrote client.old client.new (address_of to.now) (N.seen net.old) (N.seen net.new) resources.old.left fault)
+        × (turned : UpToAFault (C.stands cfg) C.seen (T.left turns.old) (T.left turns.new) so.past) × (fault ≡ SessionFault.Spent → resources.old.left ≤ turns_up_to turned)) }
 {
-    let mut resources = Resources {
-        left: budget,
-        buffer: [0; MOST],
-    };
-    match exchanges(core, to, client, net, turns, &mut resources) {
+    match exchanges(core, to, client, net, turns, resources) {
         Ok(end) => {
             client.close(close_of(end));
             Ok(Ran {

@@ -9,7 +9,7 @@ ghost use Rattle.htx_drive.specs.Acts.{moves_bytes};
 ghost use Rattle.htx_drive.specs.Turned.{StandsIn, WorkedIn};
 ghost use Rattle.htx_drive.specs.Underway.{Idles, Runs, Stopped, LeftSo, ahead_of, paid_with, OverSays, MovesBehind};
 
-use crate::resources::MOST;
+use crate::resources::MOST_READ;
 use crate::turn::{turn_idle, turn_open};
 use crate::{Machine, SessionFault, Wants};
 use px_link::{Address, Close, End, Fault, Link, Net, OutOfMemory, Turn};
@@ -94,7 +94,7 @@ fn turned<C: Machine, L: Link>(
     core: &mut C,
     client: &mut L,
     turn: Option<Turn>,
-    buffer: &mut [u8; MOST],
+    buffer: &mut [u8; MOST_READ],
     wants: &Wants,
 ) -> Result<Stepped<L>, SessionFault>
     requires wants { wants.now ≡ (C.seen core.old).wants }
@@ -130,7 +130,7 @@ pub fn step_idle<C: Machine, L: Link, N: Net<Link = L>>(
     client: &mut L,
     net: &mut N,
     turn: Option<Turn>,
-    buffer: &mut [u8; 4096],
+    buffer: &mut [u8; MOST_READ],
 ) -> Result<Stepped<L>, SessionFault>
     requires serving { (C.seen core.old).serving ≡ false }
     requires sound { C.sound core.old }
@@ -169,7 +169,7 @@ pub fn step_open<C: Machine, L: Link, N: Net<Link = L>>(
     link: L,
     net: &mut N,
     turn: Option<Turn>,
-    buffer: &mut [u8; 4096],
+    buffer: &mut [u8; MOST_READ],
 ) -> Result<Stepped<L>, SessionFault>
     requires serving { (C.seen core.old).serving ≡ true }
     requires lent { 0 < (N.seen net.old).lent }

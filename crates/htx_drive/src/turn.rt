@@ -9,7 +9,7 @@ ghost use Rattle.htx_drive.specs.Acts.{moves_bytes};
 
 use crate::act::{Act, next_act};
 use crate::client_side::{read_client, write_client};
-use crate::resources::MOST;
+use crate::resources::MOST_READ;
 use crate::server_side::{read_server, write_server};
 use crate::{Machine, SessionFault, Wants};
 use px_link::{Link, Turn};
@@ -19,7 +19,7 @@ pub(crate) fn turn_idle<C: Machine, L: Link>(
     core: &mut C,
     client: &mut L,
     turn: Option<Turn>,
-    buffer: &mut [u8; MOST],
+    buffer: &mut [u8; MOST_READ],
     wants: &Wants,
 ) -> Result<bool, SessionFault>
     requires wants { wants.now ≡ (C.seen core.old).wants }
@@ -58,7 +58,7 @@ pub(crate) fn turn_open<C: Machine, L: Link>(
     client: &mut L,
     link: &mut L,
     turn: Option<Turn>,
-    buffer: &mut [u8; MOST],
+    buffer: &mut [u8; MOST_READ],
     wants: &Wants,
 ) -> Result<bool, SessionFault>
     requires wants { wants.now ≡ (C.seen core.old).wants }

@@ -5,7 +5,7 @@ ghost use Rattle.px_link.specs.Net.{address_of};
 ghost use Rattle.serve_run.specs.Drove.{Drove};
 
 use crate::{Ran, SessionFault, Sessions};
-use htx_drive::{Machine, run_session};
+use htx_drive::{MOST_READ, Machine, Resources, run_session};
 use px_link::{Address, Close, Link, Net, OutOfMemory, Turn, Turns};
 use std::marker::PhantomData;
 
@@ -35,6 +35,8 @@ pub struct Driven<'a, C, O> {
     pub opener: O,
     /// Where the servers are.
     pub to: &'a Address,
+    /// What each session reads into, with a budget of its own.
+    resources: Resources,
     core: PhantomData<C>,
 }
 
@@ -47,6 +49,10 @@ impl<'a, C: Machine, O: Opens<C>> Driven<'a, C, O> {
         Driven {
             opener,
             to,
+            resources: Resources {
+                left: BUDGET,
+                buffer: [0; MOST_READ],
+            },
             core: PhantomData,
         }
     }
@@ -73,6 +79,7 @@ fn drive<C: Machine, N: Net>(
     to: &Address,
     client: &mut N::Link,
     net: &mut N,
+    resources: &mut Resources,
 ) -> Result<Ran, SessionFault>
     requires idle { (C.seen core.old).serving ≡ false }
     requires sound { C.sound core.old }
@@ -81,7 +88,8 @@ fn drive<C: Machine, N: Net>(
     ensures sound { OnOk result (C.sound core.new) }
     ensures stands { OnOk result ((cfg : C.Settings) → C.stands cfg core.old nothing_yet → (past : Past) × C.stands cfg core.new past) }
 {
-    run_session(core, to, client, net, &mut NoTurns, BUDGET)
+    resources.left = BUDGET;
+    run_session(core, to, client, net, &mut NoTurns, resources)
 }
 
 /// The same, and gives the core back to its opener where the session came to its end.
@@ -91,6 +99,7 @@ fn drive_and_keep<C: Machine + Drop, N: Net, O: Opens<C>>(
     to: &Address,
     client: &mut N::Link,
     net: &mut N,
+    resources: &mut Resources,
 ) -> Result<Ran, SessionFault>
     requires stands { C.stands (O.settings opener.old) core nothing_yet }
     requires idle { (C.seen core).serving ≡ false }
@@ -99,7 +108,7 @@ fn drive_and_keep<C: Machine + Drop, N: Net, O: Opens<C>>(
     ensures settings { O.settings opener.new ≡ O.settings opener.old }
 {
     let mut running = core;
-    match drive(&mut running, to, client, net) {
+    match drive(&mut running, to, client, net, resources) {
         Ok(ran) => {
             opener.keep(running);
             Ok(ran)
@@ -120,7 +129,14 @@ impl<'a, N: Net, C: Machine + Drop, O: Opens<C>> Sessions<N> for Driven<'a, C, O
 
     fn run(&mut self, client: &mut N::Link, net: &mut N) -> Result<Ran, SessionFault> {
         match self.opener.open() {
-            Ok(core) => drive_and_keep(&mut self.opener, core, self.to, client, net),
+            Ok(core) => drive_and_keep(
+                &mut self.opener,
+                core,
+                self.to,
+                client,
+                net,
+                &mut self.resources,
+            ),
             Err(OutOfMemory) => {
                 client.close(Close::Failed);
                 Err(SessionFault::OutOfMemory)

@@ -15,7 +15,9 @@ use crate::replay::outcome::report_of;
 use crate::replay::record_net::RecordNet;
 use crate::replay::turns::turns_of;
 use crate::weave::Conn;
-use crate::{Address, Machine, OutOfMemory, Ran, SessionFault, Turn, run_session};
+use crate::{
+    Address, MOST_READ, Machine, OutOfMemory, Ran, Resources, SessionFault, Turn, run_session,
+};
 use px_link::{ListTurns, MemLink};
 use rec_format::{Connection, Record, Report};
 use std::alloc::Global;
@@ -50,7 +52,11 @@ fn run_over<C: Machine, K: Cores<C>>(
         return Err(OutOfMemory);
     };
     only_want_of_memory_gives_up::<C, K>();
-    match run_session(core, to, &mut over.client, &mut over.net, turns, budget) {
+    let mut resources = Resources {
+        left: budget,
+        buffer: [0; MOST_READ],
+    };
+    match run_session(core, to, &mut over.client, &mut over.net, turns, &mut resources) {
         Ok(ran) => Ok(ran),
         Err(fault) => Err(only_memory(fault)),
     }

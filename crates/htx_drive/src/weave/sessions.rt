@@ -11,7 +11,7 @@ ghost use Rattle.htx_drive.specs.Weave.Halted.{HaltsAll, AllLent};
 ghost use Rattle.htx_drive.specs.Weave.Outcome.{AreNew, AllEnded, AllEndedAtOnce, AllLeft};
 ghost use Rattle.htx_drive.specs.declared.weave.conn.Conn.{Conn};
 
-use crate::resources::{MOST, Resources};
+use crate::resources::{MOST_READ, Resources};
 use crate::weave::all::by_list;
 use crate::weave::conn::Conn;
 use crate::weave::fault::WeaveFault;
@@ -79,7 +79,7 @@ pub fn weave<C: Resets, L: Link, N: Net<Link = L>, W: Weft>(
 {
     let mut resources = Resources {
         left: budget,
-        buffer: [0; MOST],
+        buffer: [0; MOST_READ],
     };
     match to_their_ends(pool, to, conns, turns, &mut resources) {
         Ok(()) => Ok(()),

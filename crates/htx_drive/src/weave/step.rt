@@ -7,7 +7,7 @@ ghost use Rattle.htx_drive.specs.Driven.{Ends};
 ghost use Rattle.htx_drive.specs.Turned.{StandsIn};
 ghost use Rattle.htx_drive.specs.Underway.{Runs, Stopped, LeftSo, ahead_of, paid_with, OverSays, MovesBehind};
 
-use crate::resources::MOST;
+use crate::resources::MOST_READ;
 use crate::weave::conn::Conn;
 use crate::{Address, Did, Link, Machine, Net, SessionFault, Stepped, Turn, step_idle, step_open};
 
@@ -31,7 +31,7 @@ pub(crate) fn step<C: Machine, L: Link, N: Net<Link = L>>(
     core: &mut C,
     to: &Address,
     turn: Option<Turn>,
-    buffer: &mut [u8; MOST],
+    buffer: &mut [u8; MOST_READ],
 ) -> Result<Did, SessionFault>
     requires serving { (C.seen core.old).serving ≡ is_some conn.old.server }
     requires lent { is_some conn.old.server ≡ true → 0 < (N.seen conn.old.net).lent }
