@@ -21,15 +21,15 @@ use Rattle.http_rules.specs.declared.rule.action.Direction.TheVariants as lists
 use Rattle.http_rules.specs.Rule.Valid.{AreRules, IsGoodRule}
 use Rattle.cfg_expr.specs.declared.condition.written.AclLine.{AclLine}
 use Rattle.cfg_parse.specs.Reading.{◌>>=◌, argument, no_more, Leaves}
-use Rattle.cfg_parse.specs.Keywords.{is_timeout_name}
+use Rattle.cfg_parse.specs.Keywords.{timeout_of}
 use Rattle.cfg_parse.specs.Draft.{start, has_listen}
-use Rattle.cfg_parse.specs.Settings.{section_line, bufsize_line, maxrewrite_line, mode_line, timeout_line, bind_line, server_line}
+use Rattle.cfg_parse.specs.Settings.{section_line, bufsize_line, maxrewrite_line, mode_line, named, timeout_line, bind_line, server_line}
 use Rattle.cfg_parse.specs.Rules.{tests_of, rules_in, has_room, with_rule, rule_added}
 use Rattle.cfg_parse.specs.Sound.{IsSound}
 use Rattle.cfg_parse.specs.Whole.{bufsize_of, maxrewrite_of, limits_of, made_config, with_addresses, whole}
 use Rattle.cfg_parse.specs.declared.keywords.SectionWord.{SectionWord}
 use Rattle.cfg_parse.specs.declared.keywords.SectionWord.TheVariants.{Global, Defaults, Listen, Other}
-use Rattle.cfg_parse.specs.Numbers.{number_up_to, size_of, is_time, is_colon, as_port, port_of, address_at, address_of, server_address_of}
+use Rattle.cfg_parse.specs.Numbers.{number_up_to, size_of, time_of, is_colon, as_port, port_of, address_at, address_of, server_address_of}
 use Rattle.body_filter.specs.declared.filter_spec.FilterSpec.{FilterSpec}
 use Rattle.body_filter.specs.Valid.{IsFilter}
 use Rattle.cfg_expr.specs.declared.side.Side.{Side}
@@ -133,7 +133,8 @@ mode_line-sound draft arguments s =
 timeout_line-sound : (draft : Draft) (arguments : List (List ℕ)) → IsSound draft → Keeps (timeout_line draft arguments)
 unfolding timeout_line
 timeout_line-sound draft arguments s =
-    keeps_bind (argument arguments) _ (λ name is. keeps_bind (cond (is_timeout_name name.0) (argument name.1) (Err Argument)) _ (λ time time-is. keeps_if (is_time time.0) Argument _ (λ test. keeps_bind (no_more time.1) _ (λ ended ends. s))))
+    keeps_bind (argument arguments) _ (λ word is. keeps_bind (named (timeout_of word.0)) _ (λ name name-is. keeps_bind (argument word.1) _ (λ second second-is. keeps_bind (time_of second.0) _ (λ time time-is. keeps_bind (no_more second.1) _ (λ ended ends.
+    record { bufsize = s.bufsize; bind = s.bind; server = s.server; request = s.request; response = s.response; after = s.after; req_filters = s.req_filters; res_filters = s.res_filters })))))
 
 bind_line-sound : (draft : Draft) (arguments : List (List ℕ)) → IsSound draft → Keeps (bind_line draft arguments)
 unfolding bind_line

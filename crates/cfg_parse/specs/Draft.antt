@@ -1,5 +1,6 @@
 -- The configuration so far, while lines are read.
 use Rattle.std.specs.Prelude.{[], Bool, true, false, None}
+use Rattle.http_rules.specs.declared.config.Timeouts.{Timeouts}
 use Rattle.cfg_parse.specs.declared.draft.Draft.{Draft}
 use Rattle.cfg_parse.specs.declared.draft.Section.{Section}
 use Rattle.cfg_parse.specs.declared.draft.Section.TheVariants as sections
@@ -7,6 +8,10 @@ use Rattle.cfg_parse.specs.declared.draft.Listen.{Listen}
 use Rattle.cfg_parse.specs.declared.draft.Listen.TheVariants as listens
 use Rattle.cfg_parse.specs.declared.keywords.Places.{Places}
 use Rattle.cfg_parse.specs.declared.keywords.Places.TheVariants.{InGlobal, InBoth, InListen}
+
+-- where no line gives them, in milliseconds
+abbrev pub default_timeouts : Timeouts
+default_timeouts = record { client = 60000; server = 60000; connect = 5000; http_request = 10000; http_keep_alive = 10000 }
 
 -- before the first line
 abbrev pub start : Draft
@@ -16,6 +21,7 @@ start =
       listen = listens.Missing;
       bufsize = None;
       maxrewrite = None;
+      timeouts = default_timeouts;
       bind = None;
       server = None;
       acls = [];
@@ -41,6 +47,13 @@ belongs InBoth sections.Defaults = true
 belongs InBoth sections.Listen = true
 belongs InListen sections.Listen = true
 belongs _ _ = false
+
+-- lines stand in `listen`
+abbrev pub is_listen : Section → Bool
+is_listen sections.Before = false
+is_listen sections.Global = false
+is_listen sections.Defaults = false
+is_listen sections.Listen = true
 
 -- a `listen` section has begun
 abbrev pub has_listen : Listen → Bool

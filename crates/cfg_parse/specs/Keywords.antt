@@ -1,6 +1,5 @@
 -- The words that a configuration knows by name: the table of all settings, each with the sections in which it may stand.
-use Rattle.std.specs.Prelude.{ℕ, List, [], ◌∷◌, Bool, ◌||◌, if◌then◌else◌, Option, Some, None, codes}
-use Rattle.std.specs.List.{list_any}
+use Rattle.std.specs.Prelude.{ℕ, List, Bool, ◌||◌, if◌then◌else◌, Option, Some, None, codes}
 use Rattle.std.specs.Str.{bytes_eq}
 use Rattle.cfg_parse.specs.declared.keywords.FirstWord.{FirstWord}
 use Rattle.cfg_parse.specs.declared.keywords.FirstWord.TheVariants.{Begins, Sets, Unknown}
@@ -8,6 +7,8 @@ use Rattle.cfg_parse.specs.declared.keywords.SectionWord.{SectionWord}
 use Rattle.cfg_parse.specs.declared.keywords.SectionWord.TheVariants.{Global, Defaults, Listen, Other}
 use Rattle.cfg_parse.specs.declared.keywords.Setting.{Setting}
 use Rattle.cfg_parse.specs.declared.keywords.Setting.TheVariants.{Bufsize, Maxrewrite, Mode, Timeout, Bind, Server, Acl, HttpRequest, HttpResponse, HttpAfterResponse, Filter}
+use Rattle.cfg_parse.specs.declared.keywords.TimeoutName.{TimeoutName}
+use Rattle.cfg_parse.specs.declared.keywords.TimeoutName.TheVariants as names
 use Rattle.cfg_parse.specs.declared.keywords.Places.{Places}
 use Rattle.cfg_parse.specs.declared.keywords.Places.TheVariants.{InGlobal, InBoth, InListen}
 
@@ -58,15 +59,24 @@ abbrev pub first_word_of : List ℕ → FirstWord
 first_word_of word =
     as_section (section_word word) (as_setting (general_setting word) (as_listen_setting (listen_setting word)))
 
--- one of these words
-abbrev pub is_one_of : List (List ℕ) → List ℕ → Bool
-is_one_of names word = list_any (λ name. bytes_eq name word) names
+-- the timeouts that have an effect, by name
+unfoldable pub timed_wait : List ℕ → Option TimeoutName
+timed_wait word =
+    if bytes_eq word (codes "client") then Some names.Client
+    else (if bytes_eq word (codes "server") then Some names.Server
+    else (if bytes_eq word (codes "connect") then Some names.Connect
+    else (if bytes_eq word (codes "http-request") then Some names.HttpRequest
+    else (if bytes_eq word (codes "http-keep-alive") then Some names.HttpKeepAlive
+    else None))))
 
--- the names of timeouts
-abbrev pub timeout_names : List (List ℕ)
-timeout_names =
-    codes "client" ∷ codes "server" ∷ codes "connect" ∷ codes "http-request" ∷ codes "http-keep-alive" ∷ codes "queue"
-    ∷ codes "tunnel" ∷ codes "check" ∷ []
+-- the other timeouts that a line may name: nothing waits in a queue or a tunnel, and no server is checked
+unfoldable pub is_idle_timeout : List ℕ → Bool
+is_idle_timeout word = bytes_eq word (codes "queue") || bytes_eq word (codes "tunnel") || bytes_eq word (codes "check")
 
-unfoldable pub is_timeout_name : List ℕ → Bool
-is_timeout_name name = is_one_of timeout_names name
+abbrev pub as_timeout : Option TimeoutName → Bool → Option TimeoutName
+as_timeout (Some name) is_idle = Some name
+as_timeout None is_idle = if is_idle then Some names.Idle else None
+
+-- the timeout of a name
+abbrev pub timeout_of : List ℕ → Option TimeoutName
+timeout_of word = as_timeout (timed_wait word) (is_idle_timeout word)

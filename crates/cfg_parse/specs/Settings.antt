@@ -1,7 +1,8 @@
 -- Lines that begin a section, and settings without rules (Configuration Manual, sections 2 to 4).
-use Rattle.std.specs.Prelude.{ℕ, List, if◌then◌else◌, Some, is_some, Result, Ok, Err, codes}
+use Rattle.std.specs.Prelude.{ℕ, List, Bool, not, ◌||◌, if◌then◌else◌, Option, Some, None, is_some, Result, Ok, Err, codes}
 use Rattle.std.specs.Str.{bytes_eq}
 use Rattle.http_model.specs.Sizes.{least_size, most_size}
+use Rattle.http_rules.specs.declared.config.Timeouts.{Timeouts}
 use Rattle.cfg_parse.specs.declared.fault.CfgKind.{CfgKind}
 use Rattle.cfg_parse.specs.declared.fault.CfgKind.TheVariants.{Section, Argument}
 use Rattle.cfg_parse.specs.declared.keywords.SectionWord.{SectionWord}
@@ -10,16 +11,22 @@ use Rattle.cfg_parse.specs.declared.draft.Draft.{Draft}
 use Rattle.cfg_parse.specs.declared.draft.Section.TheVariants as sections
 use Rattle.cfg_parse.specs.declared.draft.Listen.TheVariants as listens
 use Rattle.cfg_parse.specs.Reading.{◌>>=◌, argument, no_more}
-use Rattle.cfg_parse.specs.Keywords.{is_timeout_name}
-use Rattle.cfg_parse.specs.Numbers.{number_up_to, size_of, is_time, address_of, server_address_of}
-use Rattle.cfg_parse.specs.Draft.{has_listen}
+use Rattle.cfg_parse.specs.declared.keywords.TimeoutName.{TimeoutName}
+use Rattle.cfg_parse.specs.declared.keywords.TimeoutName.TheVariants as names
+use Rattle.cfg_parse.specs.Keywords.{timeout_of}
+use Rattle.cfg_parse.specs.Numbers.{number_up_to, size_of, time_of, address_of, server_address_of}
+use Rattle.cfg_parse.specs.Draft.{has_listen, is_listen, default_timeouts}
 
 -- ---- lines that begin a section
+
+-- a `defaults` section begins with what holds where no line says otherwise, whatever one before it said
+abbrev pub begun_times : Draft → Timeouts
+begun_times draft = if has_listen draft.listen then draft.timeouts else default_timeouts
 
 -- a section begins; `listen` has a name, and comes once
 unfoldable pub section_line : Draft → SectionWord → List (List ℕ) → Result Draft CfgKind
 section_line draft Global arguments = no_more arguments >>= λ ended. Ok (record draft { section = sections.Global })
-section_line draft Defaults arguments = no_more arguments >>= λ ended. Ok (record draft { section = sections.Defaults })
+section_line draft Defaults arguments = no_more arguments >>= λ ended. Ok (record draft { section = sections.Defaults; timeouts = begun_times draft })
 section_line draft Listen arguments =
     if has_listen draft.listen then Err Section
     else (argument arguments >>= λ name. no_more name.1 >>= λ ended. Ok (record draft { section = sections.Listen; listen = listens.Begun }))
@@ -50,12 +57,32 @@ mode_line draft arguments = do
   word ← argument arguments
   if bytes_eq word.0 (codes "http") then (no_more word.1 >>= λ ended. Ok draft) else Err Argument
 
--- `timeout NAME TIME`, which changes nothing
+-- the times with this one in its place
+abbrev pub with_time : Timeouts → TimeoutName → ℕ → Timeouts
+with_time times names.Client time = record times { client = time }
+with_time times names.Server time = record times { server = time }
+with_time times names.Connect time = record times { connect = time }
+with_time times names.HttpRequest time = record times { http_request = time }
+with_time times names.HttpKeepAlive time = record times { http_keep_alive = time }
+with_time times names.Idle time = times
+
+-- `defaults` speaks of the sections behind it: behind a `listen`, of none
+abbrev pub has_effect : Draft → Bool
+has_effect draft = is_listen draft.section || not (has_listen draft.listen)
+
+abbrev pub named : Option TimeoutName → Result TimeoutName CfgKind
+named (Some name) = Ok name
+named None = Err Argument
+
+-- `timeout NAME TIME`: a later line replaces the earlier one
 unfoldable pub timeout_line : Draft → List (List ℕ) → Result Draft CfgKind
 timeout_line draft arguments = do
-  name ← argument arguments
-  time ← if is_timeout_name name.0 then argument name.1 else Err Argument
-  if is_time time.0 then (no_more time.1 >>= λ ended. Ok draft) else Err Argument
+  word ← argument arguments
+  name ← named (timeout_of word.0)
+  second ← argument word.1
+  time ← time_of second.0
+  ended ← no_more second.1
+  Ok (record draft { timeouts = if has_effect draft then with_time draft.timeouts name time else draft.timeouts })
 
 -- `bind HOST:PORT`, once
 unfoldable pub bind_line : Draft → List (List ℕ) → Result Draft CfgKind

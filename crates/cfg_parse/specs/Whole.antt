@@ -42,6 +42,7 @@ abbrev pub made_config : Draft → Address → Address → Config
 made_config draft bind server =
     record {
       limits = limits_of draft;
+      timeouts = draft.timeouts;
       bind = bind;
       server = server;
       request = draft.request;

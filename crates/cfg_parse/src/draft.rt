@@ -1,7 +1,7 @@
 //! The configuration so far, while lines are read.
 
 use cfg_expr::condition::AclList;
-use http_rules::{Filters, Rules};
+use http_rules::{Filters, Rules, Timeouts};
 use px_link::Address;
 
 /// The section that a line stands in.
@@ -27,6 +27,7 @@ pub struct Draft {
     pub listen: Listen,
     pub bufsize: Option<u32>,
     pub maxrewrite: Option<u32>,
+    pub timeouts: Timeouts,
     pub bind: Option<Address>,
     pub server: Option<Address>,
     /// The `acl` lines so far.

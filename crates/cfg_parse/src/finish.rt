@@ -2,15 +2,28 @@
 
 ghost use Rattle.std.specs.Prelude.{◌≡◌};
 ghost use Rattle.cfg_parse.specs.Reading.{Gives};
-ghost use Rattle.cfg_parse.specs.Draft.{start};
+ghost use Rattle.cfg_parse.specs.Draft.{default_timeouts, start};
 ghost use Rattle.cfg_parse.specs.Whole.{limits_of, whole};
 
 use crate::draft::{Draft, Listen, Section};
 use crate::fault::{CfgKind, LineRefusal};
 use crate::limits::{DEFAULT_BUFSIZE, DEFAULT_MAXREWRITE, MIN_HEAD};
 use cfg_expr::condition::AclList;
-use http_rules::{Config, Filters, Limits, Rules};
+use http_rules::{Config, Filters, Limits, Rules, Timeouts};
 use std::alloc::Global;
+
+/// The times where no line gives them.
+pub fn default_timeouts() -> Timeouts
+    ensures { result ≡ default_timeouts }
+{
+    Timeouts {
+        client: 60_000,
+        server: 60_000,
+        connect: 5_000,
+        http_request: 10_000,
+        http_keep_alive: 10_000,
+    }
+}
 
 /// Before the first line.
 pub fn start(alloc: Global) -> Draft
@@ -21,6 +34,7 @@ pub fn start(alloc: Global) -> Draft
         listen: Listen::Missing,
         bufsize: None,
         maxrewrite: None,
+        timeouts: default_timeouts(),
         bind: None,
         server: None,
         acls: AclList::new(alloc),
@@ -59,6 +73,7 @@ pub fn whole(draft: Draft) -> Result<Config, LineRefusal>
     }
     let Draft {
         listen,
+        timeouts,
         bind,
         server,
         request,
@@ -71,6 +86,7 @@ pub fn whole(draft: Draft) -> Result<Config, LineRefusal>
     match (bind, server) {
         (Some(bind), Some(server)) if listen == Listen::Begun => Ok(Config {
             limits,
+            timeouts,
             bind,
             server,
             request,

@@ -1,9 +1,7 @@
 //! The words that a configuration knows by name.
 
 ghost use Rattle.std.specs.Prelude.{◌≡◌};
-ghost use Rattle.std.specs.List.{list_any};
-ghost use Rattle.std.specs.Str.{bytes_eq};
-ghost use Rattle.cfg_parse.specs.Keywords.{section_word, general_setting, listen_setting, first_word_of, is_timeout_name};
+ghost use Rattle.cfg_parse.specs.Keywords.{section_word, general_setting, listen_setting, first_word_of, timed_wait, is_idle_timeout, timeout_of};
 
 use cfg_expr::is_word;
 
@@ -50,22 +48,16 @@ pub enum Places {
     InListen,
 }
 
-const TIMEOUT_NAMES: [&[u8]; 8] = [
-    b"client",
-    b"server",
-    b"connect",
-    b"http-request",
-    b"http-keep-alive",
-    b"queue",
-    b"tunnel",
-    b"check",
-];
-
-/// The word is in a table.
-fn is_among(word: &[u8], table: &[&'static [u8]]) -> bool
-    ensures { result ≡ list_any (λ entry. bytes_eq entry.now word.now) table.now }
-{
-    table.contains(&word)
+/// What a `timeout` line speaks of.
+#[derive(Clone, Copy)]
+pub enum TimeoutName {
+    Client,
+    Server,
+    Connect,
+    HttpRequest,
+    HttpKeepAlive,
+    /// `queue`, `tunnel` and `check`, which have no effect here.
+    Idle,
 }
 
 /// The words that begin a section.
@@ -144,9 +136,41 @@ pub fn first_word_of(word: &[u8]) -> FirstWord
     }
 }
 
-#[tactic(auto, unfolding(crate::specs::Keywords::is_timeout_name))]
-pub fn is_timeout_name(name: &[u8]) -> bool
-    ensures { result ≡ is_timeout_name name.now }
+/// The timeouts that have an effect, by name.
+#[tactic(auto, unfolding(crate::specs::Keywords::timed_wait))]
+fn timed_wait(word: &[u8]) -> Option<TimeoutName>
+    ensures { result ≡ timed_wait word.now }
 {
-    is_among(name, &TIMEOUT_NAMES)
+    if is_word(word, b"client") {
+        Some(TimeoutName::Client)
+    } else if is_word(word, b"server") {
+        Some(TimeoutName::Server)
+    } else if is_word(word, b"connect") {
+        Some(TimeoutName::Connect)
+    } else if is_word(word, b"http-request") {
+        Some(TimeoutName::HttpRequest)
+    } else if is_word(word, b"http-keep-alive") {
+        Some(TimeoutName::HttpKeepAlive)
+    } else {
+        None
+    }
+}
+
+/// The other timeouts that a line may name.
+#[tactic(auto, unfolding(crate::specs::Keywords::is_idle_timeout))]
+fn is_idle_timeout(word: &[u8]) -> bool
+    ensures { result ≡ is_idle_timeout word.now }
+{
+    is_word(word, b"queue") || is_word(word, b"tunnel") || is_word(word, b"check")
+}
+
+/// The timeout of a name.
+pub fn timeout_of(word: &[u8]) -> Option<TimeoutName>
+    ensures { result ≡ timeout_of word.now }
+{
+    match timed_wait(word) {
+        Some(name) => Some(name),
+        None if is_idle_timeout(word) => Some(TimeoutName::Idle),
+        None => None,
+    }
 }

@@ -6,6 +6,7 @@ ghost use Rattle.cfg_parse.specs.Settings.{section_line};
 use crate::arguments::Arguments;
 use crate::draft::{Draft, Listen, Section};
 use crate::fault::{CfgKind, LineRefusal};
+use crate::finish::default_timeouts;
 use crate::keywords::SectionWord;
 
 /// A line that begins a section.
@@ -26,6 +27,9 @@ pub fn begin_section(
         SectionWord::Defaults => {
             arguments.no_more()?;
             draft.section = Section::Defaults;
+            if draft.listen == Listen::Missing {
+                draft.timeouts = default_timeouts();
+            }
         }
         SectionWord::Listen => {
             if draft.listen == Listen::Begun {

@@ -2,17 +2,18 @@
 
 ghost use Rattle.std.specs.Prelude.{◌≡◌, Some, OnOk, OnErr};
 ghost use Rattle.cfg_parse.specs.Reading.{Gives, Leaves, no_more};
-ghost use Rattle.cfg_parse.specs.Settings.{bufsize_line, maxrewrite_line, mode_line, timeout_line, bind_line, server_line};
+ghost use Rattle.cfg_parse.specs.Settings.{bufsize_line, maxrewrite_line, mode_line, with_time, has_effect, timeout_line, bind_line, server_line};
 
 use crate::address::{address_of, server_address_of};
 use crate::arguments::Arguments;
-use crate::draft::Draft;
+use crate::draft::{Draft, Listen, Section};
 use crate::fault::{CfgKind, LineRefusal};
-use crate::keywords::is_timeout_name;
+use crate::keywords::{TimeoutName, timeout_of};
 use crate::sizes::{number_up_to, size_of};
-use crate::times::is_time;
+use crate::times::time_of;
 use cfg_expr::is_word;
 use http_model::{MAX_BUFSIZE, MIN_BUFSIZE};
+use http_rules::Timeouts;
 use px_link::Address;
 use std::alloc::Global;
 
@@ -34,9 +35,9 @@ pub fn set_maxrewrite(draft: &mut Draft, arguments: Arguments<'_>) -> Result<(),
     ensures unchanged { OnErr result (draft.new ≡ draft.old) }
 {
     let (word, arguments) = arguments.argument()?;
-    let size = number_up_to(word, MAX_BUFSIZE)?;
+    let size = number_up_to(word, u64::from(MAX_BUFSIZE))?;
     arguments.no_more()?;
-    draft.maxrewrite = Some(size);
+    draft.maxrewrite = Some(size as u32);
     Ok(())
 }
 
@@ -53,20 +54,45 @@ pub fn read_mode(draft: &mut Draft, arguments: Arguments<'_>) -> Result<(), Line
     Ok(())
 }
 
+/// Puts a time in its place.
+fn put_time(times: &mut Timeouts, name: TimeoutName, time: u64)
+    ensures { times.new ≡ with_time times.old name time }
+{
+    match name {
+        TimeoutName::Client => times.client = time,
+        TimeoutName::Server => times.server = time,
+        TimeoutName::Connect => times.connect = time,
+        TimeoutName::HttpRequest => times.http_request = time,
+        TimeoutName::HttpKeepAlive => times.http_keep_alive = time,
+        TimeoutName::Idle => {}
+    }
+}
+
+/// Whether a `timeout` line here speaks of the `listen` section.
+fn has_effect(draft: &Draft) -> bool
+    ensures { result ≡ has_effect draft.now }
+{
+    match draft.section {
+        Section::Listen => true,
+        Section::Before | Section::Global | Section::Defaults => draft.listen == Listen::Missing,
+    }
+}
+
 #[tactic(auto, unfolding(crate::specs::Settings::timeout_line))]
-pub fn read_timeout(draft: &mut Draft, arguments: Arguments<'_>) -> Result<(), LineRefusal>
+pub fn set_timeout(draft: &mut Draft, arguments: Arguments<'_>) -> Result<(), LineRefusal>
     ensures leaves { Leaves result draft.new (timeout_line draft.old arguments.entry) }
     ensures unchanged { OnErr result (draft.new ≡ draft.old) }
 {
-    let (name, arguments) = arguments.argument()?;
-    if !is_timeout_name(name) {
+    let (word, arguments) = arguments.argument()?;
+    let Some(name) = timeout_of(word) else {
         return Err(LineRefusal::Refused(CfgKind::Argument));
-    }
-    let (time, arguments) = arguments.argument()?;
-    if !is_time(time) {
-        return Err(LineRefusal::Refused(CfgKind::Argument));
-    }
+    };
+    let (word, arguments) = arguments.argument()?;
+    let time = time_of(word)?;
     arguments.no_more()?;
+    if has_effect(draft) {
+        put_time(&mut draft.timeouts, name, time);
+    }
     Ok(())
 }
 

@@ -1,4 +1,4 @@
-//! What a configuration holds: sizes, addresses, three lists of rules and the filters of both directions. Nothing here reads or runs it.
+//! What a configuration holds: sizes, times, addresses, three lists of rules and the filters of both directions. Nothing here reads or runs it.
 ghost use Rattle.std.specs.Prelude.{◌≡◌, ◌+◌, length};
 
 use crate::rule::Rules;
@@ -9,11 +9,27 @@ use px_link::{Address, ItemList};
 /// The filters of one direction, in the order in which bodies pass through them.
 pub type Filters = ItemList<FilterSpec>;
 
+/// How long a connection may rest, in milliseconds; 0 is without end (Configuration Manual, section 4.2, "timeout").
+#[derive(Clone, Copy)]
+pub struct Timeouts {
+    /// The client sends nothing, or takes nothing.
+    pub client: u64,
+    /// The server sends nothing, or takes nothing.
+    pub server: u64,
+    /// The server's link isn't open yet.
+    pub connect: u64,
+    /// From a request's first byte to the end of its head.
+    pub http_request: u64,
+    /// From the end of an answer to the next request's first byte.
+    pub http_keep_alive: u64,
+}
+
 /// What a proxy does: its sizes, where it listens, whom it sends requests to, its rules and its filters
 /// (Configuration Manual, section 4).
 #[derive(Drop)]
 pub struct Config {
     pub limits: Limits,
+    pub timeouts: Timeouts,
     /// Where clients connect to. An empty host or `*` is every address of the machine.
     pub bind: Address,
     /// The one server.

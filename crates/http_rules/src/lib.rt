@@ -15,7 +15,7 @@ pub use crate::rule::{
     Payload, RedirectTo, Rule, Rules, Scope, Text, stands_in,
 };
 pub use body_filter::FilterSpec;
-pub use config::{Config, Filters};
+pub use config::{Config, Filters, Timeouts};
 pub use http_model::{Limits, Why};
 pub use laws::{body_stays, replies_are_plain};
 pub use lives::{begin_answer, begin_exchange};
