@@ -17,6 +17,7 @@ use Rattle.h1_head.specs.Stream.{behind}
 use Rattle.h1_body.specs.BodyOf.{BodyRead}
 use Rattle.body_filter.specs.declared.filter_spec.FilterSpec.{FilterSpec}
 use Rattle.lane.specs.Direction.Filtering.{AreThese}
+use Rattle.lane.specs.declared.sieve.sieve.Sieve.{Sieve}
 use Rattle.lane.specs.Direction.Sent.{IsFrontOf}
 use Rattle.lane.specs.Direction.Sends.{Past, put_out, Stands}
 use Rattle.lane.specs.Direction.Promise.{Promise, OnEachBody, body_sent, finish_of}

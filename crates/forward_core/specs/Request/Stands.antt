@@ -16,7 +16,7 @@ use Rattle.lane.specs.Direction.Sends.{Past, IsSound as IsWell, IsReading, Stand
 use Rattle.lane.specs.Direction.Promise.{OnEachBody, body_sent, finish_of}
 use Rattle.lane.specs.declared.direction.stage.Stage.TheVariants as stage
 use Rattle.lane.specs.Direction.Filtering.{AreThese}
-use Rattle.h1_head.specs.declared.answer.Side.TheVariants as side
+use Rattle.h1_head.specs.declared.answer.Side.TheVariants.{Request}
 use Rattle.lane.specs.Answering.{SameLines}
 use Rattle.lane.specs.Direction.State.{LaneState}
 use Rattle.forward_core.specs.declared.request.place.Place.{Place}
@@ -35,7 +35,7 @@ pub record GoesSoundly (lane : LaneState) : Type 0 where
 
 -- where the lane stands, by what is made of the next request
 abbrev pub SoundAt : Place → LaneState → Type 0
-SoundAt place.Reading lane = IsReading side.Request lane × (lane.output.items ≡ [])
+SoundAt place.Reading lane = IsReading Request lane × (lane.output.items ≡ [])
 SoundAt place.Sending lane = GoesSoundly lane
 SoundAt place.Idle lane = lane.output.items ≡ []
 SoundAt place.Replied lane = lane.output.items ≡ []

@@ -16,12 +16,12 @@ returns g c =
     let v = visit c.args.conn.now in
     let cfg = g.K.Cores.settings c.args.cores.now in
     let net = c.in_ok-net.net in
-    let after = c.run_over.new.net in
+    let after = c.run_over.new.over.net in
     let N : List (Option ServerSpec) → Type 0 = λ entries. IsFreshNet (servers entries) net.net net.refused in
     let fresh = subst N c.deref.ensures.value c.in_ok-net.ensures in
     let M = g.C.Machine.meaning cfg in
     let stands = g.C.Machine.stands cfg in
     let R : List Turn → Out → Type 0 = λ turns out. Replays M stands g.C.Machine.seen turns v out in
     IfOk-weaker c.report_of.result _ _
-    (λ report is. subst (λ turns. R turns (out_of report)) c.new-turns.ensures (replays M stands g.C.Machine.seen c.new-turns.result c.run_over.new.turns v (address_of c.args.to.now) c.in_ok-client.client c.run_over.new.client net.net net.refused after.net after.refused c.in_ok-ran.ran (out_of report) c.in_ok-client.ensures fresh c.in_ok-ran.ensures is))
+    (λ report is. subst (λ turns. R turns (out_of report)) c.new-turns.ensures (replays M stands g.C.Machine.seen c.new-turns.result c.run_over.new.turns v (address_of c.args.to.now) c.in_ok-client.client c.run_over.new.over.client net.net net.refused after.net after.refused c.in_ok-ran.ran (out_of report) c.in_ok-client.ensures fresh c.in_ok-ran.ensures is))
     c.report_of.ensures

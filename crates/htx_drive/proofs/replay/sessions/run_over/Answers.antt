@@ -13,17 +13,17 @@ returns-in-Ok g c =
     let v = visit c.args.conn.now in
     let cfg = g.K.Cores.settings c.args.cores.now in
     let ran = c.in-Ok.ensures.in_turns cfg c.requires.stands in
-    let net = c.args.net.now in
+    let net = c.args.over.now.net in
     let after = c.run_session.new.net in
-    by_turns (g.C.Machine.meaning cfg) (g.C.Machine.stands cfg) g.C.Machine.seen c.run_session.new.core v (address_of c.args.to.now) c.args.client.now c.run_session.new.client net.net net.refused after.net after.refused c.args.turns.now c.run_session.new.turns c.in-Ok.ran c.requires.client c.requires.net ran.0 ran.1
+    by_turns (g.C.Machine.meaning cfg) (g.C.Machine.stands cfg) g.C.Machine.seen c.run_session.new.core v (address_of c.args.to.now) c.args.over.now.client c.run_session.new.client net.net net.refused after.net after.refused c.args.turns.now c.run_session.new.turns c.in-Ok.ran c.requires.client c.requires.net ran.0 ran.1
 
 pub only_memory-requires : goal.only_memory-requires
 only_memory-requires g c =
     let v = visit c.args.conn.now in
     let cfg = g.K.Cores.settings c.args.cores.now in
     let to = address_of c.args.to.now in
-    let link = c.args.client.now in
-    let net = c.args.net.now in
+    let link = c.args.over.now.client in
+    let net = c.args.over.now.net in
     let core = c.run_session.new.core in
     let client = c.run_session.new.client in
     let after = c.run_session.new.net in
