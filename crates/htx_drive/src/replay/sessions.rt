@@ -56,7 +56,14 @@ fn run_over<C: Machine, K: Cores<C>>(
         left: budget,
         buffer: [0; MOST_READ],
     };
-    match run_session(core, to, &mut over.client, &mut over.net, turns, &mut resources) {
+    match run_session(
+        core,
+        to,
+        &mut over.client,
+        &mut over.net,
+        turns,
+        &mut resources,
+    ) {
         Ok(ran) => Ok(ran),
         Err(fault) => Err(only_memory(fault)),
     }
