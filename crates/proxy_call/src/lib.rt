@@ -6,6 +6,7 @@ mod lines;
 mod refusals;
 mod reply;
 mod run;
+mod serving;
 pub mod sessions;
 mod status;
 mod stop;

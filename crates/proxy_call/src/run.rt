@@ -5,8 +5,8 @@ ghost use Rattle.proxy_call.specs.Files.{told_by};
 ghost use Rattle.proxy_call.specs.Serving.{Serves};
 ghost use Rattle.proxy_call.specs.Stops.{Answers, Input, given};
 
-use crate::answer::{check, check_all, check_record, configuration, drill, replay, weave};
-use crate::sessions::serve_clients;
+use crate::answer::{check, check_all, check_record, drill, replay, weave};
+use crate::serving::serve;
 use crate::stop::Stop;
 use px_command::{Asked, asked_by, help_of_text, help_text, version_text};
 use px_link::{Bytes, Files, Net, Sink};
@@ -43,11 +43,7 @@ pub fn run<'a, F: Files, N: Net, K: Sink, P: Patterns>(
         Asked::Weave { cfg, rec, cores } => {
             write(weave(alloc, files, cfg, rec, cores, pats), out)
         }
-        Asked::Serve { cfg, connections } => {
-            let config = configuration(alloc, files, cfg, pats)?;
-            serve_clients(alloc, &config, connections, net, out)?;
-            Ok(())
-        }
+        Asked::Serve { cfg, connections } => serve(alloc, files, cfg, connections, net, out, pats),
         Asked::Drill { seed, exchanges } => write(drill(alloc, seed, exchanges, pats), out),
         Asked::Help => write(Ok(help_text(alloc)?), out),
         Asked::HelpOf { command } => write(Ok(help_of_text(alloc, command)?), out),

@@ -1,0 +1,34 @@
+//! `serve`: clients of a configuration in a file.
+ghost use Rattle.std.specs.Prelude.{◌≡◌, ℕ, List};
+ghost use Rattle.px_command.specs.Command.{IsServe};
+ghost use Rattle.proxy_call.specs.Ends.{Ran, put};
+ghost use Rattle.proxy_call.specs.Files.{told_by};
+ghost use Rattle.proxy_call.specs.Serving.{Serves};
+ghost use Rattle.proxy_call.specs.Stops.{given};
+
+use crate::answer::configuration;
+use crate::sessions::serve_clients;
+use crate::stop::Stop;
+use px_link::{Files, Net, Sink};
+use px_pattern::Patterns;
+use std::alloc::Global;
+
+/// Serves so many connections by the configuration in a file, and writes their lines.
+pub fn serve<'a, F: Files, N: Net, K: Sink, P: Patterns>(
+    alloc: Global,
+    files: &mut F,
+    name: &'a str,
+    connections: u32,
+    net: &mut N,
+    out: &mut K,
+    pats: &mut P,
+) -> Result<(), Stop<'a>>
+    ensures { (words : List (List ℕ)) → IsServe words name.now connections
+        → Ran (given words (F.files files.old) (told_by (P.refusals pats.old) (P.refusals pats.new) (P.last_refused pats.new)) (F.last_failed files.new) (F.faults files.old) (F.faults files.new))
+        (put (K.faults out.old) (K.faults out.new) (K.written out.old) (K.written out.new)) (net.new ≡ net.old)
+        (Serves N.Link.seen N.Link.wrote N.seen net.old net.new (K.faults out.old) (K.faults out.new) (K.written out.old) (K.written out.new)) result }
+{
+    let cfg = configuration(alloc, files, name, pats)?;
+    serve_clients(alloc, &cfg, connections, net, out)?;
+    Ok(())
+}
