@@ -4,6 +4,8 @@ mod LineLemmas
 mod TextLemmas
 mod JudgedLemmas
 mod JudgingLemmas
+mod Ipv6Lemmas
+mod AddressLemmas
 mod SoundLemmas
 mod LineReadings
 mod StepLemmas

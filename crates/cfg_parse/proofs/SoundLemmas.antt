@@ -1,13 +1,12 @@
 -- Each line keeps the configuration so far sound, and a sound one is valid in the end.
 use Rattle.std.proofs.Common.{◌≡◌, ℕ, ◌+◌, ◌-◌, ◌≤◌, ◌<◌, Bool, true, false, cond, ltb, leb, eqb, List, [], ◌∷◌, ◌++◌, length, take, drop, Option, Some, None, Result, Ok, Err, refl, ap, subst, ◌∙◌, arith, length-append}
-use Rattle.std.specs.Prelude.{◌&&◌, ◌||◌, ◌⊎◌, OnOk, IfSome, is_some, unwrap_or, codes, position}
+use Rattle.std.specs.Prelude.{◌&&◌, ◌||◌, ◌⊎◌, OnOk, IfSome, is_some, unwrap_or, codes}
 use Rattle.std.specs.List.{AllByRecursion}
 use Rattle.std.specs.Str.{bytes_eq}
 use Rattle.std.specs.Str.Lines.{lines}
 use Rattle.std.proofs.lemmas.Bool.Decides.{nat_tests}
 use Rattle.std.proofs.lemmas.Bool.{ltb-false}
 use Rattle.http_model.specs.Sizes.{most_size}
-use Rattle.px_bytes.specs.Numbers.{decimal_of}
 use Rattle.px_link.specs.declared.address.Address.{Address}
 use Rattle.http_rules.specs.declared.config.Config.{Config}
 use Rattle.http_rules.specs.Valid.{AreLimits, HasPort, HasHost, IsValid}
@@ -29,16 +28,18 @@ use Rattle.cfg_parse.specs.Sound.{IsSound}
 use Rattle.cfg_parse.specs.Whole.{bufsize_of, maxrewrite_of, limits_of, made_config, with_addresses, whole}
 use Rattle.cfg_parse.specs.declared.keywords.SectionWord.{SectionWord}
 use Rattle.cfg_parse.specs.declared.keywords.SectionWord.TheVariants.{Global, Defaults, Listen, Other}
-use Rattle.cfg_parse.specs.Numbers.{number_up_to, size_of, time_of, is_colon, as_port, port_of, address_at, address_of, server_address_of}
+use Rattle.cfg_parse.specs.Numbers.{number_up_to, size_of, time_of}
+use Rattle.cfg_parse.specs.Addresses.{address_of, server_address_of}
 use Rattle.body_filter.specs.declared.filter_spec.FilterSpec.{FilterSpec}
 use Rattle.body_filter.specs.Valid.{IsFilter}
 use Rattle.cfg_expr.specs.declared.side.Side.{Side}
 use Rattle.cfg_expr.specs.declared.side.Side.TheVariants.{Request, Response}
 use Rattle.cfg_parse.specs.Filters.{with_filter, filter_line, filter_added, filter_setting}
+use Rattle.cfg_parse.proofs.AddressLemmas.{address_of-port, server_address_of-good}
 use Rattle.cfg_parse.proofs.StepLemmas.{bind_ok, guard_ok, passed, given, ok_is, or_false, and_true}
 use Rattle.cfg_parse.proofs.FilterLemmas.{none_chain, chain_more, filter_line-good}
 
--- ---- sizes and addresses
+-- ---- sizes
 
 size_of-within : (least most : ℕ) (word : List ℕ) (n : ℕ) → size_of least most word ≡ Ok n → (least ≤ n) × (n ≤ most)
 unfolding size_of
@@ -50,41 +51,6 @@ size_of-within least most word n e =
     let least-le : least ≤ read.0 = ltb-false _ _ tests.0 in
     let most-le : read.0 ≤ most = ltb-false _ _ tests.1 in
     (omega arith, omega arith)
-
-as_port-within : (number : Option ℕ) (port : ℕ) → as_port number ≡ Ok port → (1 ≤ port) × (port ≤ 65535)
-as_port-within None port e = absurd cc
-as_port-within (Some n) port e =
-    let test = passed (leb 1 n && leb n 65535) Argument (Ok n) port e in
-    let both = and_true (leb 1 n) (leb n 65535) test.0 in
-    let same : n ≡ port = ok_is n port test.1 in
-    let low : 1 ≤ n = grind (arith, nat_tests) in
-    let high : n ≤ 65535 = grind (arith, nat_tests) in
-    (omega arith, omega arith)
-
-address_at-port : (word : List ℕ) (at : Option ℕ) (address : Address) → address_at word at ≡ Ok address → HasPort address
-unfolding port_of
-address_at-port word None address e = absurd cc
-address_at-port word (Some at) address e =
-    let b = bind_ok (port_of (drop (at + 1) word)) (λ port. Ok (record { host = take at word; port = port })) address e in
-    let within = as_port-within (decimal_of 18 (drop (at + 1) word)) b.0 b.1.0 in
-    let made : Address = record { host = take at word; port = b.0 } in
-    let port : b.0 ≡ address.port = ap (λ (a : Address). a.port) (ok_is made address b.1.1) in
-    record { least = omega (arith, within.0, port); most = omega (arith, within.1, port) }
-
-address_of-port : (word : List ℕ) (address : Address) → address_of word ≡ Ok address → HasPort address
-unfolding address_of
-address_of-port word address e = address_at-port word (position is_colon word) address e
-
-server_address_of-good : (word : List ℕ) (address : Address) → server_address_of word ≡ Ok address → HasPort address × HasHost address
-unfolding server_address_of
-server_address_of-good word address e =
-    let b = bind_ok (address_of word) (λ a. cond (eqb (length a.host) 0 || bytes_eq a.host (codes "*")) (Err Argument) (Ok a)) address e in
-    let test = guard_ok (eqb (length b.0.host) 0 || bytes_eq b.0.host (codes "*")) Argument (Ok b.0) address b.1.1 in
-    let both = or_false (eqb (length b.0.host) 0) (bytes_eq b.0.host (codes "*")) test.0 in
-    let port = address_of-port word b.0 b.1.0 in
-    let some : 1 ≤ length b.0.host = grind (arith, nat_tests) in
-    let host : HasHost b.0 = record { some = some; one = both.1 } in
-    subst (λ (a : Address). HasPort a × HasHost a) (ok_is b.0 address test.1) (port, host)
 
 -- ---- the configuration so far
 

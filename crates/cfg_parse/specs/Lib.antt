@@ -2,6 +2,7 @@ pub mod Reading
 pub mod Asking
 pub mod Keywords
 pub mod Numbers
+pub mod Addresses
 pub mod Draft
 pub mod Filters
 pub mod Limits

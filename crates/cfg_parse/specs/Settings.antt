@@ -14,7 +14,8 @@ use Rattle.cfg_parse.specs.Reading.{◌>>=◌, argument, no_more}
 use Rattle.cfg_parse.specs.declared.keywords.TimeoutName.{TimeoutName}
 use Rattle.cfg_parse.specs.declared.keywords.TimeoutName.TheVariants as names
 use Rattle.cfg_parse.specs.Keywords.{timeout_of}
-use Rattle.cfg_parse.specs.Numbers.{number_up_to, size_of, time_of, address_of, server_address_of}
+use Rattle.cfg_parse.specs.Numbers.{number_up_to, size_of, time_of}
+use Rattle.cfg_parse.specs.Addresses.{address_of, server_address_of}
 use Rattle.cfg_parse.specs.Draft.{has_listen, is_listen, default_timeouts}
 
 -- ---- lines that begin a section
