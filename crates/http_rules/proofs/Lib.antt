@@ -1,4 +1,5 @@
 mod Runs
+mod Stepping
 mod Bodies
 mod Asked
 mod Replies

@@ -27,15 +27,19 @@ use Rattle.http_rules.specs.declared.verdict.Ruled.TheVariants.{Goes, Ends}
 use Rattle.http_rules.specs.declared.verdict.Verdict.{Verdict as Answered}
 use Rattle.http_rules.specs.declared.verdict.Verdict.TheVariants as verdicts
 use Rattle.http_rules.specs.Rules.{Comes, answers, mode_after, runs, behind, by_rule, walk, rules_of}
-use Rattle.http_rules.specs.Run.{Leaves, GoesOn, EndsRules, RuleLeaves, ruled_by, IsHead}
+use Rattle.http_rules.specs.Run.{Leaves, GoesOn, EndsRules, RuleLeaves, ruled_by, told_by, IsHead}
+use Rattle.http_rules.specs.declared.step.Step.{Step}
+use Rattle.http_rules.specs.declared.step.Step.TheVariants as steps
+use Rattle.http_rules.specs.Steps.{Course, Onward, Over, course_by, course_of}
 
 -- a rule that does not run
 pub passed_over : (side : Side) (size : ℕ) (rule : Rule) (strict : Bool) (env : Env) (blocks : List Block) (vars : Variables)
-    → IsAt side env blocks vars → runs size rule.cond env ≡ false → RuleLeaves side size rule strict env (Goes strict) blocks vars
+    → IsAt side env blocks vars → runs size rule.cond env ≡ false → RuleLeaves side size rule strict env (Goes steps.Passed strict) blocks vars
 passed_over side size rule strict env blocks vars at off =
     record {
       next = env;
       at_next = at;
+      course = ap (λ (t : Bool). cond t (course_by strict rule.action env (act size rule.action env)) (Onward steps.Passed strict env)) off;
       others = λ rest. ap (λ (t : Bool). cond t (behind strict rule.action env (act size rule.action env) rest) (rest strict env)) off;
     }
 
@@ -49,17 +53,22 @@ ran side size rule strict env done blocks vars does on = by (act size rule.actio
         ap (λ (t : Bool). cond t (behind strict rule.action env (act size rule.action env) rest) (rest strict env)) on
         ∙ ap (λ (x : Act). behind strict rule.action env x rest) e
 
+    taken : (o : Act) → act size rule.action env ≡ o → course_of size rule strict env ≡ course_by strict rule.action env o
+    taken o e =
+        ap (λ (t : Bool). cond t (course_by strict rule.action env (act size rule.action env)) (Onward steps.Passed strict env)) on
+        ∙ ap (λ (x : Act). course_by strict rule.action env x) e
+
     failed : (t : Bool) (why told : Why) (left : Env) → (not strict && not (answers rule.action)) ≡ t → act size rule.action env ≡ Fails why left → told ≡ why → IsAt side left blocks vars
-        → RuleLeaves side size rule strict env (cond t (Goes strict) (Ends (verdicts.Fail told))) blocks vars
+        → RuleLeaves side size rule strict env (cond t (Goes (steps.Skipped told) strict) (Ends (verdicts.Fail told))) blocks vars
     failed true why told left off e same at =
-        record { next = left; at_next = at; others = λ rest. known (Fails why left) e rest ∙ ap (λ (t : Bool). cond t (rest strict left) (Fail why left)) off }
+        record { next = left; at_next = at; course = taken (Fails why left) e ∙ ap (λ (t : Bool). cond t (Onward (steps.Skipped why) strict left) (Over (steps.Fail why) (Fail why left))) off ∙ ap (λ (w : Why). Onward (steps.Skipped w) strict left) (sym same); others = λ rest. known (Fails why left) e rest ∙ ap (λ (t : Bool). cond t (rest strict left) (Fail why left)) off }
     failed false why told left off e same at =
-        record { comes = Fail why left; leaves = (same, at, refl); whatever = λ rest. known (Fails why left) e rest ∙ ap (λ (t : Bool). cond t (rest strict left) (Fail why left)) off }
+        record { comes = Fail why left; leaves = (same, at, refl); course = taken (Fails why left) e ∙ ap (λ (t : Bool). cond t (Onward (steps.Skipped why) strict left) (Over (steps.Fail why) (Fail why left))) off ∙ ap (λ (w : Why). Over (steps.Fail w) (Fail why left)) (sym same); whatever = λ rest. known (Fails why left) e rest ∙ ap (λ (t : Bool). cond t (rest strict left) (Fail why left)) off }
 
     by : (o : Act) (d : Acted) → act size rule.action env ≡ o → Does side env o d blocks vars → RuleLeaves side size rule strict env (ruled_by strict rule.action d) blocks vars
-    by (Next next) acted.Next e h = record { next = next; at_next = h; others = known (Next next) e }
-    by Stop acted.Stop e h = record { comes = Pass env; leaves = (h, refl); whatever = known Stop e }
-    by (Denies code) (acted.Deny told) e h = record { comes = Deny code env; leaves = (h.0, h.1, refl); whatever = known (Denies code) e }
+    by (Next next) acted.Next e h = record { next = next; at_next = h; course = taken (Next next) e; others = known (Next next) e }
+    by Stop acted.Stop e h = record { comes = Pass env; leaves = (h, refl); course = taken Stop e; whatever = known Stop e }
+    by (Denies code) (acted.Deny told) e h = record { comes = Deny code env; leaves = (h.0, h.1, refl); course = taken (Denies code) e ∙ ap (λ (n : ℕ). Over (steps.Deny n) (Deny code env)) (sym h.0); whatever = known (Denies code) e }
     by (Fails why left) (acted.Failed told) e h = failed (not strict && not (answers rule.action)) why told left refl e h.0 h.1
     by o d e h = absurd h
 
@@ -89,10 +98,10 @@ pub first_rule : (size : ℕ) (rules : List Rule) (at : ℕ) (rule : Rule) (stri
 first_rule size rules at rule strict now is = ap (λ (rs : List Rule). walk size rs strict now) (drop_get rules at rule is)
 
 -- a rule behind which the next one runs
-pub goes_on : (side : Side) (size : ℕ) (rules : List Rule) (env : Env) (at : ℕ) (rule : Rule) (strict mode : Bool) (old new : List Block) (vars left_vars : Variables)
-    → slice_get rules at ≡ Some rule → (r : Reached side size rules env at strict old vars) → RuleLeaves side size rule strict r.now (Goes mode) new left_vars
+pub goes_on : (side : Side) (size : ℕ) (rules : List Rule) (env : Env) (at : ℕ) (rule : Rule) (told : Step) (strict mode : Bool) (old new : List Block) (vars left_vars : Variables)
+    → slice_get rules at ≡ Some rule → (r : Reached side size rules env at strict old vars) → RuleLeaves side size rule strict r.now (Goes told mode) new left_vars
     → Reached side size rules env (at + 1) mode new left_vars
-goes_on side size rules env at rule strict mode old new vars left_vars is r on =
+goes_on side size rules env at rule told strict mode old new vars left_vars is r on =
     let same : at + 1 ≡ suc at = omega arith in
     record {
       now = on.next;

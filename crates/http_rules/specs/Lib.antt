@@ -7,6 +7,8 @@ pub use Rattle.body_filter.specs.Filter
 pub mod Rules
 pub mod Lives
 pub mod Valid
+pub mod Steps
 pub mod Run
+pub mod Stepped
 pub mod Rule
 pub mod Action

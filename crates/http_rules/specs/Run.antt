@@ -19,9 +19,12 @@ use Rattle.http_rules.specs.declared.verdict.Verdict.{Verdict as Answer}
 use Rattle.http_rules.specs.declared.verdict.Verdict.TheVariants as verdicts
 use Rattle.http_rules.specs.declared.verdict.Ruled.{Ruled}
 use Rattle.http_rules.specs.declared.verdict.Ruled.TheVariants.{Goes, Ends, Answers}
+use Rattle.http_rules.specs.declared.step.Step.{Step}
+use Rattle.http_rules.specs.declared.step.Step.TheVariants as steps
 use Rattle.http_rules.specs.declared.verdict.Ended.{Ended}
 use Rattle.http_rules.specs.declared.verdict.Ended.TheVariants.{With, Answering}
 use Rattle.http_rules.specs.Rules.{Comes, by_rule, answers, mode_after, runs, behind, rules_of}
+use Rattle.http_rules.specs.Steps.{Onward, Over, course_of}
 
 -- The verdict is this one. What stands in the array and in the variables is the environment of that moment, after a failure the
 -- one in front of the failing step; a reply stands in its own array, which is empty otherwise.
@@ -45,21 +48,30 @@ Leaves side (Fail why left) (verdicts.Deny told) blocks vars reply = ⊥
 
 -- what an action's outcome means under a mode
 abbrev pub ruled_by : (strict : Bool) → Action → Acted → Ruled
-ruled_by strict action acted.Next = Goes (mode_after strict action)
+ruled_by strict action acted.Next = Goes steps.Next (mode_after strict action)
 ruled_by strict action acted.Stop = Ends verdicts.Pass
 ruled_by strict action (acted.Deny code) = Ends (verdicts.Deny code)
-ruled_by strict action (acted.Failed why) = if not strict && not (answers action) then Goes strict else Ends (verdicts.Fail why)
+ruled_by strict action (acted.Failed why) = if not strict && not (answers action) then Goes (steps.Skipped why) strict else Ends (verdicts.Fail why)
+
+-- how a verdict is told of the rule that decided
+abbrev pub told_by : Answer → Step
+told_by verdicts.Pass = steps.Stop
+told_by verdicts.Reply = steps.Reply
+told_by (verdicts.Deny code) = steps.Deny code
+told_by (verdicts.Fail why) = steps.Fail why
 
 -- one rule goes on, so the others decide on the environment that it leaves
-pub record GoesOn (side : Side) (size : ℕ) (rule : Rule) (strict : Bool) (env : Env) (mode : Bool) (blocks : List Block) (vars : Variables) : Type 0 where
+pub record GoesOn (side : Side) (size : ℕ) (rule : Rule) (strict : Bool) (env : Env) (step : Step) (mode : Bool) (blocks : List Block) (vars : Variables) : Type 0 where
   pub next : Env
   pub at_next : IsAt side next blocks vars
+  pub course : course_of size rule strict env ≡ Onward step mode next
   pub others : (rest : Bool → Env → Comes) → by_rule size rule strict env rest ≡ rest mode next
 
 -- one rule decides, whatever stands behind it
 pub record EndsRules (side : Side) (size : ℕ) (rule : Rule) (strict : Bool) (env : Env) (verdict : Answer) (blocks : List Block) (vars : Variables) : Type 0 where
   pub comes : Comes
   pub leaves : Leaves side comes verdict blocks vars []
+  pub course : course_of size rule strict env ≡ Over (told_by verdict) comes
   pub whatever : (rest : Bool → Env → Comes) → by_rule size rule strict env rest ≡ comes
 
 -- one rule runs on this environment and answers by itself
@@ -70,7 +82,7 @@ pub record IsAsked (side : Side) (size : ℕ) (rule : Rule) (env : Env) (blocks 
 
 -- what one rule came to
 abbrev pub RuleLeaves : Side → (size : ℕ) → Rule → (strict : Bool) → Env → Ruled → List Block → Variables → Type 0
-RuleLeaves side size rule strict env (Goes mode) blocks vars = GoesOn side size rule strict env mode blocks vars
+RuleLeaves side size rule strict env (Goes step mode) blocks vars = GoesOn side size rule strict env step mode blocks vars
 RuleLeaves side size rule strict env (Ends verdict) blocks vars = EndsRules side size rule strict env verdict blocks vars
 RuleLeaves side size rule strict env Answers blocks vars = IsAsked side size rule env blocks vars
 

@@ -7,6 +7,8 @@ mod laws;
 mod lives;
 pub mod rule;
 mod run;
+mod step;
+mod turn;
 mod verdict;
 
 pub use crate::action::Scratch;
@@ -17,9 +19,11 @@ pub use crate::rule::{
 pub use body_filter::FilterSpec;
 pub use config::{Config, Filters, Timeouts};
 pub use http_model::{Limits, Why};
-pub use laws::{body_stays, replies_are_plain};
+pub use laws::{body_stays, replies_are_plain, stepping_is_the_run};
 pub use lives::{begin_answer, begin_exchange};
 pub use px_link::{Address, OutOfMemory};
 pub use px_sample::Vars;
 pub use run::{run_after, run_request, run_response};
+pub use step::Step;
+pub use turn::{Turn, Turned, step_rule};
 pub use verdict::Verdict;

@@ -15,6 +15,7 @@ ghost use Rattle.http_rules.specs.declared.action.side.Side.TheVariants as sides
 
 use crate::action::{Acted, Scratch, Side, Stepped, answers, is_met, run_action, run_reply};
 use crate::rule::{Action, Rule, Rules};
+use crate::step::Step;
 use crate::verdict::{Ended, Ruled, Verdict};
 use htx_arena::Arena;
 use px_sample::{OutOfMemory, Vars};
@@ -34,12 +35,12 @@ fn outcome_of(strict: bool, action: &Action, acted: Acted) -> Ruled
     ensures { result ≡ ruled_by strict action.now acted }
 {
     match acted {
-        Acted::Next => Ruled::Goes(mode_after(strict, action)),
+        Acted::Next => Ruled::Goes(Step::Next, mode_after(strict, action)),
         Acted::Stop => Ruled::Ends(Verdict::Pass),
         Acted::Deny(code) => Ruled::Ends(Verdict::Deny(code)),
         Acted::Failed(why) => {
             if !strict && !answers(action) {
-                Ruled::Goes(strict)
+                Ruled::Goes(Step::Skipped(why), strict)
             } else {
                 Ruled::Ends(Verdict::Fail(why))
             }
@@ -66,8 +67,8 @@ fn runs(
     }
 }
 
-/// Runs one rule under a mode.
-fn run_rule(
+/// Runs one rule under a mode: the one turn of a run, and of a rule by itself.
+pub(crate) fn run_rule(
     rule: &Rule,
     strict: bool,
     side: Side<'_>,
@@ -84,7 +85,7 @@ fn run_rule(
     ensures scratch { IsScratch msg.old.size scratch.new }
 {
     if !runs(rule, side, msg, vars, scratch)? {
-        return Ok(Ruled::Goes(strict));
+        return Ok(Ruled::Goes(Step::Passed, strict));
     }
     if answers(&rule.action) {
         return Ok(Ruled::Answers);
@@ -115,7 +116,7 @@ fn run_rules<'c>(
         let rule = rules.get(at);
         let outcome = run_rule(rule, strict, side, msg, vars, scratch)?;
         match outcome {
-            Ruled::Goes(mode) => strict = mode,
+            Ruled::Goes(_, mode) => strict = mode,
             Ruled::Ends(verdict) => return Ok(Ended::With(verdict)),
             Ruled::Answers => return Ok(Ended::Answering(&rule.action)),
         }
@@ -124,7 +125,7 @@ fn run_rules<'c>(
 }
 
 /// What the step of an action that answers means for the rules.
-fn verdict_by(step: Stepped) -> Verdict
+pub(crate) fn verdict_by(step: Stepped) -> Verdict
     ensures { result ≡ verdict_by step }
 {
     match step {

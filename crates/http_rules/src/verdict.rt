@@ -1,5 +1,6 @@
 //! What rules come to.
 use crate::rule::Action;
+use crate::step::Step;
 use http_model::Why;
 
 /// What rules make of a message.
@@ -18,8 +19,8 @@ pub enum Verdict {
 /// What one rule came to.
 #[derive(Clone, Copy)]
 pub(crate) enum Ruled {
-    /// The next one runs, under this mode.
-    Goes(bool),
+    /// It is told so, and the next one runs, under this mode.
+    Goes(Step, bool),
     /// No other one does.
     Ends(Verdict),
     /// Nor here: it answers by itself, and its reply is to be made.

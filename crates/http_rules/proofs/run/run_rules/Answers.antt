@@ -55,7 +55,7 @@ loop-at-preserved c =
     let next : (env : Env) → IsAt c.args.side env c.args.msg.now.blocks c.args.vars.now → Reached c.args.side c.args.msg.now.size c.args.rules.now env (c.loop-at.at + 1) c.in-Goes.mode c.run_rule.new.msg.blocks c.run_rule.new.vars = λ env at.
     let r = c.loop-at.invariant.reached env at in
     let ruled = subst (λ (n : ℕ). RuleLeaves c.args.side n c.get-rule.result.now c.loop-at.strict r.now c.in_ok-outcome.outcome c.run_rule.new.msg.blocks c.run_rule.new.vars) c.loop-at.invariant.size (c.in_ok-outcome.ensures.ruled r.now r.at_now) in
-    goes_on c.args.side c.args.msg.now.size c.args.rules.now env c.loop-at.at c.get-rule.result.now c.loop-at.strict c.in-Goes.mode c.loop-at.msg.blocks c.run_rule.new.msg.blocks c.loop-at.vars c.run_rule.new.vars
+    goes_on c.args.side c.args.msg.now.size c.args.rules.now env c.loop-at.at c.get-rule.result.now c.in-Goes.field-0 c.loop-at.strict c.in-Goes.mode c.loop-at.msg.blocks c.run_rule.new.msg.blocks c.loop-at.vars c.run_rule.new.vars
     c.get-rule.ensures r
     (subst (λ (o : Ruled). RuleLeaves c.args.side c.args.msg.now.size c.get-rule.result.now c.loop-at.strict r.now o c.run_rule.new.msg.blocks c.run_rule.new.vars) c.in-Goes.is ruled)
     in
