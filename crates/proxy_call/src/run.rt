@@ -6,11 +6,14 @@ ghost use Rattle.proxy_call.specs.Serving.{Serves};
 ghost use Rattle.proxy_call.specs.Stops.{Answers, Input, given};
 
 use crate::answer::{check, check_all, check_record, drill, replay, weave};
+use crate::running::run_many;
 use crate::serving::serve;
+use crate::sessions::Many;
 use crate::stop::Stop;
 use px_command::{Asked, asked_by, help_of_text, help_text, version_text};
-use px_link::{Bytes, Files, Net, Sink};
+use px_link::{Bytes, Files, Net, Sink, Waits, WaitsNet, Wakes};
 use px_pattern::Patterns;
+use px_run::Nets;
 use std::alloc::Global;
 
 /// Writes what a command made.
@@ -23,11 +26,12 @@ fn write<'a, K: Sink>(made: Result<Bytes, Stop<'a>>, out: &mut K) -> Result<(), 
 }
 
 /// Runs the command that the words name.
-pub fn run<'a, F: Files, N: Net, K: Sink, P: Patterns>(
+pub fn run<'a, F: Files, N: Net, L: Waits + Drop, M: WaitsNet<Link = L> + Drop, S: Nets<M>, W: Wakes<M>, K: Sink, P: Patterns>(
     alloc: Global,
     words: &'a [String],
     files: &mut F,
     net: &mut N,
+    many: &mut Many<M, S, W>,
     out: &mut K,
     pats: &mut P,
 ) -> Result<(), Stop<'a>>
@@ -44,6 +48,7 @@ pub fn run<'a, F: Files, N: Net, K: Sink, P: Patterns>(
             write(weave(alloc, files, cfg, rec, cores, pats), out)
         }
         Asked::Serve { cfg, connections } => serve(alloc, files, cfg, connections, net, out, pats),
+        Asked::Run { cfg, options } => run_many(alloc, files, cfg, options, many, out, pats),
         Asked::Drill { seed, exchanges } => write(drill(alloc, seed, exchanges, pats), out),
         Asked::Help => write(Ok(help_text(alloc)?), out),
         Asked::HelpOf { command } => write(Ok(help_of_text(alloc, command)?), out),

@@ -14,18 +14,21 @@ ghost use Rattle.proxy_call.specs.Serving.{GainsBind, LostBy, ServedBy, Serving}
 
 use crate::reply::end;
 use crate::run::run;
+use crate::sessions::Many;
 use crate::status::Status;
-use px_link::{Files, Net, Sink};
+use px_link::{Files, Net, Sink, Waits, WaitsNet, Wakes};
 use px_pattern::Patterns;
+use px_run::Nets;
 use std::alloc::Global;
 
 /// The program: reads the words, runs the command that they name, and writes what it came to. Only `serve` makes calls on the net.
 /// `pats` builds the patterns of a configuration.
-pub fn htx_proxy<F: Files, N: Net, K: Sink, P: Patterns>(
+pub fn htx_proxy<F: Files, N: Net, L: Waits + Drop, M: WaitsNet<Link = L> + Drop, S: Nets<M>, W: Wakes<M>, K: Sink, P: Patterns>(
     alloc: Global,
     words: &[String],
     files: &mut F,
     net: &mut N,
+    many: &mut Many<M, S, W>,
     out: &mut K,
     pats: &mut P,
 ) -> Status
@@ -115,7 +118,7 @@ pub fn htx_proxy<F: Files, N: Net, K: Sink, P: Patterns>(
         → (NamesServe (map string_bytes words.now) → Rose (N.seen net.old).bind_faults (N.seen net.new).bind_faults → ⊥)
         → (result ≡ status) ⊎ (result ≡ Status.OutOfMemory) }
 {
-    match run(alloc, words, files, net, out, pats) {
+    match run(alloc, words, files, net, many, out, pats) {
         Ok(()) => Status::Good,
         Err(stop) => end(alloc, stop, out),
     }
