@@ -46,4 +46,4 @@ file_line name = codes "file: " ++ name ++ codes "\n"
 
 -- it listens at this address
 unfoldable pub listening_line : Place → List ℕ
-listening_line at = codes "listening " ++ at.host ++ codes ":" ++ decimal at.port ++ codes "\n"
+listening_line at = codes "listening " ++ at.0 ++ codes ":" ++ decimal at.1 ++ codes "\n"

@@ -1,7 +1,8 @@
 //! The command that the words name, and what it writes.
 ghost use Rattle.std.specs.Prelude.{◌≡◌, map, string_bytes};
-ghost use Rattle.proxy_call.specs.Ends.{Ran, Writes, put};
+ghost use Rattle.proxy_call.specs.Ends.{RanAny, Writes, put};
 ghost use Rattle.proxy_call.specs.Files.{told_by};
+ghost use Rattle.proxy_call.specs.Running.{Runs};
 ghost use Rattle.proxy_call.specs.Serving.{Serves};
 ghost use Rattle.proxy_call.specs.Stops.{Answers, Input, given};
 
@@ -35,9 +36,10 @@ pub fn run<'a, F: Files, N: Net, L: Waits + Drop, M: WaitsNet<Link = L> + Drop, 
     out: &mut K,
     pats: &mut P,
 ) -> Result<(), Stop<'a>>
-    ensures { Ran (given (map string_bytes words.now) (F.files files.old) (told_by (P.refusals pats.old) (P.refusals pats.new) (P.last_refused pats.new)) (F.last_failed files.new) (F.faults files.old) (F.faults files.new))
-        (put (K.faults out.old) (K.faults out.new) (K.written out.old) (K.written out.new)) (net.new ≡ net.old)
-        (Serves N.Link.seen N.Link.wrote N.seen net.old net.new (K.faults out.old) (K.faults out.new) (K.written out.old) (K.written out.new)) result }
+    ensures { RanAny (given (map string_bytes words.now) (F.files files.old) (told_by (P.refusals pats.old) (P.refusals pats.new) (P.last_refused pats.new)) (F.last_failed files.new) (F.faults files.old) (F.faults files.new))
+        (put (K.faults out.old) (K.faults out.new) (K.written out.old) (K.written out.new)) (net.new ≡ net.old) (many.new ≡ many.old)
+        (Serves N.Link.seen N.Link.wrote N.seen net.old net.new (K.faults out.old) (K.faults out.new) (K.written out.old) (K.written out.new))
+        (Runs M.seen many.old.net many.new.net (K.written out.old) (K.written out.new)) result }
 {
     match asked_by(alloc, words)? {
         Asked::Check { cfg } => write(check(alloc, files, cfg, pats), out),

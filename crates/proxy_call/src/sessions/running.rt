@@ -1,11 +1,12 @@
 //! Clients that are served at once, and their sessions.
-ghost use Rattle.std.specs.Prelude.{◌<◌};
 ghost use Rattle.http_rules.specs.Valid.{IsValid};
+ghost use Rattle.proxy_call.specs.Running.{Runs};
 
 use crate::lines::listening_line;
 use crate::sessions::cores::RecordCores;
 use http_rules::{Config, Timeouts};
 use htx_drive::weave::cores_for;
+use px_command::RunOptions;
 use px_link::{Fault, OutOfMemory, Sink, Waits, WaitsNet, Wakes};
 use px_run::{Nets, Plan, RunFault, Times, run};
 use std::alloc::Global;
@@ -18,18 +19,11 @@ pub struct Many<N, S, W> {
     pub wakes: W,
 }
 
-/// How many are served at once, and when it ends.
-#[derive(Clone, Copy)]
-pub struct RunPlan {
-    /// How many connections have a core at once, at most.
-    pub sets: u32,
-    /// Behind how many connections it ends. With none it goes on.
-    pub connections: Option<u32>,
-    /// Nothing more is accepted once the caller's switch is off.
-    pub until_off: bool,
-}
+/// How many connections have a core at once, where the words don't say.
+const SETS: u32 = 256;
 
 /// Nets of a caller, whose switch is looked at or not.
+#[derive(Drop)]
 struct Switched<'s, S> {
     nets: &'s mut S,
     until_off: bool,
@@ -71,18 +65,18 @@ fn write_listening<K: Sink>(
 pub fn run_clients<L: Waits + Drop, N: WaitsNet<Link = L> + Drop, S: Nets<N>, W: Wakes<N>, K: Sink>(
     alloc: Global,
     config: &Config,
-    plan: RunPlan,
+    options: RunOptions,
     many: &mut Many<N, S, W>,
     out: &mut K,
 ) -> Result<(), RunFault>
     requires valid { IsValid config.now }
-    requires some { 0 < plan.sets }
+    ensures { Runs N.seen many.old.net many.new.net (K.written out.old) (K.written out.new) config.now options result }
 {
     let cores = RecordCores {
         config,
         window: config.limits.bufsize,
     };
-    let Ok(sets) = cores_for(alloc, &cores, plan.sets) else {
+    let Ok(sets) = cores_for(alloc, &cores, options.sets.unwrap_or(SETS)) else {
         return Err(RunFault::OutOfMemory);
     };
     match many.net.bind(&config.bind) {
@@ -95,13 +89,13 @@ pub fn run_clients<L: Waits + Drop, N: WaitsNet<Link = L> + Drop, S: Nets<N>, W:
     }
     let mut nets = Switched {
         nets: &mut many.nets,
-        until_off: plan.until_off,
+        until_off: options.until_input_ends,
     };
     let plan = Plan {
         alloc,
         to: &config.server,
         times: times_of(&config.timeouts),
-        connections: plan.connections,
+        connections: options.connections,
     };
     run(&mut many.net, &mut nets, &mut many.wakes, out, sets, &plan)
 }
