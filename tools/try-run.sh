@@ -2,13 +2,13 @@
 # try-run.sh [PROGRAM]: real clients and servers through `run`, over loopback: curl, wrk, ab and raw sockets in front, nginx, php, node, python and servers that
 # misbehave behind. It prints a line for each check, `ok NAME` or `FAILED NAME: WHY`, and ends with 0 where all are ok. PROGRAM is a built program; without it
 # the checks are of what ./htx-proxy starts, which is the proved program where one stands, and else an unproved build. SECONDS_OF_WRK (10) is how long wrk runs, and
-# REQUESTS (100000) is how many requests ab makes. What isn't there is installed from Debian, which wants root. It is no part of the gate.
+# REQUESTS (100000) is how many requests ab makes, and MEGABYTES (100) how large the large bodies are. What isn't there is installed from Debian, which wants root. It is no part of the gate.
 set -u
 here="$(cd "$(dirname "$0")/.." && pwd)"
 program="${1:+$(realpath "$1")}"
 program="${program:-$here/htx-proxy}"
 [ -x "$program" ] || { echo "try-run: no program $program" >&2; exit 70; }
-for_wrk="${SECONDS_OF_WRK:-10}" requests="${REQUESTS:-100000}"
+for_wrk="${SECONDS_OF_WRK:-10}" requests="${REQUESTS:-100000}" megabytes="${MEGABYTES:-100}"
 PATH="$PATH:/usr/sbin"
 
 # ---- what it needs
@@ -60,7 +60,7 @@ free_port; early=$port; free_port; full=$port; free_port; php=$port; free_port; 
 mkdir -p "$work/www" "$work/temp"
 echo "hello" >"$work/www/small"
 head -c 204800 /dev/urandom >"$work/www/middle"
-head -c 67108864 /dev/urandom >"$work/www/large"
+head -c "$((megabytes * 1048576))" /dev/urandom >"$work/www/large"
 head -c 4194304 /dev/urandom >"$work/piece"
 cat >"$work/nginx.conf" <<CONF
 $([ "$(id -u)" = 0 ] && echo "user root;")
@@ -71,7 +71,7 @@ error_log $work/nginx-error.log;
 events { worker_connections 4096; }
 http {
   access_log off;
-  client_max_body_size 64m;
+  client_max_body_size 1g;
   client_body_temp_path $work/temp; proxy_temp_path $work/temp; fastcgi_temp_path $work/temp; uwsgi_temp_path $work/temp; scgi_temp_path $work/temp;
   server { listen 127.0.0.1:$origin backlog=4096; root $work/www; location /upload { proxy_pass http://127.0.0.1:$sink/; } }
   server { listen 127.0.0.1:$sink; location / { return 200 "taken"; } }
@@ -116,16 +116,17 @@ configure() { # SERVER-PORT LINES..
   shift
   for line in "$@"; do printf '  %s\n' "$line" >>"$work/proxy.cfg"; done
 }
-run() { # OPTIONS..: starts it; its switch is the pipe at descriptor 7
+run() { # OPTIONS..: starts it, with 32 sets where no option says another number; its switch is the pipe at descriptor 7
+  [[ "$*" = *--sets* ]] || set -- --sets 32 "$@"
   rm -f "$work/switch"; mkfifo "$work/switch"
   "$program" run "$work/proxy.cfg" --until-input-ends "$@" <"$work/switch" >"$work/lines" 2>"$work/said" 7>&- & running=$!
   started+=("$running")
   exec 7>"$work/switch"
   await_listener "$front" || { echo "try-run: the program does not listen: $(cat "$work/said")" >&2; exit 70; }
 }
-ended() { # waits at most 20 seconds for its end; its status is in $status
+ended() { # waits at most a minute for its end; its status is in $status
   exec 7>&-
-  for _ in $(seq 2000); do kill -0 "$running" 2>/dev/null || break; sleep 0.01; done
+  for _ in $(seq 3000); do kill -0 "$running" 2>/dev/null || break; sleep 0.02; done
   if kill -0 "$running" 2>/dev/null; then kill "$running"; wait "$running" 2>/dev/null; status=late; return; fi
   wait "$running"; status=$?
 }
@@ -136,9 +137,9 @@ finish() { # NAME WRONG: switches it off, and ends a check in which WRONG was se
   [ "$(head -1 "$work/lines")" = "listening 127.0.0.1:$front" ] || wrong="$wrong the first line is $(head -1 "$work/lines")"
   says "$1" "$wrong"
 }
-fetch() { curl -sS --noproxy '*' --max-time 30 "$@"; }
+fetch() { curl -sS --noproxy '*' --max-time 60 "$@"; }
 url="http://127.0.0.1:$front"
-answers() { # WRONG-UNLESS MOST-SECONDS URL: a request is answered 200 within so many seconds
+answers() { # MOST-SECONDS URL: a request is answered 200 within so many seconds
   local got; got="$(fetch -o /dev/null -w '%{http_code} %{time_total}' --max-time "$1" "$2" 2>&1)"
   [ "${got%% *}" = 200 ] || echo "beside it a request gets $got "
 }
@@ -150,13 +151,13 @@ wrong_in() { grep -E 'Socket errors|Non-2xx|unable|Failed requests: *[1-9]|apr_'
 
 configure "$origin"
 run; fetch "$url/small" -o "$work/got"; fetch -I "$url/large" >"$work/head"
-finish "GET and HEAD" "$(cmp "$work/got" "$work/www/small" 2>&1; grep -qi '^content-length: 67108864' "$work/head" || echo 'no length came')"
+finish "GET and HEAD" "$(cmp "$work/got" "$work/www/small" 2>&1; grep -qi "^content-length: $((megabytes * 1048576))" "$work/head" || echo 'no length came')"
 
 run
 fetch "$url/large" -o "$work/got"; fetch "$url/upload" --data-binary "@$work/piece" -o "$work/taken"
-finish "64 MB down, 4 MB up" "$(cmp "$work/got" "$work/www/large" 2>&1; [ "$(cat "$work/taken")" = taken ] || echo 'the upload was not taken')"
+finish "$megabytes MB down, 4 MB up" "$(cmp "$work/got" "$work/www/large" 2>&1; [ "$(cat "$work/taken")" = taken ] || echo 'the upload was not taken')"
 
-run
+run --sets 64
 asking=()
 for number in $(seq 40); do fetch "$url/middle" -o "$work/got.$number" & asking+=($!); done
 wait "${asking[@]}"
@@ -166,7 +167,7 @@ run
 fetch -Z "$url/middle?[1-6]" -o "$work/z.#1" 2>"$work/curl"
 finish "curl -Z with six URLs" "$(for number in 1 2 3 4 5 6; do cmp "$work/z.$number" "$work/www/middle" 2>&1; done)"
 
-run
+run --sets 256
 wrk -t1 -c200 -d1s "$url/small" >/dev/null 2>&1; sleep 0.3
 before="$(descriptors)" least="$(memory)"
 wrk -t2 -c200 "-d${for_wrk}s" "$url/small" >"$work/got" 2>&1; sleep 0.5
@@ -175,16 +176,16 @@ after="$(descriptors)" most="$(memory)"
 finish "wrk with 200 connections for $for_wrk seconds, $rate requests a second, $before and $after descriptors, $least and $most KB" \
   "$(wrong_in "$work/got"; [ "$after" -le $((before + 2)) ] || echo 'descriptors are lost '; [ "$most" -le $((least + least / 5 + 2000)) ] || echo 'memory grows ')"
 
-run
+run --sets 64
 ab -q -k -c 64 -n "$requests" "$url/small" >"$work/got" 2>&1
 finish "$requests requests of ab on 64 kept connections, $(sed -n 's/^Requests per second: *\([0-9.]*\).*/\1/p' "$work/got") a second" \
   "$(wrong_in "$work/got"; grep -q "^Complete requests: *$requests" "$work/got" || tail -2 "$work/got")"
 
-run
-ab -q -c 64 -n 20000 "$url/small" >"$work/got" 2>&1
-finish "20000 connections of ab, 64 at once" "$(wrong_in "$work/got"; grep -q "^Complete requests: *20000" "$work/got" || tail -2 "$work/got")"
+run --sets 64
+ab -q -c 64 -n "$((requests / 5))" "$url/small" >"$work/got" 2>&1
+finish "$((requests / 5)) connections of ab, 64 at once" "$(wrong_in "$work/got"; grep -q "^Complete requests: *$((requests / 5))$" "$work/got" || tail -2 "$work/got")"
 
-run
+run --sets 256
 peers idle_clients "$front" 500 60 >"$work/idle" & idle=$!; started+=("$idle")
 for _ in $(seq 500); do grep -q idle "$work/idle" && break; sleep 0.02; done
 wrong="$(grep -q idle "$work/idle" || echo 'they do not connect '; answers 1 "$url/small")"
@@ -216,8 +217,8 @@ run; fetch "$url/" --data-binary "@$work/piece" -H 'Expect: 100-continue' -o "$w
 finish "Expect, and a server (python)" "$([ "$(cat "$work/got")" = 4194304 ] || echo "the answer is $(head -c 100 "$work/got")")"
 
 configure "$node"
-run; peers echo_client "$front" /echo 100 >"$work/got" 2>&1
-finish "an echo of 100 MB (node)" "$([ "$(cat "$work/got")" = "200 same" ] || head -c 200 "$work/got")"
+run; peers echo_client "$front" /echo "$megabytes" >"$work/got" 2>&1
+finish "an echo of $megabytes MB (node)" "$([ "$(cat "$work/got")" = "200 same" ] || head -c 200 "$work/got")"
 
 configure "$early"
 run
