@@ -69,15 +69,17 @@ pub fn open<C: Machine, L: Link, N: Net<Link = L>>(
             put(&mut conn.server, server);
             Ok(())
         }
-        Err(_) => Err(OutOfMemory),
+        Err(SessionFault::OutOfMemory) => Err(OutOfMemory),
+        Err(SessionFault::ClientWrite) => unreachable!(),
+        Err(SessionFault::Spent) => unreachable!(),
     }
 }
 
 /// Closes the server's link, as the core of a connection says, and gives it back.
 pub fn close<C: Machine, L: Link, N: Net<Link = L>>(conn: &mut Conn<L, N>, core: &mut C, how: Close)
     requires wanted { (C.seen core.old).wants.server_close ≡ Some how }
-    requires serving { (C.seen core.old).serving ≡ is_some conn.old.server }
-    requires lent { is_some conn.old.server ≡ true → 0 < (N.seen conn.old.net).lent }
+    requires open { is_some conn.old.server ≡ true }
+    requires lent { 0 < (N.seen conn.old.net).lent }
     requires sound { C.sound core.old }
     ensures sound { C.sound core.new }
     ensures goes { (cfg : C.Settings) (all ahead : List Turn) (count : ℕ) (first : L) (to : Place) (first_net : N) → Working (C.stands cfg) C.seen all ahead core.old L.seen L.wrote first conn.old.client conn.old.server to (N.seen first_net) (N.seen conn.old.net) count
@@ -167,7 +169,10 @@ pub fn take_turn<C: Machine, L: Link, N: Net<Link = L>>(
     ensures ran { conn.new.ran ≡ conn.old.ran }
 {
     match conn.server.take() {
-        None => turn_idle(core, &mut conn.client, Some(turn), buffer, wants),
+        None => match turn_idle(core, &mut conn.client, Some(turn), buffer, wants) {
+            Ok(moved) => Ok(moved),
+            Err(fault) => Err(fault),
+        },
         Some(link) => turn_with(conn, core, link, turn, buffer, wants),
     }
 }
