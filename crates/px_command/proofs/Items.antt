@@ -1,5 +1,5 @@
 -- Lists of one to four words, of two and those behind them, and a text behind another.
-use Rattle.std.proofs.Common.{◌≡◌, ◌<◌, ◌≤◌, ◌-◌, List, [], ◌∷◌, ◌++◌, Bool, refl, sym, ap, ◌∙◌, length, get_or, take, drop, take_all, arith}
+use Rattle.std.proofs.Common.{◌≡◌, ◌<◌, ◌≤◌, ◌-◌, List, [], ◌∷◌, ◌++◌, Bool, sym, ap, ◌∙◌, length, get_or, take, drop, take_all, arith}
 use Rattle.std.specs.Prelude.{ℕ, map, string_bytes, IsTrue}
 use Rattle.std.specs.declared.string.String.{String}
 use Rattle.std.specs.declared.alloc.Global.{Global}

@@ -1,5 +1,5 @@
 -- The options of `run`.
-use Rattle.std.specs.Prelude.{◌&&◌, ℕ, Bool, true, false, not, List, [], ◌∷◌, Option, None, Some, is_some, if◌then◌else◌, option_map, option_and_then, nat_le, codes, bytes_eq}
+use Rattle.std.specs.Prelude.{◌&&◌, ℕ, true, false, not, List, [], ◌∷◌, Option, None, Some, is_some, if◌then◌else◌, option_map, option_and_then, nat_le, codes, bytes_eq}
 use Rattle.std.specs.Option.{option_map_or}
 use Rattle.px_bytes.specs.Numbers.{decimal_of}
 use Rattle.px_command.specs.declared.options.RunOptions.{RunOptions}

@@ -51,12 +51,7 @@ impl<'a, R: net::Net + Clock> ReadyPoll<'a, R> {
     /// Has later waits end where standard input comes, or ends; they name the listener then. A file on disk, which never waits, needs no watch.
     pub fn watch_input(&mut self) {
         let registry = self.poll.registry();
-        let _ = report(
-            registry,
-            Some(INPUT),
-            Watched::Listener,
-            Interest::READABLE,
-        );
+        let _ = report(registry, Some(INPUT), Watched::Listener, Interest::READABLE);
     }
 }
 
