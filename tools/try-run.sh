@@ -171,7 +171,7 @@ finish "curl -Z with six URLs" "$(for number in 1 2 3 4 5 6; do cmp "$work/z.$nu
 run --sets 256
 wrk -t1 -c200 -d1s "$url/small" >/dev/null 2>&1; sleep 0.3
 before="$(descriptors)" least="$(memory)"
-wrk -t2 -c200 "-d${for_wrk}s" "$url/small" >"$work/got" 2>&1; sleep 0.5
+wrk -t2 -c200 --timeout 30s "-d${for_wrk}s" "$url/small" >"$work/got" 2>&1; sleep 0.5
 rate="$(sed -n 's/^Requests\/sec: *//p' "$work/got")"
 after="$(descriptors)" most="$(memory)"
 finish "wrk with 200 connections for $for_wrk seconds, $rate requests a second, $before and $after descriptors, $least and $most KB" \
