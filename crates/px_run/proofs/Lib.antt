@@ -1,1 +1,3 @@
 mod Deadlines
+mod Asked
+mod Courses

@@ -1,3 +1,4 @@
 pub mod Next
 pub mod Deadline
 pub mod Course
+pub mod Connection

@@ -10,9 +10,10 @@ mod next;
 mod pace;
 mod plan;
 mod rounds;
+mod running;
 mod step;
 
 pub use deadline::{Call, Marks, Phase, Times, deadline_of, expired_of};
 pub use next::{Next, Ready, next_of};
 pub use plan::{Nets, Plan, RunFault};
-pub use rounds::run;
+pub use running::run;
