@@ -51,8 +51,7 @@ await_listener() { # PORT: true once somebody listens there
   for _ in $(seq 3000); do listens "$1" && return 0; sleep 0.02; done
   return 1
 }
-# none of the peers holds the switch
-peers() { python3 "$here/tools/trying/peers.py" "$@" 7>&-; }
+peers=(python3 "$here/tools/trying/peers.py")
 
 # ---- the servers
 
@@ -99,9 +98,9 @@ nginx -c "$work/nginx.conf" -p "$work" 2>"$work/nginx-said" & started+=($!)
 php -S "127.0.0.1:$php" -t "$work/www" >/dev/null 2>&1 & started+=($!)
 node "$work/echo.js" "$node" & started+=($!)
 python3 "$work/length.py" "$python" & started+=($!)
-peers silent_server "$silent" & started+=($!)
-peers early_server "$early" & started+=($!)
-peers full_server "$full" >/dev/null & started+=($!)
+"${peers[@]}" silent_server "$silent" & started+=($!)
+"${peers[@]}" early_server "$early" & started+=($!)
+"${peers[@]}" full_server "$full" >/dev/null & started+=($!)
 for at in "$origin" "$php" "$node" "$python" "$silent" "$early" "$full"; do
   await_listener "$at" || { echo "try-run: a server does not listen: $(cat "$work/nginx-said")" >&2; exit 70; }
 done
@@ -119,11 +118,12 @@ configure() { # SERVER-PORT LINES..
 }
 run() { # OPTIONS..: starts it, with 32 sets where no option says another number; its switch is the pipe at descriptor 7
   [[ "$*" = *--sets* ]] || set -- --sets 32 "$@"
-  rm -f "$work/switch"; mkfifo "$work/switch"
+  rm -f "$work/switch"; mkfifo "$work/switch"; : >"$work/lines"
   "$program" run "$work/proxy.cfg" --until-input-ends "$@" <"$work/switch" >"$work/lines" 2>"$work/said" 7>&- & running=$!
   started+=("$running")
   exec 7>"$work/switch"
-  await_listener "$front" || { echo "try-run: the program does not listen: $(cat "$work/said")" >&2; exit 70; }
+  for _ in $(seq 3000); do grep -q '^listening ' "$work/lines" && return; sleep 0.02; done
+  { echo "try-run: the program does not listen: $(cat "$work/said")" >&2; exit 70; }
 }
 ended() { # waits at most a minute for its end; its status is in $status
   exec 7>&-
@@ -138,11 +138,14 @@ finish() { # NAME WRONG: switches it off, and ends a check in which WRONG was se
   [ "$(head -1 "$work/lines")" = "listening 127.0.0.1:$front" ] || wrong="$wrong the first line is $(head -1 "$work/lines")"
   says "$1" "$wrong"
 }
-fetch() { curl -sS --noproxy '*' --max-time 60 "$@" 7>&-; }
+fetch=(curl -sS --noproxy '*' --max-time 60)
 url="http://127.0.0.1:$front"
 answers() { # MOST-SECONDS URL: a request is answered 200 within so many seconds
-  local got; got="$(fetch -o /dev/null -w '%{http_code} %{time_total}' --max-time "$1" "$2" 2>&1)"
+  local got; got="$("${fetch[@]}" -o /dev/null -w '%{http_code} %{time_total}' --max-time "$1" "$2" 2>&1)"
   [ "${got%% *}" = 200 ] || echo "beside it a request gets $got "
+}
+behind() { # WORDS..: starts them beside the checks, without the switch, which would stay open
+  (exec 7>&-; exec "$@") &
 }
 memory() { awk '/^VmRSS/ { print $2 }' "/proc/$running/status"; }
 descriptors() { ls "/proc/$running/fd" | wc -l; }
@@ -151,21 +154,21 @@ wrong_in() { grep -E 'Socket errors|Non-2xx|unable|Failed requests: *[1-9]|apr_'
 # ---- the checks
 
 configure "$origin"
-run; fetch "$url/small" -o "$work/got"; fetch -I "$url/large" >"$work/head"
+run; "${fetch[@]}" "$url/small" -o "$work/got"; "${fetch[@]}" -I "$url/large" >"$work/head"
 finish "GET and HEAD" "$(cmp "$work/got" "$work/www/small" 2>&1; grep -qi "^content-length: $((megabytes * 1048576))" "$work/head" || echo 'no length came')"
 
 run
-fetch "$url/large" -o "$work/got"; fetch "$url/upload" --data-binary "@$work/piece" -o "$work/taken"
+"${fetch[@]}" "$url/large" -o "$work/got"; "${fetch[@]}" "$url/upload" --data-binary "@$work/piece" -o "$work/taken"
 finish "$megabytes MB down, 4 MB up" "$(cmp "$work/got" "$work/www/large" 2>&1; [ "$(cat "$work/taken")" = taken ] || echo 'the upload was not taken')"
 
 run --sets 64
 asking=()
-for number in $(seq 40); do fetch "$url/middle" -o "$work/got.$number" & asking+=($!); done
+for number in $(seq 40); do behind "${fetch[@]}" "$url/middle" -o "$work/got.$number"; asking+=($!); done
 wait "${asking[@]}"
 finish "40 curls at once" "$(for number in $(seq 40); do cmp "$work/got.$number" "$work/www/middle" 2>&1; done)"
 
 run
-fetch -Z "$url/middle?[1-6]" -o "$work/z.#1" 2>"$work/curl"
+"${fetch[@]}" -Z "$url/middle?[1-6]" -o "$work/z.#1" 2>"$work/curl"
 finish "curl -Z with six URLs" "$(for number in 1 2 3 4 5 6; do cmp "$work/z.$number" "$work/www/middle" 2>&1; done)"
 
 run --sets 256
@@ -187,7 +190,7 @@ ab -q -c 64 -n "$((requests / 5))" "$url/small" >"$work/got" 2>&1
 finish "$((requests / 5)) connections of ab, 64 at once" "$(wrong_in "$work/got"; grep -q "^Complete requests: *$((requests / 5))$" "$work/got" || tail -2 "$work/got")"
 
 run --sets 256
-peers idle_clients "$front" 500 60 >"$work/idle" & idle=$!; started+=("$idle")
+behind "${peers[@]}" idle_clients "$front" 500 60 >"$work/idle"; idle=$!; started+=("$idle")
 for _ in $(seq 500); do grep -q idle "$work/idle" && break; sleep 0.02; done
 wrong="$(grep -q idle "$work/idle" || echo 'they do not connect '; answers 1 "$url/small")"
 kill "$idle"; wait "$idle" 2>/dev/null
@@ -195,7 +198,7 @@ finish "500 clients that say nothing" "$wrong"
 
 configure "$origin" "timeout client 2s"
 run
-peers silent_reader "$front" /large 60 >"$work/asked" & reader=$!; started+=("$reader")
+behind "${peers[@]}" silent_reader "$front" /large 60 >"$work/asked"; reader=$!; started+=("$reader")
 for _ in $(seq 500); do grep -q asked "$work/asked" && break; sleep 0.02; done
 wrong="$(answers 1 "$url/small")"
 for _ in $(seq 150); do grep -q 'connection 1: client write fault' "$work/lines" && break; sleep 0.1; done
@@ -205,63 +208,65 @@ finish "a client that doesn't read" "$wrong"
 
 configure "$origin" "http-request deny if { method POST }"
 run
-peers dripping_client "$front" /small 10 >"$work/dripped" & dripping=$!; started+=("$dripping")
+behind "${peers[@]}" dripping_client "$front" /small 10 >"$work/dripped"; dripping=$!; started+=("$dripping")
 sleep 0.3; wrong="$(answers 1 "$url/small")"
 wait "$dripping"
 finish "a client that drips behind a deny, $(cat "$work/dripped") seconds" "$wrong$(awk '$1 == "ever" || $1 > 4 { print "it was let" }' "$work/dripped")"
 
 configure "$php"
-run; fetch "$url/length.php" --data-binary "@$work/piece" -H 'Expect: 100-continue' -o "$work/got"
+run; "${fetch[@]}" "$url/length.php" --data-binary "@$work/piece" -H 'Expect: 100-continue' -o "$work/got"
 finish "Expect, and a server (php) that sends no 100" "$([ "$(cat "$work/got")" = 4194304 ] || echo "the answer is $(head -c 100 "$work/got")")"
 
 configure "$python"
-run; fetch "$url/" --data-binary "@$work/piece" -H 'Expect: 100-continue' -o "$work/got"
+run; "${fetch[@]}" "$url/" --data-binary "@$work/piece" -H 'Expect: 100-continue' -o "$work/got"
 finish "Expect, and a server (python)" "$([ "$(cat "$work/got")" = 4194304 ] || echo "the answer is $(head -c 100 "$work/got")")"
 
 configure "$node"
-run; peers echo_client "$front" /echo "$megabytes" >"$work/got" 2>&1
+run; "${peers[@]}" echo_client "$front" /echo "$megabytes" >"$work/got" 2>&1
 finish "an echo of $megabytes MB (node)" "$([ "$(cat "$work/got")" = "200 same" ] || head -c 200 "$work/got")"
 
 configure "$early"
 run
-fetch "$url/" --data-binary "@$work/www/large" -H 'Expect:' -o /dev/null -w '%{http_code} %{time_total}' >"$work/got" 2>/dev/null
+"${fetch[@]}" "$url/" --data-binary "@$work/www/large" -H 'Expect:' -o /dev/null -w '%{http_code} %{time_total}' >"$work/got" 2>/dev/null
 finish "an early 413, $(cat "$work/got")" "$(awk '$1 != 413 || $2 > 3 { print "it comes late or not at all" }' "$work/got")"
 
 configure "$silent" "timeout server 1s"
 run
-fetch "$url/" -o /dev/null -w '%{http_code} %{time_total}' >"$work/got"
+"${fetch[@]}" "$url/" -o /dev/null -w '%{http_code} %{time_total}' >"$work/got"
 finish "a server that is silent past timeout server, $(cat "$work/got")" "$(awk '$1 != 502 || $2 < 0.9 || $2 > 2 { print "another answer, or at another time" }' "$work/got")"
 
 configure "$full" "timeout connect 1s"
 run
-fetch "$url/" -o /dev/null -w '%{http_code} %{time_total}' >"$work/got"
+"${fetch[@]}" "$url/" -o /dev/null -w '%{http_code} %{time_total}' >"$work/got"
 finish "a full backlog past timeout connect, $(cat "$work/got")" "$(awk '$1 != 503 || $2 < 0.9 || $2 > 2 { print "another answer, or at another time" }' "$work/got")"
 
 configure "$origin" "timeout http-request 1s" "timeout http-keep-alive 1s"
-run; peers slow_head "$front" 10 >"$work/got"
+run; "${peers[@]}" slow_head "$front" 10 >"$work/got"
 finish "a head by drips past timeout http-request, $(cat "$work/got")" "$(awk '$1 < 0.9 || $1 > 2 || $3 != 400 { print "another end, or at another time" }' "$work/got")"
 
-run; peers kept_client "$front" /small 10 >"$work/got"
+run; "${peers[@]}" kept_client "$front" /small 10 >"$work/got"
 finish "a kept connection past timeout http-keep-alive, $(cat "$work/got") seconds" "$(awk '$1 < 0.9 || $1 > 2 { print "at another time" }' "$work/got")"
 
 configure "$origin"
 run --sets 2 --connections 3
-for _ in 1 2 3; do fetch "$url/small" -o /dev/null; done
+for _ in 1 2 3; do "${fetch[@]}" "$url/small" -o /dev/null; done
 for _ in $(seq 300); do kill -0 "$running" 2>/dev/null || break; sleep 0.01; done
 kill -0 "$running" 2>/dev/null && wrong="it goes on " || wrong=""
 finish "--connections 3" "$wrong$([ "$(grep -c '^connection ' "$work/lines")" = 3 ] || echo "the lines are $(tr '\n' '/' <"$work/lines")")"
 
 run --sets 2
-peers kept_client "$front" /small 30 >/dev/null & first=$!; peers kept_client "$front" /small 30 >/dev/null & second=$!; started+=("$first" "$second")
+behind "${peers[@]}" kept_client "$front" /small 30 >/dev/null; first=$!
+behind "${peers[@]}" kept_client "$front" /small 30 >/dev/null; second=$!
+started+=("$first" "$second")
 sleep 0.5
 wrong="$(answers 2 "$url/small")"
 kill "$first" "$second"; wait "$first" "$second" 2>/dev/null
 finish "two sets, two kept connections, and a third" "$wrong"
 
 run
-fetch --limit-rate 20M "$url/large" -o "$work/got" & slow=$!
+behind "${fetch[@]}" --limit-rate 10M "$url/large" -o "$work/got"; slow=$!
 sleep 0.5; exec 7>&-; sleep 0.3
-wrong="$(fetch -o /dev/null "$url/small" 2>/dev/null && echo 'it still accepts ')"
+wrong="$("${fetch[@]}" -o /dev/null "$url/small" 2>/dev/null && echo 'it still accepts ')"
 wait "$slow"
 finish "its input ends: what is in hand is finished" "$wrong$(cmp "$work/got" "$work/www/large" 2>&1)"
 

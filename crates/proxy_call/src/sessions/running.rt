@@ -72,6 +72,11 @@ pub fn run_clients<L: Waits + Drop, N: WaitsNet<Link = L> + Drop, S: Nets<N>, W:
     requires valid { IsValid config.now }
     ensures { Runs N.seen many.old.net many.new.net (K.written out.old) (K.written out.new) config.now options result }
 {
+    match many.net.bind(&config.bind) {
+        Ok(()) => {}
+        Err(Fault::Failed) => return Err(RunFault::Net),
+        Err(Fault::OutOfMemory) => return Err(RunFault::OutOfMemory),
+    }
     let cores = RecordCores {
         config,
         window: config.limits.bufsize,
@@ -79,11 +84,6 @@ pub fn run_clients<L: Waits + Drop, N: WaitsNet<Link = L> + Drop, S: Nets<N>, W:
     let Ok(sets) = cores_for(alloc, &cores, options.sets.unwrap_or(SETS)) else {
         return Err(RunFault::OutOfMemory);
     };
-    match many.net.bind(&config.bind) {
-        Ok(()) => {}
-        Err(Fault::Failed) => return Err(RunFault::Net),
-        Err(Fault::OutOfMemory) => return Err(RunFault::OutOfMemory),
-    }
     if write_listening(alloc, config, out).is_err() {
         return Err(RunFault::OutOfMemory);
     }
