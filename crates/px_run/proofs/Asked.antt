@@ -20,7 +20,7 @@ same_server seen wrote None = tt
 same_server seen wrote (Some link) = same_link seen wrote link
 
 module _ {L : Type 0} (seen : L → Seen) (wrote : L → List ℕ → Type 0) where
-  put_same : (first old new : L) → IsSame seen wrote old new → (put : List ℕ) (stopped : Bool) → Put (wrote first) (wrote old) (seen first) (seen old) put stopped → Put (wrote first) (wrote new) (seen first) (seen new) put stopped
+  pub put_same : (first old new : L) → IsSame seen wrote old new → (put : List ℕ) (stopped : Bool) → Put (wrote first) (wrote old) (seen first) (seen old) put stopped → Put (wrote first) (wrote new) (seen first) (seen new) put stopped
   put_same first old new s put stopped p =
       record {
         wrote = λ bytes w. s.written (bytes ++ put) (p.wrote bytes w);
@@ -89,3 +89,10 @@ same_server_then seen wrote None (Some link) c s t = absurd s
 same_server_then seen wrote (Some link) None c s t = absurd s
 same_server_then seen wrote (Some a) (Some b) None s t = absurd t
 same_server_then seen wrote (Some a) (Some b) (Some c) s t = same_then seen wrote a b c s t
+
+-- a link that is the same
+pub same_by : {L : Type 0} (seen : L → Seen) (wrote : L → List ℕ → Type 0) (old new : L) → new ≡ old → IsSame seen wrote old new
+same_by seen wrote old new e = let P : _ → Type 0 = λ l. IsSame seen wrote old l in subst P (sym e) (same_link seen wrote old)
+
+pub same_server_by : {L : Type 0} (seen : L → Seen) (wrote : L → List ℕ → Type 0) (old new : Option L) → new ≡ old → IsSameServer seen wrote old new
+same_server_by seen wrote old new e = let P : Option _ → Type 0 = λ l. IsSameServer seen wrote old l in subst P (sym e) (same_server seen wrote old)

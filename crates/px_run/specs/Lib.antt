@@ -2,3 +2,4 @@ pub mod Next
 pub mod Deadline
 pub mod Course
 pub mod Connection
+pub mod Hall

@@ -96,7 +96,7 @@ fn watched_step<C: Resets, L: Waits, N: WaitsNet<Link = L>, W: Wakes<N>>(
         Stepped::Moved => Stepped::Moved,
         Stepped::Opened => {
             watch_server(conn, pace.place, wakes);
-            Stepped::Opened
+            Stepped::Moved
         }
         Stepped::Waits => {
             watch_connect(conn, pace.connects(), pace.place, wakes);
@@ -122,10 +122,10 @@ fn moves<C: Resets, L: Waits, N: WaitsNet<Link = L>, W: Wakes<N>>(
         (EndsWith result (CameTo (C.meaning cfg) (C.stands cfg) C.seen L.seen L.wrote first conn.new.client (address_of to.now) (N.seen first_net) (N.seen conn.new.net) conn.new.ran) (StandsSomehow (C.stands cfg) core.new)) }
     ensures may { StepsTo result (MayStep C.seen C.sound core.new conn.new.server (N.seen conn.new.net) conn.new.ran) (HasCome result (C.sound core.new) conn.new.server conn.new.ran) }
 {
-    for _ in 0..STEPS {
+    for _taken in 0..STEPS {
         match watched_step(conn, core, pace, wakes, to, tools) {
             Stepped::Moved => {}
-            Stepped::Opened => {}
+            Stepped::Opened => return Stepped::Opened,
             Stepped::Waits => return Stepped::Waits,
             Stepped::Ended => return Stepped::Ended,
             Stepped::Lost => return Stepped::Lost,
@@ -182,37 +182,50 @@ fn go<C: Resets, L: Waits, N: WaitsNet<Link = L>, W: Wakes<N>>(
     }
 }
 
-/// What follows steps: the core of a connection that has ended is free, but for one that found no memory.
-fn settle<C: Resets + Drop, L: Waits, N: WaitsNet<Link = L>>(
+/// The core of a connection that has ended is free.
+fn free<C: Resets + Drop>(core: &mut Option<C>, sets: &mut Vec<C>)
+    requires sound { HasCore core.old C.sound }
+    requires ready { AllByRecursion (IsReady C.seen C.sound) sets.old.items }
+    ensures none { core.new ≡ None }
+    ensures ready { AllByRecursion (IsReady C.seen C.sound) sets.new.items }
+    ensures fresh { (cfg : C.Settings) → HasCore core.old (StandsSomehow (C.stands cfg)) → AllByRecursion (IsFresh (C.stands cfg)) sets.old.items → AllByRecursion (IsFresh (C.stands cfg)) sets.new.items }
+{
+    match core.take() {
+        Some(set) => give_set(set, sets),
+        None => unreachable!(),
+    }
+}
+
+/// Steps of a connection that has a core, which is free behind its end, but for one that found no memory.
+fn moved<C: Resets + Drop, L: Waits, N: WaitsNet<Link = L>, W: Wakes<N>>(
     connection: &mut Connection<C, L, N>,
     sets: &mut Vec<C>,
-    did: Stepped,
+    pace: &mut Pace,
+    wakes: &mut W,
+    to: &Address,
+    tools: &mut Tools,
 ) -> Looked
-    requires may { HasCore connection.old.core (λ core. StepsTo did (MayStep C.seen C.sound core connection.old.conn.server (N.seen connection.old.conn.net) connection.old.conn.ran) (HasCome did (C.sound core) connection.old.conn.server connection.old.conn.ran)) }
+    requires may { HasCore connection.old.core (λ core. MayStep C.seen C.sound core connection.old.conn.server (N.seen connection.old.conn.net) connection.old.conn.ran) }
     requires ready { AllByRecursion (IsReady C.seen C.sound) sets.old.items }
     ensures ready { AllByRecursion (IsReady C.seen C.sound) sets.new.items }
-    ensures at { (cfg : C.Settings) (first : L) (to : Place) (first_net : N)
-        → HasCore connection.old.core (λ core. StepsTo did (GoesOn (C.stands cfg) C.seen core L.seen L.wrote first connection.old.conn.client connection.old.conn.server to (N.seen first_net) (N.seen connection.old.conn.net))
-        (EndsWith did (CameTo (C.meaning cfg) (C.stands cfg) C.seen L.seen L.wrote first connection.old.conn.client to (N.seen first_net) (N.seen connection.old.conn.net) connection.old.conn.ran) (StandsSomehow (C.stands cfg) core)))
-        → IsAt (C.meaning cfg) (C.stands cfg) C.seen C.sound L.seen L.wrote first connection.new.conn.client connection.new.conn.server to (N.seen first_net) (N.seen connection.new.conn.net) connection.new.conn.ran connection.new.core }
-    ensures fresh { (cfg : C.Settings) (came on : Type 0) → HasCore connection.old.core (λ core. StepsTo did on (EndsWith did came (StandsSomehow (C.stands cfg) core)))
+    ensures at { (cfg : C.Settings) (first : L) (first_net : N) → HasCore connection.old.core (λ core. GoesOn (C.stands cfg) C.seen core L.seen L.wrote first connection.old.conn.client connection.old.conn.server (address_of to.now) (N.seen first_net) (N.seen connection.old.conn.net))
+        → IsAt (C.meaning cfg) (C.stands cfg) C.seen C.sound L.seen L.wrote first connection.new.conn.client connection.new.conn.server (address_of to.now) (N.seen first_net) (N.seen connection.new.conn.net) connection.new.conn.ran connection.new.core }
+    ensures fresh { (cfg : C.Settings) (first : L) (first_net : N) → HasCore connection.old.core (λ core. GoesOn (C.stands cfg) C.seen core L.seen L.wrote first connection.old.conn.client connection.old.conn.server (address_of to.now) (N.seen first_net) (N.seen connection.old.conn.net))
         → AllByRecursion (IsFresh (C.stands cfg)) sets.old.items → AllByRecursion (IsFresh (C.stands cfg)) sets.new.items }
-    ensures conn { connection.new.conn ≡ connection.old.conn }
-    ensures number { connection.new.number ≡ connection.old.number }
     ensures looked { LookedSo result connection.old.number None connection.new.conn.ran }
+    ensures number { connection.new.number ≡ connection.old.number }
 {
-    match did {
+    match go(connection, pace, wakes, to, tools) {
         Stepped::Moved => Looked::GoesOn,
         Stepped::Opened => Looked::GoesOn,
         Stepped::Waits => Looked::Waits,
         Stepped::Ended => {
-            match connection.core.take() {
-                Some(set) => give_set(set, sets),
-                None => unreachable!(),
-            }
+            pace.ended(tools.now);
+            free(&mut connection.core, sets);
             told(connection.number, &connection.conn.ran)
         }
         Stepped::Lost => {
+            pace.ended(tools.now);
             drop(connection.core.take());
             told(connection.number, &connection.conn.ran)
         }
@@ -305,17 +318,6 @@ fn leaves<L: Waits>(client: &mut L, pace: &Pace) -> Looked
     Looked::Waits
 }
 
-/// Notes that a connection has ended, if it has.
-fn note_end(pace: &mut Pace, did: Stepped, now: u64) {
-    match did {
-        Stepped::Ended => pace.ended(now),
-        Stepped::Lost => pace.ended(now),
-        Stepped::Moved => {}
-        Stepped::Opened => {}
-        Stepped::Waits => {}
-    }
-}
-
 /// A look at a connection: it gets a core, makes steps, ends or leaves.
 pub(crate) fn look<C: Resets + Drop, L: Waits, N: WaitsNet<Link = L>, W: Wakes<N>>(
     connection: &mut Connection<C, L, N>,
@@ -341,7 +343,5 @@ pub(crate) fn look<C: Resets + Drop, L: Waits, N: WaitsNet<Link = L>, W: Wakes<N
     if let Some(looked) = seat(connection, sets, pace) {
         return looked;
     }
-    let did = go(connection, pace, wakes, to, tools);
-    note_end(pace, did, tools.now);
-    settle(connection, sets, did)
+    moved(connection, sets, pace, wakes, to, tools)
 }
