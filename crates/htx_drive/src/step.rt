@@ -34,7 +34,7 @@ pub struct Stepped<L> {
 }
 
 /// The one connect of an exchange.
-fn open_server<C: Machine, L: Link, N: Net<Link = L>>(
+pub(crate) fn open_server<C: Machine, L: Link, N: Net<Link = L>>(
     core: &mut C,
     to: &Address,
     net: &mut N,

@@ -13,12 +13,14 @@ mod resets;
 mod rounds;
 mod sessions;
 mod sets;
+pub mod single;
 mod step;
 mod weft;
 
 pub use conn::Conn;
+pub use ends::{abandon, fail, finish};
 pub use fault::WeaveFault;
-pub use record::{pool_of, weave_record, weave_text};
+pub use record::{cores_for, pool_of, weave_record, weave_text};
 pub use resets::Resets;
 pub use sessions::weave;
 pub use weft::Weft;

@@ -2,13 +2,16 @@
 //! `proxy_call`.
 #![tactic(auto)]
 
-use proxy_call::{Status, htx_proxy};
+mod nets;
+
+use nets::RealNets;
+use proxy_call::{Many, Status, htx_proxy};
 use px_pattern::RealPatterns;
-use px_sock::{RealFiles, RealNet, RealSink};
+use px_sock::{ReadyNet, ReadyPoll, RealFiles, RealNet, RealSink};
 use std::alloc::AllocError;
 use std::env::Env;
 use std::process::ExitCode;
-use std::{env, io};
+use std::{env, io, net};
 
 /// What stands for the words where one of them is no UTF-8: no command has it, so the answer is a usage text.
 const NO_TEXT: &str = "\u{fffd}";
@@ -28,12 +31,33 @@ fn words_of<R: Env + AllocGlobal>(rt: &R) -> Result<Vec<String>, AllocError> {
     Ok(words)
 }
 
+/// Writes on standard error why the net doesn't listen, where a bind was refused.
+fn tell_refusal<R: Eprint + net::Net>(rt: &R, net: &ReadyNet<'_, R>) {
+    let Some(error) = net.refusal() else {
+        return;
+    };
+    let Some(at) = net.address() else {
+        return;
+    };
+    let host = str::from_utf8(at.host.as_slice()).unwrap_or(NO_TEXT);
+    let _ = eprintln!(rt; "htx_proxy: can't listen at {host}:{}: {error}", at.port);
+}
+
 fn main(rt: HostRuntime) -> ExitCode {
     let Ok(words) = words_of(&rt) else {
         return ExitCode::from(Status::OutOfMemory.number());
     };
     let mut files = RealFiles::new(rt.alloc(), &rt);
     let mut net = RealNet::new(rt.alloc(), &rt);
+    let Ok(mut wakes) = ReadyPoll::new(rt.alloc(), &rt) else {
+        return ExitCode::from(Status::NetFault.number());
+    };
+    wakes.watch_input();
+    let mut many = Many {
+        net: ReadyNet::new(rt.alloc(), &rt),
+        nets: RealNets::new(rt.alloc(), &rt),
+        wakes,
+    };
     let mut out = RealSink::new(&rt);
     let mut pats = RealPatterns::new();
     let status = htx_proxy(
@@ -41,8 +65,10 @@ fn main(rt: HostRuntime) -> ExitCode {
         &words,
         &mut files,
         &mut net,
+        &mut many,
         &mut out,
         &mut pats,
     );
+    tell_refusal(&rt, &many.net);
     ExitCode::from(status.number())
 }

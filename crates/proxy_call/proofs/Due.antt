@@ -9,13 +9,14 @@ use Rattle.cfg_parse.specs.declared.fault.CfgKind.{CfgKind}
 use Rattle.cfg_parse.specs.declared.refused.RefusedLine.{RefusedLine}
 use Rattle.rec_format.specs.Recorded as records
 use Rattle.rec_format.specs.Recorded.{Recorded, record_of}
-use Rattle.px_command.specs.Command.{IsCheckAll, IsCheckRecord, RunsRecord, IsServe, IsUsage, NamesConfig, ReadsConfig}
+use Rattle.px_command.specs.Command.{IsCheckAll, IsCheckRecord, RunsRecord, IsServe, IsRun, IsUsage, NamesConfig, ReadsConfig}
+use Rattle.px_command.specs.declared.options.RunOptions.{RunOptions}
 use Rattle.proxy_call.specs.Answers.{Checks, DecidesRecord, IsDue, IsGood, IsRefused, IsRefusedBy}
 use Rattle.proxy_call.specs.Files.{Builder, Configured, Holds, IfTold, RecordIs, RefusesAll}
 use Rattle.proxy_call.specs.declared.status.Status.{Status}
 use Rattle.proxy_call.specs.declared.status.Status.TheVariants.{Good, Usage, FileFault, OutFault, NetFault, OutOfMemory}
 use Rattle.proxy_call.specs.declared.status.Status.TheVariants as ended
-use Rattle.proxy_call.proofs.Words.{record_or_config, fileless_or_config, fileless_or_record, check_or_record, serve_or_record, same_config_name, same_record_name}
+use Rattle.proxy_call.proofs.Words.{record_or_config, fileless_or_config, fileless_or_record, check_or_record, serve_or_record, run_or_check, run_or_serve, run_or_record, run_or_fileless, same_config_name, same_record_name}
 
 -- ---- a file has one content
 
@@ -53,7 +54,7 @@ record_named words files rec (inr (cfg_name, is, cfg, ok)) = inr (cfg_name, is)
 config_named : (words : List (List ℕ)) (name : List ℕ) → Checks words name ⊎ ((connections : ℕ) × IsServe words name connections) → ReadsConfig words name
 config_named words name (inl (inl check)) = inl (inl check)
 config_named words name (inl (inr all)) = inr all
-config_named words name (inr serve) = inl (inr (inr serve))
+config_named words name (inr serve) = inl (inr (inr (inl serve)))
 
 runs_or_usage : (words : List (List ℕ)) (cfg rec : List ℕ) → RunsRecord words cfg rec → IsUsage words → ⊥
 runs_or_usage words cfg rec (inl replay) usage = usage.replay cfg rec replay
@@ -71,7 +72,8 @@ good_or_usage words files (inr (inr (inr (inr asks)))) usage = usage.text asks
 config_or_usage : (words : List (List ℕ)) (files : List NamedBytes) → IsDue words files ended.Config → IsUsage words → ⊥
 config_or_usage words files (name, inl (inl check), line, kind, refused) usage = usage.check name check
 config_or_usage words files (name, inl (inr (inl (rec, is))), line, kind, refused) usage = runs_or_usage words name rec is usage
-config_or_usage words files (name, inl (inr (inr (count, is))), line, kind, refused) usage = usage.serve name count is
+config_or_usage words files (name, inl (inr (inr (inl (count, is)))), line, kind, refused) usage = usage.serve name count is
+config_or_usage words files (name, inl (inr (inr (inr (options, is)))), line, kind, refused) usage = usage.run name options is
 config_or_usage words files (name, inr all, line, kind, refused) usage = usage.check_all name all
 
 record_or_usage : (words : List (List ℕ)) (files : List NamedBytes) → IsDue words files ended.Record → IsUsage words → ⊥
@@ -137,6 +139,23 @@ due_once words files ended.Record FileFault p q = absurd q
 due_once words files ended.Record OutFault p q = absurd q
 due_once words files ended.Record NetFault p q = absurd q
 due_once words files ended.Record OutOfMemory p q = absurd q
+
+-- Where the words are `run` and its configuration is accepted, no status is due: it may go on without end.
+pub run_not_due : (words : List (List ℕ)) (files : List NamedBytes) (name : List ℕ) (options : RunOptions) (cfg : Config) (wanted : Status) → IsRun words name options → Configured files name (Ok cfg)
+    → IsDue words files wanted → ⊥
+run_not_due words files name options cfg Good is ok (inl (other, inl checks, c, other_ok)) = run_or_check words other (name, options, is) checks
+run_not_due words files name options cfg Good is ok (inl (other, inr (count, serve), c, other_ok)) = run_or_serve words (name, options, is) (other, count, serve)
+run_not_due words files name options cfg Good is ok (inr (inl (rec, record_is, r, other_ok))) = run_or_record words rec (name, options, is) (inl record_is)
+run_not_due words files name options cfg Good is ok (inr (inr (inl (other, rec, runs, c, r, say)))) = run_or_record words rec (name, options, is) (inr (other, runs))
+run_not_due words files name options cfg Good is ok (inr (inr (inr none))) = run_or_fileless words (name, options, is) none
+run_not_due words files name options cfg Usage is ok usage = usage.run name options is
+run_not_due words files name options cfg ended.Config is ok (other, named, line, kind, refused) =
+    accepted_or_refused files name other cfg (line, kind) (same_config_name words name other (inl (inr (inr (inr (options, is))))) named) ok refused
+run_not_due words files name options cfg ended.Record is ok (rec, place, kind, refused, how) = run_or_record words rec (name, options, is) (record_named words files rec how)
+run_not_due words files name options cfg FileFault is ok due = due
+run_not_due words files name options cfg OutFault is ok due = due
+run_not_due words files name options cfg NetFault is ok due = due
+run_not_due words files name options cfg OutOfMemory is ok due = due
 
 -- ---- what is written is what is due
 

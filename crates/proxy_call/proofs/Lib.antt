@@ -1,3 +1,4 @@
+mod AnyEnd
 mod Causes
 mod Drill
 mod Due

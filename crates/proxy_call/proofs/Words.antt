@@ -3,13 +3,20 @@ use Rattle.std.proofs.Common.{◌≡◌, ℕ, ◌+◌, ◌*◌, ◌==◌, ◌||�
 use Rattle.std.specs.Prelude.{Option, Some}
 use Rattle.px_bytes.specs.Numbers.{decimal_of}
 use Rattle.px_link.specs.Told.{NamedBytes}
-use Rattle.px_command.specs.Command.{IsCheck, IsCheckAll, IsCheckRecord, IsReplay, IsWeave, RunsRecord, IsServe, IsDrill, AsksText, IsFileWord, NamesConfig, ReadsConfig}
+use Rattle.px_command.specs.Command.{IsCheck, IsCheckAll, IsCheckRecord, IsReplay, IsWeave, RunsRecord, IsServe, IsRun, IsDrill, AsksText, IsFileWord, NamesConfig, ReadsConfig}
+use Rattle.px_command.specs.declared.options.RunOptions.{RunOptions}
 use Rattle.proxy_call.specs.Answers.{AsksNoFile, Checks, IsGood, NamesServe}
+use Rattle.proxy_call.specs.Running.{NamesRun}
 
 -- how many words stand behind the first, and its third letter
 abbrev key : List (List ℕ) → ℕ
 key [] = 0
 key (first ∷ rest) = 1000 * length rest + get_or first 2 0
+
+-- whether the third letter of the first word is that of `run`, the only command whose number of words isn't fixed
+abbrev runs : List (List ℕ) → Bool
+runs [] = false
+runs (first ∷ rest) = get_or first 2 0 == 110
 
 abbrev second : List (List ℕ) → List ℕ
 second [] = []
@@ -43,6 +50,9 @@ serve_key words cfg count is = ap key is.1
 drill_key : (words : List (List ℕ)) (seed exchanges : ℕ) → IsDrill words seed exchanges → key words ≡ 2105
 drill_key words seed exchanges is = ap key is.2
 
+run_letter : (words : List (List ℕ)) (cfg : List ℕ) (options : RunOptions) → IsRun words cfg options → runs words ≡ true
+run_letter words cfg options is = ap runs is.1
+
 -- one word or two, as those that ask for a text
 abbrev is_short : ℕ → Bool
 is_short n = n == 1 || n == 2
@@ -69,24 +79,25 @@ runs_long words cfg rec (inr (cores, is)) = ap short is.1
 abbrev has_config : ℕ → Bool
 has_config k = k == 1101 || (k == 2112 || (k == 3097 || k == 2114))
 
+abbrev config_key : List (List ℕ) → Bool
+config_key words = runs words || has_config (key words)
+
 no_bool : (b : Bool) → b ≡ true → b ≡ false → ⊥
 no_bool b p q = cc
 
-config_there : (words : List (List ℕ)) (cfg : List ℕ) → NamesConfig words cfg → has_config (key words) ≡ true
-config_there words cfg (inl check) = ap has_config (check_key words cfg check)
-config_there words cfg (inr (inl (rec, inl replay))) = ap has_config (replay_key words cfg rec replay)
-config_there words cfg (inr (inl (rec, inr weave))) = ap has_config (weave_key words cfg rec weave.0 weave.1)
-config_there words cfg (inr (inr serve)) = ap has_config (serve_key words cfg serve.0 serve.1)
+config_there : (words : List (List ℕ)) (cfg : List ℕ) → NamesConfig words cfg → config_key words ≡ true
+config_there words cfg (inl check) = ap config_key check.0
+config_there words cfg (inr (inl (rec, inl replay))) = ap config_key replay.0
+config_there words cfg (inr (inl (rec, inr weave))) = ap config_key weave.1.1
+config_there words cfg (inr (inr (inl serve))) = ap config_key serve.1.1
+config_there words cfg (inr (inr (inr ran))) = ap config_key ran.1.1
 
 -- a word with a dash in front names no file
 dash_or_file : (words : List (List ℕ)) (flag cfg : List ℕ) → second words ≡ 45 ∷ flag → IsCheck words cfg → ⊥
 dash_or_file words flag cfg dash check = subst IsFileWord (sym (ap second check.0) ∙ dash) check.1 refl
 
-abbrev config_key : List (List ℕ) → Bool
-config_key words = has_config (key words)
-
 other_or_check : (words : List (List ℕ)) (cfg : List ℕ) → config_key words ≡ false → IsCheck words cfg → ⊥
-other_or_check words cfg other check = no_bool (config_key words) (ap has_config (check_key words cfg check)) other
+other_or_check words cfg other check = no_bool (config_key words) (ap config_key check.0) other
 
 text_or_check : (words : List (List ℕ)) (cfg : List ℕ) → AsksText words → IsCheck words cfg → ⊥
 text_or_check words cfg (inl (inl is)) check = other_or_check words cfg (ap config_key is) check
@@ -98,13 +109,28 @@ text_or_check words cfg (inr (inl (command, inr (inr is)))) check = other_or_che
 text_or_check words cfg (inr (inr (inl is))) check = other_or_check words cfg (ap config_key is) check
 text_or_check words cfg (inr (inr (inr is))) check = other_or_check words cfg (ap config_key is) check
 
+-- nor does one behind `run`
+dash_or_run_file : (words : List (List ℕ)) (flag cfg : List ℕ) (options : RunOptions) → second words ≡ 45 ∷ flag → IsRun words cfg options → ⊥
+dash_or_run_file words flag cfg options dash is = subst IsFileWord (sym (ap second is.1) ∙ dash) is.2 refl
+
+text_or_run : (words : List (List ℕ)) (cfg : List ℕ) (options : RunOptions) → AsksText words → IsRun words cfg options → ⊥
+text_or_run words cfg options (inl (inl is)) ran = no_bool (runs words) (run_letter words cfg options ran) (ap runs is)
+text_or_run words cfg options (inl (inr (inl is))) ran = no_bool (runs words) (run_letter words cfg options ran) (ap runs is)
+text_or_run words cfg options (inl (inr (inr is))) ran = no_bool (runs words) (run_letter words cfg options ran) (ap runs is)
+text_or_run words cfg options (inr (inl (command, inl is))) ran = dash_or_run_file words (codes "-help") cfg options (ap second is) ran
+text_or_run words cfg options (inr (inl (command, inr (inl is)))) ran = dash_or_run_file words (codes "h") cfg options (ap second is) ran
+text_or_run words cfg options (inr (inl (command, inr (inr is)))) ran = no_bool (runs words) (run_letter words cfg options ran) (ap runs is)
+text_or_run words cfg options (inr (inr (inl is))) ran = no_bool (runs words) (run_letter words cfg options ran) (ap runs is)
+text_or_run words cfg options (inr (inr (inr is))) ran = no_bool (runs words) (run_letter words cfg options ran) (ap runs is)
+
 text_or_config : (words : List (List ℕ)) (cfg : List ℕ) → AsksText words → NamesConfig words cfg → ⊥
 text_or_config words cfg text (inl check) = text_or_check words cfg text check
 text_or_config words cfg text (inr (inl (rec, is))) = no_bool (short words) (text_short words text) (runs_long words cfg rec is)
-text_or_config words cfg text (inr (inr (count, is))) = no_bool (short words) (text_short words text) (ap short is.1)
+text_or_config words cfg text (inr (inr (inl (count, is)))) = no_bool (short words) (text_short words text) (ap short is.1)
+text_or_config words cfg text (inr (inr (inr (options, is)))) = text_or_run words cfg options text is
 
 named_or_all : (words : List (List ℕ)) (cfg other : List ℕ) → NamesConfig words cfg → IsCheckAll words other → ⊥
-named_or_all words cfg other named all = no_bool (has_config (key words)) (config_there words cfg named) (ap has_config (all_key words other all))
+named_or_all words cfg other named all = no_bool (config_key words) (config_there words cfg named) (ap config_key all.0)
 
 -- the third letter of the second word
 abbrev asks_all : List (List ℕ) → Bool
@@ -114,14 +140,14 @@ all_or_record : (words : List (List ℕ)) (cfg rec : List ℕ) → IsCheckAll wo
 all_or_record words cfg rec all record_is = no_bool (asks_all words) (ap asks_all all.0) (ap asks_all record_is.0)
 
 pub record_or_config : (words : List (List ℕ)) (rec cfg : List ℕ) → IsCheckRecord words rec → ReadsConfig words cfg → ⊥
-record_or_config words rec cfg is (inl named) = no_bool (has_config (key words)) (config_there words cfg named) (ap has_config (record_key words rec is))
+record_or_config words rec cfg is (inl named) = no_bool (config_key words) (config_there words cfg named) (ap config_key is.0)
 record_or_config words rec cfg is (inr all) = all_or_record words cfg rec all is
 
 abbrev is_drill : ℕ → Bool
 is_drill k = k == 2105
 
 fileless_or_named : (words : List (List ℕ)) (cfg : List ℕ) → AsksNoFile words → NamesConfig words cfg → ⊥
-fileless_or_named words cfg (inl drill) named = no_bool (has_config (key words)) (config_there words cfg named) (ap has_config (drill_key words drill.0 drill.1 drill.2))
+fileless_or_named words cfg (inl drill) named = no_bool (config_key words) (config_there words cfg named) (ap config_key drill.2.2)
 fileless_or_named words cfg (inr text) named = text_or_config words cfg text named
 
 fileless_or_all : (words : List (List ℕ)) (cfg : List ℕ) → AsksNoFile words → IsCheckAll words cfg → ⊥
@@ -175,13 +201,40 @@ good_or_serve words text files (inr (inr (inr (inl (cfg, rec, cores, is, made)))
 good_or_serve words text files (inr (inr (inr (inr (inl (seed, exchanges, is, made)))))) serve = serve_key_or words (ap is_serve (drill_key words seed exchanges is)) serve
 good_or_serve words text files (inr (inr (inr (inr (inr (asks, ends)))))) (cfg, count, is) = no_bool (short words) (text_short words asks) (ap short is.1)
 
+-- ---- which words are `run`
+
+pub run_or_serve : (words : List (List ℕ)) → NamesRun words → NamesServe words → ⊥
+run_or_serve words (cfg, options, is) (other, count, serve) = no_bool (runs words) (run_letter words cfg options is) (ap runs serve.1)
+
+pub run_or_check : (words : List (List ℕ)) (cfg : List ℕ) → NamesRun words → Checks words cfg → ⊥
+run_or_check words cfg (name, options, is) (inl check) = no_bool (runs words) (run_letter words name options is) (ap runs check.0)
+run_or_check words cfg (name, options, is) (inr all) = no_bool (runs words) (run_letter words name options is) (ap runs all.0)
+
+pub run_or_record : (words : List (List ℕ)) (rec : List ℕ) → NamesRun words → IsCheckRecord words rec ⊎ ((cfg : List ℕ) × RunsRecord words cfg rec) → ⊥
+run_or_record words rec (name, options, is) (inl record_is) = no_bool (runs words) (run_letter words name options is) (ap runs record_is.0)
+run_or_record words rec (name, options, is) (inr (cfg, inl replay)) = no_bool (runs words) (run_letter words name options is) (ap runs replay.0)
+run_or_record words rec (name, options, is) (inr (cfg, inr (cores, weave))) = no_bool (runs words) (run_letter words name options is) (ap runs weave.1)
+
+pub run_or_fileless : (words : List (List ℕ)) → NamesRun words → AsksNoFile words → ⊥
+run_or_fileless words (name, options, is) (inl (seed, exchanges, drill)) = no_bool (runs words) (run_letter words name options is) (ap runs drill.2)
+run_or_fileless words (name, options, is) (inr text) = text_or_run words name options text is
+
+pub good_or_run : (words : List (List ℕ)) (text : List ℕ) (files : Option (List NamedBytes)) → IsGood words files text → NamesRun words → ⊥
+good_or_run words text files (inl (cfg, is, made)) named = run_or_check words cfg named is
+good_or_run words text files (inr (inl (rec, is, made))) named = run_or_record words rec named (inl is)
+good_or_run words text files (inr (inr (inl (cfg, rec, is, made)))) named = run_or_record words rec named (inr (cfg, inl is))
+good_or_run words text files (inr (inr (inr (inl (cfg, rec, cores, is, made))))) named = run_or_record words rec named (inr (cfg, inr (cores, is)))
+good_or_run words text files (inr (inr (inr (inr (inl (seed, exchanges, is, made)))))) named = run_or_fileless words named (inl (seed, exchanges, is))
+good_or_run words text files (inr (inr (inr (inr (inr (asks, ends)))))) named = run_or_fileless words named (inr asks)
+
 -- ---- the names of files
 
 config_second : (words : List (List ℕ)) (cfg : List ℕ) → NamesConfig words cfg → second words ≡ cfg
 config_second words cfg (inl check) = ap second check.0
 config_second words cfg (inr (inl (rec, inl is))) = ap second is.0
 config_second words cfg (inr (inl (rec, inr (cores, is)))) = ap second is.1
-config_second words cfg (inr (inr (count, is))) = ap second is.1
+config_second words cfg (inr (inr (inl (count, is)))) = ap second is.1
+config_second words cfg (inr (inr (inr (options, is)))) = ap second is.1
 
 same_named : (words : List (List ℕ)) (a b : List ℕ) → NamesConfig words a → NamesConfig words b → a ≡ b
 same_named words a b p q = let x = config_second words a p in let y = config_second words b q in cc

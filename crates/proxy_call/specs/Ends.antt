@@ -1,12 +1,15 @@
 -- How the call ends: what was written with which status, by `serve` and by every other command.
 use Rattle.std.specs.Prelude.{◌≡◌, ℕ, List, ◌⊎◌, Option, Result, Ok, Err}
-use Rattle.px_link.specs.Told.{Gains, Rose}
+use Rattle.px_link.specs.Told.{NamedBytes, Gains, Rose}
 use Rattle.http_rules.specs.declared.config.Config.{Config}
 use Rattle.serve_run.specs.declared.outcome.ServeFault.{ServeFault}
 use Rattle.proxy_call.specs.Answers.{IsAnswer, IsGood, WritesFront}
 use Rattle.proxy_call.specs.Files.{IsBuilt}
+use Rattle.px_command.specs.declared.options.RunOptions.{RunOptions}
+use Rattle.px_run.specs.declared.plan.RunFault.{RunFault}
+use Rattle.proxy_call.specs.Running.{Running}
 use Rattle.proxy_call.specs.Serving.{Serving}
-use Rattle.proxy_call.specs.Stops.{Input, StopsBy, status_of, stop_of_serving}
+use Rattle.proxy_call.specs.Stops.{Input, StopsBy, status_of, stop_of_running, stop_of_serving}
 use Rattle.proxy_call.specs.declared.status.Status.{Status}
 use Rattle.proxy_call.specs.declared.status.Status.TheVariants as ended
 use Rattle.proxy_call.specs.declared.stop.Stop.{Stop}
@@ -56,6 +59,25 @@ Ran input output quiet Serves result =
     (Writes input output result × quiet)
     ⊎ (IsBuilt input.builder × Serving input.words input.files (λ cfg count. (answer : Result (Unit {0}) ServeFault) × Serves cfg count answer × (result ≡ served_as answer)))
 
+-- what `run` answers, as the result of a command
+abbrev pub ran_as : Result (Unit {0}) RunFault → Result (Unit {0}) Stop
+ran_as (Ok done) = Ok done
+ran_as (Err fault) = Err (stop_of_running fault)
+
+-- the command is `run`, no pattern was refused, and it did what running by its configuration does, with this answer
+abbrev pub RanMany : Input → (Runs : Config → RunOptions → Result (Unit {0}) RunFault → Type 0) → Result (Unit {0}) Stop → Type 0
+RanMany input Runs result =
+    IsBuilt input.builder × Running input.words input.files (λ cfg options. (answer : Result (Unit {0}) RunFault) × Runs cfg options answer × (result ≡ ran_as answer))
+
+-- What any command came to: `run` left the net as it was, and any other command what `run` is handed (`idle`).
+abbrev pub RanAny : Input → Output → (quiet idle : Type 0) → (Serves : Config → ℕ → Result (Unit {0}) ServeFault → Type 0) → (Runs : Config → RunOptions → Result (Unit {0}) RunFault → Type 0)
+    → Result (Unit {0}) Stop → Type 0
+RanAny input output quiet idle Serves Runs result = (Ran input output quiet Serves result × idle) ⊎ (RanMany input Runs result × quiet)
+
+-- the same of `run` alone, which makes no call on the net
+abbrev pub RanRun : Input → Output → (idle : Type 0) → (Runs : Config → RunOptions → Result (Unit {0}) RunFault → Type 0) → Result (Unit {0}) Stop → Type 0
+RanRun input output idle Runs result = (Writes input output result × idle) ⊎ RanMany input Runs result
+
 -- an answer was written whole, with its cause in the count where it tells a fault, and with no pattern refused where it is good
 pub record Answered (input : Input) (output : Output) (status : Status) : Type 0 where
   pub text : List ℕ
@@ -97,3 +119,19 @@ abbrev pub Ended : Input → Output → (quiet : Type 0) → (Serves : Config �
 Ended input output quiet Serves status =
     (Tells input output status × quiet)
     ⊎ (IsBuilt input.builder × Serving input.words input.files (λ cfg count. (answer : Result (Unit {0}) ServeFault) × Serves cfg count answer × (status ≡ status_after answer)))
+
+-- the status of what `run` answers
+abbrev pub status_of_run : Result (Unit {0}) RunFault → Status
+status_of_run (Ok done) = ended.Good
+status_of_run (Err fault) = status_of (stop_of_running fault)
+
+-- the words are `run`, and it did what running by the configuration in its file does, with this status
+abbrev pub RunsTo : List (List ℕ) → Option (List NamedBytes) → (Runs : Config → RunOptions → Result (Unit {0}) RunFault → Type 0) → Status → Type 0
+RunsTo words files Runs status =
+    Running words files (λ cfg options. (answer : Result (Unit {0}) RunFault) × Runs cfg options answer × (status ≡ status_of_run answer))
+
+-- How the call ended, whatever the command: `run` left the net as it was, and refused no pattern; any other command left what `run` is handed as it was.
+abbrev pub EndedAny : Input → Output → (quiet idle : Type 0) → (Serves : Config → ℕ → Result (Unit {0}) ServeFault → Type 0) → (Runs : Config → RunOptions → Result (Unit {0}) RunFault → Type 0)
+    → Status → Type 0
+EndedAny input output quiet idle Serves Runs status =
+    (Ended input output quiet Serves status × idle) ⊎ (IsBuilt input.builder × RunsTo input.words input.files Runs status × quiet)

@@ -4,6 +4,7 @@ pub mod Files
 pub mod Lines
 pub mod Refusals
 pub mod Serving
+pub mod Running
 pub mod Stops
 pub mod Sessions
 pub mod Numbers

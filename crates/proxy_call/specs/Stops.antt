@@ -16,6 +16,8 @@ use Rattle.rec_format.specs.declared.record.RecFault.{RecFault}
 use Rattle.rec_format.specs.declared.record.RecFault.TheVariants as records
 use Rattle.serve_run.specs.declared.outcome.ServeFault.{ServeFault}
 use Rattle.serve_run.specs.declared.outcome.ServeFault.TheVariants as serving
+use Rattle.px_run.specs.declared.plan.RunFault.{RunFault}
+use Rattle.px_run.specs.declared.plan.RunFault.TheVariants as running
 use Rattle.proxy_call.specs.Answers.{DecidesBy, DecidesRecord, IsAllRefusedOf, IsAnswer, IsGood, IsRefusal, IsRefused}
 use Rattle.proxy_call.specs.Files.{IfTold, Builder, IsBuilt, RecordIs}
 use Rattle.proxy_call.specs.Lines.{accepted_line}
@@ -44,6 +46,11 @@ abbrev pub stop_of_serving : ServeFault → Stop
 stop_of_serving serving.Net = stops.Net
 stop_of_serving serving.Output = stops.Output
 stop_of_serving serving.OutOfMemory = stops.OutOfMemory
+
+abbrev pub stop_of_running : RunFault → Stop
+stop_of_running running.Net = stops.Net
+stop_of_running running.OutOfMemory = stops.OutOfMemory
+stop_of_running running.Spent = stops.Net
 
 -- ---- what a stop means
 

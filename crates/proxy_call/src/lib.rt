@@ -6,11 +6,13 @@ mod lines;
 mod refusals;
 mod reply;
 mod run;
+mod running;
 mod serving;
 pub mod sessions;
 mod status;
 mod stop;
 mod top;
 
+pub use sessions::Many;
 pub use status::Status;
 pub use top::htx_proxy;

@@ -7,6 +7,7 @@ use crate::status::Status;
 use cfg_parse::{CfgFault, CfgKind};
 use http_model::OutOfMemory;
 use px_link::{Bytes, Fault};
+use px_run::RunFault;
 use rec_format::{RecFault, RecKind};
 
 /// Why a command stops.
@@ -112,6 +113,21 @@ impl<'a> From<ServeFault> for Stop<'a> {
             ServeFault::Net => Stop::Net,
             ServeFault::Output => Stop::Output,
             ServeFault::OutOfMemory => Stop::OutOfMemory,
+        }
+    }
+}
+
+impl<'a> From<RunFault> for Stop<'a> {
+    ghost use Rattle.std.specs.Prelude.{◌≡◌};
+    ghost use Rattle.proxy_call.specs.Stops.{stop_of_running};
+
+    ghost from_gives = { λ fault stop. stop ≡ stop_of_running fault };
+
+    fn from(fault: RunFault) -> Self {
+        match fault {
+            RunFault::Net => Stop::Net,
+            RunFault::OutOfMemory => Stop::OutOfMemory,
+            RunFault::Spent => Stop::Net,
         }
     }
 }

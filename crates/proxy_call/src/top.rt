@@ -8,30 +8,35 @@ ghost use Rattle.serve_run.specs.Lines.{net_line};
 ghost use Rattle.serve_run.specs.Served.{Breaks, NetFails, ServedAll};
 ghost use Rattle.serve_run.specs.Told.{Visited};
 ghost use Rattle.proxy_call.specs.Lines.{file_line};
+ghost use Rattle.proxy_call.specs.Ends.{RunsTo};
+ghost use Rattle.proxy_call.specs.Running.{NamesRun, Runs};
 ghost use Rattle.proxy_call.specs.Answers.{IsGood, IsRefusal, IsRefusedBy, IsRecordRefusedOf, DecidesRecord, DecidesBy, NamesServe, WritesFront, IsDue};
 ghost use Rattle.proxy_call.specs.Files.{told_by};
 ghost use Rattle.proxy_call.specs.Serving.{GainsBind, LostBy, ServedBy, Serving};
 
 use crate::reply::end;
 use crate::run::run;
+use crate::sessions::Many;
 use crate::status::Status;
-use px_link::{Files, Net, Sink};
+use px_link::{Files, Net, Sink, Waits, WaitsNet, Wakes};
 use px_pattern::Patterns;
+use px_run::Nets;
 use std::alloc::Global;
 
-/// The program: reads the words, runs the command that they name, and writes what it came to. Only `serve` makes calls on the net.
-/// `pats` builds the patterns of a configuration.
-pub fn htx_proxy<F: Files, N: Net, K: Sink, P: Patterns>(
+/// The program: reads the words, runs the command that they name, and writes what it came to. Only `serve` makes calls on the net, and only `run` has
+/// a use for `many`. `pats` builds the patterns of a configuration.
+pub fn htx_proxy<F: Files, N: Net, L: Waits + Drop, M: WaitsNet<Link = L> + Drop, S: Nets<M>, W: Wakes<M>, K: Sink, P: Patterns>(
     alloc: Global,
     words: &[String],
     files: &mut F,
     net: &mut N,
+    many: &mut Many<M, S, W>,
     out: &mut K,
     pats: &mut P,
 ) -> Status
-    // Good has written what the words ask for, and nothing else. What `serve` did follows.
-    ensures good { result ≡ Status.Good → NamesServe (map string_bytes words.now)
-        ⊎ ((text : List ℕ) × IsGood (map string_bytes words.now) (F.files files.old) text × Gains (K.written out.old) (K.written out.new) text) }
+    // Good has written what the words ask for, and nothing else. What `serve` and `run` did follows.
+    ensures good { result ≡ Status.Good → NamesServe (map string_bytes words.now) ⊎ (NamesRun (map string_bytes words.now)
+        ⊎ ((text : List ℕ) × IsGood (map string_bytes words.now) (F.files files.old) text × Gains (K.written out.old) (K.written out.new) text)) }
 
     // Good of `serve`: the net was bound, so many connections were served by the configuration, one after another, and their lines
     // were written and nothing else.
@@ -44,7 +49,11 @@ pub fn htx_proxy<F: Files, N: Net, K: Sink, P: Patterns>(
         → (N.seen net.old).accepts ≡ Some coming → (N.seen net.old).answers ≡ Some answers → (N.seen net.old).kept ≡ Some kept
         → Visited (N.seen net.new) coming kept count }
 
-    // Good, and NetFault where `serve` had accepted its configuration, come only where the builder refused no pattern.
+    // Good of `run`: it did what running by the configuration does.
+    ensures ran { result ≡ Status.Good → NamesRun (map string_bytes words.now)
+        → RunsTo (map string_bytes words.now) (F.files files.old) (Runs M.seen many.old.net many.new.net (K.written out.old) (K.written out.new)) result }
+
+    // Good, and NetFault where `serve` or `run` had accepted its configuration, come only where the builder refused no pattern.
     ensures built { result ≡ Status.Good → P.refusals pats.new ≡ P.refusals pats.old }
     ensures net_built { result ≡ Status.NetFault → P.refusals pats.new ≡ P.refusals pats.old }
 
@@ -68,10 +77,11 @@ pub fn htx_proxy<F: Files, N: Net, K: Sink, P: Patterns>(
     ensures file_line { result ≡ Status.FileFault → Gains (K.written out.old) (K.written out.new) (file_line (F.last_failed files.new)) }
     ensures out_fault { result ≡ Status.OutFault → Rose (K.faults out.old) (K.faults out.new) }
 
-    // NetFault comes only in `serve`: a bind or an accept failed, and its count rose. The lines of exactly the connections before it
-    // and then `net` were written.
+    // NetFault comes only in `serve`, where a bind or an accept failed, and its count rose, and the lines of exactly the connections before it
+    // and then `net` were written; and in `run`, by what that does.
     ensures net_fault { result ≡ Status.NetFault → Serving (map string_bytes words.now) (F.files files.old)
-        (λ cfg count. NetFails N.seen (ServedBy N.Link.seen N.Link.wrote N.seen cfg) (address_of cfg.bind) count net_line net.old net.new (K.written out.old) (K.written out.new)) }
+        (λ cfg count. NetFails N.seen (ServedBy N.Link.seen N.Link.wrote N.seen cfg) (address_of cfg.bind) count net_line net.old net.new (K.written out.old) (K.written out.new))
+        ⊎ RunsTo (map string_bytes words.now) (F.files files.old) (Runs M.seen many.old.net many.new.net (K.written out.old) (K.written out.new)) result }
 
     // With a fault of the output a prefix of what another status would have written was written: the line of a file only where the files'
     // count rose, a good text, and lines of `serve`, only where the builder refused no pattern. It is said of each link that `serve` accepted
@@ -83,13 +93,14 @@ pub fn htx_proxy<F: Files, N: Net, K: Sink, P: Patterns>(
         (λ cfg count. Breaks N.seen (ServedBy N.Link.seen N.Link.wrote N.seen cfg) (LostBy N.Link.seen N.Link.wrote N.seen cfg) (address_of cfg.bind) count net.old net.new (K.written out.old) (K.written out.new))) }
 
     // Where memory ran out, nothing or such a prefix was written, and so it is said of each link that `serve` accepted: the session in hand was given up,
-    // and its links were written a prefix of one.
+    // and its links were written a prefix of one. Or it ran out in `run`, by what that does.
     ensures memory { result ≡ Status.OutOfMemory
         → (((K.written out.new ≡ K.written out.old)
         ⊎ WritesFront (map string_bytes words.now) (F.files files.old) (told_by (P.refusals pats.old) (P.refusals pats.new) (P.last_refused pats.new)) (F.last_failed files.new) (F.faults files.old) (F.faults files.new) (K.written out.old) (K.written out.new))
         × (net.new ≡ net.old))
-        ⊎ ((P.refusals pats.new ≡ P.refusals pats.old) × Serving (map string_bytes words.now) (F.files files.old)
-        (λ cfg count. Breaks N.seen (ServedBy N.Link.seen N.Link.wrote N.seen cfg) (LostBy N.Link.seen N.Link.wrote N.seen cfg) (address_of cfg.bind) count net.old net.new (K.written out.old) (K.written out.new))) }
+        ⊎ (((P.refusals pats.new ≡ P.refusals pats.old) × Serving (map string_bytes words.now) (F.files files.old)
+        (λ cfg count. Breaks N.seen (ServedBy N.Link.seen N.Link.wrote N.seen cfg) (LostBy N.Link.seen N.Link.wrote N.seen cfg) (address_of cfg.bind) count net.old net.new (K.written out.old) (K.written out.new)))
+        ⊎ ((P.refusals pats.new ≡ P.refusals pats.old) × RunsTo (map string_bytes words.now) (F.files files.old) (Runs M.seen many.old.net many.new.net (K.written out.old) (K.written out.new)) result)) }
 
     // The net gains at most the configuration's address among those of binds, and has it where `serve` answers Good.
     ensures binds { result ≡ Status.Good → NamesServe (map string_bytes words.now) → Serving (map string_bytes words.now) (F.files files.old)
@@ -107,6 +118,11 @@ pub fn htx_proxy<F: Files, N: Net, K: Sink, P: Patterns>(
     ensures refused { IsRefusal result → net.new ≡ net.old }
     ensures untouched { (NamesServe (map string_bytes words.now) → ⊥) → net.new ≡ net.old }
 
+    // What `run` is handed is as it was behind each such refusal, and whatever comes of other words; else `run` did what it does.
+    ensures refused_idle { IsRefusal result → many.new ≡ many.old }
+    ensures idle { (NamesRun (map string_bytes words.now) → ⊥) → many.new ≡ many.old }
+    ensures left_idle { (many.new ≡ many.old) ⊎ RunsTo (map string_bytes words.now) (F.files files.old) (Runs M.seen many.old.net many.new.net (K.written out.old) (K.written out.new)) result }
+
     // Where nothing failed, only memory is in the way of the status that words and files call for.
     ensures complete { (fs : List NamedBytes) → F.files files.old ≡ Some fs
         → (status : Status) → IsDue (map string_bytes words.now) fs status
@@ -115,7 +131,7 @@ pub fn htx_proxy<F: Files, N: Net, K: Sink, P: Patterns>(
         → (NamesServe (map string_bytes words.now) → Rose (N.seen net.old).bind_faults (N.seen net.new).bind_faults → ⊥)
         → (result ≡ status) ⊎ (result ≡ Status.OutOfMemory) }
 {
-    match run(alloc, words, files, net, out, pats) {
+    match run(alloc, words, files, net, many, out, pats) {
         Ok(()) => Status::Good,
         Err(stop) => end(alloc, stop, out),
     }

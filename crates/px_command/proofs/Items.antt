@@ -1,5 +1,5 @@
--- Lists of one to four words, and a text behind another.
-use Rattle.std.proofs.Common.{◌≡◌, ◌<◌, ◌≤◌, List, [], ◌∷◌, ◌++◌, Bool, sym, ap, ◌∙◌, length, get_or, arith}
+-- Lists of one to four words, of two and those behind them, and a text behind another.
+use Rattle.std.proofs.Common.{◌≡◌, ◌<◌, ◌≤◌, ◌-◌, List, [], ◌∷◌, ◌++◌, Bool, sym, ap, ◌∙◌, length, get_or, take, drop, take_all, arith}
 use Rattle.std.specs.Prelude.{ℕ, map, string_bytes, IsTrue}
 use Rattle.std.specs.declared.string.String.{String}
 use Rattle.std.specs.declared.alloc.Global.{Global}
@@ -18,6 +18,16 @@ two [] a b least most p q = absurd (omega arith)
 two (x ∷ []) a b least most p q = absurd (omega arith)
 two (x ∷ y ∷ []) a b least most p q = cc
 two (x ∷ y ∷ z ∷ ws) a b least most p q = absurd (omega arith)
+
+-- a list of two or more is its first two items and those behind them
+pub two_and : (ws : List (String Global)) (a b : String Global) → 2 ≤ length ws → a ≡ get_or ws 0 a → b ≡ get_or ws 1 b → ws ≡ a ∷ b ∷ take (length ws - 2) (drop 2 ws)
+two_and [] a b least p q = absurd (omega arith)
+two_and (x ∷ []) a b least p q = absurd (omega arith)
+two_and (x ∷ y ∷ zs) a b least p q =
+    let behind : take (length (x ∷ y ∷ zs) - 2) zs ≡ zs = take_all (length (x ∷ y ∷ zs) - 2) zs (omega arith) in by_items x y zs a b _ p q behind
+  where
+    by_items : (x y : String Global) (zs : List (String Global)) (a b : String Global) (behind : List (String Global)) → a ≡ x → b ≡ y → behind ≡ zs → x ∷ y ∷ zs ≡ a ∷ b ∷ behind
+    by_items x y zs a b behind p q r = cc
 
 -- a list of three is its three items
 pub three : (ws : List (String Global)) (a b d : String Global) → 3 ≤ length ws → length ws < 4 → a ≡ get_or ws 0 a → b ≡ get_or ws 1 b → d ≡ get_or ws 2 d → ws ≡ a ∷ b ∷ d ∷ []
@@ -48,6 +58,12 @@ first_of_three a b d x y z is = cc
 
 pub first_of_four : (a b d e x y z w : List ℕ) → a ∷ b ∷ d ∷ e ∷ [] ≡ x ∷ y ∷ z ∷ w ∷ [] → a ≡ x
 first_of_four a b d e x y z w is = cc
+
+pub front_of_more : (a x y : List ℕ) (b : List ℕ) (rest behind : List (List ℕ)) → a ∷ b ∷ rest ≡ x ∷ y ∷ behind → a ≡ x
+front_of_more a x y b rest behind is = cc
+
+pub front_are : (a b x y : List ℕ) (rest : List (List ℕ)) → a ≡ x → b ≡ y → a ∷ b ∷ rest ≡ x ∷ y ∷ rest
+front_are a b x y rest p q = cc
 
 pub two_are : (a b x y : List ℕ) → a ≡ x → b ≡ y → a ∷ b ∷ [] ≡ x ∷ y ∷ []
 two_are a b x y p q = cc

@@ -1,4 +1,5 @@
 mod Accepted
 mod Items
 mod Passes
+mod Reading
 mod ThreeWords

@@ -7,8 +7,9 @@ use Rattle.clap.specs.declared.error.Error.{Error}
 use Rattle.clap.specs.declared.error.kind.ErrorKind.{ErrorKind}
 use Rattle.clap.specs.declared.error.kind.ErrorKind.TheVariants.{OutOfMemory}
 use Rattle.clap.proofs.OnLiterals.{clap_on_literals}
-use Rattle.px_command.specs.Command.{IsFileWord, IsCheck, IsCheckAll, IsCheckRecord, IsReplay, IsWeave, IsServe, IsDrill, AsksText, IsUsage}
+use Rattle.px_command.specs.Command.{IsFileWord, IsCheck, IsCheckAll, IsCheckRecord, IsReplay, IsWeave, IsServe, IsRun, IsDrill, AsksText, IsUsage}
 use Rattle.px_command.specs.Parser.{IsRefused, parser}
+use Rattle.px_command.specs.declared.options.RunOptions.{RunOptions}
 use Rattle.px_command.proofs.Accepted.{number_word}
 use Rattle.px_command.proofs.ThreeWords.{weave_passes}
 
@@ -99,9 +100,9 @@ only_memory : (ws : List Text) (e : Error) → IsRefused ws e → (kind_of e ≡
 only_memory ws e (inl memory) other passes = other memory
 only_memory ws e (inr among) other passes = subst (λ (kinds : List ErrorKind). IsAmong (kind_of e) kinds) passes among
 
--- words that `clap` refused for another reason than memory, and that ask for no text
-pub refused_usage : (ws : List Text) (e : Error) → IsRefused ws e → (kind_of e ≡ OutOfMemory → ⊥) → (AsksText ws → ⊥) → IsUsage ws
-refused_usage ws e refused other text =
+-- words that `clap` refused for another reason than memory, and that ask for no text and are not those of `run`
+pub refused_usage : (ws : List Text) (e : Error) → IsRefused ws e → (kind_of e ≡ OutOfMemory → ⊥) → (AsksText ws → ⊥) → ((cfg : Text) (options : RunOptions) → IsRun ws cfg options → ⊥) → IsUsage ws
+refused_usage ws e refused other text run =
     record {
       check = λ cfg is. only_memory ws e refused other (passes_check ws cfg is);
       check_all = λ cfg is. only_memory ws e refused other (passes_check_all ws cfg is);
@@ -110,5 +111,6 @@ refused_usage ws e refused other text =
       weave = λ cfg rec cores is. only_memory ws e refused other (passes_weave ws cfg rec cores is);
       serve = λ cfg connections is. only_memory ws e refused other (passes_serve ws cfg connections is);
       drill = λ seed exchanges is. only_memory ws e refused other (passes_drill ws seed exchanges is);
+      run = run;
       text = text;
     }

@@ -2,7 +2,9 @@
 use Rattle.std.specs.Prelude.{◌≡◌, ◌≢◌, ℕ, ◌≤◌, List, [], ◌∷◌, ◌⊎◌, Some, codes}
 use Rattle.px_bytes.specs.Numbers.{decimal_of}
 use Rattle.px_command.specs.declared.name.CommandName.{CommandName}
-use Rattle.px_command.specs.declared.name.CommandName.TheVariants.{Check, Replay, Weave, Serve, Drill}
+use Rattle.px_command.specs.declared.name.CommandName.TheVariants.{Check, Replay, Weave, Serve, Run, Drill}
+use Rattle.px_command.specs.Options.{nothing_said, options_behind}
+use Rattle.px_command.specs.declared.options.RunOptions.{RunOptions}
 
 -- a word that may name a file: it isn't empty, and no dash stands in front
 abbrev pub IsFileWord : List ℕ → Type 0
@@ -47,6 +49,11 @@ abbrev pub IsServe : List (List ℕ) → (cfg : List ℕ) → (connections : ℕ
 IsServe words cfg connections =
     (count : List ℕ) × (words ≡ codes "serve" ∷ cfg ∷ count ∷ []) × IsFileWord cfg × IsNumber 1 1000000 count connections
 
+-- the words are `run CFG` and options, in any order, each at most once
+abbrev pub IsRun : List (List ℕ) → (cfg : List ℕ) → RunOptions → Type 0
+IsRun words cfg options =
+    (behind : List (List ℕ)) × (words ≡ codes "run" ∷ cfg ∷ behind) × IsFileWord cfg × (options_behind nothing_said behind ≡ Some options)
+
 -- the words are `drill SEED COUNT`, with a seed of 0 to 2147483647 and 0 to 4000 exchanges
 abbrev pub IsDrill : List (List ℕ) → (seed exchanges : ℕ) → Type 0
 IsDrill words seed exchanges =
@@ -58,6 +65,7 @@ word_of Check = codes "check"
 word_of Replay = codes "replay"
 word_of Weave = codes "weave"
 word_of Serve = codes "serve"
+word_of Run = codes "run"
 word_of Drill = codes "drill"
 
 -- the words are `--help`, `-h` or `help`
@@ -85,12 +93,14 @@ pub record IsUsage (words : List (List ℕ)) : Type 0 where
   pub replay : (cfg rec : List ℕ) → IsReplay words cfg rec → ⊥
   pub weave : (cfg rec : List ℕ) (cores : ℕ) → IsWeave words cfg rec cores → ⊥
   pub serve : (cfg : List ℕ) (connections : ℕ) → IsServe words cfg connections → ⊥
+  pub run : (cfg : List ℕ) (options : RunOptions) → IsRun words cfg options → ⊥
   pub drill : (seed exchanges : ℕ) → IsDrill words seed exchanges → ⊥
   pub text : AsksText words → ⊥
 
 -- the configuration of a command that asks for its first refused line alone is in the file of this name
 abbrev pub NamesConfig : List (List ℕ) → List ℕ → Type 0
-NamesConfig words cfg = IsCheck words cfg ⊎ (((rec : List ℕ) × RunsRecord words cfg rec) ⊎ ((connections : ℕ) × IsServe words cfg connections))
+NamesConfig words cfg = IsCheck words cfg ⊎ (((rec : List ℕ) × RunsRecord words cfg rec) ⊎ (((connections : ℕ) × IsServe words cfg connections)
+    ⊎ ((options : RunOptions) × IsRun words cfg options)))
 
 -- the configuration of a command, or that of `check --all`, is in the file of this name
 abbrev pub ReadsConfig : List (List ℕ) → List ℕ → Type 0

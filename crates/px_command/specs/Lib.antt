@@ -1,4 +1,5 @@
 pub mod Asked
 pub mod Command
+pub mod Options
 pub mod Parser
 pub mod Texts

@@ -22,6 +22,16 @@ two_words name first second = with_rule (with_rule (new_app name) (word_rule fir
 abbrev pub weave_shape : App
 weave_shape = with_rule (two_words (codes "weave") (codes "CFG") (codes "REC")) (word_rule (codes "K"))
 
+-- an option with a number
+abbrev pub option_rule : (name : Text) → Rule
+option_rule name = record (new_rule name) { long = Some name; value_names = 1 }
+
+-- `run`, with a file and its options
+abbrev pub run_shape : App
+run_shape =
+    with_rule (with_rule (with_rule (with_rule (new_app (codes "run")) (word_rule (codes "CFG"))) (option_rule (codes "sets"))) (option_rule (codes "connections")))
+    (flag_rule (codes "until-input-ends"))
+
 -- `check`, with a file, the flag that asks for each refused line, and the flag that says that it is a record
 abbrev pub check_shape : App
 check_shape = with_rule (with_rule (with_rule (new_app (codes "check")) (flag_rule (codes "all"))) (flag_rule (codes "record"))) (word_rule (codes "FILE"))
@@ -37,7 +47,8 @@ parser =
     let replay = with_subcommand check (two_words (codes "replay") (codes "CFG") (codes "REC")).top in
     let weave = with_subcommand replay weave_shape.top in
     let serve = with_subcommand weave (two_words (codes "serve") (codes "CFG") (codes "COUNT")).top in
-    with_subcommand serve (two_words (codes "drill") (codes "SEED") (codes "COUNT")).top
+    let run = with_subcommand serve run_shape.top in
+    with_subcommand run (two_words (codes "drill") (codes "SEED") (codes "COUNT")).top
 
 -- `clap` refused the words with this error
 abbrev pub IsRefused : List Text → Error → Type 0

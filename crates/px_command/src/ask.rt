@@ -1,14 +1,16 @@
 //! What the words ask for.
-ghost use Rattle.std.specs.Prelude.{IfOk, IfErr, map, string_bytes};
+ghost use Rattle.std.specs.Prelude.{ℕ, List, IfOk, IfErr, map, string_bytes};
 ghost use Rattle.px_command.specs.Asked.{IsAsked};
-ghost use Rattle.px_command.specs.Command.{AsksText};
+ghost use Rattle.px_command.specs.Command.{AsksText, IsRun};
 ghost use Rattle.px_command.specs.Parser.{IsRefused};
+ghost use Rattle.px_command.specs.declared.options.RunOptions.{RunOptions as Options};
 
 use crate::lists::{
     asks_help, asks_version, check_all_file, check_file, check_record_file, drill_numbers,
-    help_command, replay_files, serve_words, weave_words,
+    help_command, replay_files, run_words, serve_words, weave_words,
 };
 use crate::name::CommandName;
+use crate::options::RunOptions;
 use crate::parser::command;
 use crate::texts::{error_text, unlisted_text};
 use clap::error::ErrorKind;
@@ -48,6 +50,11 @@ pub enum Asked<'a> {
         cfg: &'a str,
         connections: u32,
     },
+    /// `run CFG` and options.
+    Run {
+        cfg: &'a str,
+        options: RunOptions,
+    },
     /// `drill SEED COUNT`.
     Drill {
         seed: u32,
@@ -69,7 +76,8 @@ pub enum Asked<'a> {
 
 /// What words ask for that `clap` took, and that ask for no text.
 fn taken<'a>(alloc: Global, words: &'a [String]) -> Result<Asked<'a>, OutOfMemory>
-    requires { AsksText (map string_bytes words.now) → ⊥ }
+    requires text { AsksText (map string_bytes words.now) → ⊥ }
+    requires run { (cfg : List ℕ) (options : Options) → IsRun (map string_bytes words.now) cfg options → ⊥ }
     ensures { IfOk result (IsAsked (map string_bytes words.now)) }
 {
     if let Some(cfg) = check_file(words) {
@@ -101,6 +109,7 @@ fn taken<'a>(alloc: Global, words: &'a [String]) -> Result<Asked<'a>, OutOfMemor
 fn refused<'a>(alloc: Global, words: &[String], error: &Error) -> Result<Asked<'a>, OutOfMemory>
     requires refused { IsRefused (map string_bytes words.now) error.now }
     requires text { AsksText (map string_bytes words.now) → ⊥ }
+    requires run { (cfg : List ℕ) (options : Options) → IsRun (map string_bytes words.now) cfg options → ⊥ }
     ensures { IfOk result (IsAsked (map string_bytes words.now)) }
 {
     if error.kind() == ErrorKind::OutOfMemory {
@@ -120,9 +129,10 @@ fn matches_of<'a>(alloc: Global, words: &'a [String]) -> Result<ArgMatches<'a>, 
     }
 }
 
-/// What words ask for that ask for no text: `clap` reads them, and then the lists of commands decide.
+/// What words ask for that are not those of `run` and ask for no text: `clap` reads them, and then the lists of commands decide.
 fn command_asked<'a>(alloc: Global, words: &'a [String]) -> Result<Asked<'a>, OutOfMemory>
-    requires { AsksText (map string_bytes words.now) → ⊥ }
+    requires text { AsksText (map string_bytes words.now) → ⊥ }
+    requires run { (cfg : List ℕ) (options : Options) → IsRun (map string_bytes words.now) cfg options → ⊥ }
     ensures { IfOk result (IsAsked (map string_bytes words.now)) }
 {
     match matches_of(alloc, words) {
@@ -143,6 +153,9 @@ pub fn asked_by<'a>(alloc: Global, words: &'a [String]) -> Result<Asked<'a>, Out
     }
     if asks_version(words) {
         return Ok(Asked::Version);
+    }
+    if let Some((cfg, options)) = run_words(words) {
+        return Ok(Asked::Run { cfg, options });
     }
     command_asked(alloc, words)
 }

@@ -5,6 +5,7 @@
 mod ask;
 mod lists;
 mod name;
+mod options;
 mod parser;
 mod texts;
 mod words;
@@ -12,4 +13,5 @@ mod wrong;
 
 pub use ask::{Asked, asked_by};
 pub use name::CommandName;
+pub use options::RunOptions;
 pub use texts::{help_of_text, help_text, version_text};

@@ -1,10 +1,14 @@
 //! The lists of words that name a command, or a text of the program.
 ghost use Rattle.std.specs.Prelude.{◌↔◌, ℕ, List, map, IsTrue, IfSome, IfNone, string_bytes};
-ghost use Rattle.px_command.specs.Command.{IsFlagged, IsCheck, IsCheckAll, IsCheckRecord, IsReplay, IsWeave, IsServe, IsDrill, IsHelp, IsHelpOf, IsVersion};
+ghost use Rattle.px_command.specs.Command.{IsFlagged, IsCheck, IsCheckAll, IsCheckRecord, IsReplay, IsWeave, IsServe, IsRun, IsDrill, IsHelp, IsHelpOf, IsVersion};
 ghost use Rattle.px_command.specs.declared.name.CommandName.{CommandName as Named};
+ghost use Rattle.px_command.specs.declared.options.RunOptions.{RunOptions as Options};
 
 use crate::name::CommandName;
-use crate::words::{are_two, is_alone, is_file_word, number, one_behind, three_behind, two_behind};
+use crate::options::{RunOptions, no_options, options_behind};
+use crate::words::{
+    are_two, is_alone, is_file_word, number, one_behind, some_behind, three_behind, two_behind,
+};
 
 /// The file of `check CFG`.
 pub fn check_file<'a>(words: &'a [String]) -> Option<&'a str>
@@ -87,6 +91,19 @@ pub fn serve_words<'a>(words: &'a [String]) -> Option<(&'a str, u32)>
     Some((cfg, connections))
 }
 
+/// The file and the options of `run CFG` and options.
+pub fn run_words<'a>(words: &'a [String]) -> Option<(&'a str, RunOptions)>
+    ensures some { IfSome result (λ told. IsRun (map string_bytes words.now) told.0.now told.1) }
+    ensures none { IfNone result ((cfg : List ℕ) (options : Options) → IsRun (map string_bytes words.now) cfg options → ⊥) }
+{
+    let (cfg, behind) = some_behind(words, "run")?;
+    if !is_file_word(cfg) {
+        return None;
+    }
+    let options = options_behind(no_options(), behind)?;
+    Some((cfg, options))
+}
+
 /// The seed and the number of exchanges of `drill SEED COUNT`.
 pub fn drill_numbers(words: &[String]) -> Option<(u32, u32)>
     ensures some { IfSome result (λ told. IsDrill (map string_bytes words.now) told.0 told.1) }
@@ -136,6 +153,9 @@ pub fn help_command(words: &[String]) -> Option<CommandName>
     }
     if asks_help_of(words, CommandName::Serve) {
         return Some(CommandName::Serve);
+    }
+    if asks_help_of(words, CommandName::Run) {
+        return Some(CommandName::Run);
     }
     if asks_help_of(words, CommandName::Drill) {
         return Some(CommandName::Drill);

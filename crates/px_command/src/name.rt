@@ -7,6 +7,7 @@ pub enum CommandName {
     Replay,
     Weave,
     Serve,
+    Run,
     Drill,
 }
 
@@ -23,6 +24,7 @@ impl CommandName {
             CommandName::Replay => "replay",
             CommandName::Weave => "weave",
             CommandName::Serve => "serve",
+            CommandName::Run => "run",
             CommandName::Drill => "drill",
         }
     }

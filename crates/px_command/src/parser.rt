@@ -2,7 +2,7 @@
 ghost use Rattle.std.specs.Prelude.{◌≡◌, ℕ, List, IfOk, false, codes};
 ghost use Rattle.clap.specs.Words.{App, app_of, new_app, rule_of, with_rule, with_subcommand};
 ghost use Rattle.clap.specs.declared.builder.command.Command.TheViews.{out-Command};
-ghost use Rattle.px_command.specs.Parser.{word_rule, flag_rule, two_words, weave_shape, check_shape, top_level, parser};
+ghost use Rattle.px_command.specs.Parser.{word_rule, flag_rule, two_words, weave_shape, run_shape, option_rule, check_shape, top_level, parser};
 
 use clap::{Arg, ArgAction, Command};
 use std::alloc::{AllocError, Global};
@@ -31,6 +31,17 @@ fn flag<'a>(alloc: Global, name: &'a str, help: &'a str) -> Arg<'a>
     Arg::new(alloc, name)
         .long(name)
         .action(ArgAction::SetTrue)
+        .help(help)
+}
+
+/// An option with a number.
+fn option<'a>(alloc: Global, name: &'a str, value: &'a str, help: &'a str) -> Arg<'a>
+    ensures rule { rule_of result ≡ option_rule name.now }
+    ensures local { result.global ≡ false }
+{
+    Arg::new(alloc, name)
+        .long(name)
+        .value_name(value)
         .help(help)
 }
 
@@ -136,6 +147,33 @@ pub fn serve_command<'a>(alloc: Global) -> Result<Command<'a>, AllocError>
     )
 }
 
+/// `run CFG` and options.
+pub fn run_command<'a>(alloc: Global) -> Result<Command<'a>, AllocError>
+    ensures app { IfOk result (λ c. app_of c ≡ run_shape) }
+    ensures local { IfOk result (λ c. (out-Command c).has_globals ≡ false) }
+{
+    let about = "Serves many connections at once, and writes a line for each once it is over";
+    let file = one_argument(alloc, "run", about, cfg_word(alloc))?;
+    let sets = option(
+        alloc,
+        "sets",
+        "K",
+        "How many are served at once, 1 to 4096; 256 where it isn't said",
+    );
+    let connections = option(
+        alloc,
+        "connections",
+        "N",
+        "Ends after so many connections, 1 to 1000000",
+    );
+    let switch = flag(
+        alloc,
+        "until-input-ends",
+        "Accepts nothing more once standard input has ended, and ends when all are served",
+    );
+    file.arg(sets)?.arg(connections)?.arg(switch)
+}
+
 /// `drill SEED COUNT`.
 pub fn drill_command<'a>(alloc: Global) -> Result<Command<'a>, AllocError>
     ensures app { IfOk result (λ c. app_of c ≡ two_words (codes "drill") (codes "SEED") (codes "COUNT")) }
@@ -206,5 +244,6 @@ pub fn command<'a>(alloc: Global) -> Result<Command<'a>, AllocError>
     let replay = with_command(check, replay_command(alloc));
     let weave = with_command(replay, weave_command(alloc));
     let serve = with_command(weave, serve_command(alloc));
-    with_command(serve, drill_command(alloc))
+    let run = with_command(serve, run_command(alloc));
+    with_command(run, drill_command(alloc))
 }

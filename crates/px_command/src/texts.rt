@@ -4,7 +4,8 @@ ghost use Rattle.px_command.specs.Texts.{EndsLine};
 
 use crate::name::CommandName;
 use crate::parser::{
-    check_command, command, drill_command, replay_command, serve_command, weave_command,
+    check_command, command, drill_command, replay_command, run_command, serve_command,
+    weave_command,
 };
 use crate::wrong::{Wrong, has_word, wrong_word};
 use clap::{Command, Error};
@@ -19,6 +20,7 @@ Examples:
   htx_proxy replay site.cfg site.rec  writes what becomes of the session that is recorded in site.rec
   htx_proxy weave site.cfg site.rec 2 writes the same of each connection of site.rec, over two shared cores
   htx_proxy serve site.cfg 100        serves 100 connections, one after another
+  htx_proxy run site.cfg              serves many connections at once, and goes on
   htx_proxy check --help              says more of one command
 
 Names of files are not empty and do not begin with a dash. Numbers have 1 to 10 digits. All that is written goes to
@@ -89,6 +91,18 @@ Example:
 Refused in this order: the words (1), the file of the configuration (4), the configuration (2); then a bind or an accept that
 fails (6), and the output (5).";
 
+/// What the help of `run` says behind its words.
+const RUN: &[u8] = b"
+Example:
+  htx_proxy run site.cfg                     writes `listening 127.0.0.1:8080`, serves many connections at once, and goes on
+  htx_proxy run site.cfg --until-input-ends  the same, and ends once its standard input has ended and all are served
+
+Options come in any order, each at most once. A connection has one of the K sets from the first bytes of its client on. Where all
+are out the next one waits, or that of the client ends whose next request is awaited longest. `timeout` lines of the configuration
+take effect.
+
+Refused in this order: the words (1), the file of the configuration (4), the configuration (2); then a bind that fails (6).";
+
 /// What the help of `drill` says behind its words.
 const DRILL: &[u8] = b"
 Example:
@@ -156,6 +170,7 @@ pub fn help_of_text(alloc: Global, command: CommandName) -> Result<Bytes, OutOfM
         CommandName::Replay => help_under(alloc, replay_command(alloc), "htx_proxy replay", REPLAY),
         CommandName::Weave => help_under(alloc, weave_command(alloc), "htx_proxy weave", WEAVE),
         CommandName::Serve => help_under(alloc, serve_command(alloc), "htx_proxy serve", SERVE),
+        CommandName::Run => help_under(alloc, run_command(alloc), "htx_proxy run", RUN),
         CommandName::Drill => help_under(alloc, drill_command(alloc), "htx_proxy drill", DRILL),
     }
 }
@@ -257,6 +272,16 @@ fn wrong_flag(words: &[String]) -> &'static [u8] {
     b"the argument '--record' must stand in front of '<FILE>'"
 }
 
+/// What is wrong with words of which none is wrong in its place.
+fn wrong_order(words: &[String]) -> &'static [u8] {
+    match words {
+        [command, ..] if command.as_str() == "run" => {
+            b"options stand behind '<CFG>', and the number of one is a word of its own"
+        }
+        _ => wrong_flag(words),
+    }
+}
+
 /// What is wrong with words that `clap` took, and the lists don't.
 pub fn unlisted_text(alloc: Global, words: &[String]) -> Result<Bytes, OutOfMemory>
     ensures { IfOk result EndsLine }
@@ -266,6 +291,6 @@ pub fn unlisted_text(alloc: Global, words: &[String]) -> Result<Bytes, OutOfMemo
     }
     match wrong_word(words) {
         Some(wrong) => wrong_text(alloc, &wrong),
-        None => reason_and_help(alloc, wrong_flag(words)),
+        None => reason_and_help(alloc, wrong_order(words)),
     }
 }

@@ -72,6 +72,20 @@ pub fn two_behind<'a>(words: &'a [String], command: &str) -> Option<(&'a str, &'
     Some((first.as_str(), second.as_str()))
 }
 
+/// The word behind a command, and those behind it.
+pub fn some_behind<'a>(words: &'a [String], command: &str) -> Option<(&'a str, &'a [String])>
+    ensures some { IfSome result (λ told. map string_bytes words.now ≡ command.now ∷ told.0.now ∷ map string_bytes told.1.now) }
+    ensures none { IfNone result ((first : List ℕ) (behind : List (List ℕ)) → map string_bytes words.now ≡ command.now ∷ first ∷ behind → ⊥) }
+{
+    let [name, first, behind @ ..] = words else {
+        return None;
+    };
+    if name.as_str() != command {
+        return None;
+    }
+    Some((first.as_str(), behind))
+}
+
 /// The three words behind a command, where they are the last.
 pub fn three_behind<'a>(words: &'a [String], command: &str) -> Option<(&'a str, &'a str, &'a str)>
     ensures some { IfSome result (λ all. map string_bytes words.now ≡ command.now ∷ all.0.now ∷ all.1.now ∷ all.2.now ∷ []) }

@@ -1,4 +1,5 @@
 //! Which word is wrong where words name a command and stand in order, and no list has them.
+use crate::options::{MOST_CONNECTIONS, MOST_SETS};
 use crate::words::{is_file_word, number, one_behind};
 
 /// A word that is out of the bounds of its place.
@@ -101,8 +102,56 @@ fn wrong_of_two<'a>(command: &str, first: &'a str, second: &'a str) -> Option<Wr
     wrong_files(first, second)
 }
 
+/// The word that is wrong of the value of this option of `run`.
+fn wrong_option<'a>(name: &str, value: &'a str) -> Option<Wrong<'a>> {
+    if name == "--sets" {
+        return wrong_number("K", value, 1, MOST_SETS, "1 to 4096, in 1 to 10 digits");
+    }
+    if name == "--connections" {
+        return wrong_number(
+            "N",
+            value,
+            1,
+            MOST_CONNECTIONS,
+            "1 to 1000000, in 1 to 10 digits",
+        );
+    }
+    None
+}
+
+/// The first word that is wrong of the options of `run`.
+fn wrong_options(words: &[String]) -> Option<Wrong<'_>> {
+    for pair in words.windows(2) {
+        if let [name, value] = pair {
+            if let Some(wrong) = wrong_option(name.as_str(), value.as_str()) {
+                return Some(wrong);
+            }
+        }
+    }
+    None
+}
+
+/// The first word that is wrong of those behind `run`.
+fn wrong_run(words: &[String]) -> Option<Wrong<'_>> {
+    let [cfg, options @ ..] = words else {
+        return None;
+    };
+    if cfg.as_str().starts_with("--") {
+        return None;
+    }
+    if let Some(wrong) = wrong_file("CFG", cfg.as_str()) {
+        return Some(wrong);
+    }
+    wrong_options(options)
+}
+
 /// The first word that is wrong of those behind a command.
 pub fn wrong_word(words: &[String]) -> Option<Wrong<'_>> {
+    if let [command, behind @ ..] = words {
+        if command.as_str() == "run" {
+            return wrong_run(behind);
+        }
+    }
     if let Some(file) = one_behind(words, "check") {
         return wrong_file("FILE", file);
     }

@@ -1,1 +1,7 @@
 mod Deadlines
+mod Asked
+mod Courses
+mod Sets
+mod Begins
+mod Looks
+mod Places

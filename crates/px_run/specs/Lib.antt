@@ -1,2 +1,5 @@
 pub mod Next
 pub mod Deadline
+pub mod Course
+pub mod Connection
+pub mod Hall

@@ -5,6 +5,7 @@
 mod addresses;
 mod dialling;
 mod faults;
+mod input_end;
 mod linger;
 mod numeric;
 mod ready;
@@ -19,6 +20,7 @@ mod stream_calls;
 mod stream_waits;
 mod tokens;
 
+pub use input_end::InputEnd;
 pub use ready_link::ReadyLink;
 pub use ready_net::ReadyNet;
 pub use ready_poll::ReadyPoll;

@@ -4,7 +4,7 @@ ghost use Rattle.px_sock.specs.Untold.{untold_net};
 
 use crate::addresses::Addresses;
 use crate::dialling::Dialling;
-use crate::faults::{count, counted};
+use crate::faults::{count, counted, counted_and_kept};
 use crate::numeric::{Numeric, place_of};
 use crate::ready_link::ReadyLink;
 use mio::net::TcpListener;
@@ -23,6 +23,8 @@ pub struct ReadyNet<'a, R: net::Net> {
     rt: &'a R,
     alloc: Global,
     listener: Option<TcpListener>,
+    /// Why the last bind that was refused was.
+    refused: Option<io::Error>,
     /// What the system answered to an accept that is still to be made.
     came: Option<io::Result<TcpStream>>,
     /// A connect that is still to be made.
@@ -54,6 +56,7 @@ impl<'a, R: net::Net> ReadyNet<'a, R> {
             rt,
             alloc,
             listener: None,
+            refused: None,
             came: None,
             dialling: Dialling::Nothing,
             bound: Addresses::new(alloc),
@@ -63,6 +66,16 @@ impl<'a, R: net::Net> ReadyNet<'a, R> {
             bind_faults: 0,
             connect_faults: 0,
         }
+    }
+
+    /// Why the last bind that was refused was; none where none was.
+    pub fn refusal(&self) -> Option<&io::Error> {
+        self.refused.as_ref()
+    }
+
+    /// The address of the last bind.
+    pub fn address(&self) -> Option<&Address> {
+        self.bound.last()
     }
 
     /// The number of its listener, by which a wait is told of it.
@@ -163,7 +176,7 @@ impl<'a, R: net::Net> Net for ReadyNet<'a, R> {
     fn bind(&mut self, at: &Address) -> Result<(), Fault> {
         self.bound.push(at)?;
         let answer = listen(self.rt, at);
-        match counted(&mut self.bind_faults, answer) {
+        match counted_and_kept(&mut self.bind_faults, &mut self.refused, answer) {
             Ok(listener) => {
                 self.listener = Some(listener);
                 Ok(())

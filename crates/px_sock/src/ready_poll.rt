@@ -1,6 +1,7 @@
 //! The wait for all streams of a loop, over the system's poll.
 ghost use Rattle.std.specs.Prelude.{◌≡◌, List, ℕ};
 
+use crate::input_end::INPUT;
 use crate::ready_link::ReadyLink;
 use crate::ready_net::ReadyNet;
 use crate::tokens::{token_of, watched_of};
@@ -45,6 +46,12 @@ impl<'a, R: net::Net + Clock> ReadyPoll<'a, R> {
             time: 0,
             unwatched: false,
         })
+    }
+
+    /// Has later waits end where standard input comes, or ends; they name the listener then. A file on disk, which never waits, needs no watch.
+    pub fn watch_input(&mut self) {
+        let registry = self.poll.registry();
+        let _ = report(registry, Some(INPUT), Watched::Listener, Interest::READABLE);
     }
 }
 

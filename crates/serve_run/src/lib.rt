@@ -12,6 +12,7 @@ mod sessions;
 
 pub use driven::{Driven, Opens};
 pub use htx_drive::{Ran, SessionFault};
+pub use line::line_of;
 pub use outcome::{Outcome, ServeFault};
 pub use px_link::{Address, Close, End, Fault, Link, Net, OutOfMemory, Sink};
 pub use serving::serve;

@@ -36,7 +36,7 @@ fn outcome_words(alloc: Global, outcome: &Outcome) -> Result<Bytes, OutOfMemory>
 
 /// The line of the connection of this number.
 #[tactic(auto, unfolding(crate::specs::Lines::line_of))]
-pub(crate) fn line_of(alloc: Global, number: u32, outcome: &Outcome) -> Result<Bytes, OutOfMemory>
+pub fn line_of(alloc: Global, number: u32, outcome: &Outcome) -> Result<Bytes, OutOfMemory>
     ensures { IfOk result (λ line. line ≡ line_of number outcome.now) }
 {
     let mut line = Bytes::copy(alloc, b"connection ")?;

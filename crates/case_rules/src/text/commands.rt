@@ -1,6 +1,6 @@
 //! Lists of words of the command line, and the texts that they ask for.
 use case_rows::{Answers, Fault, Row, decoded, words_of};
-use px_command::{Asked, asked_by, help_of_text, help_text, version_text};
+use px_command::{Asked, RunOptions, asked_by, help_of_text, help_text, version_text};
 use px_link::Bytes;
 use std::alloc::Global;
 
@@ -10,6 +10,23 @@ fn say_usage(alloc: Global, text: &[u8], answers: &mut Answers) -> Result<(), Fa
     let reason = text.strip_suffix(help.as_slice()).unwrap_or(text);
     answers.say(reason.strip_suffix(b"\n\n".as_slice()).unwrap_or(reason));
     Ok(())
+}
+
+/// Says a number that options say, behind its name.
+fn more_number(name: &[u8], number: Option<u32>, answers: &mut Answers) {
+    if let Some(number) = number {
+        answers.more(name);
+        answers.more_count(u64::from(number));
+    }
+}
+
+/// Says the options of `run`.
+fn more_options(options: RunOptions, answers: &mut Answers) {
+    more_number(b" sets ", options.sets, answers);
+    more_number(b" connections ", options.connections, answers);
+    if options.until_input_ends {
+        answers.more(b" until-input-ends");
+    }
 }
 
 /// Says what words ask for.
@@ -46,6 +63,11 @@ fn say_asked(alloc: Global, asked: &Asked<'_>, answers: &mut Answers) -> Result<
             answers.bracket(cfg.as_bytes());
             answers.more(b" ");
             answers.more_count(u64::from(*connections));
+        }
+        Asked::Run { cfg, options } => {
+            answers.say(b"run ");
+            answers.bracket(cfg.as_bytes());
+            more_options(*options, answers);
         }
         Asked::Drill { seed, exchanges } => {
             answers.say(b"drill ");

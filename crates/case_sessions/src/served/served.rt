@@ -1,6 +1,7 @@
-//! `serve` over links and a net in memory, one of whose calls may fail.
+//! `serve` and `run` over links and nets in memory, one of whose calls may fail.
 use crate::served::failing::calls_of;
 use crate::served::links::net_of;
+use crate::served::many::many_of;
 use crate::session::record_in;
 use case_rows::{Answers, Call, Fault, Row, decoded, words_of};
 use proxy_call::{Status, htx_proxy};
@@ -46,15 +47,41 @@ fn served(alloc: Global, row: Row<'_>) -> Result<Vec<u8>, Fault> {
     let mut files = files_of(alloc, &cfg, &failing)?;
     let mut net = net_of(alloc, &record, &failing)?;
     let mut out = output_of(alloc, &failing)?;
+    let mut many = many_of(alloc, no_net(alloc)?, &[]);
     let mut pats = RealPatterns::new();
-    let status = htx_proxy(alloc, &words, &mut files, &mut net, &mut out, &mut pats);
+    let status = htx_proxy(
+        alloc, &words, &mut files, &mut net, &mut many, &mut out, &mut pats,
+    );
     tell(alloc, status, &out, &net)
 }
 
-/// What a row of `served` comes to; none of another kind.
+/// A net to which no client comes.
+pub(crate) fn no_net(alloc: Global) -> Result<MemNet, Fault> {
+    Ok(MemNet::new(alloc, Vec::new(alloc), Vec::new(alloc))?)
+}
+
+/// NAME, the call of the net that fails, words of `run`, the file `c`, the record whose clients come, and what comes of it: the clients' links alone.
+fn ran(alloc: Global, row: Row<'_>) -> Result<Vec<u8>, Fault> {
+    let (failing, _) = Call::first(row.field(1).as_bytes());
+    let words = words_of(alloc, row.field(2))?;
+    let cfg = decoded(alloc, row.field(3).as_bytes())?;
+    let record = record_in(alloc, &decoded(alloc, row.field(4).as_bytes())?)?;
+    let mut files = files_of(alloc, &cfg, &failing)?;
+    let mut net = no_net(alloc)?;
+    let mut many = many_of(alloc, net_of(alloc, &record, &failing)?, &record.conns);
+    let mut out = output_of(alloc, &failing)?;
+    let mut pats = RealPatterns::new();
+    let status = htx_proxy(
+        alloc, &words, &mut files, &mut net, &mut many, &mut out, &mut pats,
+    );
+    tell(alloc, status, &out, many.net.net())
+}
+
+/// What a row of `served` or `ran` comes to; none of another kind.
 pub fn made(alloc: Global, kind: &str, row: Row<'_>) -> Option<Result<Vec<u8>, Fault>> {
     match kind {
         "served" => Some(served(alloc, row)),
+        "ran" => Some(ran(alloc, row)),
         _ => None,
     }
 }

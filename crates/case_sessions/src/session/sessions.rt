@@ -1,5 +1,6 @@
 //! Sessions: rows of the program's words over the files `c` and `r`, and files of a configuration and a record with
 //! what must be written. Each goes through the program's one call.
+use crate::served::many::many_of;
 use crate::session::facts::facts_of;
 use case_rows::{Answers, Call, Fault, Row, decoded, words_of};
 use proxy_call::{Status, htx_proxy};
@@ -31,7 +32,11 @@ pub(crate) fn reply_to(
     let mut out = MemSink::new(alloc);
     out.fail_at(failing);
     let mut pats = RealPatterns::new();
-    let status = htx_proxy(alloc, &words, &mut files, &mut net, &mut out, &mut pats);
+    let unused = MemNet::new(alloc, Vec::new(alloc), Vec::new(alloc))?;
+    let mut many = many_of(alloc, unused, &[]);
+    let status = htx_proxy(
+        alloc, &words, &mut files, &mut net, &mut many, &mut out, &mut pats,
+    );
     Ok(Reply { status, out })
 }
 

@@ -14,11 +14,7 @@ use crate::weave::conn::Conn;
 use crate::{Close, End, Link, Machine, Net, Ran, SessionFault};
 
 /// The session of a connection is over, as its core says: its client's link is closed.
-pub(crate) fn finish<C: Machine, L: Link, N: Net<Link = L>>(
-    conn: &mut Conn<L, N>,
-    core: &C,
-    end: End,
-)
+pub fn finish<C: Machine, L: Link, N: Net<Link = L>>(conn: &mut Conn<L, N>, core: &C, end: End)
     requires over { (C.seen core.now).wants.over ≡ Some end }
     requires serving { (C.seen core.now).serving ≡ is_some conn.old.server }
     ensures ended { (cfg : C.Settings) (all ahead : List Turn) (count : ℕ) (first : L) (to : Place) (first_net : N) → Going (C.stands cfg) C.seen all ahead core.now L.seen L.wrote first conn.old.client conn.old.server to (N.seen first_net) (N.seen conn.old.net) count
@@ -35,10 +31,7 @@ pub(crate) fn finish<C: Machine, L: Link, N: Net<Link = L>>(
 }
 
 /// A write to the client failed: its link is closed Failed.
-pub(crate) fn fail<C: Machine, L: Link, N: Net<Link = L>>(
-    conn: &mut Conn<L, N>,
-    fault: SessionFault,
-)
+pub fn fail<C: Machine, L: Link, N: Net<Link = L>>(conn: &mut Conn<L, N>, fault: SessionFault)
     ensures given_up { (cfg : C.Settings) (core : C) (all left : List Turn) (count : ℕ) (first : L) (failed : Bool) (to : Place) (first_net : N) → Stopped (LeftSo (C.meaning cfg) (C.stands cfg) C.seen all left count core failed) L.seen L.wrote first conn.old.client failed to (N.seen first_net) (N.seen conn.old.net) count
         → GivenUp (C.meaning cfg) (C.stands cfg) C.seen all L.seen L.wrote first conn.new.client failed to (N.seen first_net) (N.seen conn.new.net) count }
     ensures ran { conn.new.ran ≡ Some (Err fault) }
@@ -49,7 +42,7 @@ pub(crate) fn fail<C: Machine, L: Link, N: Net<Link = L>>(
 }
 
 /// A server's link that is open is closed Failed, and kept.
-fn give_back<L: Link, N: Net<Link = L>>(server: &mut Option<L>, net: &mut N)
+pub(crate) fn give_back<L: Link, N: Net<Link = L>>(server: &mut Option<L>, net: &mut N)
     requires lent { is_some server.old ≡ true → 0 < (N.seen net.old).lent }
     ensures none { server.new ≡ None }
     ensures back { Back L.seen L.wrote (N.seen net.old) (N.seen net.new) server.old }
@@ -61,7 +54,7 @@ fn give_back<L: Link, N: Net<Link = L>>(server: &mut Option<L>, net: &mut N)
 }
 
 /// Closes a server's link Failed, and keeps it.
-fn shut<L: Link, N: Net<Link = L>>(link: L, net: &mut N)
+pub(crate) fn shut<L: Link, N: Net<Link = L>>(link: L, net: &mut N)
     requires lent { 0 < (N.seen net.old).lent }
     ensures shut { Shut L.seen L.wrote (N.seen net.old) (N.seen net.new) link }
 {
@@ -71,7 +64,7 @@ fn shut<L: Link, N: Net<Link = L>>(link: L, net: &mut N)
 }
 
 /// Gives a connection up: each of its links that is still open is closed Failed, and the server's is kept.
-pub(crate) fn abandon<C: Machine, L: Link, N: Net<Link = L>>(conn: &mut Conn<L, N>)
+pub fn abandon<C: Machine, L: Link, N: Net<Link = L>>(conn: &mut Conn<L, N>)
     requires lent { IsLent conn.old.server (N.seen conn.old.net).lent }
     ensures left { (cfg : C.Settings) (turns : List Turn) (count : ℕ) (first : L) (to : Place) (first_net : N) → Halted (C.meaning cfg) (C.stands cfg) C.seen turns L.seen L.wrote first conn.old.client conn.old.server to (N.seen first_net) (N.seen conn.old.net) None count
         → LeftAt (C.meaning cfg) (C.stands cfg) C.seen turns L.seen L.wrote first conn.new.client conn.new.server to (N.seen first_net) (N.seen conn.new.net) None count }

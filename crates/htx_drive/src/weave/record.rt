@@ -10,6 +10,6 @@ mod texts;
 mod turns;
 mod woven;
 
-pub use sets::pool_of;
+pub use sets::{cores_for, pool_of};
 pub use texts::weave_text;
 pub use woven::weave_record;

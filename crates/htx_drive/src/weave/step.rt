@@ -12,7 +12,7 @@ use crate::weave::conn::Conn;
 use crate::{Address, Did, Link, Machine, Net, SessionFault, Stepped, Turn, step_idle, step_open};
 
 /// Puts the server's link in a place that has none.
-fn put<L>(place: &mut Option<L>, link: Option<L>)
+pub(crate) fn put<L>(place: &mut Option<L>, link: Option<L>)
     requires { place.old ≡ None }
     ensures { place.new ≡ link }
 {

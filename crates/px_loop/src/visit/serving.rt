@@ -1,9 +1,12 @@
 //! What serves: the program's one call, with a configuration in memory, over sockets.
+ghost use Rattle.std.specs.Prelude.{◌≡◌, [], IfOk};
+
 use crate::RULES;
 use crate::visit::ports::Ports;
-use proxy_call::{Status, htx_proxy};
-use px_link::{MemFiles, OutOfMemory};
+use proxy_call::{Many, Status, htx_proxy};
+use px_link::{MemFiles, MemNet, MemWakes, OutOfMemory, Script, ScriptedNet};
 use px_pattern::RealPatterns;
+use px_run::Nets;
 use px_sock::{RealNet, RealSink};
 use std::alloc::Global;
 use std::net::Net;
@@ -42,15 +45,57 @@ fn files(alloc: Global, ports: Ports) -> Result<MemFiles, OutOfMemory> {
     Ok(files)
 }
 
+/// Nets without a server: `run` is not among the words.
+#[derive(Drop)]
+struct NoNets {
+    alloc: Global,
+}
+
+/// A net without links.
+fn no_net(alloc: Global) -> Result<ScriptedNet<MemNet>, OutOfMemory>
+    ensures { IfOk result (λ net. (net.lent ≡ 0) × (net.dialled ≡ [])) }
+{
+    let net = MemNet::new(alloc, Vec::new(alloc), Vec::new(alloc))?;
+    let accepts = Script::new(Vec::new(alloc));
+    let connects = Script::new(Vec::new(alloc));
+    Ok(ScriptedNet::new(
+        alloc,
+        net,
+        accepts,
+        connects,
+        Vec::new(alloc),
+    ))
+}
+
+impl Nets<ScriptedNet<MemNet>> for NoNets {
+    fn net(&mut self) -> Result<ScriptedNet<MemNet>, OutOfMemory> {
+        no_net(self.alloc)
+    }
+
+    fn accepts_more(&mut self) -> bool {
+        false
+    }
+}
+
 /// Serves two clients at one port, with the server at another. The process ends with the program's status.
 pub fn serve<R: Net + Clock + Print + AllocGlobal>(rt: &R, ports: Ports) -> ExitCode {
     let alloc = rt.alloc();
     let (Ok(words), Ok(mut files)) = (words(alloc), files(alloc, ports)) else {
         return ExitCode::from(Status::OutOfMemory.number());
     };
+    let Ok(unused) = no_net(alloc) else {
+        return ExitCode::from(Status::OutOfMemory.number());
+    };
+    let mut many = Many {
+        net: unused,
+        nets: NoNets { alloc },
+        wakes: MemWakes::new(Vec::new(alloc)),
+    };
     let mut net = RealNet::new(alloc, rt);
     let mut out = RealSink::new(rt);
     let mut pats = RealPatterns::new();
-    let status = htx_proxy(alloc, &words, &mut files, &mut net, &mut out, &mut pats);
+    let status = htx_proxy(
+        alloc, &words, &mut files, &mut net, &mut many, &mut out, &mut pats,
+    );
     ExitCode::from(status.number())
 }

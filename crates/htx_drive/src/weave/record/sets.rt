@@ -12,7 +12,7 @@ use px_pool::Pool;
 use std::alloc::Global;
 
 /// So many cores, to which nothing has happened.
-fn cores_for<C: Resets + Drop, K: Cores<C>>(
+pub fn cores_for<C: Resets + Drop, K: Cores<C>>(
     alloc: Global,
     cores: &K,
     sets: u32,

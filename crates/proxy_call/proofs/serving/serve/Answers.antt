@@ -18,7 +18,7 @@ returns-in_err-cfg g c =
     let output : Output = put before before (g.K.Sink.written c.args.out.now) (g.K.Sink.written c.args.out.now) in
     let Does : Config → ℕ → Result (Unit {0}) ServeFault → Type 0 = Serves g.N.Link.Link.seen g.N.Link.Link.wrote g.N.Net.seen c.args.net.now c.args.net.now before before output.old output.new in
     ran_err input output (c.args.net.now ≡ c.args.net.now) Does c.from_residual.result c.in_err-cfg.field-0.0 c.from_residual.ensures.1
-    (inl (stops_early input before output.old c.in_err-cfg.field-0.0 (c.in_err-cfg.ensures.stop words (inr (inr (c.args.connections, serve)))), refl))
+    (inl (stops_early input before output.old c.in_err-cfg.field-0.0 (c.in_err-cfg.ensures.stop words (inr (inr (inl (c.args.connections, serve))))), refl))
 
 pub returns-in_err-serve_clients : goal.returns-in_err-serve_clients
 returns-in_err-serve_clients g c =

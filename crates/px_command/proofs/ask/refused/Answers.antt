@@ -8,4 +8,4 @@ use Rattle.px_command.proofs.ask.refused.Goals as goal
 pub returns : goal.returns
 returns c =
     let other : kind_of c.args.error.now ≡ OutOfMemory → ⊥ = search rules in
-    (refused_usage (map string_bytes c.args.words.now) c.args.error.now c.requires.refused other c.requires.text, c.in_ok-text.ensures)
+    (refused_usage (map string_bytes c.args.words.now) c.args.error.now c.requires.refused other c.requires.text c.requires.run, c.in_ok-text.ensures)

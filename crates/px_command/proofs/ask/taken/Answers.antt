@@ -10,7 +10,8 @@ returns c = (
     weave = c.in_default-weave_words.ensures.none;
     serve = c.in_default-serve_words.ensures.none;
     drill = c.in_default-drill_numbers.ensures.none;
-    text = c.requires;
+    run = c.requires.run;
+    text = c.requires.text;
   },
   c.in_ok-text.ensures,
 )

@@ -1,6 +1,6 @@
 use Rattle.std.proofs.Common.{codes}
 use Rattle.clap.specs.Words.{App, with_subcommand}
-use Rattle.px_command.specs.Parser.{check_shape, top_level, two_words, weave_shape}
+use Rattle.px_command.specs.Parser.{check_shape, run_shape, top_level, two_words, weave_shape}
 use Rattle.px_command.proofs.parser.command.Goals as goal
 
 abbrev with_check : App → App
@@ -15,6 +15,9 @@ with_weave level = with_subcommand level weave_shape.top
 abbrev with_serve : App → App
 with_serve level = with_subcommand level (two_words (codes "serve") (codes "CFG") (codes "COUNT")).top
 
+abbrev with_run : App → App
+with_run level = with_subcommand level run_shape.top
+
 abbrev with_drill : App → App
 with_drill level = with_subcommand level (two_words (codes "drill") (codes "SEED") (codes "COUNT")).top
 
@@ -27,4 +30,5 @@ returns c =
     let replay = c.with_command-replay.ensures.app (with_check top_level) replay_shape check c.replay_command.ensures.app in
     let weave = c.with_command-weave.ensures.app (with_replay (with_check top_level)) weave_shape replay c.weave_command.ensures.app in
     let serve = c.with_command-serve.ensures.app (with_weave (with_replay (with_check top_level))) serve_shape weave c.serve_command.ensures.app in
-    c.with_command.ensures.app (with_serve (with_weave (with_replay (with_check top_level)))) drill_shape serve c.drill_command.ensures.app
+    let run = c.with_command-run.ensures.app (with_serve (with_weave (with_replay (with_check top_level)))) run_shape serve c.run_command.ensures.app in
+    c.with_command.ensures.app (with_run (with_serve (with_weave (with_replay (with_check top_level))))) drill_shape run c.drill_command.ensures.app

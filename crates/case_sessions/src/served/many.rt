@@ -1,0 +1,71 @@
+//! What `run` is handed in memory: a net on which the clients of a record come, a net for each connection with its servers, and a wait that names all. Each
+//! call can be made at once.
+ghost use Rattle.std.specs.Prelude.{◌≡◌, true, IfOk};
+
+use crate::served::links::put_servers;
+use case_rows::{Call, Fault};
+use proxy_call::Many;
+use px_link::{MemNet, MemWakes, OutOfMemory, Script, ScriptedNet};
+use px_run::Nets;
+use rec_format::Connection;
+use std::alloc::Global;
+
+/// A net that says yes to each question.
+fn ready(alloc: Global, net: MemNet) -> ScriptedNet<MemNet>
+    ensures { result ≡ net }
+{
+    let accepts = Script::new(Vec::new(alloc));
+    let connects = Script::new(Vec::new(alloc));
+    ScriptedNet::new(alloc, net, accepts, connects, Vec::new(alloc))
+}
+
+/// The nets of the connections of a record, in their order, and behind them nets without a server.
+#[derive(Drop)]
+pub(crate) struct RecordNets<'r> {
+    alloc: Global,
+    conns: &'r [Connection],
+    asked: usize,
+}
+
+/// A net with the servers of a connection, on which no call fails.
+fn net_with(alloc: Global, conn: &Connection) -> Result<MemNet, Fault> {
+    let (nothing, _) = Call::first(b"nothing");
+    let mut servers = Vec::new(alloc);
+    put_servers(alloc, &conn.servers, &nothing, &mut servers)?;
+    Ok(MemNet::new(alloc, Vec::new(alloc), servers)?)
+}
+
+impl<'r> Nets<ScriptedNet<MemNet>> for RecordNets<'r> {
+    fn net(&mut self) -> Result<ScriptedNet<MemNet>, OutOfMemory> {
+        let asked = self.asked;
+        self.asked = asked.saturating_add(1);
+        let net = match self.conns.get(asked) {
+            Some(conn) => match net_with(self.alloc, conn) {
+                Ok(net) => net,
+                Err(_) => return Err(OutOfMemory),
+            },
+            None => MemNet::new(self.alloc, Vec::new(self.alloc), Vec::new(self.alloc))?,
+        };
+        Ok(ready(self.alloc, net))
+    }
+
+    fn accepts_more(&mut self) -> bool {
+        true
+    }
+}
+
+/// What `run` is handed in memory.
+pub(crate) type MemMany<'r> = Many<ScriptedNet<MemNet>, RecordNets<'r>, MemWakes>;
+
+/// What `run` is handed, with the clients on this net, and the servers of these connections. Its clock stands still.
+pub(crate) fn many_of<'r>(alloc: Global, net: MemNet, conns: &'r [Connection]) -> MemMany<'r> {
+    Many {
+        net: ready(alloc, net),
+        nets: RecordNets {
+            alloc,
+            conns,
+            asked: 0,
+        },
+        wakes: MemWakes::new(Vec::new(alloc)),
+    }
+}

@@ -1,0 +1,101 @@
+//! Clients that are served at once, and their sessions.
+ghost use Rattle.http_rules.specs.Valid.{IsValid};
+ghost use Rattle.proxy_call.specs.Running.{Runs};
+
+use crate::lines::listening_line;
+use crate::sessions::cores::RecordCores;
+use http_rules::{Config, Timeouts};
+use htx_drive::weave::cores_for;
+use px_command::RunOptions;
+use px_link::{Fault, OutOfMemory, Sink, Waits, WaitsNet, Wakes};
+use px_run::{Nets, Plan, RunFault, Times, run};
+use std::alloc::Global;
+
+/// What serving many at once is handed: a net that listens, what makes a net for each connection, and the wait for all of them.
+#[derive(Drop)]
+pub struct Many<N, S, W> {
+    pub net: N,
+    pub nets: S,
+    pub wakes: W,
+}
+
+/// How many connections have a core at once, where the words don't say.
+const SETS: u32 = 256;
+
+/// Nets of a caller, whose switch is looked at or not.
+#[derive(Drop)]
+struct Switched<'s, S> {
+    nets: &'s mut S,
+    until_off: bool,
+}
+
+impl<'s, N: WaitsNet, S: Nets<N>> Nets<N> for Switched<'s, S> {
+    fn net(&mut self) -> Result<N, OutOfMemory> {
+        self.nets.net()
+    }
+
+    fn accepts_more(&mut self) -> bool {
+        !self.until_off || self.nets.accepts_more()
+    }
+}
+
+/// The times of a configuration.
+fn times_of(timeouts: &Timeouts) -> Times {
+    Times {
+        client: timeouts.client,
+        server: timeouts.server,
+        connect: timeouts.connect,
+        http_request: timeouts.http_request,
+        http_keep_alive: timeouts.http_keep_alive,
+    }
+}
+
+/// Writes that it listens, and where. An output that is gone is in nobody's way.
+fn write_listening<K: Sink>(
+    alloc: Global,
+    config: &Config,
+    out: &mut K,
+) -> Result<(), OutOfMemory> {
+    let line = listening_line(alloc, &config.bind)?;
+    let _ = out.write_all(line.as_slice());
+    Ok(())
+}
+
+/// Listens where the configuration says, and serves many clients at once.
+pub fn run_clients<L: Waits + Drop, N: WaitsNet<Link = L> + Drop, S: Nets<N>, W: Wakes<N>, K: Sink>(
+    alloc: Global,
+    config: &Config,
+    options: RunOptions,
+    many: &mut Many<N, S, W>,
+    out: &mut K,
+) -> Result<(), RunFault>
+    requires valid { IsValid config.now }
+    ensures { Runs N.seen many.old.net many.new.net (K.written out.old) (K.written out.new) config.now options result }
+{
+    match many.net.bind(&config.bind) {
+        Ok(()) => {}
+        Err(Fault::Failed) => return Err(RunFault::Net),
+        Err(Fault::OutOfMemory) => return Err(RunFault::OutOfMemory),
+    }
+    let cores = RecordCores {
+        config,
+        window: config.limits.bufsize,
+    };
+    let Ok(sets) = cores_for(alloc, &cores, options.sets.unwrap_or(SETS)) else {
+        return Err(RunFault::OutOfMemory);
+    };
+    if write_listening(alloc, config, out).is_err() {
+        return Err(RunFault::OutOfMemory);
+    }
+    let mut nets = Switched {
+        nets: &mut many.nets,
+        until_off: options.until_input_ends,
+    };
+    let plan = Plan {
+        alloc,
+        to: &config.server,
+        times: times_of(&config.timeouts),
+        connections: options.connections,
+    };
+    run(&mut many.net, &mut nets, &mut many.wakes, out, sets, &plan)
+}

@@ -1,0 +1,36 @@
+-- The options of `run`.
+use Rattle.std.specs.Prelude.{◌&&◌, ℕ, true, false, not, List, [], ◌∷◌, Option, None, Some, is_some, if◌then◌else◌, option_map, option_and_then, nat_le, codes, bytes_eq}
+use Rattle.std.specs.Option.{option_map_or}
+use Rattle.px_bytes.specs.Numbers.{decimal_of}
+use Rattle.px_command.specs.declared.options.RunOptions.{RunOptions}
+
+-- no option was said
+abbrev pub nothing_said : RunOptions
+nothing_said = record { sets = None; connections = None; until_input_ends = false }
+
+-- the number within bounds that 1 to 10 decimal digits are
+abbrev pub number_within : (least most : ℕ) → (word : List ℕ) → Option ℕ
+number_within least most word =
+    option_and_then (λ n. if nat_le least n && nat_le n most then Some n else None) (decimal_of 10 word)
+
+-- what is said with a word more, which is `--until-input-ends`; none where it is another, or was said before
+abbrev pub with_flag : RunOptions → (word : List ℕ) → Option RunOptions
+with_flag said word =
+    if bytes_eq word (codes "--until-input-ends") && not said.until_input_ends then Some (record said { until_input_ends = true }) else None
+
+-- what is said with two words more, which are `--sets` and 1 to 4096, or `--connections` and 1 to 1000000; none where they are others, or that was
+-- said before
+abbrev pub with_number : RunOptions → (name value : List ℕ) → Option RunOptions
+with_number said name value =
+    if bytes_eq name (codes "--sets")
+    then (if is_some said.sets then None else option_map (λ n. record said { sets = Some n }) (number_within 1 4096 value))
+    else (if bytes_eq name (codes "--connections") && not (is_some said.connections)
+    then option_map (λ n. record said { connections = Some n }) (number_within 1 1000000 value) else None)
+
+-- what the words say beside what was said before them, where they are options, in any order, each of which is said once at most
+unfoldable pub options_behind : RunOptions → List (List ℕ) → Option RunOptions
+options_behind said [] = Some said
+options_behind said (word ∷ []) = with_flag said word
+options_behind said (word ∷ value ∷ rest) =
+    option_map_or (λ next. options_behind next (value ∷ rest)) (with_flag said word)
+    (option_and_then (λ next. options_behind next rest) (with_number said word value))

@@ -1,0 +1,103 @@
+//! The options of `run`, in any order, each at most once.
+ghost use Rattle.std.specs.Prelude.{◌≡◌, map, string_bytes};
+ghost use Rattle.px_command.specs.Options.{nothing_said, number_within, options_behind, with_flag, with_number};
+
+use crate::words::number;
+
+/// What the words behind `run CFG` say.
+#[derive(Clone, Copy)]
+pub struct RunOptions {
+    /// How many connections have a core at once, at most.
+    pub sets: Option<u32>,
+    /// Behind how many connections it ends. Where nothing is said of it, it goes on.
+    pub connections: Option<u32>,
+    /// Nothing more is accepted once standard input has ended.
+    pub until_input_ends: bool,
+}
+
+/// What no word says.
+pub fn no_options() -> RunOptions
+    ensures { result ≡ nothing_said }
+{
+    RunOptions {
+        sets: None,
+        connections: None,
+        until_input_ends: false,
+    }
+}
+
+/// The number within bounds that a word is.
+fn within(word: &str, least: u32, most: u32) -> Option<u32>
+    ensures { result ≡ number_within least most word.now }
+{
+    number(word, least, most)
+}
+
+/// What is said with this word more, where it is an option by itself that wasn't said yet.
+fn flagged(said: RunOptions, word: &str) -> Option<RunOptions>
+    ensures { result ≡ with_flag said word.now }
+{
+    if word != "--until-input-ends" {
+        return None;
+    }
+    if said.until_input_ends {
+        return None;
+    }
+    Some(RunOptions {
+        sets: said.sets,
+        connections: said.connections,
+        until_input_ends: true,
+    })
+}
+
+/// What is said with these two words more, where they are an option with its number, and it wasn't said yet.
+fn numbered(said: RunOptions, name: &str, value: &str) -> Option<RunOptions>
+    ensures { result ≡ with_number said name.now value.now }
+{
+    if name == "--sets" {
+        if said.sets.is_some() {
+            return None;
+        }
+        let sets = within(value, 1, MOST_SETS)?;
+        return Some(RunOptions {
+            sets: Some(sets),
+            connections: said.connections,
+            until_input_ends: said.until_input_ends,
+        });
+    }
+    if name != "--connections" {
+        return None;
+    }
+    if said.connections.is_some() {
+        return None;
+    }
+    let connections = within(value, 1, MOST_CONNECTIONS)?;
+    Some(RunOptions {
+        sets: said.sets,
+        connections: Some(connections),
+        until_input_ends: said.until_input_ends,
+    })
+}
+
+/// The largest number of sets.
+pub const MOST_SETS: u32 = 4096;
+
+/// The largest number of connections behind which it ends.
+pub const MOST_CONNECTIONS: u32 = 1000000;
+
+/// What is said with these words more, where they are options that weren't said yet.
+pub fn options_behind(said: RunOptions, words: &[String]) -> Option<RunOptions>
+    ensures { result ≡ options_behind said (map string_bytes words.now) }
+{
+    let [word, rest @ ..] = words else {
+        return Some(said);
+    };
+    if let Some(next) = flagged(said, word.as_str()) {
+        return options_behind(next, rest);
+    }
+    let [value, behind @ ..] = rest else {
+        return None;
+    };
+    let next = numbered(said, word.as_str(), value.as_str())?;
+    options_behind(next, behind)
+}

@@ -1,0 +1,14 @@
+use Rattle.std.proofs.Common.{rules, ◌≡◌, Some}
+use Rattle.px_run.specs.Course.{StandsSomehow}
+use Rattle.px_run.proofs.Looks.{has_it}
+use Rattle.px_run.proofs.connection.free.Goals as goal
+
+pub give_set-requires-clause-sound : goal.give_set-requires-clause-sound
+give_set-requires-clause-sound g c =
+    let e : c.args.core.now ≡ Some c.in-Some.set = search rules in
+    has_it g.C.Machine.sound c.args.core.now c.in-Some.set e c.requires.sound
+
+pub returns-clause-fresh : goal.returns-clause-fresh
+returns-clause-fresh g c = λ cfg s h.
+    let e : c.args.core.now ≡ Some c.in-Some.set = search rules in
+    c.give_set.ensures.fresh cfg (has_it (StandsSomehow (g.C.Machine.stands cfg)) c.args.core.now c.in-Some.set e s) h

@@ -1,0 +1,49 @@
+-- Where a connection of many stands between two looks at it.
+use Rattle.std.specs.Prelude.{◌≡◌, ℕ, List, true, Option, Some, None, Result, is_some}
+use Rattle.session_model.specs.Meaning.{Meaning}
+use Rattle.session_core.specs.History.{Past}
+use Rattle.px_link.specs.Link.{Seen}
+use Rattle.px_link.specs.Net.{Place, NetSeen}
+use Rattle.htx_drive.specs.Machine.{CoreSeen}
+use Rattle.htx_drive.specs.declared.Ran.{Ran}
+use Rattle.htx_drive.specs.declared.SessionFault.{SessionFault}
+use Rattle.serve_run.specs.Lines.{answer_of}
+use Rattle.px_run.specs.Course.{IsSame, GoesOn, CameTo, MayStep}
+use Rattle.px_run.specs.declared.connection.Looked.{Looked}
+use Rattle.px_run.specs.declared.connection.Looked.TheVariants as looks
+
+-- nothing of it was touched
+pub record IsWaiting {L : Type 0} (seen : L → Seen) (wrote : L → List ℕ → Type 0) (first client : L) (server : Option L) (first_net net : NetSeen) : Type 0 where
+  pub same : IsSame seen wrote first client
+  pub no_server : server ≡ None
+  pub same_net : net ≡ first_net
+
+-- its session is under way, with this core
+pub record IsServing {C L : Type 0} (stands : C → Past → Type 0) (sees : C → CoreSeen) (sound : C → Type 0) (seen : L → Seen) (wrote : L → List ℕ → Type 0) (first client : L) (server : Option L) (to : Place) (first_net net : NetSeen) (core : C) : Type 0 where
+  pub goes : GoesOn stands sees core seen wrote first client server to first_net net
+  pub may : MayStep sees sound core server net None
+
+-- it has ended, and its client's link is closed
+pub record IsOver {C L : Type 0} (M : Meaning) (stands : C → Past → Type 0) (sees : C → CoreSeen) (seen : L → Seen) (wrote : L → List ℕ → Type 0) (first client : L) (server : Option L) (to : Place) (first_net net : NetSeen) (ran : Result Ran SessionFault) : Type 0 where
+  pub no_server : server ≡ None
+  pub came : CameTo M stands sees seen wrote first client to first_net net (Some ran)
+
+-- by what it came to, and by the core that it has: one that has ended has none
+abbrev pub IsAt : {C L : Type 0} → (M : Meaning) → (stands : C → Past → Type 0) → (sees : C → CoreSeen) → (sound : C → Type 0) → (seen : L → Seen) → (wrote : L → List ℕ → Type 0) → (first client : L) → (server : Option L) → Place → (first_net net : NetSeen) → Option (Result Ran SessionFault) → Option C → Type 0
+IsAt M stands sees sound seen wrote first client server to first_net net None None = IsWaiting seen wrote first client server first_net net
+IsAt M stands sees sound seen wrote first client server to first_net net None (Some core) = IsServing stands sees sound seen wrote first client server to first_net net core
+IsAt M stands sees sound seen wrote first client server to first_net net (Some ran) None = IsOver M stands sees seen wrote first client server to first_net net ran
+IsAt M stands sees sound seen wrote first client server to first_net net (Some ran) (Some core) = ⊥
+
+-- what a look says: one that ends does so in this look, and its number and its outcome are told
+abbrev pub LookedSo : Looked → (number : ℕ) → (was ran : Option (Result Ran SessionFault)) → Type 0
+LookedSo looks.Waits number was ran = ran ≡ was
+LookedSo looks.GoesOn number was ran = ran ≡ was
+LookedSo looks.Hungry number was ran = ran ≡ was
+LookedSo (looks.Ended told outcome) number was ran = (told ≡ number) × (was ≡ None) × (ran ≡ Some (answer_of outcome))
+LookedSo looks.Lost number was ran = (was ≡ None) × (is_some ran ≡ true)
+LookedSo looks.Leaves number was ran = (ran ≡ was) × (is_some ran ≡ true)
+
+-- it changes nothing of what the connection came to
+abbrev pub IsIdle : Looked → Type 0
+IsIdle looked = (number : ℕ) (ran : Option (Result Ran SessionFault)) → LookedSo looked number ran ran

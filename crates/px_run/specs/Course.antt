@@ -1,0 +1,102 @@
+-- A connection of many, from its accept to its end.
+use Rattle.std.specs.Prelude.{◌≡◌, ℕ, ◌<◌, List, [], ◌∷◌, ◌++◌, Bool, true, false, Option, Some, None, Result, Ok, Err, is_some, ⊤}
+use Rattle.session_model.specs.Meaning.{Meaning}
+use Rattle.session_core.specs.History.{Past}
+use Rattle.px_link.specs.declared.turns.Turn.{Turn}
+use Rattle.px_link.specs.Link.{Seen}
+use Rattle.px_link.specs.Net.{Place, Kept, NetSeen}
+use Rattle.htx_drive.specs.Machine.{CoreSeen}
+use Rattle.htx_drive.specs.declared.Ran.{Ran}
+use Rattle.htx_drive.specs.declared.SessionFault.{SessionFault}
+use Rattle.htx_drive.specs.Driven.{failed_by}
+use Rattle.htx_drive.specs.Weave.Woven.{Going, EndedSo, GivenUp}
+use Rattle.htx_drive.specs.Weave.Single.{Working}
+use Rattle.px_run.specs.declared.step.Stepped.{Stepped}
+use Rattle.px_run.specs.declared.step.Stepped.TheVariants as steps
+
+-- ---- what it begins with
+
+-- nothing was done with a net yet
+pub record IsNewNet (net : NetSeen) : Type 0 where
+  pub none_lent : net.lent ≡ 0
+  pub none_dialled : net.dialled ≡ []
+  pub none_kept : (kept : List Kept) → net.kept ≡ Some kept → kept ≡ []
+
+-- ---- links that were asked what can be done now
+
+-- what contracts see of a link stays
+pub record IsSame {L : Type 0} (seen : L → Seen) (wrote : L → List ℕ → Type 0) (old new : L) : Type 0 where
+  pub told : seen new ≡ seen old
+  pub written : (bytes : List ℕ) → wrote old bytes → wrote new bytes
+
+-- a server's link is open where it was, and the same
+abbrev pub IsSameServer : {L : Type 0} → (seen : L → Seen) → (wrote : L → List ℕ → Type 0) → (old new : Option L) → Type 0
+IsSameServer seen wrote None None = ⊤
+IsSameServer seen wrote None (Some link) = ⊥
+IsSameServer seen wrote (Some link) None = ⊥
+IsSameServer seen wrote (Some old) (Some new) = IsSame seen wrote old new
+
+-- ---- under way
+
+-- Some turns were taken, and whichever come next, its session is under way with those ahead.
+abbrev pub GoesOn : {C L : Type 0} → (stands : C → Past → Type 0) → (sees : C → CoreSeen) → C → (seen : L → Seen) → (wrote : L → List ℕ → Type 0) → (first client : L) → (server : Option L) → Place → (first_net net : NetSeen) → Type 0
+GoesOn stands sees core seen wrote first client server to first_net net =
+    (taken : List Turn) × ((ahead : List Turn) → (count : ℕ) × Going stands sees (taken ++ ahead) ahead core seen wrote first client server to first_net net count)
+
+-- the same behind its core's work
+abbrev pub WorksOn : {C L : Type 0} → (stands : C → Past → Type 0) → (sees : C → CoreSeen) → C → (seen : L → Seen) → (wrote : L → List ℕ → Type 0) → (first client : L) → (server : Option L) → Place → (first_net net : NetSeen) → Type 0
+WorksOn stands sees core seen wrote first client server to first_net net =
+    (taken : List Turn) × ((ahead : List Turn) → (count : ℕ) × Working stands sees (taken ++ ahead) ahead core seen wrote first client server to first_net net count)
+
+-- It has ended, and says how: some turns led to the session of its own links; or it was given up, since a write to its client failed or it found no
+-- memory, and what was written is a front.
+abbrev pub CameTo : {C L : Type 0} → (M : Meaning) → (stands : C → Past → Type 0) → (sees : C → CoreSeen) → (seen : L → Seen) → (wrote : L → List ℕ → Type 0) → (first client : L) → Place → (first_net net : NetSeen) → Option (Result Ran SessionFault) → Type 0
+CameTo M stands sees seen wrote first client to first_net net None = ⊥
+CameTo M stands sees seen wrote first client to first_net net (Some (Ok ran)) =
+    (all ahead : List Turn) × (count : ℕ) × EndedSo M stands sees all ahead seen wrote first client to first_net net ran count
+CameTo M stands sees seen wrote first client to first_net net (Some (Err fault)) =
+    (all : List Turn) × (count : ℕ) × GivenUp M stands sees all seen wrote first client (failed_by fault) to first_net net count
+
+-- its core stands for what happened to it
+abbrev pub StandsSomehow : {C : Type 0} → (stands : C → Past → Type 0) → C → Type 0
+StandsSomehow stands core = (past : Past) × stands core past
+
+-- ---- a step
+
+-- by what a step came to: it goes on, or has ended
+abbrev pub StepsTo : Stepped → (on ended : Type 0) → Type 0
+StepsTo steps.Moved on ended = on
+StepsTo steps.Opened on ended = on
+StepsTo steps.Waits on ended = on
+StepsTo steps.Ended on ended = ended
+StepsTo steps.Lost on ended = ended
+
+-- where it has ended with a core that may begin again, this is so of that
+abbrev pub OfCore : Stepped → Type 0 → Type 0
+OfCore steps.Moved P = ⊤
+OfCore steps.Opened P = ⊤
+OfCore steps.Waits P = ⊤
+OfCore steps.Ended P = P
+OfCore steps.Lost P = ⊤
+
+-- it came to its end, and its core stands for what happened to it, if it may begin again
+pub record EndsWith (did : Stepped) (came : Type 0) (stands : Type 0) : Type 0 where
+  pub so : came
+  pub core : OfCore did stands
+
+-- it has its core, and may go on
+pub record MayStep {C L : Type 0} (sees : C → CoreSeen) (sound : C → Type 0) (core : C) (server : Option L) (net : NetSeen) (ran : Option (Result Ran SessionFault)) : Type 0 where
+  pub is_sound : sound core
+  pub serving : (sees core).serving ≡ is_some server
+  pub lent : is_some server ≡ true → 0 < net.lent
+  pub goes_on : ran ≡ None
+
+-- it has ended
+pub record HasCome {L : Type 0} (did : Stepped) (sound : Type 0) (server : Option L) (ran : Option (Result Ran SessionFault)) : Type 0 where
+  pub is_sound : OfCore did sound
+  pub no_server : server ≡ None
+  pub came : is_some ran ≡ true
+
+-- there is a core, and this is so of it
+abbrev pub HasCore : {C : Type 0} → Option C → (C → Type 0) → Type 0
+HasCore {C} held P = (core : C) × (held ≡ Some core) × P core

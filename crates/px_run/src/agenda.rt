@@ -1,0 +1,261 @@
+//! Who is looked at next, and when. No contract speaks of it: what a connection does is right in any order.
+
+ghost use Rattle.std.specs.Prelude.{◌<◌, IfSome, vec_len};
+
+use crate::pace::Pace;
+use crate::{Call, Times};
+use px_link::{OutOfMemory, Wake};
+use std::alloc::Global;
+
+/// How long it takes until an accept is tried again that failed, in milliseconds.
+const RETRY: u64 = 100;
+
+/// How many accepts in a row may fail while no connection is open.
+const MOST_FAILED: u32 = 100;
+
+/// Who is looked at next, and when.
+#[derive(Drop)]
+pub(crate) struct Agenda {
+    /// Of each place, when its connection is looked at again.
+    pub paces: Vec<Pace>,
+    /// The places that are looked at in this round.
+    pub now_due: Vec<usize>,
+    /// Those that are looked at in the next.
+    due: Vec<usize>,
+    /// Those that go on once a core is free, in their order.
+    hungry: Vec<usize>,
+    /// Places at which no connection is.
+    free: Vec<usize>,
+    /// What the last wait told.
+    pub woken: Vec<Wake>,
+    /// No deadline comes before this time.
+    pub next: Option<u64>,
+    /// A link may wait to be accepted.
+    pub may_accept: bool,
+    /// When an accept is tried again that failed.
+    retry: Option<u64>,
+    /// How many accepts in a row failed.
+    failed: u32,
+}
+
+/// The sooner of two times.
+fn sooner(one: Option<u64>, other: Option<u64>) -> Option<u64> {
+    match (one, other) {
+        (Some(one), Some(other)) => Some(one.min(other)),
+        (Some(one), None) => Some(one),
+        (None, other) => other,
+    }
+}
+
+/// So many places are free, the first of which is taken first.
+fn all_free(alloc: Global, places: usize) -> Result<Vec<usize>, OutOfMemory> {
+    let mut free = Vec::new(alloc);
+    for before in 0..places {
+        free.push(places - 1 - before)?;
+    }
+    Ok(free)
+}
+
+/// The pace of each of so many places.
+fn all_paces(alloc: Global, places: usize, times: &Times) -> Result<Vec<Pace>, OutOfMemory> {
+    let mut paces = Vec::new(alloc);
+    for place in 0..places {
+        paces.push(Pace::new(place, 0, times))?;
+    }
+    Ok(paces)
+}
+
+impl Agenda {
+    /// Nobody is looked at, and so many places are free.
+    pub fn new(alloc: Global, places: usize, times: &Times) -> Result<Agenda, OutOfMemory> {
+        Ok(Agenda {
+            paces: all_paces(alloc, places, times)?,
+            now_due: Vec::new(alloc),
+            due: Vec::new(alloc),
+            hungry: Vec::new(alloc),
+            free: all_free(alloc, places)?,
+            woken: Vec::new(alloc),
+            next: None,
+            may_accept: true,
+            retry: None,
+            failed: 0,
+        })
+    }
+
+    /// How long a wait takes at most: not at all where something can be done now.
+    pub fn patience(&self, accepts: bool, now: u64) -> Option<u64> {
+        let accepts_now = accepts && self.may_accept && !self.free.is_empty();
+        if accepts_now || !self.due.is_empty() {
+            return Some(0);
+        }
+        match sooner(self.next, self.retry) {
+            Some(at) => Some(at.saturating_sub(now)),
+            None => None,
+        }
+    }
+
+    /// Those that were due are looked at now.
+    pub fn begin_round(&mut self, now: u64) {
+        std::mem::swap(&mut self.now_due, &mut self.due);
+        self.due.truncate(0);
+        if let Some(at) = self.retry {
+            if at <= now {
+                self.retry = None;
+                self.may_accept = true;
+            }
+        }
+    }
+
+    /// The connection at this place is looked at next.
+    pub fn call_next(&mut self, place: usize) -> Result<(), OutOfMemory> {
+        if place >= self.paces.len() {
+            return Ok(());
+        }
+        if self.paces[place].due {
+            return Ok(());
+        }
+        self.paces[place].due = true;
+        self.due.push(place)?;
+        Ok(())
+    }
+
+    /// The connection at this place is looked at when its deadline comes.
+    pub fn rest(&mut self, place: usize, times: &Times) {
+        if place >= self.paces.len() {
+            return;
+        }
+        self.paces[place].rests(times);
+        let until = self.paces[place].until;
+        self.next = sooner(self.next, until);
+    }
+
+    /// The connection at this place goes on once a core is free.
+    pub fn wait_for_core(&mut self, place: usize) -> Result<(), OutOfMemory> {
+        self.hungry.push(place)?;
+        Ok(())
+    }
+
+    /// A core is free: the first of those that wait for one is looked at next.
+    pub fn feed(&mut self) -> Result<(), OutOfMemory> {
+        if self.hungry.is_empty() {
+            return Ok(());
+        }
+        let place = self.hungry.remove(0);
+        self.call_next(place)
+    }
+
+    /// The place of this number of those that are looked at in this round, which has a pace.
+    pub fn due_at(&self, at: usize) -> Option<usize>
+        ensures within { IfSome result (λ place. place < vec_len self.now.paces) }
+    {
+        if at >= self.now_due.len() {
+            return None;
+        }
+        let place = self.now_due[at];
+        if place >= self.paces.len() {
+            return None;
+        }
+        Some(place)
+    }
+
+    /// Whether some deadline may have come.
+    pub fn deadline_comes(&mut self, now: u64) -> bool {
+        match self.next {
+            Some(at) => {
+                if at > now {
+                    return false;
+                }
+                self.next = None;
+                true
+            }
+            None => false,
+        }
+    }
+
+    /// The call that fails of the connection at this place, if its deadline has come.
+    pub fn overdue(&mut self, place: usize, times: &Times, now: u64) -> Option<Call> {
+        if place >= self.paces.len() {
+            return None;
+        }
+        match self.paces[place].until {
+            Some(at) => {
+                if at > now {
+                    self.next = sooner(self.next, Some(at));
+                    return None;
+                }
+                self.paces[place].expires(times, now)
+            }
+            None => None,
+        }
+    }
+
+    /// The kept connection at this place rests no longer.
+    pub fn ends_rest(&mut self, place: usize) -> Result<(), OutOfMemory> {
+        if place < self.paces.len() {
+            self.paces[place].expired = true;
+        }
+        self.call_next(place)
+    }
+
+    /// A connection at this place was accepted now.
+    pub fn begin(&mut self, place: usize, now: u64, times: &Times) -> Result<(), OutOfMemory> {
+        self.failed = 0;
+        if place >= self.paces.len() {
+            return Ok(());
+        }
+        self.paces[place] = Pace::new(place, now, times);
+        self.call_next(place)
+    }
+
+    /// Whether some connection waits for a core.
+    pub fn lacks_cores(&self) -> bool {
+        !self.hungry.is_empty()
+    }
+
+    /// The place of the kept connection that has rested longest.
+    pub fn longest_rested(&self) -> Option<usize> {
+        let mut found = None;
+        let mut since = u64::MAX;
+        let mut place = 0usize;
+        for pace in &self.paces {
+            if let Some(rested) = pace.rested_since() {
+                if rested < since {
+                    since = rested;
+                    found = Some(place);
+                }
+            }
+            place += 1;
+        }
+        found
+    }
+
+    /// A place at which no connection is.
+    pub fn free_place(&mut self) -> Option<usize> {
+        self.free.pop()
+    }
+
+    /// Whether there is one.
+    pub fn has_place(&self) -> bool {
+        !self.free.is_empty()
+    }
+
+    /// No connection is at this place any more.
+    pub fn leave(&mut self, place: usize) -> Result<(), OutOfMemory> {
+        self.free.push(place)?;
+        Ok(())
+    }
+
+    /// An accept failed. It is tried again later.
+    pub fn accept_failed(&mut self, place: usize, now: u64) -> Result<(), OutOfMemory> {
+        self.failed = self.failed.saturating_add(1);
+        self.may_accept = false;
+        self.retry = Some(now.saturating_add(RETRY));
+        self.free.push(place)?;
+        Ok(())
+    }
+
+    /// So many accepts in a row failed that no more are tried while no connection is open.
+    pub fn gives_up(&self) -> bool {
+        self.failed >= MOST_FAILED
+    }
+}

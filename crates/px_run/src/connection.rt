@@ -1,0 +1,347 @@
+//! One connection of many, from its accept until its client's link is given back.
+ghost use Rattle.std.specs.Prelude.{◌≡◌, ℕ, Option, Some, None, Result, true, false, is_some, IfSome};
+ghost use Rattle.std.specs.List.{AllByRecursion};
+ghost use Rattle.px_link.specs.Net.{address_of, Place};
+ghost use Rattle.htx_drive.specs.Weave.State.{IsReady, IsFresh};
+ghost use Rattle.px_run.specs.Course.{IsSame, IsSameServer, GoesOn, CameTo, StandsSomehow, StepsTo, EndsWith, MayStep, HasCome, HasCore};
+ghost use Rattle.htx_drive.specs.declared.Ran.{Ran};
+ghost use Rattle.htx_drive.specs.declared.SessionFault.{SessionFault};
+ghost use Rattle.px_run.specs.Connection.{IsAt, LookedSo, IsIdle};
+
+use crate::pace::Pace;
+use crate::step::{Stepped, Tools, step};
+use htx_drive::weave::{Conn, Resets};
+use px_link::{Address, Waits, WaitsNet, Wakes};
+use serve_run::{Outcome, Ran, SessionFault};
+
+/// How many steps one connection makes in a row, while others wait.
+const STEPS: usize = 16;
+
+/// One connection. It has no core before its client gives its first bytes, and none once it has ended.
+#[derive(Drop)]
+pub(crate) struct Connection<C, L, N> {
+    /// Its number in the order in which links were accepted, from 1.
+    pub number: u32,
+    pub conn: Conn<L, N>,
+    pub core: Option<C>,
+}
+
+/// What a look at a connection came to.
+#[derive(Clone, Copy)]
+pub(crate) enum Looked {
+    /// It waits for an event or its deadline.
+    Waits,
+    /// It can go on at once.
+    GoesOn,
+    /// It can go on once a core is free.
+    Hungry,
+    /// The connection of this number has ended so now: its line is to be written.
+    Ended(u32, Outcome),
+    /// It was given up now, since it found no memory.
+    Lost,
+    /// It had ended before, and its client's link can be given back.
+    Leaves,
+}
+
+/// Has later waits tell of a server's link that was opened.
+fn watch_server<L: Waits, N: WaitsNet<Link = L>, W: Wakes<N>>(
+    conn: &mut Conn<L, N>,
+    place: usize,
+    wakes: &mut W,
+)
+    ensures client { conn.new.client ≡ conn.old.client }
+    ensures server { IsSameServer L.seen L.wrote conn.old.server conn.new.server }
+    ensures net { conn.new.net ≡ conn.old.net }
+    ensures ran { conn.new.ran ≡ conn.old.ran }
+{
+    match &mut conn.server {
+        Some(link) => wakes.watch_server(place, link),
+        None => {}
+    }
+}
+
+/// Has later waits tell of the connect that is waited for.
+fn watch_connect<L: Waits, N: WaitsNet<Link = L>, W: Wakes<N>>(
+    conn: &mut Conn<L, N>,
+    connects: bool,
+    place: usize,
+    wakes: &mut W,
+)
+    ensures client { conn.new.client ≡ conn.old.client }
+    ensures server { conn.new.server ≡ conn.old.server }
+    ensures net { N.seen conn.new.net ≡ N.seen conn.old.net }
+    ensures ran { conn.new.ran ≡ conn.old.ran }
+{
+    if connects {
+        wakes.watch_connect(place, &mut conn.net);
+    }
+}
+
+/// A step of a connection that has this core, and what waits are to tell of behind it.
+fn watched_step<C: Resets, L: Waits, N: WaitsNet<Link = L>, W: Wakes<N>>(
+    conn: &mut Conn<L, N>,
+    core: &mut C,
+    pace: &mut Pace,
+    wakes: &mut W,
+    to: &Address,
+    tools: &mut Tools,
+) -> Stepped
+    requires may { MayStep C.seen C.sound core.old conn.old.server (N.seen conn.old.net) conn.old.ran }
+    ensures goes { (cfg : C.Settings) (first : L) (first_net : N) → GoesOn (C.stands cfg) C.seen core.old L.seen L.wrote first conn.old.client conn.old.server (address_of to.now) (N.seen first_net) (N.seen conn.old.net)
+        → StepsTo result (GoesOn (C.stands cfg) C.seen core.new L.seen L.wrote first conn.new.client conn.new.server (address_of to.now) (N.seen first_net) (N.seen conn.new.net))
+        (EndsWith result (CameTo (C.meaning cfg) (C.stands cfg) C.seen L.seen L.wrote first conn.new.client (address_of to.now) (N.seen first_net) (N.seen conn.new.net) conn.new.ran) (StandsSomehow (C.stands cfg) core.new)) }
+    ensures may { StepsTo result (MayStep C.seen C.sound core.new conn.new.server (N.seen conn.new.net) conn.new.ran) (HasCome result (C.sound core.new) conn.new.server conn.new.ran) }
+{
+    match step(conn, core, pace, to, tools) {
+        Stepped::Moved => Stepped::Moved,
+        Stepped::Opened => {
+            watch_server(conn, pace.place, wakes);
+            Stepped::Moved
+        }
+        Stepped::Waits => {
+            watch_connect(conn, pace.connects(), pace.place, wakes);
+            Stepped::Waits
+        }
+        Stepped::Ended => Stepped::Ended,
+        Stepped::Lost => Stepped::Lost,
+    }
+}
+
+/// Steps of a connection that has this core, so many at most: where it then waits, and else whether it goes on.
+fn moves<C: Resets, L: Waits, N: WaitsNet<Link = L>, W: Wakes<N>>(
+    conn: &mut Conn<L, N>,
+    core: &mut C,
+    pace: &mut Pace,
+    wakes: &mut W,
+    to: &Address,
+    tools: &mut Tools,
+) -> Stepped
+    requires may { MayStep C.seen C.sound core.old conn.old.server (N.seen conn.old.net) conn.old.ran }
+    ensures goes { (cfg : C.Settings) (first : L) (first_net : N) → GoesOn (C.stands cfg) C.seen core.old L.seen L.wrote first conn.old.client conn.old.server (address_of to.now) (N.seen first_net) (N.seen conn.old.net)
+        → StepsTo result (GoesOn (C.stands cfg) C.seen core.new L.seen L.wrote first conn.new.client conn.new.server (address_of to.now) (N.seen first_net) (N.seen conn.new.net))
+        (EndsWith result (CameTo (C.meaning cfg) (C.stands cfg) C.seen L.seen L.wrote first conn.new.client (address_of to.now) (N.seen first_net) (N.seen conn.new.net) conn.new.ran) (StandsSomehow (C.stands cfg) core.new)) }
+    ensures may { StepsTo result (MayStep C.seen C.sound core.new conn.new.server (N.seen conn.new.net) conn.new.ran) (HasCome result (C.sound core.new) conn.new.server conn.new.ran) }
+{
+    for _taken in 0..STEPS {
+        match watched_step(conn, core, pace, wakes, to, tools) {
+            Stepped::Moved => {}
+            Stepped::Opened => return Stepped::Opened,
+            Stepped::Waits => return Stepped::Waits,
+            Stepped::Ended => return Stepped::Ended,
+            Stepped::Lost => return Stepped::Lost,
+        }
+    }
+    Stepped::Moved
+}
+
+/// Takes back the core of a connection that has ended: nothing has happened to it, and it is free. There is room for it, since it was taken out before.
+fn give_set<C: Resets + Drop>(set: C, sets: &mut Vec<C>)
+    requires sound { C.sound set }
+    requires ready { AllByRecursion (IsReady C.seen C.sound) sets.old.items }
+    ensures ready { AllByRecursion (IsReady C.seen C.sound) sets.new.items }
+    ensures fresh { (cfg : C.Settings) → StandsSomehow (C.stands cfg) set → AllByRecursion (IsFresh (C.stands cfg)) sets.old.items → AllByRecursion (IsFresh (C.stands cfg)) sets.new.items }
+{
+    let mut set = set;
+    set.reset();
+    drop(sets.push(set));
+}
+
+/// What is said of a connection that has ended so.
+fn told(number: u32, ran: &Option<Result<Ran, SessionFault>>) -> Looked
+    requires ended { is_some ran.now ≡ true }
+    ensures looked { LookedSo result number None ran.now }
+{
+    match ran {
+        Some(Ok(ran)) => Looked::Ended(number, Outcome::Ended(*ran)),
+        Some(Err(SessionFault::ClientWrite)) => Looked::Ended(number, Outcome::ClientWrite),
+        Some(Err(SessionFault::Spent)) => Looked::Lost,
+        Some(Err(SessionFault::OutOfMemory)) => Looked::Lost,
+        None => unreachable!(),
+    }
+}
+
+/// Steps of a connection that has a core.
+fn go<C: Resets, L: Waits, N: WaitsNet<Link = L>, W: Wakes<N>>(
+    connection: &mut Connection<C, L, N>,
+    pace: &mut Pace,
+    wakes: &mut W,
+    to: &Address,
+    tools: &mut Tools,
+) -> Stepped
+    requires may { HasCore connection.old.core (λ core. MayStep C.seen C.sound core connection.old.conn.server (N.seen connection.old.conn.net) connection.old.conn.ran) }
+    ensures goes { (cfg : C.Settings) (first : L) (first_net : N)
+        → HasCore connection.old.core (λ core. GoesOn (C.stands cfg) C.seen core L.seen L.wrote first connection.old.conn.client connection.old.conn.server (address_of to.now) (N.seen first_net) (N.seen connection.old.conn.net))
+        → HasCore connection.new.core (λ core. StepsTo result (GoesOn (C.stands cfg) C.seen core L.seen L.wrote first connection.new.conn.client connection.new.conn.server (address_of to.now) (N.seen first_net) (N.seen connection.new.conn.net))
+        (EndsWith result (CameTo (C.meaning cfg) (C.stands cfg) C.seen L.seen L.wrote first connection.new.conn.client (address_of to.now) (N.seen first_net) (N.seen connection.new.conn.net) connection.new.conn.ran) (StandsSomehow (C.stands cfg) core))) }
+    ensures may { HasCore connection.new.core (λ core. StepsTo result (MayStep C.seen C.sound core connection.new.conn.server (N.seen connection.new.conn.net) connection.new.conn.ran) (HasCome result (C.sound core) connection.new.conn.server connection.new.conn.ran)) }
+    ensures number { connection.new.number ≡ connection.old.number }
+{
+    match &mut connection.core {
+        Some(core) => moves(&mut connection.conn, core, pace, wakes, to, tools),
+        None => unreachable!(),
+    }
+}
+
+/// The core of a connection that has ended is free.
+fn free<C: Resets + Drop>(core: &mut Option<C>, sets: &mut Vec<C>)
+    requires sound { HasCore core.old C.sound }
+    requires ready { AllByRecursion (IsReady C.seen C.sound) sets.old.items }
+    ensures none { core.new ≡ None }
+    ensures ready { AllByRecursion (IsReady C.seen C.sound) sets.new.items }
+    ensures fresh { (cfg : C.Settings) → HasCore core.old (StandsSomehow (C.stands cfg)) → AllByRecursion (IsFresh (C.stands cfg)) sets.old.items → AllByRecursion (IsFresh (C.stands cfg)) sets.new.items }
+{
+    match core.take() {
+        Some(set) => give_set(set, sets),
+        None => unreachable!(),
+    }
+}
+
+/// Steps of a connection that has a core, which is free behind its end, but for one that found no memory.
+fn moved<C: Resets + Drop, L: Waits, N: WaitsNet<Link = L>, W: Wakes<N>>(
+    connection: &mut Connection<C, L, N>,
+    sets: &mut Vec<C>,
+    pace: &mut Pace,
+    wakes: &mut W,
+    to: &Address,
+    tools: &mut Tools,
+) -> Looked
+    requires may { HasCore connection.old.core (λ core. MayStep C.seen C.sound core connection.old.conn.server (N.seen connection.old.conn.net) connection.old.conn.ran) }
+    requires ready { AllByRecursion (IsReady C.seen C.sound) sets.old.items }
+    ensures ready { AllByRecursion (IsReady C.seen C.sound) sets.new.items }
+    ensures at { (cfg : C.Settings) (first : L) (first_net : N) → HasCore connection.old.core (λ core. GoesOn (C.stands cfg) C.seen core L.seen L.wrote first connection.old.conn.client connection.old.conn.server (address_of to.now) (N.seen first_net) (N.seen connection.old.conn.net))
+        → IsAt (C.meaning cfg) (C.stands cfg) C.seen C.sound L.seen L.wrote first connection.new.conn.client connection.new.conn.server (address_of to.now) (N.seen first_net) (N.seen connection.new.conn.net) connection.new.conn.ran connection.new.core }
+    ensures fresh { (cfg : C.Settings) (first : L) (first_net : N) → HasCore connection.old.core (λ core. GoesOn (C.stands cfg) C.seen core L.seen L.wrote first connection.old.conn.client connection.old.conn.server (address_of to.now) (N.seen first_net) (N.seen connection.old.conn.net))
+        → AllByRecursion (IsFresh (C.stands cfg)) sets.old.items → AllByRecursion (IsFresh (C.stands cfg)) sets.new.items }
+    ensures looked { LookedSo result connection.old.number None connection.new.conn.ran }
+    ensures number { connection.new.number ≡ connection.old.number }
+{
+    match go(connection, pace, wakes, to, tools) {
+        Stepped::Moved => Looked::GoesOn,
+        Stepped::Opened => Looked::GoesOn,
+        Stepped::Waits => Looked::Waits,
+        Stepped::Ended => {
+            pace.ended(tools.now);
+            free(&mut connection.core, sets);
+            told(connection.number, &connection.conn.ran)
+        }
+        Stepped::Lost => {
+            pace.ended(tools.now);
+            drop(connection.core.take());
+            told(connection.number, &connection.conn.ran)
+        }
+    }
+}
+
+/// A core for a connection that has none, where one is free.
+fn take_set<C: Resets + Drop>(core: &mut Option<C>, sets: &mut Vec<C>, pace: &mut Pace) -> bool
+    requires none { core.old ≡ None }
+    requires ready { AllByRecursion (IsReady C.seen C.sound) sets.old.items }
+    ensures ready { AllByRecursion (IsReady C.seen C.sound) sets.new.items }
+    ensures fresh { (cfg : C.Settings) → AllByRecursion (IsFresh (C.stands cfg)) sets.old.items → AllByRecursion (IsFresh (C.stands cfg)) sets.new.items }
+    ensures took { result ≡ true → HasCore core.new (λ set. IsReady C.seen C.sound set × ((cfg : C.Settings) → AllByRecursion (IsFresh (C.stands cfg)) sets.old.items → IsFresh (C.stands cfg) set)) }
+    ensures none { result ≡ false → core.new ≡ None }
+{
+    match sets.pop() {
+        Some(set) => {
+            pace.room = Some(set.client_room());
+            match core.replace(set) {
+                None => true,
+                Some(_) => unreachable!(),
+            }
+        }
+        None => false,
+    }
+}
+
+/// A look at a connection that has no core: whether it gets one, since its client gives its first bytes.
+fn sit_down<C: Resets + Drop, L: Waits, N: WaitsNet<Link = L>>(
+    connection: &mut Connection<C, L, N>,
+    sets: &mut Vec<C>,
+    pace: &mut Pace,
+) -> Option<Looked>
+    requires none { connection.old.core ≡ None }
+    requires ready { AllByRecursion (IsReady C.seen C.sound) sets.old.items }
+    ensures ready { AllByRecursion (IsReady C.seen C.sound) sets.new.items }
+    ensures fresh { (cfg : C.Settings) → AllByRecursion (IsFresh (C.stands cfg)) sets.old.items → AllByRecursion (IsFresh (C.stands cfg)) sets.new.items }
+    ensures took { result ≡ None → HasCore connection.new.core (λ set. IsReady C.seen C.sound set × ((cfg : C.Settings) → AllByRecursion (IsFresh (C.stands cfg)) sets.old.items → IsFresh (C.stands cfg) set)) }
+    ensures none { is_some result ≡ true → connection.new.core ≡ None }
+    ensures looked { IfSome result IsIdle }
+    ensures client { IsSame L.seen L.wrote connection.old.conn.client connection.new.conn.client }
+    ensures server { connection.new.conn.server ≡ connection.old.conn.server }
+    ensures net { connection.new.conn.net ≡ connection.old.conn.net }
+    ensures ran { connection.new.conn.ran ≡ connection.old.conn.ran }
+    ensures number { connection.new.number ≡ connection.old.number }
+{
+    if !connection.conn.client.can_read() {
+        return Some(Looked::Waits);
+    }
+    if take_set(&mut connection.core, sets, pace) {
+        return None;
+    }
+    Some(Looked::Hungry)
+}
+
+/// The same of one that may have a core already.
+fn seat<C: Resets + Drop, L: Waits, N: WaitsNet<Link = L>>(
+    connection: &mut Connection<C, L, N>,
+    sets: &mut Vec<C>,
+    pace: &mut Pace,
+) -> Option<Looked>
+    requires goes_on { connection.old.conn.ran ≡ None }
+    requires ready { AllByRecursion (IsReady C.seen C.sound) sets.old.items }
+    ensures ready { AllByRecursion (IsReady C.seen C.sound) sets.new.items }
+    ensures fresh { (cfg : C.Settings) → AllByRecursion (IsFresh (C.stands cfg)) sets.old.items → AllByRecursion (IsFresh (C.stands cfg)) sets.new.items }
+    ensures at { (cfg : C.Settings) (first : L) (to : Place) (first_net : N) → AllByRecursion (IsFresh (C.stands cfg)) sets.old.items → IsAt (C.meaning cfg) (C.stands cfg) C.seen C.sound L.seen L.wrote first connection.old.conn.client connection.old.conn.server to (N.seen first_net) (N.seen connection.old.conn.net) connection.old.conn.ran connection.old.core
+        → IsAt (C.meaning cfg) (C.stands cfg) C.seen C.sound L.seen L.wrote first connection.new.conn.client connection.new.conn.server to (N.seen first_net) (N.seen connection.new.conn.net) connection.new.conn.ran connection.new.core }
+    ensures has { result ≡ None → is_some connection.new.core ≡ true }
+    ensures looked { IfSome result IsIdle }
+    ensures ran { connection.new.conn.ran ≡ None }
+    ensures number { connection.new.number ≡ connection.old.number }
+{
+    if connection.core.is_some() {
+        return None;
+    }
+    sit_down(connection, sets, pace)
+}
+
+/// A look at a connection that has ended: whether its client's link can be given back.
+fn leaves<L: Waits>(client: &mut L, pace: &Pace) -> Looked
+    ensures client { IsSame L.seen L.wrote client.old client.new }
+    ensures looked { (number : ℕ) (ran : Option (Result Ran SessionFault)) → is_some ran ≡ true → LookedSo result number ran ran }
+{
+    if pace.expired {
+        return Looked::Leaves;
+    }
+    if client.can_keep() {
+        return Looked::Leaves;
+    }
+    Looked::Waits
+}
+
+/// A look at a connection: it gets a core, makes steps, ends or leaves.
+pub(crate) fn look<C: Resets + Drop, L: Waits, N: WaitsNet<Link = L>, W: Wakes<N>>(
+    connection: &mut Connection<C, L, N>,
+    sets: &mut Vec<C>,
+    pace: &mut Pace,
+    wakes: &mut W,
+    to: &Address,
+    tools: &mut Tools,
+) -> Looked
+    requires at { (cfg : C.Settings) × (first : L) × (first_net : N) × AllByRecursion (IsFresh (C.stands cfg)) sets.old.items × IsAt (C.meaning cfg) (C.stands cfg) C.seen C.sound L.seen L.wrote first connection.old.conn.client connection.old.conn.server (address_of to.now) (N.seen first_net) (N.seen connection.old.conn.net) connection.old.conn.ran connection.old.core }
+    requires ready { AllByRecursion (IsReady C.seen C.sound) sets.old.items }
+    ensures ready { AllByRecursion (IsReady C.seen C.sound) sets.new.items }
+    ensures at { (cfg : C.Settings) (first : L) (first_net : N) → AllByRecursion (IsFresh (C.stands cfg)) sets.old.items → IsAt (C.meaning cfg) (C.stands cfg) C.seen C.sound L.seen L.wrote first connection.old.conn.client connection.old.conn.server (address_of to.now) (N.seen first_net) (N.seen connection.old.conn.net) connection.old.conn.ran connection.old.core
+        → IsAt (C.meaning cfg) (C.stands cfg) C.seen C.sound L.seen L.wrote first connection.new.conn.client connection.new.conn.server (address_of to.now) (N.seen first_net) (N.seen connection.new.conn.net) connection.new.conn.ran connection.new.core }
+    ensures fresh { (cfg : C.Settings) (first : L) (first_net : N) → AllByRecursion (IsFresh (C.stands cfg)) sets.old.items → IsAt (C.meaning cfg) (C.stands cfg) C.seen C.sound L.seen L.wrote first connection.old.conn.client connection.old.conn.server (address_of to.now) (N.seen first_net) (N.seen connection.old.conn.net) connection.old.conn.ran connection.old.core
+        → AllByRecursion (IsFresh (C.stands cfg)) sets.new.items }
+    ensures looked { LookedSo result connection.old.number connection.old.conn.ran connection.new.conn.ran }
+    ensures number { connection.new.number ≡ connection.old.number }
+{
+    if connection.conn.ran.is_some() {
+        return leaves(&mut connection.conn.client, pace);
+    }
+    if let Some(looked) = seat(connection, sets, pace) {
+        return looked;
+    }
+    moved(connection, sets, pace, wakes, to, tools)
+}

@@ -1,0 +1,40 @@
+//! What the loop is told, what it asks of its caller, and why it stops.
+ghost use Rattle.std.specs.Prelude.{◌≡◌, IfOk};
+ghost use Rattle.px_run.specs.Course.{IsNewNet};
+
+use crate::Times;
+use px_link::{Address, OutOfMemory, WaitsNet};
+use std::alloc::Global;
+
+/// What the loop is told.
+#[derive(Drop)]
+pub struct Plan<'a> {
+    pub alloc: Global,
+    /// Where the servers are.
+    pub to: &'a Address,
+    /// How long each is waited for.
+    pub times: Times,
+    /// After how many connections it ends; with none it goes on.
+    pub connections: Option<u32>,
+}
+
+/// What the loop asks of its caller, besides a net that listens, a wait and an output.
+pub trait Nets<N: WaitsNet> {
+    /// A net of its own for a connection: what that connects to its servers. Nothing was done with it yet.
+    fn net(&mut self) -> Result<N, OutOfMemory>
+        ensures new { IfOk result (λ net. IsNewNet (N.seen net)) };
+
+    /// Whether a further connection may be accepted. Once it may not, what is in hand is finished, and the loop ends.
+    fn accepts_more(&mut self) -> bool;
+}
+
+/// Why the loop stopped before its end.
+#[derive(Clone, Copy)]
+pub enum RunFault {
+    /// A hundred accepts in a row failed while no connection was open, or the wait failed.
+    Net,
+    /// The machine has no memory left.
+    OutOfMemory,
+    /// So many rounds were made that no number counts them.
+    Spent,
+}

@@ -1,0 +1,124 @@
+//! The loop over many connections.
+
+use crate::agenda::Agenda;
+use crate::connection::Connection;
+use crate::hall::{Hall, is_empty, no_places};
+use crate::lines::Output;
+use crate::rounds::{accepts, accepts_more, looks, wait};
+use crate::step::Tools;
+use crate::{Nets, Plan, RunFault};
+use htx_drive::MOST_READ;
+use htx_drive::weave::{Resets, abandon};
+use px_link::{OutOfMemory, Sink, Waits, WaitsNet, Wakes};
+
+/// How many connections may be open for each core: those that have none yet cost a link alone.
+const PLACES_A_SET: usize = 4;
+
+/// Rounds, until no connection is open and no further one is to be accepted.
+fn rounds<
+    C: Resets + Drop,
+    L: Waits + Drop,
+    N: WaitsNet<Link = L> + Drop,
+    S: Nets<N>,
+    W: Wakes<N>,
+    K: Sink,
+>(
+    hall: &mut Hall<C, L, N>,
+    net: &mut N,
+    nets: &mut S,
+    wakes: &mut W,
+    out: &mut K,
+    plan: &Plan,
+) -> Result<(), RunFault> {
+    let mut agenda = match Agenda::new(plan.alloc, hall.places.len(), &plan.times) {
+        Ok(agenda) => agenda,
+        Err(OutOfMemory) => return Err(RunFault::OutOfMemory),
+    };
+    for _ in 0..u64::MAX {
+        let more = accepts_more(hall.accepted, plan, nets);
+        if !more && is_empty(&hall.places) {
+            return Ok(());
+        }
+        wait(&mut hall.places, &mut agenda, wakes, more, hall.tools.now)?;
+        hall.tools.now = wakes.now();
+        match looks(hall, &mut agenda, net, wakes, out, plan) {
+            Ok(()) => {}
+            Err(OutOfMemory) => return Err(RunFault::OutOfMemory),
+        }
+        accepts(hall, &mut agenda, net, nets, wakes, plan)?;
+        if agenda.gives_up() && is_empty(&hall.places) {
+            return Err(RunFault::Net);
+        }
+    }
+    Err(RunFault::Spent)
+}
+
+/// Gives up the connection of a place: each of its links that is still open is closed Failed, and all are given back.
+fn leave<C: Resets + Drop, L: Waits + Drop, N: WaitsNet<Link = L> + Drop>(
+    at: &mut Option<Connection<C, L, N>>,
+    net: &mut N,
+) {
+    match at.take() {
+        Some(connection) => {
+            let mut conn = connection.conn;
+            if conn.ran.is_none() {
+                abandon::<C, L, N>(&mut conn);
+            }
+            net.keep(conn.client);
+        }
+        None => {}
+    }
+}
+
+/// Gives up the connection at each place.
+fn leave_all<C: Resets + Drop, L: Waits + Drop, N: WaitsNet<Link = L> + Drop>(
+    places: &mut [Option<Connection<C, L, N>>],
+    net: &mut N,
+) {
+    for place in 0..places.len() {
+        leave(&mut places[place], net);
+    }
+}
+
+/// Serves many connections at once, each by the session of a core of its own, until so many were accepted and have ended, or until the caller accepts no more
+/// and none is open. The net is bound already. `sets` are the cores that connections take in turn.
+pub fn run<
+    C: Resets + Drop,
+    L: Waits + Drop,
+    N: WaitsNet<Link = L> + Drop,
+    S: Nets<N>,
+    W: Wakes<N>,
+    K: Sink,
+>(
+    net: &mut N,
+    nets: &mut S,
+    wakes: &mut W,
+    out: &mut K,
+    sets: Vec<C>,
+    plan: &Plan,
+) -> Result<(), RunFault> {
+    let count = sets.len().saturating_mul(PLACES_A_SET);
+    let places = match no_places(plan.alloc, count) {
+        Ok(places) => places,
+        Err(OutOfMemory) => return Err(RunFault::OutOfMemory),
+    };
+    wakes.watch_listener(net);
+    let tools = Tools {
+        now: wakes.now(),
+        buffer: [0; MOST_READ],
+    };
+    let mut hall = Hall {
+        places,
+        sets,
+        accepted: 0,
+        output: Output::Open,
+        tools,
+    };
+    match rounds(&mut hall, net, nets, wakes, out, plan) {
+        Ok(()) => Ok(()),
+        Err(fault) => {
+            leave_all(&mut hall.places, net);
+            Err(fault)
+        }
+    }
+}
