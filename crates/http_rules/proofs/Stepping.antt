@@ -2,10 +2,8 @@
 use Rattle.std.proofs.Common.{◌≡◌, ℕ, List, [], ◌∷◌, Bool, true, false, cond, refl, sym, ap, ◌∙◌, subst}
 use Rattle.std.specs.Prelude.{not, ◌&&◌, ◌||◌}
 use Rattle.std.proofs.lemmas.Bool.{false≢true}
-use Rattle.http_model.specs.declared.Why.{Why}
 use Rattle.http_model.specs.Block.{Block}
-use Rattle.http_model.specs.Head.{message_blocks}
-use Rattle.session_model.specs.Env.{Pass, Reply, Deny, Fail}
+use Rattle.session_model.specs.Env.{Fail}
 use Rattle.px_sample.specs.Variables.{Variables}
 use Rattle.http_rules.specs.declared.rule.action.Action.{Action}
 use Rattle.http_rules.specs.declared.rule.rule.Rule.{Rule}

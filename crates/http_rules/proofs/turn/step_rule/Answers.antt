@@ -1,4 +1,4 @@
-use Rattle.std.proofs.Common.{ℕ, List, sym, ap, ◌∙◌, subst}
+use Rattle.std.proofs.Common.{ℕ, sym, subst}
 use Rattle.std.proofs.lemmas.Bool.{false≢true}
 use Rattle.http_rules.specs.Action.Acts.{act}
 use Rattle.http_rules.specs.Action.Does.{Replied}
@@ -6,7 +6,7 @@ use Rattle.http_rules.specs.declared.step.Step.{Step}
 use Rattle.http_rules.specs.declared.turn.Turned.TheVariants as turned
 use Rattle.http_rules.specs.declared.verdict.Ruled.{Ruled}
 use Rattle.http_rules.specs.declared.verdict.Verdict.{Verdict}
-use Rattle.http_rules.specs.Run.{RuleLeaves, told_by, verdict_by}
+use Rattle.http_rules.specs.Run.{RuleLeaves, told_by}
 use Rattle.http_rules.specs.Steps.{course_of}
 use Rattle.http_rules.specs.Stepped.{StepLeaves}
 use Rattle.http_rules.proofs.Runs.{held}
