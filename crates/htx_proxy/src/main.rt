@@ -33,7 +33,7 @@ fn main(rt: HostRuntime) -> ExitCode {
         return ExitCode::from(Status::OutOfMemory.number());
     };
     let mut files = RealFiles::new(rt.alloc(), &rt);
-    let mut net = RealNet::new(rt.alloc(), &rt);
+    let mut net = RealNet::telling(rt.alloc(), &rt);
     let mut out = RealSink::new(&rt);
     let mut pats = RealPatterns::new();
     let status = htx_proxy(

@@ -17,6 +17,7 @@ mod real_net;
 mod real_sink;
 mod stream_calls;
 mod stream_waits;
+mod telling;
 mod tokens;
 
 pub use ready_link::ReadyLink;
