@@ -1,5 +1,5 @@
 #!/usr/bin/env bash
-# try-serve.sh [PROGRAM]: real clients and servers through `serve`, over loopback: curl, wrk and raw sockets in front, nginx and a server that
+# try-serve.sh [PROGRAM]: real clients and servers through `serve`, over loopback, that of IPv6 too where there is one: curl, wrk and raw sockets in front, nginx and a server that
 # breaks off behind. It prints a line for each check, `ok NAME` or `FAILED NAME: WHY`, and ends with 0 where all are ok. PROGRAM is the built
 # program, as `rt ci` leaves it. Where curl, nginx or wrk is missing it is installed from Debian, which wants root. It is no part of the gate.
 set -u
@@ -36,7 +36,7 @@ end_all() {
 trap end_all EXIT
 
 # ports that nobody listens at now, below those that the system gives to clients
-listens() { grep -qi "^ *[0-9]*: [0-9A-F]*:$(printf '%04X' "$1") 00000000:0000 0A" /proc/net/tcp; }
+listens() { cat /proc/net/tcp /proc/net/tcp6 2>/dev/null | grep -qi "^ *[0-9]*: [0-9A-F]*:$(printf '%04X' "$1") 0*:0000 0A"; }
 free_port() {
   local port
   while :; do
@@ -48,6 +48,7 @@ await_listener() { # PORT: true once somebody listens there; no connection is ma
   for _ in $(seq 500); do listens "$1" && return 0; sleep 0.01; done
   return 1
 }
+six=; [ -r /proc/net/if_inet6 ] && grep -q '^0*1 .* lo$' /proc/net/if_inet6 && six=yes # a loopback of IPv6
 front="$(free_port)"; origin="$(free_port)"; sink="$(free_port)"; breaking="$(free_port)"
 
 # ---- nginx as the origin
@@ -70,6 +71,7 @@ http {
   proxy_temp_path $work/temp; fastcgi_temp_path $work/temp; uwsgi_temp_path $work/temp; scgi_temp_path $work/temp;
   server {
     listen 127.0.0.1:$origin;
+    ${six:+listen [::1]:$origin;}
     root $work/www;
     location /upload {
       client_body_in_file_only on;
@@ -138,6 +140,9 @@ finish() { # NAME WRONG LINE-PATTERNS..: ends a check in which WRONG was seen so
   says "$1" "$2$(why "${@:3}")"
 }
 one() { finish "$1" "$2" 'end done exchanges 1'; }
+told() { # WHAT: what is wrong with what was told on standard error, which is one line with a reason
+  [ "$(wc -l <"$work/said")" = 1 ] && grep -qF "htx-proxy: $1: " "$work/said" || echo " standard error has: $(head -c 300 "$work/said")"
+}
 
 configure "$origin"
 
@@ -208,13 +213,24 @@ finish "a server that closes in mid-body" "$([ "$left" = 18 ] && [ "$(cat "$work
 configure 1
 serve 1; fetch "$url/any" -o /dev/null -w '%{http_code}' >"$work/got"
 finish "a server that isn't there" "$([ "$(cat "$work/got")" = 503 ] || echo "the answer is $(cat "$work/got") ")" 'end closed exchanges 1'
+says "what is told of it" "$(told 'cannot connect to 127.0.0.1:1')"
 
 serve 1; fetch "$url/any" --data-binary "@$work/piece" -H 'Expect:' -o /dev/null -w '%{http_code}' >"$work/got"; left=$?
 finish "a refusal to a client that sends 1 MB" "$([ "$left $(cat "$work/got")" = "0 503" ] || echo "curl ended with $left, the answer is $(cat "$work/got") ")" 'end closed exchanges 1'
 
 printf 'listen p\n  bind 127.0.0.1:%s\n  server s 127.0.0.1:%s\n' "$origin" "$sink" >"$work/proxy.cfg"
-"$program" serve "$work/proxy.cfg" 1 >"$work/lines" 2>/dev/null; status=$?
-says "an address that is taken" "$([ "$status" = 6 ] && [ "$(cat "$work/lines")" = net ] || echo "status $status, lines $(tr '\n' '/' <"$work/lines")")"
+"$program" serve "$work/proxy.cfg" 1 >"$work/lines" 2>"$work/said"; status=$?
+says "an address that is taken" "$([ "$status" = 6 ] && [ "$(cat "$work/lines")" = net ] || echo "status $status, lines $(tr '\n' '/' <"$work/lines")")$(told "cannot listen at 127.0.0.1:$origin")"
+
+if [ -n "$six" ]; then
+  printf 'listen p\n  bind [::1]:%s\n  server s [::1]:%s\n' "$front" "$origin" >"$work/proxy.cfg"
+  serve 1; fetch -g "http://[::1]:$front/large" -o "$work/got"
+  one "IPv6 on both sides" "$(cmp "$work/got" "$work/www/large" 2>&1)"
+
+  printf 'listen p\n  bind [::1]:%s\n  server s 127.0.0.1:%s\n' "$origin" "$sink" >"$work/proxy.cfg"
+  "$program" serve "$work/proxy.cfg" 1 >"$work/lines" 2>"$work/said"; status=$?
+  says "an IPv6 address that is taken" "$([ "$status" = 6 ] && [ "$(cat "$work/lines")" = net ] || echo "status $status, lines $(tr '\n' '/' <"$work/lines")")$(told "cannot listen at [::1]:$origin")"
+fi
 
 # wrk opens a connection that it closes at once, and then one that it keeps; how its last request ends is not said
 configure "$origin"

@@ -48,7 +48,7 @@ fn main(rt: HostRuntime) -> ExitCode {
         return ExitCode::from(Status::OutOfMemory.number());
     };
     let mut files = RealFiles::new(rt.alloc(), &rt);
-    let mut net = RealNet::new(rt.alloc(), &rt);
+    let mut net = RealNet::telling(rt.alloc(), &rt);
     let Ok(mut wakes) = ReadyPoll::new(rt.alloc(), &rt) else {
         return ExitCode::from(Status::NetFault.number());
     };

@@ -18,6 +18,7 @@ mod real_net;
 mod real_sink;
 mod stream_calls;
 mod stream_waits;
+mod telling;
 mod tokens;
 
 pub use input_end::InputEnd;

@@ -6,9 +6,10 @@ use crate::addresses::Addresses;
 use crate::faults::{count, counted};
 use crate::numeric::{Numeric, place_of};
 use crate::real_link::RealLink;
+use crate::telling::{Call, Telling, told};
 use px_link::{Address, Fault, Net};
 use std::alloc::Global;
-use std::io::ErrorKind;
+use std::io::{Eprint, ErrorKind};
 use std::marker::Model;
 use std::net::{OpenListener, SocketAddr, TcpListener, TcpStream};
 use std::time::Clock;
@@ -25,6 +26,7 @@ pub struct RealNet<'a, R: net::Net> {
     dialled: Addresses,
     /// The last address of numbers that was dialled. Only speed rests on it.
     numeric: Option<Numeric>,
+    telling: Telling,
     lent: u64,
     bind_faults: u64,
     connect_faults: u64,
@@ -41,7 +43,7 @@ impl<'a, R: net::Net> Model for RealNet<'a, R> {
 
 impl<'a, R: net::Net> RealNet<'a, R> {
     /// A net on which no call was made yet.
-    pub fn new(alloc: Global, rt: &'a R) -> Self
+    fn start(alloc: Global, rt: &'a R, telling: Telling) -> Self
         ensures { result ≡ untold_net [] [] 0 0 0 }
     {
         RealNet {
@@ -51,10 +53,25 @@ impl<'a, R: net::Net> RealNet<'a, R> {
             bound: Addresses::new(alloc),
             dialled: Addresses::new(alloc),
             numeric: None,
+            telling,
             lent: 0,
             bind_faults: 0,
             connect_faults: 0,
         }
+    }
+
+    /// A net on which no call was made yet. It tells no failure.
+    pub fn new(alloc: Global, rt: &'a R) -> Self
+        ensures { result ≡ untold_net [] [] 0 0 0 }
+    {
+        RealNet::start(alloc, rt, Telling::Nothing)
+    }
+
+    /// A net on which no call was made yet. It tells each call that fails on standard error, with its address and the reason.
+    pub fn telling(alloc: Global, rt: &'a R) -> Self
+        ensures { result ≡ untold_net [] [] 0 0 0 }
+    {
+        RealNet::start(alloc, rt, Telling::Failures)
     }
 }
 
@@ -107,14 +124,14 @@ fn accept_from<L: OpenListener>(listener: &Option<L>) -> io::Result<L::Stream> {
     }
 }
 
-impl<'a, R: net::Net + Clock> Net for RealNet<'a, R> {
+impl<'a, R: net::Net + Clock + Eprint> Net for RealNet<'a, R> {
     type Link = RealLink<R::Stream>;
 
     ghost seen = { λ n. n };
 
     fn bind(&mut self, at: &Address) -> Result<(), Fault> {
         self.bound.push(at)?;
-        let answer = listen(self.rt, at);
+        let answer = told(self.rt, self.telling, Call::Bind(at), listen(self.rt, at));
         match counted(&mut self.bind_faults, answer) {
             Ok(listener) => {
                 self.listener = Some(listener);
@@ -131,7 +148,12 @@ impl<'a, R: net::Net + Clock> Net for RealNet<'a, R> {
             count(&mut self.bind_faults);
             return Err(Fault::Failed);
         }
-        let answer = accept_from(&self.listener);
+        let answer = told(
+            self.rt,
+            self.telling,
+            Call::Accept,
+            accept_from(&self.listener),
+        );
         match counted(&mut self.bind_faults, answer) {
             Ok(stream) => {
                 self.lent += 1;
@@ -149,7 +171,8 @@ impl<'a, R: net::Net + Clock> Net for RealNet<'a, R> {
             return Err(Fault::Failed);
         }
         let numbers = place_of(&mut self.numeric, self.alloc, to);
-        let answer = dial(self.rt, numbers, to);
+        let dialled = dial(self.rt, numbers, to);
+        let answer = told(self.rt, self.telling, Call::Connect(to), dialled);
         match counted(&mut self.connect_faults, answer) {
             Ok(stream) => {
                 self.lent += 1;

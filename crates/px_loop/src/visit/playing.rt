@@ -122,7 +122,10 @@ fn say<R: Print>(rt: &R) -> Result<(), Stop> {
 }
 
 /// The two visits, of which each is told as it went.
-fn visits<R: net::Net + Clock + Print + AllocGlobal>(rt: &R, ports: Ports) -> Result<(), Stop> {
+fn visits<R: net::Net + Clock + Print + Eprint + AllocGlobal>(
+    rt: &R,
+    ports: Ports,
+) -> Result<(), Stop> {
     let program = loopback(rt.alloc(), ports.front)?;
     let origin = loopback(rt.alloc(), ports.back)?;
     let mut net = RealNet::new(rt.alloc(), rt);

@@ -9,6 +9,7 @@ use px_pattern::RealPatterns;
 use px_run::Nets;
 use px_sock::{RealNet, RealSink};
 use std::alloc::Global;
+use std::io::Eprint;
 use std::net::Net;
 use std::process::ExitCode;
 use std::time::Clock;
@@ -78,7 +79,7 @@ impl Nets<ScriptedNet<MemNet>> for NoNets {
 }
 
 /// Serves two clients at one port, with the server at another. The process ends with the program's status.
-pub fn serve<R: Net + Clock + Print + AllocGlobal>(rt: &R, ports: Ports) -> ExitCode {
+pub fn serve<R: Net + Clock + Print + Eprint + AllocGlobal>(rt: &R, ports: Ports) -> ExitCode {
     let alloc = rt.alloc();
     let (Ok(words), Ok(mut files)) = (words(alloc), files(alloc, ports)) else {
         return ExitCode::from(Status::OutOfMemory.number());
