@@ -170,9 +170,9 @@ module _ {L N : Type 0} (seen : L → Seen) (wrote : L → List ℕ → Type 0) 
 
   ran_end : EndedBy seen wrote net_seen first now input output ended.Good → NamesRun input.words → ⊥
   ran_end end named = elim (clause.good seen wrote net_seen first now input output ended.Good end refl) [
-      inl serve ↦ run_or_serve input.words named serve
+    | inl serve ↦ run_or_serve input.words named serve
     | inr text ↦ good_or_run input.words text.0 input.files text.1 named
-    ]
+  ]
 
   pub ran : (status : Status) → End status → status ≡ ended.Good → NamesRun input.words → RunsTo input.words input.files Runs status
   ran status (inl (end, i)) is named = absurd (ran_end (subst (λ (s : Status). EndedBy seen wrote net_seen first now input output s) is end) named)
