@@ -15,10 +15,10 @@ use Rattle.serve_run.specs.Served.{Breaks, NetFails, ServedAll}
 use Rattle.serve_run.specs.Told.{Visited}
 use Rattle.serve_run.specs.declared.outcome.ServeFault.{ServeFault}
 use Rattle.proxy_call.specs.Answers.{DecidesBy, DecidesRecord, IsDue, IsGood, IsRecordRefusedOf, IsRefusal, IsRefusedBy, NamesServe}
-use Rattle.proxy_call.specs.Ends.{Ended, EndedAny, Output, PutsFront, RanAny, RanRun, RunsTo, Tells, put, ran_as, status_of_run}
+use Rattle.proxy_call.specs.Ends.{EndedAny, Output, PutsFront, RanAny, RanRun, RunsTo, Tells, put, ran_as, status_of_run}
 use Rattle.proxy_call.specs.Files.{IsBuilt}
 use Rattle.proxy_call.specs.Lines.{file_line}
-use Rattle.proxy_call.specs.Running.{NamesRun, Running}
+use Rattle.proxy_call.specs.Running.{NamesRun}
 use Rattle.proxy_call.specs.Serving.{GainsBind, LostBy, ServedBy, Serves, Serving}
 use Rattle.proxy_call.specs.Stops.{Input, IsSilent, StopsBy, status_of, stop_of_running}
 use Rattle.proxy_call.specs.declared.status.Status.{Status}
