@@ -1,16 +1,18 @@
 //! The nets of connections that are served at once, and standard input as the switch of further ones.
+use proxy_call::Switch;
 use px_link::OutOfMemory;
 use px_run::Nets;
 use px_sock::{InputEnd, ReadyNet};
 use std::alloc::Global;
 use std::net;
 
-/// Makes nets over the system's sockets. It accepts no more once standard input has ended.
+/// Makes nets over the system's sockets. Its switch is standard input, which is off once that has ended.
 #[derive(Drop)]
 pub struct RealNets<'a, R> {
     alloc: Global,
     rt: &'a R,
     input: InputEnd,
+    heeds: bool,
 }
 
 impl<'a, R> RealNets<'a, R> {
@@ -19,7 +21,14 @@ impl<'a, R> RealNets<'a, R> {
             alloc,
             rt,
             input: InputEnd::new(),
+            heeds: false,
         }
+    }
+}
+
+impl<'a, R> Switch for RealNets<'a, R> {
+    fn heed(&mut self, heeds: bool) {
+        self.heeds = heeds;
     }
 }
 
@@ -29,6 +38,6 @@ impl<'a, R: net::Net> Nets<ReadyNet<'a, R>> for RealNets<'a, R> {
     }
 
     fn accepts_more(&mut self) -> bool {
-        !self.input.has_ended()
+        !self.heeds || !self.input.has_ended()
     }
 }

@@ -15,10 +15,10 @@ use Rattle.serve_run.specs.Served.{Breaks, NetFails, ServedAll}
 use Rattle.serve_run.specs.Told.{Visited}
 use Rattle.serve_run.specs.declared.outcome.ServeFault.{ServeFault}
 use Rattle.proxy_call.specs.Answers.{DecidesBy, DecidesRecord, IsDue, IsGood, IsRecordRefusedOf, IsRefusal, IsRefusedBy, NamesServe}
-use Rattle.proxy_call.specs.Ends.{Ended, EndedAny, Output, PutsFront, RanAny, RanRun, RunsTo, Tells, put, ran_as, status_of_run}
+use Rattle.proxy_call.specs.Ends.{EndedAny, Output, PutsFront, RanAny, RanRun, RunsTo, Tells, put, ran_as, status_of_run}
 use Rattle.proxy_call.specs.Files.{IsBuilt}
 use Rattle.proxy_call.specs.Lines.{file_line}
-use Rattle.proxy_call.specs.Running.{NamesRun, Running}
+use Rattle.proxy_call.specs.Running.{NamesRun}
 use Rattle.proxy_call.specs.Serving.{GainsBind, LostBy, ServedBy, Serves, Serving}
 use Rattle.proxy_call.specs.Stops.{Input, IsSilent, StopsBy, status_of, stop_of_running}
 use Rattle.proxy_call.specs.declared.status.Status.{Status}
@@ -170,9 +170,9 @@ module _ {L N : Type 0} (seen : L → Seen) (wrote : L → List ℕ → Type 0) 
 
   ran_end : EndedBy seen wrote net_seen first now input output ended.Good → NamesRun input.words → ⊥
   ran_end end named = elim (clause.good seen wrote net_seen first now input output ended.Good end refl) [
-      inl serve ↦ run_or_serve input.words named serve
+    | inl serve ↦ run_or_serve input.words named serve
     | inr text ↦ good_or_run input.words text.0 input.files text.1 named
-    ]
+  ]
 
   pub ran : (status : Status) → End status → status ≡ ended.Good → NamesRun input.words → RunsTo input.words input.files Runs status
   ran status (inl (end, i)) is named = absurd (ran_end (subst (λ (s : Status). EndedBy seen wrote net_seen first now input output s) is end) named)

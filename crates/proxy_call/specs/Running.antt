@@ -1,5 +1,5 @@
 -- What `run` does with what it is handed, by the configuration in its file.
-use Rattle.std.specs.Prelude.{◌≡◌, ℕ, ◌⊎◌, List, [], ◌∷◌, ◌++◌, Option, Result, Ok, OnOk}
+use Rattle.std.specs.Prelude.{◌≡◌, ℕ, ◌⊎◌, List, Option, Result, Ok, OnOk}
 use Rattle.px_link.specs.Net.{NetSeen}
 use Rattle.px_link.specs.Told.{NamedBytes}
 use Rattle.http_rules.specs.declared.config.Config.{Config}

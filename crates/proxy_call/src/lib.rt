@@ -13,6 +13,6 @@ mod status;
 mod stop;
 mod top;
 
-pub use sessions::Many;
+pub use sessions::{Many, Switch};
 pub use status::Status;
 pub use top::htx_proxy;

@@ -9,7 +9,7 @@ ghost use Rattle.proxy_call.specs.Stops.{Answers, Input, given};
 use crate::answer::{check, check_all, check_record, drill, replay, weave};
 use crate::running::run_many;
 use crate::serving::serve;
-use crate::sessions::Many;
+use crate::sessions::{Many, Switch};
 use crate::stop::Stop;
 use px_command::{Asked, asked_by, help_of_text, help_text, version_text};
 use px_link::{Bytes, Files, Net, Sink, Waits, WaitsNet, Wakes};
@@ -27,7 +27,17 @@ fn write<'a, K: Sink>(made: Result<Bytes, Stop<'a>>, out: &mut K) -> Result<(), 
 }
 
 /// Runs the command that the words name.
-pub fn run<'a, F: Files, N: Net, L: Waits + Drop, M: WaitsNet<Link = L> + Drop, S: Nets<M>, W: Wakes<M>, K: Sink, P: Patterns>(
+pub fn run<
+    'a,
+    F: Files,
+    N: Net,
+    L: Waits + Drop,
+    M: WaitsNet<Link = L> + Drop,
+    S: Nets<M> + Switch,
+    W: Wakes<M>,
+    K: Sink,
+    P: Patterns,
+>(
     alloc: Global,
     words: &'a [String],
     files: &mut F,

@@ -7,7 +7,7 @@ ghost use Rattle.proxy_call.specs.Running.{Runs};
 ghost use Rattle.proxy_call.specs.Stops.{given};
 
 use crate::answer::configuration;
-use crate::sessions::{Many, run_clients};
+use crate::sessions::{Many, Switch, run_clients};
 use crate::stop::Stop;
 use px_command::RunOptions;
 use px_link::{Files, Sink, Waits, WaitsNet, Wakes};
@@ -16,7 +16,16 @@ use px_run::Nets;
 use std::alloc::Global;
 
 /// Serves connections at once by the configuration in a file, and writes their lines.
-pub fn run_many<'a, F: Files, L: Waits + Drop, N: WaitsNet<Link = L> + Drop, S: Nets<N>, W: Wakes<N>, K: Sink, P: Patterns>(
+pub fn run_many<
+    'a,
+    F: Files,
+    L: Waits + Drop,
+    N: WaitsNet<Link = L> + Drop,
+    S: Nets<N> + Switch,
+    W: Wakes<N>,
+    K: Sink,
+    P: Patterns,
+>(
     alloc: Global,
     files: &mut F,
     name: &'a str,

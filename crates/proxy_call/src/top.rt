@@ -16,7 +16,7 @@ ghost use Rattle.proxy_call.specs.Serving.{GainsBind, LostBy, ServedBy, Serving}
 
 use crate::reply::end;
 use crate::run::run;
-use crate::sessions::Many;
+use crate::sessions::{Many, Switch};
 use crate::status::Status;
 use px_link::{Files, Net, Sink, Waits, WaitsNet, Wakes};
 use px_pattern::Patterns;
@@ -25,7 +25,16 @@ use std::alloc::Global;
 
 /// The program: reads the words, runs the command that they name, and writes what it came to. Only `serve` makes calls on the net, and only `run` has
 /// a use for `many`. `pats` builds the patterns of a configuration.
-pub fn htx_proxy<F: Files, N: Net, L: Waits + Drop, M: WaitsNet<Link = L> + Drop, S: Nets<M>, W: Wakes<M>, K: Sink, P: Patterns>(
+pub fn htx_proxy<
+    F: Files,
+    N: Net,
+    L: Waits + Drop,
+    M: WaitsNet<Link = L> + Drop,
+    S: Nets<M> + Switch,
+    W: Wakes<M>,
+    K: Sink,
+    P: Patterns,
+>(
     alloc: Global,
     words: &[String],
     files: &mut F,

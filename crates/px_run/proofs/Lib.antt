@@ -5,3 +5,4 @@ mod Sets
 mod Begins
 mod Looks
 mod Places
+mod Halls

@@ -1,5 +1,5 @@
 -- All connections of a loop: what each of their places says, and what all of them say together.
-use Rattle.std.specs.Prelude.{◌≡◌, ℕ, List, Option, Some, None, ⊤}
+use Rattle.std.specs.Prelude.{◌≡◌, ℕ, ◌+◌, List, Option, Some, None, ⊤}
 use Rattle.std.specs.List.{AllByRecursion, sum_by}
 use Rattle.session_model.specs.Meaning.{Meaning}
 use Rattle.session_core.specs.History.{Past}
@@ -36,3 +36,16 @@ pub record AllStand {C L N : Type 0} (M : Meaning) (stands : C → Past → Type
   pub placed : AllByRecursion (IsPlaced M stands sees sound seen wrote sees_net to) places
   pub ready : AllByRecursion (IsReady sees sound) sets
   pub fresh : AllByRecursion (IsFresh stands) sets
+
+-- what the loop leaves of a net: it binds and dials nothing more
+pub record IsSameNet (old new : NetSeen) : Type 0 where
+  pub bound : new.bound ≡ old.bound
+  pub dialled : new.dialled ≡ old.dialled
+
+-- each link that was accepted stands at a place, or was given back
+abbrev pub IsBalanced : {C L N : Type 0} → (old_net net : NetSeen) → (old_places places : List (Option (Connection C L N))) → Type 0
+IsBalanced old_net net old_places places = net.lent + count_taken old_places ≡ old_net.lent + count_taken places
+
+-- the same of one place
+abbrev pub IsBalancedAt : {C L N : Type 0} → (old_net net : NetSeen) → (old_at at : Option (Connection C L N)) → Type 0
+IsBalancedAt old_net net old_at at = net.lent + taken_at old_at ≡ old_net.lent + taken_at at

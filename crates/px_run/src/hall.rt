@@ -1,4 +1,10 @@
 //! All connections: their places, the cores that are free, and the lines of those that have ended.
+ghost use Rattle.std.specs.Prelude.{◌≡◌, ◌≤◌, true, IfOk};
+ghost use Rattle.std.specs.List.{AllByRecursion};
+ghost use Rattle.px_link.specs.Net.{address_of, Place};
+ghost use Rattle.htx_drive.specs.Weave.State.{IsReady, IsFresh};
+ghost use Rattle.px_run.specs.Course.{IsSame, IsSameServer};
+ghost use Rattle.px_run.specs.Hall.{IsPlaced, AllStand, taken_at, count_taken, IsSameNet, IsBalancedAt};
 
 use crate::connection::{Connection, Looked, look};
 use crate::lines::{Output, write_line};
@@ -26,7 +32,9 @@ pub(crate) struct Hall<C, L, N> {
 pub(crate) fn no_places<C: Drop, L: Drop, N: Drop>(
     alloc: Global,
     count: usize,
-) -> Result<Vec<Option<Connection<C, L, N>>>, OutOfMemory> {
+) -> Result<Vec<Option<Connection<C, L, N>>>, OutOfMemory>
+    ensures none { IfOk result (λ places. count_taken places.items ≡ 0) }
+{
     let mut places = Vec::new(alloc);
     for _ in 0..count {
         places.push(None)?;
@@ -35,7 +43,9 @@ pub(crate) fn no_places<C: Drop, L: Drop, N: Drop>(
 }
 
 /// Whether no connection is open.
-pub(crate) fn is_empty<C, L, N>(places: &[Option<Connection<C, L, N>>]) -> bool {
+pub(crate) fn is_empty<C, L, N>(places: &[Option<Connection<C, L, N>>]) -> bool
+    ensures { result ≡ true → count_taken places.now ≡ 0 }
+{
     for place in places {
         if place.is_some() {
             return false;
@@ -45,10 +55,13 @@ pub(crate) fn is_empty<C, L, N>(places: &[Option<Connection<C, L, N>>]) -> bool 
 }
 
 /// Takes in what an event tells of a client's link.
-pub(crate) fn note_client<C, L: Waits, N: WaitsNet<Link = L>>(
+pub(crate) fn note_client<C: Resets, L: Waits, N: WaitsNet<Link = L>>(
     at: &mut Option<Connection<C, L, N>>,
     told: Readiness,
-) {
+)
+    ensures placed { (cfg : C.Settings) (to : Place) → IsPlaced (C.meaning cfg) (C.stands cfg) C.seen C.sound L.seen L.wrote N.seen to at.old → IsPlaced (C.meaning cfg) (C.stands cfg) C.seen C.sound L.seen L.wrote N.seen to at.new }
+    ensures taken { taken_at at.new ≡ taken_at at.old }
+{
     match at {
         Some(connection) => connection.conn.client.note(told),
         None => {}
@@ -56,10 +69,13 @@ pub(crate) fn note_client<C, L: Waits, N: WaitsNet<Link = L>>(
 }
 
 /// Takes in what an event tells of a server's link, or of a connect.
-pub(crate) fn note_server<C, L: Waits, N: WaitsNet<Link = L>>(
+pub(crate) fn note_server<C: Resets, L: Waits, N: WaitsNet<Link = L>>(
     at: &mut Option<Connection<C, L, N>>,
     told: Readiness,
-) {
+)
+    ensures placed { (cfg : C.Settings) (to : Place) → IsPlaced (C.meaning cfg) (C.stands cfg) C.seen C.sound L.seen L.wrote N.seen to at.old → IsPlaced (C.meaning cfg) (C.stands cfg) C.seen C.sound L.seen L.wrote N.seen to at.new }
+    ensures taken { taken_at at.new ≡ taken_at at.old }
+{
     match at {
         Some(connection) => note_link(&mut connection.conn.server, told),
         None => {}
@@ -67,7 +83,9 @@ pub(crate) fn note_server<C, L: Waits, N: WaitsNet<Link = L>>(
 }
 
 /// The same of the link.
-fn note_link<L: Waits>(server: &mut Option<L>, told: Readiness) {
+fn note_link<L: Waits>(server: &mut Option<L>, told: Readiness)
+    ensures same { IsSameServer L.seen L.wrote server.old server.new }
+{
     match server {
         Some(link) => link.note(told),
         None => {}
@@ -75,7 +93,9 @@ fn note_link<L: Waits>(server: &mut Option<L>, told: Readiness) {
 }
 
 /// Has each later read of a server's link fail.
-fn expire_server_read<L: Waits>(server: &mut Option<L>) {
+fn expire_server_read<L: Waits>(server: &mut Option<L>)
+    ensures same { IsSameServer L.seen L.wrote server.old server.new }
+{
     match server {
         Some(link) => link.expire_read(),
         None => {}
@@ -83,7 +103,9 @@ fn expire_server_read<L: Waits>(server: &mut Option<L>) {
 }
 
 /// Has each later write to a server's link fail.
-fn expire_server_write<L: Waits>(server: &mut Option<L>) {
+fn expire_server_write<L: Waits>(server: &mut Option<L>)
+    ensures same { IsSameServer L.seen L.wrote server.old server.new }
+{
     match server {
         Some(link) => link.expire_write(),
         None => {}
@@ -91,7 +113,12 @@ fn expire_server_write<L: Waits>(server: &mut Option<L>) {
 }
 
 /// Has the call of a connection fail whose time is over.
-fn expire_call<L: Waits, N: WaitsNet<Link = L>>(conn: &mut Conn<L, N>, call: Call) {
+fn expire_call<L: Waits, N: WaitsNet<Link = L>>(conn: &mut Conn<L, N>, call: Call)
+    ensures client { IsSame L.seen L.wrote conn.old.client conn.new.client }
+    ensures server { IsSameServer L.seen L.wrote conn.old.server conn.new.server }
+    ensures net { conn.new.net ≡ conn.old.net }
+    ensures ran { conn.new.ran ≡ conn.old.ran }
+{
     match call {
         Call::Connect => {}
         Call::ServerRead => expire_server_read(&mut conn.server),
@@ -102,10 +129,13 @@ fn expire_call<L: Waits, N: WaitsNet<Link = L>>(conn: &mut Conn<L, N>, call: Cal
 }
 
 /// Has the call of the connection at a place fail.
-pub(crate) fn expire<C, L: Waits, N: WaitsNet<Link = L>>(
+pub(crate) fn expire<C: Resets, L: Waits, N: WaitsNet<Link = L>>(
     at: &mut Option<Connection<C, L, N>>,
     call: Call,
-) {
+)
+    ensures placed { (cfg : C.Settings) (to : Place) → IsPlaced (C.meaning cfg) (C.stands cfg) C.seen C.sound L.seen L.wrote N.seen to at.old → IsPlaced (C.meaning cfg) (C.stands cfg) C.seen C.sound L.seen L.wrote N.seen to at.new }
+    ensures taken { taken_at at.new ≡ taken_at at.old }
+{
     match at {
         Some(connection) => expire_call(&mut connection.conn, call),
         None => {}
@@ -120,11 +150,43 @@ fn look_at<C: Resets + Drop, L: Waits, N: WaitsNet<Link = L>, W: Wakes<N>>(
     wakes: &mut W,
     to: &Address,
     tools: &mut Tools,
-) -> Looked {
+) -> Looked
+    requires at { (cfg : C.Settings) × AllByRecursion (IsFresh (C.stands cfg)) sets.old.items × IsPlaced (C.meaning cfg) (C.stands cfg) C.seen C.sound L.seen L.wrote N.seen (address_of to.now) at.old }
+    requires ready { AllByRecursion (IsReady C.seen C.sound) sets.old.items }
+    ensures ready { AllByRecursion (IsReady C.seen C.sound) sets.new.items }
+    ensures placed { (cfg : C.Settings) → AllByRecursion (IsFresh (C.stands cfg)) sets.old.items → IsPlaced (C.meaning cfg) (C.stands cfg) C.seen C.sound L.seen L.wrote N.seen (address_of to.now) at.old → IsPlaced (C.meaning cfg) (C.stands cfg) C.seen C.sound L.seen L.wrote N.seen (address_of to.now) at.new }
+    ensures fresh { (cfg : C.Settings) → AllByRecursion (IsFresh (C.stands cfg)) sets.old.items → IsPlaced (C.meaning cfg) (C.stands cfg) C.seen C.sound L.seen L.wrote N.seen (address_of to.now) at.old → AllByRecursion (IsFresh (C.stands cfg)) sets.new.items }
+    ensures taken { taken_at at.new ≡ taken_at at.old }
+{
     match at {
         Some(connection) => look(connection, sets, pace, wakes, to, tools),
         None => Looked::Waits,
     }
+}
+
+/// A look at the connection of the place that this pace is of.
+fn look_here<C: Resets + Drop, L: Waits, N: WaitsNet<Link = L>, W: Wakes<N>>(
+    hall: &mut Hall<C, L, N>,
+    pace: &mut Pace,
+    wakes: &mut W,
+    to: &Address,
+) -> Looked
+    requires stands { (cfg : C.Settings) × AllStand (C.meaning cfg) (C.stands cfg) C.seen C.sound L.seen L.wrote N.seen (address_of to.now) hall.old.places.items hall.old.sets.items }
+    ensures stands { (cfg : C.Settings) → AllStand (C.meaning cfg) (C.stands cfg) C.seen C.sound L.seen L.wrote N.seen (address_of to.now) hall.old.places.items hall.old.sets.items → AllStand (C.meaning cfg) (C.stands cfg) C.seen C.sound L.seen L.wrote N.seen (address_of to.now) hall.new.places.items hall.new.sets.items }
+    ensures taken { count_taken hall.new.places.items ≡ count_taken hall.old.places.items }
+{
+    let place = pace.place;
+    if place >= hall.places.len() {
+        return Looked::Waits;
+    }
+    look_at(
+        &mut hall.places[place],
+        &mut hall.sets,
+        pace,
+        wakes,
+        to,
+        &mut hall.tools,
+    )
 }
 
 /// A look at the connection of a place, and its line where it has ended.
@@ -134,26 +196,27 @@ pub(crate) fn visit<C: Resets + Drop, L: Waits, N: WaitsNet<Link = L>, W: Wakes<
     wakes: &mut W,
     out: &mut K,
     plan: &Plan,
+) -> Result<Looked, OutOfMemory>
+    requires stands { (cfg : C.Settings) × AllStand (C.meaning cfg) (C.stands cfg) C.seen C.sound L.seen L.wrote N.seen (address_of plan.now.to.now) hall.old.places.items hall.old.sets.items }
+    ensures stands { (cfg : C.Settings) → AllStand (C.meaning cfg) (C.stands cfg) C.seen C.sound L.seen L.wrote N.seen (address_of plan.now.to.now) hall.old.places.items hall.old.sets.items → AllStand (C.meaning cfg) (C.stands cfg) C.seen C.sound L.seen L.wrote N.seen (address_of plan.now.to.now) hall.new.places.items hall.new.sets.items }
+    ensures taken { count_taken hall.new.places.items ≡ count_taken hall.old.places.items }
+{
+    let looked = look_here(hall, pace, wakes, plan.to);
+    say(looked, plan.alloc, &mut hall.output, out)
+}
+
+/// The line of a connection that ended in this look.
+fn say<K: Sink>(
+    looked: Looked,
+    alloc: Global,
+    output: &mut Output,
+    out: &mut K,
 ) -> Result<Looked, OutOfMemory> {
-    let place = pace.place;
-    if place >= hall.places.len() {
-        return Ok(Looked::Waits);
-    }
-    let looked = look_at(
-        &mut hall.places[place],
-        &mut hall.sets,
-        pace,
-        wakes,
-        plan.to,
-        &mut hall.tools,
-    );
     match looked {
-        Looked::Ended(number, outcome) => {
-            match write_line(plan.alloc, number, &outcome, &mut hall.output, out) {
-                Ok(()) => Ok(looked),
-                Err(OutOfMemory) => Err(OutOfMemory),
-            }
-        }
+        Looked::Ended(number, outcome) => match write_line(alloc, number, &outcome, output, out) {
+            Ok(()) => Ok(looked),
+            Err(OutOfMemory) => Err(OutOfMemory),
+        },
         Looked::Lost => Err(OutOfMemory),
         Looked::Waits => Ok(looked),
         Looked::GoesOn => Ok(looked),
@@ -171,10 +234,15 @@ fn has_ended<C, L, N>(at: &Option<Connection<C, L, N>>) -> bool {
 }
 
 /// A connection that has ended leaves its place: its client's link is given back.
-pub(crate) fn give_back<C: Drop, L: Waits + Drop, N: WaitsNet<Link = L> + Drop>(
+pub(crate) fn give_back<C: Resets + Drop, L: Waits + Drop, N: WaitsNet<Link = L> + Drop>(
     at: &mut Option<Connection<C, L, N>>,
     net: &mut N,
-) {
+)
+    requires lent { taken_at at.old ≤ (N.seen net.old).lent }
+    ensures placed { (cfg : C.Settings) (to : Place) → IsPlaced (C.meaning cfg) (C.stands cfg) C.seen C.sound L.seen L.wrote N.seen to at.old → IsPlaced (C.meaning cfg) (C.stands cfg) C.seen C.sound L.seen L.wrote N.seen to at.new }
+    ensures balanced { IsBalancedAt (N.seen net.old) (N.seen net.new) at.old at.new }
+    ensures net { IsSameNet (N.seen net.old) (N.seen net.new) }
+{
     if !has_ended(at) {
         return;
     }

@@ -1,4 +1,10 @@
 //! A round of the loop: a wait, a look at each that may go on, deadlines, accepts.
+ghost use Rattle.std.specs.Prelude.{◌≡◌, ◌≤◌, ◌<◌, ◌+◌, ◌-◌, ◌^◌, true, Option, None, length, slice_index_or};
+ghost use Rattle.std.specs.List.{AllByRecursion};
+ghost use Rattle.px_link.specs.Net.{address_of, Place};
+ghost use Rattle.px_run.specs.declared.connection.Connection.{Connection};
+ghost use Rattle.px_run.specs.Course.{IsNewNet};
+ghost use Rattle.px_run.specs.Hall.{IsPlaced, AllStand, count_taken, IsSameNet, IsBalanced};
 
 use crate::agenda::Agenda;
 use crate::connection::{Connection, Looked};
@@ -9,11 +15,14 @@ use htx_drive::weave::{Conn, Resets};
 use px_link::{Fault, OutOfMemory, Sink, Waits, WaitsNet, Wake, Wakes, Watched};
 
 /// Takes in what an event tells.
-fn note<C, L: Waits, N: WaitsNet<Link = L>>(
+fn note<C: Resets, L: Waits, N: WaitsNet<Link = L>>(
     places: &mut [Option<Connection<C, L, N>>],
     agenda: &mut Agenda,
     wake: Wake,
-) -> Result<(), OutOfMemory> {
+) -> Result<(), OutOfMemory>
+    ensures placed { (cfg : C.Settings) (to : Place) → AllByRecursion (IsPlaced (C.meaning cfg) (C.stands cfg) C.seen C.sound L.seen L.wrote N.seen to) places.old → AllByRecursion (IsPlaced (C.meaning cfg) (C.stands cfg) C.seen C.sound L.seen L.wrote N.seen to) places.new }
+    ensures taken { count_taken places.new ≡ count_taken places.old }
+{
     match wake.whom {
         Watched::Listener => {
             agenda.may_accept = true;
@@ -37,13 +46,16 @@ fn note<C, L: Waits, N: WaitsNet<Link = L>>(
 }
 
 /// Waits, and takes in what that told.
-pub(crate) fn wait<C, L: Waits, N: WaitsNet<Link = L>, W: Wakes<N>>(
+pub(crate) fn wait<C: Resets, L: Waits, N: WaitsNet<Link = L>, W: Wakes<N>>(
     places: &mut [Option<Connection<C, L, N>>],
     agenda: &mut Agenda,
     wakes: &mut W,
     accepts: bool,
     now: u64,
-) -> Result<(), RunFault> {
+) -> Result<(), RunFault>
+    ensures placed { (cfg : C.Settings) (to : Place) → AllByRecursion (IsPlaced (C.meaning cfg) (C.stands cfg) C.seen C.sound L.seen L.wrote N.seen to) places.old → AllByRecursion (IsPlaced (C.meaning cfg) (C.stands cfg) C.seen C.sound L.seen L.wrote N.seen to) places.new }
+    ensures taken { count_taken places.new ≡ count_taken places.old }
+{
     match wakes.wait(agenda.patience(accepts, now)) {
         Ok(()) => {}
         Err(Fault::Failed) => return Err(RunFault::Net),
@@ -104,7 +116,13 @@ fn visit_place<
     wakes: &mut W,
     out: &mut K,
     plan: &Plan,
-) -> Result<Looked, OutOfMemory> {
+) -> Result<Looked, OutOfMemory>
+    requires stands { (cfg : C.Settings) × AllStand (C.meaning cfg) (C.stands cfg) C.seen C.sound L.seen L.wrote N.seen (address_of plan.now.to.now) hall.old.places.items hall.old.sets.items }
+    requires lent { count_taken hall.old.places.items ≤ (N.seen net.old).lent }
+    ensures stands { (cfg : C.Settings) → AllStand (C.meaning cfg) (C.stands cfg) C.seen C.sound L.seen L.wrote N.seen (address_of plan.now.to.now) hall.old.places.items hall.old.sets.items → AllStand (C.meaning cfg) (C.stands cfg) C.seen C.sound L.seen L.wrote N.seen (address_of plan.now.to.now) hall.new.places.items hall.new.sets.items }
+    ensures balanced { IsBalanced (N.seen net.old) (N.seen net.new) hall.old.places.items hall.new.places.items }
+    ensures net { IsSameNet (N.seen net.old) (N.seen net.new) }
+{
     pace.due = false;
     match visit(hall, pace, wakes, out, plan) {
         Ok(Looked::Leaves) => {
@@ -126,7 +144,13 @@ fn visits<C: Resets + Drop, L: Waits + Drop, N: WaitsNet<Link = L> + Drop, W: Wa
     wakes: &mut W,
     out: &mut K,
     plan: &Plan,
-) -> Result<(), OutOfMemory> {
+) -> Result<(), OutOfMemory>
+    requires stands { (cfg : C.Settings) × AllStand (C.meaning cfg) (C.stands cfg) C.seen C.sound L.seen L.wrote N.seen (address_of plan.now.to.now) hall.old.places.items hall.old.sets.items }
+    requires lent { count_taken hall.old.places.items ≤ (N.seen net.old).lent }
+    ensures stands { (cfg : C.Settings) → AllStand (C.meaning cfg) (C.stands cfg) C.seen C.sound L.seen L.wrote N.seen (address_of plan.now.to.now) hall.old.places.items hall.old.sets.items → AllStand (C.meaning cfg) (C.stands cfg) C.seen C.sound L.seen L.wrote N.seen (address_of plan.now.to.now) hall.new.places.items hall.new.sets.items }
+    ensures balanced { IsBalanced (N.seen net.old) (N.seen net.new) hall.old.places.items hall.new.places.items }
+    ensures net { IsSameNet (N.seen net.old) (N.seen net.new) }
+{
     agenda.begin_round(hall.tools.now);
     for at in 0..agenda.now_due.len() {
         let Some(place) = agenda.due_at(at) else {
@@ -144,13 +168,16 @@ fn visits<C: Resets + Drop, L: Waits + Drop, N: WaitsNet<Link = L> + Drop, W: Wa
 }
 
 /// The call of the connection at this place fails, if the deadline of that has come.
-fn expire_at<C, L: Waits, N: WaitsNet<Link = L>>(
+fn expire_at<C: Resets, L: Waits, N: WaitsNet<Link = L>>(
     places: &mut [Option<Connection<C, L, N>>],
     agenda: &mut Agenda,
     place: usize,
     plan: &Plan,
     now: u64,
-) -> Result<(), OutOfMemory> {
+) -> Result<(), OutOfMemory>
+    ensures placed { (cfg : C.Settings) (to : Place) → AllByRecursion (IsPlaced (C.meaning cfg) (C.stands cfg) C.seen C.sound L.seen L.wrote N.seen to) places.old → AllByRecursion (IsPlaced (C.meaning cfg) (C.stands cfg) C.seen C.sound L.seen L.wrote N.seen to) places.new }
+    ensures taken { count_taken places.new ≡ count_taken places.old }
+{
     if place >= places.len() {
         return Ok(());
     }
@@ -164,12 +191,15 @@ fn expire_at<C, L: Waits, N: WaitsNet<Link = L>>(
 }
 
 /// Has each call fail whose time is over.
-fn expire_all<C, L: Waits, N: WaitsNet<Link = L>>(
+fn expire_all<C: Resets, L: Waits, N: WaitsNet<Link = L>>(
     places: &mut [Option<Connection<C, L, N>>],
     agenda: &mut Agenda,
     plan: &Plan,
     now: u64,
-) -> Result<(), OutOfMemory> {
+) -> Result<(), OutOfMemory>
+    ensures placed { (cfg : C.Settings) (to : Place) → AllByRecursion (IsPlaced (C.meaning cfg) (C.stands cfg) C.seen C.sound L.seen L.wrote N.seen to) places.old → AllByRecursion (IsPlaced (C.meaning cfg) (C.stands cfg) C.seen C.sound L.seen L.wrote N.seen to) places.new }
+    ensures taken { count_taken places.new ≡ count_taken places.old }
+{
     if !agenda.deadline_comes(now) {
         return Ok(());
     }
@@ -183,10 +213,13 @@ fn expire_all<C, L: Waits, N: WaitsNet<Link = L>>(
 }
 
 /// Where a connection waits for a core and none is free, the read of the kept one fails that has rested longest, so that its core is free.
-fn free_one<C, L: Waits, N: WaitsNet<Link = L>>(
+fn free_one<C: Resets, L: Waits, N: WaitsNet<Link = L>>(
     places: &mut [Option<Connection<C, L, N>>],
     agenda: &mut Agenda,
-) -> Result<(), OutOfMemory> {
+) -> Result<(), OutOfMemory>
+    ensures placed { (cfg : C.Settings) (to : Place) → AllByRecursion (IsPlaced (C.meaning cfg) (C.stands cfg) C.seen C.sound L.seen L.wrote N.seen to) places.old → AllByRecursion (IsPlaced (C.meaning cfg) (C.stands cfg) C.seen C.sound L.seen L.wrote N.seen to) places.new }
+    ensures taken { count_taken places.new ≡ count_taken places.old }
+{
     if !agenda.lacks_cores() {
         return Ok(());
     }
@@ -205,7 +238,9 @@ pub(crate) fn accepts_more<N: WaitsNet, S: Nets<N>>(
     accepted: u32,
     plan: &Plan,
     nets: &mut S,
-) -> bool {
+) -> bool
+    ensures { result ≡ true → accepted < 2 ^ 32 - 1 }
+{
     if accepted == u32::MAX {
         return false;
     }
@@ -218,13 +253,20 @@ pub(crate) fn accepts_more<N: WaitsNet, S: Nets<N>>(
 }
 
 /// A connection over a link that was accepted, at a place at which none is.
-fn take_in<C, L: Waits, N: WaitsNet<Link = L>, W: Wakes<N>>(
+fn take_in<C: Resets + Drop, L: Waits, N: WaitsNet<Link = L>, W: Wakes<N>>(
     hall: &mut Hall<C, L, N>,
     place: usize,
     link: L,
     own: N,
     wakes: &mut W,
-) {
+)
+    requires within { place < length hall.old.places.items }
+    requires none { (d : Option (Connection C L N)) → slice_index_or hall.old.places.items place d ≡ None }
+    requires more { hall.old.accepted < 2 ^ 32 - 1 }
+    requires own { IsNewNet (N.seen own) }
+    ensures stands { (cfg : C.Settings) (to : Place) → AllStand (C.meaning cfg) (C.stands cfg) C.seen C.sound L.seen L.wrote N.seen to hall.old.places.items hall.old.sets.items → AllStand (C.meaning cfg) (C.stands cfg) C.seen C.sound L.seen L.wrote N.seen to hall.new.places.items hall.new.sets.items }
+    ensures taken { count_taken hall.new.places.items ≡ 1 + count_taken hall.old.places.items }
+{
     let mut link = link;
     wakes.watch_client(place, &mut link);
     hall.accepted += 1;
@@ -240,13 +282,20 @@ fn take_in<C, L: Waits, N: WaitsNet<Link = L>, W: Wakes<N>>(
 }
 
 /// Accepts a link at a place at which no connection is.
-fn accept<C, L: Waits, N: WaitsNet<Link = L> + Drop, S: Nets<N>, W: Wakes<N>>(
+fn accept<C: Resets + Drop, L: Waits, N: WaitsNet<Link = L> + Drop, S: Nets<N>, W: Wakes<N>>(
     hall: &mut Hall<C, L, N>,
     place: usize,
     net: &mut N,
     nets: &mut S,
     wakes: &mut W,
-) -> Result<(), Fault> {
+) -> Result<(), Fault>
+    requires within { place < length hall.old.places.items }
+    requires none { (d : Option (Connection C L N)) → slice_index_or hall.old.places.items place d ≡ None }
+    requires more { hall.old.accepted < 2 ^ 32 - 1 }
+    ensures stands { (cfg : C.Settings) (to : Place) → AllStand (C.meaning cfg) (C.stands cfg) C.seen C.sound L.seen L.wrote N.seen to hall.old.places.items hall.old.sets.items → AllStand (C.meaning cfg) (C.stands cfg) C.seen C.sound L.seen L.wrote N.seen to hall.new.places.items hall.new.sets.items }
+    ensures balanced { IsBalanced (N.seen net.old) (N.seen net.new) hall.old.places.items hall.new.places.items }
+    ensures net { IsSameNet (N.seen net.old) (N.seen net.new) }
+{
     let own = match nets.net() {
         Ok(own) => own,
         Err(OutOfMemory) => return Err(Fault::OutOfMemory),
@@ -262,7 +311,9 @@ fn accept<C, L: Waits, N: WaitsNet<Link = L> + Drop, S: Nets<N>, W: Wakes<N>>(
 }
 
 /// Whether this is a place at which no connection is.
-fn is_free<C, L, N>(places: &[Option<Connection<C, L, N>>], place: usize) -> bool {
+fn is_free<C, L, N>(places: &[Option<Connection<C, L, N>>], place: usize) -> bool
+    ensures { result ≡ true → (place < length places.now) × ((d : Option (Connection C L N)) → slice_index_or places.now place d ≡ None) }
+{
     if place >= places.len() {
         return false;
     }
@@ -270,14 +321,18 @@ fn is_free<C, L, N>(places: &[Option<Connection<C, L, N>>], place: usize) -> boo
 }
 
 /// Accepts a link where one waits, and answers whether another may be accepted at once.
-fn accept_next<C, L: Waits, N: WaitsNet<Link = L> + Drop, S: Nets<N>, W: Wakes<N>>(
+fn accept_next<C: Resets + Drop, L: Waits, N: WaitsNet<Link = L> + Drop, S: Nets<N>, W: Wakes<N>>(
     hall: &mut Hall<C, L, N>,
     agenda: &mut Agenda,
     net: &mut N,
     nets: &mut S,
     wakes: &mut W,
     plan: &Plan,
-) -> Result<bool, RunFault> {
+) -> Result<bool, RunFault>
+    ensures stands { (cfg : C.Settings) (to : Place) → AllStand (C.meaning cfg) (C.stands cfg) C.seen C.sound L.seen L.wrote N.seen to hall.old.places.items hall.old.sets.items → AllStand (C.meaning cfg) (C.stands cfg) C.seen C.sound L.seen L.wrote N.seen to hall.new.places.items hall.new.sets.items }
+    ensures balanced { IsBalanced (N.seen net.old) (N.seen net.new) hall.old.places.items hall.new.places.items }
+    ensures net { IsSameNet (N.seen net.old) (N.seen net.new) }
+{
     if !accepts_more(hall.accepted, plan, nets) {
         return Ok(false);
     }
@@ -311,14 +366,24 @@ fn accept_next<C, L: Waits, N: WaitsNet<Link = L> + Drop, S: Nets<N>, W: Wakes<N
 }
 
 /// Accepts the links that wait, while places are free.
-pub(crate) fn accepts<C, L: Waits, N: WaitsNet<Link = L> + Drop, S: Nets<N>, W: Wakes<N>>(
+pub(crate) fn accepts<
+    C: Resets + Drop,
+    L: Waits,
+    N: WaitsNet<Link = L> + Drop,
+    S: Nets<N>,
+    W: Wakes<N>,
+>(
     hall: &mut Hall<C, L, N>,
     agenda: &mut Agenda,
     net: &mut N,
     nets: &mut S,
     wakes: &mut W,
     plan: &Plan,
-) -> Result<(), RunFault> {
+) -> Result<(), RunFault>
+    ensures stands { (cfg : C.Settings) (to : Place) → AllStand (C.meaning cfg) (C.stands cfg) C.seen C.sound L.seen L.wrote N.seen to hall.old.places.items hall.old.sets.items → AllStand (C.meaning cfg) (C.stands cfg) C.seen C.sound L.seen L.wrote N.seen to hall.new.places.items hall.new.sets.items }
+    ensures balanced { IsBalanced (N.seen net.old) (N.seen net.new) hall.old.places.items hall.new.places.items }
+    ensures net { IsSameNet (N.seen net.old) (N.seen net.new) }
+{
     for _ in 0..u32::MAX {
         match accept_next(hall, agenda, net, nets, wakes, plan) {
             Ok(true) => {}
@@ -343,7 +408,13 @@ pub(crate) fn looks<
     wakes: &mut W,
     out: &mut K,
     plan: &Plan,
-) -> Result<(), OutOfMemory> {
+) -> Result<(), OutOfMemory>
+    requires stands { (cfg : C.Settings) × AllStand (C.meaning cfg) (C.stands cfg) C.seen C.sound L.seen L.wrote N.seen (address_of plan.now.to.now) hall.old.places.items hall.old.sets.items }
+    requires lent { count_taken hall.old.places.items ≤ (N.seen net.old).lent }
+    ensures stands { (cfg : C.Settings) → AllStand (C.meaning cfg) (C.stands cfg) C.seen C.sound L.seen L.wrote N.seen (address_of plan.now.to.now) hall.old.places.items hall.old.sets.items → AllStand (C.meaning cfg) (C.stands cfg) C.seen C.sound L.seen L.wrote N.seen (address_of plan.now.to.now) hall.new.places.items hall.new.sets.items }
+    ensures balanced { IsBalanced (N.seen net.old) (N.seen net.new) hall.old.places.items hall.new.places.items }
+    ensures net { IsSameNet (N.seen net.old) (N.seen net.new) }
+{
     match visits(hall, agenda, net, wakes, out, plan) {
         Ok(()) => {}
         Err(OutOfMemory) => return Err(OutOfMemory),

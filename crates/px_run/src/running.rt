@@ -1,4 +1,9 @@
 //! The loop over many connections.
+ghost use Rattle.std.specs.Prelude.{◌≡◌, ◌≤◌, None, OnOk};
+ghost use Rattle.std.specs.List.{AllByRecursion};
+ghost use Rattle.px_link.specs.Net.{address_of, Place};
+ghost use Rattle.htx_drive.specs.Weave.State.{IsReady, IsFresh};
+ghost use Rattle.px_run.specs.Hall.{IsPlaced, AllStand, taken_at, count_taken, IsSameNet, IsBalanced, IsBalancedAt};
 
 use crate::agenda::Agenda;
 use crate::connection::Connection;
@@ -29,7 +34,14 @@ fn rounds<
     wakes: &mut W,
     out: &mut K,
     plan: &Plan,
-) -> Result<(), RunFault> {
+) -> Result<(), RunFault>
+    requires stands { (cfg : C.Settings) × AllStand (C.meaning cfg) (C.stands cfg) C.seen C.sound L.seen L.wrote N.seen (address_of plan.now.to.now) hall.old.places.items hall.old.sets.items }
+    requires lent { count_taken hall.old.places.items ≤ (N.seen net.old).lent }
+    ensures stands { (cfg : C.Settings) → AllStand (C.meaning cfg) (C.stands cfg) C.seen C.sound L.seen L.wrote N.seen (address_of plan.now.to.now) hall.old.places.items hall.old.sets.items → AllStand (C.meaning cfg) (C.stands cfg) C.seen C.sound L.seen L.wrote N.seen (address_of plan.now.to.now) hall.new.places.items hall.new.sets.items }
+    ensures balanced { IsBalanced (N.seen net.old) (N.seen net.new) hall.old.places.items hall.new.places.items }
+    ensures net { IsSameNet (N.seen net.old) (N.seen net.new) }
+    ensures empty { OnOk result (count_taken hall.new.places.items ≡ 0) }
+{
     let mut agenda = match Agenda::new(plan.alloc, hall.places.len(), &plan.times) {
         Ok(agenda) => agenda,
         Err(OutOfMemory) => return Err(RunFault::OutOfMemory),
@@ -57,7 +69,13 @@ fn rounds<
 fn leave<C: Resets + Drop, L: Waits + Drop, N: WaitsNet<Link = L> + Drop>(
     at: &mut Option<Connection<C, L, N>>,
     net: &mut N,
-) {
+)
+    requires placed { (cfg : C.Settings) × (to : Place) × IsPlaced (C.meaning cfg) (C.stands cfg) C.seen C.sound L.seen L.wrote N.seen to at.old }
+    requires lent { taken_at at.old ≤ (N.seen net.old).lent }
+    ensures none { at.new ≡ None }
+    ensures balanced { IsBalancedAt (N.seen net.old) (N.seen net.new) at.old at.new }
+    ensures net { IsSameNet (N.seen net.old) (N.seen net.new) }
+{
     match at.take() {
         Some(connection) => {
             let mut conn = connection.conn;
@@ -74,7 +92,13 @@ fn leave<C: Resets + Drop, L: Waits + Drop, N: WaitsNet<Link = L> + Drop>(
 fn leave_all<C: Resets + Drop, L: Waits + Drop, N: WaitsNet<Link = L> + Drop>(
     places: &mut [Option<Connection<C, L, N>>],
     net: &mut N,
-) {
+)
+    requires placed { (cfg : C.Settings) × (to : Place) × AllByRecursion (IsPlaced (C.meaning cfg) (C.stands cfg) C.seen C.sound L.seen L.wrote N.seen to) places.old }
+    requires lent { count_taken places.old ≤ (N.seen net.old).lent }
+    ensures none { count_taken places.new ≡ 0 }
+    ensures balanced { IsBalanced (N.seen net.old) (N.seen net.new) places.old places.new }
+    ensures net { IsSameNet (N.seen net.old) (N.seen net.new) }
+{
     for place in 0..places.len() {
         leave(&mut places[place], net);
     }
@@ -96,7 +120,12 @@ pub fn run<
     out: &mut K,
     sets: Vec<C>,
     plan: &Plan,
-) -> Result<(), RunFault> {
+) -> Result<(), RunFault>
+    requires ready { AllByRecursion (IsReady C.seen C.sound) sets.items }
+    requires fresh { (cfg : C.Settings) × AllByRecursion (IsFresh (C.stands cfg)) sets.items }
+    ensures lent { (N.seen net.new).lent ≡ (N.seen net.old).lent }
+    ensures net { IsSameNet (N.seen net.old) (N.seen net.new) }
+{
     let count = sets.len().saturating_mul(PLACES_A_SET);
     let places = match no_places(plan.alloc, count) {
         Ok(places) => places,

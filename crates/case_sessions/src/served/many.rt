@@ -4,7 +4,7 @@ ghost use Rattle.std.specs.Prelude.{◌≡◌, true, IfOk};
 
 use crate::served::links::put_servers;
 use case_rows::{Call, Fault};
-use proxy_call::Many;
+use proxy_call::{Many, Switch};
 use px_link::{MemNet, MemWakes, OutOfMemory, Script, ScriptedNet};
 use px_run::Nets;
 use rec_format::Connection;
@@ -25,6 +25,11 @@ pub(crate) struct RecordNets<'r> {
     alloc: Global,
     conns: &'r [Connection],
     asked: usize,
+}
+
+/// It has no switch.
+impl<'r> Switch for RecordNets<'r> {
+    fn heed(&mut self, _: bool) {}
 }
 
 /// A net with the servers of a connection, on which no call fails.

@@ -22,21 +22,10 @@ pub struct Many<N, S, W> {
 /// How many connections have a core at once, where the words don't say.
 const SETS: u32 = 256;
 
-/// Nets of a caller, whose switch is looked at or not.
-#[derive(Drop)]
-struct Switched<'s, S> {
-    nets: &'s mut S,
-    until_off: bool,
-}
-
-impl<'s, N: WaitsNet, S: Nets<N>> Nets<N> for Switched<'s, S> {
-    fn net(&mut self) -> Result<N, OutOfMemory> {
-        self.nets.net()
-    }
-
-    fn accepts_more(&mut self) -> bool {
-        !self.until_off || self.nets.accepts_more()
-    }
+/// A switch that the caller has, which turns further connections off.
+pub trait Switch {
+    /// Whether it is looked at. Where it isn't, further connections are accepted.
+    fn heed(&mut self, heeds: bool);
 }
 
 /// The times of a configuration.
@@ -62,7 +51,13 @@ fn write_listening<K: Sink>(
 }
 
 /// Listens where the configuration says, and serves many clients at once.
-pub fn run_clients<L: Waits + Drop, N: WaitsNet<Link = L> + Drop, S: Nets<N>, W: Wakes<N>, K: Sink>(
+pub fn run_clients<
+    L: Waits + Drop,
+    N: WaitsNet<Link = L> + Drop,
+    S: Nets<N> + Switch,
+    W: Wakes<N>,
+    K: Sink,
+>(
     alloc: Global,
     config: &Config,
     options: RunOptions,
@@ -87,15 +82,19 @@ pub fn run_clients<L: Waits + Drop, N: WaitsNet<Link = L> + Drop, S: Nets<N>, W:
     if write_listening(alloc, config, out).is_err() {
         return Err(RunFault::OutOfMemory);
     }
-    let mut nets = Switched {
-        nets: &mut many.nets,
-        until_off: options.until_input_ends,
-    };
+    many.nets.heed(options.until_input_ends);
     let plan = Plan {
         alloc,
         to: &config.server,
         times: times_of(&config.timeouts),
         connections: options.connections,
     };
-    run(&mut many.net, &mut nets, &mut many.wakes, out, sets, &plan)
+    run(
+        &mut many.net,
+        &mut many.nets,
+        &mut many.wakes,
+        out,
+        sets,
+        &plan,
+    )
 }

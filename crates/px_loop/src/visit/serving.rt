@@ -3,7 +3,7 @@ ghost use Rattle.std.specs.Prelude.{◌≡◌, [], IfOk};
 
 use crate::RULES;
 use crate::visit::ports::Ports;
-use proxy_call::{Many, Status, htx_proxy};
+use proxy_call::{Many, Status, Switch, htx_proxy};
 use px_link::{MemFiles, MemNet, MemWakes, OutOfMemory, Script, ScriptedNet};
 use px_pattern::RealPatterns;
 use px_run::Nets;
@@ -59,13 +59,7 @@ fn no_net(alloc: Global) -> Result<ScriptedNet<MemNet>, OutOfMemory>
     let net = MemNet::new(alloc, Vec::new(alloc), Vec::new(alloc))?;
     let accepts = Script::new(Vec::new(alloc));
     let connects = Script::new(Vec::new(alloc));
-    Ok(ScriptedNet::new(
-        alloc,
-        net,
-        accepts,
-        connects,
-        Vec::new(alloc),
-    ))
+    Ok(ScriptedNet::new(alloc, net, accepts, connects, Vec::new(alloc)))
 }
 
 impl Nets<ScriptedNet<MemNet>> for NoNets {
@@ -76,6 +70,10 @@ impl Nets<ScriptedNet<MemNet>> for NoNets {
     fn accepts_more(&mut self) -> bool {
         false
     }
+}
+
+impl Switch for NoNets {
+    fn heed(&mut self, _: bool) {}
 }
 
 /// Serves two clients at one port, with the server at another. The process ends with the program's status.

@@ -1,5 +1,12 @@
-use Rattle.std.proofs.Common.{ℕ, List, map, inl, inr, refl, subst}
-use Rattle.std.specs.Prelude.{string_bytes}
+use Rattle.std.proofs.Common.{ℕ, List, ◌≡◌, map, inl, inr, refl, subst}
+use Rattle.std.specs.Prelude.{Option, Result, string_bytes}
+use Rattle.http_rules.specs.declared.config.Config.{Config}
+use Rattle.px_command.specs.declared.options.RunOptions.{RunOptions}
+use Rattle.px_run.specs.declared.plan.RunFault.{RunFault}
+use Rattle.serve_run.specs.declared.outcome.ServeFault.{ServeFault}
+use Rattle.proxy_call.specs.Ends.{put}
+use Rattle.proxy_call.specs.Running.{Runs}
+use Rattle.proxy_call.specs.Serving.{Serves}
 use Rattle.px_command.specs.Asked.{IsAsked}
 use Rattle.px_command.specs.Command.{IsCheck, IsCheckAll, IsCheckRecord, IsReplay, IsWeave, IsServe, IsRun, IsDrill, IsHelp, IsHelpOf, IsVersion}
 use Rattle.proxy_call.specs.Files.{Builder, told_by}
@@ -57,7 +64,15 @@ pub returns-in-Run : goal.returns-in-Run
 returns-in-Run g c =
     let words : List (List ℕ) = map string_bytes c.args.words.now in
     let is : IsRun words c.in-Run.cfg.now c.in-Run.options = subst (IsAsked words) c.in-Run.is c.in_ok-cfg.ensures in
-    any_of_run _ _ _ _ _ _ _ refl (c.run_many.ensures words is)
+    let builder : Builder = told_by (g.P.Patterns.refusals c.args.pats.now) (g.P.Patterns.refusals c.run_many.new.pats) (g.P.Patterns.last_refused c.run_many.new.pats) in
+    let input : Input = given words (g.F.Files.files c.args.files.now) builder (g.F.Files.last_failed c.run_many.new.files) (g.F.Files.faults c.args.files.now) (g.F.Files.faults c.run_many.new.files) in
+    let before : ℕ = g.K.Sink.faults c.args.out.now in
+    let now : ℕ = g.K.Sink.faults c.run_many.new.out in
+    let old : Option (List ℕ) = g.K.Sink.written c.args.out.now in
+    let new : Option (List ℕ) = g.K.Sink.written c.run_many.new.out in
+    let Does : Config → ℕ → Result (Unit {0}) ServeFault → Type 0 = Serves g.N.Link.Link.seen g.N.Link.Link.wrote g.N.Net.seen c.args.net.now c.args.net.now before now old new in
+    let Ran : Config → RunOptions → Result (Unit {0}) RunFault → Type 0 = Runs g.M.Net.seen c.args.many.now.net c.run_many.new.many.net old new in
+    any_of_run input (put before now old new) (c.args.net.now ≡ c.args.net.now) (c.run_many.new.many ≡ c.args.many.now) Does Ran c.run_many.result refl (c.run_many.ensures words is)
 
 pub returns-in-Drill : goal.returns-in-Drill
 returns-in-Drill g c =

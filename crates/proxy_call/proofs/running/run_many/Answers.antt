@@ -1,5 +1,5 @@
-use Rattle.std.proofs.Common.{ℕ, List, ◌≡◌, inl, inr, refl}
-use Rattle.std.specs.Prelude.{Option, Result, Ok, Err}
+use Rattle.std.proofs.Common.{ℕ, ◌≡◌, inl, inr, refl}
+use Rattle.std.specs.Prelude.{Result, Ok, Err}
 use Rattle.http_rules.specs.declared.config.Config.{Config}
 use Rattle.px_command.specs.declared.options.RunOptions.{RunOptions}
 use Rattle.px_run.specs.declared.plan.RunFault.{RunFault}
