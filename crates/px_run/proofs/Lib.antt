@@ -4,5 +4,3 @@ mod Courses
 mod Sets
 mod Begins
 mod Looks
-mod Places
-mod Halls

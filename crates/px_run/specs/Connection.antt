@@ -1,5 +1,5 @@
 -- Where a connection of many stands between two looks at it.
-use Rattle.std.specs.Prelude.{◌≡◌, ℕ, List, true, Option, Some, None, Result, is_some}
+use Rattle.std.specs.Prelude.{◌≡◌, ℕ, List, Bool, true, false, Option, Some, None, Result, Ok, Err, is_some}
 use Rattle.session_model.specs.Meaning.{Meaning}
 use Rattle.session_core.specs.History.{Past}
 use Rattle.px_link.specs.Link.{Seen}
@@ -7,6 +7,7 @@ use Rattle.px_link.specs.Net.{Place, NetSeen}
 use Rattle.htx_drive.specs.Machine.{CoreSeen}
 use Rattle.htx_drive.specs.declared.Ran.{Ran}
 use Rattle.htx_drive.specs.declared.SessionFault.{SessionFault}
+use Rattle.htx_drive.specs.declared.SessionFault.TheVariants as faults
 use Rattle.serve_run.specs.Lines.{answer_of}
 use Rattle.px_run.specs.Course.{IsSame, GoesOn, CameTo, MayStep}
 use Rattle.px_run.specs.declared.connection.Looked.{Looked}
@@ -35,13 +36,21 @@ IsAt M stands sees sound seen wrote first client server to first_net net None (S
 IsAt M stands sees sound seen wrote first client server to first_net net (Some ran) None = IsOver M stands sees seen wrote first client server to first_net net ran
 IsAt M stands sees sound seen wrote first client server to first_net net (Some ran) (Some core) = ⊥
 
+-- it was given up, and a write to its client isn't why
+abbrev pub found_no_memory : Option (Result Ran SessionFault) → Bool
+found_no_memory None = false
+found_no_memory (Some (Ok ran)) = false
+found_no_memory (Some (Err faults.ClientWrite)) = false
+found_no_memory (Some (Err faults.Spent)) = true
+found_no_memory (Some (Err faults.OutOfMemory)) = true
+
 -- what a look says: one that ends does so in this look, and its number and its outcome are told
 abbrev pub LookedSo : Looked → (number : ℕ) → (was ran : Option (Result Ran SessionFault)) → Type 0
 LookedSo looks.Waits number was ran = ran ≡ was
 LookedSo looks.GoesOn number was ran = ran ≡ was
 LookedSo looks.Hungry number was ran = ran ≡ was
 LookedSo (looks.Ended told outcome) number was ran = (told ≡ number) × (was ≡ None) × (ran ≡ Some (answer_of outcome))
-LookedSo looks.Lost number was ran = (was ≡ None) × (is_some ran ≡ true)
+LookedSo looks.Lost number was ran = (was ≡ None) × (found_no_memory ran ≡ true)
 LookedSo looks.Leaves number was ran = (ran ≡ was) × (is_some ran ≡ true)
 
 -- it changes nothing of what the connection came to

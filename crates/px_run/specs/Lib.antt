@@ -2,4 +2,3 @@ pub mod Next
 pub mod Deadline
 pub mod Course
 pub mod Connection
-pub mod Hall

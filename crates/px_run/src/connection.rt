@@ -19,7 +19,7 @@ const STEPS: usize = 16;
 
 /// One connection. It has no core before its client gives its first bytes, and none once it has ended.
 #[derive(Drop)]
-pub(crate) struct Connection<C, L, N> {
+pub struct Connection<C, L, N> {
     /// Its number in the order in which links were accepted, from 1.
     pub number: u32,
     pub conn: Conn<L, N>,
@@ -28,7 +28,7 @@ pub(crate) struct Connection<C, L, N> {
 
 /// What a look at a connection came to.
 #[derive(Clone, Copy)]
-pub(crate) enum Looked {
+pub enum Looked {
     /// It waits for an event or its deadline.
     Waits,
     /// It can go on at once.
@@ -319,7 +319,7 @@ fn leaves<L: Waits>(client: &mut L, pace: &Pace) -> Looked
 }
 
 /// A look at a connection: it gets a core, makes steps, ends or leaves.
-pub(crate) fn look<C: Resets + Drop, L: Waits, N: WaitsNet<Link = L>, W: Wakes<N>>(
+pub fn look<C: Resets + Drop, L: Waits, N: WaitsNet<Link = L>, W: Wakes<N>>(
     connection: &mut Connection<C, L, N>,
     sets: &mut Vec<C>,
     pace: &mut Pace,

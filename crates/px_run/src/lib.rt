@@ -1,19 +1,14 @@
-//! Many clients at once on one thread: what a connection does next, when it has waited too long, and the loop over all of them. It knows no message and no rule.
+//! Many clients at once on one thread: what a connection does next, when it has waited too long, and a look at one of many. It knows no message and no rule.
 #![tactic(auto)]
 
-mod agenda;
 mod connection;
 mod deadline;
-mod hall;
-mod lines;
 mod next;
 mod pace;
-mod plan;
-mod rounds;
-mod running;
 mod step;
 
+pub use connection::{Connection, Looked, look};
 pub use deadline::{Call, Marks, Phase, Times, deadline_of, expired_of};
 pub use next::{Next, Ready, next_of};
-pub use plan::{Nets, Plan, RunFault};
-pub use running::run;
+pub use pace::Pace;
+pub use step::{Stepped, Tools};

@@ -21,7 +21,7 @@ const WAITING: Wants = Wants {
 
 /// What of a connection tells when it is looked at again.
 #[derive(Clone, Copy)]
-pub(crate) struct Pace {
+pub struct Pace {
     /// The number of the place.
     pub place: usize,
     marks: Marks,

@@ -15,7 +15,7 @@ use px_link::{Address, OutOfMemory, Turn, Waits, WaitsNet};
 
 /// What all connections use, one after another.
 #[derive(Drop)]
-pub(crate) struct Tools {
+pub struct Tools {
     /// The time.
     pub now: u64,
     /// What reads read into.
@@ -24,7 +24,7 @@ pub(crate) struct Tools {
 
 /// What a step came to.
 #[derive(Clone, Copy)]
-pub(crate) enum Stepped {
+pub enum Stepped {
     /// Something was done.
     Moved,
     /// A server was asked for: it is open, or was refused.
