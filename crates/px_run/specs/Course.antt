@@ -4,7 +4,7 @@ use Rattle.session_model.specs.Meaning.{Meaning}
 use Rattle.session_core.specs.History.{Past}
 use Rattle.px_link.specs.declared.turns.Turn.{Turn}
 use Rattle.px_link.specs.Link.{Seen}
-use Rattle.px_link.specs.Net.{Place, Kept, NetSeen}
+use Rattle.px_link.specs.Net.{Place, NetSeen}
 use Rattle.htx_drive.specs.Machine.{CoreSeen}
 use Rattle.htx_drive.specs.declared.Ran.{Ran}
 use Rattle.htx_drive.specs.declared.SessionFault.{SessionFault}
@@ -13,14 +13,6 @@ use Rattle.htx_drive.specs.Weave.Woven.{Going, EndedSo, GivenUp}
 use Rattle.htx_drive.specs.Weave.Single.{Working}
 use Rattle.px_run.specs.declared.step.Stepped.{Stepped}
 use Rattle.px_run.specs.declared.step.Stepped.TheVariants as steps
-
--- ---- what it begins with
-
--- nothing was done with a net yet
-pub record IsNewNet (net : NetSeen) : Type 0 where
-  pub none_lent : net.lent ≡ 0
-  pub none_dialled : net.dialled ≡ []
-  pub none_kept : (kept : List Kept) → net.kept ≡ Some kept → kept ≡ []
 
 -- ---- links that were asked what can be done now
 
