@@ -1,15 +1,13 @@
 -- A session begins on a core to which nothing has happened.
-use Rattle.std.proofs.Common.{◌≡◌, ℕ, ◌+◌, ◌≤◌, List, [], ◌∷◌, ◌++◌, Bool, true, false, Option, Some, None, refl, sym, ap, subst, ◌∙◌, inl, arith}
+use Rattle.std.proofs.Common.{◌≡◌, ℕ, ◌+◌, List, [], false, Some, None, refl, sym, ap, subst, ◌∙◌, inl, arith}
 use Rattle.std.proofs.lemmas.List.{append-nil}
 use Rattle.session_core.specs.History.{Past, nothing_yet, no_stream}
-use Rattle.px_link.specs.declared.turns.Turn.{Turn}
 use Rattle.px_link.specs.Link.{Seen, Takes, Untold, UpTo, All, WithinTakes}
 use Rattle.px_link.specs.Net.{Place, NetSeen}
 use Rattle.htx_drive.specs.Machine.{CoreSeen}
 use Rattle.htx_drive.specs.Came.{Came, Put}
 use Rattle.htx_drive.specs.Dialled.{Dials, CountsRefused}
 use Rattle.htx_drive.specs.Turned.{starts}
-use Rattle.htx_drive.specs.Weave.Woven.{Going}
 use Rattle.px_run.specs.Course.{GoesOn}
 
 came_fresh : (s : Seen) → Came s s no_stream

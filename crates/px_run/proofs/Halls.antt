@@ -1,14 +1,25 @@
 -- What all places say, when one of them changes.
-use Rattle.std.proofs.Common.{◌≡◌, ℕ, ◌+◌, ◌<◌, ◌≤◌, List, Option, Some, None, length, get_or, set, refl, sym, ap, ◌∙◌, arith}
-use Rattle.std.specs.List.{AllByRecursion, sum_by}
-use Rattle.std.proofs.lemmas.List.Sums.{sum_by-set, get_or-le-sum_by}
+use Rattle.std.proofs.Common.{◌≡◌, ℕ, ◌+◌, ◌<◌, ◌≤◌, List, [], ◌∷◌, ◌++◌, Option, Some, None, length, get_or, set, drop, Bool, true, false, refl, sym, ap, subst, ◌∙◌, arith}
+use Rattle.std.specs.Prelude.{Result, is_some, option_to_list, if◌then◌else◌}
+use Rattle.std.proofs.Math.Seq.{drop-cons}
+use Rattle.std.proofs.lemmas.List.{drop_all}
+use Rattle.std.proofs.Math.Numerals.{suc-eq-add-one}
+use Rattle.std.proofs.lemmas.Bool.{true≢false}
+use Rattle.htx_drive.specs.declared.Ran.{Ran}
+use Rattle.htx_drive.specs.declared.SessionFault.{SessionFault}
+use Rattle.px_run.specs.Course.{IsNewNet, IsSame, IsSameServer}
+use Rattle.px_run.specs.Connection.{IsAt}
+use Rattle.px_run.proofs.Asked.{same_by}
+use Rattle.px_run.proofs.Looks.{asked_at}
+use Rattle.std.specs.List.{AllByRecursion}
+use Rattle.std.proofs.lemmas.List.Sums.{sum_by-cons, sum_by-set, get_or-le-sum_by}
 use Rattle.session_model.specs.Meaning.{Meaning}
 use Rattle.session_core.specs.History.{Past}
 use Rattle.px_link.specs.Link.{Seen}
 use Rattle.px_link.specs.Net.{Place, NetSeen}
 use Rattle.htx_drive.specs.Machine.{CoreSeen}
 use Rattle.px_run.specs.declared.connection.Connection.{Connection}
-use Rattle.px_run.specs.Hall.{taken_at, count_taken, IsSameNet}
+use Rattle.px_run.specs.Hall.{IsOf, IsPlaced, taken_at, count_taken, IsSameNet, IsBalanced}
 
 -- how many are open behind a change of one place
 pub taken_set : {C L N : Type 0} (places : List (Option (Connection C L N))) (i : ℕ) (y d : Option (Connection C L N)) → i < length places → count_taken (set places i y) + taken_at (get_or places i d) ≡ count_taken places + taken_at y
@@ -25,3 +36,104 @@ same_net net = record { bound = refl; dialled = refl }
 
 pub same_net_then : (a b c : NetSeen) → IsSameNet a b → IsSameNet b c → IsSameNet a c
 same_net_then a b c s t = record { bound = t.bound ∙ s.bound; dialled = t.dialled ∙ s.dialled }
+
+-- ---- what is said of one place
+
+module _ {C L N : Type 0} (M : Meaning) (stands : C → Past → Type 0) (sees : C → CoreSeen) (sound : C → Type 0) (seen : L → Seen) (wrote : L → List ℕ → Type 0) (sees_net : N → NetSeen) (to : Place) where
+  -- the connection that stands there
+  pub placed_is : (at : Option (Connection C L N)) (c : Connection C L N) → at ≡ Some c → IsPlaced M stands sees sound seen wrote sees_net to at → IsOf M stands sees sound seen wrote sees_net to c
+  placed_is at c e h = let P : Option (Connection C L N) → Type 0 = λ o. IsPlaced M stands sees sound seen wrote sees_net to o in subst P e h
+
+  -- its links were asked
+  pub placed_asked : (at : Option (Connection C L N)) (c d : Connection C L N) → at ≡ Some c → IsSame seen wrote c.conn.client d.conn.client → IsSameServer seen wrote c.conn.server d.conn.server → sees_net d.conn.net ≡ sees_net c.conn.net → d.conn.ran ≡ c.conn.ran → d.core ≡ c.core
+      → IsPlaced M stands sees sound seen wrote sees_net to at → IsOf M stands sees sound seen wrote sees_net to d
+  placed_asked at c d e s t n r k h =
+      let i = placed_is at c e h in
+      let asked = asked_at M stands sees sound seen wrote i.first to (sees_net i.first_net) c.conn.client d.conn.client c.conn.server d.conn.server (sees_net c.conn.net) (sees_net d.conn.net) c.conn.ran c.core s t n i.at in
+      let P : Option (Result Ran SessionFault) → Type 0 = λ o. IsAt M stands sees sound seen wrote i.first d.conn.client d.conn.server to (sees_net i.first_net) (sees_net d.conn.net) o c.core in
+      let Q : Option C → Type 0 = λ o. IsAt M stands sees sound seen wrote i.first d.conn.client d.conn.server to (sees_net i.first_net) (sees_net d.conn.net) d.conn.ran o in
+      record { first = i.first; first_net = i.first_net; new_net = i.new_net; at = subst Q (sym k) (subst P (sym r) asked) }
+
+  -- one that was accepted
+  pub placed_new : (link : L) (own : N) (c : Connection C L N) → IsNewNet (sees_net own) → c.conn.client ≡ link → c.conn.net ≡ own → c.conn.server ≡ None → c.conn.ran ≡ None → c.core ≡ None → IsOf M stands sees sound seen wrote sees_net to c
+  placed_new link own c new e n s r k =
+      let waits : IsAt M stands sees sound seen wrote link c.conn.client c.conn.server to (sees_net own) (sees_net c.conn.net) None None = record { same = same_by seen wrote link c.conn.client e; no_server = s; same_net = ap sees_net n } in
+      let P : Option (Result Ran SessionFault) → Type 0 = λ o. IsAt M stands sees sound seen wrote link c.conn.client c.conn.server to (sees_net own) (sees_net c.conn.net) o None in
+      let Q : Option C → Type 0 = λ o. IsAt M stands sees sound seen wrote link c.conn.client c.conn.server to (sees_net own) (sees_net c.conn.net) c.conn.ran o in
+      record { first = link; first_net = own; new_net = new; at = subst Q (sym k) (subst P (sym r) waits) }
+
+-- ---- none is open
+
+pub none_taken : {C L N : Type 0} (at : Option (Connection C L N)) → at ≡ None → taken_at at ≡ 0
+none_taken at e = ap (λ o. taken_at o) e
+
+pub taken_pushed : {C L N : Type 0} (places : List (Option (Connection C L N))) (at : Option (Connection C L N)) → count_taken (places ++ at ∷ []) ≡ count_taken places + taken_at at
+taken_pushed {C} {L} {N} [] at =
+    let one : count_taken {C = C} {L = L} {N = N} (at ∷ []) ≡ taken_at at + count_taken {C = C} {L = L} {N = N} [] = sum_by-cons (λ (o : Option (Connection C L N)). taken_at o) at [] in
+    let none : count_taken {C = C} {L = L} {N = N} [] ≡ 0 = refl in
+    omega (arith, one, none)
+taken_pushed {C} {L} {N} (x ∷ xs) at =
+    let f : Option (Connection C L N) → ℕ = λ o. taken_at o in
+    let whole : count_taken {C = C} {L = L} {N = N} ((x ∷ xs) ++ at ∷ []) ≡ taken_at x + count_taken (xs ++ at ∷ []) = sum_by-cons f x (xs ++ at ∷ []) in
+    let all : count_taken {C = C} {L = L} {N = N} (x ∷ xs) ≡ taken_at x + count_taken xs = sum_by-cons f x xs in
+    let r = taken_pushed xs at in
+    omega (arith, whole, all, r)
+
+-- the last left its place
+pub taken_popped : {C L N : Type 0} (old new : List (Option (Connection C L N))) (last : Option (Option (Connection C L N))) (at : Option (Connection C L N)) → last ≡ Some at → old ≡ new ++ option_to_list last → count_taken old ≡ count_taken new + taken_at at
+taken_popped {C} {L} {N} old new last at f e =
+    let Q : Option (Option (Connection C L N)) → Type 0 = λ o. count_taken old ≡ count_taken (new ++ option_to_list o) in
+    subst Q f (ap (λ (l : List (Option (Connection C L N))). count_taken l) e) ∙ taken_pushed new at
+
+pub taken_empty : {C L N : Type 0} (places : List (Option (Connection C L N))) → length places ≡ 0 → count_taken places ≡ 0
+taken_empty [] e = refl
+taken_empty (x ∷ xs) e = absurd (omega (arith, e))
+
+-- one more place at which none is
+pub taken_more : {C L N : Type 0} (done : Bool) (old new : List (Option (Connection C L N))) (at : Option (Connection C L N)) → new ≡ (if done then old ++ at ∷ [] else old) → taken_at at ≡ 0 → count_taken old ≡ 0 → count_taken new ≡ 0
+taken_more {C} {L} {N} true old new at e z h = let p = taken_pushed old at in let q = ap (λ (l : List (Option (Connection C L N))). count_taken l) e in omega (arith, p, q, z, h)
+taken_more {C} {L} {N} false old new at e z h = ap (λ (l : List (Option (Connection C L N))). count_taken l) e ∙ h
+
+is_none_taken : {C L N : Type 0} (at : Option (Connection C L N)) → is_some at ≡ false → taken_at at ≡ 0
+is_none_taken None e = refl
+is_none_taken (Some c) e = absurd (true≢false e)
+
+next_taken : {C L N : Type 0} (places : List (Option (Connection C L N))) (i : ℕ) (d : Option (Connection C L N)) → i < length places → count_taken (drop i places) ≡ taken_at (get_or places i d) + count_taken (drop (i + 1) places)
+next_taken {C} {L} {N} places i d h =
+    ap (λ (l : List (Option (Connection C L N))). count_taken l) (drop-cons places i d h ∙ ap (λ k. get_or places i d ∷ drop k places) (suc-eq-add-one i)) ∙ sum_by-cons (λ (at : Option (Connection C L N)). taken_at at) (get_or places i d) (drop (i + 1) places)
+
+-- none is open at this place
+pub passes_none : {C L N : Type 0} (places : List (Option (Connection C L N))) (i total : ℕ) (x : Option (Connection C L N)) → i < length places → x ≡ get_or places i x → is_some x ≡ false → count_taken (drop i places) ≡ total → count_taken (drop (i + 1) places) ≡ total
+passes_none {C} {L} {N} places i total x h is e p =
+    let own : taken_at (get_or places i x) ≡ 0 = sym (ap (λ (y : Option (Connection C L N)). taken_at y) is) ∙ is_none_taken x e in
+    let next = next_taken places i x h in
+    omega (arith, own, next, p)
+
+pub none_left : {C L N : Type 0} (places : List (Option (Connection C L N))) (i total : ℕ) → length places ≤ i → count_taken (drop i places) ≡ total → total ≡ 0
+none_left {C} {L} {N} places i total w p = sym p ∙ ap (λ (l : List (Option (Connection C L N))). count_taken l) (drop_all i places w)
+
+-- one place changes, and the connection there stays or none is there
+pub taken_set_same : {C L N : Type 0} (places : List (Option (Connection C L N))) (i : ℕ) (y d : Option (Connection C L N)) → i < length places → get_or places i d ≡ d → taken_at y ≡ taken_at d → count_taken (set places i y) ≡ count_taken places
+taken_set_same {C} {L} {N} places i y d w e t = taken_same places i y d w (t ∙ sym (ap (λ (at : Option (Connection C L N)). taken_at at) e))
+
+pub balanced_then : {C L N : Type 0} (a b c : NetSeen) (ps qs rs : List (Option (Connection C L N))) → IsBalanced a b ps qs → IsBalanced b c qs rs → IsBalanced a c ps rs
+balanced_then a b c ps qs rs s t = omega (arith, s, t)
+
+-- where the places are balanced, as many links are lent as there are connections, at least
+pub still_lent : {C L N : Type 0} (a b : NetSeen) (ps qs : List (Option (Connection C L N))) → count_taken ps ≤ a.lent → IsBalanced a b ps qs → count_taken qs ≤ b.lent
+still_lent a b ps qs l s = omega (arith, l, s)
+
+-- the same behind what changes no net, and no number of connections
+pub balanced_same : {C L N : Type 0} (a b : NetSeen) (ps qs rs : List (Option (Connection C L N))) → IsBalanced a b ps qs → count_taken rs ≡ count_taken qs → IsBalanced a b ps rs
+balanced_same a b ps qs rs s e = omega (arith, s, e)
+
+placed_none : {C L N : Type 0} (M : Meaning) (stands : C → Past → Type 0) (sees : C → CoreSeen) (sound : C → Type 0) (seen : L → Seen) (wrote : L → List ℕ → Type 0) (sees_net : N → NetSeen) (to : Place) (at : Option (Connection C L N)) → taken_at at ≡ 0 → IsPlaced M stands sees sound seen wrote sees_net to at
+placed_none M stands sees sound seen wrote sees_net to None e = tt
+placed_none M stands sees sound seen wrote sees_net to (Some c) e = absurd (omega (arith, e))
+
+-- where none is open, so it is of all places
+pub all_none : {C L N : Type 0} (M : Meaning) (stands : C → Past → Type 0) (sees : C → CoreSeen) (sound : C → Type 0) (seen : L → Seen) (wrote : L → List ℕ → Type 0) (sees_net : N → NetSeen) (to : Place) (places : List (Option (Connection C L N))) → count_taken places ≡ 0 → AllByRecursion (IsPlaced M stands sees sound seen wrote sees_net to) places
+all_none M stands sees sound seen wrote sees_net to [] e = tt
+all_none {C} {L} {N} M stands sees sound seen wrote sees_net to (x ∷ xs) e =
+    let all : count_taken {C = C} {L = L} {N = N} (x ∷ xs) ≡ taken_at x + count_taken xs = sum_by-cons (λ (o : Option (Connection C L N)). taken_at o) x xs in
+    (placed_none M stands sees sound seen wrote sees_net to x (omega (arith, all, e)), all_none M stands sees sound seen wrote sees_net to xs (omega (arith, all, e)))

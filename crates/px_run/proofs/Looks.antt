@@ -1,18 +1,18 @@
 -- Where a connection stands behind a look at it.
-use Rattle.std.proofs.Common.{◌≡◌, ℕ, ◌<◌, List, Bool, true, false, Option, Some, None, refl, sym, ap, subst, ◌∙◌}
+use Rattle.std.proofs.Common.{◌≡◌, ℕ, List, true, false, Option, Some, None, refl, sym, ap, subst, ◌∙◌}
 use Rattle.std.specs.Prelude.{Result, Ok, Err, is_some}
 use Rattle.std.proofs.lemmas.Bool.{false≢true}
 use Rattle.session_model.specs.Meaning.{Meaning}
 use Rattle.session_core.specs.History.{Past, nothing_yet}
 use Rattle.px_link.specs.Link.{Seen}
 use Rattle.px_link.specs.Net.{Place, NetSeen}
-use Rattle.htx_drive.specs.Came.{Came, Put, FailsSo}
+use Rattle.htx_drive.specs.Came.{Came}
 use Rattle.htx_drive.specs.Machine.{CoreSeen}
 use Rattle.htx_drive.specs.declared.Ran.{Ran}
 use Rattle.htx_drive.specs.declared.SessionFault.{SessionFault}
 use Rattle.px_run.specs.Course.{IsSame, IsSameServer, GoesOn, CameTo, MayStep, HasCore}
-use Rattle.px_run.specs.Connection.{IsWaiting, IsServing, IsOver, IsAt}
-use Rattle.px_run.proofs.Asked.{same_then, same_link, put_same}
+use Rattle.px_run.specs.Connection.{IsWaiting, IsServing, IsAt}
+use Rattle.px_run.proofs.Asked.{same_then, put_same}
 use Rattle.px_run.proofs.Begins.{begins}
 use Rattle.px_run.proofs.Courses.{asked_goes, may_asked}
 

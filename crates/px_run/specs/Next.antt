@@ -1,6 +1,5 @@
 -- What a connection does next.
 use Rattle.std.specs.Prelude.{◌≡◌, ℕ, Bool, true, false, ◌&&◌, ◌||◌, if◌then◌else◌, List, [], ◌∷◌, Option, Some, None, is_some, ⊤}
-use Rattle.px_link.specs.declared.turns.Turn.{Turn}
 use Rattle.px_link.specs.declared.turns.Turn.TheVariants as turns
 use Rattle.http_model.specs.declared.End.{End}
 use Rattle.http_model.specs.declared.Close.{Close}

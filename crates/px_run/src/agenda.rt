@@ -216,15 +216,13 @@ impl Agenda {
     pub fn longest_rested(&self) -> Option<usize> {
         let mut found = None;
         let mut since = u64::MAX;
-        let mut place = 0usize;
-        for pace in &self.paces {
-            if let Some(rested) = pace.rested_since() {
+        for place in 0..self.paces.len() {
+            if let Some(rested) = self.paces[place].rested_since() {
                 if rested < since {
                     since = rested;
                     found = Some(place);
                 }
             }
-            place += 1;
         }
         found
     }

@@ -46,8 +46,8 @@ pub(crate) fn no_places<C: Drop, L: Drop, N: Drop>(
 pub(crate) fn is_empty<C, L, N>(places: &[Option<Connection<C, L, N>>]) -> bool
     ensures { result ≡ true → count_taken places.now ≡ 0 }
 {
-    for place in places {
-        if place.is_some() {
+    for at in places {
+        if at.is_some() {
             return false;
         }
     }

@@ -1,6 +1,7 @@
 //! Many clients at once on one thread: what a connection does next, when it has waited too long, and the loop over all of them. It knows no message and no rule.
 #![tactic(auto)]
 
+mod accepts;
 mod agenda;
 mod connection;
 mod deadline;

@@ -1,15 +1,16 @@
 //! The loop over many connections.
-ghost use Rattle.std.specs.Prelude.{◌≡◌, ◌≤◌, None, OnOk};
+ghost use Rattle.std.specs.Prelude.{◌≡◌, ◌≤◌, ◌+◌, OnOk};
 ghost use Rattle.std.specs.List.{AllByRecursion};
 ghost use Rattle.px_link.specs.Net.{address_of, Place};
 ghost use Rattle.htx_drive.specs.Weave.State.{IsReady, IsFresh};
-ghost use Rattle.px_run.specs.Hall.{IsPlaced, AllStand, taken_at, count_taken, IsSameNet, IsBalanced, IsBalancedAt};
+ghost use Rattle.px_run.specs.Hall.{IsPlaced, AllStand, taken_at, count_taken, IsSameNet, IsBalanced};
 
+use crate::accepts::{accepts, accepts_more};
 use crate::agenda::Agenda;
 use crate::connection::Connection;
 use crate::hall::{Hall, is_empty, no_places};
 use crate::lines::Output;
-use crate::rounds::{accepts, accepts_more, looks, wait};
+use crate::rounds::{looks, wait};
 use crate::step::Tools;
 use crate::{Nets, Plan, RunFault};
 use htx_drive::MOST_READ;
@@ -51,7 +52,7 @@ fn rounds<
         if !more && is_empty(&hall.places) {
             return Ok(());
         }
-        wait(&mut hall.places, &mut agenda, wakes, more, hall.tools.now)?;
+        wait(hall, &mut agenda, wakes, more)?;
         hall.tools.now = wakes.now();
         match looks(hall, &mut agenda, net, wakes, out, plan) {
             Ok(()) => {}
@@ -67,16 +68,15 @@ fn rounds<
 
 /// Gives up the connection of a place: each of its links that is still open is closed Failed, and all are given back.
 fn leave<C: Resets + Drop, L: Waits + Drop, N: WaitsNet<Link = L> + Drop>(
-    at: &mut Option<Connection<C, L, N>>,
+    at: Option<Connection<C, L, N>>,
     net: &mut N,
 )
-    requires placed { (cfg : C.Settings) × (to : Place) × IsPlaced (C.meaning cfg) (C.stands cfg) C.seen C.sound L.seen L.wrote N.seen to at.old }
-    requires lent { taken_at at.old ≤ (N.seen net.old).lent }
-    ensures none { at.new ≡ None }
-    ensures balanced { IsBalancedAt (N.seen net.old) (N.seen net.new) at.old at.new }
+    requires placed { (cfg : C.Settings) × (to : Place) × IsPlaced (C.meaning cfg) (C.stands cfg) C.seen C.sound L.seen L.wrote N.seen to at }
+    requires lent { taken_at at ≤ (N.seen net.old).lent }
+    ensures balanced { (N.seen net.new).lent + taken_at at ≡ (N.seen net.old).lent }
     ensures net { IsSameNet (N.seen net.old) (N.seen net.new) }
 {
-    match at.take() {
+    match at {
         Some(connection) => {
             let mut conn = connection.conn;
             if conn.ran.is_none() {
@@ -90,17 +90,20 @@ fn leave<C: Resets + Drop, L: Waits + Drop, N: WaitsNet<Link = L> + Drop>(
 
 /// Gives up the connection at each place.
 fn leave_all<C: Resets + Drop, L: Waits + Drop, N: WaitsNet<Link = L> + Drop>(
-    places: &mut [Option<Connection<C, L, N>>],
+    places: &mut Vec<Option<Connection<C, L, N>>>,
     net: &mut N,
 )
-    requires placed { (cfg : C.Settings) × (to : Place) × AllByRecursion (IsPlaced (C.meaning cfg) (C.stands cfg) C.seen C.sound L.seen L.wrote N.seen to) places.old }
-    requires lent { count_taken places.old ≤ (N.seen net.old).lent }
-    ensures none { count_taken places.new ≡ 0 }
-    ensures balanced { IsBalanced (N.seen net.old) (N.seen net.new) places.old places.new }
+    requires placed { (cfg : C.Settings) × (to : Place) × AllByRecursion (IsPlaced (C.meaning cfg) (C.stands cfg) C.seen C.sound L.seen L.wrote N.seen to) places.old.items }
+    requires lent { count_taken places.old.items ≤ (N.seen net.old).lent }
+    ensures none { count_taken places.new.items ≡ 0 }
+    ensures balanced { IsBalanced (N.seen net.old) (N.seen net.new) places.old.items places.new.items }
     ensures net { IsSameNet (N.seen net.old) (N.seen net.new) }
 {
-    for place in 0..places.len() {
-        leave(&mut places[place], net);
+    for left in 0..places.len() {
+        match places.pop() {
+            Some(at) => leave(at, net),
+            None => return,
+        }
     }
 }
 
@@ -124,7 +127,8 @@ pub fn run<
     requires ready { AllByRecursion (IsReady C.seen C.sound) sets.items }
     requires fresh { (cfg : C.Settings) × AllByRecursion (IsFresh (C.stands cfg)) sets.items }
     ensures lent { (N.seen net.new).lent ≡ (N.seen net.old).lent }
-    ensures net { IsSameNet (N.seen net.old) (N.seen net.new) }
+    ensures bound { (N.seen net.new).bound ≡ (N.seen net.old).bound }
+    ensures dialled { (N.seen net.new).dialled ≡ (N.seen net.old).dialled }
 {
     let count = sets.len().saturating_mul(PLACES_A_SET);
     let places = match no_places(plan.alloc, count) {

@@ -1,4 +1,4 @@
-use Rattle.std.proofs.Common.{rules, ◌≡◌, None, refl, ap, ◌∙◌}
+use Rattle.std.proofs.Common.{rules, ap}
 use Rattle.px_run.proofs.Looks.{seated_at}
 use Rattle.px_run.proofs.connection.seat.Goals as goal
 

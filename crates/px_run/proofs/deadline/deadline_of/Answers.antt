@@ -1,4 +1,4 @@
-use Rattle.std.proofs.Common.{◌≡◌, ℕ, Option, sym, subst, ap, ◌∙◌}
+use Rattle.std.proofs.Common.{ℕ, Option, sym, subst, ap, ◌∙◌}
 use Rattle.px_run.specs.Deadline.{due, sooner, head_due, bytes_due, rows_of, IsLeast}
 use Rattle.px_run.proofs.Deadlines.{is_least}
 use Rattle.px_run.proofs.deadline.deadline_of.Goals as goal

@@ -1,4 +1,4 @@
-use Rattle.std.proofs.Common.{refl, sym, ap, subst, ◌∙◌}
+use Rattle.std.proofs.Common.{sym, ap, subst, ◌∙◌}
 use Rattle.px_link.specs.Net.{address_of}
 use Rattle.session_core.specs.declared.machine.Wants.{Wants}
 use Rattle.px_run.specs.Next.{IsAllowed}

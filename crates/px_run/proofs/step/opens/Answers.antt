@@ -1,4 +1,4 @@
-use Rattle.std.proofs.Common.{refl, sym, false, [], ◌++◌, ◌+◌, ◌∙◌}
+use Rattle.std.proofs.Common.{false, [], ◌++◌, ◌+◌}
 use Rattle.htx_drive.specs.declared.SessionFault.TheVariants as faults
 use Rattle.px_link.specs.Net.{address_of}
 use Rattle.px_run.proofs.Courses.{none_open, not_true, steps_on, gives_up_so}

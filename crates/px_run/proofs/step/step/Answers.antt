@@ -1,4 +1,4 @@
-use Rattle.std.proofs.Common.{refl, false, [], ◌++◌, ap, ◌∙◌}
+use Rattle.std.proofs.Common.{false, [], ◌++◌, ◌∙◌}
 use Rattle.px_link.specs.Net.{address_of}
 use Rattle.htx_drive.specs.declared.SessionFault.TheVariants as faults
 use Rattle.px_run.proofs.Courses.{works, asked_works, gives_up_so, may_asked}

@@ -1,0 +1,182 @@
+//! Links that are accepted, while places are free.
+ghost use Rattle.std.specs.Prelude.{◌≡◌, ◌<◌, ◌+◌, ◌-◌, ◌^◌, true, Option, None, Some, length, slice_index_or};
+ghost use Rattle.px_link.specs.Net.{Place};
+ghost use Rattle.px_run.specs.declared.connection.Connection.{Connection};
+ghost use Rattle.px_run.specs.Course.{IsNewNet};
+ghost use Rattle.px_run.specs.Hall.{AllStand, count_taken, IsSameNet, IsBalanced};
+
+use crate::agenda::Agenda;
+use crate::connection::Connection;
+use crate::hall::Hall;
+use crate::{Nets, Plan, RunFault};
+use htx_drive::weave::{Conn, Resets};
+use px_link::{Fault, OutOfMemory, Waits, WaitsNet, Wakes};
+
+/// Whether a further link is to be accepted.
+pub(crate) fn accepts_more<N: WaitsNet, S: Nets<N>>(
+    accepted: u32,
+    plan: &Plan,
+    nets: &mut S,
+) -> bool
+    ensures { result ≡ true → accepted < 2 ^ 32 - 1 }
+{
+    if accepted == u32::MAX {
+        return false;
+    }
+    if let Some(count) = plan.connections {
+        if accepted >= count {
+            return false;
+        }
+    }
+    nets.accepts_more()
+}
+
+/// Puts a connection at a place at which none is.
+fn put<T>(at: &mut Option<T>, value: T)
+    requires { at.old ≡ None }
+    ensures { at.new ≡ Some value }
+{
+    match at.replace(value) {
+        None => {}
+        Some(_) => unreachable!(),
+    }
+}
+
+/// A connection over a link that was accepted, at a place at which none is.
+fn take_in<C: Resets + Drop, L: Waits, N: WaitsNet<Link = L>, W: Wakes<N>>(
+    hall: &mut Hall<C, L, N>,
+    place: usize,
+    link: L,
+    own: N,
+    wakes: &mut W,
+)
+    requires within { place < length hall.old.places.items }
+    requires none { (d : Option (Connection C L N)) → slice_index_or hall.old.places.items place d ≡ None }
+    requires more { hall.old.accepted < 2 ^ 32 - 1 }
+    requires own { IsNewNet (N.seen own) }
+    ensures stands { (cfg : C.Settings) (to : Place) → AllStand (C.meaning cfg) (C.stands cfg) C.seen C.sound L.seen L.wrote N.seen to hall.old.places.items hall.old.sets.items → AllStand (C.meaning cfg) (C.stands cfg) C.seen C.sound L.seen L.wrote N.seen to hall.new.places.items hall.new.sets.items }
+    ensures taken { count_taken hall.new.places.items ≡ 1 + count_taken hall.old.places.items }
+{
+    let mut link = link;
+    wakes.watch_client(place, &mut link);
+    hall.accepted += 1;
+    let connection = Connection {
+        number: hall.accepted,
+        conn: Conn::new(link, own),
+        core: None,
+    };
+    put(&mut hall.places[place], connection);
+}
+
+/// Accepts a link at a place at which no connection is.
+fn accept<C: Resets + Drop, L: Waits, N: WaitsNet<Link = L> + Drop, S: Nets<N>, W: Wakes<N>>(
+    hall: &mut Hall<C, L, N>,
+    place: usize,
+    net: &mut N,
+    nets: &mut S,
+    wakes: &mut W,
+) -> Result<(), Fault>
+    requires within { place < length hall.old.places.items }
+    requires none { (d : Option (Connection C L N)) → slice_index_or hall.old.places.items place d ≡ None }
+    requires more { hall.old.accepted < 2 ^ 32 - 1 }
+    ensures stands { (cfg : C.Settings) (to : Place) → AllStand (C.meaning cfg) (C.stands cfg) C.seen C.sound L.seen L.wrote N.seen to hall.old.places.items hall.old.sets.items → AllStand (C.meaning cfg) (C.stands cfg) C.seen C.sound L.seen L.wrote N.seen to hall.new.places.items hall.new.sets.items }
+    ensures balanced { IsBalanced (N.seen net.old) (N.seen net.new) hall.old.places.items hall.new.places.items }
+    ensures net { IsSameNet (N.seen net.old) (N.seen net.new) }
+{
+    let own = match nets.net() {
+        Ok(own) => own,
+        Err(OutOfMemory) => return Err(Fault::OutOfMemory),
+    };
+    match net.accept() {
+        Ok(link) => {
+            take_in(hall, place, link, own, wakes);
+            Ok(())
+        }
+        Err(Fault::Failed) => Err(Fault::Failed),
+        Err(Fault::OutOfMemory) => Err(Fault::OutOfMemory),
+    }
+}
+
+/// Whether this is a place at which no connection is.
+fn is_free<C, L, N>(places: &[Option<Connection<C, L, N>>], place: usize) -> bool
+    ensures { result ≡ true → (place < length places.now) × ((d : Option (Connection C L N)) → slice_index_or places.now place d ≡ None) }
+{
+    if place >= places.len() {
+        return false;
+    }
+    places[place].is_none()
+}
+
+/// Accepts a link where one waits, and answers whether another may be accepted at once.
+fn accept_next<C: Resets + Drop, L: Waits, N: WaitsNet<Link = L> + Drop, S: Nets<N>, W: Wakes<N>>(
+    hall: &mut Hall<C, L, N>,
+    agenda: &mut Agenda,
+    net: &mut N,
+    nets: &mut S,
+    wakes: &mut W,
+    plan: &Plan,
+) -> Result<bool, RunFault>
+    ensures stands { (cfg : C.Settings) (to : Place) → AllStand (C.meaning cfg) (C.stands cfg) C.seen C.sound L.seen L.wrote N.seen to hall.old.places.items hall.old.sets.items → AllStand (C.meaning cfg) (C.stands cfg) C.seen C.sound L.seen L.wrote N.seen to hall.new.places.items hall.new.sets.items }
+    ensures balanced { IsBalanced (N.seen net.old) (N.seen net.new) hall.old.places.items hall.new.places.items }
+    ensures net { IsSameNet (N.seen net.old) (N.seen net.new) }
+{
+    if !accepts_more(hall.accepted, plan, nets) {
+        return Ok(false);
+    }
+    if !agenda.may_accept {
+        return Ok(false);
+    }
+    if !agenda.has_place() {
+        return Ok(false);
+    }
+    if !net.can_accept() {
+        agenda.may_accept = false;
+        return Ok(false);
+    }
+    let Some(place) = agenda.free_place() else {
+        return Ok(false);
+    };
+    if !is_free(&hall.places, place) {
+        return Ok(false);
+    }
+    match accept(hall, place, net, nets, wakes) {
+        Ok(()) => match agenda.begin(place, hall.tools.now, &plan.times) {
+            Ok(()) => Ok(true),
+            Err(OutOfMemory) => Err(RunFault::OutOfMemory),
+        },
+        Err(Fault::Failed) => match agenda.accept_failed(place, hall.tools.now) {
+            Ok(()) => Ok(false),
+            Err(OutOfMemory) => Err(RunFault::OutOfMemory),
+        },
+        Err(Fault::OutOfMemory) => Err(RunFault::OutOfMemory),
+    }
+}
+
+/// Accepts the links that wait, while places are free.
+pub(crate) fn accepts<
+    C: Resets + Drop,
+    L: Waits,
+    N: WaitsNet<Link = L> + Drop,
+    S: Nets<N>,
+    W: Wakes<N>,
+>(
+    hall: &mut Hall<C, L, N>,
+    agenda: &mut Agenda,
+    net: &mut N,
+    nets: &mut S,
+    wakes: &mut W,
+    plan: &Plan,
+) -> Result<(), RunFault>
+    ensures stands { (cfg : C.Settings) (to : Place) → AllStand (C.meaning cfg) (C.stands cfg) C.seen C.sound L.seen L.wrote N.seen to hall.old.places.items hall.old.sets.items → AllStand (C.meaning cfg) (C.stands cfg) C.seen C.sound L.seen L.wrote N.seen to hall.new.places.items hall.new.sets.items }
+    ensures balanced { IsBalanced (N.seen net.old) (N.seen net.new) hall.old.places.items hall.new.places.items }
+    ensures net { IsSameNet (N.seen net.old) (N.seen net.new) }
+{
+    for _ in 0..u32::MAX {
+        match accept_next(hall, agenda, net, nets, wakes, plan) {
+            Ok(true) => {}
+            Ok(false) => return Ok(()),
+            Err(fault) => return Err(fault),
+        }
+    }
+    Ok(())
+}
