@@ -23,3 +23,5 @@ pub record Runs {N : Type 0} (net_seen : N → NetSeen) (first now : N) (old new
   -- the net was bound where the configuration says, and once at most
   pub binds : OnOk answer (GainsBind (net_seen first) (net_seen now) cfg)
   pub bound : ((net_seen now).bound ≡ (net_seen first).bound) ⊎ GainsBind (net_seen first) (net_seen now) cfg
+  -- each link that was accepted was given back
+  pub lent : (net_seen now).lent ≡ (net_seen first).lent
