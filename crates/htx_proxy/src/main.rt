@@ -11,7 +11,7 @@ use px_sock::{ReadyNet, ReadyPoll, RealFiles, RealNet, RealSink};
 use std::alloc::AllocError;
 use std::env::Env;
 use std::process::ExitCode;
-use std::{env, io, net};
+use std::{env, io};
 
 /// What stands for the words where one of them is no UTF-8: no command has it, so the answer is a usage text.
 const NO_TEXT: &str = "\u{fffd}";
@@ -31,18 +31,6 @@ fn words_of<R: Env + AllocGlobal>(rt: &R) -> Result<Vec<String>, AllocError> {
     Ok(words)
 }
 
-/// Writes on standard error why the net doesn't listen, where a bind was refused.
-fn tell_refusal<R: Eprint + net::Net>(rt: &R, net: &ReadyNet<'_, R>) {
-    let Some(error) = net.refusal() else {
-        return;
-    };
-    let Some(at) = net.address() else {
-        return;
-    };
-    let host = str::from_utf8(at.host.as_slice()).unwrap_or(NO_TEXT);
-    let _ = eprintln!(rt; "htx_proxy: can't listen at {host}:{}: {error}", at.port);
-}
-
 fn main(rt: HostRuntime) -> ExitCode {
     let Ok(words) = words_of(&rt) else {
         return ExitCode::from(Status::OutOfMemory.number());
@@ -54,7 +42,7 @@ fn main(rt: HostRuntime) -> ExitCode {
     };
     wakes.watch_input();
     let mut many = Many {
-        net: ReadyNet::new(rt.alloc(), &rt),
+        net: ReadyNet::telling(rt.alloc(), &rt),
         nets: RealNets::new(rt.alloc(), &rt),
         wakes,
     };
@@ -69,6 +57,5 @@ fn main(rt: HostRuntime) -> ExitCode {
         &mut out,
         &mut pats,
     );
-    tell_refusal(&rt, &many.net);
     ExitCode::from(status.number())
 }

@@ -4,6 +4,7 @@ use px_link::OutOfMemory;
 use px_run::Nets;
 use px_sock::{InputEnd, ReadyNet};
 use std::alloc::Global;
+use std::io::Eprint;
 use std::net;
 
 /// Makes nets over the system's sockets. Its switch is standard input, which is off once that has ended.
@@ -32,9 +33,9 @@ impl<'a, R> Switch for RealNets<'a, R> {
     }
 }
 
-impl<'a, R: net::Net> Nets<ReadyNet<'a, R>> for RealNets<'a, R> {
+impl<'a, R: net::Net + Eprint> Nets<ReadyNet<'a, R>> for RealNets<'a, R> {
     fn net(&mut self) -> Result<ReadyNet<'a, R>, OutOfMemory> {
-        Ok(ReadyNet::new(self.alloc, self.rt))
+        Ok(ReadyNet::telling(self.alloc, self.rt))
     }
 
     fn accepts_more(&mut self) -> bool {

@@ -11,20 +11,21 @@ pub enum Dialling {
     Nothing,
     Begun(TcpStream),
     Connected(TcpStream),
-    Failed,
+    /// It came to nothing, and this is why.
+    Failed(io::Error),
 }
 
 /// What came of a connect that was begun. The system tells of a failure once, so a connect that has failed is asked no more.
 fn settled(stream: TcpStream) -> Dialling {
     match stream.take_error() {
         Ok(None) => {}
-        Ok(Some(_)) => return Dialling::Failed,
-        Err(_) => return Dialling::Failed,
+        Ok(Some(error)) => return Dialling::Failed(error),
+        Err(error) => return Dialling::Failed(error),
     }
     match stream.peer_addr() {
         Ok(_) => Dialling::Connected(stream),
         Err(error) if error.kind() == ErrorKind::NotConnected => Dialling::Begun(stream),
-        Err(_) => Dialling::Failed,
+        Err(error) => Dialling::Failed(error),
     }
 }
 
@@ -32,11 +33,11 @@ impl Dialling {
     /// Begins to connect to this address; to none it fails at once.
     pub fn begin<R: net::Net>(rt: &R, to: Option<SocketAddr>) -> Dialling {
         let Some(at) = to else {
-            return Dialling::Failed;
+            return Dialling::Failed(io::Error::from(ErrorKind::InvalidInput));
         };
         match TcpStream::connect(rt, at) {
             Ok(stream) => Dialling::Begun(stream),
-            Err(_) => Dialling::Failed,
+            Err(error) => Dialling::Failed(error),
         }
     }
 
@@ -46,11 +47,11 @@ impl Dialling {
 
     /// Asks the system how far it is. Whether it has come to its end, well or not.
     pub fn settles(&mut self) -> bool {
-        *self = match std::mem::replace(self, Dialling::Failed) {
+        *self = match std::mem::replace(self, Dialling::Nothing) {
             Dialling::Begun(stream) => settled(stream),
             other => other,
         };
-        matches!(self, Dialling::Connected(_) | Dialling::Failed)
+        matches!(self, Dialling::Connected(_) | Dialling::Failed(_))
     }
 
     /// The number of the stream that is being connected.
@@ -63,7 +64,7 @@ impl Dialling {
 
     /// Gives it up.
     pub fn fail(&mut self) {
-        *self = Dialling::Failed;
+        *self = Dialling::Failed(io::Error::from(ErrorKind::TimedOut));
     }
 
     /// The stream, where it is connected. Nothing is under way behind it.
@@ -71,7 +72,7 @@ impl Dialling {
         match std::mem::replace(self, Dialling::Nothing) {
             Dialling::Connected(stream) => Ok(net::TcpStream::from(stream)),
             Dialling::Begun(_) => Err(io::Error::from(ErrorKind::TimedOut)),
-            Dialling::Failed => Err(io::Error::from(ErrorKind::ConnectionRefused)),
+            Dialling::Failed(error) => Err(error),
             Dialling::Nothing => Err(io::Error::from(ErrorKind::NotConnected)),
         }
     }

@@ -4,13 +4,14 @@ ghost use Rattle.px_sock.specs.Untold.{untold_net};
 
 use crate::addresses::Addresses;
 use crate::dialling::Dialling;
-use crate::faults::{count, counted, counted_and_kept};
+use crate::faults::{count, counted};
 use crate::numeric::{Numeric, place_of};
 use crate::ready_link::ReadyLink;
+use crate::telling::{Call, Telling, told};
 use mio::net::TcpListener;
 use px_link::{Address, Fault, Net, WaitsNet};
 use std::alloc::Global;
-use std::io::ErrorKind;
+use std::io::{Eprint, ErrorKind};
 use std::marker::Model;
 use std::net::{IpAddr, SocketAddr, TcpStream};
 use std::os::fd::{AsRawFd, RawFd};
@@ -23,8 +24,6 @@ pub struct ReadyNet<'a, R: net::Net> {
     rt: &'a R,
     alloc: Global,
     listener: Option<TcpListener>,
-    /// Why the last bind that was refused was.
-    refused: Option<io::Error>,
     /// What the system answered to an accept that is still to be made.
     came: Option<io::Result<TcpStream>>,
     /// A connect that is still to be made.
@@ -33,6 +32,7 @@ pub struct ReadyNet<'a, R: net::Net> {
     dialled: Addresses,
     /// The last address of numbers that was dialled. Only speed rests on it.
     numeric: Option<Numeric>,
+    telling: Telling,
     lent: u64,
     bind_faults: u64,
     connect_faults: u64,
@@ -49,33 +49,37 @@ impl<'a, R: net::Net> Model for ReadyNet<'a, R> {
 
 impl<'a, R: net::Net> ReadyNet<'a, R> {
     /// A net on which no call was made yet.
-    pub fn new(alloc: Global, rt: &'a R) -> Self
+    fn start(alloc: Global, rt: &'a R, telling: Telling) -> Self
         ensures { result ≡ untold_net [] [] 0 0 0 }
     {
         ReadyNet {
             rt,
             alloc,
             listener: None,
-            refused: None,
             came: None,
             dialling: Dialling::Nothing,
             bound: Addresses::new(alloc),
             dialled: Addresses::new(alloc),
             numeric: None,
+            telling,
             lent: 0,
             bind_faults: 0,
             connect_faults: 0,
         }
     }
 
-    /// Why the last bind that was refused was; none where none was.
-    pub fn refusal(&self) -> Option<&io::Error> {
-        self.refused.as_ref()
+    /// A net on which no call was made yet. It tells no failure.
+    pub fn new(alloc: Global, rt: &'a R) -> Self
+        ensures { result ≡ untold_net [] [] 0 0 0 }
+    {
+        ReadyNet::start(alloc, rt, Telling::Nothing)
     }
 
-    /// The address of the last bind.
-    pub fn address(&self) -> Option<&Address> {
-        self.bound.last()
+    /// A net on which no call was made yet. It tells each bind and each connect that fails on standard error, with its address and the reason.
+    pub fn telling(alloc: Global, rt: &'a R) -> Self
+        ensures { result ≡ untold_net [] [] 0 0 0 }
+    {
+        ReadyNet::start(alloc, rt, Telling::Failures)
     }
 
     /// The number of its listener, by which a wait is told of it.
@@ -168,15 +172,15 @@ fn next_answer(
     }
 }
 
-impl<'a, R: net::Net> Net for ReadyNet<'a, R> {
+impl<'a, R: net::Net + Eprint> Net for ReadyNet<'a, R> {
     type Link = ReadyLink<TcpStream>;
 
     ghost seen = { λ n. n };
 
     fn bind(&mut self, at: &Address) -> Result<(), Fault> {
         self.bound.push(at)?;
-        let answer = listen(self.rt, at);
-        match counted_and_kept(&mut self.bind_faults, &mut self.refused, answer) {
+        let answer = told(self.rt, self.telling, Call::Bind(at), listen(self.rt, at));
+        match counted(&mut self.bind_faults, answer) {
             Ok(listener) => {
                 self.listener = Some(listener);
                 Ok(())
@@ -210,7 +214,8 @@ impl<'a, R: net::Net> Net for ReadyNet<'a, R> {
             count(&mut self.connect_faults);
             return Err(Fault::Failed);
         }
-        let answer = self.dialling.take();
+        let dialled = self.dialling.take();
+        let answer = told(self.rt, self.telling, Call::Connect(to), dialled);
         match counted(&mut self.connect_faults, answer) {
             Ok(stream) => {
                 self.lent += 1;
@@ -227,7 +232,7 @@ impl<'a, R: net::Net> Net for ReadyNet<'a, R> {
     }
 }
 
-impl<'a, R: net::Net> WaitsNet for ReadyNet<'a, R> {
+impl<'a, R: net::Net + Eprint> WaitsNet for ReadyNet<'a, R> {
     fn can_accept(&mut self) -> bool {
         if self.came.is_none() {
             self.came = answer_of(&self.listener);

@@ -10,7 +10,7 @@ use mio::unix::SourceFd;
 use mio::{Events, Interest, Poll, Registry, Token};
 use px_link::{Fault, OutOfMemory, Readiness, Waits, Wake, Wakes, Watched};
 use std::alloc::Global;
-use std::io::ErrorKind;
+use std::io::{Eprint, ErrorKind};
 use std::net::TcpStream;
 use std::os::fd::RawFd;
 use std::time::{Clock, Duration, Instant};
@@ -117,7 +117,7 @@ fn patience(at_most: Option<u64>, unwatched: bool) -> Option<Duration> {
     least.map(Duration::from_millis)
 }
 
-impl<'a, R: net::Net + Clock> Wakes<ReadyNet<'a, R>> for ReadyPoll<'a, R> {
+impl<'a, R: net::Net + Clock + Eprint> Wakes<ReadyNet<'a, R>> for ReadyPoll<'a, R> {
     fn watch_listener(&mut self, net: &mut ReadyNet<'a, R>) {
         let registry = self.poll.registry();
         let watched = report(
