@@ -1,6 +1,6 @@
 //! What `run` is handed in memory: a net on which the clients of a record come, a net for each connection with its servers, and a wait that names all. Each
 //! call can be made at once.
-ghost use Rattle.std.specs.Prelude.{◌≡◌, true, IfOk};
+ghost use Rattle.std.specs.Prelude.{◌≡◌, [], IfOk};
 
 use crate::served::links::put_servers;
 use case_rows::{Call, Fault};
@@ -33,7 +33,11 @@ impl<'r> Switch for RecordNets<'r> {
 }
 
 /// A net with the servers of a connection, on which no call fails.
-fn net_with(alloc: Global, conn: &Connection) -> Result<MemNet, Fault> {
+fn net_with(alloc: Global, conn: &Connection) -> Result<MemNet, Fault>
+    ensures lent { IfOk result (λ net. net.lent ≡ 0) }
+    ensures dialled { IfOk result (λ net. net.dialled ≡ []) }
+    ensures kept { IfOk result (λ net. net.kept ≡ []) }
+{
     let (nothing, _) = Call::first(b"nothing");
     let mut servers = Vec::new(alloc);
     put_servers(alloc, &conn.servers, &nothing, &mut servers)?;
@@ -41,6 +45,7 @@ fn net_with(alloc: Global, conn: &Connection) -> Result<MemNet, Fault> {
 }
 
 impl<'r> Nets<ScriptedNet<MemNet>> for RecordNets<'r> {
+    #[tactic(auto, using(crate::proofs::NewNets::new_net))]
     fn net(&mut self) -> Result<ScriptedNet<MemNet>, OutOfMemory> {
         let asked = self.asked;
         self.asked = asked.saturating_add(1);
