@@ -17,9 +17,9 @@ use Rattle.cfg_parse.specs.Action.Actions as actions
 use Rattle.cfg_parse.specs.Action.Arguments as arguments
 use Rattle.cfg_parse.specs.Action.Asked.{format_at}
 use Rattle.cfg_parse.specs.Action.Rules.{rule_of}
+use Rattle.cfg_parse.specs.Addresses as addresses
 use Rattle.cfg_parse.specs.Keywords as keywords
 use Rattle.cfg_parse.specs.Lines as lines
-use Rattle.cfg_parse.specs.Numbers as numbers
 use Rattle.cfg_parse.specs.Rules as rules
 use Rattle.cfg_parse.specs.Settings as settings
 use Rattle.cfg_parse.specs.Whole.{Builds, Loads, Refusal, config_of, lines_from, pattern_at, read_whole, whole}
@@ -41,7 +41,8 @@ gives_one (Err refusal) = false
 reads : asks_none (read_whole configuration).asks && gives_one (read_whole configuration).gives ≡ true
 unfolding configuration read_whole lines_from whole lines.line_of lines.words_line lines.known_line lines.setting_line
     keywords.section_word keywords.general_setting keywords.listen_setting items.item_at items.plain verdict words_of
-    settings.section_line settings.bind_line settings.server_line numbers.address_of numbers.server_address_of numbers.port_of
+    settings.section_line settings.bind_line settings.server_line
+    addresses.address_of addresses.server_address_of addresses.named addresses.with_port addresses.port_of
     rules.rule_line rules.rule_added rules.has_room rule_of field_action rule_end format_at is_token_byte
     actions.action_parts actions.field_at actions.name_and_format actions.field_deleted arguments.made_name_at arguments.made_name arguments.is_framing
     formats.format_of formats.parts_from formats.part_at formats.sample_at formats.literal_in

@@ -4,6 +4,8 @@ ghost use Rattle.proxy_call.specs.Running.{Runs};
 
 use crate::lines::listening_line;
 use crate::sessions::cores::RecordCores;
+use forward_core::bounds::bounded;
+use forward_core::request::laws::total;
 use http_rules::{Config, Timeouts};
 use htx_drive::weave::cores_for;
 use px_command::RunOptions;
@@ -72,6 +74,8 @@ pub fn run_clients<
         Err(Fault::Failed) => return Err(RunFault::Net),
         Err(Fault::OutOfMemory) => return Err(RunFault::OutOfMemory),
     }
+    bounded();
+    total();
     let cores = RecordCores {
         config,
         window: config.limits.bufsize,
