@@ -54,7 +54,9 @@ struct NoNets {
 
 /// A net without links.
 fn no_net(alloc: Global) -> Result<ScriptedNet<MemNet>, OutOfMemory>
-    ensures { IfOk result (λ net. (net.lent ≡ 0) × (net.dialled ≡ [])) }
+    ensures lent { IfOk result (λ net. net.lent ≡ 0) }
+    ensures dialled { IfOk result (λ net. net.dialled ≡ []) }
+    ensures kept { IfOk result (λ net. net.kept ≡ []) }
 {
     let net = MemNet::new(alloc, Vec::new(alloc), Vec::new(alloc))?;
     let accepts = Script::new(Vec::new(alloc));
@@ -63,6 +65,7 @@ fn no_net(alloc: Global) -> Result<ScriptedNet<MemNet>, OutOfMemory>
 }
 
 impl Nets<ScriptedNet<MemNet>> for NoNets {
+    #[tactic(auto, using(crate::proofs::NewNets::new_net))]
     fn net(&mut self) -> Result<ScriptedNet<MemNet>, OutOfMemory> {
         no_net(self.alloc)
     }
