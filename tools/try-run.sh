@@ -149,6 +149,8 @@ behind() { # WORDS..: starts them beside the checks, without the switch, which w
 }
 memory() { awk '/^VmRSS/ { print $2 }' "/proc/$running/status"; }
 descriptors() { ls "/proc/$running/fd" | wc -l; }
+# the least number of descriptors that is seen within five seconds: clients that have gone are given back one by one, and a slow build takes its time
+descriptors_at_rest() { for _ in $(seq 10); do descriptors; sleep 0.5; done | sort -n | head -1; }
 wrong_in() { grep -E 'Socket errors|Non-2xx|unable|Failed requests: *[1-9]|apr_' "$1" | tr '\n' ' '; }
 
 # ---- the checks
@@ -172,11 +174,11 @@ run
 finish "curl -Z with six URLs" "$(for number in 1 2 3 4 5 6; do cmp "$work/z.$number" "$work/www/middle" 2>&1; done)"
 
 run --sets 256
-wrk -t1 -c200 -d1s "$url/small" >/dev/null 2>&1; sleep 0.3
-before="$(descriptors)" least="$(memory)"
-wrk -t2 -c200 --timeout 30s "-d${for_wrk}s" "$url/small" >"$work/got" 2>&1; sleep 0.5
+wrk -t1 -c200 -d1s "$url/small" >/dev/null 2>&1
+before="$(descriptors_at_rest)" least="$(memory)"
+wrk -t2 -c200 --timeout 30s "-d${for_wrk}s" "$url/small" >"$work/got" 2>&1
 rate="$(sed -n 's/^Requests\/sec: *//p' "$work/got")"
-after="$(descriptors)" most="$(memory)"
+after="$(descriptors_at_rest)" most="$(memory)"
 finish "wrk with 200 connections for $for_wrk seconds, $rate requests a second, $before and $after descriptors, $least and $most KB" \
   "$(wrong_in "$work/got"; [ "$after" -le $((before + 2)) ] || echo 'descriptors are lost '; [ "$most" -le $((least + least / 5 + 2000)) ] || echo 'memory grows ')"
 
