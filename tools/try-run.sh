@@ -281,6 +281,8 @@ rm -f "$work/switch"; mkfifo "$work/switch"
 { "$program" run "$work/proxy.cfg" --until-input-ends <"$work/switch" 2>"$work/said" 7>&-; echo "$?" >"$work/status"; } | head -1 >"$work/lines" & running=$!
 exec 7>"$work/switch"
 await_listener "$front"; sleep 0.2
+# it listens before it has made its cores, and says so once it has: an unproved build takes seconds
+for _ in $(seq 100); do [ -s "$work/lines" ] && break; sleep 0.1; done
 wrong="$(answers 1 "$url/small"; answers 1 "$url/small")"
 exec 7>&-
 wait "$running" 2>/dev/null
