@@ -4,7 +4,6 @@ mod LineLemmas
 mod TextLemmas
 mod JudgedLemmas
 mod JudgingLemmas
-mod Ipv6Lemmas
 mod AddressLemmas
 mod SoundLemmas
 mod LineReadings

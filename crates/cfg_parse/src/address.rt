@@ -1,7 +1,6 @@
 //! The addresses of `bind` and `server` lines: `HOST:PORT`, where an IPv6 address stands in brackets, and a port of 1 to 65535. Nothing here looks a
 //! host up.
 ghost use Rattle.std.specs.Prelude.{◌≡◌, ◌<◌, length, position, IfSome};
-ghost use Rattle.uri_parts.specs.Authority.{is_ipv6};
 ghost use Rattle.cfg_parse.specs.Reading.{Gives};
 ghost use Rattle.cfg_parse.specs.Addresses.{is_colon, is_closing_bracket, port_of, with_port, named, with_port_behind, bracketed, address_of, server_address_of};
 
@@ -11,7 +10,7 @@ use cfg_expr::is_word;
 use px_bytes::read_decimal;
 use px_link::{Address, Bytes};
 use std::alloc::Global;
-use std::net::Ipv6Addr;
+use uri_parts::is_ipv6;
 
 /// Where the first colon stands.
 fn first_colon(word: &[u8]) -> Option<usize>
@@ -27,16 +26,6 @@ fn first_closing_bracket(text: &[u8]) -> Option<usize>
     ensures within { IfSome result (λ at. at < length text.now) }
 {
     text.iter().position(|byte| *byte == b']')
-}
-
-/// Whether a text is an IPv6 address.
-fn is_ipv6(text: &[u8]) -> bool
-    ensures { result ≡ is_ipv6 text.now }
-{
-    match Ipv6Addr::parse_ascii(text) {
-        Ok(_) => true,
-        Err(_) => false,
-    }
 }
 
 /// A port, 1 to 65535.

@@ -61,6 +61,9 @@ impl Space {
         requires { at + length piece.now ≤ length self.old }
         ensures { self.new ≡ overwritten self.old at piece.now }
     {
+        if piece.is_empty() {
+            return;
+        }
         let at = at as usize;
         self.bytes[at..at + piece.len()].copy_from_slice(piece);
     }

@@ -1,5 +1,5 @@
 //! The authority of a target and the value of Host (RFC 3986 section 3.2, RFC 9110 section 7.2).
-ghost use Rattle.std.specs.Prelude.{◌≡◌, ◌≤◌, length, option_map};
+ghost use Rattle.std.specs.Prelude.{◌≡◌, ◌≤◌, ◌||◌, length, option_map};
 ghost use Rattle.std.specs.List.{prefix_len};
 ghost use Rattle.std.specs.Char.{is_ascii_hexdigit};
 ghost use Rattle.uri_parts.specs.Authority as spec;
@@ -18,13 +18,20 @@ enum NameState {
     Broken,
 }
 
+/// Whether a byte is one of the marks of a name.
+fn is_mark(byte: u8) -> bool
+    ensures { result ≡ (spec.is_low_mark byte || spec.is_high_mark byte) }
+{
+    let low = matches!(byte, b'-' | b'.' | b'_' | b'~' | b'!' | b'$' | b'&' | b'\'');
+    let high = matches!(byte, b'(' | b')' | b'*' | b'+' | b',' | b';' | b'=');
+    low || high
+}
+
 /// Whether a byte may stand in a name.
 fn is_name_byte(byte: u8) -> bool
     ensures { result ≡ spec.is_name_byte byte }
 {
-    let low = matches!(byte, b'-' | b'.' | b'_' | b'~' | b'!' | b'$' | b'&' | b'\'');
-    let high = matches!(byte, b'(' | b')' | b'*' | b'+' | b',' | b';' | b'=');
-    byte.is_ascii_alphanumeric() || (low || high)
+    byte.is_ascii_alphanumeric() || is_mark(byte)
 }
 
 /// What is owed behind one more byte of a name.
@@ -77,8 +84,8 @@ fn is_name(text: &[u8]) -> bool
     is_plain(state)
 }
 
-/// Whether a text is an IPv6 address.
-fn is_ipv6(text: &[u8]) -> bool
+/// Whether a text is an IPv6 address without a zone (RFC 4291 section 2.2).
+pub fn is_ipv6(text: &[u8]) -> bool
     ensures { result ≡ spec.is_ipv6 text.now }
 {
     match Ipv6Addr::parse_ascii(text) {

@@ -8,7 +8,7 @@ pub mod laws;
 mod same;
 mod target;
 
-pub use authority::is_authority;
+pub use authority::{is_authority, is_ipv6};
 pub use forms::target_fits;
 pub use same::host_agrees;
 pub use target::{Parts, cut_target};
