@@ -9,6 +9,7 @@ use crate::note_list::{Heading, NoteRoom};
 use px_link::{Close, Failed, Fault, Link};
 
 /// A link that writes a header before its first piece, or none where the link was accepted. It carries the room for the note on it.
+#[derive(Drop)]
 pub struct SendLink<L> {
     inner: L,
     heading: Option<Heading>,
