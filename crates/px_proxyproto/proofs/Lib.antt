@@ -13,3 +13,4 @@ mod Shown
 mod Bits
 mod Written
 mod Sending
+mod Nets

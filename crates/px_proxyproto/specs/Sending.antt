@@ -1,5 +1,5 @@
 -- A link that writes a header before the first piece, in words of the link below it.
-use Rattle.std.specs.Prelude.{◌≡◌, ℕ, ◌-◌, ◌<◌, List, [], ◌++◌, length, take, Result, Ok, Err}
+use Rattle.std.specs.Prelude.{◌≡◌, ℕ, ◌-◌, ◌<◌, ◌≤◌, List, [], ◌++◌, length, take, Result, Ok, Err}
 use Rattle.px_link.specs.declared.fault.Fault.{Fault}
 use Rattle.px_link.specs.declared.fault.Fault.TheVariants as faults
 use Rattle.px_link.specs.Link.{Seen, Takes, Untold, UpTo, All, NoRoom, WriteFailed}
@@ -25,3 +25,7 @@ abbrev pub Sends : (wrote_old wrote_new : List ℕ → Type 0) → Seen → Seen
 Sends wrote_old wrote_new old new (Ok done) = NoRoom wrote_old wrote_new old new
 Sends wrote_old wrote_new old new (Err faults.Failed) = WriteFailed wrote_old wrote_new old new
 Sends wrote_old wrote_new old new (Err faults.OutOfMemory) = NoRoom wrote_old wrote_new old new
+
+-- These bytes were written behind a header, of which some is out.
+abbrev pub WroteFirst : (header : List ℕ) → (wrote : List ℕ → Type 0) → (bytes : List ℕ) → Type 0
+WroteFirst header wrote bytes = (sent : ℕ) × (sent ≤ length header) × WroteBehind header sent wrote bytes

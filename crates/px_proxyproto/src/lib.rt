@@ -1,5 +1,5 @@
 //! Headers of the PROXY protocol, versions 1 and 2: what a header is, read as its bytes come and from a link,
-//! and written, also in front of a link's text. It takes no memory.
+//! and written, also in front of a link's text and of each connected link of a net. A net's links take room for a note, nothing else takes memory.
 #![tactic(auto)]
 
 mod address;
@@ -9,14 +9,18 @@ mod headers;
 pub mod laws;
 mod line;
 mod line_text;
+mod note_list;
 mod reader;
 mod send_link;
+mod send_net;
 mod state;
 mod writing;
 
 pub use greeting::{Greeting, greet};
 pub use headers::header_text;
+pub use note_list::{Heading, NoteRoom};
 pub use px_peer::{Pair, Peer};
 pub use reader::ProxyReader;
 pub use send_link::SendLink;
+pub use send_net::SendNet;
 pub use state::ProxyState;
