@@ -5,7 +5,7 @@
 mod nets;
 
 use nets::RealNets;
-use proxy_call::{Many, Status, htx_proxy};
+use proxy_call::{Many, Networks, Status, htx_proxy};
 use px_pattern::RealPatterns;
 use px_sock::{ReadyNet, ReadyPoll, RealFiles, RealNet, RealSink};
 use std::alloc::AllocError;
@@ -36,15 +36,17 @@ fn main(rt: HostRuntime) -> ExitCode {
         return ExitCode::from(Status::OutOfMemory.number());
     };
     let mut files = RealFiles::new(rt.alloc(), &rt);
-    let mut net = RealNet::telling(rt.alloc(), &rt);
     let Ok(mut wakes) = ReadyPoll::new(rt.alloc(), &rt) else {
         return ExitCode::from(Status::NetFault.number());
     };
     wakes.watch_input();
-    let mut many = Many {
-        net: ReadyNet::telling(rt.alloc(), &rt),
-        nets: RealNets::new(rt.alloc(), &rt),
-        wakes,
+    let mut nets = Networks {
+        serve: RealNet::telling(rt.alloc(), &rt),
+        run: Many {
+            net: ReadyNet::telling(rt.alloc(), &rt),
+            nets: RealNets::new(rt.alloc(), &rt),
+            wakes,
+        },
     };
     let mut out = RealSink::new(&rt);
     let mut pats = RealPatterns::new();
@@ -52,8 +54,7 @@ fn main(rt: HostRuntime) -> ExitCode {
         rt.alloc(),
         &words,
         &mut files,
-        &mut net,
-        &mut many,
+        &mut nets,
         &mut out,
         &mut pats,
     );

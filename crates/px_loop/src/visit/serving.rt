@@ -3,7 +3,7 @@ ghost use Rattle.std.specs.Prelude.{◌≡◌, [], IfOk};
 
 use crate::RULES;
 use crate::visit::ports::Ports;
-use proxy_call::{Many, Status, Switch, htx_proxy};
+use proxy_call::{Many, Networks, Status, Switch, htx_proxy};
 use px_link::{MemFiles, MemNet, MemWakes, OutOfMemory, Script, ScriptedNet};
 use px_pattern::RealPatterns;
 use px_run::Nets;
@@ -88,16 +88,16 @@ pub fn serve<R: Net + Clock + Print + Eprint + AllocGlobal>(rt: &R, ports: Ports
     let Ok(unused) = no_net(alloc) else {
         return ExitCode::from(Status::OutOfMemory.number());
     };
-    let mut many = Many {
-        net: unused,
-        nets: NoNets { alloc },
-        wakes: MemWakes::new(Vec::new(alloc)),
+    let mut nets = Networks {
+        serve: RealNet::new(alloc, rt),
+        run: Many {
+            net: unused,
+            nets: NoNets { alloc },
+            wakes: MemWakes::new(Vec::new(alloc)),
+        },
     };
-    let mut net = RealNet::new(alloc, rt);
     let mut out = RealSink::new(rt);
     let mut pats = RealPatterns::new();
-    let status = htx_proxy(
-        alloc, &words, &mut files, &mut net, &mut many, &mut out, &mut pats,
-    );
+    let status = htx_proxy(alloc, &words, &mut files, &mut nets, &mut out, &mut pats);
     ExitCode::from(status.number())
 }
