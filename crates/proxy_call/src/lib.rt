@@ -15,6 +15,6 @@ mod stop;
 mod top;
 
 pub use networks::Networks;
-pub use sessions::{Many, Switch};
+pub use sessions::{Many, Switch, Workers};
 pub use status::Status;
 pub use top::htx_proxy;

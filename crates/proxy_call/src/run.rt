@@ -10,7 +10,7 @@ use crate::answer::{check, check_all, check_record, drill, replay, weave};
 use crate::networks::Networks;
 use crate::running::{RunCommand, run_many};
 use crate::serving::{ServeCommand, serve};
-use crate::sessions::Switch;
+use crate::sessions::{Switch, Workers};
 use crate::stop::Stop;
 use px_command::{Asked, asked_by, help_of_text, help_text, version_text};
 use px_link::{Bytes, Files, Net, Sink, Waits, WaitsNet, Wakes};
@@ -34,7 +34,7 @@ pub fn run<
     N: Net,
     L: Waits + Drop,
     M: WaitsNet<Link = L> + Drop,
-    S: Nets<M> + Switch,
+    S: Nets<M> + Switch + Workers<M>,
     W: Wakes<M>,
     K: Sink,
     P: Patterns,

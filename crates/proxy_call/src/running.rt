@@ -7,7 +7,7 @@ ghost use Rattle.proxy_call.specs.Running.{Runs};
 ghost use Rattle.proxy_call.specs.Stops.{given};
 
 use crate::answer::configuration;
-use crate::sessions::{Many, Switch, run_clients};
+use crate::sessions::{Many, Switch, Workers, run_clients};
 use crate::stop::Stop;
 use px_command::RunOptions;
 use px_link::{Files, Sink, Waits, WaitsNet, Wakes};
@@ -29,7 +29,7 @@ pub fn run_many<
     F: Files,
     L: Waits + Drop,
     N: WaitsNet<Link = L> + Drop,
-    S: Nets<N> + Switch,
+    S: Nets<N> + Switch + Workers<N>,
     W: Wakes<N>,
     K: Sink,
     P: Patterns,

@@ -17,7 +17,7 @@ ghost use Rattle.proxy_call.specs.Serving.{GainsBind, LostBy, ServedBy, Serving}
 use crate::networks::Networks;
 use crate::reply::end;
 use crate::run::run;
-use crate::sessions::Switch;
+use crate::sessions::{Switch, Workers};
 use crate::status::Status;
 use px_link::{Files, Net, Sink, Waits, WaitsNet, Wakes};
 use px_pattern::Patterns;
@@ -31,7 +31,7 @@ pub fn htx_proxy<
     N: Net,
     L: Waits + Drop,
     M: WaitsNet<Link = L> + Drop,
-    S: Nets<M> + Switch,
+    S: Nets<M> + Switch + Workers<M>,
     W: Wakes<M>,
     K: Sink,
     P: Patterns,

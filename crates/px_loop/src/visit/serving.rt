@@ -3,8 +3,8 @@ ghost use Rattle.std.specs.Prelude.{◌≡◌, [], IfOk};
 
 use crate::RULES;
 use crate::visit::ports::Ports;
-use proxy_call::{Many, Networks, Status, Switch, htx_proxy};
-use px_link::{MemFiles, MemNet, MemWakes, OutOfMemory, Script, ScriptedNet};
+use proxy_call::{Many, Networks, Status, Switch, Workers, htx_proxy};
+use px_link::{Fault, MemFiles, MemNet, MemWakes, OutOfMemory, Script, ScriptedNet, Sink};
 use px_pattern::RealPatterns;
 use px_run::Nets;
 use px_sock::{RealNet, RealSink};
@@ -77,6 +77,16 @@ impl Nets<ScriptedNet<MemNet>> for NoNets {
 
 impl Switch for NoNets {
     fn heed(&mut self, _: bool) {}
+}
+
+impl Workers<ScriptedNet<MemNet>> for NoNets {
+    fn start(&mut self, _net: &ScriptedNet<MemNet>, _count: u32) -> Result<(), Fault> {
+        Ok(())
+    }
+
+    fn pass_on<K: Sink>(&mut self, _net: &ScriptedNet<MemNet>, _out: &mut K) -> Result<(), Fault> {
+        Ok(())
+    }
 }
 
 /// Serves two clients at one port, with the server at another. The process ends with the program's status.
