@@ -288,5 +288,32 @@ exec 7>&-
 wait "$running" 2>/dev/null
 says "an output that is gone" "$wrong$([ "$(cat "$work/status")" = 0 ] || echo "status $(cat "$work/status"), $(head -c 200 "$work/said")")"
 
+configure "$origin"
+: >"$work/lines"
+"$program" run "$work/proxy.cfg" --sets 32 --workers 3 </dev/null >"$work/lines" 2>"$work/said" & running=$!
+started+=("$running")
+for _ in $(seq 3000); do grep -q '^listening ' "$work/lines" && break; sleep 0.02; done
+for number in $(seq 60); do "${fetch[@]}" "$url/small" -o "$work/got.$number"; done
+for _ in $(seq 150); do [ "$(grep -c '^connection ' "$work/lines")" = 60 ] && break; sleep 0.02; done
+says "three workers answer 60 clients" "$(for number in $(seq 60); do cmp "$work/got.$number" "$work/www/small" 2>&1; done
+  [ "$(pgrep -c -P "$running")" = 3 ] || echo "there are $(pgrep -c -P "$running") workers "
+  [ "$(grep -c '^listening ' "$work/lines")" = 1 ] || echo 'it does not say once that it listens '
+  [ "$(grep -c '^connection [0-9]*: end done exchanges 1$' "$work/lines")" = 60 ] || echo "$(wc -l <"$work/lines") lines came")"
+
+kill -9 "$(pgrep -P "$running" | head -1)"
+for _ in $(seq 150); do grep -q 'worker [123] ended by signal 9' "$work/said" && [ "$(pgrep -c -P "$running")" = 3 ] && break; sleep 0.02; done
+says "a worker that is killed, and another in its place: $(head -c 200 "$work/said")" "$(grep -q 'worker [123] ended by signal 9' "$work/said" || echo 'it is not said '
+  [ "$(pgrep -c -P "$running")" = 3 ] || echo "there are $(pgrep -c -P "$running") workers "; answers 2 "$url/small")"
+
+workers=($(pgrep -P "$running"))
+behind "${fetch[@]}" --limit-rate 10M "$url/large" -o "$work/got"; slow=$!
+sleep 0.5; kill -TERM "$running"; wait "$running" 2>/dev/null
+for _ in $(seq 50); do listens "$front" || break; sleep 0.02; done
+wrong="$(listens "$front" && echo 'the port is taken '; kill -0 "$slow" 2>/dev/null || echo 'the answer was over before ')"
+wait "$slow"
+for _ in $(seq 300); do kill -0 "${workers[@]}" 2>/dev/null || break; sleep 0.02; done
+says "the end of the first process: workers finish what is in hand" "$wrong$(cmp "$work/got" "$work/www/large" 2>&1
+  for pid in "${workers[@]}"; do kill -0 "$pid" 2>/dev/null && echo 'a worker goes on '; done)"
+
 echo "$good ok, $bad failed"
 [ "$bad" = 0 ]

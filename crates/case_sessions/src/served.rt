@@ -6,3 +6,4 @@ pub(crate) mod many;
 mod served;
 
 pub use served::made;
+pub(crate) use served::no_net;

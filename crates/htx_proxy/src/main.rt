@@ -1,20 +1,26 @@
-//! The program: hands the words of the command line, files on disk, a net over sockets and standard output to the one call of
+//! The program: hands the words of the command line, files on disk, nets over sockets and standard output to the one call of
 //! `proxy_call`.
 #![tactic(auto)]
 
+mod crew;
 mod nets;
+mod worker;
 
 use nets::RealNets;
-use proxy_call::{Many, Status, htx_proxy};
+use proxy_call::{Many, Networks, Status, htx_proxy};
 use px_pattern::RealPatterns;
 use px_sock::{ReadyNet, ReadyPoll, RealFiles, RealNet, RealSink};
 use std::alloc::AllocError;
 use std::env::Env;
+use std::os::fd::AsFd;
 use std::process::ExitCode;
 use std::{env, io};
 
 /// What stands for the words where one of them is no UTF-8: no command has it, so the answer is a usage text.
 const NO_TEXT: &str = "\u{fffd}";
+
+/// What `run` is handed.
+type RealMany<'a> = Many<ReadyNet<'a, HostRuntime>, RealNets<'a>, ReadyPoll<'a, HostRuntime>>;
 
 /// The words of the command line, without the program's name.
 fn words_of<R: Env + AllocGlobal>(rt: &R) -> Result<Vec<String>, AllocError> {
@@ -31,31 +37,73 @@ fn words_of<R: Env + AllocGlobal>(rt: &R) -> Result<Vec<String>, AllocError> {
     Ok(words)
 }
 
-fn main(rt: HostRuntime) -> ExitCode {
-    let Ok(words) = words_of(&rt) else {
-        return ExitCode::from(Status::OutOfMemory.number());
-    };
-    let mut files = RealFiles::new(rt.alloc(), &rt);
-    let mut net = RealNet::telling(rt.alloc(), &rt);
-    let Ok(mut wakes) = ReadyPoll::new(rt.alloc(), &rt) else {
-        return ExitCode::from(Status::NetFault.number());
-    };
+/// Whether the process is a worker, by its words, which are those of `run` then.
+fn takes_worker(rt: &HostRuntime, words: &mut [String]) -> Result<bool, AllocError> {
+    match words {
+        [first, ..] if first.as_str() == worker::WORD => {
+            *first = String::from_str(rt.alloc(), "run")?;
+            Ok(true)
+        }
+        _ => Ok(false),
+    }
+}
+
+/// What `run` is handed in a process that a user started.
+fn first_many<'a>(rt: &'a HostRuntime) -> io::Result<RealMany<'a>> {
+    let mut wakes = ReadyPoll::new(rt.alloc(), rt)?;
     wakes.watch_input();
-    let mut many = Many {
-        net: ReadyNet::telling(rt.alloc(), &rt),
-        nets: RealNets::new(rt.alloc(), &rt),
+    Ok(Many {
+        net: ReadyNet::telling(rt.alloc(), rt),
+        nets: RealNets::new(rt),
         wakes,
+    })
+}
+
+/// What `run` is handed in a worker, whose standard input is the listener of the process that started it.
+fn worker_many<'a>(rt: &'a HostRuntime) -> io::Result<RealMany<'a>> {
+    let mut wakes = ReadyPoll::new(rt.alloc(), rt)?;
+    wakes.watch_output();
+    let listener = rt.stdin().as_fd().try_clone_to_owned()?;
+    Ok(Many {
+        net: ReadyNet::handed(rt.alloc(), rt, listener),
+        nets: RealNets::of_worker(rt),
+        wakes,
+    })
+}
+
+/// What the program comes to, with these words.
+fn status_of(rt: &HostRuntime, words: &[String], is_worker: bool) -> Status {
+    let made = if is_worker {
+        worker_many(rt)
+    } else {
+        first_many(rt)
     };
-    let mut out = RealSink::new(&rt);
+    let Ok(run) = made else {
+        return Status::NetFault;
+    };
+    let mut nets = Networks {
+        serve: RealNet::telling(rt.alloc(), rt),
+        run,
+    };
+    let mut files = RealFiles::new(rt.alloc(), rt);
+    let mut out = RealSink::new(rt);
     let mut pats = RealPatterns::new();
-    let status = htx_proxy(
+    htx_proxy(
         rt.alloc(),
-        &words,
+        words,
         &mut files,
-        &mut net,
-        &mut many,
+        &mut nets,
         &mut out,
         &mut pats,
-    );
-    ExitCode::from(status.number())
+    )
+}
+
+fn main(rt: HostRuntime) -> ExitCode {
+    let Ok(mut words) = words_of(&rt) else {
+        return ExitCode::from(Status::OutOfMemory.number());
+    };
+    let Ok(is_worker) = takes_worker(&rt, &mut words) else {
+        return ExitCode::from(Status::OutOfMemory.number());
+    };
+    ExitCode::from(status_of(&rt, &words, is_worker).number())
 }

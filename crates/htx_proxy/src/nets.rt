@@ -1,44 +1,89 @@
-//! The nets of connections that are served at once, and standard input as the switch of further ones.
-use proxy_call::Switch;
-use px_link::OutOfMemory;
+//! The nets of connections that are served at once, what turns further ones off, and the processes that serve in place of this one.
+use crate::crew::Crew;
+use proxy_call::{Switch, Workers};
+use px_link::{Fault, OutOfMemory, Sink};
 use px_run::Nets;
-use px_sock::{InputEnd, ReadyNet};
-use std::alloc::Global;
-use std::io::Eprint;
-use std::net;
+use px_sock::{InputEnd, ReadyNet, end_listener, is_output_gone};
 
-/// Makes nets over the system's sockets. Its switch is standard input, which is off once that has ended.
+/// What turns further connections off.
 #[derive(Drop)]
-pub struct RealNets<'a, R> {
-    alloc: Global,
-    rt: &'a R,
-    input: InputEnd,
-    heeds: bool,
+enum Off {
+    Nothing,
+    /// The end of standard input.
+    Input(InputEnd),
+    /// The end of the process that reads standard output.
+    Output,
+    /// That has come.
+    Ended,
 }
 
-impl<'a, R> RealNets<'a, R> {
-    pub fn new(alloc: Global, rt: &'a R) -> Self {
+/// Makes nets over the system's sockets.
+#[derive(Drop)]
+pub struct RealNets<'a> {
+    rt: &'a HostRuntime,
+    off: Off,
+    crew: Crew<'a>,
+}
+
+impl<'a> RealNets<'a> {
+    /// Those of a process that was started by a user.
+    pub fn new(rt: &'a HostRuntime) -> Self {
         RealNets {
-            alloc,
             rt,
-            input: InputEnd::new(),
-            heeds: false,
+            off: Off::Nothing,
+            crew: Crew::new(rt),
+        }
+    }
+
+    /// Those of a worker, which accepts nothing more once the process that started it is gone. It ends the listener then, so that the address is free.
+    pub fn of_worker(rt: &'a HostRuntime) -> Self {
+        RealNets {
+            rt,
+            off: Off::Output,
+            crew: Crew::new(rt),
         }
     }
 }
 
-impl<'a, R> Switch for RealNets<'a, R> {
+/// The switch is standard input, which is off once that has ended. A worker has its own.
+impl<'a> Switch for RealNets<'a> {
     fn heed(&mut self, heeds: bool) {
-        self.heeds = heeds;
+        if heeds {
+            self.off = Off::Input(InputEnd::new());
+        }
     }
 }
 
-impl<'a, R: net::Net + Eprint> Nets<ReadyNet<'a, R>> for RealNets<'a, R> {
-    fn net(&mut self) -> Result<ReadyNet<'a, R>, OutOfMemory> {
-        Ok(ReadyNet::telling(self.alloc, self.rt))
+impl<'a> Nets<ReadyNet<'a, HostRuntime>> for RealNets<'a> {
+    fn net(&mut self) -> Result<ReadyNet<'a, HostRuntime>, OutOfMemory> {
+        Ok(ReadyNet::telling(self.rt.alloc(), self.rt))
     }
 
     fn accepts_more(&mut self) -> bool {
-        !self.heeds || !self.input.has_ended()
+        match &mut self.off {
+            Off::Nothing => true,
+            Off::Input(input) => !input.has_ended(),
+            Off::Output if !is_output_gone() => true,
+            Off::Output => {
+                end_listener();
+                self.off = Off::Ended;
+                false
+            }
+            Off::Ended => false,
+        }
+    }
+}
+
+impl<'a> Workers<ReadyNet<'a, HostRuntime>> for RealNets<'a> {
+    fn start(&mut self, net: &ReadyNet<'a, HostRuntime>, count: u32) -> Result<(), Fault> {
+        self.crew.start(net, count)
+    }
+
+    fn pass_on<K: Sink>(
+        &mut self,
+        net: &ReadyNet<'a, HostRuntime>,
+        out: &mut K,
+    ) -> Result<(), Fault> {
+        self.crew.pass_on(net, out)
     }
 }

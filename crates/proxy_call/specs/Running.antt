@@ -1,6 +1,6 @@
 -- What `run` does with what it is handed, by the configuration in its file.
-use Rattle.std.specs.Prelude.{◌≡◌, ℕ, ◌⊎◌, List, Option, Result, Ok, OnOk}
-use Rattle.px_link.specs.Net.{NetSeen}
+use Rattle.std.specs.Prelude.{◌≡◌, ℕ, ◌⊎◌, List, Option, Some, Result, Ok, OnOk}
+use Rattle.px_link.specs.Net.{NetSeen, SameBeside}
 use Rattle.px_link.specs.Told.{NamedBytes}
 use Rattle.http_rules.specs.declared.config.Config.{Config}
 use Rattle.px_command.specs.Command.{IsRun}
@@ -25,3 +25,5 @@ pub record Runs {N : Type 0} (net_seen : N → NetSeen) (first now : N) (old new
   pub bound : ((net_seen now).bound ≡ (net_seen first).bound) ⊎ GainsBind (net_seen first) (net_seen now) cfg
   -- each link that was accepted was given back
   pub lent : (net_seen now).lent ≡ (net_seen first).lent
+  -- where others serve nothing else was done with it: no link was accepted here, and none was asked for
+  pub workers : (count : ℕ) → options.workers ≡ Some count → SameBeside (net_seen first) (net_seen now)

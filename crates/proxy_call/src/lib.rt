@@ -3,6 +3,7 @@
 
 mod answer;
 mod lines;
+mod networks;
 mod refusals;
 mod reply;
 mod run;
@@ -13,6 +14,7 @@ mod status;
 mod stop;
 mod top;
 
-pub use sessions::{Many, Switch};
+pub use networks::Networks;
+pub use sessions::{Many, Switch, Workers};
 pub use status::Status;
 pub use top::htx_proxy;

@@ -7,9 +7,10 @@ ghost use Rattle.proxy_call.specs.Serving.{Serves};
 ghost use Rattle.proxy_call.specs.Stops.{Answers, Input, given};
 
 use crate::answer::{check, check_all, check_record, drill, replay, weave};
-use crate::running::run_many;
-use crate::serving::serve;
-use crate::sessions::{Many, Switch};
+use crate::networks::Networks;
+use crate::running::{RunCommand, run_many};
+use crate::serving::{ServeCommand, serve};
+use crate::sessions::{Switch, Workers};
 use crate::stop::Stop;
 use px_command::{Asked, asked_by, help_of_text, help_text, version_text};
 use px_link::{Bytes, Files, Net, Sink, Waits, WaitsNet, Wakes};
@@ -33,7 +34,7 @@ pub fn run<
     N: Net,
     L: Waits + Drop,
     M: WaitsNet<Link = L> + Drop,
-    S: Nets<M> + Switch,
+    S: Nets<M> + Switch + Workers<M>,
     W: Wakes<M>,
     K: Sink,
     P: Patterns,
@@ -41,15 +42,14 @@ pub fn run<
     alloc: Global,
     words: &'a [String],
     files: &mut F,
-    net: &mut N,
-    many: &mut Many<M, S, W>,
+    nets: &mut Networks<N, M, S, W>,
     out: &mut K,
     pats: &mut P,
 ) -> Result<(), Stop<'a>>
     ensures { RanAny (given (map string_bytes words.now) (F.files files.old) (told_by (P.refusals pats.old) (P.refusals pats.new) (P.last_refused pats.new)) (F.last_failed files.new) (F.faults files.old) (F.faults files.new))
-        (put (K.faults out.old) (K.faults out.new) (K.written out.old) (K.written out.new)) (net.new ≡ net.old) (many.new ≡ many.old)
-        (Serves N.Link.seen N.Link.wrote N.seen net.old net.new (K.faults out.old) (K.faults out.new) (K.written out.old) (K.written out.new))
-        (Runs M.seen many.old.net many.new.net (K.written out.old) (K.written out.new)) result }
+        (put (K.faults out.old) (K.faults out.new) (K.written out.old) (K.written out.new)) (nets.new.serve ≡ nets.old.serve) (nets.new.run ≡ nets.old.run)
+        (Serves N.Link.seen N.Link.wrote N.seen nets.old.serve nets.new.serve (K.faults out.old) (K.faults out.new) (K.written out.old) (K.written out.new))
+        (Runs M.seen nets.old.run.net nets.new.run.net (K.written out.old) (K.written out.new)) result }
 {
     match asked_by(alloc, words)? {
         Asked::Check { cfg } => write(check(alloc, files, cfg, pats), out),
@@ -59,8 +59,14 @@ pub fn run<
         Asked::Weave { cfg, rec, cores } => {
             write(weave(alloc, files, cfg, rec, cores, pats), out)
         }
-        Asked::Serve { cfg, connections } => serve(alloc, files, cfg, connections, net, out, pats),
-        Asked::Run { cfg, options } => run_many(alloc, files, cfg, options, many, out, pats),
+        Asked::Serve { cfg, connections } => {
+            let asked = ServeCommand { cfg, connections };
+            serve(alloc, files, &asked, &mut nets.serve, out, pats)
+        }
+        Asked::Run { cfg, options } => {
+            let asked = RunCommand { cfg, options };
+            run_many(alloc, files, &asked, &mut nets.run, out, pats)
+        }
         Asked::Drill { seed, exchanges } => write(drill(alloc, seed, exchanges, pats), out),
         Asked::Help => write(Ok(help_text(alloc)?), out),
         Asked::HelpOf { command } => write(Ok(help_of_text(alloc, command)?), out),

@@ -7,7 +7,7 @@ ghost use Rattle.proxy_call.specs.Running.{Runs};
 ghost use Rattle.proxy_call.specs.Stops.{given};
 
 use crate::answer::configuration;
-use crate::sessions::{Many, Switch, run_clients};
+use crate::sessions::{Many, Switch, Workers, run_clients};
 use crate::stop::Stop;
 use px_command::RunOptions;
 use px_link::{Files, Sink, Waits, WaitsNet, Wakes};
@@ -15,31 +15,38 @@ use px_pattern::Patterns;
 use px_run::Nets;
 use std::alloc::Global;
 
+/// What the words of `run` say.
+#[derive(Clone, Copy)]
+pub struct RunCommand<'a> {
+    /// The name of the configuration's file.
+    pub cfg: &'a str,
+    pub options: RunOptions,
+}
+
 /// Serves connections at once by the configuration in a file, and writes their lines.
 pub fn run_many<
     'a,
     F: Files,
     L: Waits + Drop,
     N: WaitsNet<Link = L> + Drop,
-    S: Nets<N> + Switch,
+    S: Nets<N> + Switch + Workers<N>,
     W: Wakes<N>,
     K: Sink,
     P: Patterns,
 >(
     alloc: Global,
     files: &mut F,
-    name: &'a str,
-    options: RunOptions,
+    asked: &RunCommand<'a>,
     many: &mut Many<N, S, W>,
     out: &mut K,
     pats: &mut P,
 ) -> Result<(), Stop<'a>>
-    ensures { (words : List (List ℕ)) → IsRun words name.now options
+    ensures { (words : List (List ℕ)) → IsRun words asked.cfg.now asked.options
         → RanRun (given words (F.files files.old) (told_by (P.refusals pats.old) (P.refusals pats.new) (P.last_refused pats.new)) (F.last_failed files.new) (F.faults files.old) (F.faults files.new))
         (put (K.faults out.old) (K.faults out.new) (K.written out.old) (K.written out.new)) (many.new ≡ many.old)
         (Runs N.seen many.old.net many.new.net (K.written out.old) (K.written out.new)) result }
 {
-    let cfg = configuration(alloc, files, name, pats)?;
-    run_clients(alloc, &cfg, options, many, out)?;
+    let cfg = configuration(alloc, files, asked.cfg, pats)?;
+    run_clients(alloc, &cfg, asked.options, many, out)?;
     Ok(())
 }

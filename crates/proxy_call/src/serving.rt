@@ -13,22 +13,29 @@ use px_link::{Files, Net, Sink};
 use px_pattern::Patterns;
 use std::alloc::Global;
 
+/// What the words of `serve` say.
+#[derive(Clone, Copy)]
+pub struct ServeCommand<'a> {
+    /// The name of the configuration's file.
+    pub cfg: &'a str,
+    pub connections: u32,
+}
+
 /// Serves so many connections by the configuration in a file, and writes their lines.
 pub fn serve<'a, F: Files, N: Net, K: Sink, P: Patterns>(
     alloc: Global,
     files: &mut F,
-    name: &'a str,
-    connections: u32,
+    asked: &ServeCommand<'a>,
     net: &mut N,
     out: &mut K,
     pats: &mut P,
 ) -> Result<(), Stop<'a>>
-    ensures { (words : List (List ℕ)) → IsServe words name.now connections
+    ensures { (words : List (List ℕ)) → IsServe words asked.cfg.now asked.connections
         → Ran (given words (F.files files.old) (told_by (P.refusals pats.old) (P.refusals pats.new) (P.last_refused pats.new)) (F.last_failed files.new) (F.faults files.old) (F.faults files.new))
         (put (K.faults out.old) (K.faults out.new) (K.written out.old) (K.written out.new)) (net.new ≡ net.old)
         (Serves N.Link.seen N.Link.wrote N.seen net.old net.new (K.faults out.old) (K.faults out.new) (K.written out.old) (K.written out.new)) result }
 {
-    let cfg = configuration(alloc, files, name, pats)?;
-    serve_clients(alloc, &cfg, connections, net, out)?;
+    let cfg = configuration(alloc, files, asked.cfg, pats)?;
+    serve_clients(alloc, &cfg, asked.connections, net, out)?;
     Ok(())
 }

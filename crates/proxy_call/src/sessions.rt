@@ -6,6 +6,6 @@ mod running;
 mod serving;
 
 pub use records::{drill_lines, replay_report, session_report, weave_report};
-pub use running::{Many, Switch, run_clients};
+pub use running::{Many, Switch, Workers, run_clients};
 pub use serve_run::ServeFault;
 pub use serving::serve_clients;

@@ -14,23 +14,24 @@ ghost use Rattle.proxy_call.specs.Answers.{IsGood, IsRefusal, IsRefusedBy, IsRec
 ghost use Rattle.proxy_call.specs.Files.{told_by};
 ghost use Rattle.proxy_call.specs.Serving.{GainsBind, LostBy, ServedBy, Serving};
 
+use crate::networks::Networks;
 use crate::reply::end;
 use crate::run::run;
-use crate::sessions::{Many, Switch};
+use crate::sessions::{Switch, Workers};
 use crate::status::Status;
 use px_link::{Files, Net, Sink, Waits, WaitsNet, Wakes};
 use px_pattern::Patterns;
 use px_run::Nets;
 use std::alloc::Global;
 
-/// The program: reads the words, runs the command that they name, and writes what it came to. Only `serve` makes calls on the net, and only `run` has
-/// a use for `many`. `pats` builds the patterns of a configuration.
+/// The program: reads the words, runs the command that they name, and writes what it came to. Only `serve` makes calls on its net, and only `run` has
+/// a use for its own. `pats` builds the patterns of a configuration.
 pub fn htx_proxy<
     F: Files,
     N: Net,
     L: Waits + Drop,
     M: WaitsNet<Link = L> + Drop,
-    S: Nets<M> + Switch,
+    S: Nets<M> + Switch + Workers<M>,
     W: Wakes<M>,
     K: Sink,
     P: Patterns,
@@ -38,8 +39,7 @@ pub fn htx_proxy<
     alloc: Global,
     words: &[String],
     files: &mut F,
-    net: &mut N,
-    many: &mut Many<M, S, W>,
+    nets: &mut Networks<N, M, S, W>,
     out: &mut K,
     pats: &mut P,
 ) -> Status
@@ -50,17 +50,17 @@ pub fn htx_proxy<
     // Good of `serve`: the net was bound, so many connections were served by the configuration, one after another, and their lines
     // were written and nothing else.
     ensures served { result ≡ Status.Good → NamesServe (map string_bytes words.now) → Serving (map string_bytes words.now) (F.files files.old)
-        (λ cfg count. ServedAll N.seen (ServedBy N.Link.seen N.Link.wrote N.seen cfg) (address_of cfg.bind) count net.old net.new (K.written out.old) (K.written out.new)) }
+        (λ cfg count. ServedAll N.seen (ServedBy N.Link.seen N.Link.wrote N.seen cfg) (address_of cfg.bind) count nets.old.serve nets.new.serve (K.written out.old) (K.written out.new)) }
 
     // Where the net tells its links, so many were accepted, in order, and each connection's servers and then its client were kept.
     ensures told { (cfg_name : List ℕ) (count : ℕ) → IsServe (map string_bytes words.now) cfg_name count → result ≡ Status.Good
         → (coming : List Coming) (answers : List (Option Coming)) (kept : List Kept)
-        → (N.seen net.old).accepts ≡ Some coming → (N.seen net.old).answers ≡ Some answers → (N.seen net.old).kept ≡ Some kept
-        → Visited (N.seen net.new) coming kept count }
+        → (N.seen nets.old.serve).accepts ≡ Some coming → (N.seen nets.old.serve).answers ≡ Some answers → (N.seen nets.old.serve).kept ≡ Some kept
+        → Visited (N.seen nets.new.serve) coming kept count }
 
     // Good of `run`: it did what running by the configuration does.
     ensures ran { result ≡ Status.Good → NamesRun (map string_bytes words.now)
-        → RunsTo (map string_bytes words.now) (F.files files.old) (Runs M.seen many.old.net many.new.net (K.written out.old) (K.written out.new)) result }
+        → RunsTo (map string_bytes words.now) (F.files files.old) (Runs M.seen nets.old.run.net nets.new.run.net (K.written out.old) (K.written out.new)) result }
 
     // Good, and NetFault where `serve` or `run` had accepted its configuration, come only where the builder refused no pattern.
     ensures built { result ≡ Status.Good → P.refusals pats.new ≡ P.refusals pats.old }
@@ -89,58 +89,58 @@ pub fn htx_proxy<
     // NetFault comes only in `serve`, where a bind or an accept failed, and its count rose, and the lines of exactly the connections before it
     // and then `net` were written; and in `run`, by what that does.
     ensures net_fault { result ≡ Status.NetFault → Serving (map string_bytes words.now) (F.files files.old)
-        (λ cfg count. NetFails N.seen (ServedBy N.Link.seen N.Link.wrote N.seen cfg) (address_of cfg.bind) count net_line net.old net.new (K.written out.old) (K.written out.new))
-        ⊎ RunsTo (map string_bytes words.now) (F.files files.old) (Runs M.seen many.old.net many.new.net (K.written out.old) (K.written out.new)) result }
+        (λ cfg count. NetFails N.seen (ServedBy N.Link.seen N.Link.wrote N.seen cfg) (address_of cfg.bind) count net_line nets.old.serve nets.new.serve (K.written out.old) (K.written out.new))
+        ⊎ RunsTo (map string_bytes words.now) (F.files files.old) (Runs M.seen nets.old.run.net nets.new.run.net (K.written out.old) (K.written out.new)) result }
 
     // With a fault of the output a prefix of what another status would have written was written: the line of a file only where the files'
     // count rose, a good text, and lines of `serve`, only where the builder refused no pattern. It is said of each link that `serve` accepted
     // what was done with it; any other command left the net as it was.
     ensures front { result ≡ Status.OutFault
         → (WritesFront (map string_bytes words.now) (F.files files.old) (told_by (P.refusals pats.old) (P.refusals pats.new) (P.last_refused pats.new)) (F.last_failed files.new) (F.faults files.old) (F.faults files.new) (K.written out.old) (K.written out.new)
-        × (net.new ≡ net.old))
+        × (nets.new.serve ≡ nets.old.serve))
         ⊎ ((P.refusals pats.new ≡ P.refusals pats.old) × Serving (map string_bytes words.now) (F.files files.old)
-        (λ cfg count. Breaks N.seen (ServedBy N.Link.seen N.Link.wrote N.seen cfg) (LostBy N.Link.seen N.Link.wrote N.seen cfg) (address_of cfg.bind) count net.old net.new (K.written out.old) (K.written out.new))) }
+        (λ cfg count. Breaks N.seen (ServedBy N.Link.seen N.Link.wrote N.seen cfg) (LostBy N.Link.seen N.Link.wrote N.seen cfg) (address_of cfg.bind) count nets.old.serve nets.new.serve (K.written out.old) (K.written out.new))) }
 
     // Where memory ran out, nothing or such a prefix was written, and so it is said of each link that `serve` accepted: the session in hand was given up,
     // and its links were written a prefix of one. Or it ran out in `run`, by what that does.
     ensures memory { result ≡ Status.OutOfMemory
         → (((K.written out.new ≡ K.written out.old)
         ⊎ WritesFront (map string_bytes words.now) (F.files files.old) (told_by (P.refusals pats.old) (P.refusals pats.new) (P.last_refused pats.new)) (F.last_failed files.new) (F.faults files.old) (F.faults files.new) (K.written out.old) (K.written out.new))
-        × (net.new ≡ net.old))
+        × (nets.new.serve ≡ nets.old.serve))
         ⊎ (((P.refusals pats.new ≡ P.refusals pats.old) × Serving (map string_bytes words.now) (F.files files.old)
-        (λ cfg count. Breaks N.seen (ServedBy N.Link.seen N.Link.wrote N.seen cfg) (LostBy N.Link.seen N.Link.wrote N.seen cfg) (address_of cfg.bind) count net.old net.new (K.written out.old) (K.written out.new)))
-        ⊎ ((P.refusals pats.new ≡ P.refusals pats.old) × RunsTo (map string_bytes words.now) (F.files files.old) (Runs M.seen many.old.net many.new.net (K.written out.old) (K.written out.new)) result)) }
+        (λ cfg count. Breaks N.seen (ServedBy N.Link.seen N.Link.wrote N.seen cfg) (LostBy N.Link.seen N.Link.wrote N.seen cfg) (address_of cfg.bind) count nets.old.serve nets.new.serve (K.written out.old) (K.written out.new)))
+        ⊎ ((P.refusals pats.new ≡ P.refusals pats.old) × RunsTo (map string_bytes words.now) (F.files files.old) (Runs M.seen nets.old.run.net nets.new.run.net (K.written out.old) (K.written out.new)) result)) }
 
     // The net gains at most the configuration's address among those of binds, and has it where `serve` answers Good.
     ensures binds { result ≡ Status.Good → NamesServe (map string_bytes words.now) → Serving (map string_bytes words.now) (F.files files.old)
-        (λ cfg count. GainsBind (N.seen net.old) (N.seen net.new) cfg) }
-    ensures bound { ((N.seen net.new).bound ≡ (N.seen net.old).bound)
-        ⊎ Serving (map string_bytes words.now) (F.files files.old) (λ cfg count. GainsBind (N.seen net.old) (N.seen net.new) cfg) }
+        (λ cfg count. GainsBind (N.seen nets.old.serve) (N.seen nets.new.serve) cfg) }
+    ensures bound { ((N.seen nets.new.serve).bound ≡ (N.seen nets.old.serve).bound)
+        ⊎ Serving (map string_bytes words.now) (F.files files.old) (λ cfg count. GainsBind (N.seen nets.old.serve) (N.seen nets.new.serve) cfg) }
 
     // It gains at most the configuration's server among those of connects, and has back each link that it lent.
-    ensures dialled { ((N.seen net.new).dialled ≡ (N.seen net.old).dialled)
-        ⊎ Serving (map string_bytes words.now) (F.files files.old) (λ cfg count. (N.seen net.new).dialled ≡ with_address (N.seen net.old).dialled (address_of cfg.server)) }
-    ensures lent { (N.seen net.new).lent ≡ (N.seen net.old).lent }
+    ensures dialled { ((N.seen nets.new.serve).dialled ≡ (N.seen nets.old.serve).dialled)
+        ⊎ Serving (map string_bytes words.now) (F.files files.old) (λ cfg count. (N.seen nets.new.serve).dialled ≡ with_address (N.seen nets.old.serve).dialled (address_of cfg.server)) }
+    ensures lent { (N.seen nets.new.serve).lent ≡ (N.seen nets.old.serve).lent }
 
     // Whatever the words are, a refusal of them, of a configuration, of a record or of a file leaves the net as it was. So does each answer to
     // words other than those of `serve`.
-    ensures refused { IsRefusal result → net.new ≡ net.old }
-    ensures untouched { (NamesServe (map string_bytes words.now) → ⊥) → net.new ≡ net.old }
+    ensures refused { IsRefusal result → nets.new.serve ≡ nets.old.serve }
+    ensures untouched { (NamesServe (map string_bytes words.now) → ⊥) → nets.new.serve ≡ nets.old.serve }
 
     // What `run` is handed is as it was behind each such refusal, and whatever comes of other words; else `run` did what it does.
-    ensures refused_idle { IsRefusal result → many.new ≡ many.old }
-    ensures idle { (NamesRun (map string_bytes words.now) → ⊥) → many.new ≡ many.old }
-    ensures left_idle { (many.new ≡ many.old) ⊎ RunsTo (map string_bytes words.now) (F.files files.old) (Runs M.seen many.old.net many.new.net (K.written out.old) (K.written out.new)) result }
+    ensures refused_idle { IsRefusal result → nets.new.run ≡ nets.old.run }
+    ensures idle { (NamesRun (map string_bytes words.now) → ⊥) → nets.new.run ≡ nets.old.run }
+    ensures left_idle { (nets.new.run ≡ nets.old.run) ⊎ RunsTo (map string_bytes words.now) (F.files files.old) (Runs M.seen nets.old.run.net nets.new.run.net (K.written out.old) (K.written out.new)) result }
 
     // Where nothing failed, only memory is in the way of the status that words and files call for.
     ensures complete { (fs : List NamedBytes) → F.files files.old ≡ Some fs
         → (status : Status) → IsDue (map string_bytes words.now) fs status
         → (Rose (F.faults files.old) (F.faults files.new) → ⊥) → (Rose (K.faults out.old) (K.faults out.new) → ⊥)
         → (Rose (P.refusals pats.old) (P.refusals pats.new) → ⊥)
-        → (NamesServe (map string_bytes words.now) → Rose (N.seen net.old).bind_faults (N.seen net.new).bind_faults → ⊥)
+        → (NamesServe (map string_bytes words.now) → Rose (N.seen nets.old.serve).bind_faults (N.seen nets.new.serve).bind_faults → ⊥)
         → (result ≡ status) ⊎ (result ≡ Status.OutOfMemory) }
 {
-    match run(alloc, words, files, net, many, out, pats) {
+    match run(alloc, words, files, nets, out, pats) {
         Ok(()) => Status::Good,
         Err(stop) => end(alloc, stop, out),
     }

@@ -3,7 +3,7 @@ use Rattle.std.specs.Prelude.{◌≡◌, ◌≢◌, ℕ, ◌≤◌, List, [], �
 use Rattle.px_bytes.specs.Numbers.{decimal_of}
 use Rattle.px_command.specs.declared.name.CommandName.{CommandName}
 use Rattle.px_command.specs.declared.name.CommandName.TheVariants.{Check, Replay, Weave, Serve, Run, Drill}
-use Rattle.px_command.specs.Options.{nothing_said, options_behind}
+use Rattle.px_command.specs.Options.{options_of}
 use Rattle.px_command.specs.declared.options.RunOptions.{RunOptions}
 
 -- a word that may name a file: it isn't empty, and no dash stands in front
@@ -49,10 +49,10 @@ abbrev pub IsServe : List (List ℕ) → (cfg : List ℕ) → (connections : ℕ
 IsServe words cfg connections =
     (count : List ℕ) × (words ≡ codes "serve" ∷ cfg ∷ count ∷ []) × IsFileWord cfg × IsNumber 1 1000000 count connections
 
--- the words are `run CFG` and options, in any order, each at most once
+-- the words are `run CFG` and options that may stand together, in any order, each at most once
 abbrev pub IsRun : List (List ℕ) → (cfg : List ℕ) → RunOptions → Type 0
 IsRun words cfg options =
-    (behind : List (List ℕ)) × (words ≡ codes "run" ∷ cfg ∷ behind) × IsFileWord cfg × (options_behind nothing_said behind ≡ Some options)
+    (behind : List (List ℕ)) × (words ≡ codes "run" ∷ cfg ∷ behind) × IsFileWord cfg × (options_of behind ≡ Some options)
 
 -- the words are `drill SEED COUNT`, with a seed of 0 to 2147483647 and 0 to 4000 exchanges
 abbrev pub IsDrill : List (List ℕ) → (seed exchanges : ℕ) → Type 0

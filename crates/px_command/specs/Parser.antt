@@ -26,11 +26,15 @@ weave_shape = with_rule (two_words (codes "weave") (codes "CFG") (codes "REC")) 
 abbrev pub option_rule : (name : Text) → Rule
 option_rule name = record (new_rule name) { long = Some name; value_names = 1 }
 
+-- `run`, with a file and the options that have numbers
+abbrev pub run_numbers : App
+run_numbers =
+    with_rule (with_rule (with_rule (with_rule (new_app (codes "run")) (word_rule (codes "CFG"))) (option_rule (codes "sets"))) (option_rule (codes "connections")))
+    (option_rule (codes "workers"))
+
 -- `run`, with a file and its options
 abbrev pub run_shape : App
-run_shape =
-    with_rule (with_rule (with_rule (with_rule (new_app (codes "run")) (word_rule (codes "CFG"))) (option_rule (codes "sets"))) (option_rule (codes "connections")))
-    (flag_rule (codes "until-input-ends"))
+run_shape = with_rule run_numbers (flag_rule (codes "until-input-ends"))
 
 -- `check`, with a file, the flag that asks for each refused line, and the flag that says that it is a record
 abbrev pub check_shape : App

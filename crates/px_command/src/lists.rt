@@ -5,7 +5,7 @@ ghost use Rattle.px_command.specs.declared.name.CommandName.{CommandName as Name
 ghost use Rattle.px_command.specs.declared.options.RunOptions.{RunOptions as Options};
 
 use crate::name::CommandName;
-use crate::options::{RunOptions, no_options, options_behind};
+use crate::options::{RunOptions, options_of};
 use crate::words::{
     are_two, is_alone, is_file_word, number, one_behind, some_behind, three_behind, two_behind,
 };
@@ -100,7 +100,7 @@ pub fn run_words<'a>(words: &'a [String]) -> Option<(&'a str, RunOptions)>
     if !is_file_word(cfg) {
         return None;
     }
-    let options = options_behind(no_options(), behind)?;
+    let options = options_of(behind)?;
     Some((cfg, options))
 }
 

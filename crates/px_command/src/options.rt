@@ -1,6 +1,6 @@
 //! The options of `run`, in any order, each at most once.
 ghost use Rattle.std.specs.Prelude.{◌≡◌, map, string_bytes};
-ghost use Rattle.px_command.specs.Options.{nothing_said, number_within, options_behind, with_flag, with_number};
+ghost use Rattle.px_command.specs.Options.{may_stand, nothing_said, number_within, options_behind, options_of, with_connections, with_flag, with_number, with_sets, with_workers};
 
 use crate::words::number;
 
@@ -11,17 +11,20 @@ pub struct RunOptions {
     pub sets: Option<u32>,
     /// Behind how many connections it ends. Where nothing is said of it, it goes on.
     pub connections: Option<u32>,
+    /// How many processes serve. Where nothing is said of it, the one that was started does.
+    pub workers: Option<u32>,
     /// Nothing more is accepted once standard input has ended.
     pub until_input_ends: bool,
 }
 
 /// What no word says.
-pub fn no_options() -> RunOptions
+fn no_options() -> RunOptions
     ensures { result ≡ nothing_said }
 {
     RunOptions {
         sets: None,
         connections: None,
+        workers: None,
         until_input_ends: false,
     }
 }
@@ -44,9 +47,50 @@ fn flagged(said: RunOptions, word: &str) -> Option<RunOptions>
         return None;
     }
     Some(RunOptions {
-        sets: said.sets,
-        connections: said.connections,
         until_input_ends: true,
+        ..said
+    })
+}
+
+/// What is said with this number of sets more, where none was said yet.
+fn counted_sets(said: RunOptions, value: &str) -> Option<RunOptions>
+    ensures { result ≡ with_sets said value.now }
+{
+    if said.sets.is_some() {
+        return None;
+    }
+    let sets = within(value, 1, MOST_SETS)?;
+    Some(RunOptions {
+        sets: Some(sets),
+        ..said
+    })
+}
+
+/// The same of the number of connections.
+fn counted_connections(said: RunOptions, value: &str) -> Option<RunOptions>
+    ensures { result ≡ with_connections said value.now }
+{
+    if said.connections.is_some() {
+        return None;
+    }
+    let connections = within(value, 1, MOST_CONNECTIONS)?;
+    Some(RunOptions {
+        connections: Some(connections),
+        ..said
+    })
+}
+
+/// The same of the number of workers.
+fn counted_workers(said: RunOptions, value: &str) -> Option<RunOptions>
+    ensures { result ≡ with_workers said value.now }
+{
+    if said.workers.is_some() {
+        return None;
+    }
+    let workers = within(value, 1, MOST_WORKERS)?;
+    Some(RunOptions {
+        workers: Some(workers),
+        ..said
     })
 }
 
@@ -55,28 +99,15 @@ fn numbered(said: RunOptions, name: &str, value: &str) -> Option<RunOptions>
     ensures { result ≡ with_number said name.now value.now }
 {
     if name == "--sets" {
-        if said.sets.is_some() {
-            return None;
-        }
-        let sets = within(value, 1, MOST_SETS)?;
-        return Some(RunOptions {
-            sets: Some(sets),
-            connections: said.connections,
-            until_input_ends: said.until_input_ends,
-        });
+        return counted_sets(said, value);
     }
-    if name != "--connections" {
-        return None;
+    if name == "--connections" {
+        return counted_connections(said, value);
     }
-    if said.connections.is_some() {
-        return None;
+    if name == "--workers" {
+        return counted_workers(said, value);
     }
-    let connections = within(value, 1, MOST_CONNECTIONS)?;
-    Some(RunOptions {
-        sets: said.sets,
-        connections: Some(connections),
-        until_input_ends: said.until_input_ends,
-    })
+    None
 }
 
 /// The largest number of sets.
@@ -85,8 +116,11 @@ pub const MOST_SETS: u32 = 4096;
 /// The largest number of connections behind which it ends.
 pub const MOST_CONNECTIONS: u32 = 1000000;
 
+/// The largest number of workers.
+pub const MOST_WORKERS: u32 = 64;
+
 /// What is said with these words more, where they are options that weren't said yet.
-pub fn options_behind(said: RunOptions, words: &[String]) -> Option<RunOptions>
+fn options_behind(said: RunOptions, words: &[String]) -> Option<RunOptions>
     ensures { result ≡ options_behind said (map string_bytes words.now) }
 {
     let [word, rest @ ..] = words else {
@@ -100,4 +134,22 @@ pub fn options_behind(said: RunOptions, words: &[String]) -> Option<RunOptions>
     };
     let next = numbered(said, word.as_str(), value.as_str())?;
     options_behind(next, behind)
+}
+
+/// Whether the options may stand together.
+fn stand(said: RunOptions) -> bool
+    ensures { result ≡ may_stand said }
+{
+    said.workers.is_none() || (said.connections.is_none() && !said.until_input_ends)
+}
+
+/// The options that the words behind `run CFG` are.
+pub fn options_of(words: &[String]) -> Option<RunOptions>
+    ensures { result ≡ options_of (map string_bytes words.now) }
+{
+    let said = options_behind(no_options(), words)?;
+    if !stand(said) {
+        return None;
+    }
+    Some(said)
 }

@@ -2,7 +2,7 @@
 ghost use Rattle.std.specs.Prelude.{◌≡◌, ℕ, List, IfOk, false, codes};
 ghost use Rattle.clap.specs.Words.{App, app_of, new_app, rule_of, with_rule, with_subcommand};
 ghost use Rattle.clap.specs.declared.builder.command.Command.TheViews.{out-Command};
-ghost use Rattle.px_command.specs.Parser.{word_rule, flag_rule, two_words, weave_shape, run_shape, option_rule, check_shape, top_level, parser};
+ghost use Rattle.px_command.specs.Parser.{word_rule, flag_rule, two_words, weave_shape, run_numbers, run_shape, option_rule, check_shape, top_level, parser};
 
 use clap::{Arg, ArgAction, Command};
 use std::alloc::{AllocError, Global};
@@ -147,9 +147,9 @@ pub fn serve_command<'a>(alloc: Global) -> Result<Command<'a>, AllocError>
     )
 }
 
-/// `run CFG` and options.
-pub fn run_command<'a>(alloc: Global) -> Result<Command<'a>, AllocError>
-    ensures app { IfOk result (λ c. app_of c ≡ run_shape) }
+/// `run CFG` and the options that have numbers.
+fn run_numbers<'a>(alloc: Global) -> Result<Command<'a>, AllocError>
+    ensures app { IfOk result (λ c. app_of c ≡ run_numbers) }
     ensures local { IfOk result (λ c. (out-Command c).has_globals ≡ false) }
 {
     let about = "Serves many connections at once, and writes a line for each once it is over";
@@ -166,12 +166,26 @@ pub fn run_command<'a>(alloc: Global) -> Result<Command<'a>, AllocError>
         "N",
         "Ends after so many connections, 1 to 1000000",
     );
+    let workers = option(
+        alloc,
+        "workers",
+        "W",
+        "How many processes serve, 1 to 64; this one alone where it isn't said",
+    );
+    file.arg(sets)?.arg(connections)?.arg(workers)
+}
+
+/// `run CFG` and options.
+pub fn run_command<'a>(alloc: Global) -> Result<Command<'a>, AllocError>
+    ensures app { IfOk result (λ c. app_of c ≡ run_shape) }
+    ensures local { IfOk result (λ c. (out-Command c).has_globals ≡ false) }
+{
     let switch = flag(
         alloc,
         "until-input-ends",
         "Accepts nothing more once standard input has ended, and ends when all are served",
     );
-    file.arg(sets)?.arg(connections)?.arg(switch)
+    run_numbers(alloc)?.arg(switch)
 }
 
 /// `drill SEED COUNT`.

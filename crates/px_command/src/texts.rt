@@ -23,8 +23,8 @@ Examples:
   htx_proxy run site.cfg              serves many connections at once, and goes on
   htx_proxy check --help              says more of one command
 
-Names of files are not empty and do not begin with a dash. Numbers have 1 to 10 digits. All that is written goes to
-standard output.
+Names of files are not empty and do not begin with a dash. Numbers have 1 to 10 digits. What a command writes goes to
+standard output; why a bind or a connect failed goes to standard error.
 
 Status:
   0  the command did what it was asked to
@@ -96,10 +96,16 @@ const RUN: &[u8] = b"
 Example:
   htx_proxy run site.cfg                     writes `listening 127.0.0.1:8080`, serves many connections at once, and goes on
   htx_proxy run site.cfg --until-input-ends  the same, and ends once its standard input has ended and all are served
+  htx_proxy run site.cfg --workers 4         serves by four processes, and writes the lines of all
 
 Options come in any order, each at most once. A connection has one of the K sets from the first bytes of its client on. Where all
 are out the next one waits, or that of the client ends whose next request is awaited longest. `timeout` lines of the configuration
 take effect.
+
+With --workers W this process listens, starts W of itself that serve, each with K sets, and passes on what they write. One that
+ends is said on standard error, and started again a second later. When this process ends, as by SIGTERM, they accept nothing more,
+serve what they have, and end. It stands neither with --until-input-ends, since the input of each is what all of them listen at,
+nor with --connections, since none of them counts for the others.
 
 Refused in this order: the words (1), the file of the configuration (4), the configuration (2); then a bind that fails (6).";
 
@@ -272,12 +278,21 @@ fn wrong_flag(words: &[String]) -> &'static [u8] {
     b"the argument '--record' must stand in front of '<FILE>'"
 }
 
+/// What is wrong with the options of `run`.
+fn wrong_option(words: &[String]) -> &'static [u8] {
+    if has_word(words, "--workers") && has_word(words, "--connections") {
+        return b"the argument '--workers' cannot be used with '--connections'";
+    }
+    if has_word(words, "--workers") && has_word(words, "--until-input-ends") {
+        return b"the argument '--workers' cannot be used with '--until-input-ends'";
+    }
+    b"options stand behind '<CFG>', and the number of one is a word of its own"
+}
+
 /// What is wrong with words of which none is wrong in its place.
 fn wrong_order(words: &[String]) -> &'static [u8] {
     match words {
-        [command, ..] if command.as_str() == "run" => {
-            b"options stand behind '<CFG>', and the number of one is a word of its own"
-        }
+        [command, ..] if command.as_str() == "run" => wrong_option(words),
         _ => wrong_flag(words),
     }
 }

@@ -1,5 +1,5 @@
 //! Which word is wrong where words name a command and stand in order, and no list has them.
-use crate::options::{MOST_CONNECTIONS, MOST_SETS};
+use crate::options::{MOST_CONNECTIONS, MOST_SETS, MOST_WORKERS};
 use crate::words::{is_file_word, number, one_behind};
 
 /// A word that is out of the bounds of its place.
@@ -115,6 +115,9 @@ fn wrong_option<'a>(name: &str, value: &'a str) -> Option<Wrong<'a>> {
             MOST_CONNECTIONS,
             "1 to 1000000, in 1 to 10 digits",
         );
+    }
+    if name == "--workers" {
+        return wrong_number("W", value, 1, MOST_WORKERS, "1 to 64, in 1 to 10 digits");
     }
     None
 }

@@ -5,6 +5,7 @@
 mod addresses;
 mod dialling;
 mod faults;
+mod handover;
 mod input_end;
 mod linger;
 mod numeric;
@@ -21,6 +22,7 @@ mod stream_waits;
 mod telling;
 mod tokens;
 
+pub use handover::{end_listener, is_output_gone};
 pub use input_end::InputEnd;
 pub use ready_link::ReadyLink;
 pub use ready_net::ReadyNet;

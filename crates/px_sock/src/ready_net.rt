@@ -14,7 +14,7 @@ use std::alloc::Global;
 use std::io::{Eprint, ErrorKind};
 use std::marker::Model;
 use std::net::{IpAddr, SocketAddr, TcpStream};
-use std::os::fd::{AsRawFd, RawFd};
+use std::os::fd::{AsFd, AsRawFd, OwnedFd, RawFd};
 use std::{io, net};
 
 /// A net over sockets that don't block. It listens at the address of the last bind that was answered Ok. Contracts see the addresses of its binds
@@ -24,6 +24,8 @@ pub struct ReadyNet<'a, R: net::Net> {
     rt: &'a R,
     alloc: Global,
     listener: Option<TcpListener>,
+    /// A listener of another process, which the next bind takes.
+    handed: Option<TcpListener>,
     /// What the system answered to an accept that is still to be made.
     came: Option<io::Result<TcpStream>>,
     /// A connect that is still to be made.
@@ -49,13 +51,14 @@ impl<'a, R: net::Net> Model for ReadyNet<'a, R> {
 
 impl<'a, R: net::Net> ReadyNet<'a, R> {
     /// A net on which no call was made yet.
-    fn start(alloc: Global, rt: &'a R, telling: Telling) -> Self
+    fn start(alloc: Global, rt: &'a R, telling: Telling, handed: Option<TcpListener>) -> Self
         ensures { result ≡ untold_net [] [] 0 0 0 }
     {
         ReadyNet {
             rt,
             alloc,
             listener: None,
+            handed,
             came: None,
             dialling: Dialling::Nothing,
             bound: Addresses::new(alloc),
@@ -72,14 +75,30 @@ impl<'a, R: net::Net> ReadyNet<'a, R> {
     pub fn new(alloc: Global, rt: &'a R) -> Self
         ensures { result ≡ untold_net [] [] 0 0 0 }
     {
-        ReadyNet::start(alloc, rt, Telling::Nothing)
+        ReadyNet::start(alloc, rt, Telling::Nothing, None)
     }
 
     /// A net on which no call was made yet. It tells each bind and each connect that fails on standard error, with its address and the reason.
     pub fn telling(alloc: Global, rt: &'a R) -> Self
         ensures { result ≡ untold_net [] [] 0 0 0 }
     {
-        ReadyNet::start(alloc, rt, Telling::Failures)
+        ReadyNet::start(alloc, rt, Telling::Failures, None)
+    }
+
+    /// The same, but its first bind takes this listener, which another process bound.
+    pub fn handed(alloc: Global, rt: &'a R, listener: OwnedFd) -> Self
+        ensures { result ≡ untold_net [] [] 0 0 0 }
+    {
+        let handed = Some(TcpListener::from(listener));
+        ReadyNet::start(alloc, rt, Telling::Failures, handed)
+    }
+
+    /// Its listener, to be handed to another process.
+    pub fn share(&self) -> io::Result<OwnedFd> {
+        match &self.listener {
+            Some(listener) => listener.as_fd().try_clone_to_owned(),
+            None => Err(io::Error::from(ErrorKind::NotConnected)),
+        }
     }
 
     /// The number of its listener, by which a wait is told of it.
@@ -124,9 +143,19 @@ fn local(at: &Address) -> io::Result<SocketAddr> {
     }
 }
 
-/// A listener at this address.
-fn listen<R: net::Net>(rt: &R, at: &Address) -> io::Result<TcpListener> {
-    TcpListener::bind(rt, local(at)?)
+/// The listener that was handed over, which has to be a socket; else one at this address.
+fn listen<R: net::Net>(
+    rt: &R,
+    handed: &mut Option<TcpListener>,
+    at: &Address,
+) -> io::Result<TcpListener> {
+    match handed.take() {
+        Some(listener) => {
+            listener.local_addr()?;
+            Ok(listener)
+        }
+        None => TcpListener::bind(rt, local(at)?),
+    }
 }
 
 /// The next stream that comes in. A peer that was gone before it was accepted is none.
@@ -179,7 +208,8 @@ impl<'a, R: net::Net + Eprint> Net for ReadyNet<'a, R> {
 
     fn bind(&mut self, at: &Address) -> Result<(), Fault> {
         self.bound.push(at)?;
-        let answer = told(self.rt, self.telling, Call::Bind(at), listen(self.rt, at));
+        let listened = listen(self.rt, &mut self.handed, at);
+        let answer = told(self.rt, self.telling, Call::Bind(at), listened);
         match counted(&mut self.bind_faults, answer) {
             Ok(listener) => {
                 self.listener = Some(listener);

@@ -1,6 +1,7 @@
 //! The wait for all streams of a loop, over the system's poll.
 ghost use Rattle.std.specs.Prelude.{◌≡◌, List, ℕ};
 
+use crate::handover::OUTPUT;
 use crate::input_end::INPUT;
 use crate::ready_link::ReadyLink;
 use crate::ready_net::ReadyNet;
@@ -52,6 +53,18 @@ impl<'a, R: net::Net + Clock> ReadyPoll<'a, R> {
     pub fn watch_input(&mut self) {
         let registry = self.poll.registry();
         let _ = report(registry, Some(INPUT), Watched::Listener, Interest::READABLE);
+    }
+
+    /// Has a later wait end where nobody reads standard output any more; it names the listener then. An output on disk needs no watch.
+    pub fn watch_output(&mut self) {
+        let registry = self.poll.registry();
+        // of an output nothing is told but its fault
+        let _ = report(
+            registry,
+            Some(OUTPUT),
+            Watched::Listener,
+            Interest::READABLE,
+        );
     }
 }
 

@@ -24,6 +24,7 @@ fn more_number(name: &[u8], number: Option<u32>, answers: &mut Answers) {
 fn more_options(options: RunOptions, answers: &mut Answers) {
     more_number(b" sets ", options.sets, answers);
     more_number(b" connections ", options.connections, answers);
+    more_number(b" workers ", options.workers, answers);
     if options.until_input_ends {
         answers.more(b" until-input-ends");
     }

@@ -4,8 +4,8 @@ ghost use Rattle.std.specs.Prelude.{◌≡◌, [], IfOk};
 
 use crate::served::links::put_servers;
 use case_rows::{Call, Fault};
-use proxy_call::{Many, Switch};
-use px_link::{MemNet, MemWakes, OutOfMemory, Script, ScriptedNet};
+use proxy_call::{Many, Switch, Workers};
+use px_link::{Fault as Failure, MemNet, MemWakes, OutOfMemory, Script, ScriptedNet, Sink};
 use px_run::Nets;
 use rec_format::Connection;
 use std::alloc::Global;
@@ -30,6 +30,21 @@ pub(crate) struct RecordNets<'r> {
 /// It has no switch.
 impl<'r> Switch for RecordNets<'r> {
     fn heed(&mut self, _: bool) {}
+}
+
+/// Its workers are none, and say nothing.
+impl<'r> Workers<ScriptedNet<MemNet>> for RecordNets<'r> {
+    fn start(&mut self, _net: &ScriptedNet<MemNet>, _count: u32) -> Result<(), Failure> {
+        Ok(())
+    }
+
+    fn pass_on<K: Sink>(
+        &mut self,
+        _net: &ScriptedNet<MemNet>,
+        _out: &mut K,
+    ) -> Result<(), Failure> {
+        Ok(())
+    }
 }
 
 /// A net with the servers of a connection, on which no call fails.

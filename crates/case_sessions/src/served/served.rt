@@ -4,7 +4,7 @@ use crate::served::links::net_of;
 use crate::served::many::many_of;
 use crate::session::record_in;
 use case_rows::{Answers, Call, Fault, Row, decoded, words_of};
-use proxy_call::{Status, htx_proxy};
+use proxy_call::{Networks, Status, htx_proxy};
 use px_link::{MemFiles, MemNet, MemSink};
 use px_pattern::RealPatterns;
 use std::alloc::Global;
@@ -45,14 +45,14 @@ fn served(alloc: Global, row: Row<'_>) -> Result<Vec<u8>, Fault> {
     let cfg = decoded(alloc, row.field(3).as_bytes())?;
     let record = record_in(alloc, &decoded(alloc, row.field(4).as_bytes())?)?;
     let mut files = files_of(alloc, &cfg, &failing)?;
-    let mut net = net_of(alloc, &record, &failing)?;
+    let mut nets = Networks {
+        serve: net_of(alloc, &record, &failing)?,
+        run: many_of(alloc, no_net(alloc)?, &[]),
+    };
     let mut out = output_of(alloc, &failing)?;
-    let mut many = many_of(alloc, no_net(alloc)?, &[]);
     let mut pats = RealPatterns::new();
-    let status = htx_proxy(
-        alloc, &words, &mut files, &mut net, &mut many, &mut out, &mut pats,
-    );
-    tell(alloc, status, &out, &net)
+    let status = htx_proxy(alloc, &words, &mut files, &mut nets, &mut out, &mut pats);
+    tell(alloc, status, &out, &nets.serve)
 }
 
 /// A net to which no client comes.
@@ -67,14 +67,14 @@ fn ran(alloc: Global, row: Row<'_>) -> Result<Vec<u8>, Fault> {
     let cfg = decoded(alloc, row.field(3).as_bytes())?;
     let record = record_in(alloc, &decoded(alloc, row.field(4).as_bytes())?)?;
     let mut files = files_of(alloc, &cfg, &failing)?;
-    let mut net = no_net(alloc)?;
-    let mut many = many_of(alloc, net_of(alloc, &record, &failing)?, &record.conns);
+    let mut nets = Networks {
+        serve: no_net(alloc)?,
+        run: many_of(alloc, net_of(alloc, &record, &failing)?, &record.conns),
+    };
     let mut out = output_of(alloc, &failing)?;
     let mut pats = RealPatterns::new();
-    let status = htx_proxy(
-        alloc, &words, &mut files, &mut net, &mut many, &mut out, &mut pats,
-    );
-    tell(alloc, status, &out, many.net.net())
+    let status = htx_proxy(alloc, &words, &mut files, &mut nets, &mut out, &mut pats);
+    tell(alloc, status, &out, nets.run.net.net())
 }
 
 /// What a row of `served` or `ran` comes to; none of another kind.

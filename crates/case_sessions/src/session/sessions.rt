@@ -1,10 +1,11 @@
 //! Sessions: rows of the program's words over the files `c` and `r`, and files of a configuration and a record with
 //! what must be written. Each goes through the program's one call.
 use crate::served::many::many_of;
+use crate::served::no_net;
 use crate::session::facts::facts_of;
 use case_rows::{Answers, Call, Fault, Row, decoded, words_of};
-use proxy_call::{Status, htx_proxy};
-use px_link::{MemFiles, MemNet, MemSink};
+use proxy_call::{Networks, Status, htx_proxy};
+use px_link::{MemFiles, MemSink};
 use px_pattern::RealPatterns;
 use std::alloc::Global;
 
@@ -28,15 +29,14 @@ pub(crate) fn reply_to(
     let mut files = MemFiles::new(alloc);
     files.add("c", cfg)?;
     files.add("r", rec)?;
-    let mut net = MemNet::new(alloc, Vec::new(alloc), Vec::new(alloc))?;
     let mut out = MemSink::new(alloc);
     out.fail_at(failing);
     let mut pats = RealPatterns::new();
-    let unused = MemNet::new(alloc, Vec::new(alloc), Vec::new(alloc))?;
-    let mut many = many_of(alloc, unused, &[]);
-    let status = htx_proxy(
-        alloc, &words, &mut files, &mut net, &mut many, &mut out, &mut pats,
-    );
+    let mut nets = Networks {
+        serve: no_net(alloc)?,
+        run: many_of(alloc, no_net(alloc)?, &[]),
+    };
+    let status = htx_proxy(alloc, &words, &mut files, &mut nets, &mut out, &mut pats);
     Ok(Reply { status, out })
 }
 

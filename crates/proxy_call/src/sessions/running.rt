@@ -1,4 +1,5 @@
 //! Clients that are served at once, and their sessions.
+ghost use Rattle.std.specs.Prelude.{◌≡◌};
 ghost use Rattle.http_rules.specs.Valid.{IsValid};
 ghost use Rattle.proxy_call.specs.Running.{Runs};
 
@@ -30,6 +31,15 @@ pub trait Switch {
     fn heed(&mut self, heeds: bool);
 }
 
+/// Processes of this program that serve at the listener of a net, each as `run` does, with cores of its own.
+pub trait Workers<N> {
+    /// Starts so many, by the words of this process.
+    fn start(&mut self, net: &N, count: u32) -> Result<(), Fault>;
+
+    /// Writes the lines of all, each whole, and starts another in place of one that has ended, until no number counts the lines.
+    fn pass_on<K: Sink>(&mut self, net: &N, out: &mut K) -> Result<(), Fault>;
+}
+
 /// The times of a configuration.
 fn times_of(timeouts: &Timeouts) -> Times {
     Times {
@@ -52,8 +62,8 @@ fn write_listening<K: Sink>(
     Ok(())
 }
 
-/// Listens where the configuration says, and serves many clients at once.
-pub fn run_clients<
+/// Serves many clients at once with cores of this process. The net is bound already.
+fn serve_here<
     L: Waits + Drop,
     N: WaitsNet<Link = L> + Drop,
     S: Nets<N> + Switch,
@@ -67,13 +77,9 @@ pub fn run_clients<
     out: &mut K,
 ) -> Result<(), RunFault>
     requires valid { IsValid config.now }
-    ensures { Runs N.seen many.old.net many.new.net (K.written out.old) (K.written out.new) config.now options result }
+    ensures lent { (N.seen many.new.net).lent ≡ (N.seen many.old.net).lent }
+    ensures bound { (N.seen many.new.net).bound ≡ (N.seen many.old.net).bound }
 {
-    match many.net.bind(&config.bind) {
-        Ok(()) => {}
-        Err(Fault::Failed) => return Err(RunFault::Net),
-        Err(Fault::OutOfMemory) => return Err(RunFault::OutOfMemory),
-    }
     bounded();
     total();
     let cores = RecordCores {
@@ -101,4 +107,62 @@ pub fn run_clients<
         sets,
         &plan,
     )
+}
+
+/// Why the loop stopped, by the fault of a call.
+fn stopped(fault: Fault) -> RunFault {
+    match fault {
+        Fault::Failed => RunFault::Net,
+        Fault::OutOfMemory => RunFault::OutOfMemory,
+    }
+}
+
+/// Has so many other processes serve, and passes their lines on. The net is bound already.
+fn serve_by_workers<N, S: Workers<N>, W, K: Sink>(
+    alloc: Global,
+    config: &Config,
+    count: u32,
+    many: &mut Many<N, S, W>,
+    out: &mut K,
+) -> Result<(), RunFault>
+    ensures { many.new.net ≡ many.old.net }
+{
+    if let Err(fault) = many.nets.start(&many.net, count) {
+        return Err(stopped(fault));
+    }
+    if write_listening(alloc, config, out).is_err() {
+        return Err(RunFault::OutOfMemory);
+    }
+    match many.nets.pass_on(&many.net, out) {
+        Ok(()) => Ok(()),
+        Err(fault) => Err(stopped(fault)),
+    }
+}
+
+/// Listens where the configuration says, and serves many clients at once.
+pub fn run_clients<
+    L: Waits + Drop,
+    N: WaitsNet<Link = L> + Drop,
+    S: Nets<N> + Switch + Workers<N>,
+    W: Wakes<N>,
+    K: Sink,
+>(
+    alloc: Global,
+    config: &Config,
+    options: RunOptions,
+    many: &mut Many<N, S, W>,
+    out: &mut K,
+) -> Result<(), RunFault>
+    requires valid { IsValid config.now }
+    ensures { Runs N.seen many.old.net many.new.net (K.written out.old) (K.written out.new) config.now options result }
+{
+    match many.net.bind(&config.bind) {
+        Ok(()) => {}
+        Err(Fault::Failed) => return Err(RunFault::Net),
+        Err(Fault::OutOfMemory) => return Err(RunFault::OutOfMemory),
+    }
+    match options.workers {
+        Some(count) => serve_by_workers(alloc, config, count, many, out),
+        None => serve_here(alloc, config, options, many, out),
+    }
 }

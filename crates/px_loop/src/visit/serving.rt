@@ -3,8 +3,8 @@ ghost use Rattle.std.specs.Prelude.{◌≡◌, [], IfOk};
 
 use crate::RULES;
 use crate::visit::ports::Ports;
-use proxy_call::{Many, Status, Switch, htx_proxy};
-use px_link::{MemFiles, MemNet, MemWakes, OutOfMemory, Script, ScriptedNet};
+use proxy_call::{Many, Networks, Status, Switch, Workers, htx_proxy};
+use px_link::{Fault, MemFiles, MemNet, MemWakes, OutOfMemory, Script, ScriptedNet, Sink};
 use px_pattern::RealPatterns;
 use px_run::Nets;
 use px_sock::{RealNet, RealSink};
@@ -79,6 +79,16 @@ impl Switch for NoNets {
     fn heed(&mut self, _: bool) {}
 }
 
+impl Workers<ScriptedNet<MemNet>> for NoNets {
+    fn start(&mut self, _net: &ScriptedNet<MemNet>, _count: u32) -> Result<(), Fault> {
+        Ok(())
+    }
+
+    fn pass_on<K: Sink>(&mut self, _net: &ScriptedNet<MemNet>, _out: &mut K) -> Result<(), Fault> {
+        Ok(())
+    }
+}
+
 /// Serves two clients at one port, with the server at another. The process ends with the program's status.
 pub fn serve<R: Net + Clock + Print + Eprint + AllocGlobal>(rt: &R, ports: Ports) -> ExitCode {
     let alloc = rt.alloc();
@@ -88,16 +98,16 @@ pub fn serve<R: Net + Clock + Print + Eprint + AllocGlobal>(rt: &R, ports: Ports
     let Ok(unused) = no_net(alloc) else {
         return ExitCode::from(Status::OutOfMemory.number());
     };
-    let mut many = Many {
-        net: unused,
-        nets: NoNets { alloc },
-        wakes: MemWakes::new(Vec::new(alloc)),
+    let mut nets = Networks {
+        serve: RealNet::new(alloc, rt),
+        run: Many {
+            net: unused,
+            nets: NoNets { alloc },
+            wakes: MemWakes::new(Vec::new(alloc)),
+        },
     };
-    let mut net = RealNet::new(alloc, rt);
     let mut out = RealSink::new(rt);
     let mut pats = RealPatterns::new();
-    let status = htx_proxy(
-        alloc, &words, &mut files, &mut net, &mut many, &mut out, &mut pats,
-    );
+    let status = htx_proxy(alloc, &words, &mut files, &mut nets, &mut out, &mut pats);
     ExitCode::from(status.number())
 }

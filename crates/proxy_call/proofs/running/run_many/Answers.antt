@@ -20,7 +20,7 @@ returns-in_err-cfg g c =
     let output : Output = put before before (g.K.Sink.written c.args.out.now) (g.K.Sink.written c.args.out.now) in
     let Does : Config → RunOptions → Result (Unit {0}) RunFault → Type 0 = Runs g.N.Net.seen c.args.many.now.net c.args.many.now.net output.old output.new in
     run_err input output (c.args.many.now ≡ c.args.many.now) Does c.from_residual.result c.in_err-cfg.field-0.0 c.from_residual.ensures.1
-    (inl (stops_early input before output.old c.in_err-cfg.field-0.0 (c.in_err-cfg.ensures.stop words (inr (inr (inr (c.args.options, run))))), refl))
+    (inl (stops_early input before output.old c.in_err-cfg.field-0.0 (c.in_err-cfg.ensures.stop words (inr (inr (inr (c.args.asked.now.options, run))))), refl))
 
 pub returns-in_err-run_clients : goal.returns-in_err-run_clients
 returns-in_err-run_clients g c =
@@ -33,8 +33,8 @@ returns-in_err-run_clients g c =
     λ words run.
     let input : Input = given words (g.F.Files.files c.args.files.now) builder (g.F.Files.last_failed c.configuration.new.files) (g.F.Files.faults c.args.files.now) (g.F.Files.faults c.configuration.new.files) in
     run_err input output (c.run_clients.new.many ≡ c.args.many.now) Does c.from_residual-in_err-run_clients.result (stop_of_running fault) c.from_residual-in_err-run_clients.ensures.1
-    (inr (c.in_ok-cfg.ensures.built, (c.args.name.now, c.args.options, run, c.in_ok-cfg.cfg, c.in_ok-cfg.ensures.accepted, (Err fault, c.in_err-run_clients.ensures, refl))))
+    (inr (c.in_ok-cfg.ensures.built, (c.args.asked.now.cfg.now, c.args.asked.now.options, run, c.in_ok-cfg.cfg, c.in_ok-cfg.ensures.accepted, (Err fault, c.in_err-run_clients.ensures, refl))))
 
 pub returns : goal.returns
 returns g c =
-    λ words run. inr (c.in_ok-cfg.ensures.built, (c.args.name.now, c.args.options, run, c.in_ok-cfg.cfg, c.in_ok-cfg.ensures.accepted, (Ok tt, c.in_ok-run_clients.ensures, refl)))
+    λ words run. inr (c.in_ok-cfg.ensures.built, (c.args.asked.now.cfg.now, c.args.asked.now.options, run, c.in_ok-cfg.cfg, c.in_ok-cfg.ensures.accepted, (Ok tt, c.in_ok-run_clients.ensures, refl)))

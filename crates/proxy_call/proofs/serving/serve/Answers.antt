@@ -18,7 +18,7 @@ returns-in_err-cfg g c =
     let output : Output = put before before (g.K.Sink.written c.args.out.now) (g.K.Sink.written c.args.out.now) in
     let Does : Config → ℕ → Result (Unit {0}) ServeFault → Type 0 = Serves g.N.Link.Link.seen g.N.Link.Link.wrote g.N.Net.seen c.args.net.now c.args.net.now before before output.old output.new in
     ran_err input output (c.args.net.now ≡ c.args.net.now) Does c.from_residual.result c.in_err-cfg.field-0.0 c.from_residual.ensures.1
-    (inl (stops_early input before output.old c.in_err-cfg.field-0.0 (c.in_err-cfg.ensures.stop words (inr (inr (inl (c.args.connections, serve))))), refl))
+    (inl (stops_early input before output.old c.in_err-cfg.field-0.0 (c.in_err-cfg.ensures.stop words (inr (inr (inl (c.args.asked.now.connections, serve))))), refl))
 
 pub returns-in_err-serve_clients : goal.returns-in_err-serve_clients
 returns-in_err-serve_clients g c =
@@ -28,7 +28,7 @@ returns-in_err-serve_clients g c =
     let output : Output = put before now (g.K.Sink.written c.args.out.now) (g.K.Sink.written c.serve_clients.new.out) in
     let fault : ServeFault = c.in_err-serve_clients.field-0.0 in
     let Does : Config → ℕ → Result (Unit {0}) ServeFault → Type 0 = Serves g.N.Link.Link.seen g.N.Link.Link.wrote g.N.Net.seen c.args.net.now c.serve_clients.new.net before now output.old output.new in
-    let does : Does c.in_ok-cfg.cfg c.args.connections (Err fault) = record {
+    let does : Does c.in_ok-cfg.cfg c.args.asked.now.connections (Err fault) = record {
       good = c.in_err-serve_clients.ensures.good;
       told = c.in_err-serve_clients.ensures.told;
       net = c.in_err-serve_clients.ensures.net;
@@ -42,7 +42,7 @@ returns-in_err-serve_clients g c =
     λ words serve.
     let input : Input = given words (g.F.Files.files c.args.files.now) builder (g.F.Files.last_failed c.configuration.new.files) (g.F.Files.faults c.args.files.now) (g.F.Files.faults c.configuration.new.files) in
     ran_err input output (c.serve_clients.new.net ≡ c.args.net.now) Does c.from_residual-in_err-serve_clients.result (stop_of_serving fault) c.from_residual-in_err-serve_clients.ensures.1
-    (inr (c.in_ok-cfg.ensures.built, (c.args.name.now, c.args.connections, serve, c.in_ok-cfg.cfg, c.in_ok-cfg.ensures.accepted, (Err fault, does, refl))))
+    (inr (c.in_ok-cfg.ensures.built, (c.args.asked.now.cfg.now, c.args.asked.now.connections, serve, c.in_ok-cfg.cfg, c.in_ok-cfg.ensures.accepted, (Err fault, does, refl))))
 
 pub returns : goal.returns
 returns g c =
@@ -50,7 +50,7 @@ returns g c =
     let now : ℕ = g.K.Sink.faults c.serve_clients.new.out in
     let output : Output = put before now (g.K.Sink.written c.args.out.now) (g.K.Sink.written c.serve_clients.new.out) in
     let Does : Config → ℕ → Result (Unit {0}) ServeFault → Type 0 = Serves g.N.Link.Link.seen g.N.Link.Link.wrote g.N.Net.seen c.args.net.now c.serve_clients.new.net before now output.old output.new in
-    let does : Does c.in_ok-cfg.cfg c.args.connections (Ok tt) = record {
+    let does : Does c.in_ok-cfg.cfg c.args.asked.now.connections (Ok tt) = record {
       good = c.in_ok-serve_clients.ensures.good;
       told = c.in_ok-serve_clients.ensures.told;
       net = c.in_ok-serve_clients.ensures.net;
@@ -61,4 +61,4 @@ returns g c =
       dialled = c.in_ok-serve_clients.ensures.dialled;
       lent = c.in_ok-serve_clients.ensures.lent;
     } in
-    λ words serve. inr (c.in_ok-cfg.ensures.built, (c.args.name.now, c.args.connections, serve, c.in_ok-cfg.cfg, c.in_ok-cfg.ensures.accepted, (Ok tt, does, refl)))
+    λ words serve. inr (c.in_ok-cfg.ensures.built, (c.args.asked.now.cfg.now, c.args.asked.now.connections, serve, c.in_ok-cfg.cfg, c.in_ok-cfg.ensures.accepted, (Ok tt, does, refl)))
