@@ -103,7 +103,7 @@ are out the next one waits, or that of the client ends whose next request is awa
 take effect.
 
 With --workers W this process listens, starts W of itself that serve, each with K sets, and passes on what they write. One that
-ends is said on standard error, and started again a second later. When this process ends, as by SIGTERM, they accept nothing more,
+ends is said on standard error, and started again, at most once a second. When this process ends, as by SIGTERM, they accept nothing more,
 serve what they have, and end. It stands neither with --until-input-ends, since the input of each is what all of them listen at,
 nor with --connections, since none of them counts for the others.
 
