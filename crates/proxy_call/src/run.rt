@@ -49,7 +49,7 @@ pub fn run<
     ensures { RanAny (given (map string_bytes words.now) (F.files files.old) (told_by (P.refusals pats.old) (P.refusals pats.new) (P.last_refused pats.new)) (F.last_failed files.new) (F.faults files.old) (F.faults files.new))
         (put (K.faults out.old) (K.faults out.new) (K.written out.old) (K.written out.new)) (net.new ≡ net.old) (many.new ≡ many.old)
         (Serves N.Link.seen N.Link.wrote N.seen net.old net.new (K.faults out.old) (K.faults out.new) (K.written out.old) (K.written out.new))
-        (Runs M.seen many.old.net many.new.net (K.written out.old) (K.written out.new)) result }
+        (Runs L.seen L.wrote M.seen (S.accepts_none many.new.nets) many.old.net many.new.net (K.faults out.old) (K.faults out.new) (K.written out.old) (K.written out.new)) result }
 {
     match asked_by(alloc, words)? {
         Asked::Check { cfg } => write(check(alloc, files, cfg, pats), out),

@@ -1,6 +1,10 @@
 //! Clients that are served at once, and their sessions.
+ghost use Rattle.std.specs.Prelude.{OnOk};
 ghost use Rattle.http_rules.specs.Valid.{IsValid};
-ghost use Rattle.proxy_call.specs.Running.{Runs};
+ghost use Rattle.px_link.specs.Net.{address_of};
+ghost use Rattle.px_link.specs.Told.{GainsFront};
+ghost use Rattle.proxy_call.specs.Lines.{listening_line};
+ghost use Rattle.proxy_call.specs.Running.{Runs, WroteListening};
 
 use crate::lines::listening_line;
 use crate::sessions::cores::RecordCores;
@@ -46,10 +50,19 @@ fn write_listening<K: Sink>(
     alloc: Global,
     config: &Config,
     out: &mut K,
-) -> Result<(), OutOfMemory> {
-    let line = listening_line(alloc, &config.bind)?;
-    let _ = out.write_all(line.as_slice());
-    Ok(())
+) -> Result<(), OutOfMemory>
+    ensures wrote { OnOk result (WroteListening (address_of config.now.bind) (K.faults out.old) (K.faults out.new) (K.written out.old) (K.written out.new)) }
+    ensures front { GainsFront (K.written out.old) (K.written out.new) (listening_line (address_of config.now.bind)) }
+{
+    let line = match listening_line(alloc, &config.bind) {
+        Ok(line) => line,
+        Err(OutOfMemory) => return Err(OutOfMemory),
+    };
+    match out.write_all(line.as_slice()) {
+        Ok(()) => Ok(()),
+        Err(Fault::Failed) => Ok(()),
+        Err(Fault::OutOfMemory) => Err(OutOfMemory),
+    }
 }
 
 /// Listens where the configuration says, and serves many clients at once.
@@ -67,7 +80,7 @@ pub fn run_clients<
     out: &mut K,
 ) -> Result<(), RunFault>
     requires valid { IsValid config.now }
-    ensures { Runs N.seen many.old.net many.new.net (K.written out.old) (K.written out.new) config.now options result }
+    ensures { Runs L.seen L.wrote N.seen (S.accepts_none many.new.nets) many.old.net many.new.net (K.faults out.old) (K.faults out.new) (K.written out.old) (K.written out.new) config.now options result }
 {
     match many.net.bind(&config.bind) {
         Ok(()) => {}
@@ -83,8 +96,9 @@ pub fn run_clients<
     let Ok(sets) = cores_for(alloc, &cores, options.sets.unwrap_or(SETS)) else {
         return Err(RunFault::OutOfMemory);
     };
-    if write_listening(alloc, config, out).is_err() {
-        return Err(RunFault::OutOfMemory);
+    match write_listening(alloc, config, out) {
+        Ok(()) => {}
+        Err(OutOfMemory) => return Err(RunFault::OutOfMemory),
     }
     many.nets.heed(options.until_input_ends);
     let plan = Plan {
