@@ -9,3 +9,6 @@ loop-place-init g c = all_asked g.L.Link.seen g.L.Link.wrote g.N.Net.seen c.args
 
 pub loop-place-preserved : goal.loop-place-preserved
 loop-place-preserved g c = all_asked_then g.L.Link.seen g.L.Link.wrote g.N.Net.seen c.args.hall.now c.loop-place.hall c.expire_at.new.hall c.loop-place.invariant c.in-Ok.ensures.asked
+
+pub returns-then-not-deadline_comes : goal.returns-then-not-deadline_comes
+returns-then-not-deadline_comes g c = record { asked = all_asked g.L.Link.seen g.L.Link.wrote g.N.Net.seen c.args.hall.now }
