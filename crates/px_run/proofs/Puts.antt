@@ -1,6 +1,6 @@
 -- What was written to links that were given back.
-use Rattle.std.proofs.Common.{◌≡◌, ℕ, List, [], ◌++◌, Option, Some, None, inl, inr}
-use Rattle.std.specs.Prelude.{Result, Ok, Err, ◌⊎◌}
+use Rattle.std.proofs.Common.{ℕ, List, [], ◌++◌, Option, Some, None, inl, inr}
+use Rattle.std.specs.Prelude.{Result, Ok, Err}
 use Rattle.session_model.specs.Meaning.{Meaning}
 use Rattle.session_core.specs.History.{Past}
 use Rattle.px_link.specs.Link.{Seen}

@@ -1,7 +1,7 @@
 -- Where all connections stand, when one place of them changes.
-use Rattle.std.proofs.Common.{◌≡◌, ℕ, suc, ◌+◌, ◌<◌, ◌≤◌, List, [], ◌∷◌, ◌++◌, Bool, true, false, Option, Some, None, length, map, get_or, set, refl, sym, ap, subst, ◌∙◌, inl, inr, arith}
-use Rattle.std.specs.Prelude.{Result, is_some, IfSome, option_to_list, ◌⊎◌}
-use Rattle.std.specs.List.{AllByRecursion, sum_by}
+use Rattle.std.proofs.Common.{◌≡◌, ℕ, ◌+◌, ◌<◌, ◌≤◌, List, [], ◌∷◌, ◌++◌, true, Option, Some, None, length, get_or, set, refl, sym, ap, subst, ◌∙◌, inl, inr, arith}
+use Rattle.std.specs.Prelude.{Result, is_some, IfSome, option_to_list}
+use Rattle.std.specs.List.{AllByRecursion}
 use Rattle.std.proofs.lemmas.List.{append-nil}
 use Rattle.std.proofs.lemmas.List.Sums.{sum_by_push}
 use Rattle.std.proofs.lemmas.Bool.{false≢true, cases_eq}
@@ -13,7 +13,6 @@ use Rattle.htx_drive.specs.Machine.{CoreSeen}
 use Rattle.htx_drive.specs.Weave.State.{IsReady, IsFresh}
 use Rattle.htx_drive.specs.declared.Ran.{Ran}
 use Rattle.htx_drive.specs.declared.SessionFault.{SessionFault}
-use Rattle.serve_run.specs.declared.outcome.Outcome.{Outcome}
 use Rattle.px_run.specs.Course.{IsNewNet, IsSame, EndedOrLeft}
 use Rattle.px_run.specs.Connection.{IsAt, LookedSo, IsIdle}
 use Rattle.px_run.specs.Lines.{outcomes_in, said_of, ended_by}
@@ -25,7 +24,7 @@ use Rattle.px_run.specs.declared.connection.Looked.{Looked}
 use Rattle.px_run.specs.declared.connection.Looked.TheVariants as looks
 use Rattle.px_run.proofs.Asked.{same_link, same_server, same_then, same_server_then}
 use Rattle.px_run.proofs.Looks.{asked_at}
-use Rattle.px_run.proofs.Halls.{here_taken, taken_set, taken_same, taken_set_same}
+use Rattle.px_run.proofs.Halls.{here_taken, taken_set, taken_set_same}
 use Rattle.px_run.proofs.Numbers.{some_same, num_here, num_other, num_view, num_map, num_all, num_sum, num_more, num_last, num_within, here_set, here_at, here_last}
 use Rattle.px_run.proofs.Sets.{all_more}
 use Rattle.px_run.proofs.Texts.{looked_says, looked_other, looked_keeps, idle_says}
@@ -257,18 +256,25 @@ module _ {C L N : Type 0} (M : Meaning) (stands : C → Past → Type 0) (sees :
     where
       come : Visit L N → Visit L N
       come = came_to c.conn.ran
+
       next : List (Visit L N)
       next = change_numbered (came_to c.conn.ran) c.number visits
+
       here : IsHere places place b
       here = here_at places place (Some b) b w e refl
+
       was : IsOf M stands sees sound seen wrote sees_net to visits b
       was = s.placed place b here
+
       at_number : numbered c.number visits ≡ Some was.visit
       at_number = ap (λ k. numbered k visits) n ∙ was.is
+
       the_one : (visit : Visit L N) → numbered c.number visits ≡ Some visit → visit ≡ was.visit
       the_one visit at = some_same visit was.visit (sym at ∙ at_number)
+
       num_is : (c d : Connection C L N) → Some c ≡ Some d → c.number ≡ d.number
       num_is c d same = ap (λ (o : Connection C L N). o.number) (some_same c d same)
+
       says : (number : ℕ) → outcomes_of (numbered number next) ≡ outcomes_of (numbered number visits) ++ said_of number (ended_by looked)
       says number = elim (cases_eq number c.number) [
         | inl is ↦ (let a : outcomes_of (numbered number next) ≡ outcomes_in c.conn.ran = ap (λ k. outcomes_of (numbered k next)) is ∙ ap (λ (o : Option (Visit L N)). outcomes_of o) (num_here come visits c.number was.visit at_number) in
@@ -325,8 +331,10 @@ module _ {C L N : Type 0} (M : Meaning) (stands : C → Past → Type 0) (sees :
     where
       back : Visit L N → Visit L N
       back = given_back client own
+
       next : List (Visit L N)
       next = change_numbered (given_back client own) c.number visits
+
       was : IsOf M stands sees sound seen wrote sees_net to visits c
       was = s.placed place c here
 
@@ -413,3 +421,14 @@ module _ {C L N : Type 0} (seen : L → Seen) (wrote : L → List ℕ → Type 0
       → AllAsked seen wrote sees_net old new
   all_asked_by old new here taken sets accepted output =
       record { each = λ place c h. (c, here place c h, asked_same seen wrote sees_net c); taken = taken; sets = ap (λ s. s.items) sets; accepted = accepted; output = output }
+
+  -- the same, with another time
+  pub asked_as : (old new other : Hall C L N) → other.places.items ≡ new.places.items → other.sets.items ≡ new.sets.items → other.accepted ≡ new.accepted → other.output ≡ new.output → AllAsked seen wrote sees_net old new → AllAsked seen wrote sees_net old other
+  asked_as old new other places sets accepted output a =
+      record {
+        each = λ place c h. a.each place c (subst (λ (l : List (Option (Connection C L N))). IsHere l place c) places h);
+        taken = ap (λ (l : List (Option (Connection C L N))). count_taken l) places ∙ a.taken;
+        sets = sets ∙ a.sets;
+        accepted = accepted ∙ a.accepted;
+        output = output ∙ a.output;
+      }

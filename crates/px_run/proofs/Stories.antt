@@ -1,5 +1,5 @@
 -- What the loop did so far, and one thing more.
-use Rattle.std.proofs.Common.{◌≡◌, ℕ, ◌+◌, ◌<◌, ◌≤◌, List, [], ◌∷◌, ◌++◌, Bool, true, false, cond, Option, Some, None, length, length-append, zero, suc, map, get_or, set, refl, sym, ap, subst, ◌∙◌, inl, inr, arith}
+use Rattle.std.proofs.Common.{◌≡◌, ℕ, ◌+◌, ◌<◌, ◌≤◌, List, [], ◌∷◌, ◌++◌, Bool, true, false, cond, Option, Some, None, length, length-append, zero, suc, get_or, set, refl, sym, ap, subst, ◌∙◌, inl, inr, arith}
 use Rattle.std.specs.Prelude.{Result, Ok, Err, OnOk, IfSome, is_some, ◌⊎◌, ◌==◌}
 use Rattle.std.specs.List.{AllByRecursion}
 use Rattle.std.proofs.lemmas.List.{append-nil, map-append, length-map, set-get_or}
@@ -15,18 +15,17 @@ use Rattle.px_run.specs.Course.{EndedOrLeft}
 use Rattle.px_run.specs.Lines.{Ended, said_of, lines_of, ended_by, Writes}
 use Rattle.px_run.specs.History.{Visit, Act, Accepts, AcceptsNone, GivesBack, Does, AllDone, accepted_in, returned_in, new_visit, numbered, change_numbered, given_back, link_of, links_back, outcomes_of, open_in, count_open, IsVisit, EndsByItself, Story}
 use Rattle.px_run.specs.Served.{had_memory, WritesLines, HasOutcome, ServedMany}
-use Rattle.px_run.specs.Hall.{IsOf, AllStand, AllAsked, Advances, Goes, IsHere, GaveBack, MayGiveBack, GaveUp, GaveUpAt, taken_at, count_taken}
+use Rattle.px_run.specs.Hall.{IsOf, AllStand, AllAsked, Advances, Goes, IsHere, MayGiveBack, GaveUpAt, taken_at, count_taken}
 use Rattle.px_run.specs.declared.plan.RunFault.{RunFault}
 use Rattle.px_run.specs.declared.plan.RunFault.TheVariants as faults
 use Rattle.px_run.specs.declared.connection.Connection.{Connection}
 use Rattle.px_run.specs.declared.connection.Looked.{Looked}
 use Rattle.px_run.specs.declared.connection.Looked.TheVariants as looks
 use Rattle.px_run.specs.declared.hall.Hall.{Hall}
-use Rattle.px_run.specs.declared.lines.Output.{Output}
 use Rattle.px_run.specs.declared.lines.Output.TheVariants as outputs
 use Rattle.px_run.proofs.Sets.{all_more}
 use Rattle.px_run.proofs.Halls.{taken_set, taken_pushed}
-use Rattle.px_run.proofs.Numbers.{some_same, num_here, num_other, num_view, num_map, num_last_view, num_get, none_is, here_set, here_at, here_more, here_last, here_within}
+use Rattle.px_run.proofs.Numbers.{num_here, num_other, num_view, num_map, num_last_view, num_get, none_is, here_set, here_at, here_more, here_last, here_within}
 use Rattle.px_run.proofs.Puts.{ended_written}
 use Rattle.px_run.proofs.Tellings.{tells}
 use Rattle.px_run.proofs.Stays.{stand_asked, stand_back, stand_none, itself_back, at_over, all_asked_by}
@@ -62,6 +61,7 @@ module _ {L N : Type 0} (seen : L → Seen) (wrote : L → List ℕ → Type 0) 
       none : (number : ℕ) → [] ≡ links_back {L = L} {N = N} (numbered number [])
       none zero = refl
       none (suc place) = refl
+
       said_none : (number : ℕ) → [] ≡ outcomes_of {L = L} {N = N} (numbered number [])
       said_none zero = refl
       said_none (suc place) = refl
@@ -109,12 +109,13 @@ module _ {L N : Type 0} (seen : L → Seen) (wrote : L → List ℕ → Type 0) 
     where
       links : Option (Visit L N) → List L
       links o = links_back o
+
       backs : (other : ℕ) → returned_in other (s.acts ++ GivesBack number client ∷ []) ≡ links_back (numbered other (change_numbered (given_back client own) number visits))
       backs other = elim (cases_eq other number) [
         | inl same ↦ (let one : returned_in other (GivesBack number client ∷ []) ≡ client ∷ [] = ap (λ b. cond b (client ∷ []) []) (eq-eqb number other (sym same)) in
             let was : returned_in other s.acts ≡ [] = s.returned other ∙ ap (λ k. links_back (numbered k visits)) same ∙ ap links is ∙ ap (λ (o : Option (L × N)). link_of o) none in
             let now : links_back (numbered other (change_numbered (given_back client own) number visits)) ≡ client ∷ [] =
-                ap (λ k. links_back (numbered k (change_numbered (given_back client own) number visits))) same ∙ ap links (num_here (given_back client own) visits number visit is) in
+            ap (λ k. links_back (numbered k (change_numbered (given_back client own) number visits))) same ∙ ap links (num_here (given_back client own) visits number visit is) in
             returned_then other s.acts (GivesBack number client ∷ []) ∙ ap (λ l. l ++ returned_in other (GivesBack number client ∷ [])) was ∙ one ∙ sym now)
         | inr ne ↦ (let no : returned_in other (GivesBack number client ∷ []) ≡ [] = ap (λ b. cond b (client ∷ []) []) (ne_eqb number other (λ e. ne (sym e))) in
             returned_then other s.acts (GivesBack number client ∷ []) ∙ ap (λ l. returned_in other s.acts ++ l) no ∙ append-nil (returned_in other s.acts) ∙ s.returned other

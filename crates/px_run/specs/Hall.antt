@@ -7,7 +7,7 @@ use Rattle.px_link.specs.Link.{Seen}
 use Rattle.px_link.specs.Net.{Place, NetSeen, Keeps}
 use Rattle.htx_drive.specs.Machine.{CoreSeen}
 use Rattle.htx_drive.specs.Weave.State.{IsReady, IsFresh}
-use Rattle.px_run.specs.Course.{IsNewNet, IsSame, IsSameServer, EndedOrLeft}
+use Rattle.px_run.specs.Course.{IsSame, IsSameServer, EndedOrLeft}
 use Rattle.px_run.specs.Connection.{IsAt, LookedSo, IsIdle}
 use Rattle.px_run.specs.Lines.{Ended, said_of, lines_of, ended_by, Writes}
 use Rattle.px_run.specs.History.{Visit, numbered, change_numbered, came_to, links_back, outcomes_of, count_open, IsVisit, EndsByItself, Story}

@@ -1,5 +1,5 @@
--- The lines of connections that have ended, in the order in which they did.
-use Rattle.std.specs.Prelude.{◌≡◌, ℕ, ◌==◌, ◌⊎◌, if◌then◌else◌, Bool, true, false, List, [], ◌∷◌, ◌++◌, Option, Some, None, Result, Ok, Err}
+-- The lines of connections that have ended.
+use Rattle.std.specs.Prelude.{◌≡◌, ℕ, ◌==◌, if◌then◌else◌, Bool, true, false, List, [], ◌∷◌, ◌++◌, Option, Some, None, Result, Ok, Err}
 use Rattle.px_link.specs.Told.{Rose, Gains, GainsFront}
 use Rattle.htx_drive.specs.declared.Ran.{Ran}
 use Rattle.htx_drive.specs.declared.SessionFault.{SessionFault}

@@ -57,7 +57,7 @@ pub record TellsMany {L N : Type 0} (seen : L → Seen) (wrote : L → List ℕ 
   pub once : (number : ℕ) → times_in number links ≡ length (links_back (numbered number visits))
 
 -- From the one net to the other these connections were accepted, each was served, ended or was given up, and was given back. The lines of those that came to an outcome
--- were written, in the order in which they ended. Behind `Ok` each has an outcome, and they are as many as were asked for, unless the caller accepts no more.
+-- were written, each once. Behind `Ok` each has an outcome, and they are as many as were asked for, unless the caller accepts no more.
 pub record ServedMany {C L N : Type 0} (M : Meaning) (stands : C → Past → Type 0) (sees : C → CoreSeen) (seen : L → Seen) (wrote : L → List ℕ → Type 0) (sees_net : N → NetSeen) (to : Place) (most : Option ℕ) (accepts_none : Type 0) (begun now : NetSeen) (writes writes_now : ℕ) (old new : Option (List ℕ)) (answer : Result (Unit {0}) RunFault) : Type 0 where
   pub visits : List (Visit L N)
   pub ended : List Ended

@@ -1,5 +1,5 @@
 use Rattle.std.proofs.Common.{refl}
-use Rattle.px_run.proofs.Texts.{within_then, within_same}
+use Rattle.px_run.proofs.Texts.{within_then}
 use Rattle.px_run.proofs.Halls.{balanced_then, same_net_then}
 use Rattle.px_run.proofs.accepts.accepts.Goals as goal
 

@@ -1,4 +1,4 @@
-use Rattle.std.proofs.Common.{refl, sym, ap, subst, ◌+◌, ◌≡◌, length, arith}
+use Rattle.std.proofs.Common.{refl, ap, ◌+◌}
 use Rattle.px_run.proofs.Asked.{same_by, same_then}
 use Rattle.px_run.proofs.Stays.{of_new, stand_new_at}
 use Rattle.px_run.proofs.accepts.take_in.Goals as goal

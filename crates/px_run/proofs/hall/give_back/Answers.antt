@@ -1,4 +1,4 @@
-use Rattle.std.proofs.Common.{rules, ◌≡◌, Some, None, true, inl, inr, refl}
+use Rattle.std.proofs.Common.{rules, ◌≡◌, Some, true, inl}
 use Rattle.px_run.proofs.Stays.{ended_is}
 use Rattle.px_run.proofs.hall.give_back.Goals as goal
 

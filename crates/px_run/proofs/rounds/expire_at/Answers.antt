@@ -6,13 +6,15 @@ pub returns-in-Some : goal.returns-in-Some
 returns-in-Some g c =
     let w : c.args.place < length c.args.hall.now.places.items = search rules in
     let e : get_or c.args.hall.now.places.items c.args.place c.index_mut.result.now ≡ c.index_mut.result.now = search rules in
-    record { asked = record {
-      each = asked_set g.L.Link.seen g.L.Link.wrote g.N.Net.seen c.args.hall.now.places.items c.args.place c.index_mut.result.now c.expire.new.at w e c.expire.ensures.asked;
-      taken = asked_set_taken g.L.Link.seen g.L.Link.wrote g.N.Net.seen c.args.hall.now.places.items c.args.place c.index_mut.result.now c.expire.new.at w e c.expire.ensures.asked;
-      sets = refl;
-      accepted = refl;
-      output = refl;
-    } }
+    record {
+      asked = record {
+        each = asked_set g.L.Link.seen g.L.Link.wrote g.N.Net.seen c.args.hall.now.places.items c.args.place c.index_mut.result.now c.expire.new.at w e c.expire.ensures.asked;
+        taken = asked_set_taken g.L.Link.seen g.L.Link.wrote g.N.Net.seen c.args.hall.now.places.items c.args.place c.index_mut.result.now c.expire.new.at w e c.expire.ensures.asked;
+        sets = refl;
+        accepted = refl;
+        output = refl;
+      };
+    }
 
 pub returns-then-place-len : goal.returns-then-place-len
 returns-then-place-len g c = record { asked = all_asked g.L.Link.seen g.L.Link.wrote g.N.Net.seen c.args.hall.now }

@@ -6,13 +6,15 @@ pub returns : goal.returns
 returns g c =
     let w : c.in-Some.place < length c.args.hall.now.places.items = search rules in
     let e : get_or c.args.hall.now.places.items c.in-Some.place c.index_mut.result.now ≡ c.index_mut.result.now = search rules in
-    record { asked = record {
-      each = asked_set g.L.Link.seen g.L.Link.wrote g.N.Net.seen c.args.hall.now.places.items c.in-Some.place c.index_mut.result.now c.expire.new.at w e c.expire.ensures.asked;
-      taken = asked_set_taken g.L.Link.seen g.L.Link.wrote g.N.Net.seen c.args.hall.now.places.items c.in-Some.place c.index_mut.result.now c.expire.new.at w e c.expire.ensures.asked;
-      sets = refl;
-      accepted = refl;
-      output = refl;
-    } }
+    record {
+      asked = record {
+        each = asked_set g.L.Link.seen g.L.Link.wrote g.N.Net.seen c.args.hall.now.places.items c.in-Some.place c.index_mut.result.now c.expire.new.at w e c.expire.ensures.asked;
+        taken = asked_set_taken g.L.Link.seen g.L.Link.wrote g.N.Net.seen c.args.hall.now.places.items c.in-Some.place c.index_mut.result.now c.expire.new.at w e c.expire.ensures.asked;
+        sets = refl;
+        accepted = refl;
+        output = refl;
+      };
+    }
 
 pub returns-then-not-lacks_cores : goal.returns-then-not-lacks_cores
 returns-then-not-lacks_cores g c = record { asked = all_asked g.L.Link.seen g.L.Link.wrote g.N.Net.seen c.args.hall.now }

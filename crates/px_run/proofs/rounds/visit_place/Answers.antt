@@ -1,4 +1,4 @@
-use Rattle.std.proofs.Common.{rules, ◌≡◌, ◌<◌, length, get_or, true, refl}
+use Rattle.std.proofs.Common.{rules, ◌≡◌, ◌<◌, length, get_or, refl}
 use Rattle.px_link.specs.Net.{address_of}
 use Rattle.px_run.proofs.Stories.{goes_gave}
 use Rattle.px_run.proofs.rounds.visit_place.Goals as goal
