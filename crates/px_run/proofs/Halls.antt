@@ -1,25 +1,15 @@
 -- What all places say, when one of them changes.
 use Rattle.std.proofs.Common.{◌≡◌, ℕ, ◌+◌, ◌<◌, ◌≤◌, List, [], ◌∷◌, ◌++◌, Option, Some, None, length, get_or, set, drop, Bool, true, false, refl, sym, ap, subst, ◌∙◌, arith}
-use Rattle.std.specs.Prelude.{Result, is_some, option_to_list, if◌then◌else◌}
+use Rattle.std.specs.Prelude.{is_some, option_to_list, if◌then◌else◌}
 use Rattle.std.proofs.Math.Seq.{drop-cons}
 use Rattle.std.proofs.lemmas.List.{drop_all}
 use Rattle.std.proofs.Math.Numerals.{suc-eq-add-one}
 use Rattle.std.proofs.lemmas.Bool.{true≢false}
-use Rattle.htx_drive.specs.declared.Ran.{Ran}
-use Rattle.htx_drive.specs.declared.SessionFault.{SessionFault}
-use Rattle.px_run.specs.Course.{IsNewNet, IsSame, IsSameServer}
-use Rattle.px_run.specs.Connection.{IsAt}
-use Rattle.px_run.proofs.Asked.{same_by}
-use Rattle.px_run.proofs.Looks.{asked_at}
-use Rattle.std.specs.List.{AllByRecursion}
 use Rattle.std.proofs.lemmas.List.Sums.{sum_by-cons, sum_by-set, get_or-le-sum_by}
-use Rattle.session_model.specs.Meaning.{Meaning}
-use Rattle.session_core.specs.History.{Past}
-use Rattle.px_link.specs.Link.{Seen}
-use Rattle.px_link.specs.Net.{Place, NetSeen}
-use Rattle.htx_drive.specs.Machine.{CoreSeen}
+use Rattle.px_link.specs.Net.{NetSeen}
 use Rattle.px_run.specs.declared.connection.Connection.{Connection}
-use Rattle.px_run.specs.Hall.{IsOf, IsPlaced, taken_at, count_taken, IsSameNet, IsBalanced}
+use Rattle.std.proofs.lemmas.Option.{get_or_from_slice_get, slice_get_within}
+use Rattle.px_run.specs.Hall.{IsHere, taken_at, count_taken, IsSameNet, IsBalanced}
 
 -- how many are open behind a change of one place
 pub taken_set : {C L N : Type 0} (places : List (Option (Connection C L N))) (i : ℕ) (y d : Option (Connection C L N)) → i < length places → count_taken (set places i y) + taken_at (get_or places i d) ≡ count_taken places + taken_at y
@@ -31,36 +21,18 @@ taken_same places i y d w e = let s = taken_set places i y d w in omega (arith, 
 pub taken_most : {C L N : Type 0} (places : List (Option (Connection C L N))) (i : ℕ) (d : Option (Connection C L N)) → i < length places → taken_at (get_or places i d) ≤ count_taken places
 taken_most {C} {L} {N} places i d w = get_or-le-sum_by (λ (at : Option (Connection C L N)). taken_at at) places i d w
 
+-- where one is here, one at least is taken
+pub here_taken : {C L N : Type 0} (places : List (Option (Connection C L N))) (i : ℕ) (c : Connection C L N) → IsHere places i c → 1 ≤ count_taken places
+here_taken {C} {L} {N} places i c h =
+    let most = taken_most places i (Some c) (slice_get_within places i (Some c) h) in
+    let one : taken_at (get_or places i (Some c)) ≡ 1 = ap (λ (o : Option (Connection C L N)). taken_at o) (get_or_from_slice_get places i (Some c) (Some c) h) in
+    omega (arith, most, one)
+
 pub same_net : (net : NetSeen) → IsSameNet net net
 same_net net = record { bound = refl; dialled = refl }
 
 pub same_net_then : (a b c : NetSeen) → IsSameNet a b → IsSameNet b c → IsSameNet a c
 same_net_then a b c s t = record { bound = t.bound ∙ s.bound; dialled = t.dialled ∙ s.dialled }
-
--- ---- what is said of one place
-
-module _ {C L N : Type 0} (M : Meaning) (stands : C → Past → Type 0) (sees : C → CoreSeen) (sound : C → Type 0) (seen : L → Seen) (wrote : L → List ℕ → Type 0) (sees_net : N → NetSeen) (to : Place) where
-  -- the connection that stands there
-  pub placed_is : (at : Option (Connection C L N)) (c : Connection C L N) → at ≡ Some c → IsPlaced M stands sees sound seen wrote sees_net to at → IsOf M stands sees sound seen wrote sees_net to c
-  placed_is at c e h = let P : Option (Connection C L N) → Type 0 = λ o. IsPlaced M stands sees sound seen wrote sees_net to o in subst P e h
-
-  -- its links were asked
-  pub placed_asked : (at : Option (Connection C L N)) (c d : Connection C L N) → at ≡ Some c → IsSame seen wrote c.conn.client d.conn.client → IsSameServer seen wrote c.conn.server d.conn.server → sees_net d.conn.net ≡ sees_net c.conn.net → d.conn.ran ≡ c.conn.ran → d.core ≡ c.core
-      → IsPlaced M stands sees sound seen wrote sees_net to at → IsOf M stands sees sound seen wrote sees_net to d
-  placed_asked at c d e s t n r k h =
-      let i = placed_is at c e h in
-      let asked = asked_at M stands sees sound seen wrote i.first to (sees_net i.first_net) c.conn.client d.conn.client c.conn.server d.conn.server (sees_net c.conn.net) (sees_net d.conn.net) c.conn.ran c.core s t n i.at in
-      let P : Option (Result Ran SessionFault) → Type 0 = λ o. IsAt M stands sees sound seen wrote i.first d.conn.client d.conn.server to (sees_net i.first_net) (sees_net d.conn.net) o c.core in
-      let Q : Option C → Type 0 = λ o. IsAt M stands sees sound seen wrote i.first d.conn.client d.conn.server to (sees_net i.first_net) (sees_net d.conn.net) d.conn.ran o in
-      record { first = i.first; first_net = i.first_net; new_net = i.new_net; at = subst Q (sym k) (subst P (sym r) asked) }
-
-  -- one that was accepted
-  pub placed_new : (link : L) (own : N) (c : Connection C L N) → IsNewNet (sees_net own) → c.conn.client ≡ link → c.conn.net ≡ own → c.conn.server ≡ None → c.conn.ran ≡ None → c.core ≡ None → IsOf M stands sees sound seen wrote sees_net to c
-  placed_new link own c new e n s r k =
-      let waits : IsAt M stands sees sound seen wrote link c.conn.client c.conn.server to (sees_net own) (sees_net c.conn.net) None None = record { same = same_by seen wrote link c.conn.client e; no_server = s; same_net = ap sees_net n } in
-      let P : Option (Result Ran SessionFault) → Type 0 = λ o. IsAt M stands sees sound seen wrote link c.conn.client c.conn.server to (sees_net own) (sees_net c.conn.net) o None in
-      let Q : Option C → Type 0 = λ o. IsAt M stands sees sound seen wrote link c.conn.client c.conn.server to (sees_net own) (sees_net c.conn.net) c.conn.ran o in
-      record { first = link; first_net = own; new_net = new; at = subst Q (sym k) (subst P (sym r) waits) }
 
 -- ---- none is open
 
@@ -126,14 +98,3 @@ still_lent a b ps qs l s = omega (arith, l, s)
 -- the same behind what changes no net, and no number of connections
 pub balanced_same : {C L N : Type 0} (a b : NetSeen) (ps qs rs : List (Option (Connection C L N))) → IsBalanced a b ps qs → count_taken rs ≡ count_taken qs → IsBalanced a b ps rs
 balanced_same a b ps qs rs s e = omega (arith, s, e)
-
-placed_none : {C L N : Type 0} (M : Meaning) (stands : C → Past → Type 0) (sees : C → CoreSeen) (sound : C → Type 0) (seen : L → Seen) (wrote : L → List ℕ → Type 0) (sees_net : N → NetSeen) (to : Place) (at : Option (Connection C L N)) → taken_at at ≡ 0 → IsPlaced M stands sees sound seen wrote sees_net to at
-placed_none M stands sees sound seen wrote sees_net to None e = tt
-placed_none M stands sees sound seen wrote sees_net to (Some c) e = absurd (omega (arith, e))
-
--- where none is open, so it is of all places
-pub all_none : {C L N : Type 0} (M : Meaning) (stands : C → Past → Type 0) (sees : C → CoreSeen) (sound : C → Type 0) (seen : L → Seen) (wrote : L → List ℕ → Type 0) (sees_net : N → NetSeen) (to : Place) (places : List (Option (Connection C L N))) → count_taken places ≡ 0 → AllByRecursion (IsPlaced M stands sees sound seen wrote sees_net to) places
-all_none M stands sees sound seen wrote sees_net to [] e = tt
-all_none {C} {L} {N} M stands sees sound seen wrote sees_net to (x ∷ xs) e =
-    let all : count_taken {C = C} {L = L} {N = N} (x ∷ xs) ≡ taken_at x + count_taken xs = sum_by-cons (λ (o : Option (Connection C L N)). taken_at o) x xs in
-    (placed_none M stands sees sound seen wrote sees_net to x (omega (arith, all, e)), all_none M stands sees sound seen wrote sees_net to xs (omega (arith, all, e)))

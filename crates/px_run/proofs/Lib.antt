@@ -4,5 +4,12 @@ mod Courses
 mod Sets
 mod Begins
 mod Looks
+mod Numbers
 mod Places
 mod Halls
+mod Texts
+mod Stays
+mod Leaves
+mod Puts
+mod Tellings
+mod Stories

@@ -1,5 +1,5 @@
 -- Where a connection of many stands between two looks at it.
-use Rattle.std.specs.Prelude.{◌≡◌, ℕ, List, true, Option, Some, None, Result, is_some}
+use Rattle.std.specs.Prelude.{◌≡◌, ℕ, List, [], ◌∷◌, true, Option, Some, None, Result, is_some}
 use Rattle.session_model.specs.Meaning.{Meaning}
 use Rattle.session_core.specs.History.{Past}
 use Rattle.px_link.specs.Link.{Seen}
@@ -8,6 +8,7 @@ use Rattle.htx_drive.specs.Machine.{CoreSeen}
 use Rattle.htx_drive.specs.declared.Ran.{Ran}
 use Rattle.htx_drive.specs.declared.SessionFault.{SessionFault}
 use Rattle.serve_run.specs.Lines.{answer_of}
+use Rattle.px_run.specs.Lines.{outcomes_in}
 use Rattle.px_run.specs.Course.{IsSame, GoesOn, CameTo, MayStep}
 use Rattle.px_run.specs.declared.connection.Looked.{Looked}
 use Rattle.px_run.specs.declared.connection.Looked.TheVariants as looks
@@ -35,13 +36,13 @@ IsAt M stands sees sound seen wrote first client server to first_net net None (S
 IsAt M stands sees sound seen wrote first client server to first_net net (Some ran) None = IsOver M stands sees seen wrote first client server to first_net net ran
 IsAt M stands sees sound seen wrote first client server to first_net net (Some ran) (Some core) = ⊥
 
--- what a look says: one that ends does so in this look, and its number and its outcome are told
+-- What a look says: one that ends does so in this look, and its number and its outcome are told. One that was given up for want of memory has no outcome.
 abbrev pub LookedSo : Looked → (number : ℕ) → (was ran : Option (Result Ran SessionFault)) → Type 0
 LookedSo looks.Waits number was ran = ran ≡ was
 LookedSo looks.GoesOn number was ran = ran ≡ was
 LookedSo looks.Hungry number was ran = ran ≡ was
-LookedSo (looks.Ended told outcome) number was ran = (told ≡ number) × (was ≡ None) × (ran ≡ Some (answer_of outcome))
-LookedSo looks.Lost number was ran = (was ≡ None) × (is_some ran ≡ true)
+LookedSo (looks.Ended told outcome) number was ran = (told ≡ number) × (was ≡ None) × (ran ≡ Some (answer_of outcome)) × (outcomes_in ran ≡ outcome ∷ [])
+LookedSo looks.Lost number was ran = (was ≡ None) × (is_some ran ≡ true) × (outcomes_in ran ≡ [])
 LookedSo looks.Leaves number was ran = (ran ≡ was) × (is_some ran ≡ true)
 
 -- it changes nothing of what the connection came to

@@ -1,5 +1,5 @@
 -- A connection of many, from its accept to its end.
-use Rattle.std.specs.Prelude.{◌≡◌, ℕ, ◌<◌, List, [], ◌++◌, true, Option, Some, None, Result, Ok, Err, is_some, ⊤}
+use Rattle.std.specs.Prelude.{◌≡◌, ℕ, ◌<◌, ◌⊎◌, List, [], ◌++◌, true, false, Option, Some, None, Result, Ok, Err, is_some, ⊤}
 use Rattle.session_model.specs.Meaning.{Meaning}
 use Rattle.session_core.specs.History.{Past}
 use Rattle.px_link.specs.declared.turns.Turn.{Turn}
@@ -11,6 +11,7 @@ use Rattle.htx_drive.specs.declared.SessionFault.{SessionFault}
 use Rattle.htx_drive.specs.Driven.{failed_by}
 use Rattle.htx_drive.specs.Weave.Woven.{Going, EndedSo, GivenUp}
 use Rattle.htx_drive.specs.Weave.Single.{Working}
+use Rattle.htx_drive.specs.Weave.Outcome.{Untouched}
 use Rattle.px_run.specs.declared.step.Stepped.{Stepped}
 use Rattle.px_run.specs.declared.step.Stepped.TheVariants as steps
 
@@ -56,6 +57,17 @@ CameTo M stands sees seen wrote first client to first_net net (Some (Ok ran)) =
     (all ahead : List Turn) × (count : ℕ) × EndedSo M stands sees all ahead seen wrote first client to first_net net ran count
 CameTo M stands sees seen wrote first client to first_net net (Some (Err fault)) =
     (all : List Turn) × (count : ℕ) × GivenUp M stands sees all seen wrote first client (failed_by fault) to first_net net count
+
+-- It was given up with the loop: no write to its client had failed, what was written is a front, and each link that was still open is closed Failed; or nothing of
+-- it was touched, but for that.
+abbrev pub WasLeft : {C L : Type 0} → (M : Meaning) → (stands : C → Past → Type 0) → (sees : C → CoreSeen) → (seen : L → Seen) → (wrote : L → List ℕ → Type 0) → (first client : L) → Place → (first_net net : NetSeen) → Type 0
+WasLeft M stands sees seen wrote first client to first_net net =
+    ((all : List Turn) × (count : ℕ) × GivenUp M stands sees all seen wrote first client false to first_net net count) ⊎ Untouched seen wrote first client first_net net 0
+
+-- by what it came to: it has ended, or was given up with the loop
+abbrev pub EndedOrLeft : {C L : Type 0} → (M : Meaning) → (stands : C → Past → Type 0) → (sees : C → CoreSeen) → (seen : L → Seen) → (wrote : L → List ℕ → Type 0) → (first client : L) → Place → (first_net net : NetSeen) → Option (Result Ran SessionFault) → Type 0
+EndedOrLeft M stands sees seen wrote first client to first_net net None = WasLeft M stands sees seen wrote first client to first_net net
+EndedOrLeft M stands sees seen wrote first client to first_net net (Some ran) = CameTo M stands sees seen wrote first client to first_net net (Some ran)
 
 -- its core stands for what happened to it
 abbrev pub StandsSomehow : {C : Type 0} → (stands : C → Past → Type 0) → C → Type 0

@@ -1,26 +1,91 @@
 -- All connections of a loop: what each of their places says, and what all of them say together.
-use Rattle.std.specs.Prelude.{◌≡◌, ℕ, ◌+◌, List, Option, Some, None, ⊤}
+use Rattle.std.specs.Prelude.{◌≡◌, ℕ, ◌+◌, List, ◌++◌, map, length, Option, Some, None, slice_get, Bool, true, ⊤, ◌⊎◌, is_some}
 use Rattle.std.specs.List.{AllByRecursion, sum_by}
 use Rattle.session_model.specs.Meaning.{Meaning}
 use Rattle.session_core.specs.History.{Past}
 use Rattle.px_link.specs.Link.{Seen}
-use Rattle.px_link.specs.Net.{Place, NetSeen}
+use Rattle.px_link.specs.Net.{Place, NetSeen, Keeps}
 use Rattle.htx_drive.specs.Machine.{CoreSeen}
 use Rattle.htx_drive.specs.Weave.State.{IsReady, IsFresh}
-use Rattle.px_run.specs.Course.{IsNewNet}
-use Rattle.px_run.specs.Connection.{IsAt}
+use Rattle.px_run.specs.Course.{IsSame, IsSameServer, EndedOrLeft}
+use Rattle.px_run.specs.Connection.{IsAt, LookedSo, IsIdle}
+use Rattle.px_run.specs.Lines.{Ended, said_of, lines_of, ended_by, Writes}
+use Rattle.px_run.specs.History.{Visit, numbered, change_numbered, came_to, links_back, outcomes_of, count_open, IsVisit, EndsByItself, Story}
 use Rattle.px_run.specs.declared.connection.Connection.{Connection}
+use Rattle.px_run.specs.declared.connection.Looked.{Looked}
+use Rattle.px_run.specs.declared.connection.Looked.TheVariants as looks
+use Rattle.px_run.specs.declared.hall.Hall.{Hall}
 
--- a connection over some link that was accepted, with a net of its own
-pub record IsOf {C L N : Type 0} (M : Meaning) (stands : C → Past → Type 0) (sees : C → CoreSeen) (sound : C → Type 0) (seen : L → Seen) (wrote : L → List ℕ → Type 0) (sees_net : N → NetSeen) (to : Place) (c : Connection C L N) : Type 0 where
-  pub first : L
-  pub first_net : N
-  pub new_net : IsNewNet (sees_net first_net)
-  pub at : IsAt M stands sees sound seen wrote first c.conn.client c.conn.server to (sees_net first_net) (sees_net c.conn.net) c.conn.ran c.core
+-- ---- one place
 
-abbrev pub IsPlaced : {C L N : Type 0} → (M : Meaning) → (stands : C → Past → Type 0) → (sees : C → CoreSeen) → (sound : C → Type 0) → (seen : L → Seen) → (wrote : L → List ℕ → Type 0) → (sees_net : N → NetSeen) → Place → Option (Connection C L N) → Type 0
-IsPlaced M stands sees sound seen wrote sees_net to None = ⊤
-IsPlaced M stands sees sound seen wrote sees_net to (Some c) = IsOf M stands sees sound seen wrote sees_net to c
+-- The connection is the one of its number: from the link that was accepted and the net that was made for that, its session leads here.
+pub record IsOf {C L N : Type 0} (M : Meaning) (stands : C → Past → Type 0) (sees : C → CoreSeen) (sound : C → Type 0) (seen : L → Seen) (wrote : L → List ℕ → Type 0) (sees_net : N → NetSeen) (to : Place) (visits : List (Visit L N)) (c : Connection C L N) : Type 0 where
+  pub visit : Visit L N
+  pub is : numbered c.number visits ≡ Some visit
+  pub here : visit.back ≡ None
+  pub came : visit.came ≡ c.conn.ran
+  pub at : IsAt M stands sees sound seen wrote visit.first c.conn.client c.conn.server to (sees_net visit.own) (sees_net c.conn.net) c.conn.ran c.core
+
+abbrev pub IsPlaced : {C L N : Type 0} → (M : Meaning) → (stands : C → Past → Type 0) → (sees : C → CoreSeen) → (sound : C → Type 0) → (seen : L → Seen) → (wrote : L → List ℕ → Type 0) → (sees_net : N → NetSeen) → Place → List (Visit L N) → Option (Connection C L N) → Type 0
+IsPlaced M stands sees sound seen wrote sees_net to visits None = ⊤
+IsPlaced M stands sees sound seen wrote sees_net to visits (Some c) = IsOf M stands sees sound seen wrote sees_net to visits c
+
+-- the connection at a place came to what it says
+abbrev pub advanced : {C L N : Type 0} → Option (Connection C L N) → List (Visit L N) → List (Visit L N)
+advanced None visits = visits
+advanced (Some c) visits = change_numbered (came_to c.conn.ran) c.number visits
+
+-- its links were asked, and nothing else was done with it
+pub record IsAsked {C L N : Type 0} (seen : L → Seen) (wrote : L → List ℕ → Type 0) (sees_net : N → NetSeen) (old new : Connection C L N) : Type 0 where
+  pub number : new.number ≡ old.number
+  pub client : IsSame seen wrote old.conn.client new.conn.client
+  pub server : IsSameServer seen wrote old.conn.server new.conn.server
+  pub net : sees_net new.conn.net ≡ sees_net old.conn.net
+  pub ran : new.conn.ran ≡ old.conn.ran
+  pub core : new.core ≡ old.core
+
+abbrev pub IsAskedAt : {C L N : Type 0} → (seen : L → Seen) → (wrote : L → List ℕ → Type 0) → (sees_net : N → NetSeen) → (old new : Option (Connection C L N)) → Type 0
+IsAskedAt seen wrote sees_net None None = ⊤
+IsAskedAt seen wrote sees_net None (Some new) = ⊥
+IsAskedAt seen wrote sees_net (Some old) None = ⊥
+IsAskedAt seen wrote sees_net (Some old) (Some new) = IsAsked seen wrote sees_net old new
+
+-- what a look at a place says of the connection there; without one it says nothing
+abbrev pub LookedAt : {C L N : Type 0} → Looked → (old new : Option (Connection C L N)) → Type 0
+LookedAt looked None None = IsIdle looked
+LookedAt looked None (Some new) = ⊥
+LookedAt looked (Some old) None = ⊥
+LookedAt looked (Some old) (Some new) = (new.number ≡ old.number) × LookedSo looked old.number old.conn.ran new.conn.ran
+
+-- a connection is here that has ended
+abbrev pub HasEnded : {C L N : Type 0} → Option (Connection C L N) → Type 0
+HasEnded None = ⊥
+HasEnded (Some c) = is_some c.conn.ran ≡ true
+
+-- a connection that has ended left its place, and its client's link was given back
+pub record GaveBack {C L N : Type 0} (seen : L → Seen) (wrote : L → List ℕ → Type 0) (old_net net : NetSeen) (old new : Option (Connection C L N)) : Type 0 where
+  pub connection : Connection C L N
+  pub was : old ≡ Some connection
+  pub none : new ≡ None
+  pub ended : is_some connection.conn.ran ≡ true
+  pub keeps : Keeps (wrote connection.conn.client) old_net net (seen connection.conn.client)
+
+-- or nothing was done
+abbrev pub MayGiveBack : {C L N : Type 0} → (seen : L → Seen) → (wrote : L → List ℕ → Type 0) → (old_net net : NetSeen) → (old new : Option (Connection C L N)) → Type 0
+MayGiveBack seen wrote old_net net old new = GaveBack seen wrote old_net net old new ⊎ ((new ≡ old) × (net ≡ old_net))
+
+-- the connection of a place was given up with the loop, unless it has ended, and its client's link was given back
+pub record GaveUp {C L N : Type 0} (M : Meaning) (stands : C → Past → Type 0) (sees : C → CoreSeen) (sound : C → Type 0) (seen : L → Seen) (wrote : L → List ℕ → Type 0) (sees_net : N → NetSeen) (to : Place) (old_net net : NetSeen) (c : Connection C L N) : Type 0 where
+  pub client : L
+  pub own : N
+  pub came : (visits : List (Visit L N)) (of : IsOf M stands sees sound seen wrote sees_net to visits c) → EndedOrLeft M stands sees seen wrote of.visit.first client to (sees_net of.visit.own) (sees_net own) c.conn.ran
+  pub keeps : Keeps (wrote client) old_net net (seen client)
+
+abbrev pub GaveUpAt : {C L N : Type 0} → (M : Meaning) → (stands : C → Past → Type 0) → (sees : C → CoreSeen) → (sound : C → Type 0) → (seen : L → Seen) → (wrote : L → List ℕ → Type 0) → (sees_net : N → NetSeen) → Place → (old_net net : NetSeen) → Option (Connection C L N) → Type 0
+GaveUpAt M stands sees sound seen wrote sees_net to old_net net None = net ≡ old_net
+GaveUpAt M stands sees sound seen wrote sees_net to old_net net (Some c) = GaveUp M stands sees sound seen wrote sees_net to old_net net c
+
+-- ---- all places
 
 -- one where a connection is here
 abbrev pub taken_at : {C L N : Type 0} → Option (Connection C L N) → ℕ
@@ -31,11 +96,45 @@ taken_at (Some c) = 1
 abbrev pub count_taken : {C L N : Type 0} → List (Option (Connection C L N)) → ℕ
 count_taken {C} {L} {N} places = sum_by (λ (at : Option (Connection C L N)). taken_at at) places
 
--- Each connection is where its own session leads, and nothing has happened to the cores that are free.
-pub record AllStand {C L N : Type 0} (M : Meaning) (stands : C → Past → Type 0) (sees : C → CoreSeen) (sound : C → Type 0) (seen : L → Seen) (wrote : L → List ℕ → Type 0) (sees_net : N → NetSeen) (to : Place) (places : List (Option (Connection C L N))) (sets : List C) : Type 0 where
-  pub placed : AllByRecursion (IsPlaced M stands sees sound seen wrote sees_net to) places
+-- it stands at this place
+abbrev pub IsHere : {A : Type 0} → (places : List (Option A)) → (place : ℕ) → A → Type 0
+IsHere places place one = slice_get places place ≡ Some (Some one)
+
+-- Each connection is the one of its number, no two places have the same, and all that weren't given back are here. Nothing has happened to the cores that are free.
+pub record AllStand {C L N : Type 0} (M : Meaning) (stands : C → Past → Type 0) (sees : C → CoreSeen) (sound : C → Type 0) (seen : L → Seen) (wrote : L → List ℕ → Type 0) (sees_net : N → NetSeen) (to : Place) (visits : List (Visit L N)) (places : List (Option (Connection C L N))) (sets : List C) : Type 0 where
+  pub placed : (place : ℕ) (c : Connection C L N) → IsHere places place c → IsOf M stands sees sound seen wrote sees_net to visits c
+  pub alone : (place other : ℕ) (c d : Connection C L N) → IsHere places place c → IsHere places other d → c.number ≡ d.number → place ≡ other
+  pub each : AllByRecursion (IsVisit M stands sees seen wrote sees_net to) visits
+  pub counted : count_open visits ≡ count_taken places
   pub ready : AllByRecursion (IsReady sees sound) sets
   pub fresh : AllByRecursion (IsFresh stands) sets
+
+-- links were asked, and nothing else was done
+pub record AllAsked {C L N : Type 0} (seen : L → Seen) (wrote : L → List ℕ → Type 0) (sees_net : N → NetSeen) (old new : Hall C L N) : Type 0 where
+  pub each : (place : ℕ) (c : Connection C L N) → IsHere new.places.items place c → (b : Connection C L N) × IsHere old.places.items place b × IsAsked seen wrote sees_net b c
+  pub taken : count_taken new.places.items ≡ count_taken old.places.items
+  pub sets : new.sets.items ≡ old.sets.items
+  pub accepted : new.accepted ≡ old.accepted
+  pub output : new.output ≡ old.output
+
+-- The connection that was looked at came to what the look says, and nothing else of all is changed.
+pub record Advances {L N : Type 0} (looked : Looked) (old new : List (Visit L N)) : Type 0 where
+  pub firsts : map (λ (visit : Visit L N). visit.first) new ≡ map (λ (visit : Visit L N). visit.first) old
+  pub returned : (number : ℕ) → links_back (numbered number new) ≡ links_back (numbered number old)
+  pub said : (number : ℕ) → outcomes_of (numbered number new) ≡ outcomes_of (numbered number old) ++ said_of number (ended_by looked)
+  pub fair : (looked ≡ looks.Lost → ⊥) → AllByRecursion EndsByItself old → AllByRecursion EndsByItself new
+
+-- ---- the loop
+
+-- What the loop has done so far, and where all connections stand. `fair`: none was given up for want of memory, or with the loop. `whole`: no memory was wanted for a line.
+pub record Goes {C L N : Type 0} (M : Meaning) (stands : C → Past → Type 0) (sees : C → CoreSeen) (sound : C → Type 0) (seen : L → Seen) (wrote : L → List ℕ → Type 0) (sees_net : N → NetSeen) (to : Place) (fair whole : Bool) (begun now : NetSeen) (writes writes_now : ℕ) (before after : Option (List ℕ)) (hall : Hall C L N) : Type 0 where
+  pub visits : List (Visit L N)
+  pub ended : List Ended
+  pub all : AllStand M stands sees sound seen wrote sees_net to visits hall.places.items hall.sets.items
+  pub accepted : hall.accepted ≡ length visits
+  pub story : Story seen wrote begun now visits ended
+  pub itself : fair ≡ true → AllByRecursion EndsByItself visits
+  pub written : Writes whole hall.output writes writes_now before after (lines_of ended)
 
 -- what the loop leaves of a net: it binds and dials nothing more
 pub record IsSameNet (old new : NetSeen) : Type 0 where

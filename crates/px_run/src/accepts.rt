@@ -1,9 +1,10 @@
 //! Links that are accepted, while places are free.
-ghost use Rattle.std.specs.Prelude.{◌≡◌, ◌<◌, ◌+◌, ◌-◌, ◌^◌, true, Option, None, Some, length, slice_index_or};
-ghost use Rattle.px_link.specs.Net.{Place};
+ghost use Rattle.std.specs.Prelude.{◌≡◌, ◌<◌, ◌≤◌, ◌+◌, ◌-◌, ◌^◌, ◌++◌, ◌∷◌, [], ◌⊎◌, ℕ, List, Bool, true, false, Option, None, Some, IfSome, length, slice_index_or};
+ghost use Rattle.px_link.specs.Net.{NetSeen, Place};
 ghost use Rattle.px_run.specs.declared.connection.Connection.{Connection};
 ghost use Rattle.px_run.specs.Course.{IsNewNet};
-ghost use Rattle.px_run.specs.Hall.{AllStand, count_taken, IsSameNet, IsBalanced};
+ghost use Rattle.px_run.specs.History.{Visit, new_visit};
+ghost use Rattle.px_run.specs.Hall.{AllStand, Goes, count_taken, IsSameNet, IsBalanced};
 
 use crate::agenda::Agenda;
 use crate::connection::Connection;
@@ -12,21 +13,30 @@ use crate::{Nets, Plan, RunFault};
 use htx_drive::weave::{Conn, Resets};
 use px_link::{Fault, OutOfMemory, Waits, WaitsNet, Wakes};
 
+/// Whether as many links were accepted as are to be, or as the number of a connection counts.
+fn has_all(accepted: u32, connections: Option<u32>) -> bool
+    ensures all { result ≡ true → IfSome connections (λ count. count ≤ accepted) }
+    ensures within { result ≡ false → IfSome connections (λ count. accepted < count) }
+    ensures more { result ≡ false → accepted < 2 ^ 32 - 1 }
+{
+    match connections {
+        Some(count) => accepted >= count,
+        None => accepted == u32::MAX,
+    }
+}
+
 /// Whether a further link is to be accepted.
 pub(crate) fn accepts_more<N: WaitsNet, S: Nets<N>>(
     accepted: u32,
     plan: &Plan,
     nets: &mut S,
 ) -> bool
-    ensures { result ≡ true → accepted < 2 ^ 32 - 1 }
+    ensures more { result ≡ true → accepted < 2 ^ 32 - 1 }
+    ensures within { result ≡ true → IfSome plan.now.connections (λ count. accepted < count) }
+    ensures all { result ≡ false → IfSome plan.now.connections (λ count. (count ≤ accepted) ⊎ S.accepts_none nets.new) }
 {
-    if accepted == u32::MAX {
+    if has_all(accepted, plan.connections) {
         return false;
-    }
-    if let Some(count) = plan.connections {
-        if accepted >= count {
-            return false;
-        }
     }
     nets.accepts_more()
 }
@@ -54,7 +64,10 @@ fn take_in<C: Resets + Drop, L: Waits, N: WaitsNet<Link = L>, W: Wakes<N>>(
     requires none { (d : Option (Connection C L N)) → slice_index_or hall.old.places.items place d ≡ None }
     requires more { hall.old.accepted < 2 ^ 32 - 1 }
     requires own { IsNewNet (N.seen own) }
-    ensures stands { (cfg : C.Settings) (to : Place) → AllStand (C.meaning cfg) (C.stands cfg) C.seen C.sound L.seen L.wrote N.seen to hall.old.places.items hall.old.sets.items → AllStand (C.meaning cfg) (C.stands cfg) C.seen C.sound L.seen L.wrote N.seen to hall.new.places.items hall.new.sets.items }
+    ensures stands { (cfg : C.Settings) (to : Place) (visits : List (Visit L N)) → hall.old.accepted ≡ length visits → AllStand (C.meaning cfg) (C.stands cfg) C.seen C.sound L.seen L.wrote N.seen to visits hall.old.places.items hall.old.sets.items
+        → AllStand (C.meaning cfg) (C.stands cfg) C.seen C.sound L.seen L.wrote N.seen to (visits ++ new_visit link own ∷ []) hall.new.places.items hall.new.sets.items }
+    ensures accepted { hall.new.accepted ≡ hall.old.accepted + 1 }
+    ensures output { hall.new.output ≡ hall.old.output }
     ensures taken { count_taken hall.new.places.items ≡ 1 + count_taken hall.old.places.items }
 {
     let mut link = link;
@@ -79,7 +92,9 @@ fn accept<C: Resets + Drop, L: Waits, N: WaitsNet<Link = L> + Drop, S: Nets<N>, 
     requires within { place < length hall.old.places.items }
     requires none { (d : Option (Connection C L N)) → slice_index_or hall.old.places.items place d ≡ None }
     requires more { hall.old.accepted < 2 ^ 32 - 1 }
-    ensures stands { (cfg : C.Settings) (to : Place) → AllStand (C.meaning cfg) (C.stands cfg) C.seen C.sound L.seen L.wrote N.seen to hall.old.places.items hall.old.sets.items → AllStand (C.meaning cfg) (C.stands cfg) C.seen C.sound L.seen L.wrote N.seen to hall.new.places.items hall.new.sets.items }
+    ensures goes { (cfg : C.Settings) (to : Place) (begun : NetSeen) (writes writes_now : ℕ) (before after : Option (List ℕ)) → Goes (C.meaning cfg) (C.stands cfg) C.seen C.sound L.seen L.wrote N.seen to true true begun (N.seen net.old) writes writes_now before after hall.old
+        → Goes (C.meaning cfg) (C.stands cfg) C.seen C.sound L.seen L.wrote N.seen to true true begun (N.seen net.new) writes writes_now before after hall.new }
+    ensures accepted { hall.new.accepted ≤ hall.old.accepted + 1 }
     ensures balanced { IsBalanced (N.seen net.old) (N.seen net.new) hall.old.places.items hall.new.places.items }
     ensures net { IsSameNet (N.seen net.old) (N.seen net.new) }
 {
@@ -116,7 +131,9 @@ fn accept_next<C: Resets + Drop, L: Waits, N: WaitsNet<Link = L> + Drop, S: Nets
     wakes: &mut W,
     plan: &Plan,
 ) -> Result<bool, RunFault>
-    ensures stands { (cfg : C.Settings) (to : Place) → AllStand (C.meaning cfg) (C.stands cfg) C.seen C.sound L.seen L.wrote N.seen to hall.old.places.items hall.old.sets.items → AllStand (C.meaning cfg) (C.stands cfg) C.seen C.sound L.seen L.wrote N.seen to hall.new.places.items hall.new.sets.items }
+    ensures goes { (cfg : C.Settings) (to : Place) (begun : NetSeen) (writes writes_now : ℕ) (before after : Option (List ℕ)) → Goes (C.meaning cfg) (C.stands cfg) C.seen C.sound L.seen L.wrote N.seen to true true begun (N.seen net.old) writes writes_now before after hall.old
+        → Goes (C.meaning cfg) (C.stands cfg) C.seen C.sound L.seen L.wrote N.seen to true true begun (N.seen net.new) writes writes_now before after hall.new }
+    ensures within { IfSome plan.now.connections (λ count. hall.old.accepted ≤ count → hall.new.accepted ≤ count) }
     ensures balanced { IsBalanced (N.seen net.old) (N.seen net.new) hall.old.places.items hall.new.places.items }
     ensures net { IsSameNet (N.seen net.old) (N.seen net.new) }
 {
@@ -167,7 +184,9 @@ pub(crate) fn accepts<
     wakes: &mut W,
     plan: &Plan,
 ) -> Result<(), RunFault>
-    ensures stands { (cfg : C.Settings) (to : Place) → AllStand (C.meaning cfg) (C.stands cfg) C.seen C.sound L.seen L.wrote N.seen to hall.old.places.items hall.old.sets.items → AllStand (C.meaning cfg) (C.stands cfg) C.seen C.sound L.seen L.wrote N.seen to hall.new.places.items hall.new.sets.items }
+    ensures goes { (cfg : C.Settings) (to : Place) (begun : NetSeen) (writes writes_now : ℕ) (before after : Option (List ℕ)) → Goes (C.meaning cfg) (C.stands cfg) C.seen C.sound L.seen L.wrote N.seen to true true begun (N.seen net.old) writes writes_now before after hall.old
+        → Goes (C.meaning cfg) (C.stands cfg) C.seen C.sound L.seen L.wrote N.seen to true true begun (N.seen net.new) writes writes_now before after hall.new }
+    ensures within { IfSome plan.now.connections (λ count. hall.old.accepted ≤ count → hall.new.accepted ≤ count) }
     ensures balanced { IsBalanced (N.seen net.old) (N.seen net.new) hall.old.places.items hall.new.places.items }
     ensures net { IsSameNet (N.seen net.old) (N.seen net.new) }
 {

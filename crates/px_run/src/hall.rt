@@ -1,10 +1,12 @@
 //! All connections: their places, the cores that are free, and the lines of those that have ended.
-ghost use Rattle.std.specs.Prelude.{◌≡◌, ◌≤◌, true, IfOk};
+ghost use Rattle.std.specs.Prelude.{◌≡◌, ◌≤◌, ◌++◌, ℕ, List, Option, true, is_ok, IfOk, OnOk};
 ghost use Rattle.std.specs.List.{AllByRecursion};
-ghost use Rattle.px_link.specs.Net.{address_of, Place};
+ghost use Rattle.px_link.specs.Net.{address_of, NetSeen};
 ghost use Rattle.htx_drive.specs.Weave.State.{IsReady, IsFresh};
 ghost use Rattle.px_run.specs.Course.{IsSame, IsSameServer};
-ghost use Rattle.px_run.specs.Hall.{IsPlaced, AllStand, taken_at, count_taken, IsSameNet, IsBalancedAt};
+ghost use Rattle.px_run.specs.Lines.{Writes, ended_by, lines_of};
+ghost use Rattle.px_run.specs.History.{Visit};
+ghost use Rattle.px_run.specs.Hall.{IsPlaced, IsAskedAt, LookedAt, MayGiveBack, HasEnded, AllStand, Advances, Goes, advanced, taken_at, count_taken, IsSameNet, IsBalancedAt};
 
 use crate::connection::{Connection, Looked, look};
 use crate::lines::{Output, write_line};
@@ -59,8 +61,7 @@ pub(crate) fn note_client<C: Resets, L: Waits, N: WaitsNet<Link = L>>(
     at: &mut Option<Connection<C, L, N>>,
     told: Readiness,
 )
-    ensures placed { (cfg : C.Settings) (to : Place) → IsPlaced (C.meaning cfg) (C.stands cfg) C.seen C.sound L.seen L.wrote N.seen to at.old → IsPlaced (C.meaning cfg) (C.stands cfg) C.seen C.sound L.seen L.wrote N.seen to at.new }
-    ensures taken { taken_at at.new ≡ taken_at at.old }
+    ensures asked { IsAskedAt L.seen L.wrote N.seen at.old at.new }
 {
     match at {
         Some(connection) => connection.conn.client.note(told),
@@ -73,8 +74,7 @@ pub(crate) fn note_server<C: Resets, L: Waits, N: WaitsNet<Link = L>>(
     at: &mut Option<Connection<C, L, N>>,
     told: Readiness,
 )
-    ensures placed { (cfg : C.Settings) (to : Place) → IsPlaced (C.meaning cfg) (C.stands cfg) C.seen C.sound L.seen L.wrote N.seen to at.old → IsPlaced (C.meaning cfg) (C.stands cfg) C.seen C.sound L.seen L.wrote N.seen to at.new }
-    ensures taken { taken_at at.new ≡ taken_at at.old }
+    ensures asked { IsAskedAt L.seen L.wrote N.seen at.old at.new }
 {
     match at {
         Some(connection) => note_link(&mut connection.conn.server, told),
@@ -133,8 +133,7 @@ pub(crate) fn expire<C: Resets, L: Waits, N: WaitsNet<Link = L>>(
     at: &mut Option<Connection<C, L, N>>,
     call: Call,
 )
-    ensures placed { (cfg : C.Settings) (to : Place) → IsPlaced (C.meaning cfg) (C.stands cfg) C.seen C.sound L.seen L.wrote N.seen to at.old → IsPlaced (C.meaning cfg) (C.stands cfg) C.seen C.sound L.seen L.wrote N.seen to at.new }
-    ensures taken { taken_at at.new ≡ taken_at at.old }
+    ensures asked { IsAskedAt L.seen L.wrote N.seen at.old at.new }
 {
     match at {
         Some(connection) => expire_call(&mut connection.conn, call),
@@ -151,12 +150,12 @@ fn look_at<C: Resets + Drop, L: Waits, N: WaitsNet<Link = L>, W: Wakes<N>>(
     to: &Address,
     tools: &mut Tools,
 ) -> Looked
-    requires at { (cfg : C.Settings) × AllByRecursion (IsFresh (C.stands cfg)) sets.old.items × IsPlaced (C.meaning cfg) (C.stands cfg) C.seen C.sound L.seen L.wrote N.seen (address_of to.now) at.old }
+    requires at { (cfg : C.Settings) × (visits : List (Visit L N)) × AllByRecursion (IsFresh (C.stands cfg)) sets.old.items × IsPlaced (C.meaning cfg) (C.stands cfg) C.seen C.sound L.seen L.wrote N.seen (address_of to.now) visits at.old }
     requires ready { AllByRecursion (IsReady C.seen C.sound) sets.old.items }
     ensures ready { AllByRecursion (IsReady C.seen C.sound) sets.new.items }
-    ensures placed { (cfg : C.Settings) → AllByRecursion (IsFresh (C.stands cfg)) sets.old.items → IsPlaced (C.meaning cfg) (C.stands cfg) C.seen C.sound L.seen L.wrote N.seen (address_of to.now) at.old → IsPlaced (C.meaning cfg) (C.stands cfg) C.seen C.sound L.seen L.wrote N.seen (address_of to.now) at.new }
-    ensures fresh { (cfg : C.Settings) → AllByRecursion (IsFresh (C.stands cfg)) sets.old.items → IsPlaced (C.meaning cfg) (C.stands cfg) C.seen C.sound L.seen L.wrote N.seen (address_of to.now) at.old → AllByRecursion (IsFresh (C.stands cfg)) sets.new.items }
-    ensures taken { taken_at at.new ≡ taken_at at.old }
+    ensures placed { (cfg : C.Settings) (visits : List (Visit L N)) → AllByRecursion (IsFresh (C.stands cfg)) sets.old.items → IsPlaced (C.meaning cfg) (C.stands cfg) C.seen C.sound L.seen L.wrote N.seen (address_of to.now) visits at.old → IsPlaced (C.meaning cfg) (C.stands cfg) C.seen C.sound L.seen L.wrote N.seen (address_of to.now) (advanced at.new visits) at.new }
+    ensures fresh { (cfg : C.Settings) (visits : List (Visit L N)) → AllByRecursion (IsFresh (C.stands cfg)) sets.old.items → IsPlaced (C.meaning cfg) (C.stands cfg) C.seen C.sound L.seen L.wrote N.seen (address_of to.now) visits at.old → AllByRecursion (IsFresh (C.stands cfg)) sets.new.items }
+    ensures looked { LookedAt result at.old at.new }
 {
     match at {
         Some(connection) => look(connection, sets, pace, wakes, to, tools),
@@ -171,9 +170,12 @@ fn look_here<C: Resets + Drop, L: Waits, N: WaitsNet<Link = L>, W: Wakes<N>>(
     wakes: &mut W,
     to: &Address,
 ) -> Looked
-    requires stands { (cfg : C.Settings) × AllStand (C.meaning cfg) (C.stands cfg) C.seen C.sound L.seen L.wrote N.seen (address_of to.now) hall.old.places.items hall.old.sets.items }
-    ensures stands { (cfg : C.Settings) → AllStand (C.meaning cfg) (C.stands cfg) C.seen C.sound L.seen L.wrote N.seen (address_of to.now) hall.old.places.items hall.old.sets.items → AllStand (C.meaning cfg) (C.stands cfg) C.seen C.sound L.seen L.wrote N.seen (address_of to.now) hall.new.places.items hall.new.sets.items }
+    requires stands { (cfg : C.Settings) × (visits : List (Visit L N)) × AllStand (C.meaning cfg) (C.stands cfg) C.seen C.sound L.seen L.wrote N.seen (address_of to.now) visits hall.old.places.items hall.old.sets.items }
+    ensures stands { (cfg : C.Settings) (visits : List (Visit L N)) → AllStand (C.meaning cfg) (C.stands cfg) C.seen C.sound L.seen L.wrote N.seen (address_of to.now) visits hall.old.places.items hall.old.sets.items
+        → (behind : List (Visit L N)) × Advances result visits behind × AllStand (C.meaning cfg) (C.stands cfg) C.seen C.sound L.seen L.wrote N.seen (address_of to.now) behind hall.new.places.items hall.new.sets.items }
     ensures taken { count_taken hall.new.places.items ≡ count_taken hall.old.places.items }
+    ensures accepted { hall.new.accepted ≡ hall.old.accepted }
+    ensures output { hall.new.output ≡ hall.old.output }
 {
     let place = pace.place;
     if place >= hall.places.len() {
@@ -197,9 +199,11 @@ pub(crate) fn visit<C: Resets + Drop, L: Waits, N: WaitsNet<Link = L>, W: Wakes<
     out: &mut K,
     plan: &Plan,
 ) -> Result<Looked, OutOfMemory>
-    requires stands { (cfg : C.Settings) × AllStand (C.meaning cfg) (C.stands cfg) C.seen C.sound L.seen L.wrote N.seen (address_of plan.now.to.now) hall.old.places.items hall.old.sets.items }
-    ensures stands { (cfg : C.Settings) → AllStand (C.meaning cfg) (C.stands cfg) C.seen C.sound L.seen L.wrote N.seen (address_of plan.now.to.now) hall.old.places.items hall.old.sets.items → AllStand (C.meaning cfg) (C.stands cfg) C.seen C.sound L.seen L.wrote N.seen (address_of plan.now.to.now) hall.new.places.items hall.new.sets.items }
+    requires stands { (cfg : C.Settings) × (visits : List (Visit L N)) × AllStand (C.meaning cfg) (C.stands cfg) C.seen C.sound L.seen L.wrote N.seen (address_of plan.now.to.now) visits hall.old.places.items hall.old.sets.items }
+    ensures goes { (cfg : C.Settings) (begun now : NetSeen) (writes : ℕ) (before : Option (List ℕ)) → Goes (C.meaning cfg) (C.stands cfg) C.seen C.sound L.seen L.wrote N.seen (address_of plan.now.to.now) true true begun now writes (K.faults out.old) before (K.written out.old) hall.old
+        → Goes (C.meaning cfg) (C.stands cfg) C.seen C.sound L.seen L.wrote N.seen (address_of plan.now.to.now) (is_ok result) (is_ok result) begun now writes (K.faults out.new) before (K.written out.new) hall.new }
     ensures taken { count_taken hall.new.places.items ≡ count_taken hall.old.places.items }
+    ensures accepted { hall.new.accepted ≡ hall.old.accepted }
 {
     let looked = look_here(hall, pace, wakes, plan.to);
     say(looked, plan.alloc, &mut hall.output, out)
@@ -211,7 +215,12 @@ fn say<K: Sink>(
     alloc: Global,
     output: &mut Output,
     out: &mut K,
-) -> Result<Looked, OutOfMemory> {
+) -> Result<Looked, OutOfMemory>
+    // `text` is what was to be written before.
+    ensures writes { (writes : ℕ) (before : Option (List ℕ)) (text : List ℕ) → Writes true output.old writes (K.faults out.old) before (K.written out.old) text
+        → Writes (is_ok result) output.new writes (K.faults out.new) before (K.written out.new) (text ++ lines_of (ended_by looked)) }
+    ensures kept_on { OnOk result (looked ≡ Looked.Lost → ⊥) }
+{
     match looked {
         Looked::Ended(number, outcome) => match write_line(alloc, number, &outcome, output, out) {
             Ok(()) => Ok(looked),
@@ -226,7 +235,9 @@ fn say<K: Sink>(
 }
 
 /// Whether the connection of a place has ended.
-fn has_ended<C, L, N>(at: &Option<Connection<C, L, N>>) -> bool {
+fn has_ended<C, L, N>(at: &Option<Connection<C, L, N>>) -> bool
+    ensures { result ≡ true → HasEnded at.now }
+{
     match at {
         Some(connection) => connection.conn.ran.is_some(),
         None => false,
@@ -239,7 +250,7 @@ pub(crate) fn give_back<C: Resets + Drop, L: Waits + Drop, N: WaitsNet<Link = L>
     net: &mut N,
 )
     requires lent { taken_at at.old ≤ (N.seen net.old).lent }
-    ensures placed { (cfg : C.Settings) (to : Place) → IsPlaced (C.meaning cfg) (C.stands cfg) C.seen C.sound L.seen L.wrote N.seen to at.old → IsPlaced (C.meaning cfg) (C.stands cfg) C.seen C.sound L.seen L.wrote N.seen to at.new }
+    ensures gives { MayGiveBack L.seen L.wrote (N.seen net.old) (N.seen net.new) at.old at.new }
     ensures balanced { IsBalancedAt (N.seen net.old) (N.seen net.new) at.old at.new }
     ensures net { IsSameNet (N.seen net.old) (N.seen net.new) }
 {

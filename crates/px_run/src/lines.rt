@@ -1,4 +1,7 @@
 //! The lines of connections that have ended, until the output is gone.
+ghost use Rattle.std.specs.Prelude.{◌++◌, ℕ, List, Option, is_ok, true};
+ghost use Rattle.serve_run.specs.Lines.{line_of};
+ghost use Rattle.px_run.specs.Lines.{Writes};
 
 use px_link::{Fault, OutOfMemory, Sink};
 use serve_run::{Outcome, line_of};
@@ -19,7 +22,11 @@ pub(crate) fn write_line<K: Sink>(
     outcome: &Outcome,
     output: &mut Output,
     out: &mut K,
-) -> Result<(), OutOfMemory> {
+) -> Result<(), OutOfMemory>
+    // `text` is what was to be written before.
+    ensures writes { (writes : ℕ) (before : Option (List ℕ)) (text : List ℕ) → Writes true output.old writes (K.faults out.old) before (K.written out.old) text
+        → Writes (is_ok result) output.new writes (K.faults out.new) before (K.written out.new) (text ++ line_of number outcome.now) }
+{
     match *output {
         Output::Gone => return Ok(()),
         Output::Open => {}

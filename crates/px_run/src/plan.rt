@@ -1,5 +1,5 @@
 //! What the loop is told, what it asks of its caller, and why it stops.
-ghost use Rattle.std.specs.Prelude.{◌≡◌, IfOk};
+ghost use Rattle.std.specs.Prelude.{◌≡◌, false, ⊤, IfOk};
 ghost use Rattle.px_run.specs.Course.{IsNewNet};
 
 use crate::Times;
@@ -20,12 +20,16 @@ pub struct Plan<'a> {
 
 /// What the loop asks of its caller, besides a net that listens, a wait and an output.
 pub trait Nets<N: WaitsNet> {
+    /// No further connection is to be accepted, where that is told.
+    ghost accepts_none: { Self → Type 0 } = { λ _. ⊤ };
+
     /// A net of its own for a connection: what that connects to its servers. Nothing was done with it yet.
     fn net(&mut self) -> Result<N, OutOfMemory>
         ensures new { IfOk result (λ net. IsNewNet (N.seen net)) };
 
     /// Whether a further connection may be accepted. Once it may not, what is in hand is finished, and the loop ends.
-    fn accepts_more(&mut self) -> bool;
+    fn accepts_more(&mut self) -> bool
+        ensures told { result ≡ false → accepts_none self.new };
 }
 
 /// Why the loop stopped before its end.

@@ -1,7 +1,7 @@
 //! A round of the loop: a wait, a look at each that may go on, deadlines.
-ghost use Rattle.std.specs.Prelude.{◌≡◌, ◌≤◌};
-ghost use Rattle.px_link.specs.Net.{address_of, Place};
-ghost use Rattle.px_run.specs.Hall.{AllStand, count_taken, IsSameNet, IsBalanced};
+ghost use Rattle.std.specs.Prelude.{◌≡◌, ◌≤◌, ℕ, List, Option, true, is_ok};
+ghost use Rattle.px_link.specs.Net.{address_of, NetSeen};
+ghost use Rattle.px_run.specs.Hall.{AllAsked, Goes, count_taken, IsSameNet, IsBalanced};
 
 use crate::agenda::Agenda;
 use crate::connection::Looked;
@@ -17,8 +17,7 @@ fn note<C: Resets, L: Waits, N: WaitsNet<Link = L>>(
     agenda: &mut Agenda,
     wake: Wake,
 ) -> Result<(), OutOfMemory>
-    ensures stands { (cfg : C.Settings) (to : Place) → AllStand (C.meaning cfg) (C.stands cfg) C.seen C.sound L.seen L.wrote N.seen to hall.old.places.items hall.old.sets.items → AllStand (C.meaning cfg) (C.stands cfg) C.seen C.sound L.seen L.wrote N.seen to hall.new.places.items hall.new.sets.items }
-    ensures taken { count_taken hall.new.places.items ≡ count_taken hall.old.places.items }
+    ensures asked { AllAsked L.seen L.wrote N.seen hall.old hall.new }
 {
     match wake.whom {
         Watched::Listener => {
@@ -49,8 +48,7 @@ pub(crate) fn wait<C: Resets, L: Waits, N: WaitsNet<Link = L>, W: Wakes<N>>(
     wakes: &mut W,
     accepts: bool,
 ) -> Result<(), RunFault>
-    ensures stands { (cfg : C.Settings) (to : Place) → AllStand (C.meaning cfg) (C.stands cfg) C.seen C.sound L.seen L.wrote N.seen to hall.old.places.items hall.old.sets.items → AllStand (C.meaning cfg) (C.stands cfg) C.seen C.sound L.seen L.wrote N.seen to hall.new.places.items hall.new.sets.items }
-    ensures taken { count_taken hall.new.places.items ≡ count_taken hall.old.places.items }
+    ensures asked { AllAsked L.seen L.wrote N.seen hall.old hall.new }
 {
     match wakes.wait(agenda.patience(accepts, hall.tools.now)) {
         Ok(()) => {}
@@ -113,9 +111,11 @@ fn visit_place<
     out: &mut K,
     plan: &Plan,
 ) -> Result<Looked, OutOfMemory>
-    requires stands { (cfg : C.Settings) × AllStand (C.meaning cfg) (C.stands cfg) C.seen C.sound L.seen L.wrote N.seen (address_of plan.now.to.now) hall.old.places.items hall.old.sets.items }
+    requires goes { (cfg : C.Settings) × (begun : NetSeen) × (writes : ℕ) × (before : Option (List ℕ)) × Goes (C.meaning cfg) (C.stands cfg) C.seen C.sound L.seen L.wrote N.seen (address_of plan.now.to.now) true true begun (N.seen net.old) writes (K.faults out.old) before (K.written out.old) hall.old }
     requires lent { count_taken hall.old.places.items ≤ (N.seen net.old).lent }
-    ensures stands { (cfg : C.Settings) → AllStand (C.meaning cfg) (C.stands cfg) C.seen C.sound L.seen L.wrote N.seen (address_of plan.now.to.now) hall.old.places.items hall.old.sets.items → AllStand (C.meaning cfg) (C.stands cfg) C.seen C.sound L.seen L.wrote N.seen (address_of plan.now.to.now) hall.new.places.items hall.new.sets.items }
+    ensures goes { (cfg : C.Settings) (begun : NetSeen) (writes : ℕ) (before : Option (List ℕ)) → Goes (C.meaning cfg) (C.stands cfg) C.seen C.sound L.seen L.wrote N.seen (address_of plan.now.to.now) true true begun (N.seen net.old) writes (K.faults out.old) before (K.written out.old) hall.old
+        → Goes (C.meaning cfg) (C.stands cfg) C.seen C.sound L.seen L.wrote N.seen (address_of plan.now.to.now) (is_ok result) (is_ok result) begun (N.seen net.new) writes (K.faults out.new) before (K.written out.new) hall.new }
+    ensures accepted { hall.new.accepted ≡ hall.old.accepted }
     ensures balanced { IsBalanced (N.seen net.old) (N.seen net.new) hall.old.places.items hall.new.places.items }
     ensures net { IsSameNet (N.seen net.old) (N.seen net.new) }
 {
@@ -141,9 +141,11 @@ fn visits<C: Resets + Drop, L: Waits + Drop, N: WaitsNet<Link = L> + Drop, W: Wa
     out: &mut K,
     plan: &Plan,
 ) -> Result<(), OutOfMemory>
-    requires stands { (cfg : C.Settings) × AllStand (C.meaning cfg) (C.stands cfg) C.seen C.sound L.seen L.wrote N.seen (address_of plan.now.to.now) hall.old.places.items hall.old.sets.items }
+    requires goes { (cfg : C.Settings) × (begun : NetSeen) × (writes : ℕ) × (before : Option (List ℕ)) × Goes (C.meaning cfg) (C.stands cfg) C.seen C.sound L.seen L.wrote N.seen (address_of plan.now.to.now) true true begun (N.seen net.old) writes (K.faults out.old) before (K.written out.old) hall.old }
     requires lent { count_taken hall.old.places.items ≤ (N.seen net.old).lent }
-    ensures stands { (cfg : C.Settings) → AllStand (C.meaning cfg) (C.stands cfg) C.seen C.sound L.seen L.wrote N.seen (address_of plan.now.to.now) hall.old.places.items hall.old.sets.items → AllStand (C.meaning cfg) (C.stands cfg) C.seen C.sound L.seen L.wrote N.seen (address_of plan.now.to.now) hall.new.places.items hall.new.sets.items }
+    ensures goes { (cfg : C.Settings) (begun : NetSeen) (writes : ℕ) (before : Option (List ℕ)) → Goes (C.meaning cfg) (C.stands cfg) C.seen C.sound L.seen L.wrote N.seen (address_of plan.now.to.now) true true begun (N.seen net.old) writes (K.faults out.old) before (K.written out.old) hall.old
+        → Goes (C.meaning cfg) (C.stands cfg) C.seen C.sound L.seen L.wrote N.seen (address_of plan.now.to.now) (is_ok result) (is_ok result) begun (N.seen net.new) writes (K.faults out.new) before (K.written out.new) hall.new }
+    ensures accepted { hall.new.accepted ≡ hall.old.accepted }
     ensures balanced { IsBalanced (N.seen net.old) (N.seen net.new) hall.old.places.items hall.new.places.items }
     ensures net { IsSameNet (N.seen net.old) (N.seen net.new) }
 {
@@ -170,8 +172,7 @@ fn expire_at<C: Resets, L: Waits, N: WaitsNet<Link = L>>(
     place: usize,
     plan: &Plan,
 ) -> Result<(), OutOfMemory>
-    ensures stands { (cfg : C.Settings) (to : Place) → AllStand (C.meaning cfg) (C.stands cfg) C.seen C.sound L.seen L.wrote N.seen to hall.old.places.items hall.old.sets.items → AllStand (C.meaning cfg) (C.stands cfg) C.seen C.sound L.seen L.wrote N.seen to hall.new.places.items hall.new.sets.items }
-    ensures taken { count_taken hall.new.places.items ≡ count_taken hall.old.places.items }
+    ensures asked { AllAsked L.seen L.wrote N.seen hall.old hall.new }
 {
     if place >= hall.places.len() {
         return Ok(());
@@ -191,8 +192,7 @@ fn expire_all<C: Resets, L: Waits, N: WaitsNet<Link = L>>(
     agenda: &mut Agenda,
     plan: &Plan,
 ) -> Result<(), OutOfMemory>
-    ensures stands { (cfg : C.Settings) (to : Place) → AllStand (C.meaning cfg) (C.stands cfg) C.seen C.sound L.seen L.wrote N.seen to hall.old.places.items hall.old.sets.items → AllStand (C.meaning cfg) (C.stands cfg) C.seen C.sound L.seen L.wrote N.seen to hall.new.places.items hall.new.sets.items }
-    ensures taken { count_taken hall.new.places.items ≡ count_taken hall.old.places.items }
+    ensures asked { AllAsked L.seen L.wrote N.seen hall.old hall.new }
 {
     if !agenda.deadline_comes(hall.tools.now) {
         return Ok(());
@@ -211,8 +211,7 @@ fn free_one<C: Resets, L: Waits, N: WaitsNet<Link = L>>(
     hall: &mut Hall<C, L, N>,
     agenda: &mut Agenda,
 ) -> Result<(), OutOfMemory>
-    ensures stands { (cfg : C.Settings) (to : Place) → AllStand (C.meaning cfg) (C.stands cfg) C.seen C.sound L.seen L.wrote N.seen to hall.old.places.items hall.old.sets.items → AllStand (C.meaning cfg) (C.stands cfg) C.seen C.sound L.seen L.wrote N.seen to hall.new.places.items hall.new.sets.items }
-    ensures taken { count_taken hall.new.places.items ≡ count_taken hall.old.places.items }
+    ensures asked { AllAsked L.seen L.wrote N.seen hall.old hall.new }
 {
     if !agenda.lacks_cores() {
         return Ok(());
@@ -242,9 +241,11 @@ pub(crate) fn looks<
     out: &mut K,
     plan: &Plan,
 ) -> Result<(), OutOfMemory>
-    requires stands { (cfg : C.Settings) × AllStand (C.meaning cfg) (C.stands cfg) C.seen C.sound L.seen L.wrote N.seen (address_of plan.now.to.now) hall.old.places.items hall.old.sets.items }
+    requires goes { (cfg : C.Settings) × (begun : NetSeen) × (writes : ℕ) × (before : Option (List ℕ)) × Goes (C.meaning cfg) (C.stands cfg) C.seen C.sound L.seen L.wrote N.seen (address_of plan.now.to.now) true true begun (N.seen net.old) writes (K.faults out.old) before (K.written out.old) hall.old }
     requires lent { count_taken hall.old.places.items ≤ (N.seen net.old).lent }
-    ensures stands { (cfg : C.Settings) → AllStand (C.meaning cfg) (C.stands cfg) C.seen C.sound L.seen L.wrote N.seen (address_of plan.now.to.now) hall.old.places.items hall.old.sets.items → AllStand (C.meaning cfg) (C.stands cfg) C.seen C.sound L.seen L.wrote N.seen (address_of plan.now.to.now) hall.new.places.items hall.new.sets.items }
+    ensures goes { (cfg : C.Settings) (begun : NetSeen) (writes : ℕ) (before : Option (List ℕ)) → Goes (C.meaning cfg) (C.stands cfg) C.seen C.sound L.seen L.wrote N.seen (address_of plan.now.to.now) true true begun (N.seen net.old) writes (K.faults out.old) before (K.written out.old) hall.old
+        → Goes (C.meaning cfg) (C.stands cfg) C.seen C.sound L.seen L.wrote N.seen (address_of plan.now.to.now) (is_ok result) (is_ok result) begun (N.seen net.new) writes (K.faults out.new) before (K.written out.new) hall.new }
+    ensures accepted { hall.new.accepted ≡ hall.old.accepted }
     ensures balanced { IsBalanced (N.seen net.old) (N.seen net.new) hall.old.places.items hall.new.places.items }
     ensures net { IsSameNet (N.seen net.old) (N.seen net.new) }
 {

@@ -1,9 +1,13 @@
 //! The loop over many connections.
-ghost use Rattle.std.specs.Prelude.{◌≡◌, ◌≤◌, ◌+◌, OnOk};
+ghost use Rattle.std.specs.Prelude.{◌≡◌, ◌≤◌, ◌+◌, ◌⊎◌, ℕ, List, Bool, Option, true, false, IfSome, OnOk};
 ghost use Rattle.std.specs.List.{AllByRecursion};
-ghost use Rattle.px_link.specs.Net.{address_of, Place};
+ghost use Rattle.px_link.specs.Net.{address_of, NetSeen, Place};
 ghost use Rattle.htx_drive.specs.Weave.State.{IsReady, IsFresh};
-ghost use Rattle.px_run.specs.Hall.{IsPlaced, AllStand, taken_at, count_taken, IsSameNet, IsBalanced};
+ghost use Rattle.px_run.specs.Course.{EndedOrLeft};
+ghost use Rattle.px_run.specs.Connection.{IsAt};
+ghost use Rattle.px_run.specs.History.{Visit};
+ghost use Rattle.px_run.specs.Served.{had_memory, ServedMany};
+ghost use Rattle.px_run.specs.Hall.{IsPlaced, GaveUpAt, Goes, taken_at, count_taken, IsSameNet, IsBalanced};
 
 use crate::accepts::{accepts, accepts_more};
 use crate::agenda::Agenda;
@@ -14,7 +18,7 @@ use crate::rounds::{looks, wait};
 use crate::step::Tools;
 use crate::{Nets, Plan, RunFault};
 use htx_drive::MOST_READ;
-use htx_drive::weave::{Resets, abandon};
+use htx_drive::weave::{Conn, Resets, abandon};
 use px_link::{OutOfMemory, Sink, Waits, WaitsNet, Wakes};
 
 /// How many connections may be open for each core: those that have none yet cost a link alone.
@@ -36,12 +40,15 @@ fn rounds<
     out: &mut K,
     plan: &Plan,
 ) -> Result<(), RunFault>
-    requires stands { (cfg : C.Settings) × AllStand (C.meaning cfg) (C.stands cfg) C.seen C.sound L.seen L.wrote N.seen (address_of plan.now.to.now) hall.old.places.items hall.old.sets.items }
+    requires goes { (cfg : C.Settings) × (begun : NetSeen) × (writes : ℕ) × (before : Option (List ℕ)) × Goes (C.meaning cfg) (C.stands cfg) C.seen C.sound L.seen L.wrote N.seen (address_of plan.now.to.now) true true begun (N.seen net.old) writes (K.faults out.old) before (K.written out.old) hall.old }
     requires lent { count_taken hall.old.places.items ≤ (N.seen net.old).lent }
-    ensures stands { (cfg : C.Settings) → AllStand (C.meaning cfg) (C.stands cfg) C.seen C.sound L.seen L.wrote N.seen (address_of plan.now.to.now) hall.old.places.items hall.old.sets.items → AllStand (C.meaning cfg) (C.stands cfg) C.seen C.sound L.seen L.wrote N.seen (address_of plan.now.to.now) hall.new.places.items hall.new.sets.items }
+    ensures goes { (cfg : C.Settings) (begun : NetSeen) (writes : ℕ) (before : Option (List ℕ)) → Goes (C.meaning cfg) (C.stands cfg) C.seen C.sound L.seen L.wrote N.seen (address_of plan.now.to.now) true true begun (N.seen net.old) writes (K.faults out.old) before (K.written out.old) hall.old
+        → Goes (C.meaning cfg) (C.stands cfg) C.seen C.sound L.seen L.wrote N.seen (address_of plan.now.to.now) (had_memory result) (had_memory result) begun (N.seen net.new) writes (K.faults out.new) before (K.written out.new) hall.new }
+    ensures within { IfSome plan.now.connections (λ count. hall.old.accepted ≤ count → hall.new.accepted ≤ count) }
     ensures balanced { IsBalanced (N.seen net.old) (N.seen net.new) hall.old.places.items hall.new.places.items }
     ensures net { IsSameNet (N.seen net.old) (N.seen net.new) }
     ensures empty { OnOk result (count_taken hall.new.places.items ≡ 0) }
+    ensures all { OnOk result (IfSome plan.now.connections (λ count. (count ≤ hall.new.accepted) ⊎ S.accepts_none nets.new)) }
 {
     let mut agenda = match Agenda::new(plan.alloc, hall.places.len(), &plan.times) {
         Ok(agenda) => agenda,
@@ -66,22 +73,33 @@ fn rounds<
     Err(RunFault::Spent)
 }
 
+/// Gives up a connection that hasn't ended: each of its links that is still open is closed Failed, and its server's is kept.
+fn give_up<C: Resets, L: Waits, N: WaitsNet<Link = L>>(conn: &mut Conn<L, N>)
+    requires at { (cfg : C.Settings) × (to : Place) × (first : L) × (first_net : N) × (held : Option C) × IsAt (C.meaning cfg) (C.stands cfg) C.seen C.sound L.seen L.wrote first conn.old.client conn.old.server to (N.seen first_net) (N.seen conn.old.net) conn.old.ran held }
+    ensures left { (cfg : C.Settings) (to : Place) (first : L) (first_net : N) (held : Option C) → IsAt (C.meaning cfg) (C.stands cfg) C.seen C.sound L.seen L.wrote first conn.old.client conn.old.server to (N.seen first_net) (N.seen conn.old.net) conn.old.ran held
+        → EndedOrLeft (C.meaning cfg) (C.stands cfg) C.seen L.seen L.wrote first conn.new.client to (N.seen first_net) (N.seen conn.new.net) conn.old.ran }
+{
+    if conn.ran.is_some() {
+        return;
+    }
+    abandon::<C, L, N>(conn);
+}
+
 /// Gives up the connection of a place: each of its links that is still open is closed Failed, and all are given back.
 fn leave<C: Resets + Drop, L: Waits + Drop, N: WaitsNet<Link = L> + Drop>(
     at: Option<Connection<C, L, N>>,
     net: &mut N,
 )
-    requires placed { (cfg : C.Settings) × (to : Place) × IsPlaced (C.meaning cfg) (C.stands cfg) C.seen C.sound L.seen L.wrote N.seen to at }
+    requires placed { (cfg : C.Settings) × (to : Place) × (visits : List (Visit L N)) × IsPlaced (C.meaning cfg) (C.stands cfg) C.seen C.sound L.seen L.wrote N.seen to visits at }
     requires lent { taken_at at ≤ (N.seen net.old).lent }
+    ensures gave_up { (cfg : C.Settings) (to : Place) → GaveUpAt (C.meaning cfg) (C.stands cfg) C.seen C.sound L.seen L.wrote N.seen to (N.seen net.old) (N.seen net.new) at }
     ensures balanced { (N.seen net.new).lent + taken_at at ≡ (N.seen net.old).lent }
     ensures net { IsSameNet (N.seen net.old) (N.seen net.new) }
 {
     match at {
         Some(connection) => {
             let mut conn = connection.conn;
-            if conn.ran.is_none() {
-                abandon::<C, L, N>(&mut conn);
-            }
+            give_up::<C, L, N>(&mut conn);
             net.keep(conn.client);
         }
         None => {}
@@ -90,17 +108,20 @@ fn leave<C: Resets + Drop, L: Waits + Drop, N: WaitsNet<Link = L> + Drop>(
 
 /// Gives up the connection at each place.
 fn leave_all<C: Resets + Drop, L: Waits + Drop, N: WaitsNet<Link = L> + Drop>(
-    places: &mut Vec<Option<Connection<C, L, N>>>,
+    hall: &mut Hall<C, L, N>,
     net: &mut N,
 )
-    requires placed { (cfg : C.Settings) × (to : Place) × AllByRecursion (IsPlaced (C.meaning cfg) (C.stands cfg) C.seen C.sound L.seen L.wrote N.seen to) places.old.items }
-    requires lent { count_taken places.old.items ≤ (N.seen net.old).lent }
-    ensures none { count_taken places.new.items ≡ 0 }
-    ensures balanced { IsBalanced (N.seen net.old) (N.seen net.new) places.old.items places.new.items }
+    requires goes { (cfg : C.Settings) × (to : Place) × (fair whole : Bool) × (begun : NetSeen) × (writes writes_now : ℕ) × (before after : Option (List ℕ)) × Goes (C.meaning cfg) (C.stands cfg) C.seen C.sound L.seen L.wrote N.seen to fair whole begun (N.seen net.old) writes writes_now before after hall.old }
+    requires lent { count_taken hall.old.places.items ≤ (N.seen net.old).lent }
+    ensures goes { (cfg : C.Settings) (to : Place) (fair whole : Bool) (begun : NetSeen) (writes writes_now : ℕ) (before after : Option (List ℕ)) → Goes (C.meaning cfg) (C.stands cfg) C.seen C.sound L.seen L.wrote N.seen to fair whole begun (N.seen net.old) writes writes_now before after hall.old
+        → Goes (C.meaning cfg) (C.stands cfg) C.seen C.sound L.seen L.wrote N.seen to false whole begun (N.seen net.new) writes writes_now before after hall.new }
+    ensures accepted { hall.new.accepted ≡ hall.old.accepted }
+    ensures none { count_taken hall.new.places.items ≡ 0 }
+    ensures balanced { IsBalanced (N.seen net.old) (N.seen net.new) hall.old.places.items hall.new.places.items }
     ensures net { IsSameNet (N.seen net.old) (N.seen net.new) }
 {
-    for left in 0..places.len() {
-        match places.pop() {
+    for left in 0..hall.places.len() {
+        match hall.places.pop() {
             Some(at) => leave(at, net),
             None => return,
         }
@@ -126,6 +147,8 @@ pub fn run<
 ) -> Result<(), RunFault>
     requires ready { AllByRecursion (IsReady C.seen C.sound) sets.items }
     requires fresh { (cfg : C.Settings) × AllByRecursion (IsFresh (C.stands cfg)) sets.items }
+    // Each link that was accepted is that of a connection, which was served to its end or given up, and was given back; and the lines were written.
+    ensures served { (cfg : C.Settings) → AllByRecursion (IsFresh (C.stands cfg)) sets.items → ServedMany (C.meaning cfg) (C.stands cfg) C.seen L.seen L.wrote N.seen (address_of plan.now.to.now) plan.now.connections (S.accepts_none nets.new) (N.seen net.old) (N.seen net.new) (K.faults out.old) (K.faults out.new) (K.written out.old) (K.written out.new) result }
     ensures lent { (N.seen net.new).lent ≡ (N.seen net.old).lent }
     ensures bound { (N.seen net.new).bound ≡ (N.seen net.old).bound }
     ensures dialled { (N.seen net.new).dialled ≡ (N.seen net.old).dialled }
@@ -150,7 +173,7 @@ pub fn run<
     match rounds(&mut hall, net, nets, wakes, out, plan) {
         Ok(()) => Ok(()),
         Err(fault) => {
-            leave_all(&mut hall.places, net);
+            leave_all(&mut hall, net);
             Err(fault)
         }
     }

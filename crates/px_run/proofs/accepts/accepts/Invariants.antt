@@ -1,12 +1,15 @@
-use Rattle.px_link.specs.Net.{Place}
-use Rattle.px_run.specs.Hall.{AllStand, IsSameNet, IsBalanced}
+use Rattle.std.proofs.Common.{◌≤◌, ℕ, List, Option, true}
+use Rattle.std.specs.Prelude.{IfSome}
+use Rattle.px_link.specs.Net.{Place, NetSeen}
+use Rattle.px_run.specs.Hall.{Goes, IsSameNet, IsBalanced}
 use Rattle.px_run.proofs.accepts.accepts.Given as goal
 
 abbrev pub invariant-loop : goal.invariant-loop
 invariant-loop g l =
     record {
-      stands : (cfg : g.row.C-Settings.Denot) (to : Place) → AllStand (g.C.Machine.meaning cfg) (g.C.Machine.stands cfg) g.C.Machine.seen g.C.Machine.sound g.L.Link.seen g.L.Link.wrote g.N.Net.seen to l.initial.hall.places.items l.initial.hall.sets.items
-          → AllStand (g.C.Machine.meaning cfg) (g.C.Machine.stands cfg) g.C.Machine.seen g.C.Machine.sound g.L.Link.seen g.L.Link.wrote g.N.Net.seen to l.hall.places.items l.hall.sets.items;
+      goes : (cfg : g.row.C-Settings.Denot) (to : Place) (begun : NetSeen) (writes writes_now : ℕ) (before after : Option (List ℕ)) → Goes (g.C.Machine.meaning cfg) (g.C.Machine.stands cfg) g.C.Machine.seen g.C.Machine.sound g.L.Link.seen g.L.Link.wrote g.N.Net.seen to true true begun (g.N.Net.seen l.initial.net) writes writes_now before after l.initial.hall
+          → Goes (g.C.Machine.meaning cfg) (g.C.Machine.stands cfg) g.C.Machine.seen g.C.Machine.sound g.L.Link.seen g.L.Link.wrote g.N.Net.seen to true true begun (g.N.Net.seen l.net) writes writes_now before after l.hall;
+      within : IfSome l.plan.connections (λ (count : ℕ). l.initial.hall.accepted ≤ count → l.hall.accepted ≤ count);
       balanced : IsBalanced (g.N.Net.seen l.initial.net) (g.N.Net.seen l.net) l.initial.hall.places.items l.hall.places.items;
       net : IsSameNet (g.N.Net.seen l.initial.net) (g.N.Net.seen l.net);
     }

@@ -1,14 +1,9 @@
-use Rattle.std.proofs.Common.{refl, sym, subst}
-use Rattle.px_run.specs.Hall.{IsPlaced}
-use Rattle.px_run.proofs.Places.{all_set}
-use Rattle.px_run.proofs.Halls.{placed_new}
+use Rattle.std.proofs.Common.{refl, ap, ◌+◌}
+use Rattle.px_run.proofs.Asked.{same_by, same_then}
+use Rattle.px_run.proofs.Stays.{of_new, stand_new_at}
 use Rattle.px_run.proofs.accepts.take_in.Goals as goal
 
 pub returns-clause-stands : goal.returns-clause-stands
-returns-clause-stands g c = λ cfg to h.
-    let one = placed_new (g.C.Machine.meaning cfg) (g.C.Machine.stands cfg) g.C.Machine.seen g.C.Machine.sound g.L.Link.seen g.L.Link.wrote g.N.Net.seen to c.watch_client.new.link c.args.own _ c.requires.own c.new.ensures.client c.new.ensures.net c.new.ensures.server c.new.ensures.ran refl in
-    record {
-      placed = all_set (IsPlaced (g.C.Machine.meaning cfg) (g.C.Machine.stands cfg) g.C.Machine.seen g.C.Machine.sound g.L.Link.seen g.L.Link.wrote g.N.Net.seen to) _ _ _ h.placed (subst (IsPlaced (g.C.Machine.meaning cfg) (g.C.Machine.stands cfg) g.C.Machine.seen g.C.Machine.sound g.L.Link.seen g.L.Link.wrote g.N.Net.seen to) (sym c.put.ensures) one);
-      ready = h.ready;
-      fresh = h.fresh;
-    }
+returns-clause-stands g c = λ cfg to visits n h.
+    stand_new_at (g.C.Machine.meaning cfg) (g.C.Machine.stands cfg) g.C.Machine.seen g.C.Machine.sound g.L.Link.seen g.L.Link.wrote g.N.Net.seen to visits c.args.hall.now.places.items c.args.hall.now.sets.items c.args.place c.args.link c.args.own _ c.put.new.at c.requires.within c.requires.none c.put.ensures (ap (λ k. k + 1) n) c.requires.own
+    (of_new (g.C.Machine.meaning cfg) (g.C.Machine.stands cfg) g.C.Machine.seen g.C.Machine.sound g.L.Link.seen g.L.Link.wrote g.N.Net.seen to visits c.args.link c.args.own _ (ap (λ k. k + 1) n) (same_then g.L.Link.seen g.L.Link.wrote c.args.link c.watch_client.new.link _ (record { told = c.watch_client.ensures.seen; written = c.watch_client.ensures.wrote }) (same_by g.L.Link.seen g.L.Link.wrote c.watch_client.new.link _ c.new.ensures.client)) c.new.ensures.net c.new.ensures.server c.new.ensures.ran refl) h

@@ -1,9 +1,16 @@
-use Rattle.std.proofs.Common.{rules, ◌≡◌, Some, refl, ap}
-use Rattle.px_run.proofs.Halls.{placed_asked}
+use Rattle.std.proofs.Common.{rules, ◌≡◌, Some, None, refl, ap}
+use Rattle.px_run.proofs.Stays.{asked_at_some, asked_at_none}
 use Rattle.px_run.proofs.hall.expire.Goals as goal
 
-pub returns-in-Some-clause-placed : goal.returns-in-Some-clause-placed
-returns-in-Some-clause-placed g c = λ cfg to h.
+pub returns-in-Some : goal.returns-in-Some
+returns-in-Some g c =
     let e : c.args.at.now ≡ Some c.in-Some.connection = search rules in
-    placed_asked (g.C.Machine.meaning cfg) (g.C.Machine.stands cfg) g.C.Machine.seen g.C.Machine.sound g.L.Link.seen g.L.Link.wrote g.N.Net.seen to c.args.at.now c.in-Some.connection _ e
-    c.expire_call.ensures.client c.expire_call.ensures.server (ap g.N.Net.seen c.expire_call.ensures.net) c.expire_call.ensures.ran refl h
+    record {
+      asked = asked_at_some g.L.Link.seen g.L.Link.wrote g.N.Net.seen c.args.at.now c.in-Some.connection _ e
+          (record { number = refl; client = c.expire_call.ensures.client; server = c.expire_call.ensures.server; net = ap g.N.Net.seen c.expire_call.ensures.net; ran = c.expire_call.ensures.ran; core = refl });
+    }
+
+pub returns-in-None : goal.returns-in-None
+returns-in-None g c =
+    let e : c.args.at.now ≡ None = search rules in
+    record { asked = asked_at_none g.L.Link.seen g.L.Link.wrote g.N.Net.seen c.args.at.now e }

@@ -1,10 +1,17 @@
-use Rattle.std.proofs.Common.{rules, ◌≡◌, Some, refl}
+use Rattle.std.proofs.Common.{rules, ◌≡◌, Some, None, refl}
 use Rattle.px_run.proofs.Asked.{same_server}
-use Rattle.px_run.proofs.Halls.{placed_asked}
+use Rattle.px_run.proofs.Stays.{asked_at_some, asked_at_none}
 use Rattle.px_run.proofs.hall.note_client.Goals as goal
 
-pub returns-in-Some-clause-placed : goal.returns-in-Some-clause-placed
-returns-in-Some-clause-placed g c = λ cfg to h.
+pub returns-in-Some : goal.returns-in-Some
+returns-in-Some g c =
     let e : c.args.at.now ≡ Some c.in-Some.connection = search rules in
-    placed_asked (g.C.Machine.meaning cfg) (g.C.Machine.stands cfg) g.C.Machine.seen g.C.Machine.sound g.L.Link.seen g.L.Link.wrote g.N.Net.seen to c.args.at.now c.in-Some.connection _ e
-    (record { told = c.note.ensures.seen; written = c.note.ensures.wrote }) (same_server g.L.Link.seen g.L.Link.wrote c.in-Some.connection.conn.server) refl refl refl h
+    record {
+      asked = asked_at_some g.L.Link.seen g.L.Link.wrote g.N.Net.seen c.args.at.now c.in-Some.connection _ e
+          (record { number = refl; client = record { told = c.note.ensures.seen; written = c.note.ensures.wrote }; server = same_server g.L.Link.seen g.L.Link.wrote c.in-Some.connection.conn.server; net = refl; ran = refl; core = refl });
+    }
+
+pub returns-in-None : goal.returns-in-None
+returns-in-None g c =
+    let e : c.args.at.now ≡ None = search rules in
+    record { asked = asked_at_none g.L.Link.seen g.L.Link.wrote g.N.Net.seen c.args.at.now e }

@@ -1,10 +1,17 @@
-use Rattle.std.proofs.Common.{rules, ◌≡◌, Some, refl}
+use Rattle.std.proofs.Common.{rules, ◌≡◌, Some, None, refl}
 use Rattle.px_run.proofs.Asked.{same_link}
-use Rattle.px_run.proofs.Halls.{placed_asked}
+use Rattle.px_run.proofs.Stays.{asked_at_some, asked_at_none}
 use Rattle.px_run.proofs.hall.note_server.Goals as goal
 
-pub returns-in-Some-clause-placed : goal.returns-in-Some-clause-placed
-returns-in-Some-clause-placed g c = λ cfg to h.
+pub returns-in-Some : goal.returns-in-Some
+returns-in-Some g c =
     let e : c.args.at.now ≡ Some c.in-Some.connection = search rules in
-    placed_asked (g.C.Machine.meaning cfg) (g.C.Machine.stands cfg) g.C.Machine.seen g.C.Machine.sound g.L.Link.seen g.L.Link.wrote g.N.Net.seen to c.args.at.now c.in-Some.connection _ e
-    (same_link g.L.Link.seen g.L.Link.wrote c.in-Some.connection.conn.client) c.note_link.ensures.same refl refl refl h
+    record {
+      asked = asked_at_some g.L.Link.seen g.L.Link.wrote g.N.Net.seen c.args.at.now c.in-Some.connection _ e
+          (record { number = refl; client = same_link g.L.Link.seen g.L.Link.wrote c.in-Some.connection.conn.client; server = c.note_link.ensures.same; net = refl; ran = refl; core = refl });
+    }
+
+pub returns-in-None : goal.returns-in-None
+returns-in-None g c =
+    let e : c.args.at.now ≡ None = search rules in
+    record { asked = asked_at_none g.L.Link.seen g.L.Link.wrote g.N.Net.seen c.args.at.now e }

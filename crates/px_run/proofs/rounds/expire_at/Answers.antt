@@ -1,14 +1,23 @@
-use Rattle.std.proofs.Common.{rules, ◌≡◌, ◌<◌, length, get_or}
-use Rattle.px_run.specs.Hall.{IsPlaced}
-use Rattle.px_run.proofs.Places.{all_is, all_set}
+use Rattle.std.proofs.Common.{rules, ◌≡◌, ◌<◌, length, get_or, refl}
+use Rattle.px_run.proofs.Stays.{asked_set, asked_set_taken, all_asked}
 use Rattle.px_run.proofs.rounds.expire_at.Goals as goal
 
-pub returns-in-Some-clause-stands : goal.returns-in-Some-clause-stands
-returns-in-Some-clause-stands g c = λ cfg to h.
+pub returns-in-Some : goal.returns-in-Some
+returns-in-Some g c =
     let w : c.args.place < length c.args.hall.now.places.items = search rules in
     let e : get_or c.args.hall.now.places.items c.args.place c.index_mut.result.now ≡ c.index_mut.result.now = search rules in
     record {
-      placed = all_set _ _ _ _ h.placed (c.expire.ensures.placed cfg to (all_is (IsPlaced (g.C.Machine.meaning cfg) (g.C.Machine.stands cfg) g.C.Machine.seen g.C.Machine.sound g.L.Link.seen g.L.Link.wrote g.N.Net.seen to) c.args.hall.now.places.items c.args.place c.index_mut.result.now h.placed w e));
-      ready = h.ready;
-      fresh = h.fresh;
+      asked = record {
+        each = asked_set g.L.Link.seen g.L.Link.wrote g.N.Net.seen c.args.hall.now.places.items c.args.place c.index_mut.result.now c.expire.new.at w e c.expire.ensures.asked;
+        taken = asked_set_taken g.L.Link.seen g.L.Link.wrote g.N.Net.seen c.args.hall.now.places.items c.args.place c.index_mut.result.now c.expire.new.at w e c.expire.ensures.asked;
+        sets = refl;
+        accepted = refl;
+        output = refl;
+      };
     }
+
+pub returns-then-place-len : goal.returns-then-place-len
+returns-then-place-len g c = record { asked = all_asked g.L.Link.seen g.L.Link.wrote g.N.Net.seen c.args.hall.now }
+
+pub returns-in-None : goal.returns-in-None
+returns-in-None g c = record { asked = all_asked g.L.Link.seen g.L.Link.wrote g.N.Net.seen c.args.hall.now }

@@ -1,17 +1,14 @@
-use Rattle.std.proofs.Common.{rules, ◌≡◌, ◌<◌, length, get_or}
+use Rattle.std.proofs.Common.{rules, ◌≡◌, ◌<◌, length, get_or, refl}
 use Rattle.px_link.specs.Net.{address_of}
-use Rattle.px_run.specs.Hall.{IsPlaced}
-use Rattle.px_run.proofs.Places.{all_is, all_set}
+use Rattle.px_run.proofs.Stories.{goes_gave}
 use Rattle.px_run.proofs.rounds.visit_place.Goals as goal
 
-pub returns-then-pace-len-clause-stands : goal.returns-then-pace-len-clause-stands
-returns-then-pace-len-clause-stands g c = λ cfg h.
-    let v = c.in-Ok-Leaves.ensures.stands cfg h in
+pub visit-requires : goal.visit-requires
+visit-requires g c = let q = c.requires.goes in record { stands = (q.0, q.4.visits, q.4.all) }
+
+pub returns-then-pace-len-clause-goes : goal.returns-then-pace-len-clause-goes
+returns-then-pace-len-clause-goes g c = λ cfg begun writes before h.
+    let v = c.in-Ok-Leaves.ensures.goes cfg begun (g.N.Net.seen c.args.net.now) writes before h in
     let w : c.visit.new.pace.place < length c.visit.new.hall.places.items = search rules in
     let e : get_or c.visit.new.hall.places.items c.visit.new.pace.place c.index_mut.result.now ≡ c.index_mut.result.now = search rules in
-    let one = all_is (IsPlaced (g.C.Machine.meaning cfg) (g.C.Machine.stands cfg) g.C.Machine.seen g.C.Machine.sound g.L.Link.seen g.L.Link.wrote g.N.Net.seen (address_of c.args.plan.now.to.now)) c.visit.new.hall.places.items c.visit.new.pace.place c.index_mut.result.now v.placed w e in
-    record {
-      placed = all_set _ _ _ _ v.placed (c.give_back.ensures.placed cfg (address_of c.args.plan.now.to.now) one);
-      ready = v.ready;
-      fresh = v.fresh;
-    }
+    goes_gave (g.C.Machine.meaning cfg) (g.C.Machine.stands cfg) g.C.Machine.seen g.C.Machine.sound g.L.Link.seen g.L.Link.wrote g.N.Net.seen (address_of c.args.plan.now.to.now) begun writes before (g.N.Net.seen c.args.net.now) (g.N.Net.seen c.give_back.new.net) _ _ c.visit.new.hall _ c.visit.new.pace.place c.index_mut.result.now c.give_back.new.at w e refl refl refl refl c.give_back.ensures.gives v

@@ -1,16 +1,17 @@
-use Rattle.std.proofs.Common.{◌≡◌, ◌+◌, ◌≤◌}
-use Rattle.std.specs.List.{AllByRecursion}
+use Rattle.std.proofs.Common.{◌≡◌, ◌+◌, ◌≤◌, ℕ, List, Option, Bool, false}
 use Rattle.std.specs.Prelude.{vec_len}
-use Rattle.px_link.specs.Net.{Place}
-use Rattle.px_run.specs.Hall.{IsPlaced, count_taken, IsSameNet, IsBalanced}
+use Rattle.px_link.specs.Net.{Place, NetSeen}
+use Rattle.px_run.specs.Hall.{Goes, count_taken, IsSameNet, IsBalanced}
 use Rattle.px_run.proofs.running.leave_all.Given as goal
 
 abbrev pub invariant-loop-left : goal.invariant-loop-left
 invariant-loop-left g l =
     record {
-      placed : (cfg : g.row.C-Settings.Denot) × (to : Place) × AllByRecursion (IsPlaced (g.C.Machine.meaning cfg) (g.C.Machine.stands cfg) g.C.Machine.seen g.C.Machine.sound g.L.Link.seen g.L.Link.wrote g.N.Net.seen to) l.places.items;
-      balanced : IsBalanced (g.N.Net.seen l.initial.net) (g.N.Net.seen l.net) l.initial.places.items l.places.items;
-      lent : count_taken l.places.items ≤ (g.N.Net.seen l.net).lent;
+      goes : (cfg : g.row.C-Settings.Denot) (to : Place) (fair whole : Bool) (begun : NetSeen) (writes writes_now : ℕ) (before after : Option (List ℕ)) → Goes (g.C.Machine.meaning cfg) (g.C.Machine.stands cfg) g.C.Machine.seen g.C.Machine.sound g.L.Link.seen g.L.Link.wrote g.N.Net.seen to fair whole begun (g.N.Net.seen l.initial.net) writes writes_now before after l.initial.hall
+          → Goes (g.C.Machine.meaning cfg) (g.C.Machine.stands cfg) g.C.Machine.seen g.C.Machine.sound g.L.Link.seen g.L.Link.wrote g.N.Net.seen to false whole begun (g.N.Net.seen l.net) writes writes_now before after l.hall;
+      accepted : l.hall.accepted ≡ l.initial.hall.accepted;
+      balanced : IsBalanced (g.N.Net.seen l.initial.net) (g.N.Net.seen l.net) l.initial.hall.places.items l.hall.places.items;
+      lent : count_taken l.hall.places.items ≤ (g.N.Net.seen l.net).lent;
       net : IsSameNet (g.N.Net.seen l.initial.net) (g.N.Net.seen l.net);
-      len : vec_len l.places + l.left ≡ vec_len l.initial.places;
+      len : vec_len l.hall.places + l.left ≡ vec_len l.initial.hall.places;
     }

@@ -1,0 +1,25 @@
+use Rattle.std.proofs.Common.{rules, ◌≡◌, true, sym, subst}
+use Rattle.px_link.specs.Net.{NetSeen}
+use Rattle.px_run.specs.Hall.{Goes}
+use Rattle.px_run.proofs.Texts.{within_one}
+use Rattle.px_run.proofs.accepts.accept_next.Goals as goal
+
+pub returns-in-Ok-accept_failed-clause-goes : goal.returns-in-Ok-accept_failed-clause-goes
+returns-in-Ok-accept_failed-clause-goes g c = λ cfg to begun writes writes_now before after h.
+    let P : NetSeen → Type 0 = λ n. Goes (g.C.Machine.meaning cfg) (g.C.Machine.stands cfg) g.C.Machine.seen g.C.Machine.sound g.L.Link.seen g.L.Link.wrote g.N.Net.seen to true true begun n writes writes_now before after c.args.hall.now in
+    c.in-Err-Failed.ensures.goes cfg to begun writes writes_now before after (subst P (sym c.can_accept.ensures.seen) h)
+
+pub returns-in-Err-accept_failed-clause-goes : goal.returns-in-Err-accept_failed-clause-goes
+returns-in-Err-accept_failed-clause-goes g c = λ cfg to begun writes writes_now before after h.
+    let P : NetSeen → Type 0 = λ n. Goes (g.C.Machine.meaning cfg) (g.C.Machine.stands cfg) g.C.Machine.seen g.C.Machine.sound g.L.Link.seen g.L.Link.wrote g.N.Net.seen to true true begun n writes writes_now before after c.args.hall.now in
+    c.in-Err-Failed.ensures.goes cfg to begun writes writes_now before after (subst P (sym c.can_accept.ensures.seen) h)
+
+pub returns-in-Err-OutOfMemory-clause-goes : goal.returns-in-Err-OutOfMemory-clause-goes
+returns-in-Err-OutOfMemory-clause-goes g c = λ cfg to begun writes writes_now before after h.
+    let P : NetSeen → Type 0 = λ n. Goes (g.C.Machine.meaning cfg) (g.C.Machine.stands cfg) g.C.Machine.seen g.C.Machine.sound g.L.Link.seen g.L.Link.wrote g.N.Net.seen to true true begun n writes writes_now before after c.args.hall.now in
+    c.in-Err-OutOfMemory.ensures.goes cfg to begun writes writes_now before after (subst P (sym c.can_accept.ensures.seen) h)
+
+pub returns-in-Err-OutOfMemory-clause-within : goal.returns-in-Err-OutOfMemory-clause-within
+returns-in-Err-OutOfMemory-clause-within g c =
+    let more : c.accepts_more.result ≡ true = search rules in
+    within_one c.args.plan.now.connections c.args.hall.now.accepted c.accept.new.hall.accepted (c.accepts_more.ensures.within more) c.in-Err-OutOfMemory.ensures.accepted
