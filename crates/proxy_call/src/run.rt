@@ -49,7 +49,7 @@ pub fn run<
     ensures { RanAny (given (map string_bytes words.now) (F.files files.old) (told_by (P.refusals pats.old) (P.refusals pats.new) (P.last_refused pats.new)) (F.last_failed files.new) (F.faults files.old) (F.faults files.new))
         (put (K.faults out.old) (K.faults out.new) (K.written out.old) (K.written out.new)) (nets.new.serve ≡ nets.old.serve) (nets.new.run ≡ nets.old.run)
         (Serves N.Link.seen N.Link.wrote N.seen nets.old.serve nets.new.serve (K.faults out.old) (K.faults out.new) (K.written out.old) (K.written out.new))
-        (Runs M.seen nets.old.run.net nets.new.run.net (K.written out.old) (K.written out.new)) result }
+        (Runs L.seen L.wrote M.seen (S.accepts_none nets.new.run.nets) nets.old.run.net nets.new.run.net (K.faults out.old) (K.faults out.new) (K.written out.old) (K.written out.new)) result }
 {
     match asked_by(alloc, words)? {
         Asked::Check { cfg } => write(check(alloc, files, cfg, pats), out),

@@ -44,7 +44,7 @@ pub fn run_many<
     ensures { (words : List (List ℕ)) → IsRun words asked.cfg.now asked.options
         → RanRun (given words (F.files files.old) (told_by (P.refusals pats.old) (P.refusals pats.new) (P.last_refused pats.new)) (F.last_failed files.new) (F.faults files.old) (F.faults files.new))
         (put (K.faults out.old) (K.faults out.new) (K.written out.old) (K.written out.new)) (many.new ≡ many.old)
-        (Runs N.seen many.old.net many.new.net (K.written out.old) (K.written out.new)) result }
+        (Runs L.seen L.wrote N.seen (S.accepts_none many.new.nets) many.old.net many.new.net (K.faults out.old) (K.faults out.new) (K.written out.old) (K.written out.new)) result }
 {
     let cfg = configuration(alloc, files, asked.cfg, pats)?;
     run_clients(alloc, &cfg, asked.options, many, out)?;

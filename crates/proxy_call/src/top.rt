@@ -60,7 +60,7 @@ pub fn htx_proxy<
 
     // Good of `run`: it did what running by the configuration does.
     ensures ran { result ≡ Status.Good → NamesRun (map string_bytes words.now)
-        → RunsTo (map string_bytes words.now) (F.files files.old) (Runs M.seen nets.old.run.net nets.new.run.net (K.written out.old) (K.written out.new)) result }
+        → RunsTo (map string_bytes words.now) (F.files files.old) (Runs L.seen L.wrote M.seen (S.accepts_none nets.new.run.nets) nets.old.run.net nets.new.run.net (K.faults out.old) (K.faults out.new) (K.written out.old) (K.written out.new)) result }
 
     // Good, and NetFault where `serve` or `run` had accepted its configuration, come only where the builder refused no pattern.
     ensures built { result ≡ Status.Good → P.refusals pats.new ≡ P.refusals pats.old }
@@ -90,7 +90,7 @@ pub fn htx_proxy<
     // and then `net` were written; and in `run`, by what that does.
     ensures net_fault { result ≡ Status.NetFault → Serving (map string_bytes words.now) (F.files files.old)
         (λ cfg count. NetFails N.seen (ServedBy N.Link.seen N.Link.wrote N.seen cfg) (address_of cfg.bind) count net_line nets.old.serve nets.new.serve (K.written out.old) (K.written out.new))
-        ⊎ RunsTo (map string_bytes words.now) (F.files files.old) (Runs M.seen nets.old.run.net nets.new.run.net (K.written out.old) (K.written out.new)) result }
+        ⊎ RunsTo (map string_bytes words.now) (F.files files.old) (Runs L.seen L.wrote M.seen (S.accepts_none nets.new.run.nets) nets.old.run.net nets.new.run.net (K.faults out.old) (K.faults out.new) (K.written out.old) (K.written out.new)) result }
 
     // With a fault of the output a prefix of what another status would have written was written: the line of a file only where the files'
     // count rose, a good text, and lines of `serve`, only where the builder refused no pattern. It is said of each link that `serve` accepted
@@ -109,7 +109,7 @@ pub fn htx_proxy<
         × (nets.new.serve ≡ nets.old.serve))
         ⊎ (((P.refusals pats.new ≡ P.refusals pats.old) × Serving (map string_bytes words.now) (F.files files.old)
         (λ cfg count. Breaks N.seen (ServedBy N.Link.seen N.Link.wrote N.seen cfg) (LostBy N.Link.seen N.Link.wrote N.seen cfg) (address_of cfg.bind) count nets.old.serve nets.new.serve (K.written out.old) (K.written out.new)))
-        ⊎ ((P.refusals pats.new ≡ P.refusals pats.old) × RunsTo (map string_bytes words.now) (F.files files.old) (Runs M.seen nets.old.run.net nets.new.run.net (K.written out.old) (K.written out.new)) result)) }
+        ⊎ ((P.refusals pats.new ≡ P.refusals pats.old) × RunsTo (map string_bytes words.now) (F.files files.old) (Runs L.seen L.wrote M.seen (S.accepts_none nets.new.run.nets) nets.old.run.net nets.new.run.net (K.faults out.old) (K.faults out.new) (K.written out.old) (K.written out.new)) result)) }
 
     // The net gains at most the configuration's address among those of binds, and has it where `serve` answers Good.
     ensures binds { result ≡ Status.Good → NamesServe (map string_bytes words.now) → Serving (map string_bytes words.now) (F.files files.old)
@@ -130,7 +130,7 @@ pub fn htx_proxy<
     // What `run` is handed is as it was behind each such refusal, and whatever comes of other words; else `run` did what it does.
     ensures refused_idle { IsRefusal result → nets.new.run ≡ nets.old.run }
     ensures idle { (NamesRun (map string_bytes words.now) → ⊥) → nets.new.run ≡ nets.old.run }
-    ensures left_idle { (nets.new.run ≡ nets.old.run) ⊎ RunsTo (map string_bytes words.now) (F.files files.old) (Runs M.seen nets.old.run.net nets.new.run.net (K.written out.old) (K.written out.new)) result }
+    ensures left_idle { (nets.new.run ≡ nets.old.run) ⊎ RunsTo (map string_bytes words.now) (F.files files.old) (Runs L.seen L.wrote M.seen (S.accepts_none nets.new.run.nets) nets.old.run.net nets.new.run.net (K.faults out.old) (K.faults out.new) (K.written out.old) (K.written out.new)) result }
 
     // Where nothing failed, only memory is in the way of the status that words and files call for.
     ensures complete { (fs : List NamedBytes) → F.files files.old ≡ Some fs

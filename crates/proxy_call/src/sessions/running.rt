@@ -1,7 +1,10 @@
 //! Clients that are served at once, and their sessions.
-ghost use Rattle.std.specs.Prelude.{◌≡◌};
+ghost use Rattle.std.specs.Prelude.{◌≡◌, ◌⊎◌, OnOk};
 ghost use Rattle.http_rules.specs.Valid.{IsValid};
-ghost use Rattle.proxy_call.specs.Running.{Runs};
+ghost use Rattle.px_link.specs.Net.{Bound, address_of};
+ghost use Rattle.px_link.specs.Told.{GainsFront};
+ghost use Rattle.proxy_call.specs.Lines.{listening_line};
+ghost use Rattle.proxy_call.specs.Running.{Runs, RanLoop, NotBegun, WroteListening};
 
 use crate::lines::listening_line;
 use crate::sessions::cores::RecordCores;
@@ -52,14 +55,19 @@ fn times_of(timeouts: &Timeouts) -> Times {
 }
 
 /// Writes that it listens, and where. An output that is gone is in nobody's way.
-fn write_listening<K: Sink>(
-    alloc: Global,
-    config: &Config,
-    out: &mut K,
-) -> Result<(), OutOfMemory> {
-    let line = listening_line(alloc, &config.bind)?;
-    let _ = out.write_all(line.as_slice());
-    Ok(())
+fn write_listening<K: Sink>(alloc: Global, config: &Config, out: &mut K) -> Result<(), OutOfMemory>
+    ensures wrote { OnOk result (WroteListening (address_of config.now.bind) (K.faults out.old) (K.faults out.new) (K.written out.old) (K.written out.new)) }
+    ensures front { GainsFront (K.written out.old) (K.written out.new) (listening_line (address_of config.now.bind)) }
+{
+    let line = match listening_line(alloc, &config.bind) {
+        Ok(line) => line,
+        Err(OutOfMemory) => return Err(OutOfMemory),
+    };
+    match out.write_all(line.as_slice()) {
+        Ok(()) => Ok(()),
+        Err(Fault::Failed) => Ok(()),
+        Err(Fault::OutOfMemory) => Err(OutOfMemory),
+    }
 }
 
 /// Serves many clients at once with cores of this process. The net is bound already.
@@ -79,6 +87,9 @@ fn serve_here<
     requires valid { IsValid config.now }
     ensures lent { (N.seen many.new.net).lent ≡ (N.seen many.old.net).lent }
     ensures bound { (N.seen many.new.net).bound ≡ (N.seen many.old.net).bound }
+    ensures did { (first : N) → Bound (N.seen first) (N.seen many.old.net) (address_of config.now.bind)
+        → RanLoop L.seen L.wrote N.seen (S.accepts_none many.new.nets) first many.new.net (K.faults out.old) (K.faults out.new) (K.written out.old) (K.written out.new) config.now options result
+        ⊎ NotBegun (N.seen first) (N.seen many.new.net) (K.written out.old) (K.written out.new) (address_of config.now.bind) result }
 {
     bounded();
     total();
@@ -89,8 +100,9 @@ fn serve_here<
     let Ok(sets) = cores_for(alloc, &cores, options.sets.unwrap_or(SETS)) else {
         return Err(RunFault::OutOfMemory);
     };
-    if write_listening(alloc, config, out).is_err() {
-        return Err(RunFault::OutOfMemory);
+    match write_listening(alloc, config, out) {
+        Ok(()) => {}
+        Err(OutOfMemory) => return Err(RunFault::OutOfMemory),
     }
     many.nets.heed(options.until_input_ends);
     let plan = Plan {
@@ -154,7 +166,7 @@ pub fn run_clients<
     out: &mut K,
 ) -> Result<(), RunFault>
     requires valid { IsValid config.now }
-    ensures { Runs N.seen many.old.net many.new.net (K.written out.old) (K.written out.new) config.now options result }
+    ensures { Runs L.seen L.wrote N.seen (S.accepts_none many.new.nets) many.old.net many.new.net (K.faults out.old) (K.faults out.new) (K.written out.old) (K.written out.new) config.now options result }
 {
     match many.net.bind(&config.bind) {
         Ok(()) => {}
