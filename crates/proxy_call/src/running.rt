@@ -41,7 +41,7 @@ pub fn run_many<
     out: &mut K,
     pats: &mut P,
 ) -> Result<(), Stop<'a>>
-    ensures { (words : List (List ℕ)) → IsRun words asked.cfg.now asked.options
+    ensures { (words : List (List ℕ)) → IsRun words asked.now.cfg.now asked.now.options
         → RanRun (given words (F.files files.old) (told_by (P.refusals pats.old) (P.refusals pats.new) (P.last_refused pats.new)) (F.last_failed files.new) (F.faults files.old) (F.faults files.new))
         (put (K.faults out.old) (K.faults out.new) (K.written out.old) (K.written out.new)) (many.new ≡ many.old)
         (Runs L.seen L.wrote N.seen (S.accepts_none many.new.nets) many.old.net many.new.net (K.faults out.old) (K.faults out.new) (K.written out.old) (K.written out.new)) result }

@@ -30,7 +30,7 @@ pub fn serve<'a, F: Files, N: Net, K: Sink, P: Patterns>(
     out: &mut K,
     pats: &mut P,
 ) -> Result<(), Stop<'a>>
-    ensures { (words : List (List ℕ)) → IsServe words asked.cfg.now asked.connections
+    ensures { (words : List (List ℕ)) → IsServe words asked.now.cfg.now asked.now.connections
         → Ran (given words (F.files files.old) (told_by (P.refusals pats.old) (P.refusals pats.new) (P.last_refused pats.new)) (F.last_failed files.new) (F.faults files.old) (F.faults files.new))
         (put (K.faults out.old) (K.faults out.new) (K.written out.old) (K.written out.new)) (net.new ≡ net.old)
         (Serves N.Link.seen N.Link.wrote N.seen net.old net.new (K.faults out.old) (K.faults out.new) (K.written out.old) (K.written out.new)) result }
