@@ -1,0 +1,5 @@
+mod Lines
+mod Reading
+mod Replies
+mod Sessions
+mod Finals
