@@ -3,3 +3,4 @@ mod Reading
 mod Replies
 mod Sessions
 mod Finals
+mod Interim

@@ -105,7 +105,7 @@ module _ (list : RuleList) (side : Side) (size : ℕ) (env : Env) (before : List
                 ∙ (ap (λ (s : Step). lines ++ lines_from list.which at (s ∷ steps_from size others on next)) l.0
                 ∙ (sym (ap (λ (c : Course). lines ++ lines_from list.which at (steps_behind c (steps_from size others))) e) ∙ steps)));
           })
-      by (Over meant comes) e l = absurd l
+      by (Over meant _) e l = absurd l
 
   -- one that decides
   pub ends : (step : Step) (verdict : Verdict) (reply : List Block) (teller : Teller) → teller.vars ≡ left_vars → teller.lines.items ≡ lines ++ line_of list.which at step ∷ []

@@ -1,7 +1,7 @@
 -- What a session sends its client first is the status that is told.
 use Rattle.std.proofs.Common.{◌≡◌, ◌≢◌, ℕ, List, [], ◌∷◌, ◌++◌, Bool, true, false, map, refl, sym, ap, subst, ◌∙◌}
-use Rattle.std.specs.Prelude.{Option, Some, None, All, ⊤, if◌then◌else◌}
-use Rattle.std.specs.List.{flat_map}
+use Rattle.std.specs.Prelude.{Option, Some, None, ⊤, if◌then◌else◌}
+use Rattle.std.specs.List.{flat_map, AllByRecursion}
 use Rattle.std.proofs.lemmas.Bool.{false≢true}
 use Rattle.std.proofs.lemmas.List.{append_assoc}
 use Rattle.http_model.specs.declared.Limits.{Limits}
@@ -23,7 +23,8 @@ use Rattle.session_model.specs.Meaning.{Meaning, is_interim, is_head_request}
 use Rattle.session_model.specs.Asking.{Asker, Forwarded, Request, Asked, Nothing, Refused, Replied, Sends, asker_of, asked_of, request_by}
 use Rattle.session_model.specs.Amending.{amended, reply_sent, refusal_sent, plain_refusal}
 use Rattle.session_model.specs.Answering.{Final, Refuses, Replies, Answers, Plain, AnswersFrom, AnswersReading, AnswersBy, AnswersWith, AnswersAmended, BeginsWithInterim, sent_interim, answer_by, response_fits, response_declares_too_much}
-use Rattle.session_model.specs.Session.{Exchange, After, Goes, Serves, ServesOpen, ClientGets, IsSaid, IsRefused, IsReplied, SpellsFinal, Follow, GoesOn, Out, out_of, first_bit, Session, interim_text}
+use Rattle.http_model.specs.declared.Close.TheVariants.{Clean, Failed}
+use Rattle.session_model.specs.Session.{Exchange, After, Goes, Serves, ServesOpen, ServerGets, ClientGets, IsSaid, IsRefused, IsReplied, SpellsFinal, Follow, GoesOn, Out, out_of, first_bit, Session, interim_text}
 use Rattle.px_sample.specs.Variables.{Variables, no_variables}
 use Rattle.http_rules.specs.declared.config.Config.{Config}
 use Rattle.http_rules.specs.Lives.{answering}
@@ -54,7 +55,7 @@ spelled whole no_body m text more code s is =
     }
 
 -- interim heads may stand in front
-behind_interim : (heads : List Head) → All (λ head. is_interim head ≡ true) heads → (code : ℕ) (text : List ℕ) → (b : BeginsWithStatus code text) → b.interim ≡ [] → BeginsWithStatus code (interim_text heads ++ text)
+behind_interim : (heads : List Head) → AllByRecursion (λ head. is_interim head ≡ true) heads → (code : ℕ) (text : List ℕ) → (b : BeginsWithStatus code text) → b.interim ≡ [] → BeginsWithStatus code (interim_text heads ++ text)
 behind_interim heads are code text b none =
     record {
       interim = heads;
@@ -168,11 +169,11 @@ module _ (cfg : Config) (asker : Asker) where
       rest_of (reading.Begins received rest) = rest
 
   -- what the client is sent of interim heads is interim heads
-  interim_sent : (heads : List Head) (stream : List ℕ) (P : List ℕ → Type 0) → BeginsWithInterim (meaning_of cfg) asker heads stream P → All (λ head. is_interim head ≡ true) (map finish_interim heads)
+  interim_sent : (heads : List Head) (stream : List ℕ) (P : List ℕ → Type 0) → BeginsWithInterim (meaning_of cfg) asker heads stream P → AllByRecursion (λ head. is_interim head ≡ true) (map finish_interim heads)
   interim_sent [] stream P h = tt
   interim_sent (head ∷ heads) stream P h = (ap (λ (x : Head). is_interim x) h.4 ∙ h.3, interim_sent heads h.1 P h.5)
 
-  sent_by : (t : Bool) (heads : List Head) → All (λ head. is_interim head ≡ true) (map finish_interim heads) → All (λ head. is_interim head ≡ true) (if t then map finish_interim heads else [])
+  sent_by : (t : Bool) (heads : List Head) → AllByRecursion (λ head. is_interim head ≡ true) (map finish_interim heads) → AllByRecursion (λ head. is_interim head ≡ true) (if t then map finish_interim heads else [])
   sent_by true heads all = all
   sent_by false heads all = tt
 
@@ -183,7 +184,7 @@ module _ (cfg : Config) (asker : Asker) where
       let answers : AnswersFrom (meaning_of cfg) asker request.vars server g.answered = subst (λ (k : Asker). AnswersFrom (meaning_of cfg) k request.vars server g.answered) is g.answers in
       let text : SpellsFinal (meaning_of cfg) asker g.answered.final g.final = subst (λ (k : Asker). SpellsFinal (meaning_of cfg) k g.answered.final g.final) is g.spelled in
       let same : Some (final_line (meaning_of cfg) asker g.answered.final) ≡ traced.answer = meets one (answering request.vars) server.ending traced g.answered.final answers.heads a.heads server.bytes answers.final a.begins in
-      let all : All (λ head. is_interim head ≡ true) g.answered.interim = subst (λ (hs : List Head). All (λ head. is_interim head ≡ true) hs) (sym answers.interim) (sent_by asker.is_http_11 answers.heads (interim_sent answers.heads server.bytes _ answers.final)) in
+      let all : AllByRecursion (λ head. is_interim head ≡ true) g.answered.interim = subst (λ (hs : List Head). AllByRecursion (λ head. is_interim head ≡ true) hs) (sym answers.interim) (sent_by asker.is_http_11 answers.heads (interim_sent answers.heads server.bytes _ answers.final)) in
       let t = final_text (meaning_of cfg) asker g.answered.final g.final more (final_line (meaning_of cfg) asker g.answered.final) text refl in
       let whole_text : client ++ more ≡ interim_text g.answered.interim ++ (g.final ++ more) = ap (λ (c : List ℕ). c ++ more) g.text ∙ append_assoc (interim_text g.answered.interim) g.final more in
       subst (λ (o : Option ℕ). TellsStatus o (client ++ more)) same
@@ -210,17 +211,20 @@ module _ (cfg : Config) (one : OneReading) (more : List ℕ) where
   vars_is received head vars ending (reading.Broke bytes) = refl
   vars_is received head vars ending (reading.Bad bytes) = refl
 
-  serves : (request : Request Variables) (asker : Asker) (vars : Variables) (server : Stream) (stopped : Bool) (e : Exchange Variables) (traced : Traced) (cut : Option ℕ) (bit : Option Bool) → request.cut ≡ cut → e.bit ≡ bit → e.bit ≢ Some false
-      → request.asker ≡ asker → request.vars ≡ vars → AnswerOf cfg asker vars server.bytes traced → Serves (meaning_of cfg) request server stopped e → TellsStatus traced.answer (e.client ++ more)
-  serves request asker vars server stopped e traced None None c t not is same a h =
-      let k : Rattle.session_model.specs.Session.ServerGets request.message true stopped Rattle.http_model.specs.declared.Close.TheVariants.Clean e.connects × ClientGets (meaning_of cfg) request true server e.client e.after = rw (c, t) at h in
-      gets cfg asker one request true server e.client more e.after traced is k.1 (subst (λ (v : Variables). AnswerOf cfg asker v server.bytes traced) (sym same) a)
-  serves request asker vars server stopped e traced None (Some begun) c t not is same a h = let k : ⊥ = rw (c, t) at h in absurd k
-  serves request asker vars server stopped e traced (Some code) None c t not is same a h = let k : ⊥ = rw (c, t) at h in absurd k
-  serves request asker vars server stopped e traced (Some code) (Some true) c t not is same a h =
-      let k : Rattle.session_model.specs.Session.ServerGets request.message false stopped Rattle.http_model.specs.declared.Close.TheVariants.Failed e.connects × ClientGets (meaning_of cfg) request false server e.client e.after = rw (c, t) at h in
-      gets cfg asker one request false server e.client more e.after traced is k.1 (subst (λ (v : Variables). AnswerOf cfg asker v server.bytes traced) (sym same) a)
-  serves request asker vars server stopped e traced (Some code) (Some false) c t not is same a h = absurd (not t)
+  serves : (received : Received) (head : Head) (vars : Variables) (ending : Ending) (body : BodyReading) (server : Stream) (stopped : Bool) (e : Exchange Variables) (traced : Traced) (cut : Option ℕ) (bit : Option Bool)
+      → (request_by (meaning_of cfg) received head vars ending body).cut ≡ cut → e.bit ≡ bit → e.bit ≢ Some false → AnswerOf cfg (asker_of received head) vars server.bytes traced
+      → Serves (meaning_of cfg) (request_by (meaning_of cfg) received head vars ending body) server stopped e → TellsStatus traced.answer (e.client ++ more)
+  serves received head vars ending body server stopped e traced None None c t not a h =
+      let k : ServerGets (request_by (meaning_of cfg) received head vars ending body).message true stopped Clean e.connects × ClientGets (meaning_of cfg) (request_by (meaning_of cfg) received head vars ending body) true server e.client e.after = rw (c, t) at h in
+      gets cfg (asker_of received head) one (request_by (meaning_of cfg) received head vars ending body) true server e.client more e.after traced (asker_is received head vars ending body) k.1
+      (subst (λ (v : Variables). AnswerOf cfg (asker_of received head) v server.bytes traced) (sym (vars_is received head vars ending body)) a)
+  serves received head vars ending body server stopped e traced None (Some begun) c t not a h = let k : ⊥ = rw (c, t) at h in absurd k
+  serves received head vars ending body server stopped e traced (Some code) None c t not a h = let k : ⊥ = rw (c, t) at h in absurd k
+  serves received head vars ending body server stopped e traced (Some code) (Some true) c t not a h =
+      let k : ServerGets (request_by (meaning_of cfg) received head vars ending body).message false stopped Failed e.connects × ClientGets (meaning_of cfg) (request_by (meaning_of cfg) received head vars ending body) false server e.client e.after = rw (c, t) at h in
+      gets cfg (asker_of received head) one (request_by (meaning_of cfg) received head vars ending body) false server e.client more e.after traced (asker_is received head vars ending body) k.1
+      (subst (λ (v : Variables). AnswerOf cfg (asker_of received head) v server.bytes traced) (sym (vars_is received head vars ending body)) a)
+  serves received head vars ending body server stopped e traced (Some code) (Some false) c t not a h = absurd (not t)
 
   -- a head that goes to a server
   sends : (f : Forwarded Variables) (entries : List (Option ServerEntry)) (servers left : List Server) (e : Exchange Variables) (traced : Traced) → AreEntries entries servers → e.bit ≢ Some false
@@ -233,8 +237,7 @@ module _ (cfg : Config) (one : OneReading) (more : List ℕ) where
   sends f (None ∷ entries) (Open server stopped ∷ servers) left e traced are not a h = absurd are.0
   sends f (Some entry ∷ entries) (Open server stopped ∷ servers) left e traced are not a h =
       let body : BodyReading = h.1.0 in
-      serves (request_by (meaning_of cfg) f.received f.head f.vars f.rest.ending body) (asker_of f.received f.head) f.vars server stopped e traced _ _ refl refl not
-      (asker_is f.received f.head f.vars f.rest.ending body) (vars_is f.received f.head f.vars f.rest.ending body)
+      serves f.received f.head f.vars f.rest.ending body server stopped e traced (request_by (meaning_of cfg) f.received f.head f.vars f.rest.ending body).cut e.bit refl refl not
       (subst (λ (s : Stream). AnswerOf cfg (asker_of f.received f.head) f.vars s.bytes traced) (sym are.0) a) h.1.2
 
   goes : (asked : Asked Variables) (entries : List (Option ServerEntry)) (servers left : List Server) (e : Exchange Variables) (traced : Traced) → AreEntries entries servers → e.bit ≢ Some false

@@ -1,5 +1,6 @@
 -- What a session of the connection that is explained sends its client first.
-use Rattle.std.specs.Prelude.{◌≡◌, ◌≢◌, ℕ, List, [], ◌∷◌, ◌++◌, Bool, true, false, Option, Some, None, ⊤, All}
+use Rattle.std.specs.Prelude.{◌≡◌, ◌≢◌, ℕ, List, [], ◌∷◌, ◌++◌, Bool, true, false, Option, Some, None, ⊤}
+use Rattle.std.specs.List.{AllByRecursion}
 use Rattle.http_model.specs.Head.{Head}
 use Rattle.http_model.specs.Spelling.{head_text}
 use Rattle.session_model.specs.Meaning.{is_interim}
@@ -27,7 +28,7 @@ AreEntries (entry ∷ entries) (server ∷ servers) = IsEntry entry server × Ar
 -- the text is interim heads, and then one with this status
 pub record BeginsWithStatus (code : ℕ) (text : List ℕ) : Type 0 where
   pub interim : List Head
-  pub are_interim : All (λ head. is_interim head ≡ true) interim
+  pub are_interim : AllByRecursion (λ head. is_interim head ≡ true) interim
   pub head : Head
   pub rest : List ℕ
   pub text_is : text ≡ interim_text interim ++ (head_text head ++ rest)
