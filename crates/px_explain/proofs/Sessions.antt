@@ -43,7 +43,7 @@ OneReading = (side : Reader) → (limits : Limits) (stream : List ℕ) (r q : He
 -- ---- texts
 
 -- a text that spells a message begins with its status
-spelled : (whole no_body : Bool) (m : Message) (text more : List ℕ) (code : ℕ) → Spells whole no_body m text → code_of m.head.line ≡ code → BeginsWithStatus code (text ++ more)
+abbrev spelled : (whole no_body : Bool) (m : Message) (text more : List ℕ) (code : ℕ) → Spells whole no_body m text → code_of m.head.line ≡ code → BeginsWithStatus code (text ++ more)
 spelled whole no_body m text more code s is =
     record {
       interim = [];

@@ -15,7 +15,7 @@ ghost use Rattle.px_explain.specs.Traced.{passed as spec_passed, ruled, AnswerOf
 ghost use Rattle.px_explain.specs.Walked.{IsReady, Tells, IsTold, IsMeant, IsAsker, IsLeft, Finishes};
 
 use crate::heads::{Found, Head, find_final};
-use crate::saying::{PLAIN, code_of, refuse, say};
+use crate::saying::{code_of, plain_code, refuse, say};
 use crate::telling::{RuleList, passed, tell_rules};
 use crate::trace::Which;
 use crate::walk::Walk;
@@ -156,10 +156,10 @@ fn amend(
     };
     let verdict = tell_rules(list, side, &mut walk.teller, &mut walk.msg, &mut walk.said)?;
     if !passed(verdict) {
-        return Ok(PLAIN);
+        return Ok(plain_code(&mut walk.said));
     }
     if finish_response(&mut walk.msg, finish.framing, finish.declared, finish.close).is_err() {
-        return Ok(PLAIN);
+        return Ok(plain_code(&mut walk.said));
     }
     Ok(code_of(&walk.msg))
 }

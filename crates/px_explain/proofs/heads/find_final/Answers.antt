@@ -11,8 +11,8 @@ pub returns-in-Refused-clause-found : goal.returns-in-Refused-clause-found
 returns-in-Refused-clause-found c = λ cfg asker limits asked.
     refused cfg asker c.args.limits c.args.head_asked c.args.stream.now c.bytes_from-rest.result.now c.heads.from limits asked c.bytes_from-rest.ensures c.find_head.new.to.blocks c.in-Refused.code (c.heads.invariant.interim cfg asker limits asked) c.in-Refused.ensures.found
 
-pub returns-in-Head-clause-found : goal.returns-in-Head-clause-found
-returns-in-Head-clause-found c = λ cfg asker limits asked.
+pub returns-then-not-is_interim-clause-found : goal.returns-then-not-is_interim-clause-found
+returns-then-not-is_interim-clause-found c = λ cfg asker limits asked.
     let b = c.in-Head.ensures.found in
     final cfg asker c.args.limits c.args.head_asked c.args.stream.now c.bytes_from-rest.result.now c.heads.from limits asked c.bytes_from-rest.ensures c.find_head.new.to.blocks c.in-Head.head (c.heads.invariant.interim cfg asker limits asked) b
     (sym (c.is_interim.ensures b.received.head b.stands.blocks_are) ∙ c.if-not-is_interim.true)

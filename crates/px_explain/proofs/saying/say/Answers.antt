@@ -1,4 +1,5 @@
-use Rattle.std.proofs.Common.{◌≡◌, ℕ, List, sym, ap, ◌∙◌, refl}
+use Rattle.std.proofs.Common.{ℕ, sym, ap, ◌∙◌}
+use Rattle.std.specs.Prelude.{Some}
 use Rattle.http_rules.specs.Rules.{rules_of}
 use Rattle.session_model.specs.Env.{reply_env}
 use Rattle.px_explain.proofs.Replies.{failed, passed, sized, reply_at, status_failed, status_long, status_sent, ends}
@@ -12,7 +13,7 @@ returns-then-not-passed c = λ m reply.
     let told = sized _ _ _ _ env _ _ _ _ _ c.requires.ready.said (c.in_ok-verdict.ensures.told env (reply_at c.bytes.result walk.method.bytes m walk.teller.vars walk.said.blocks c.bytes.ensures.bytes reply)) in
     record {
       lines = told.lines;
-      status = sym (status_failed cfg m walk.method.bytes walk.teller.vars (failed _ (rules_of cfg.limits.bufsize cfg.after env) _ _ _ _ told.leaves (sym c.passed.ensures ∙ c.if-not-passed.true)));
+      status = ap (λ (n : ℕ). Some n) c.plain_code.ensures.code ∙ sym (status_failed cfg m walk.method.bytes walk.teller.vars (failed _ (rules_of cfg.limits.bufsize cfg.after env) _ _ _ _ told.leaves (sym c.passed.ensures ∙ c.if-not-passed.true)));
     }
 
 pub has_room_to_close-requires : goal.has_room_to_close-requires
@@ -33,7 +34,7 @@ returns-then-not-has_room_to_close c = λ m reply.
     let p = passed _ (rules_of cfg.limits.bufsize cfg.after env) _ _ _ _ told.leaves (sym c.passed.ensures ∙ c.if-not-passed.false) in
     record {
       lines = told.lines;
-      status = sym (status_long cfg m walk.method.bytes walk.teller.vars reply.none c.body_stays.ensures _ _ p c.replies_of_messages.ensures.close _ (c.in_ok-verdict.ensures.size ∙ c.requires.ready.said) _ c.has_room_to_close.ensures c.if-not-has_room_to_close.true);
+      status = ap (λ (n : ℕ). Some n) c.plain_code-then-not-has_room_to_close.ensures.code ∙ sym (status_long cfg m walk.method.bytes walk.teller.vars reply.none c.body_stays.ensures _ _ p c.replies_of_messages.ensures.close _ (c.in_ok-verdict.ensures.size ∙ c.requires.ready.said) _ c.has_room_to_close.ensures c.if-not-has_room_to_close.true);
     }
 
 pub returns : goal.returns
