@@ -2,30 +2,48 @@
 use Rattle.std.proofs.Common.{inl, inr, ◌≡◌, ◌≤◌, ℕ, List, [], ◌∷◌, ◌++◌, Bool, true, false, refl, sym, ap, subst, ◌∙◌}
 use Rattle.std.specs.Prelude.{Option, Some, nat_le, ◌↔◌, not, ◌&&◌}
 use Rattle.std.proofs.lemmas.Bool.{cases_Bool, le-leb, leb-true, false≢true}
+use denote.Ref.{Bor}
 use Rattle.std.proofs.lemmas.List.{append-nil}
 use Rattle.http_model.specs.Block.{Block}
 use Rattle.http_model.specs.Blocks.{load, Fits}
 use Rattle.http_model.specs.declared.Framing.{Framing}
 use Rattle.http_model.specs.Head.{Head, head_blocks, front_blocks}
-use Rattle.http_model.specs.Finish.{finish_response}
+use Rattle.http_model.specs.Finish.{finish_response, response_framing}
 use Rattle.http_model.specs.Reading.{Received}
 use Rattle.session_model.specs.Asking.{Asker}
-use Rattle.session_model.specs.Answering.{finished_response, response_fits, response_declares_too_much}
-use Rattle.session_model.specs.Env.{Amended, Edited, Plain}
+use Rattle.session_model.specs.Answering.{declared_for, finished_response, response_fits, response_declares_too_much}
+use Rattle.session_model.specs.Env.{Pass, Amended, Edited, Plain}
 use Rattle.session_model.specs.Meaning.{declares_too_much, is_bodiless}
 use Rattle.px_sample.specs.Variables.{Variables}
 use Rattle.http_rules.specs.declared.config.Config.{Config}
+use Rattle.http_rules.specs.declared.rule.rule.Rule.{Rule}
+use Rattle.http_rules.specs.declared.action.side.Side.TheVariants.{Answer}
 use Rattle.http_rules.specs.Action.Given.{Env}
+use Rattle.http_rules.specs.Action.Outcome.{IsAt}
 use Rattle.http_rules.specs.Rules.{Comes, rules_of, after_of, amended_by}
-use Rattle.forward_core.specs.Meaning.Product.{filters_of, meaning_of}
+use Rattle.forward_core.specs.Meaning.Product.{filters_of, meaning_of, replaces}
 use Rattle.px_explain.specs.declared.answering.Finish.{Finish}
 use Rattle.px_explain.specs.declared.heads.Head.{Head as FoundHead}
 use Rattle.px_explain.specs.declared.trace.Which.TheVariants.{After}
 use Rattle.px_explain.specs.declared.walk.Walk.{Walk}
 use Rattle.px_explain.specs.Told.{told}
 use Rattle.px_explain.specs.Traced.{Traced, code_of, plain_code, refused, answer_code, passed}
-use Rattle.px_explain.specs.Walked.{Tells, IsMeant, Finishes}
+use Rattle.px_explain.specs.Walked.{Tells, IsMeant, IsLeft, Finishes}
+use Rattle.px_explain.proofs.Methods.{head_alone}
 use Rattle.px_explain.proofs.Replies.{Passed, BodyStays}
+
+-- the head that rules left of one with no body behind it stands there alone
+pub head_left : (size : ℕ) (rules : List Rule) (env left : Env) (blocks : List Block) → BodyStays → env.body ≡ [] → rules_of size rules env ≡ Pass left → blocks ≡ front_blocks left.head left.body → blocks ≡ head_blocks left.head
+head_left size rules env left blocks stays alone passed is = head_alone blocks left.head left.body is (stays size rules env left passed ∙ alone)
+
+-- what the rules of responses left stands there for those on all that the client is sent
+pub left_at : (bor : Bor (List ℕ)) (asker : Asker) (env : Env) (walk : Walk) → bor.now ≡ walk.method.bytes → walk.method.bytes ≡ asker.method → IsLeft asker env walk → IsAt (Answer bor) env walk.msg.blocks walk.teller.vars
+left_at bor asker env walk same is l =
+    record {
+      on = (l.answers, l.method ∙ (sym is ∙ sym same));
+      blocks_are = l.blocks ∙ (sym (append-nil (head_blocks env.head)) ∙ ap (λ (b : List ℕ). front_blocks env.head b) (sym l.body));
+      vars_are = l.vars;
+    }
 
 module _ (cfg : Config) (asker : Asker) (received : Received) (env : Env) where
   -- whether its declared length passes a limit, by what is kept of the head
@@ -54,18 +72,18 @@ module _ (cfg : Config) (asker : Asker) (received : Received) (env : Env) where
     edits = ap (λ (c : Comes). amended_by c) p.is
 
     -- the head that they left stands there
-    pub head_left : blocks ≡ head_blocks p.left.head
-    head_left =
-        p.blocks_are ∙ (ap (λ (b : List ℕ). front_blocks p.left.head b) (stays cfg.limits.bufsize cfg.after env p.left p.is ∙ alone) ∙ append-nil (head_blocks p.left.head))
+    pub stands : blocks ≡ head_blocks p.left.head
+    stands = head_left cfg.limits.bufsize cfg.after env p.left blocks stays alone p.is p.blocks_are
 
     module _ (finish : Finish) (f : Finishes cfg asker received finish) where
       finished : finish_response p.left.head finish.framing finish.declared finish.close ≡ finished_response (meaning_of cfg) asker received p.left.head
       finished =
           ap (λ (x : Framing). finish_response p.left.head x finish.declared finish.close) f.framing
-          ∙ (ap (λ (x : Option ℕ). finish_response p.left.head _ x finish.close) f.declared ∙ ap (λ (x : Bool). finish_response p.left.head _ _ x) f.close)
+          ∙ (ap (λ (x : Option ℕ). finish_response p.left.head (response_framing (replaces cfg.res_filters) asker.is_http_11 received.framing) x finish.close) f.declared
+          ∙ ap (λ (x : Bool). finish_response p.left.head (response_framing (replaces cfg.res_filters) asker.is_http_11 received.framing) (declared_for (meaning_of cfg) asker received) x) f.close)
 
       -- whether it fits as it is finished
-      fits_so : (size : ℕ) → size ≡ cfg.limits.bufsize → (fits : Bool) → ((fits ≡ true) ↔ (load (head_blocks (finish_response p.left.head finish.framing finish.declared finish.close)) ≤ size)) → response_fits (meaning_of cfg) asker received p.left.head ≡ fits
+      pub fits_so : (size : ℕ) → size ≡ cfg.limits.bufsize → (fits : Bool) → ((fits ≡ true) ↔ (load (head_blocks (finish_response p.left.head finish.framing finish.declared finish.close)) ≤ size)) → response_fits (meaning_of cfg) asker received p.left.head ≡ fits
       fits_so size sized fits h =
           sym (ap (λ (x : Head). nat_le (load (head_blocks x)) cfg.limits.bufsize) finished) ∙ (ap (λ (n : ℕ). nat_le (load (head_blocks (finish_response p.left.head finish.framing finish.declared finish.close))) n) (sym sized) ∙ by fits h)
         where

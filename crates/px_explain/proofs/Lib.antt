@@ -4,3 +4,9 @@ mod Replies
 mod Sessions
 mod Finals
 mod Interim
+mod Methods
+mod Walking
+mod Finding
+mod Judged
+mod Asked
+mod Begun

@@ -27,7 +27,7 @@ use http_rules::action::Side;
 use http_rules::{
     Config, Filters, OutOfMemory, Verdict, begin_answer, body_stays, replies_are_plain,
 };
-use htx_arena::Arena;
+use htx_arena::{Arena, Full};
 use htx_view::response_parts;
 use px_reply::finish_response;
 
@@ -158,10 +158,10 @@ fn amend(
     if !passed(verdict) {
         return Ok(plain_code(&mut walk.said));
     }
-    if finish_response(&mut walk.msg, finish.framing, finish.declared, finish.close).is_err() {
-        return Ok(plain_code(&mut walk.said));
+    match finish_response(&mut walk.msg, finish.framing, finish.declared, finish.close) {
+        Ok(()) => Ok(code_of(&walk.msg)),
+        Err(Full) => Ok(plain_code(&mut walk.said)),
     }
-    Ok(code_of(&walk.msg))
 }
 
 /// A server's final head stands in the array, and the rules run on it.
@@ -185,7 +185,8 @@ fn judge(
         which: Which::Response,
         rules: &config.response,
     };
-    match tell_rules(list, side, &mut walk.teller, &mut walk.msg, &mut walk.said)? {
+    let verdict = tell_rules(list, side, &mut walk.teller, &mut walk.msg, &mut walk.said)?;
+    match verdict {
         Verdict::Pass => amend(config, walk, head, finish),
         Verdict::Deny(code) => refuse(config, walk, code),
         Verdict::Fail(_) => refuse(config, walk, 500),

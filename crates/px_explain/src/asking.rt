@@ -34,7 +34,7 @@ use http_rules::action::Side;
 use http_rules::{
     Config, Filters, OutOfMemory, Verdict, begin_answer, body_stays, replies_are_plain,
 };
-use htx_arena::Arena;
+use htx_arena::{Arena, Full};
 use htx_view::request_parts;
 use px_reply::finish_request;
 use px_sample::Buf;
@@ -134,10 +134,10 @@ fn forward(
         return refuse_asked(config, walk, 413);
     }
     let framing = request_framing(replaces(&config.req_filters), head.framing);
-    if finish_request(&mut walk.msg, framing).is_err() {
-        return refuse_asked(config, walk, 500);
+    match finish_request(&mut walk.msg, framing) {
+        Ok(()) => serve(config, walk, kept, servers),
+        Err(Full) => refuse_asked(config, walk, 500),
     }
-    serve(config, walk, kept, servers)
 }
 
 /// The head of the request stands in the array, and the rules run on it.
