@@ -10,7 +10,7 @@ use Rattle.http_model.specs.Finish.{finish_request, request_framing}
 use Rattle.http_model.specs.Head.{Head, Message, head_blocks}
 use Rattle.http_model.specs.Reading.{Received}
 use Rattle.session_model.specs.Stream.{Stream}
-use Rattle.session_model.specs.Asking.{Asker, Forwarded, Asked, Sends, Refused, asker_of, forwards, asked_by, request_fits}
+use Rattle.session_model.specs.Asking.{Forwarded, Asked, Sends, asker_of, forwards, asked_by, request_fits}
 use Rattle.session_model.specs.Env.{Pass, Reply, Deny, Fail, request_env, method_of, method_in}
 use Rattle.session_model.specs.Meaning.{declares_too_much}
 use Rattle.px_sample.specs.Variables.{Variables}
@@ -26,11 +26,10 @@ use Rattle.forward_core.specs.Request.Kept.{IsKept}
 use Rattle.rec_format.specs.Entries.{ServerEntry}
 use Rattle.rec_format.specs.Read.{servers as entries}
 use Rattle.rec_format.specs.declared.record.ServerSpec.{ServerSpec}
-use Rattle.px_explain.specs.declared.heads.Head.{Head as FoundHead}
 use Rattle.px_explain.specs.declared.trace.Which.TheVariants.{Request}
 use Rattle.px_explain.specs.declared.walk.Walk.{Walk}
 use Rattle.px_explain.specs.Told.{told}
-use Rattle.px_explain.specs.Traced.{Traced, AnswerOf, Serves, Answers, refused, replied, behind_lines}
+use Rattle.px_explain.specs.Traced.{AnswerOf, Serves, Answers, refused, replied}
 use Rattle.px_explain.specs.Walked.{Tells, IsTold, IsToldBehind, IsMeant, IsAsker}
 use Rattle.px_explain.specs.Walked as held
 use Rattle.px_explain.proofs.Methods.{method_front}
@@ -60,11 +59,6 @@ served cfg f old new answer list server is vars t =
 module _ (cfg : Config) (received : Received) (left : Head) (rest : Stream) (old new : Walk) (answer : ℕ) (servers : List (Option ServerEntry)) (method : old.method.bytes ≡ method_of left.line) where
   refuses : (code : ℕ) → Tells old new answer (refused cfg code old.method.bytes (answering old.teller.vars)) → Tells old new answer (refused cfg code (method_of left.line) (answering old.teller.vars))
   refuses code t = refused_as cfg old new answer code old.method.bytes (method_of left.line) (answering old.teller.vars) (answering old.teller.vars) method refl t
-
-  -- its length passes a limit
-  pub too_much : declares_too_much (filters_of cfg.req_filters) received.declared ≡ true → Tells old new answer (refused cfg 413 old.method.bytes (answering old.teller.vars))
-      → IsTold old new answer (Answers cfg (forwards (meaning_of cfg) received left old.teller.vars rest) servers)
-  too_much e t = record { traced = refused cfg 413 (method_of left.line) (answering old.teller.vars); tells = refuses 413 t; is = rw e refl }
 
   module _ (within : declares_too_much (filters_of cfg.req_filters) received.declared ≡ false) where
     pub too_long : request_fits (meaning_of cfg) received left ≡ false → Tells old new answer (refused cfg 500 old.method.bytes (answering old.teller.vars))
@@ -102,9 +96,11 @@ module _ (cfg : Config) (received : Received) (rest : Stream) (old mid new : Wal
   comes = rules_of cfg.limits.bufsize cfg.request (request_env old.teller.vars received.head)
 
   pub by_verdict : (c : Comes) → comes ≡ c → IsTold mid new answer (Answers cfg (asked_by (meaning_of cfg) received rest c) servers) → IsToldBehind cfg old new answer received rest servers
-  by_verdict c is t =
-      (t.traced, subst (λ (x : Comes). Answers cfg (asked_by (meaning_of cfg) received rest x) servers t.traced) (sym is) t.is,
-      tells_behind old mid new answer (told Request cfg.limits.bufsize cfg.request (request_env old.teller.vars received.head)) t.traced lines t.tells)
+  by_verdict c is t = (
+    t.traced,
+    subst (λ (x : Comes). Answers cfg (asked_by (meaning_of cfg) received rest x) servers t.traced) (sym is) t.is,
+    tells_behind old mid new answer (told Request cfg.limits.bufsize cfg.request (request_env old.teller.vars received.head)) t.traced lines t.tells,
+  )
 
   module _ (left : Env) (blocks : List Block) (method : mid.method.bytes ≡ held.method_in blocks) (at : IsAt sides.Request left blocks mid.teller.vars) where
     method_left : mid.method.bytes ≡ method_in left

@@ -1,6 +1,6 @@
 -- A whole exchange was told, which nothing was told in front of.
-use Rattle.std.proofs.Common.{◌≡◌, ℕ, List, [], ◌++◌, refl, sym, ap, subst, ◌∙◌}
-use Rattle.std.specs.Prelude.{Option, Some}
+use Rattle.std.proofs.Common.{◌≡◌, ℕ, List, [], ◌++◌, refl, ap, subst, ◌∙◌}
+use Rattle.std.specs.Prelude.{Some}
 use Rattle.http_model.specs.Reading.{HeadReading, Received}
 use Rattle.http_model.specs.Reading as reading
 use Rattle.h1_head.specs.Request.{RequestOf}

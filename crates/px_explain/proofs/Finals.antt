@@ -1,18 +1,18 @@
 -- What becomes of a server's final head that its rules passed.
-use Rattle.std.proofs.Common.{inl, inr, ◌≡◌, ◌≤◌, ℕ, List, [], ◌∷◌, ◌++◌, Bool, true, false, refl, sym, ap, subst, ◌∙◌}
+use Rattle.std.proofs.Common.{inl, inr, ◌≡◌, ◌≤◌, ℕ, List, [], ◌++◌, Bool, true, false, refl, sym, ap, subst, ◌∙◌}
 use Rattle.std.specs.Prelude.{Option, Some, nat_le, ◌↔◌, not, ◌&&◌}
 use Rattle.std.proofs.lemmas.Bool.{cases_Bool, le-leb, leb-true, false≢true}
 use denote.Ref.{Bor}
 use Rattle.std.proofs.lemmas.List.{append-nil}
 use Rattle.http_model.specs.Block.{Block}
-use Rattle.http_model.specs.Blocks.{load, Fits}
+use Rattle.http_model.specs.Blocks.{load}
 use Rattle.http_model.specs.declared.Framing.{Framing}
 use Rattle.http_model.specs.Head.{Head, head_blocks, front_blocks}
 use Rattle.http_model.specs.Finish.{finish_response, response_framing}
 use Rattle.http_model.specs.Reading.{Received}
 use Rattle.session_model.specs.Asking.{Asker}
 use Rattle.session_model.specs.Answering.{declared_for, finished_response, response_fits, response_declares_too_much}
-use Rattle.session_model.specs.Env.{Pass, Amended, Edited, Plain}
+use Rattle.session_model.specs.Env.{Pass, Amended, Edited}
 use Rattle.session_model.specs.Meaning.{declares_too_much, is_bodiless}
 use Rattle.px_sample.specs.Variables.{Variables}
 use Rattle.http_rules.specs.declared.config.Config.{Config}
@@ -27,7 +27,7 @@ use Rattle.px_explain.specs.declared.heads.Head.{Head as FoundHead}
 use Rattle.px_explain.specs.declared.trace.Which.TheVariants.{After}
 use Rattle.px_explain.specs.declared.walk.Walk.{Walk}
 use Rattle.px_explain.specs.Told.{told}
-use Rattle.px_explain.specs.Traced.{Traced, code_of, plain_code, refused, answer_code, passed}
+use Rattle.px_explain.specs.Traced.{Traced, code_of, plain_code, answer_code, passed}
 use Rattle.px_explain.specs.Walked.{Tells, IsMeant, IsLeft, Finishes}
 use Rattle.px_explain.proofs.Methods.{head_alone}
 use Rattle.px_explain.proofs.Replies.{Passed, BodyStays}
@@ -52,20 +52,12 @@ module _ (cfg : Config) (asker : Asker) (received : Received) (env : Env) where
       sym (is ∙ (ap (λ (d : Option ℕ). declares_too_much (filters_of cfg.res_filters) d && not (is_bodiless head.framing)) m.declared
       ∙ ap (λ (f : Framing). declares_too_much (filters_of cfg.res_filters) received.declared && not (is_bodiless f)) m.framing))
 
-  -- it is too long
-  pub too_long : (old new : Walk) (answer : ℕ) → response_declares_too_much (meaning_of cfg) received ≡ true → Tells old new answer (refused cfg 502 asker.method env.vars) → Tells old new answer (passed cfg asker received env)
-  too_long old new answer e t = let same : passed cfg asker received env ≡ refused cfg 502 asker.method env.vars = rw e refl in subst (λ (x : Traced). Tells old new answer x) (sym same) t
-
   -- the rules on all that the client is sent ran on it
   pub amends : (old new : Walk) (answer : ℕ) → response_declares_too_much (meaning_of cfg) received ≡ false → new.teller.lines.items ≡ old.teller.lines.items ++ told After cfg.limits.bufsize cfg.after env
       → answer ≡ answer_code cfg asker received (after_of cfg.limits.bufsize cfg.after env) → Tells old new answer (passed cfg asker received env)
   amends old new answer e lines is =
       let same : passed cfg asker received env ≡ record { lines = told After cfg.limits.bufsize cfg.after env; answer = Some (answer_code cfg asker received (after_of cfg.limits.bufsize cfg.after env)) } = rw e refl in
       subst (λ (x : Traced). Tells old new answer x) (sym same) (record { lines = lines; status = ap (λ (n : ℕ). Some n) is })
-
-  -- one of them failed
-  pub code_failed : amended_by (rules_of cfg.limits.bufsize cfg.after env) ≡ Plain → answer_code cfg asker received (after_of cfg.limits.bufsize cfg.after env) ≡ plain_code
-  code_failed e = ap (λ (a : Amended Variables). answer_code cfg asker received a) e
 
   module _ (stays : BodyStays) (alone : env.body ≡ []) (blocks : List Block) (now : Variables) (p : Passed (rules_of cfg.limits.bufsize cfg.after env) blocks now) where
     edits : after_of cfg.limits.bufsize cfg.after env ≡ Edited p.left.head p.left.vars

@@ -1,5 +1,5 @@
 -- What a server's stream comes to, by what stands behind its interim heads.
-use Rattle.std.proofs.Common.{◌≡◌, ℕ, List, [], ◌∷◌, refl, sym, ap, subst, ◌∙◌}
+use Rattle.std.proofs.Common.{◌≡◌, ℕ, List, [], ◌∷◌, refl, subst}
 use Rattle.http_model.specs.Block.{Block}
 use Rattle.http_model.specs.Head.{Head}
 use Rattle.http_model.specs.Reading.{Received}
@@ -15,7 +15,7 @@ use Rattle.px_explain.specs.declared.heads.Head.{Head as FoundHead}
 use Rattle.px_explain.specs.declared.heads.Found.TheVariants as found
 use Rattle.px_explain.specs.declared.walk.Walk.{Walk}
 use Rattle.px_explain.specs.Found.{StandsAs, IsLast, IsFoundFinal}
-use Rattle.px_explain.specs.Traced.{Traced, Reads, AnswerOf, ruled, refused}
+use Rattle.px_explain.specs.Traced.{Reads, AnswerOf, ruled, refused}
 use Rattle.px_explain.specs.Walked.{Tells, IsTold}
 
 module _ (cfg : Config) (asker : Asker) where

@@ -49,16 +49,20 @@ module _ (cfg : Config) (asker : Asker) (limits : Limits) (asked : Bool) (stream
 
   pub final : (blocks : List Block) (head : FoundHead) → Passed cfg asker stream from → (b : BeginsAt (kind_of (readers.Response asked)) limits rest head blocks) → is_interim b.received.head ≡ false
       → IsFoundFinal cfg asker stream (found.Head head) blocks
-  final blocks head p b off =
-      (p.0, then_last (meaning_of cfg) asker p.0 stream (drop from stream) (IsLast cfg asker (found.Head head) blocks) p.1
-      (b.received, b.stands, off, drop head.used rest, reads (reading.Begins b.received (drop head.used rest)) b.reads))
+  final blocks head p b off = (
+    p.0,
+    then_last (meaning_of cfg) asker p.0 stream (drop from stream) (IsLast cfg asker (found.Head head) blocks) p.1
+        (b.received, b.stands, off, drop head.used rest, reads (reading.Begins b.received (drop head.used rest)) b.reads),
+  )
 
   pub more : (blocks : List Block) (head : FoundHead) → Passed cfg asker stream from → (b : BeginsAt (kind_of (readers.Response asked)) limits rest head blocks) → is_interim b.received.head ≡ true
       → Passed cfg asker stream (from + head.used)
   more blocks head p b on =
-      let cut : drop head.used rest ≡ drop (from + head.used) stream = ap (λ (s : List ℕ). drop head.used s) same ∙ drop-drop head.used from stream in
-      (p.0 ++ b.received.head ∷ [], subst (λ (t : List ℕ). BeginsWithInterim (meaning_of cfg) asker (p.0 ++ b.received.head ∷ []) stream (λ r. r ≡ t)) cut
-      (then_more (meaning_of cfg) asker p.0 stream (drop from stream) b.received (drop head.used rest) p.1 (reads (reading.Begins b.received (drop head.used rest)) b.reads) on))
+      let cut : drop head.used rest ≡ drop (from + head.used) stream = ap (λ (s : List ℕ). drop head.used s) same ∙ drop-drop head.used from stream in (
+        p.0 ++ b.received.head ∷ [],
+        subst (λ (t : List ℕ). BeginsWithInterim (meaning_of cfg) asker (p.0 ++ b.received.head ∷ []) stream (λ r. r ≡ t)) cut
+            (then_more (meaning_of cfg) asker p.0 stream (drop from stream) b.received (drop head.used rest) p.1 (reads (reading.Begins b.received (drop head.used rest)) b.reads) on),
+      )
 
 -- a place behind a head is within, and further on
 pub within : (stream rest : List ℕ) (from used : ℕ) → from ≤ length stream → rest ≡ drop from stream → used ≤ length rest → from + used ≤ length stream

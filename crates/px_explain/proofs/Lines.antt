@@ -1,11 +1,9 @@
 -- Rules are told of one by one.
 use Rattle.std.proofs.Common.{◌≡◌, ℕ, zero, suc, ◌+◌, ◌≤◌, List, [], ◌∷◌, ◌++◌, Bool, true, false, refl, sym, ap, ◌∙◌, subst, length, drop, arith}
 use Rattle.std.specs.Prelude.{slice_get, Some}
-use Rattle.std.specs.List.{AllByRecursion}
 use Rattle.std.proofs.Math.ListN.{drop_of_length-le}
 use Rattle.std.proofs.lemmas.List.{append-nil, append_assoc}
 use Rattle.http_model.specs.Block.{Block}
-use Rattle.http_rules.specs.declared.rule.action.Direction.{Direction}
 use Rattle.http_rules.specs.declared.rule.rule.Rule.{Rule}
 use Rattle.http_rules.specs.declared.action.side.Side.{Side}
 use Rattle.http_rules.specs.declared.action.side.Side.TheVariants.{Request, Answer}
@@ -13,7 +11,6 @@ use Rattle.http_rules.specs.declared.step.Step.{Step}
 use Rattle.http_rules.specs.declared.turn.Turned.TheVariants.{Goes, Ends}
 use Rattle.http_rules.specs.declared.verdict.Verdict.{Verdict}
 use Rattle.http_rules.specs.declared.verdict.Verdict.TheVariants as verdicts
-use Rattle.http_rules.specs.Rule.Valid.{IsGoodAction, IsGoodRule}
 use Rattle.http_rules.specs.Action.Given.{Env}
 use Rattle.http_rules.specs.Action.Outcome.{IsAt, IsFront}
 use Rattle.http_rules.specs.Rules.{Comes, walk, rules_of}
@@ -33,17 +30,6 @@ drop_get : (rules : List Rule) (at : ℕ) (rule : Rule) → slice_get rules at �
 drop_get [] at rule is = cc
 drop_get (r ∷ rules) zero rule is = let same : r ≡ rule = cc in ap (λ (x : Rule). x ∷ rules) same
 drop_get (r ∷ rules) (suc at) rule is = drop_get rules at rule is
-
--- what holds of each rule holds of the one at a place
-pub at_place : (P : Rule → Type 0) (rules : List Rule) (at : ℕ) (rule : Rule) → slice_get rules at ≡ Some rule → AllByRecursion P rules → P rule
-at_place P [] at rule is all = cc
-at_place P (r ∷ rules) zero rule is all = let same : r ≡ rule = cc in subst P same all.0
-at_place P (r ∷ rules) (suc at) rule is all = at_place P rules at rule is all.1
-
--- the actions of rules that stand in a direction are good
-pub good_actions : (direction : Direction) (rules : List Rule) → AllByRecursion (IsGoodRule direction) rules → AllByRecursion (λ (rule : Rule). IsGoodAction rule.action) rules
-good_actions direction [] all = tt
-good_actions direction (rule ∷ rules) all = (all.0.good, good_actions direction rules all.1)
 
 -- an environment that an array holds
 pub held : (side : Side) (blocks : List Block) (vars : Variables) → IsFront blocks → (env : Env) × IsAt side env blocks vars
@@ -94,17 +80,19 @@ module _ (list : RuleList) (side : Side) (size : ℕ) (env : Env) (before : List
     where
       by : (c : Course) → course_of size rule strict r.now ≡ c → StepLeaves side c (Goes step mode) new left_vars reply
           → (reply ≡ []) × Reached list side size env before (at + 1) mode (lines ++ line_of list.which at step ∷ []) new left_vars
-      by (Onward meant on next) e l =
-          (l.3, record {
-            now = next;
-            at_now = l.2;
-            left = ap (λ (m : Bool). walk size others m next) l.1 ∙ (sym (ap (λ (c : Course). comes_behind c (walk size others)) e) ∙ comes);
-            lines_left =
-                behind_line list.which at step (steps_from size others mode next) lines
-                ∙ (ap (λ (m : Bool). lines ++ lines_from list.which at (step ∷ steps_from size others m next)) l.1
-                ∙ (ap (λ (s : Step). lines ++ lines_from list.which at (s ∷ steps_from size others on next)) l.0
-                ∙ (sym (ap (λ (c : Course). lines ++ lines_from list.which at (steps_behind c (steps_from size others))) e) ∙ steps)));
-          })
+      by (Onward meant on next) e l = (
+        l.3,
+        record {
+          now = next;
+          at_now = l.2;
+          left = ap (λ (m : Bool). walk size others m next) l.1 ∙ (sym (ap (λ (c : Course). comes_behind c (walk size others)) e) ∙ comes);
+          lines_left =
+              behind_line list.which at step (steps_from size others mode next) lines
+              ∙ (ap (λ (m : Bool). lines ++ lines_from list.which at (step ∷ steps_from size others m next)) l.1
+              ∙ (ap (λ (s : Step). lines ++ lines_from list.which at (s ∷ steps_from size others on next)) l.0
+              ∙ (sym (ap (λ (c : Course). lines ++ lines_from list.which at (steps_behind c (steps_from size others))) e) ∙ steps)));
+        },
+      )
       by (Over meant _) e l = absurd l
 
   -- one that decides

@@ -1,21 +1,17 @@
 -- The head that a whole stream begins with, window by window.
-use Rattle.std.proofs.Common.{inl, inr, ◌≡◌, ◌≢◌, ℕ, zero, suc, Option, ◌+◌, ◌-◌, ◌<◌, ◌≤◌, ◌⊎◌, List, [], ◌∷◌, ◌++◌, Bool, true, false, nat_le, refl, sym, ap, ◌∙◌, subst, length, take, drop, arith}
+use Rattle.std.proofs.Common.{inl, inr, ◌≡◌, ◌≢◌, ℕ, Option, ◌+◌, ◌≤◌, List, [], ◌++◌, Bool, true, nat_le, refl, sym, ap, ◌∙◌, subst, length, take, drop, arith}
 use Rattle.std.proofs.Math.ListN.{drop_of_length-le}
-use Rattle.std.proofs.lemmas.List.{append-nil, take-append-drop, drop-append-le, drop-drop, length-take, length-drop}
+use Rattle.std.proofs.lemmas.List.{take-append-drop, drop-append-le, drop-drop, length-take, length-drop}
 use Rattle.std.proofs.lemmas.Bool.{leb-true}
 use Rattle.http_model.specs.Block.{Block}
 use Rattle.http_model.specs.declared.Framing.{Framing}
 use Rattle.http_model.specs.declared.Limits.{Limits}
-use Rattle.http_model.specs.Head.{Head}
 use Rattle.http_model.specs.Reading.{HeadReading, Received, Nothing, Refused, Begins}
 use Rattle.h1_head.specs.Answers.{Keeps}
-use Rattle.h1_head.specs.Decides.{MayWait, OnEachStream}
+use Rattle.h1_head.specs.Decides.{OnEachStream}
 use Rattle.h1_head.specs.Kind.{HeadKind}
-use Rattle.h1_head.specs.Stream.{behind, BeginsWith, HasNoHead, HasRefusedHead, IsHeadless, HeadOf}
-use Rattle.h1_head.specs.declared.answer.HeadWhy.{HeadWhy}
-use Rattle.h1_head.specs.declared.answer.HeadWhy.TheVariants as why
-use Rattle.px_explain.specs.declared.heads.Head.{Head as FoundHead}
-use Rattle.px_explain.specs.Found.{StandsAs, BeginsAt}
+use Rattle.h1_head.specs.Stream.{behind, BeginsWith, HasNoHead, HeadOf}
+use Rattle.px_explain.specs.Found.{BeginsAt}
 
 -- two streams that are the same behind their empty lines read alike
 pub alike : (K : HeadKind) (limits : Limits) (a b : List ℕ) → behind a ≡ behind b → (r : HeadReading) → HeadOf K limits a r → HeadOf K limits b r
@@ -67,10 +63,10 @@ begins K limits stream from most whole inside same is blocks used framing declar
     let rest : List ℕ = drop from stream in
     let got : Received = record { head = keeps.head; framing = framing; declared = declared; close = close } in
     let cut : drop used (take most rest) ++ drop most rest ≡ drop (from + used) stream =
-        sym (drop-append-le used (take most rest) (drop most rest) keeps.within) ∙ (ap (λ (s : List ℕ). drop used s) (take-append-drop most rest) ∙ drop-drop used from stream) in
+    sym (drop-append-le used (take most rest) (drop most rest) keeps.within) ∙ (ap (λ (s : List ℕ). drop used s) (take-append-drop most rest) ∙ drop-drop used from stream) in
     let reads : HeadOf K limits rest (Begins got (drop (from + used) stream)) =
-        subst (λ (s : List ℕ). HeadOf K limits rest (Begins got s)) cut
-        (subst (λ (s : List ℕ). HeadOf K limits s (Begins got (drop used (take most rest) ++ drop most rest))) (take-append-drop most rest) (keeps.begins (drop most rest) (ended K limits stream rest most whole same is))) in
+    subst (λ (s : List ℕ). HeadOf K limits rest (Begins got s)) cut
+    (subst (λ (s : List ℕ). HeadOf K limits s (Begins got (drop used (take most rest) ++ drop most rest))) (take-append-drop most rest) (keeps.begins (drop most rest) (ended K limits stream rest most whole same is))) in
     record {
       received = got;
       stands = record { blocks_are = keeps.blocks_are; framing = refl; declared = refl; close = refl };

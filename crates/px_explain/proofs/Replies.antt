@@ -1,6 +1,6 @@
 -- What the client is sent for a reply, by what its rules leave.
-use Rattle.std.proofs.Common.{inl, inr, ◌≡◌, ◌≤◌, ℕ, List, [], ◌∷◌, ◌++◌, Bool, true, false, map, refl, sym, ap, subst, ◌∙◌}
-use Rattle.std.specs.Prelude.{Option, Some, unwrap_or, nat_le, ◌↔◌, IsTrue}
+use Rattle.std.proofs.Common.{inl, inr, ◌≡◌, ◌≤◌, ℕ, List, [], ◌++◌, Bool, true, false, map, refl, sym, ap, subst, ◌∙◌}
+use Rattle.std.specs.Prelude.{Some, unwrap_or, nat_le, ◌↔◌, IsTrue}
 use Rattle.std.proofs.lemmas.Bool.{cases_Bool, le-leb, leb-true, false≢true}
 use Rattle.std.proofs.lemmas.List.{append-nil}
 use Rattle.http_model.specs.Block.{Block, Header}
@@ -10,7 +10,7 @@ use Rattle.http_model.specs.Head.{Field, StartLine, RequestLine, StatusLine, Hea
 use Rattle.http_model.specs.Refusal.{closing}
 use Rattle.header_ops.specs.Headers.{HasEnd, with_header}
 use Rattle.htx_view.specs.Lines.{status_in}
-use Rattle.session_model.specs.Env.{Pass, Reply, Deny, Fail, Amended, Edited, Plain, reply_env}
+use Rattle.session_model.specs.Env.{Pass, Reply, Deny, Fail, Edited, Plain, reply_env}
 use Rattle.session_model.specs.Amending.{closing_fits}
 use Rattle.px_sample.specs.Variables.{Variables}
 use Rattle.http_rules.specs.declared.config.Config.{Config}
@@ -18,7 +18,7 @@ use Rattle.http_rules.specs.declared.action.side.Side.{Side}
 use Rattle.http_rules.specs.declared.verdict.Verdict.{Verdict}
 use Rattle.http_rules.specs.declared.verdict.Verdict.TheVariants as verdicts
 use Rattle.http_rules.specs.Action.Given.{Env}
-use Rattle.http_rules.specs.Rules.{Comes, rules_of, after_of, amended_by}
+use Rattle.http_rules.specs.Rules.{Comes, rules_of, amended_by}
 use Rattle.http_rules.specs.Run.{Leaves}
 use Rattle.forward_core.specs.Meaning.Product.{meaning_of}
 use denote.Ref.{Bor}

@@ -1,16 +1,15 @@
 -- What a session sends its client first is the status that is told.
 use Rattle.std.proofs.Common.{◌≡◌, ◌≢◌, ℕ, List, [], ◌∷◌, ◌++◌, Bool, true, false, map, refl, sym, ap, subst, ◌∙◌}
-use Rattle.std.specs.Prelude.{Option, Some, None, ⊤, if◌then◌else◌}
+use Rattle.std.specs.Prelude.{Option, Some, None, if◌then◌else◌}
 use Rattle.std.specs.List.{flat_map, AllByRecursion}
 use Rattle.std.proofs.lemmas.Bool.{false≢true}
 use Rattle.std.proofs.lemmas.List.{append_assoc}
 use Rattle.http_model.specs.declared.Limits.{Limits}
 use Rattle.http_model.specs.declared.Ending.{Ending}
-use Rattle.http_model.specs.Head.{Head, Message, with_head}
+use Rattle.http_model.specs.Head.{Head, Message}
 use Rattle.http_model.specs.Finish.{finish_interim}
 use Rattle.http_model.specs.Reading.{HeadReading, Received, BodyReading}
 use Rattle.http_model.specs.Reading as reading
-use Rattle.http_model.specs.Refusal.{refusal}
 use Rattle.http_model.specs.Spelling.{Spells, head_text}
 use Rattle.h1_head.specs.declared.answer.Side.{Side as Reader}
 use Rattle.h1_head.specs.declared.answer.Side.TheVariants as readers
@@ -18,23 +17,23 @@ use Rattle.h1_head.specs.Sides.{kind_of}
 use Rattle.h1_head.specs.Stream.{HeadOf}
 use Rattle.h1_head.specs.Response.{ResponseOf}
 use Rattle.session_model.specs.Stream.{Stream, Server, NotThere, Open, Sent}
-use Rattle.session_model.specs.Env.{Verdict, Pass, Reply, Deny, Fail, Amended, Edited, Plain as Spoilt, Env, response_env, method_of}
-use Rattle.session_model.specs.Meaning.{Meaning, is_interim, is_head_request}
+use Rattle.session_model.specs.Env.{Pass, Reply, Deny, Fail, Amended, Edited, Plain as Spoilt, Env, response_env}
+use Rattle.session_model.specs.Meaning.{Meaning, is_interim}
 use Rattle.session_model.specs.Asking.{Asker, Forwarded, Request, Asked, Nothing, Refused, Replied, Sends, asker_of, asked_of, request_by}
 use Rattle.session_model.specs.Amending.{amended, reply_sent, refusal_sent, plain_refusal}
-use Rattle.session_model.specs.Answering.{Final, Refuses, Replies, Answers, Plain, AnswersFrom, AnswersReading, AnswersBy, AnswersWith, AnswersAmended, BeginsWithInterim, sent_interim, answer_by, response_fits, response_declares_too_much}
+use Rattle.session_model.specs.Answering.{Final, Refuses, Replies, Answers, Plain, AnswersFrom, AnswersReading, AnswersBy, AnswersWith, AnswersAmended, BeginsWithInterim, answer_by, response_fits, response_declares_too_much}
 use Rattle.http_model.specs.declared.Close.TheVariants.{Clean, Failed}
-use Rattle.session_model.specs.Session.{Exchange, After, Goes, Serves, ServesOpen, ServerGets, ClientGets, IsSaid, IsRefused, IsReplied, SpellsFinal, Follow, GoesOn, Out, out_of, first_bit, Session, interim_text}
+use Rattle.session_model.specs.Session.{Exchange, After, Goes, Serves, ServerGets, ClientGets, IsSaid, SpellsFinal, Follow, Out, out_of, first_bit, interim_text}
 use Rattle.px_sample.specs.Variables.{Variables, no_variables}
 use Rattle.http_rules.specs.declared.config.Config.{Config}
 use Rattle.http_rules.specs.Lives.{answering}
-use Rattle.http_rules.specs.Rules.{Comes, rules_of, after_of}
+use Rattle.http_rules.specs.Rules.{Comes, rules_of}
 use Rattle.forward_core.specs.Meaning.Product.{meaning_of}
 use Rattle.rec_format.specs.Entries.{ServerEntry}
 use Rattle.rec_format.specs.Recorded.{Visit}
 use Rattle.px_explain.specs.Traced as told
 use Rattle.px_explain.specs.Traced.{Traced, TraceOf, code_of, plain_code, replied, refused, answer_code, passed, judged, ruled, answered, behind_lines, IsFinal, Reads, AnswerOf}
-use Rattle.px_explain.specs.Sessions.{IsEntry, AreEntries, BeginsWithStatus, TellsStatus, IsSessionOf}
+use Rattle.px_explain.specs.Sessions.{AreEntries, BeginsWithStatus, TellsStatus, IsSessionOf}
 
 -- the reader's law
 abbrev pub OneReading : Type 0

@@ -1,6 +1,5 @@
 -- What is told while an exchange is walked through.
-use Rattle.std.proofs.Common.{◌≡◌, ℕ, List, [], ◌∷◌, ◌++◌, refl, sym, ap, subst, ◌∙◌}
-use Rattle.std.specs.Prelude.{Option, Some, None}
+use Rattle.std.proofs.Common.{◌≡◌, ℕ, List, [], ◌++◌, refl, sym, ap, subst, ◌∙◌}
 use Rattle.std.proofs.lemmas.List.{append-nil, append_assoc}
 use denote.Ref.{Bor}
 use Rattle.http_model.specs.Block.{Block}
@@ -14,7 +13,7 @@ use Rattle.http_rules.specs.declared.action.side.Side.TheVariants.{Request, Answ
 use Rattle.http_rules.specs.declared.verdict.Verdict.{Verdict}
 use Rattle.http_rules.specs.declared.verdict.Verdict.TheVariants as verdicts
 use Rattle.http_rules.specs.Action.Given.{Env}
-use Rattle.http_rules.specs.Action.Outcome.{IsAt, IsScratch}
+use Rattle.http_rules.specs.Action.Outcome.{IsAt}
 use Rattle.http_rules.specs.Rules.{Comes}
 use Rattle.http_rules.specs.Run.{Leaves}
 use Rattle.px_explain.specs.declared.trace.TraceLine.{TraceLine}
@@ -23,18 +22,7 @@ use Rattle.px_explain.specs.declared.walk.Teller.{Teller}
 use Rattle.px_explain.specs.declared.walk.Walk.{Walk}
 use Rattle.px_explain.specs.Told.{ToldOf}
 use Rattle.px_explain.specs.Traced.{Traced, behind_lines, refused, replied}
-use Rattle.px_explain.specs.Walked.{IsReady, Tells}
-
--- all is of its size behind rules
-pub ready_behind : (cfg : Config) (old new : Walk) → IsReady cfg old → IsScratch old.msg.size new.teller.scratch → new.msg.size ≡ old.msg.size → new.said.size ≡ old.said.size → new.method.cap ≡ old.method.cap → IsReady cfg new
-ready_behind cfg old new r scratch msg said method =
-    record {
-      valid = r.valid;
-      scratch = subst (λ (n : ℕ). IsScratch n new.teller.scratch) r.msg scratch;
-      msg = msg ∙ r.msg;
-      said = said ∙ r.said;
-      method = method ∙ r.method;
-    }
+use Rattle.px_explain.specs.Walked.{Tells}
 
 -- more was told behind lines
 pub tells_behind : (old mid new : Walk) (answer : ℕ) (lines : List TraceLine) (rest : Traced) → mid.teller.lines.items ≡ old.teller.lines.items ++ lines → Tells mid new answer rest → Tells old new answer (behind_lines lines rest)

@@ -1,10 +1,10 @@
 -- What a session of the connection that is explained sends its client first.
-use Rattle.std.specs.Prelude.{◌≡◌, ◌≢◌, ℕ, List, [], ◌∷◌, ◌++◌, Bool, true, false, Option, Some, None, ⊤}
+use Rattle.std.specs.Prelude.{◌≡◌, ◌≢◌, ℕ, List, [], ◌∷◌, ◌++◌, true, false, Option, Some, None, ⊤}
 use Rattle.std.specs.List.{AllByRecursion}
 use Rattle.http_model.specs.Head.{Head}
 use Rattle.http_model.specs.Spelling.{head_text}
 use Rattle.session_model.specs.Meaning.{is_interim}
-use Rattle.session_model.specs.Stream.{Stream, Server, NotThere, Open}
+use Rattle.session_model.specs.Stream.{Server, NotThere, Open}
 use Rattle.session_model.specs.Session.{Out, Session, interim_text}
 use Rattle.http_rules.specs.declared.config.Config.{Config}
 use Rattle.forward_core.specs.Meaning.Product.{meaning_of}

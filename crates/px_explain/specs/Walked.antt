@@ -1,15 +1,15 @@
 -- What the code holds while it walks through an exchange.
-use Rattle.std.specs.Prelude.{◌≡◌, ℕ, List, [], ◌++◌, Bool, false, not, Option, Some, None}
+use Rattle.std.specs.Prelude.{◌≡◌, ℕ, List, [], ◌++◌, false, not, Option, Some, None}
 use Rattle.http_model.specs.Block.{Block}
 use Rattle.http_model.specs.Finish.{response_framing}
-use Rattle.http_model.specs.Head.{Head, Message, head_blocks, message_blocks}
+use Rattle.http_model.specs.Head.{Message, head_blocks, message_blocks}
 use Rattle.http_model.specs.Reading.{Received}
 use Rattle.htx_view.specs.Lines.{request_in}
 use Rattle.session_model.specs.Asking.{Asker, asked_by}
 use Rattle.session_model.specs.Env.{request_env}
 use Rattle.session_model.specs.Answering.{declared_for}
 use Rattle.session_model.specs.Stream.{Stream}
-use Rattle.px_sample.specs.Variables.{Variables, no_variables}
+use Rattle.px_sample.specs.Variables.{no_variables}
 use Rattle.http_rules.specs.declared.config.Config.{Config}
 use Rattle.http_rules.specs.Action.Given.{Env}
 use Rattle.http_rules.specs.Action.Outcome.{IsScratch}

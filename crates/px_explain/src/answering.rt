@@ -104,7 +104,12 @@ fn finish_by(config: &Config, kept: Kept, head: Head, msg: &Arena) -> Finish
     let replaced = replaces(&config.res_filters);
     Finish {
         framing: response_framing(replaced, kept.is_http_11, head.framing),
-        declared: declared_for(kept.head_asked, replaced, head.declared, is_not_modified(msg)),
+        declared: declared_for(
+            kept.head_asked,
+            replaced,
+            head.declared,
+            is_not_modified(msg),
+        ),
         close: !kept.keep,
     }
 }
@@ -132,12 +137,7 @@ fn is_too_long(filters: &Filters, head: Head) -> bool
 }
 
 /// A response that its rules passed. Answers the status that the client is sent.
-fn amend(
-    config: &Config,
-    walk: &mut Walk,
-    head: Head,
-    finish: Finish,
-) -> Result<u16, OutOfMemory>
+fn amend(config: &Config, walk: &mut Walk, head: Head, finish: Finish) -> Result<u16, OutOfMemory>
     requires ready { IsReady config.now walk.old }
     requires head { IsHead walk.old.msg.blocks }
     requires silent { walk.old.said.blocks ≡ [] }
@@ -165,12 +165,7 @@ fn amend(
 }
 
 /// A server's final head stands in the array, and the rules run on it.
-fn judge(
-    config: &Config,
-    walk: &mut Walk,
-    kept: Kept,
-    head: Head,
-) -> Result<u16, OutOfMemory>
+fn judge(config: &Config, walk: &mut Walk, kept: Kept, head: Head) -> Result<u16, OutOfMemory>
     requires ready { IsReady config.now walk.old }
     requires head { IsHead walk.old.msg.blocks }
     ensures { IfOk result (λ answer. (asker : Asker) (received : Received) → IsAsker asker kept → walk.old.method.bytes ≡ asker.method → StandsAs received head walk.old.msg.blocks

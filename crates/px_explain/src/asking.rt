@@ -86,11 +86,7 @@ fn declares_too_much(filters: &Filters, declared: Option<u64>) -> bool
 }
 
 /// The client is refused with this code, and no server is asked.
-fn refuse_asked(
-    config: &Config,
-    walk: &mut Walk,
-    code: u16,
-) -> Result<u16, OutOfMemory>
+fn refuse_asked(config: &Config, walk: &mut Walk, code: u16) -> Result<u16, OutOfMemory>
     requires { IsReady config.now walk.old }
     ensures { IfOk result (λ answer. Tells walk.old walk.new answer (refused config.now code walk.old.method.bytes (answering walk.old.teller.vars))) }
 {
@@ -192,11 +188,6 @@ pub(crate) fn ask(
     ) {
         Found::Nothing => Ok(None),
         Found::Refused(code) => Ok(Some(refuse_asked(config, walk, code)?)),
-        Found::Head(head) => Ok(Some(ask_behind(
-            config,
-            walk,
-            head,
-            conn.servers.as_slice(),
-        )?)),
+        Found::Head(head) => Ok(Some(ask_behind(config, walk, head, conn.servers.as_slice())?)),
     }
 }

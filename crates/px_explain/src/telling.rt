@@ -61,7 +61,14 @@ pub(crate) fn tell_rules(
             rule: list.rules.get(at),
             strict,
         };
-        match step_rule(turn, side, msg, &mut teller.vars, &mut teller.scratch, reply)? {
+        match step_rule(
+            turn,
+            side,
+            msg,
+            &mut teller.vars,
+            &mut teller.scratch,
+            reply,
+        )? {
             Turned::Goes(step, mode) => {
                 tell(teller, list.which, at, step)?;
                 strict = mode;

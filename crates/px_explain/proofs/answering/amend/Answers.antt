@@ -1,13 +1,11 @@
 use Rattle.std.proofs.Common.{true, false, refl, sym, subst, ◌∙◌}
-use Rattle.std.proofs.lemmas.Result.{IfOk-weaker}
 use Rattle.http_model.specs.Finish.{finish_response}
 use Rattle.http_rules.specs.Rules.{rules_of}
 use Rattle.header_ops.specs.Headers.{HasEnd}
 use Rattle.session_model.specs.Env.{response_env}
-use Rattle.px_explain.specs.Traced.{refused}
-use Rattle.px_explain.proofs.Replies.{failed, passed, sized, code_head}
-use Rattle.px_explain.proofs.Walking.{answer_at, refused_as}
-use Rattle.px_explain.proofs.Finals.{is_long, too_long, amends, left_at, code_failed, head_left, stands, fits_so, code_long, code_sent}
+use Rattle.px_explain.proofs.Replies.{passed, sized, code_head}
+use Rattle.px_explain.proofs.Walking.{answer_at}
+use Rattle.px_explain.proofs.Finals.{is_long, amends, left_at, head_left, stands, fits_so, code_long, code_sent}
 use Rattle.px_explain.proofs.answering.amend.Goals as goal
 
 pub finish_response-requires : goal.finish_response-requires
@@ -19,23 +17,6 @@ finish_response-requires c =
     let told = sized _ _ _ _ env _ _ _ _ _ c.requires.ready.msg (c.in_ok-verdict.ensures.told env (answer_at c.bytes.result walk.method.bytes head.0 walk.teller.vars walk.msg.blocks c.bytes.ensures.bytes head.1)) in
     let p = passed _ (rules_of cfg.limits.bufsize cfg.after env) _ _ _ _ told.leaves (sym c.passed.ensures ∙ c.if-not-passed.false) in
     subst (λ bs. HasEnd bs) (sym (head_left cfg.limits.bufsize cfg.after env p.left _ c.body_stays.ensures refl p.is p.blocks_are)) (c.edits_of_heads.ensures.end p.left.head)
-
-pub returns-then-is_too_long : goal.returns-then-is_too_long
-returns-then-is_too_long c =
-    let cfg = c.args.config.now in
-    let walk = c.args.walk.now in
-    IfOk-weaker c.refuse.result _ _
-    (λ answer t. λ asker received env method meant finish left.
-        too_long cfg asker received env walk _ answer (is_long cfg asker received env c.args.head _ meant c.is_too_long.ensures ∙ c.if-is_too_long.true)
-        (refused_as cfg walk _ answer 502 walk.method.bytes asker.method walk.teller.vars env.vars method left.vars t)) c.refuse.ensures
-
-pub returns-then-not-passed : goal.returns-then-not-passed
-returns-then-not-passed c = λ asker received env method meant finish left.
-    let cfg = c.args.config.now in
-    let walk = c.args.walk.now in
-    let told = sized _ _ _ _ env _ _ _ _ _ c.requires.ready.msg (c.in_ok-verdict.ensures.told env (left_at c.bytes.result asker env walk c.bytes.ensures.bytes method left)) in
-    amends cfg asker received env walk _ _ (is_long cfg asker received env c.args.head _ meant c.is_too_long.ensures ∙ c.if-is_too_long.false) told.lines
-    (c.plain_code.ensures.code ∙ sym (code_failed cfg asker received env (failed _ (rules_of cfg.limits.bufsize cfg.after env) _ _ _ _ told.leaves (sym c.passed.ensures ∙ c.if-not-passed.true))))
 
 pub returns-in-Ok : goal.returns-in-Ok
 returns-in-Ok c = λ asker received env method meant finish left.

@@ -16,8 +16,8 @@ returns-in-Head c =
     let walk = c.args.walk.now in
     IfOk-weaker c.judge.result _ _
     (λ answer t. λ asker known method.
-        told_head cfg asker walk _ answer c.args.stream.now c.find_final.new.to.blocks _ c.begin_answer.ensures c.in-Head.head (c.in-Head.ensures.found cfg asker refl known.head_asked)
-        (λ received stands. let told = t asker received known method stands in record { lines = told.lines; status = told.status })) c.judge.ensures
+    told_head cfg asker walk _ answer c.args.stream.now c.find_final.new.to.blocks _ c.begin_answer.ensures c.in-Head.head (c.in-Head.ensures.found cfg asker refl known.head_asked)
+    (λ received stands. let told = t asker received known method stands in record { lines = told.lines; status = told.status })) c.judge.ensures
 
 pub returns-in-Nothing : goal.returns-in-Nothing
 returns-in-Nothing c =
@@ -25,9 +25,9 @@ returns-in-Nothing c =
     let walk = c.args.walk.now in
     IfOk-weaker c.refuse.result _ _
     (λ answer t. λ asker known method.
-        let told = refused_as cfg _ _ answer 502 walk.method.bytes asker.method _ _ method c.begin_answer.ensures t in
-        told_nothing cfg asker walk _ answer c.args.stream.now c.find_final.new.to.blocks _ c.begin_answer.ensures (c.in-Nothing.ensures.found cfg asker refl known.head_asked)
-        (record { lines = told.lines; status = told.status })) c.refuse.ensures
+    let told = refused_as cfg _ _ answer 502 walk.method.bytes asker.method _ _ method c.begin_answer.ensures t in
+    told_nothing cfg asker walk _ answer c.args.stream.now c.find_final.new.to.blocks _ c.begin_answer.ensures (c.in-Nothing.ensures.found cfg asker refl known.head_asked)
+    (record { lines = told.lines; status = told.status })) c.refuse.ensures
 
 pub returns-in-Refused : goal.returns-in-Refused
 returns-in-Refused c =
@@ -35,6 +35,6 @@ returns-in-Refused c =
     let walk = c.args.walk.now in
     IfOk-weaker c.refuse-in-Refused.result _ _
     (λ answer t. λ asker known method.
-        let told = refused_as cfg _ _ answer 502 walk.method.bytes asker.method _ _ method c.begin_answer.ensures t in
-        told_refused cfg asker walk _ answer c.args.stream.now c.find_final.new.to.blocks _ c.begin_answer.ensures c.in-Refused.field-0 (c.in-Refused.ensures.found cfg asker refl known.head_asked)
-        (record { lines = told.lines; status = told.status })) c.refuse-in-Refused.ensures
+    let told = refused_as cfg _ _ answer 502 walk.method.bytes asker.method _ _ method c.begin_answer.ensures t in
+    told_refused cfg asker walk _ answer c.args.stream.now c.find_final.new.to.blocks _ c.begin_answer.ensures c.in-Refused.field-0 (c.in-Refused.ensures.found cfg asker refl known.head_asked)
+    (record { lines = told.lines; status = told.status })) c.refuse-in-Refused.ensures

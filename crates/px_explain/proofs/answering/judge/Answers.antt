@@ -45,19 +45,19 @@ returns-in-Pass c =
     let walk = c.args.walk.now in
     IfOk-weaker c.amend.result _ _
     (λ answer t. λ asker received known method stands.
-        let env = response_env walk.teller.vars asker.method received.head in
-        let at = answer_at c.bytes.result asker.method received.head walk.teller.vars walk.msg.blocks (c.bytes.ensures.bytes ∙ method) stands.blocks_are in
-        let told = told_so _ _ _ _ env _ _ _ _ _ _ c.requires.ready.msg c.in-Pass.is (c.in_ok-verdict.ensures.told env at) in
-        let left = passes _ (rules_of cfg.limits.bufsize cfg.response env) _ _ _ told.leaves in
-        judged_passed cfg asker received walk _ _ answer told.lines left.left left.is
-        (t asker received left.left method (record { framing = stands.framing; declared = stands.declared }) (c.finish_by-finish.ensures asker received known stands)
-        (record {
-          answers = left.at.on.0;
-          method = left.at.on.1 ∙ (c.bytes.ensures.bytes ∙ method);
-          body = c.body_stays.ensures cfg.limits.bufsize cfg.response env left.left left.is;
-          blocks = head_left cfg.limits.bufsize cfg.response env left.left _ c.body_stays.ensures refl left.is left.at.blocks_are;
-          vars = left.at.vars_are;
-        }))) c.amend.ensures
+    let env = response_env walk.teller.vars asker.method received.head in
+    let at = answer_at c.bytes.result asker.method received.head walk.teller.vars walk.msg.blocks (c.bytes.ensures.bytes ∙ method) stands.blocks_are in
+    let told = told_so _ _ _ _ env _ _ _ _ _ _ c.requires.ready.msg c.in-Pass.is (c.in_ok-verdict.ensures.told env at) in
+    let left = passes _ (rules_of cfg.limits.bufsize cfg.response env) _ _ _ told.leaves in
+    judged_passed cfg asker received walk _ _ answer told.lines left.left left.is
+    (t asker received left.left method (record { framing = stands.framing; declared = stands.declared }) (c.finish_by-finish.ensures asker received known stands)
+    (record {
+      answers = left.at.on.0;
+      method = left.at.on.1 ∙ (c.bytes.ensures.bytes ∙ method);
+      body = c.body_stays.ensures cfg.limits.bufsize cfg.response env left.left left.is;
+      blocks = head_left cfg.limits.bufsize cfg.response env left.left _ c.body_stays.ensures refl left.is left.at.blocks_are;
+      vars = left.at.vars_are;
+    }))) c.amend.ensures
 
 pub returns-in-Reply : goal.returns-in-Reply
 returns-in-Reply c =
@@ -65,9 +65,9 @@ returns-in-Reply c =
     let walk = c.args.walk.now in
     IfOk-weaker c.say.result _ _
     (λ answer t. λ asker received known method stands.
-        let env = response_env walk.teller.vars asker.method received.head in
-        let at = answer_at c.bytes.result asker.method received.head walk.teller.vars walk.msg.blocks (c.bytes.ensures.bytes ∙ method) stands.blocks_are in
-        let told = told_so _ _ _ _ env _ _ _ _ _ _ c.requires.ready.msg c.in-Reply.is (c.in_ok-verdict.ensures.told env at) in
-        let left = replies _ (rules_of cfg.limits.bufsize cfg.response env) _ _ _ told.leaves in
-        judged_replied cfg asker received walk _ _ answer told.lines left.left left.at.vars_are method left.message left.is
-        (t left.message (record { blocks = left.stands; none = c.replies_are_plain.ensures.trailers cfg.limits.bufsize cfg.response env left.left left.message left.is }))) c.say.ensures
+    let env = response_env walk.teller.vars asker.method received.head in
+    let at = answer_at c.bytes.result asker.method received.head walk.teller.vars walk.msg.blocks (c.bytes.ensures.bytes ∙ method) stands.blocks_are in
+    let told = told_so _ _ _ _ env _ _ _ _ _ _ c.requires.ready.msg c.in-Reply.is (c.in_ok-verdict.ensures.told env at) in
+    let left = replies _ (rules_of cfg.limits.bufsize cfg.response env) _ _ _ told.leaves in
+    judged_replied cfg asker received walk _ _ answer told.lines left.left left.at.vars_are method left.message left.is
+    (t left.message (record { blocks = left.stands; none = c.replies_are_plain.ensures.trailers cfg.limits.bufsize cfg.response env left.left left.message left.is }))) c.say.ensures

@@ -27,6 +27,6 @@ returns-in_ok-ask_behind-in-Head c =
     let at : Walk = record { teller = walk.teller; msg = c.find_head.new.to; said = walk.said; method = walk.method } in
     let line = (c.is_received.ensures readers.Request cfg.limits c.as_slice.result.now there.received rest there.reads).line in
     let told = subst (λ (servers : List (Option ServerSpec)). IsToldBehind cfg at c.ask_behind.new.walk c.in_ok-ask_behind-in-Head.field-0 there.received stream (entries servers)) c.as_slice-in-Head.ensures.value
-        (c.in_ok-ask_behind-in-Head.ensures there.received stream line there.stands) in
+    (c.in_ok-ask_behind-in-Head.ensures there.received stream line there.stands) in
     let reads = subst (λ (bytes : List ℕ). RequestOf cfg.limits bytes (reading.Begins there.received rest)) c.as_slice.ensures there.reads in
     head_came cfg at c.ask_behind.new.walk _ (visit c.args.conn.now) c.requires.lines c.requires.vars there.received rest reads told

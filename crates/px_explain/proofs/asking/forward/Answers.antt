@@ -16,12 +16,12 @@ returns-in-Ok c =
     let walk = c.args.walk.now in
     IfOk-weaker c.serve.result _ _
     (λ answer t. λ received left rest kept meant blocks method.
-        let within = ap (λ (d : Option ℕ). declares_too_much (filters_of cfg.req_filters) d) (sym meant.declared) ∙ (sym c.declares_too_much.ensures ∙ c.if-declares_too_much.false) in
-        let framing = c.request_framing-framing.ensures ∙ (ap (λ (r : Bool). request_framing r c.args.head.framing) c.replaces.ensures ∙ ap (λ (f : Framing). request_framing (replaces cfg.req_filters) f) meant.framing) in
-        let told = t (record { received = received; head = left; vars = walk.teller.vars; rest = rest }) (asker_kept received left c.args.kept kept) method refl in
-        sends cfg received left rest walk _ answer (entries c.args.servers.now) method within
-        (fits cfg received left c.request_framing-framing.result walk.msg.size framing c.requires.ready.msg (c.in-Ok.ensures.fits left blocks))
-        (record { traced = told.traced; tells = record { lines = told.tells.lines; status = told.tells.status }; is = told.is })) c.serve.ensures
+    let within = ap (λ (d : Option ℕ). declares_too_much (filters_of cfg.req_filters) d) (sym meant.declared) ∙ (sym c.declares_too_much.ensures ∙ c.if-declares_too_much.false) in
+    let framing = c.request_framing-framing.ensures ∙ (ap (λ (r : Bool). request_framing r c.args.head.framing) c.replaces.ensures ∙ ap (λ (f : Framing). request_framing (replaces cfg.req_filters) f) meant.framing) in
+    let told = t (record { received = received; head = left; vars = walk.teller.vars; rest = rest }) (asker_kept received left c.args.kept kept) method refl in
+    sends cfg received left rest walk _ answer (entries c.args.servers.now) method within
+    (fits cfg received left c.request_framing-framing.result walk.msg.size framing c.requires.ready.msg (c.in-Ok.ensures.fits left blocks))
+    (record { traced = told.traced; tells = record { lines = told.tells.lines; status = told.tells.status }; is = told.is })) c.serve.ensures
 
 pub returns-in-Err : goal.returns-in-Err
 returns-in-Err c =
@@ -29,8 +29,8 @@ returns-in-Err c =
     let walk = c.args.walk.now in
     IfOk-weaker c.refuse_asked-in-Err.result _ _
     (λ answer t. λ received left rest kept meant blocks method.
-        let within = ap (λ (d : Option ℕ). declares_too_much (filters_of cfg.req_filters) d) (sym meant.declared) ∙ (sym c.declares_too_much.ensures ∙ c.if-declares_too_much.false) in
-        let framing = c.request_framing-framing.ensures ∙ (ap (λ (r : Bool). request_framing r c.args.head.framing) c.replaces.ensures ∙ ap (λ (f : Framing). request_framing (replaces cfg.req_filters) f) meant.framing) in
-        too_long cfg received left rest walk _ answer (entries c.args.servers.now) method within
-        (fits_not cfg received left c.request_framing-framing.result walk.msg.size framing c.requires.ready.msg (c.in-Err.ensures.fits left blocks))
-        (record { lines = t.lines; status = t.status })) c.refuse_asked-in-Err.ensures
+    let within = ap (λ (d : Option ℕ). declares_too_much (filters_of cfg.req_filters) d) (sym meant.declared) ∙ (sym c.declares_too_much.ensures ∙ c.if-declares_too_much.false) in
+    let framing = c.request_framing-framing.ensures ∙ (ap (λ (r : Bool). request_framing r c.args.head.framing) c.replaces.ensures ∙ ap (λ (f : Framing). request_framing (replaces cfg.req_filters) f) meant.framing) in
+    too_long cfg received left rest walk _ answer (entries c.args.servers.now) method within
+    (fits_not cfg received left c.request_framing-framing.result walk.msg.size framing c.requires.ready.msg (c.in-Err.ensures.fits left blocks))
+    (record { lines = t.lines; status = t.status })) c.refuse_asked-in-Err.ensures

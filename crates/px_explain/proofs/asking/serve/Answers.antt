@@ -15,5 +15,5 @@ returns-in-Some-Some c =
     let server = c.in-Some-Some.server in
     IfOk-weaker c.answer.result _ _
     (λ answer t. λ f known method vars.
-        let told = subst (λ (bytes : List ℕ). IsTold walk c.answer.new.walk answer (AnswerOf cfg (asker_of f.received f.head) walk.teller.vars bytes)) c.as_slice.ensures (t (asker_of f.received f.head) known method) in
-        served cfg f walk c.answer.new.walk answer c.args.servers.now server (sym c.in-Some-Some.ensures.value ∙ ap (λ (x : Option ServerSpec). Some x) c.in-Some-Some.field-0-is) vars told) c.answer.ensures
+    let told = subst (λ (bytes : List ℕ). IsTold walk c.answer.new.walk answer (AnswerOf cfg (asker_of f.received f.head) walk.teller.vars bytes)) c.as_slice.ensures (t (asker_of f.received f.head) known method) in
+    served cfg f walk c.answer.new.walk answer c.args.servers.now server (sym c.in-Some-Some.ensures.value ∙ ap (λ (x : Option ServerSpec). Some x) c.in-Some-Some.field-0-is) vars told) c.answer.ensures

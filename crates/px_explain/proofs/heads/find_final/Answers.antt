@@ -1,4 +1,4 @@
-use Rattle.std.proofs.Common.{◌≡◌, sym, ◌∙◌}
+use Rattle.std.proofs.Common.{sym, ◌∙◌}
 use Rattle.h1_head.specs.declared.answer.Side.TheVariants as readers
 use Rattle.px_explain.proofs.Interim.{nothing, refused, final, more, within, further}
 use Rattle.px_explain.proofs.heads.find_final.Goals as goal

@@ -1,5 +1,4 @@
-use Rattle.std.proofs.Common.{◌≡◌, ℕ, ◌+◌, List, [], ◌∷◌, ◌++◌, sym, ap, subst, ◌∙◌}
-use Rattle.http_model.specs.Block.{Block}
+use Rattle.std.proofs.Common.{◌≡◌, ℕ, ◌+◌, List, [], ◌∷◌, ◌++◌, sym, subst, ◌∙◌}
 use Rattle.http_rules.specs.declared.turn.Turned.{Turned}
 use Rattle.http_rules.specs.declared.turn.Turned.TheVariants.{Goes, Ends}
 use Rattle.http_rules.specs.Action.Given.{Env}
@@ -17,7 +16,7 @@ returns-in-Ends-clause-told c = λ env at.
     let size : ℕ = c.args.msg.now.size in
     let r = c.loop-at.invariant.reached env at in
     let left = subst (λ (n : ℕ). StepLeaves c.args.side (course_of n c.get.result.now c.loop-at.strict r.now) (Ends c.in-Ends.step c.in-Ends.verdict) c.step_rule.new.msg.blocks c.step_rule.new.vars c.step_rule.new.reply.blocks) c.loop-at.invariant.size
-        (subst (λ (t : Turned). StepLeaves c.args.side (course_of c.loop-at.msg.size c.get.result.now c.loop-at.strict r.now) t c.step_rule.new.msg.blocks c.step_rule.new.vars c.step_rule.new.reply.blocks) c.in-Ends.is (c.in_ok-step.ensures.steps r.now r.at_now)) in
+    (subst (λ (t : Turned). StepLeaves c.args.side (course_of c.loop-at.msg.size c.get.result.now c.loop-at.strict r.now) t c.step_rule.new.msg.blocks c.step_rule.new.vars c.step_rule.new.reply.blocks) c.in-Ends.is (c.in_ok-step.ensures.steps r.now r.at_now)) in
     ends c.args.list c.args.side size env c.args.teller.now.lines.items c.loop-at.at c.get.result.now c.loop-at.strict c.loop-at.teller.lines.items c.loop-at.msg.blocks c.step_rule.new.msg.blocks c.loop-at.teller.vars c.step_rule.new.vars
     c.stepping_is_the_run.ensures.first c.get.ensures r c.in-Ends.step c.in-Ends.verdict c.step_rule.new.reply.blocks c.tell-in-Ends.new.teller c.in_ok-tell-in-Ends.ensures.vars c.in_ok-tell-in-Ends.ensures.lines left
 
@@ -26,13 +25,13 @@ loop-at-preserved c =
     let size : ℕ = c.args.msg.now.size in
     let old : List TraceLine = c.loop-at.teller.lines.items in
     let next : (env : Env) → IsAt c.args.side env c.args.msg.now.blocks c.args.teller.now.vars
-        → (c.step_rule.new.reply.blocks ≡ []) × Reached c.args.list c.args.side size env c.args.teller.now.lines.items (c.loop-at.at + 1) c.in-Goes.mode (old ++ line_of c.args.list.which c.loop-at.at c.in-Goes.step ∷ []) c.step_rule.new.msg.blocks c.step_rule.new.vars
-        = λ env at.
-        let r = c.loop-at.invariant.reached env at in
-        let left = subst (λ (n : ℕ). StepLeaves c.args.side (course_of n c.get.result.now c.loop-at.strict r.now) (Goes c.in-Goes.step c.in-Goes.mode) c.step_rule.new.msg.blocks c.step_rule.new.vars c.step_rule.new.reply.blocks) c.loop-at.invariant.size
-            (subst (λ (t : Turned). StepLeaves c.args.side (course_of c.loop-at.msg.size c.get.result.now c.loop-at.strict r.now) t c.step_rule.new.msg.blocks c.step_rule.new.vars c.step_rule.new.reply.blocks) c.in-Goes.is (c.in_ok-step.ensures.steps r.now r.at_now)) in
-        goes_on c.args.list c.args.side size env c.args.teller.now.lines.items c.loop-at.at c.get.result.now c.loop-at.strict old c.loop-at.msg.blocks c.step_rule.new.msg.blocks c.loop-at.teller.vars c.step_rule.new.vars
-        c.stepping_is_the_run.ensures.first c.get.ensures r c.in-Goes.step c.in-Goes.mode c.step_rule.new.reply.blocks left
+    → (c.step_rule.new.reply.blocks ≡ []) × Reached c.args.list c.args.side size env c.args.teller.now.lines.items (c.loop-at.at + 1) c.in-Goes.mode (old ++ line_of c.args.list.which c.loop-at.at c.in-Goes.step ∷ []) c.step_rule.new.msg.blocks c.step_rule.new.vars
+    = λ env at.
+    let r = c.loop-at.invariant.reached env at in
+    let left = subst (λ (n : ℕ). StepLeaves c.args.side (course_of n c.get.result.now c.loop-at.strict r.now) (Goes c.in-Goes.step c.in-Goes.mode) c.step_rule.new.msg.blocks c.step_rule.new.vars c.step_rule.new.reply.blocks) c.loop-at.invariant.size
+    (subst (λ (t : Turned). StepLeaves c.args.side (course_of c.loop-at.msg.size c.get.result.now c.loop-at.strict r.now) t c.step_rule.new.msg.blocks c.step_rule.new.vars c.step_rule.new.reply.blocks) c.in-Goes.is (c.in_ok-step.ensures.steps r.now r.at_now)) in
+    goes_on c.args.list c.args.side size env c.args.teller.now.lines.items c.loop-at.at c.get.result.now c.loop-at.strict old c.loop-at.msg.blocks c.step_rule.new.msg.blocks c.loop-at.teller.vars c.step_rule.new.vars
+    c.stepping_is_the_run.ensures.first c.get.ensures r c.in-Goes.step c.in-Goes.mode c.step_rule.new.reply.blocks left
     in
     let lines : c.tell.new.teller.lines.items ≡ old ++ line_of c.args.list.which c.loop-at.at c.in-Goes.step ∷ [] = c.in_ok-tell-in-Goes.ensures.lines in
     let vars : c.tell.new.teller.vars ≡ c.step_rule.new.vars = c.in_ok-tell-in-Goes.ensures.vars in
