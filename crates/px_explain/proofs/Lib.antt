@@ -10,3 +10,4 @@ mod Finding
 mod Judged
 mod Asked
 mod Begun
+mod Once

@@ -139,7 +139,7 @@ module _ (cfg : Config) (asker : Asker) where
   final_of before ending (reading.Begins received rest) final h = h.0
 
   -- an interim head is no final one
-  never : (one : OneReading) (stream : List ℕ) (received : Received) (rest : List ℕ) (head : HeadReading) → ResponseOf asker.head_asked cfg.limits stream (reading.Begins received rest) → is_interim received.head ≡ true
+  pub never : (one : OneReading) (stream : List ℕ) (received : Received) (rest : List ℕ) (head : HeadReading) → ResponseOf asker.head_asked cfg.limits stream (reading.Begins received rest) → is_interim received.head ≡ true
       → ResponseOf asker.head_asked cfg.limits stream head → IsFinal head → ⊥
   never one stream received rest head r on q final =
       let same : head ≡ reading.Begins received rest = one (readers.Response asker.head_asked) cfg.limits stream head (reading.Begins received rest) q r in

@@ -1,4 +1,5 @@
 //! What the definitions say together.
+ghost use Rattle.std.specs.Prelude.{◌≡◌};
 ghost use Rattle.session_model.specs.Session.{Out};
 ghost use Rattle.http_rules.specs.declared.config.Config.{Config};
 ghost use Rattle.rec_format.specs.Recorded.{Visit};
@@ -11,6 +12,13 @@ use h1_head::laws::one_reading;
 /// status that is told, behind interim heads.
 pub fn sessions_answer_so()
     ensures { (cfg : Config) (visit : Visit) (traced : Traced) (out : Out) → TraceOf cfg visit traced → IsSessionOf cfg visit out → TellsStatus traced.answer out.client.bytes }
+{
+    one_reading();
+}
+
+/// Of each connection one trace is told.
+pub fn one_trace()
+    ensures { (cfg : Config) (visit : Visit) (a b : Traced) → TraceOf cfg visit a → TraceOf cfg visit b → a ≡ b }
 {
     one_reading();
 }
