@@ -1,0 +1,31 @@
+-- What the rules on a server's final head come to is told.
+use Rattle.std.proofs.Common.{◌≡◌, ℕ, ◌++◌, sym, subst}
+use Rattle.http_model.specs.Head.{Message}
+use Rattle.http_model.specs.Reading.{Received}
+use Rattle.session_model.specs.Asking.{Asker}
+use Rattle.session_model.specs.Env.{Pass, Reply, response_env}
+use Rattle.http_rules.specs.declared.config.Config.{Config}
+use Rattle.http_rules.specs.Action.Given.{Env}
+use Rattle.http_rules.specs.Rules.{Comes, rules_of}
+use Rattle.px_explain.specs.declared.trace.Which.TheVariants.{Response}
+use Rattle.px_explain.specs.declared.walk.Walk.{Walk}
+use Rattle.px_explain.specs.Told.{told}
+use Rattle.px_explain.specs.Traced.{replied, passed, judged, ruled}
+use Rattle.px_explain.specs.Walked.{Tells}
+use Rattle.px_explain.proofs.Walking.{tells_behind, replied_as}
+
+module _ (cfg : Config) (asker : Asker) (received : Received) (old mid new : Walk) (answer : ℕ) (lines : mid.teller.lines.items ≡ old.teller.lines.items ++ told Response cfg.limits.bufsize cfg.response (response_env old.teller.vars asker.method received.head)) where
+  abbrev comes : Comes
+  comes = rules_of cfg.limits.bufsize cfg.response (response_env old.teller.vars asker.method received.head)
+
+  by_verdict : (c : Comes) → comes ≡ c → Tells mid new answer (judged cfg asker received c) → Tells old new answer (ruled cfg asker old.teller.vars received)
+  by_verdict c is t =
+      tells_behind old mid new answer (told Response cfg.limits.bufsize cfg.response (response_env old.teller.vars asker.method received.head)) (judged cfg asker received comes) lines
+      (subst (λ (x : Comes). Tells mid new answer (judged cfg asker received x)) (sym is) t)
+
+  pub judged_passed : (left : Env) → comes ≡ Pass left → Tells mid new answer (passed cfg asker received left) → Tells old new answer (ruled cfg asker old.teller.vars received)
+  judged_passed left is t = by_verdict (Pass left) is t
+
+  module _ (left : Env) (vars : mid.teller.vars ≡ left.vars) (method : mid.method.bytes ≡ asker.method) where
+    pub judged_replied : (m : Message) → comes ≡ Reply m left → Tells mid new answer (replied cfg m mid.method.bytes mid.teller.vars) → Tells old new answer (ruled cfg asker old.teller.vars received)
+    judged_replied m is t = by_verdict (Reply m left) is (replied_as cfg mid new answer m mid.method.bytes asker.method mid.teller.vars left.vars method vars t)

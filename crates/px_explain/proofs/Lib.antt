@@ -1,0 +1,13 @@
+mod Lines
+mod Reading
+mod Replies
+mod Sessions
+mod Finals
+mod Interim
+mod Methods
+mod Walking
+mod Finding
+mod Judged
+mod Asked
+mod Begun
+mod Once
