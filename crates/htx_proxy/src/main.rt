@@ -20,7 +20,11 @@ use std::{env, io};
 const NO_TEXT: &str = "\u{fffd}";
 
 /// What `run` is handed.
-type RealMany<'a> = Many<ReadyNet<'a, HostRuntime>, RealNets<'a>, ReadyPoll<'a, HostRuntime>>;
+type RealMany<'a> = Many<
+    ReadyNet<'a, HostRuntime>,
+    RealNets<'a, HostRuntime>,
+    ReadyPoll<'a, HostRuntime>,
+>;
 
 /// The words of the command line, without the program's name.
 fn words_of<R: Env + AllocGlobal>(rt: &R) -> Result<Vec<String>, AllocError> {

@@ -4,6 +4,9 @@ use proxy_call::{Switch, Workers};
 use px_link::{Fault, OutOfMemory, Sink};
 use px_run::Nets;
 use px_sock::{InputEnd, ReadyNet, end_listener, is_output_gone};
+use std::alloc::Global;
+use std::io::Eprint;
+use std::net;
 
 /// What turns further connections off.
 #[derive(Drop)]
@@ -19,16 +22,18 @@ enum Off {
 
 /// Makes nets over the system's sockets.
 #[derive(Drop)]
-pub struct RealNets<'a> {
-    rt: &'a HostRuntime,
+pub struct RealNets<'a, R> {
+    alloc: Global,
+    rt: &'a R,
     off: Off,
     crew: Crew<'a>,
 }
 
-impl<'a> RealNets<'a> {
+impl<'a> RealNets<'a, HostRuntime> {
     /// Those of a process that was started by a user.
     pub fn new(rt: &'a HostRuntime) -> Self {
         RealNets {
+            alloc: rt.alloc(),
             rt,
             off: Off::Nothing,
             crew: Crew::new(rt),
@@ -38,6 +43,7 @@ impl<'a> RealNets<'a> {
     /// Those of a worker, which accepts nothing more once the process that started it is gone. It ends the listener then, so that the address is free.
     pub fn of_worker(rt: &'a HostRuntime) -> Self {
         RealNets {
+            alloc: rt.alloc(),
             rt,
             off: Off::Output,
             crew: Crew::new(rt),
@@ -46,7 +52,7 @@ impl<'a> RealNets<'a> {
 }
 
 /// The switch is standard input, which is off once that has ended. A worker has its own.
-impl<'a> Switch for RealNets<'a> {
+impl<'a, R> Switch for RealNets<'a, R> {
     fn heed(&mut self, heeds: bool) {
         if heeds {
             self.off = Off::Input(InputEnd::new());
@@ -54,9 +60,9 @@ impl<'a> Switch for RealNets<'a> {
     }
 }
 
-impl<'a> Nets<ReadyNet<'a, HostRuntime>> for RealNets<'a> {
-    fn net(&mut self) -> Result<ReadyNet<'a, HostRuntime>, OutOfMemory> {
-        Ok(ReadyNet::telling(self.rt.alloc(), self.rt))
+impl<'a, R: net::Net + Eprint> Nets<ReadyNet<'a, R>> for RealNets<'a, R> {
+    fn net(&mut self) -> Result<ReadyNet<'a, R>, OutOfMemory> {
+        Ok(ReadyNet::telling(self.alloc, self.rt))
     }
 
     fn accepts_more(&mut self) -> bool {
@@ -74,7 +80,7 @@ impl<'a> Nets<ReadyNet<'a, HostRuntime>> for RealNets<'a> {
     }
 }
 
-impl<'a> Workers<ReadyNet<'a, HostRuntime>> for RealNets<'a> {
+impl<'a> Workers<ReadyNet<'a, HostRuntime>> for RealNets<'a, HostRuntime> {
     fn start(&mut self, net: &ReadyNet<'a, HostRuntime>, count: u32) -> Result<(), Fault> {
         self.crew.start(net, count)
     }
