@@ -1,6 +1,6 @@
 -- What a window shows once bytes were written behind its own, or went from its front.
 use Rattle.std.proofs.Common.{◌≡◌, ◌≤◌, ◌+◌, ◌-◌, ◌++◌, List, ℕ, [], ◌∷◌, refl, take, drop, length, sym, ap, ◌∙◌, arith, append_assoc, length-append, length-drop}
-use Rattle.std.proofs.lemmas.List.{length-take-le, take_at, drop-drop, drop-take, drop-append-le}
+use Rattle.std.proofs.lemmas.List.{length-take-le, take_at, drop-drop, drop-take, drop-append-le, take-append-le, take-append-drop}
 use Rattle.wire_buf.specs.Stored.{overwritten}
 
 empty : (xs : List ℕ) → length xs ≡ 0 → xs ≡ []
@@ -9,6 +9,15 @@ empty (x ∷ xs) e = absurd (omega arith)
 
 pub length-shown : (ring : List ℕ) (begin len : ℕ) → begin + len ≤ length ring → length (take len (drop begin ring)) ≡ len
 length-shown ring begin len fits = length-take-le len (drop begin ring) (omega (arith, length-drop begin ring, fits))
+
+-- the bytes stand in a ring that has grown
+pub grown : (ring bigger : List ℕ) (begin len : ℕ) → begin + len ≤ length ring → take (length ring) bigger ≡ ring → take len (drop begin bigger) ≡ take len (drop begin ring)
+grown ring bigger begin len fits front =
+    let rest : List ℕ = drop (length ring) bigger in
+    let is : bigger ≡ ring ++ rest = sym (take-append-drop (length ring) bigger) ∙ ap (λ xs. xs ++ rest) front in
+    ap (λ xs. take len (drop begin xs)) is
+    ∙ ap (take len) (drop-append-le begin ring rest (omega (arith, fits)))
+    ∙ take-append-le len (drop begin ring) rest (omega (arith, length-drop begin ring, fits))
 
 -- a piece stands behind the bytes that were there
 pub pushed : (ring piece bytes : List ℕ) (begin len n : ℕ) → begin + len + n ≤ length ring → length piece ≡ n → take len (drop begin ring) ≡ bytes

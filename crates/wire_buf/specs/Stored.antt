@@ -11,8 +11,8 @@ overwritten xs at piece = take at xs ++ (piece ++ drop (at + length piece) xs)
 abbrev pub shown : Inside → Buffer ℕ
 shown w = buffer (take w.len (drop w.begin w.ring.items)) w.ring.capacity
 
--- the ring is full, the bytes lie in it, and its size is a number of 32 bits
+-- the bytes lie among the ring's items and within its size, which is a number of 32 bits
 pub record IsStored (w : Inside) : Type 0 where
-  pub full : length w.ring.items ≡ w.ring.capacity
+  pub stand : w.begin + w.len ≤ length w.ring.items
   pub within : w.begin + w.len ≤ w.ring.capacity
   pub small : w.ring.capacity < 2 ^ 32

@@ -14,7 +14,7 @@ use std::marker::Model;
 /// A window. Contracts see its bytes as `items`, and the most that it holds as `capacity`.
 #[derive(Drop)]
 pub struct Window {
-    /// A ring that is always full: its block is what the window's bytes stand in.
+    /// A ring that only grows: its items are what the window's bytes stand in, as many as it ever reached.
     ring: HeapCircularBuffer<u8>,
     /// Where in the ring the bytes begin.
     begin: usize,
@@ -37,12 +37,14 @@ impl Model for Window {
 /// How many bytes are cleared at once.
 const BLOCK: usize = 256;
 
-/// Fills a ring up with zeros.
-fn fill_up(ring: &mut HeapCircularBuffer<u8>)
-    ensures full { length ring.new.items ≡ ring.old.capacity }
+/// Fills a ring with zeros until it has so many items. Memory that nothing was written to is left alone, so that no page of the system stands behind it.
+fn fill_to(ring: &mut HeapCircularBuffer<u8>, count: usize)
+    requires { count ≤ ring.old.capacity }
+    ensures reached { count ≤ length ring.new.items }
+    ensures kept { take (length ring.old.items) ring.new.items ≡ ring.old.items }
     ensures capacity { ring.new.capacity ≡ ring.old.capacity }
 {
-    while ring.len() < ring.capacity() {
+    while ring.len() < count {
         ring.fill_from_slice(&[0; BLOCK]);
     }
 }
@@ -70,18 +72,20 @@ fn bring_front(ring: &mut HeapCircularBuffer<u8>, begin: usize, end: usize)
 /// Makes room for so many bytes behind the `len` from `begin` on, and answers where these begin then.
 fn make_room(ring: &mut HeapCircularBuffer<u8>, begin: usize, len: usize, more: usize) -> usize
     requires within { begin + len ≤ length ring.old.items }
-    requires fits { len + more ≤ length ring.old.items }
-    ensures room { result + len + more ≤ length ring.old.items }
+    requires fits { len + more ≤ ring.old.capacity }
+    ensures room { result + len + more ≤ length ring.new.items }
+    ensures within { result + len + more ≤ ring.new.capacity }
     ensures kept { take len (drop result ring.new.items) ≡ take len (drop begin ring.old.items) }
-    ensures len { length ring.new.items ≡ length ring.old.items }
     ensures capacity { ring.new.capacity ≡ ring.old.capacity }
 {
-    let size = ring.len();
+    let capacity = ring.capacity();
     let end = begin + len;
-    if more <= size - end {
+    if more <= capacity - end {
+        fill_to(ring, end + more);
         return begin;
     }
     bring_front(ring, begin, end);
+    fill_to(ring, len + more);
     0
 }
 
@@ -153,8 +157,7 @@ impl Window {
         ensures empty { IfOk result (λ window. window.items ≡ []) }
         ensures capacity { IfOk result (λ window. window.capacity ≡ cap) }
     {
-        let mut ring = HeapCircularBuffer::with_capacity(alloc, cap as usize)?;
-        fill_up(&mut ring);
+        let ring = HeapCircularBuffer::with_capacity(alloc, cap as usize)?;
         Ok(Window {
             ring,
             begin: 0,

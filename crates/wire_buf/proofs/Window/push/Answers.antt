@@ -9,7 +9,7 @@ returns-clause-items c =
     let ring : List ℕ = c.make_room-begin.new.ring.items in
     let piece : List ℕ = take count c.args.bytes.now in
     let size : length piece ≡ count = length-take-le count c.args.bytes.now (omega (arith, c.min-count.ensures)) in
-    let fits : c.make_room-begin.result + c.self.inside.len + count ≤ length ring = omega (arith, c.make_room-begin.ensures.room, c.make_room-begin.ensures.len) in
+    let fits : c.make_room-begin.result + c.self.inside.len + count ≤ length ring = c.make_room-begin.ensures.room in
     let kept : take c.self.inside.len (drop c.make_room-begin.result ring) ≡ c.args.self.now.items = c.make_room-begin.ensures.kept ∙ ap (λ b. b.items) c.self.view_is in
     ap (λ xs. take (c.self.inside.len + count) (drop c.make_room-begin.result xs)) c.write.ensures.items
     ∙ pushed ring piece c.args.self.now.items c.make_room-begin.result c.self.inside.len count fits size kept
