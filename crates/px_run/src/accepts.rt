@@ -41,6 +41,22 @@ pub(crate) fn accepts_more<N: WaitsNet, S: Nets<N>>(
     nets.accepts_more()
 }
 
+/// The same, where this may have changed: it is asked again where a link may wait to be accepted, since what turns further ones off is told together with those.
+pub(crate) fn still_accepts<N: WaitsNet, S: Nets<N>>(
+    accepted_before: bool,
+    may_accept: bool,
+    accepted: u32,
+    plan: &Plan,
+    nets: &mut S,
+) -> bool
+    ensures all { result ≡ false → IfSome plan.now.connections (λ count. (count ≤ accepted) ⊎ S.accepts_none nets.new) }
+{
+    if accepted_before && !may_accept {
+        return true;
+    }
+    accepts_more(accepted, plan, nets)
+}
+
 /// Puts a connection at a place at which none is.
 fn put<T>(at: &mut Option<T>, value: T)
     requires { at.old ≡ None }
@@ -137,10 +153,7 @@ fn accept_next<C: Resets + Drop, L: Waits, N: WaitsNet<Link = L> + Drop, S: Nets
     ensures balanced { IsBalanced (N.seen net.old) (N.seen net.new) hall.old.places.items hall.new.places.items }
     ensures net { IsSameNet (N.seen net.old) (N.seen net.new) }
 {
-    if !accepts_more(hall.accepted, plan, nets) {
-        return Ok(false);
-    }
-    if !agenda.may_accept {
+    if has_all(hall.accepted, plan.connections) {
         return Ok(false);
     }
     if !agenda.has_place() {
@@ -190,6 +203,12 @@ pub(crate) fn accepts<
     ensures balanced { IsBalanced (N.seen net.old) (N.seen net.new) hall.old.places.items hall.new.places.items }
     ensures net { IsSameNet (N.seen net.old) (N.seen net.new) }
 {
+    if !agenda.may_accept {
+        return Ok(());
+    }
+    if !accepts_more(hall.accepted, plan, nets) {
+        return Ok(());
+    }
     for _ in 0..u32::MAX {
         match accept_next(hall, agenda, net, nets, wakes, plan) {
             Ok(true) => {}

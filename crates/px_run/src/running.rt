@@ -9,7 +9,7 @@ ghost use Rattle.px_run.specs.History.{Visit};
 ghost use Rattle.px_run.specs.Served.{had_memory, ServedMany};
 ghost use Rattle.px_run.specs.Hall.{IsPlaced, GaveUpAt, Goes, taken_at, count_taken, IsSameNet, IsBalanced};
 
-use crate::accepts::{accepts, accepts_more};
+use crate::accepts::{accepts, still_accepts};
 use crate::agenda::Agenda;
 use crate::connection::Connection;
 use crate::hall::{Hall, is_empty, no_places};
@@ -54,8 +54,9 @@ fn rounds<
         Ok(agenda) => agenda,
         Err(OutOfMemory) => return Err(RunFault::OutOfMemory),
     };
+    let mut more = true;
     for _ in 0..u64::MAX {
-        let more = accepts_more(hall.accepted, plan, nets);
+        more = still_accepts(more, agenda.may_accept, hall.accepted, plan, nets);
         if !more && is_empty(&hall.places) {
             return Ok(());
         }

@@ -8,7 +8,7 @@ pub(crate) const INPUT: i32 = 0;
 const PIECE: usize = 4096;
 
 /// How many pieces one question throws away at most.
-const PIECES: usize = 16;
+const PIECES: usize = 1024;
 
 /// Whether standard input has ended. No contract tells when it does.
 #[derive(Drop)]

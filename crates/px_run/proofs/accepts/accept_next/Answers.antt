@@ -1,4 +1,4 @@
-use Rattle.std.proofs.Common.{rules, ◌≡◌, true, sym, subst}
+use Rattle.std.proofs.Common.{rules, ◌≡◌, true, false, sym, subst}
 use Rattle.px_link.specs.Net.{NetSeen}
 use Rattle.px_run.specs.Hall.{Goes}
 use Rattle.px_run.proofs.Texts.{within_one}
@@ -21,5 +21,5 @@ returns-in-Err-OutOfMemory-clause-goes g c = λ cfg to begun writes writes_now b
 
 pub returns-in-Err-OutOfMemory-clause-within : goal.returns-in-Err-OutOfMemory-clause-within
 returns-in-Err-OutOfMemory-clause-within g c =
-    let more : c.accepts_more.result ≡ true = search rules in
-    within_one c.args.plan.now.connections c.args.hall.now.accepted c.accept.new.hall.accepted (c.accepts_more.ensures.within more) c.in-Err-OutOfMemory.ensures.accepted
+    let more : c.has_all.result ≡ false = search rules in
+    within_one c.args.plan.now.connections c.args.hall.now.accepted c.accept.new.hall.accepted (c.has_all.ensures.within more) c.in-Err-OutOfMemory.ensures.accepted
