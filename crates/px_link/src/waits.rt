@@ -30,6 +30,15 @@ pub trait Waits: Link {
         ensures seen { Self.seen self.new ≡ Self.seen self.old }
         ensures wrote { (bytes : List ℕ) → Self.wrote self.old bytes → Self.wrote self.new bytes };
 
+    /// Whether a piece is written now, and whether more follows it at once. A link may keep what it takes for what follows, but not where nothing is
+    /// written and nothing follows. One that sends each piece by itself does nothing.
+    fn cork(&mut self, writes: bool, follows: bool)
+        ensures seen { Self.seen self.new ≡ Self.seen self.old }
+        ensures wrote { (bytes : List ℕ) → Self.wrote self.old bytes → Self.wrote self.new bytes }
+    {
+        let _ = (writes, follows);
+    }
+
     /// Whether a link that was closed can be given back now with nothing lost: its peer has ended too, or wants nothing more. What the
     /// peer still sends is thrown away here, and is no read (RFC 9112 section 9.6).
     fn can_keep(&mut self) -> bool

@@ -90,6 +90,13 @@ fn may_open<N: WaitsNet>(net: &mut N, to: &Address, wanted: bool, over: bool) ->
     net.can_connect(to)
 }
 
+/// Tells a link whether it is written to now, and whether more follows at once.
+fn cork<L: Waits>(link: &mut L, writes: bool, follows: bool)
+    ensures same { IsSame L.seen L.wrote link.old link.new }
+{
+    link.cork(writes, follows);
+}
+
 /// Which calls are answered at once, of those that are wanted.
 fn ready_of<L: Waits, N: WaitsNet<Link = L>>(
     conn: &mut Conn<L, N>,
@@ -107,6 +114,7 @@ fn ready_of<L: Waits, N: WaitsNet<Link = L>>(
     let server_read = may_read_server(&mut conn.server, wants.server_read);
     let server_write = may_write_server(&mut conn.server, wants.server_write);
     let connect = may_open(&mut conn.net, to, wants.server_open, connect_over);
+    cork(&mut conn.client, client_write, server_read);
     Ready {
         client_read,
         client_write,

@@ -12,7 +12,7 @@ const PATIENCE_MILLIS: u64 = 2000;
 /// How many bytes are thrown away at most, but for the last piece.
 const MOST: usize = 1048576;
 
-const PIECE: usize = 16384;
+const PIECE: usize = 4096;
 
 /// What came of a read whose bytes are thrown away.
 enum Thrown {

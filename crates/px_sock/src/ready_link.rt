@@ -6,13 +6,16 @@ ghost use Rattle.px_sock.specs.Ready.{link_of};
 use crate::faults::{count, counted};
 use crate::linger::{Lingering, linger_now};
 use crate::ready::{Ready, after, ready_if};
-use crate::stream_calls::sends_end;
+use crate::stream_calls::{sends_apart, sends_end};
 use crate::stream_waits::{read_in_time, reads_now, write_in_time, writes_now};
 use px_link::{Close, Failed, Fault, Link, Readiness, Waits};
 use std::io::{Read, Write};
 use std::marker::Model;
 use std::net::OpenStream;
 use std::os::fd::{AsRawFd, RawFd};
+
+/// A piece of so many bytes is kept for what follows at once. For shorter ones it isn't worth the calls that ask for it.
+const LONG: usize = 4096;
 
 /// A link over a stream that doesn't block. Contracts see its two counts, and which calls have no time left.
 #[derive(Drop)]
@@ -27,6 +30,10 @@ pub struct ReadyLink<S> {
     thrown: usize,
     reads: Ready,
     writes: Ready,
+    /// More follows at once what is written next.
+    follows: bool,
+    /// The system may keep what was written, for what follows.
+    corked: bool,
     /// An event told that the peer sends no more: no later one will tell of what is left.
     ended: bool,
     reads_over: bool,
@@ -59,8 +66,11 @@ impl<S: OpenStream + AsRawFd + Drop> ReadyLink<S> {
             closing: None,
             lingers,
             thrown: 0,
-            reads: Ready::Untold,
-            writes: Ready::Untold,
+            reads: reads_first(lingers),
+            // nothing was written yet, so there is room
+            writes: Ready::Yes,
+            follows: false,
+            corked: false,
             ended: false,
             reads_over: false,
             writes_over: false,
@@ -76,6 +86,12 @@ impl<S: OpenStream + AsRawFd + Drop> ReadyLink<S> {
             None => None,
         }
     }
+}
+
+/// What is known of the reads of a new link: a client may have sent already, so it is asked; a server speaks second, and the wait that is told of its link
+/// tells of what has come.
+fn reads_first(is_client: bool) -> Ready {
+    if is_client { Ready::Untold } else { Ready::No }
 }
 
 /// What is known of reads behind one that gave so many bytes of so many: where the peer has ended, none waits.
@@ -118,7 +134,13 @@ impl<S: Read + Write + OpenStream + AsRawFd + Drop> Link for ReadyLink<S> {
         ensures over { self.old.writes_over ≡ true → IsErr result }
         ensures times { (self.new.reads_over ≡ self.old.reads_over) × (self.new.writes_over ≡ self.old.writes_over) }
     {
+        if self.follows && !self.corked && piece.len() >= LONG {
+            self.corked = sends_apart(&self.stream, false);
+        }
         let taken = write_in_time(&mut self.stream, self.writes_over, piece);
+        if self.corked && !self.follows {
+            self.corked = !sends_apart(&self.stream, true);
+        }
         match counted(&mut self.write_faults, taken) {
             Ok(n) => {
                 self.writes = after(n, piece.len());
@@ -202,6 +224,18 @@ impl<S: Read + Write + OpenStream + AsRawFd + Drop> Waits for ReadyLink<S> {
         }
     }
 
+    /// The system keeps a part of a long piece for what follows (Nagle's way), until the last piece is written or nothing more is.
+    fn cork(&mut self, writes: bool, follows: bool)
+        ensures seen { link_of self.new ≡ link_of self.old }
+        ensures wrote { (bytes : List ℕ) → ⊥ → ⊥ }
+        ensures same { self.new ≡ self.old }
+    {
+        self.follows = follows;
+        if self.corked && !writes && !follows {
+            self.corked = !sends_apart(&self.stream, true);
+        }
+    }
+
     fn can_keep(&mut self) -> bool
         ensures seen { link_of self.new ≡ link_of self.old }
         ensures wrote { (bytes : List ℕ) → ⊥ → ⊥ }
@@ -210,6 +244,11 @@ impl<S: Read + Write + OpenStream + AsRawFd + Drop> Waits for ReadyLink<S> {
         if self.closing.is_none() {
             return true;
         }
+        if self.reads == Ready::No {
+            // an event tells of more, and of the peer's end
+            return false;
+        }
+        self.reads = Ready::No;
         linger_now(&mut self.closing, &mut self.thrown) == Lingering::Over
     }
 }

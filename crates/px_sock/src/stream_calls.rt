@@ -37,3 +37,11 @@ pub fn sends_end<S: OpenStream>(stream: &Option<S>) -> bool {
         None => false,
     }
 }
+
+/// Has each piece that is written be sent by itself, or together with what follows; what was kept for that is sent then. Whether that was done.
+pub fn sends_apart<S: OpenStream>(stream: &Option<S>, apart: bool) -> bool {
+    match stream {
+        Some(stream) => stream.set_nodelay(apart).is_ok(),
+        None => false,
+    }
+}
