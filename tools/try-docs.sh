@@ -104,6 +104,7 @@ class Counts:
     def __init__(self, text):
         lines = [line.split() for line in text.splitlines() if line.strip() and not line.strip().startswith("#")]
         self.request, self.response, self.after = (sum(words[0] == name for words in lines) for name in ("http-request", "http-response", "http-after-response"))
+        self.request += any(words[:2] == ["option", "forwardfor"] for words in lines)  # one rule on requests, behind all others
         self.req, self.res = (sum(words[0] == "filter" and words[2] == side for words in lines) for side in ("req", "res"))
         sizes = {words[0]: int(words[1]) for words in lines if words[0].startswith("tune.")}
         self.bufsize = sizes.get("tune.bufsize", 16384)

@@ -7,6 +7,7 @@ use Rattle.std.specs.Char.{is_ascii_alphanumeric}
 use Rattle.std.specs.Str.{bytes_eq}
 use Rattle.px_expr.specs.declared.expr.Expr as exprs
 use Rattle.px_bytes.specs.Tokens.{is_token}
+use Rattle.px_peer.specs.Names.{src_name, src_port_name}
 use Rattle.px_sample.specs.Cast.{number_of_text}
 use Rattle.px_sample.specs.declared.scope.Scope.{Scope}
 use Rattle.px_sample.specs.declared.scope.Scope.TheVariants as scopes
@@ -106,6 +107,17 @@ bare_fetch name =
     else (if bytes_eq name (codes "always_false") then Some fetches.AlwaysFalse
     else None))))))))))
 
+-- the variable of the session that `src` and `src_port` are
+unfoldable pub peer_variable : List ℕ → Option (List ℕ)
+peer_variable name =
+    if bytes_eq name (codes "src") then Some src_name
+    else (if bytes_eq name (codes "src_port") then Some src_port_name
+    else None)
+
+abbrev pub bare_source : Option (List ℕ) → (name : List ℕ) → Told Source
+bare_source (Some variable) name = Ok (Of (fetches.Var scopes.Sess variable))
+bare_source None name = expected (option_map Of (bare_fetch name))
+
 -- ---- a field
 
 -- fetches of a field, which may have an occurrence
@@ -159,7 +171,7 @@ source_at_occurrence (Some which) first second =
 
 -- the fetch of a name and its arguments
 unfoldable pub source_of : List ℕ → List (List ℕ) → Told Source
-source_of name [] = expected (option_map Of (bare_fetch name))
+source_of name [] = bare_source (peer_variable name) name
 source_of name (arg ∷ []) = source_with (field_fetch name) name arg
 source_of name (first ∷ second ∷ []) = source_at_occurrence (field_fetch name) first second
 source_of name (first ∷ second ∷ third ∷ others) = Err Expr

@@ -3,7 +3,7 @@ ghost use Rattle.std.specs.Prelude.{◌≡◌, option_map};
 ghost use Rattle.std.specs.List.{list_all};
 ghost use Rattle.cfg_expr.specs.Calls.{args_of};
 ghost use Rattle.cfg_expr.specs.Faults.{Gives};
-ghost use Rattle.cfg_expr.specs.Fetches.{scope_of, is_variable_byte, is_variable_name, variable_of, variable_fetch, bare_fetch, field_fetch, field_source, fetch_with, source_with, source_at_occurrence, source_of};
+ghost use Rattle.cfg_expr.specs.Fetches.{scope_of, is_variable_byte, is_variable_name, variable_of, variable_fetch, bare_fetch, peer_variable, bare_source, field_fetch, field_source, fetch_with, source_with, source_at_occurrence, source_of};
 
 use crate::call::{around, first_of};
 use crate::numbers::{field_name, number, occurrence, truth};
@@ -104,6 +104,33 @@ fn bare_fetch(name: &[u8]) -> Option<Fetch>
         Some(Fetch::AlwaysFalse)
     } else {
         None
+    }
+}
+
+/// The variable of the session that `src` and `src_port` are. No configuration can spell these names.
+#[tactic(auto, unfolding(crate::specs::Fetches::peer_variable))]
+fn peer_variable(name: &[u8]) -> Option<&'static [u8]>
+    ensures { option_map (λ text. text.now) result ≡ peer_variable name.now }
+{
+    if is_word(name, b"src") {
+        Some(b":src")
+    } else if is_word(name, b"src_port") {
+        Some(b":src_port")
+    } else {
+        None
+    }
+}
+
+/// The source of a name without arguments.
+fn bare_source(alloc: Global, name: &[u8]) -> Result<Source, TextFault>
+    ensures { Gives (λ source. source) result (bare_source (peer_variable name.now) name.now) }
+{
+    match peer_variable(name) {
+        Some(variable) => Ok(Source::Of(Fetch::Var(Scope::Sess, Text::copy(alloc, variable)?))),
+        None => match bare_fetch(name) {
+            Some(fetch) => Ok(Source::Of(fetch)),
+            None => Err(TextFault::Refused(TextKind::Expr)),
+        },
     }
 }
 
@@ -213,10 +240,7 @@ pub fn read_source(alloc: Global, name: &[u8], args: Args<'_>) -> Result<Source,
     ensures { Gives (λ source. source) result (source_of name.now (args_of args.entry)) }
 {
     match args {
-        Args::Bare => match bare_fetch(name) {
-            Some(fetch) => Ok(Source::Of(fetch)),
-            None => Err(TextFault::Refused(TextKind::Expr)),
-        },
+        Args::Bare => bare_source(alloc, name),
         Args::One(arg) => source_with(alloc, name, arg),
         Args::Two(first, second) => source_at_occurrence(alloc, name, first, second),
         Args::Three(_, _, _) => Err(TextFault::Refused(TextKind::Expr)),

@@ -1,5 +1,5 @@
 -- Lines by their parts: what a part of a line comes to, the line does.
-use Rattle.std.proofs.Common.{◌≡◌, ℕ, List, Option, Some, None, Result, Ok, Err, ap, refl, ◌∙◌}
+use Rattle.std.proofs.Common.{◌≡◌, ℕ, List, Option, Some, None, Result, Ok, Err, ap, refl, sym, ◌∙◌}
 use Rattle.px_pattern.specs.Refusals.{Kept}
 use Rattle.cfg_expr.specs.Reading.{◌>>=◌, plain, given_by, Fails, kind_as}
 use Rattle.cfg_expr.specs.Faults as text_faults
@@ -22,8 +22,9 @@ use Rattle.cfg_parse.specs.declared.fault.LineRefusal.{LineRefusal}
 use Rattle.cfg_parse.specs.declared.fault.LineRefusal.TheVariants as refusals
 use Rattle.cfg_parse.specs.Reading.{Leaves}
 use Rattle.cfg_parse.specs.Asking.{of_text, of_rule, kind_of_text, kind_of_rule, refusal_of_text, refusal_of_rule, cause_of, LineReading, ReadsLine}
-use Rattle.cfg_parse.specs.Rules.{rule_added, rule_line, acl_setting}
-use Rattle.cfg_parse.proofs.SoundLemmas.{section_left, bufsize_left, maxrewrite_left, mode_left, timeout_left, bind_left, server_left, filter_left, rule_left, acls_left}
+use Rattle.cfg_parse.specs.Rules.{rule_added, rule_line, acl_setting, with_forwarding, forwarding_line}
+use Rattle.cfg_parse.specs.Action.Forwarding.{forwarding_rule}
+use Rattle.cfg_parse.proofs.SoundLemmas.{section_left, bufsize_left, maxrewrite_left, mode_left, timeout_left, bind_left, server_left, filter_left, rule_left, acls_left, forwarding_left}
 
 -- a line that asks for no pattern
 pub reads_plainly : (result : Result (Unit {0}) LineRefusal) (left : Draft) (meaning : Result Draft CfgKind) (before after : ℕ) (kept : Kept) →
@@ -63,6 +64,18 @@ unfolding rule_line
 rule_line_fails draft direction arguments before after kept refusal fails =
     fails_first (of_rule (rule_of direction draft.acls arguments)) (λ rule. plain (rule_added draft direction rule)) before after kept (cause_of refusal) fails
 
+-- an `option forwardfor` line whose rule was read
+pub forwarding_reads : (draft left : Draft) (arguments : List (List ℕ)) (rule : Rule) → (of_rule (forwarding_rule arguments)).gives ≡ Ok rule → left ≡ with_forwarding draft rule → (forwarding_line draft arguments).gives ≡ Ok left
+unfolding forwarding_line
+forwarding_reads draft left arguments rule is put = ap (λ g. given_by g (λ rule. plain (Ok (with_forwarding draft rule)))) is ∙ ap (λ (d : Draft). Ok d) (sym put)
+
+-- one whose rule was not read
+pub forwarding_fails : (draft : Draft) (arguments : List (List ℕ)) (before after : ℕ) (kept : Kept) (refusal : LineRefusal) →
+    Fails (of_rule (forwarding_rule arguments)) before after kept (cause_of refusal) → Fails (forwarding_line draft arguments) before after kept (cause_of refusal)
+unfolding forwarding_line
+forwarding_fails draft arguments before after kept refusal fails =
+    fails_first (of_rule (forwarding_rule arguments)) (λ rule. plain (Ok (with_forwarding draft rule))) before after kept (cause_of refusal) fails
+
 -- ---- acl lines
 
 -- as a test fails, its line does
@@ -92,6 +105,8 @@ pub ruleset parts = (
   rule_gives_so,
   rule_line_reads,
   rule_line_fails,
+  forwarding_reads,
+  forwarding_fails,
   acl_line_reads,
   acl_line_fails,
   section_left,
@@ -104,4 +119,5 @@ pub ruleset parts = (
   filter_left,
   rule_left,
   acls_left,
+  forwarding_left,
 )

@@ -1,5 +1,5 @@
 -- Each line keeps the configuration so far sound, and a sound one is valid in the end.
-use Rattle.std.proofs.Common.{◌≡◌, ℕ, ◌+◌, ◌-◌, ◌≤◌, ◌<◌, Bool, true, false, cond, ltb, leb, eqb, List, [], ◌∷◌, ◌++◌, length, take, drop, Option, Some, None, Result, Ok, Err, refl, ap, subst, ◌∙◌, arith, length-append}
+use Rattle.std.proofs.Common.{◌≡◌, ℕ, ◌+◌, ◌-◌, ◌≤◌, ◌<◌, Bool, true, false, cond, ltb, leb, eqb, List, [], ◌∷◌, ◌++◌, length, take, drop, Option, Some, None, Result, Ok, Err, refl, sym, ap, subst, ◌∙◌, arith, length-append}
 use Rattle.std.specs.Prelude.{◌&&◌, ◌||◌, ◌⊎◌, OnOk, IfSome, is_some, unwrap_or, codes}
 use Rattle.std.specs.List.{AllByRecursion}
 use Rattle.std.specs.Str.{bytes_eq}
@@ -22,10 +22,10 @@ use Rattle.cfg_expr.specs.declared.condition.written.AclLine.{AclLine}
 use Rattle.cfg_parse.specs.Reading.{◌>>=◌, argument, no_more, Leaves}
 use Rattle.cfg_parse.specs.Keywords.{timeout_of}
 use Rattle.cfg_parse.specs.Draft.{start, has_listen}
-use Rattle.cfg_parse.specs.Settings.{section_line, bufsize_line, maxrewrite_line, mode_line, named, timeout_line, bind_line, server_line}
-use Rattle.cfg_parse.specs.Rules.{tests_of, rules_in, has_room, with_rule, rule_added}
+use Rattle.cfg_parse.specs.Settings.{has_effect, section_line, bufsize_line, maxrewrite_line, mode_line, named, timeout_line, bind_line, server_line}
+use Rattle.cfg_parse.specs.Rules.{tests_of, rules_in, has_room, with_rule, rule_added, with_forwarding}
 use Rattle.cfg_parse.specs.Sound.{IsSound}
-use Rattle.cfg_parse.specs.Whole.{bufsize_of, maxrewrite_of, limits_of, made_config, with_addresses, whole}
+use Rattle.cfg_parse.specs.Whole.{bufsize_of, maxrewrite_of, limits_of, made_config, with_last, with_addresses, whole}
 use Rattle.cfg_parse.specs.declared.keywords.SectionWord.{SectionWord}
 use Rattle.cfg_parse.specs.declared.keywords.SectionWord.TheVariants.{Global, Defaults, Listen, Other}
 use Rattle.cfg_parse.specs.Numbers.{number_up_to, size_of, time_of}
@@ -71,25 +71,29 @@ keeps_if : (b : Bool) (kind : CfgKind) (x : Result Draft CfgKind) → (b ≡ tru
 keeps_if true kind x keeps = keeps refl
 keeps_if false kind x keeps = tt
 
+begun_good : (begun : Bool) (rule : Option Rule) → IfSome rule (IsGoodRule lists.Request) → IfSome (cond begun rule None) (IsGoodRule lists.Request)
+begun_good true rule good = good
+begun_good false rule good = tt
+
 section_line-sound : (draft : Draft) (word : SectionWord) (arguments : List (List ℕ)) → IsSound draft → Keeps (section_line draft word arguments)
 unfolding section_line
-section_line-sound draft Global arguments s = keeps_bind (no_more arguments) _ (λ ended is. record { bufsize = s.bufsize; bind = s.bind; server = s.server; request = s.request; response = s.response; after = s.after; req_filters = s.req_filters; res_filters = s.res_filters })
-section_line-sound draft Defaults arguments s = keeps_bind (no_more arguments) _ (λ ended is. record { bufsize = s.bufsize; bind = s.bind; server = s.server; request = s.request; response = s.response; after = s.after; req_filters = s.req_filters; res_filters = s.res_filters })
+section_line-sound draft Global arguments s = keeps_bind (no_more arguments) _ (λ ended is. record { bufsize = s.bufsize; bind = s.bind; server = s.server; request = s.request; response = s.response; after = s.after; req_filters = s.req_filters; res_filters = s.res_filters; forwarding = s.forwarding })
+section_line-sound draft Defaults arguments s = keeps_bind (no_more arguments) _ (λ ended is. record { bufsize = s.bufsize; bind = s.bind; server = s.server; request = s.request; response = s.response; after = s.after; req_filters = s.req_filters; res_filters = s.res_filters; forwarding = begun_good (has_listen draft.listen) draft.forwarding s.forwarding })
 section_line-sound draft Listen arguments s =
-    keeps_unless (has_listen draft.listen) Section _ (keeps_bind (argument arguments) _ (λ name is. keeps_bind (no_more name.1) _ (λ ended ends. record { bufsize = s.bufsize; bind = s.bind; server = s.server; request = s.request; response = s.response; after = s.after; req_filters = s.req_filters; res_filters = s.res_filters })))
+    keeps_unless (has_listen draft.listen) Section _ (keeps_bind (argument arguments) _ (λ name is. keeps_bind (no_more name.1) _ (λ ended ends. record { bufsize = s.bufsize; bind = s.bind; server = s.server; request = s.request; response = s.response; after = s.after; req_filters = s.req_filters; res_filters = s.res_filters; forwarding = s.forwarding })))
 section_line-sound draft Other arguments s = tt
 
 bufsize_line-sound : (draft : Draft) (arguments : List (List ℕ)) → IsSound draft → Keeps (bufsize_line draft arguments)
 unfolding bufsize_line
 bufsize_line-sound draft arguments s =
     keeps_bind (argument arguments) _ (λ word is. keeps_bind (size_of 1024 262144 word.0) _ (λ size size-is. keeps_bind (no_more word.1) _ (λ ended ends.
-    record { bufsize = size_of-within 1024 262144 word.0 size size-is; bind = s.bind; server = s.server; request = s.request; response = s.response; after = s.after; req_filters = s.req_filters; res_filters = s.res_filters })))
+    record { bufsize = size_of-within 1024 262144 word.0 size size-is; bind = s.bind; server = s.server; request = s.request; response = s.response; after = s.after; req_filters = s.req_filters; res_filters = s.res_filters; forwarding = s.forwarding })))
 
 maxrewrite_line-sound : (draft : Draft) (arguments : List (List ℕ)) → IsSound draft → Keeps (maxrewrite_line draft arguments)
 unfolding maxrewrite_line
 maxrewrite_line-sound draft arguments s =
     keeps_bind (argument arguments) _ (λ word is. keeps_bind (number_up_to most_size word.0) _ (λ size size-is. keeps_bind (no_more word.1) _ (λ ended ends.
-    record { bufsize = s.bufsize; bind = s.bind; server = s.server; request = s.request; response = s.response; after = s.after; req_filters = s.req_filters; res_filters = s.res_filters })))
+    record { bufsize = s.bufsize; bind = s.bind; server = s.server; request = s.request; response = s.response; after = s.after; req_filters = s.req_filters; res_filters = s.res_filters; forwarding = s.forwarding })))
 
 mode_line-sound : (draft : Draft) (arguments : List (List ℕ)) → IsSound draft → Keeps (mode_line draft arguments)
 unfolding mode_line
@@ -100,19 +104,19 @@ timeout_line-sound : (draft : Draft) (arguments : List (List ℕ)) → IsSound d
 unfolding timeout_line
 timeout_line-sound draft arguments s =
     keeps_bind (argument arguments) _ (λ word is. keeps_bind (named (timeout_of word.0)) _ (λ name name-is. keeps_bind (argument word.1) _ (λ second second-is. keeps_bind (time_of second.0) _ (λ time time-is. keeps_bind (no_more second.1) _ (λ ended ends.
-    record { bufsize = s.bufsize; bind = s.bind; server = s.server; request = s.request; response = s.response; after = s.after; req_filters = s.req_filters; res_filters = s.res_filters })))))
+    record { bufsize = s.bufsize; bind = s.bind; server = s.server; request = s.request; response = s.response; after = s.after; req_filters = s.req_filters; res_filters = s.res_filters; forwarding = s.forwarding })))))
 
 bind_line-sound : (draft : Draft) (arguments : List (List ℕ)) → IsSound draft → Keeps (bind_line draft arguments)
 unfolding bind_line
 bind_line-sound draft arguments s =
     keeps_unless (is_some draft.bind) Argument _ (keeps_bind (argument arguments) _ (λ word is. keeps_bind (address_of word.0) _ (λ address address-is. keeps_bind (no_more word.1) _ (λ ended ends.
-    record { bufsize = s.bufsize; bind = address_of-port word.0 address address-is; server = s.server; request = s.request; response = s.response; after = s.after; req_filters = s.req_filters; res_filters = s.res_filters }))))
+    record { bufsize = s.bufsize; bind = address_of-port word.0 address address-is; server = s.server; request = s.request; response = s.response; after = s.after; req_filters = s.req_filters; res_filters = s.res_filters; forwarding = s.forwarding }))))
 
 server_line-sound : (draft : Draft) (arguments : List (List ℕ)) → IsSound draft → Keeps (server_line draft arguments)
 unfolding server_line
 server_line-sound draft arguments s =
     keeps_unless (is_some draft.server) Argument _ (keeps_bind (argument arguments) _ (λ name name-is. keeps_bind (argument name.1) _ (λ word is. keeps_bind (server_address_of word.0) _ (λ address address-is. keeps_bind (no_more word.1) _ (λ ended ends.
-    record { bufsize = s.bufsize; bind = s.bind; server = server_address_of-good word.0 address address-is; request = s.request; response = s.response; after = s.after; req_filters = s.req_filters; res_filters = s.res_filters })))))
+    record { bufsize = s.bufsize; bind = s.bind; server = server_address_of-good word.0 address address-is; request = s.request; response = s.response; after = s.after; req_filters = s.req_filters; res_filters = s.res_filters; forwarding = s.forwarding })))))
 
 rules_push : (P : Rule → Type 0) (rules : List Rule) (rule : Rule) → AllByRecursion P rules → P rule → AllByRecursion P (rules ++ rule ∷ [])
 rules_push P [] rule all good = (good, tt)
@@ -134,11 +138,11 @@ one_more direction rules rule all good room =
 with_rule-sound : (draft : Draft) (direction : Rules) (rule : Rule) → IsSound draft → IsGoodRule direction rule → length (rules_in draft direction) + 1 ≤ 1024
     → IsSound (with_rule draft direction rule)
 with_rule-sound draft lists.Request rule s good room =
-    record { bufsize = s.bufsize; bind = s.bind; server = s.server; request = one_more lists.Request draft.request rule s.request good room; response = s.response; after = s.after; req_filters = s.req_filters; res_filters = s.res_filters }
+    record { bufsize = s.bufsize; bind = s.bind; server = s.server; request = one_more lists.Request draft.request rule s.request good room; response = s.response; after = s.after; req_filters = s.req_filters; res_filters = s.res_filters; forwarding = s.forwarding }
 with_rule-sound draft lists.Response rule s good room =
-    record { bufsize = s.bufsize; bind = s.bind; server = s.server; request = s.request; response = one_more lists.Response draft.response rule s.response good room; after = s.after; req_filters = s.req_filters; res_filters = s.res_filters }
+    record { bufsize = s.bufsize; bind = s.bind; server = s.server; request = s.request; response = one_more lists.Response draft.response rule s.response good room; after = s.after; req_filters = s.req_filters; res_filters = s.res_filters; forwarding = s.forwarding }
 with_rule-sound draft lists.After rule s good room =
-    record { bufsize = s.bufsize; bind = s.bind; server = s.server; request = s.request; response = s.response; after = one_more lists.After draft.after rule s.after good room; req_filters = s.req_filters; res_filters = s.res_filters }
+    record { bufsize = s.bufsize; bind = s.bind; server = s.server; request = s.request; response = s.response; after = one_more lists.After draft.after rule s.after good room; req_filters = s.req_filters; res_filters = s.res_filters; forwarding = s.forwarding }
 
 rule_added-sound : (draft : Draft) (direction : Rules) (rule : Rule) → IsSound draft → IsGoodRule direction rule → Keeps (rule_added draft direction rule)
 unfolding rule_added
@@ -149,10 +153,10 @@ rule_added-sound draft direction rule s good =
 filter_added-sound : (draft : Draft) (direction : Side) (filter : FilterSpec) → IsSound draft → IsFilter filter → Keeps (filter_added draft direction filter)
 filter_added-sound draft Request filter s good =
     keeps_bind (with_filter draft.req_filters filter) _ (λ filters is.
-    record { bufsize = s.bufsize; bind = s.bind; server = s.server; request = s.request; response = s.response; after = s.after; req_filters = chain_more draft.req_filters filter filters s.req_filters good is; res_filters = s.res_filters })
+    record { bufsize = s.bufsize; bind = s.bind; server = s.server; request = s.request; response = s.response; after = s.after; req_filters = chain_more draft.req_filters filter filters s.req_filters good is; res_filters = s.res_filters; forwarding = s.forwarding })
 filter_added-sound draft Response filter s good =
     keeps_bind (with_filter draft.res_filters filter) _ (λ filters is.
-    record { bufsize = s.bufsize; bind = s.bind; server = s.server; request = s.request; response = s.response; after = s.after; req_filters = s.req_filters; res_filters = chain_more draft.res_filters filter filters s.res_filters good is })
+    record { bufsize = s.bufsize; bind = s.bind; server = s.server; request = s.request; response = s.response; after = s.after; req_filters = s.req_filters; res_filters = chain_more draft.res_filters filter filters s.res_filters good is; forwarding = s.forwarding })
 
 filter_setting-sound : (draft : Draft) (arguments : List (List ℕ)) → IsSound draft → Keeps (filter_setting draft arguments)
 unfolding filter_setting
@@ -194,8 +198,16 @@ filter_left draft left arguments result leaves s = leaves_sound result left (fil
 pub rule_left : (draft left : Draft) (direction : Rules) (rule : Rule) (result : Result (Unit {0}) LineRefusal) → Leaves result left (rule_added draft direction rule) → IsGoodRule direction rule → IsSound draft → OnOk result (IsSound left)
 rule_left draft left direction rule result leaves good s = leaves_sound result left (rule_added draft direction rule) leaves (rule_added-sound draft direction rule s good)
 
+pub forwarding_left : (draft left : Draft) (rule : Rule) → left ≡ with_forwarding draft rule → IsGoodRule lists.Request rule → IsSound draft → IsSound left
+forwarding_left draft left rule is good s = by (has_effect draft) refl
+  where
+    by : (effect : Bool) → has_effect draft ≡ effect → IsSound left
+    by true e = subst IsSound (sym (is ∙ ap (λ (b : Bool). cond b (record draft { forwarding = Some rule }) draft) e))
+        (record { bufsize = s.bufsize; bind = s.bind; server = s.server; request = s.request; response = s.response; after = s.after; req_filters = s.req_filters; res_filters = s.res_filters; forwarding = good })
+    by false e = subst IsSound (sym (is ∙ ap (λ (b : Bool). cond b (record draft { forwarding = Some rule }) draft) e)) s
+
 pub acls_left : (draft : Draft) (lines : List AclLine) → IsSound draft → IsSound (record draft { acls = lines })
-acls_left draft lines s = record { bufsize = s.bufsize; bind = s.bind; server = s.server; request = s.request; response = s.response; after = s.after; req_filters = s.req_filters; res_filters = s.res_filters }
+acls_left draft lines s = record { bufsize = s.bufsize; bind = s.bind; server = s.server; request = s.request; response = s.response; after = s.after; req_filters = s.req_filters; res_filters = s.res_filters; forwarding = s.forwarding }
 
 -- ---- all lines
 
@@ -203,26 +215,35 @@ no_rules : (direction : Rules) → AreRules direction []
 no_rules direction = record { each = tt; few = omega arith }
 
 pub start-sound : IsSound start
-start-sound = record { bufsize = tt; bind = tt; server = tt; request = no_rules lists.Request; response = no_rules lists.Response; after = no_rules lists.After; req_filters = none_chain; res_filters = none_chain }
+start-sound = record { bufsize = tt; bind = tt; server = tt; request = no_rules lists.Request; response = no_rules lists.Response; after = no_rules lists.After; req_filters = none_chain; res_filters = none_chain; forwarding = tt }
 
 -- the size of the buffer of a sound draft
 bufsize-within : (bufsize : Option ℕ) → IfSome bufsize (λ n. (1024 ≤ n) × (n ≤ 262144)) → (1024 ≤ unwrap_or bufsize 16384) × (unwrap_or bufsize 16384 ≤ 262144)
 bufsize-within None within = (omega arith, omega arith)
 bufsize-within (Some n) within = within
 
-with_addresses-valid : (draft : Draft) (bind server : Option Address) (config : Config) → IsSound draft → maxrewrite_of draft ≤ bufsize_of draft - 512 → IfSome bind HasPort → IfSome server (λ a. HasPort a × HasHost a)
-    → with_addresses draft bind server ≡ Ok config → IsValid config
-with_addresses-valid draft None server config s suits b v e = absurd cc
-with_addresses-valid draft (Some bind) None config s suits b v e = absurd cc
-with_addresses-valid draft (Some bind) (Some server) config s suits b v e =
-    let made = made_config draft bind server in
+with_addresses-valid : (draft : Draft) (rules : List Rule) (bind server : Option Address) (config : Config) → IsSound draft → AreRules lists.Request rules → maxrewrite_of draft ≤ bufsize_of draft - 512 → IfSome bind HasPort → IfSome server (λ a. HasPort a × HasHost a)
+    → with_addresses draft rules bind server ≡ Ok config → IsValid config
+with_addresses-valid draft rules None server config s are suits b v e = absurd cc
+with_addresses-valid draft rules (Some bind) None config s are suits b v e = absurd cc
+with_addresses-valid draft rules (Some bind) (Some server) config s are suits b v e =
+    let made = made_config draft rules bind server in
     let test = passed (has_listen draft.listen) Missing (Ok made) config e in
     let within = bufsize-within draft.bufsize s.bufsize in
     let limits : AreLimits (limits_of draft) = record { least = within.0; most = within.1; leaves = omega (arith, within.0, suits) } in
-    subst IsValid (ok_is made config test.1) (record { limits = limits; bind_port = b; server_port = v.0; server_host = v.1; request = s.request; response = s.response; after = s.after; req_filters = s.req_filters; res_filters = s.res_filters })
+    subst IsValid (ok_is made config test.1) (record { limits = limits; bind_port = b; server_port = v.0; server_host = v.1; request = are; response = s.response; after = s.after; req_filters = s.req_filters; res_filters = s.res_filters })
+
+with_last-good : (rules : List Rule) (last : Option Rule) → AreRules lists.Request rules → IfSome last (IsGoodRule lists.Request) → (all : List Rule) → with_last rules last ≡ Ok all → AreRules lists.Request all
+with_last-good rules None are good all is = subst (AreRules lists.Request) (ok_is rules all is) are
+with_last-good rules (Some rule) are good all is =
+    let test = passed (ltb (length rules) 1024) Limit (given (rules ++ rule ∷ [])) all is in
+    let room : length rules + 1 ≤ 1024 = grind (arith, nat_tests, test.0) in
+    subst (AreRules lists.Request) (ok_is (rules ++ rule ∷ []) all test.1) (one_more lists.Request rules rule are good room)
 
 pub whole-valid : (draft : Draft) (config : Config) → IsSound draft → whole draft ≡ Ok config → IsValid config
 unfolding whole
 whole-valid draft config s e =
-    let test = guard_ok (ltb (bufsize_of draft - 512) (maxrewrite_of draft)) Limit (with_addresses draft draft.bind draft.server) config e in
-    with_addresses-valid draft draft.bind draft.server config s (ltb-false _ _ test.0) s.bind s.server test.1
+    let behind : List Rule → Result Config CfgKind = λ rules. with_addresses draft rules draft.bind draft.server in
+    let test = guard_ok (ltb (bufsize_of draft - 512) (maxrewrite_of draft)) Limit (with_last draft.request draft.forwarding >>= behind) config e in
+    let made = bind_ok (with_last draft.request draft.forwarding) behind config test.1 in
+    with_addresses-valid draft made.0 draft.bind draft.server config s (with_last-good draft.request draft.forwarding s.request s.forwarding made.0 made.1.0) (ltb-false _ _ test.0) s.bind s.server made.1.1

@@ -9,4 +9,5 @@ pub mod ReturnOptions
 pub mod Plain
 pub mod Actions
 pub mod Rules
+pub mod Forwarding
 pub mod Good

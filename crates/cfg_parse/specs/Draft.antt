@@ -31,6 +31,7 @@ start =
       after = [];
       req_filters = [];
       res_filters = [];
+      forwarding = None;
     }
 
 -- no section has begun

@@ -6,7 +6,7 @@ use Rattle.cfg_parse.specs.declared.keywords.FirstWord.TheVariants.{Begins, Sets
 use Rattle.cfg_parse.specs.declared.keywords.SectionWord.{SectionWord}
 use Rattle.cfg_parse.specs.declared.keywords.SectionWord.TheVariants.{Global, Defaults, Listen, Other}
 use Rattle.cfg_parse.specs.declared.keywords.Setting.{Setting}
-use Rattle.cfg_parse.specs.declared.keywords.Setting.TheVariants.{Bufsize, Maxrewrite, Mode, Timeout, Bind, Server, Acl, HttpRequest, HttpResponse, HttpAfterResponse, Filter}
+use Rattle.cfg_parse.specs.declared.keywords.Setting.TheVariants.{Bufsize, Maxrewrite, Mode, Timeout, Options, Bind, Server, Acl, HttpRequest, HttpResponse, HttpAfterResponse, Filter}
 use Rattle.cfg_parse.specs.declared.keywords.TimeoutName.{TimeoutName}
 use Rattle.cfg_parse.specs.declared.keywords.TimeoutName.TheVariants as names
 use Rattle.cfg_parse.specs.declared.keywords.Places.{Places}
@@ -28,7 +28,8 @@ general_setting word =
     else (if bytes_eq word (codes "tune.maxrewrite") then Some (Maxrewrite, InGlobal)
     else (if bytes_eq word (codes "mode") then Some (Mode, InBoth)
     else (if bytes_eq word (codes "timeout") then Some (Timeout, InBoth)
-    else None)))
+    else (if bytes_eq word (codes "option") then Some (Options, InBoth)
+    else None))))
 
 -- the settings of `listen` alone
 unfoldable pub listen_setting : List ℕ → Option Setting

@@ -9,7 +9,7 @@ use Rattle.cfg_parse.specs.declared.fault.CfgKind.TheVariants.{Word, Section, Ke
 use Rattle.cfg_parse.specs.declared.keywords.FirstWord.{FirstWord}
 use Rattle.cfg_parse.specs.declared.keywords.FirstWord.TheVariants.{Begins, Sets, Unknown}
 use Rattle.cfg_parse.specs.declared.keywords.Setting.{Setting}
-use Rattle.cfg_parse.specs.declared.keywords.Setting.TheVariants.{Bufsize, Maxrewrite, Mode, Timeout, Bind, Server, Acl, HttpRequest, HttpResponse, HttpAfterResponse, Filter}
+use Rattle.cfg_parse.specs.declared.keywords.Setting.TheVariants.{Bufsize, Maxrewrite, Mode, Timeout, Options, Bind, Server, Acl, HttpRequest, HttpResponse, HttpAfterResponse, Filter}
 use Rattle.cfg_parse.specs.declared.keywords.Places.{Places}
 use Rattle.cfg_parse.specs.declared.draft.Draft.{Draft}
 use Rattle.cfg_parse.specs.Asking.{LineReading}
@@ -17,7 +17,7 @@ use Rattle.cfg_parse.specs.Keywords.{first_word_of}
 use Rattle.cfg_parse.specs.Draft.{is_before, belongs}
 use Rattle.cfg_parse.specs.Settings.{section_line, bufsize_line, maxrewrite_line, mode_line, timeout_line, bind_line, server_line}
 use Rattle.cfg_parse.specs.Filters.{filter_setting}
-use Rattle.cfg_parse.specs.Rules.{rule_line, acl_setting}
+use Rattle.cfg_parse.specs.Rules.{rule_line, acl_setting, option_line}
 
 -- the line of a setting that the section knows
 unfoldable pub setting_line : Draft → Setting → List (List ℕ) → LineReading Draft
@@ -25,6 +25,7 @@ setting_line draft Bufsize arguments = plain (bufsize_line draft arguments)
 setting_line draft Maxrewrite arguments = plain (maxrewrite_line draft arguments)
 setting_line draft Mode arguments = plain (mode_line draft arguments)
 setting_line draft Timeout arguments = plain (timeout_line draft arguments)
+setting_line draft Options arguments = option_line draft arguments
 setting_line draft Bind arguments = plain (bind_line draft arguments)
 setting_line draft Server arguments = plain (server_line draft arguments)
 setting_line draft Acl arguments = acl_setting draft arguments

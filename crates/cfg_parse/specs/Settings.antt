@@ -3,6 +3,7 @@ use Rattle.std.specs.Prelude.{ℕ, List, Bool, not, ◌||◌, if◌then◌else�
 use Rattle.std.specs.Str.{bytes_eq}
 use Rattle.http_model.specs.Sizes.{least_size, most_size}
 use Rattle.http_rules.specs.declared.config.Timeouts.{Timeouts}
+use Rattle.http_rules.specs.declared.rule.rule.Rule.{Rule}
 use Rattle.cfg_parse.specs.declared.fault.CfgKind.{CfgKind}
 use Rattle.cfg_parse.specs.declared.fault.CfgKind.TheVariants.{Section, Argument}
 use Rattle.cfg_parse.specs.declared.keywords.SectionWord.{SectionWord}
@@ -24,10 +25,14 @@ use Rattle.cfg_parse.specs.Draft.{has_listen, is_listen, default_timeouts}
 abbrev pub begun_times : Draft → Timeouts
 begun_times draft = if has_listen draft.listen then draft.timeouts else default_timeouts
 
+-- the same of `option forwardfor`
+abbrev pub begun_forwarding : Draft → Option Rule
+begun_forwarding draft = if has_listen draft.listen then draft.forwarding else None
+
 -- a section begins; `listen` has a name, and comes once
 unfoldable pub section_line : Draft → SectionWord → List (List ℕ) → Result Draft CfgKind
 section_line draft Global arguments = no_more arguments >>= λ ended. Ok (record draft { section = sections.Global })
-section_line draft Defaults arguments = no_more arguments >>= λ ended. Ok (record draft { section = sections.Defaults; timeouts = begun_times draft })
+section_line draft Defaults arguments = no_more arguments >>= λ ended. Ok (record draft { section = sections.Defaults; timeouts = begun_times draft; forwarding = begun_forwarding draft })
 section_line draft Listen arguments =
     if has_listen draft.listen then Err Section
     else (argument arguments >>= λ name. no_more name.1 >>= λ ended. Ok (record draft { section = sections.Listen; listen = listens.Begun }))

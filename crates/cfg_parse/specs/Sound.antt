@@ -3,7 +3,7 @@ use Rattle.std.specs.Prelude.{ℕ, ◌≤◌, IfSome}
 use Rattle.http_model.specs.Sizes.{least_size, most_size}
 use Rattle.http_rules.specs.declared.rule.action.Direction.TheVariants.{Request, Response, After}
 use Rattle.http_rules.specs.Valid.{HasPort, HasHost, IsChain}
-use Rattle.http_rules.specs.Rule.Valid.{AreRules}
+use Rattle.http_rules.specs.Rule.Valid.{AreRules, IsGoodRule}
 use Rattle.cfg_parse.specs.declared.draft.Draft.{Draft}
 
 pub record IsSound (draft : Draft) : Type 0 where
@@ -15,3 +15,4 @@ pub record IsSound (draft : Draft) : Type 0 where
   pub after : AreRules After draft.after
   pub req_filters : IsChain draft.req_filters
   pub res_filters : IsChain draft.res_filters
+  pub forwarding : IfSome draft.forwarding (IsGoodRule Request)

@@ -7,6 +7,7 @@ use Rattle.px_link.specs.declared.address.Address.{Address}
 use Rattle.px_pattern.specs.Pattern.{Pattern}
 use Rattle.px_pattern.specs.Refusals.{Kept, Rose}
 use Rattle.http_rules.specs.declared.config.Config.{Config}
+use Rattle.http_rules.specs.declared.rule.rule.Rule.{Rule}
 use Rattle.cfg_parse.specs.declared.fault.CfgKind.{CfgKind}
 use Rattle.cfg_parse.specs.declared.fault.CfgKind.TheVariants.{Limit, Missing}
 use Rattle.cfg_parse.specs.declared.fault.CfgKind.TheVariants as kinds
@@ -17,7 +18,8 @@ use Rattle.cfg_parse.specs.declared.fault.LineRefusal.TheVariants as refusals
 use Rattle.cfg_parse.specs.declared.draft.Draft.{Draft}
 use Rattle.cfg_parse.specs.Draft.{start, has_listen}
 use Rattle.cfg_parse.specs.Asking.{LineReading}
-use Rattle.cfg_parse.specs.Limits.{default_bufsize, default_maxrewrite, most_text}
+use Rattle.cfg_parse.specs.Reading.{◌>>=◌}
+use Rattle.cfg_parse.specs.Limits.{default_bufsize, default_maxrewrite, most_rules, most_text}
 use Rattle.cfg_parse.specs.Lines.{line_of}
 
 -- a line, counted from 1, or 0 for the text as a whole, and what is wrong there
@@ -37,33 +39,40 @@ maxrewrite_of draft = unwrap_or draft.maxrewrite (min default_maxrewrite (bufsiz
 abbrev pub limits_of : Draft → Limits
 limits_of draft = record { bufsize = bufsize_of draft; maxrewrite = maxrewrite_of draft }
 
--- what the lines said, with these addresses
-abbrev pub made_config : Draft → Address → Address → Config
-made_config draft bind server =
+-- rules with one more behind them, where there is one and room for it
+abbrev pub with_last : List Rule → Option Rule → Result (List Rule) CfgKind
+with_last rules None = Ok rules
+with_last rules (Some rule) = if nat_lt (length rules) most_rules then Ok (rules ++ rule ∷ []) else Err Limit
+
+-- what the lines said, with these rules on requests and these addresses; no peer is told
+abbrev pub made_config : Draft → List Rule → Address → Address → Config
+made_config draft rules bind server =
     record {
       limits = limits_of draft;
       timeouts = draft.timeouts;
       bind = bind;
       server = server;
-      request = draft.request;
+      request = rules;
       response = draft.response;
       after = draft.after;
       req_filters = draft.req_filters;
       res_filters = draft.res_filters;
+      peer = None;
     }
 
 -- a configuration with these addresses, where all that it needs is there
-abbrev pub with_addresses : Draft → Option Address → Option Address → Result Config CfgKind
-with_addresses draft (Some bind) (Some server) =
-    if has_listen draft.listen then Ok (made_config draft bind server) else Err Missing
-with_addresses draft (Some bind) None = Err Missing
-with_addresses draft None server = Err Missing
+abbrev pub with_addresses : Draft → List Rule → Option Address → Option Address → Result Config CfgKind
+with_addresses draft rules (Some bind) (Some server) =
+    if has_listen draft.listen then Ok (made_config draft rules bind server) else Err Missing
+with_addresses draft rules (Some bind) None = Err Missing
+with_addresses draft rules None server = Err Missing
 
--- the configuration of all lines: sizes that do not suit each other come before what is missing
+-- the configuration of all lines: sizes that do not suit each other come first, then the rule of `option forwardfor` behind as many rules as there
+-- may be, then what is missing
 unfoldable pub whole : Draft → Result Config CfgKind
 whole draft =
     if nat_lt (bufsize_of draft - least_head) (maxrewrite_of draft) then Err Limit
-    else with_addresses draft draft.bind draft.server
+    else (with_last draft.request draft.forwarding >>= λ rules. with_addresses draft rules draft.bind draft.server)
 
 -- ---- lines in turn
 

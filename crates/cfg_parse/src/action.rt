@@ -6,6 +6,7 @@ mod arguments;
 mod codes;
 mod fault;
 mod fields;
+mod forwarding;
 mod names;
 mod parts;
 mod plain;
@@ -17,5 +18,6 @@ mod texts;
 
 pub use cfg_expr::condition::{AclList, WordsLeft};
 pub use fault::{RuleFault, RuleKind};
+pub use forwarding::read_forwarding;
 pub use http_rules::rule::{Action, Direction, Rule, Rules};
 pub use rules::read_rule;

@@ -1,7 +1,7 @@
 //! The configuration so far, while lines are read.
 
 use cfg_expr::condition::AclList;
-use http_rules::{Filters, Rules, Timeouts};
+use http_rules::{Filters, Rule, Rules, Timeouts};
 use px_link::Address;
 
 /// The section that a line stands in.
@@ -39,4 +39,6 @@ pub struct Draft {
     pub after: Rules,
     pub req_filters: Filters,
     pub res_filters: Filters,
+    /// The rule of `option forwardfor`, which stands behind all others on requests.
+    pub forwarding: Option<Rule>,
 }

@@ -1,15 +1,15 @@
 //! What the lines come to, once all are read.
 
 ghost use Rattle.std.specs.Prelude.{◌≡◌};
-ghost use Rattle.cfg_parse.specs.Reading.{Gives};
+ghost use Rattle.cfg_parse.specs.Reading.{Gives, Leaves};
 ghost use Rattle.cfg_parse.specs.Draft.{default_timeouts, start};
-ghost use Rattle.cfg_parse.specs.Whole.{limits_of, whole};
+ghost use Rattle.cfg_parse.specs.Whole.{limits_of, with_last, whole};
 
 use crate::draft::{Draft, Listen, Section};
 use crate::fault::{CfgKind, LineRefusal};
-use crate::limits::{DEFAULT_BUFSIZE, DEFAULT_MAXREWRITE, MIN_HEAD};
+use crate::limits::{DEFAULT_BUFSIZE, DEFAULT_MAXREWRITE, MAX_RULES, MIN_HEAD};
 use cfg_expr::condition::AclList;
-use http_rules::{Config, Filters, Limits, Rules, Timeouts};
+use http_rules::{Config, Filters, Limits, Rule, Rules, Timeouts};
 use std::alloc::Global;
 
 /// The times where no line gives them.
@@ -44,6 +44,7 @@ pub fn start(alloc: Global) -> Draft
         after: Rules::new(alloc),
         req_filters: Filters::new(alloc),
         res_filters: Filters::new(alloc),
+        forwarding: None,
     }
 }
 
@@ -61,6 +62,21 @@ fn limits_of(draft: &Draft) -> Limits
     }
 }
 
+/// Rules with one more behind them, where there is one.
+fn add_last(rules: &mut Rules, last: Option<Rule>) -> Result<(), LineRefusal>
+    ensures { Leaves result rules.new (with_last rules.old last) }
+{
+    let Some(rule) = last else {
+        return Ok(());
+    };
+    if rules.len() >= MAX_RULES {
+        drop(rule);
+        return Err(LineRefusal::Refused(CfgKind::Limit));
+    }
+    rules.push(rule)?;
+    Ok(())
+}
+
 /// The configuration of all lines.
 #[tactic(auto, unfolding(crate::specs::Whole::whole))]
 pub fn whole(draft: Draft) -> Result<Config, LineRefusal>
@@ -76,13 +92,15 @@ pub fn whole(draft: Draft) -> Result<Config, LineRefusal>
         timeouts,
         bind,
         server,
-        request,
+        mut request,
         response,
         after,
         req_filters,
         res_filters,
+        forwarding,
         ..
     } = draft;
+    add_last(&mut request, forwarding)?;
     match (bind, server) {
         (Some(bind), Some(server)) if listen == Listen::Begun => Ok(Config {
             limits,
@@ -94,6 +112,7 @@ pub fn whole(draft: Draft) -> Result<Config, LineRefusal>
             after,
             req_filters,
             res_filters,
+            peer: None,
         }),
         _ => Err(LineRefusal::Refused(CfgKind::Missing)),
     }

@@ -30,6 +30,7 @@ pub enum Setting {
     Maxrewrite,
     Mode,
     Timeout,
+    Options,
     Bind,
     Server,
     Acl,
@@ -91,6 +92,8 @@ fn general_setting(word: &[u8]) -> Option<(Setting, Places)>
         Some((Setting::Mode, Places::InBoth))
     } else if is_word(word, b"timeout") {
         Some((Setting::Timeout, Places::InBoth))
+    } else if is_word(word, b"option") {
+        Some((Setting::Options, Places::InBoth))
     } else {
         None
     }

@@ -11,7 +11,7 @@ use crate::draft::{Draft, Section};
 use crate::fault::{CfgKind, LineRefusal};
 use crate::filters::set_filter;
 use crate::keywords::{FirstWord, Places, Setting, first_word_of};
-use crate::rule_lines::{read_acl_line, read_rule_line};
+use crate::rule_lines::{read_acl_line, read_option_line, read_rule_line};
 use crate::sections::begin_section;
 use crate::settings::{read_mode, set_bind, set_bufsize, set_maxrewrite, set_server, set_timeout};
 use cfg_lex::words_of_line;
@@ -59,6 +59,7 @@ fn read_setting<P: Patterns>(
         Setting::Maxrewrite => set_maxrewrite(draft, arguments),
         Setting::Mode => read_mode(draft, arguments),
         Setting::Timeout => set_timeout(draft, arguments),
+        Setting::Options => read_option_line(alloc, draft, arguments, pats),
         Setting::Bind => set_bind(alloc, draft, arguments),
         Setting::Server => set_server(alloc, draft, arguments),
         Setting::Acl => read_acl_line(alloc, draft, arguments, pats),

@@ -6,14 +6,18 @@ ghost use Rattle.http_rules.specs.Rule.Valid.{IsGoodRule};
 ghost use Rattle.cfg_parse.specs.Action.Rules.{rule_of};
 ghost use Rattle.cfg_parse.specs.Asking.{ReadsLine, of_rule};
 ghost use Rattle.cfg_parse.specs.Sound.{IsSound};
-ghost use Rattle.cfg_parse.specs.Rules.{tests_of, rules_in, has_room, rule_added, rule_line, acl_setting};
+ghost use Rattle.http_rules.specs.declared.rule.action.Direction.TheVariants as directions;
+ghost use Rattle.cfg_parse.specs.Action.Forwarding.{forwarding_rule};
+ghost use Rattle.cfg_parse.specs.Rules.{tests_of, rules_in, has_room, rule_added, rule_line, acl_setting, with_forwarding, forwarding_line, option_line};
 
-use crate::action::read_rule;
+use crate::action::{read_forwarding, read_rule};
 use crate::arguments::Arguments;
 use crate::draft::Draft;
 use crate::fault::{CfgKind, LineRefusal};
 use crate::limits::{MAX_RULES, MAX_TESTS};
+use crate::settings::has_effect;
 use cfg_expr::condition::{AclList, count_tests, read_acl};
+use cfg_expr::is_word;
 use http_rules::{Cond, Direction, Rule};
 use px_pattern::Patterns;
 use std::alloc::Global;
@@ -123,5 +127,77 @@ pub fn read_acl_line<P: Patterns>(
     match read_acl(alloc, arguments.left(), &mut draft.acls, pats) {
         Ok(()) => Ok(()),
         Err(fault) => Err(LineRefusal::from(fault)),
+    }
+}
+
+/// The rule that the words behind `option forwardfor` say.
+#[tactic(auto, using(crate::proofs::LineReadings::parts))]
+fn forwarding_of_words<P: Patterns>(
+    alloc: Global,
+    arguments: Arguments<'_>,
+    pats: &mut P,
+) -> Result<Rule, LineRefusal>
+    ensures reads { ReadsLine (λ rule. rule) (of_rule (forwarding_rule arguments.entry)) (P.refusals pats.old) (P.refusals pats.new) (P.last_refused pats.new) result }
+    ensures good { IfOk result (IsGoodRule directions.Request) }
+{
+    match read_forwarding(alloc, arguments.left(), pats) {
+        Ok(rule) => Ok(rule),
+        Err(fault) => Err(LineRefusal::from(fault)),
+    }
+}
+
+/// Puts the rule of `option forwardfor` in its place.
+fn put_forwarding(draft: &mut Draft, rule: Rule)
+    ensures put { draft.new ≡ with_forwarding draft.old rule }
+{
+    if !has_effect(draft) {
+        drop(rule);
+        return;
+    }
+    drop(draft.forwarding.replace(rule));
+}
+
+/// The words behind `option forwardfor`.
+#[tactic(auto, using(crate::proofs::LineReadings::parts), unfolding(crate::specs::Rules::forwarding_line))]
+fn read_forwarding_line<P: Patterns>(
+    alloc: Global,
+    draft: &mut Draft,
+    arguments: Arguments<'_>,
+    pats: &mut P,
+) -> Result<(), LineRefusal>
+    ensures reads { ReadsLine (λ nothing. draft.new) (forwarding_line draft.old arguments.entry) (P.refusals pats.old) (P.refusals pats.new) (P.last_refused pats.new) result }
+    ensures sound { IsSound draft.old → OnOk result (IsSound draft.new) }
+    ensures unchanged { OnErr result (draft.new ≡ draft.old) }
+{
+    match forwarding_of_words(alloc, arguments, pats) {
+        Ok(rule) => {
+            put_forwarding(draft, rule);
+            Ok(())
+        }
+        Err(refusal) => Err(refusal),
+    }
+}
+
+/// The words behind `option`.
+#[tactic(auto, using(crate::proofs::LineReadings::parts), unfolding(crate::specs::Rules::option_line))]
+pub fn read_option_line<P: Patterns>(
+    alloc: Global,
+    draft: &mut Draft,
+    arguments: Arguments<'_>,
+    pats: &mut P,
+) -> Result<(), LineRefusal>
+    ensures reads { ReadsLine (λ nothing. draft.new) (option_line draft.old arguments.entry) (P.refusals pats.old) (P.refusals pats.new) (P.last_refused pats.new) result }
+    ensures sound { IsSound draft.old → OnOk result (IsSound draft.new) }
+    ensures unchanged { OnErr result (draft.new ≡ draft.old) }
+{
+    match arguments.argument() {
+        Ok((word, arguments)) => {
+            if is_word(word, b"forwardfor") {
+                read_forwarding_line(alloc, draft, arguments, pats)
+            } else {
+                Err(LineRefusal::Refused(CfgKind::Argument))
+            }
+        }
+        Err(refusal) => Err(refusal),
     }
 }

@@ -29,6 +29,7 @@ pub fn begin_section(
             draft.section = Section::Defaults;
             if draft.listen == Listen::Missing {
                 draft.timeouts = default_timeouts();
+                drop(draft.forwarding.take());
             }
         }
         SectionWord::Listen => {

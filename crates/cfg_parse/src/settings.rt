@@ -69,7 +69,7 @@ fn put_time(times: &mut Timeouts, name: TimeoutName, time: u64)
 }
 
 /// Whether a `timeout` line here speaks of the `listen` section.
-fn has_effect(draft: &Draft) -> bool
+pub fn has_effect(draft: &Draft) -> bool
     ensures { result ≡ has_effect draft.now }
 {
     match draft.section {

@@ -1,1 +1,2 @@
 pub mod Amends
+pub mod Peers

@@ -5,6 +5,7 @@ use crate::rule::Rules;
 use body_filter::FilterSpec;
 use http_model::Limits;
 use px_link::{Address, ItemList};
+use px_peer::Peer;
 
 /// The filters of one direction, in the order in which bodies pass through them.
 pub type Filters = ItemList<FilterSpec>;
@@ -44,6 +45,8 @@ pub struct Config {
     pub req_filters: Filters,
     /// The same for the bodies of responses.
     pub res_filters: Filters,
+    /// Whose connection it is, where that is told. A configuration's text tells none.
+    pub peer: Option<Peer>,
 }
 
 impl Config {

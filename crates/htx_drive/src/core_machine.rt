@@ -2,9 +2,10 @@
 ghost use Rattle.std.specs.Prelude.{◌<◌};
 
 use crate::Machine;
-use crate::weave::Resets;
+use crate::weave::{Resets, ResetsFor};
 use px_link::{Ending, OutOfMemory};
-use session_core::{Core, Renewable, Wants, Works};
+use px_peer::Peer;
+use session_core::{Core, Renewable, RenewableFor, Wants, Works};
 
 impl<S: Works> Machine for Core<S> {
     type Settings = S::Settings;
@@ -111,5 +112,13 @@ impl<S: Works> Machine for Core<S> {
 impl<S: Renewable> Resets for Core<S> {
     fn reset(&mut self) {
         self.reset();
+    }
+}
+
+impl<S: RenewableFor> ResetsFor for Core<S> {
+    ghost for_peer = { S.for_peer };
+
+    fn reset_for(&mut self, peer: Option<Peer>) {
+        self.reset_for(peer);
     }
 }

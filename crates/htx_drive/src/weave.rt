@@ -21,6 +21,6 @@ pub use conn::Conn;
 pub use ends::{abandon, fail, finish};
 pub use fault::WeaveFault;
 pub use record::{cores_for, pool_of, weave_record, weave_text};
-pub use resets::Resets;
+pub use resets::{Resets, ResetsFor};
 pub use sessions::weave;
 pub use weft::Weft;

@@ -3,6 +3,7 @@ use Rattle.std.proofs.Common.{◌≡◌, ℕ, List, ◌⊎◌, inl, inr, refl, s
 use Rattle.std.specs.Prelude.{Option, Some, Result, Ok, Err, IsErrAnd}
 use Rattle.px_link.specs.Told.{NamedBytes, Gains, Rose}
 use Rattle.px_link.specs.Link.{Seen}
+use Rattle.px_peer.specs.declared.Peer.{Peer}
 use Rattle.px_link.specs.Net.{Coming, Kept, NetSeen, address_of, with_address}
 use Rattle.http_rules.specs.declared.config.Config.{Config}
 use Rattle.px_command.specs.Command.{IsServe, IsUsage}
@@ -110,34 +111,34 @@ or_ran (inl a) = inl a
 or_ran (inr b) = inr (inl b)
 
 -- ---- clauses
-module _ {L N : Type 0} (seen : L → Seen) (wrote : L → List ℕ → Type 0) (net_seen : N → NetSeen) (first now : N) (idle : Type 0) (Runs : Config → RunOptions → Result (Unit {0}) RunFault → Type 0)
+module _ {L N : Type 0} (seen : L → Seen) (wrote : L → List ℕ → Type 0) (tells : L → Option Peer → Type 0) (net_seen : N → NetSeen) (first now : N) (idle : Type 0) (Runs : Config → RunOptions → Result (Unit {0}) RunFault → Type 0)
     (input : Input) (output : Output) where
   abbrev pub End : Status → Type 0
-  End status = EndedAny input output (now ≡ first) idle (Serves seen wrote net_seen first now output.writes output.writes_now output.old output.new) Runs status
+  End status = EndedAny input output (now ≡ first) idle (Serves seen wrote tells net_seen first now output.writes output.writes_now output.old output.new) Runs status
 
   pub usage : (status : Status) → End status → status ≡ ended.Usage → IsUsage input.words × (text : List ℕ) × EndsLine text × Gains output.old output.new text
-  usage status (inl (end, i)) is = clause.usage seen wrote net_seen first now input output status end is
+  usage status (inl (end, i)) is = clause.usage seen wrote tells net_seen first now input output status end is
   usage status (inr (built, runs, q)) is = absurd (never_refuses input.words input.files Runs status ended.Usage tt runs is)
 
   pub config : (status : Status) → End status → status ≡ ended.Config → (text : List ℕ) × IsRefusedBy input.words input.files input.builder text × Gains output.old output.new text
-  config status (inl (end, i)) is = clause.config seen wrote net_seen first now input output status end is
+  config status (inl (end, i)) is = clause.config seen wrote tells net_seen first now input output status end is
   config status (inr (built, runs, q)) is = absurd (never_refuses input.words input.files Runs status ended.Config tt runs is)
 
   pub record_refused : (status : Status) → End status → status ≡ ended.Record
       → (name : List ℕ) × DecidesRecord input.words input.files input.builder name × (text : List ℕ) × IsRecordRefusedOf input.files name text × Gains output.old output.new text
-  record_refused status (inl (end, i)) is = clause.record_refused seen wrote net_seen first now input output status end is
+  record_refused status (inl (end, i)) is = clause.record_refused seen wrote tells net_seen first now input output status end is
   record_refused status (inr (built, runs, q)) is = absurd (never_refuses input.words input.files Runs status ended.Record tt runs is)
 
   pub file_fault : (status : Status) → End status → status ≡ ended.FileFault → Rose input.reads input.reads_now
-  file_fault status (inl (end, i)) is = clause.file_fault seen wrote net_seen first now input output status end is
+  file_fault status (inl (end, i)) is = clause.file_fault seen wrote tells net_seen first now input output status end is
   file_fault status (inr (built, runs, q)) is = absurd (never_refuses input.words input.files Runs status ended.FileFault tt runs is)
 
   pub file_name : (status : Status) → End status → status ≡ ended.FileFault → DecidesBy input.words input.files input.builder input.last
-  file_name status (inl (end, i)) is = clause.file_name seen wrote net_seen first now input output status end is
+  file_name status (inl (end, i)) is = clause.file_name seen wrote tells net_seen first now input output status end is
   file_name status (inr (built, runs, q)) is = absurd (never_refuses input.words input.files Runs status ended.FileFault tt runs is)
 
   pub file_told : (status : Status) → End status → status ≡ ended.FileFault → Gains output.old output.new (file_line input.last)
-  file_told status (inl (end, i)) is = clause.file_told seen wrote net_seen first now input output status end is
+  file_told status (inl (end, i)) is = clause.file_told seen wrote tells net_seen first now input output status end is
   file_told status (inr (built, runs, q)) is = absurd (never_refuses input.words input.files Runs status ended.FileFault tt runs is)
 
   -- ---- good
@@ -148,34 +149,34 @@ module _ {L N : Type 0} (seen : L → Seen) (wrote : L → List ℕ → Type 0) 
 
   pub good : (status : Status) → End status → status ≡ ended.Good
       → NamesServe input.words ⊎ (NamesRun input.words ⊎ ((text : List ℕ) × IsGood input.words input.files text × Gains output.old output.new text))
-  good status (inl (end, i)) is = or_run (clause.good seen wrote net_seen first now input output status end is)
+  good status (inl (end, i)) is = or_run (clause.good seen wrote tells net_seen first now input output status end is)
   good status (inr (built, runs, q)) is = inr (inl (names input.words input.files Runs status runs))
 
   pub served : (status : Status) → End status → status ≡ ended.Good → NamesServe input.words
-      → Serving input.words input.files (λ cfg count. ServedAll net_seen (ServedBy seen wrote net_seen cfg) (address_of cfg.bind) count first now output.old output.new)
-  served status (inl (end, i)) is named = clause.served seen wrote net_seen first now input output status end is named
+      → Serving input.words input.files (λ cfg count. ServedAll net_seen (ServedBy seen wrote tells net_seen cfg) (address_of cfg.bind) count first now output.old output.new)
+  served status (inl (end, i)) is named = clause.served seen wrote tells net_seen first now input output status end is named
   served status (inr (built, runs, q)) is named = absurd (run_or_serve input.words (names input.words input.files Runs status runs) named)
 
   pub binds : (status : Status) → End status → status ≡ ended.Good → NamesServe input.words → Serving input.words input.files (λ cfg count. GainsBind (net_seen first) (net_seen now) cfg)
-  binds status (inl (end, i)) is named = clause.binds seen wrote net_seen first now input output status end is named
+  binds status (inl (end, i)) is named = clause.binds seen wrote tells net_seen first now input output status end is named
   binds status (inr (built, runs, q)) is named = absurd (run_or_serve input.words (names input.words input.files Runs status runs) named)
 
   pub told : (status : Status) → End status → (cfg_name : List ℕ) (count : ℕ) → IsServe input.words cfg_name count → status ≡ ended.Good
       → (coming : List Coming) (answers : List (Option Coming)) (kept : List Kept)
       → (net_seen first).accepts ≡ Some coming → (net_seen first).answers ≡ Some answers → (net_seen first).kept ≡ Some kept → Visited (net_seen now) coming kept count
-  told status (inl (end, i)) cfg_name count serve is = clause.told seen wrote net_seen first now input output status end cfg_name count serve is
+  told status (inl (end, i)) cfg_name count serve is = clause.told seen wrote tells net_seen first now input output status end cfg_name count serve is
   told status (inr (built, runs, q)) cfg_name count serve is = absurd (run_or_serve input.words (names input.words input.files Runs status runs) (cfg_name, count, serve))
 
   -- ---- `run`
 
-  ran_end : EndedBy seen wrote net_seen first now input output ended.Good → NamesRun input.words → ⊥
-  ran_end end named = elim (clause.good seen wrote net_seen first now input output ended.Good end refl) [
+  ran_end : EndedBy seen wrote tells net_seen first now input output ended.Good → NamesRun input.words → ⊥
+  ran_end end named = elim (clause.good seen wrote tells net_seen first now input output ended.Good end refl) [
     | inl serve ↦ run_or_serve input.words named serve
     | inr text ↦ good_or_run input.words text.0 input.files text.1 named
   ]
 
   pub ran : (status : Status) → End status → status ≡ ended.Good → NamesRun input.words → RunsTo input.words input.files Runs status
-  ran status (inl (end, i)) is named = absurd (ran_end (subst (λ (s : Status). EndedBy seen wrote net_seen first now input output s) is end) named)
+  ran status (inl (end, i)) is named = absurd (ran_end (subst (λ (s : Status). EndedBy seen wrote tells net_seen first now input output s) is end) named)
   ran status (inr (built, runs, q)) is named = runs
 
   pub left_idle : (status : Status) → End status → idle ⊎ RunsTo input.words input.files Runs status
@@ -193,58 +194,58 @@ module _ {L N : Type 0} (seen : L → Seen) (wrote : L → List ℕ → Type 0) 
   -- ---- faults
 
   pub out_fault : (status : Status) → End status → status ≡ ended.OutFault → Rose output.writes output.writes_now
-  out_fault status (inl (end, i)) is = clause.out_fault seen wrote net_seen first now input output status end is
+  out_fault status (inl (end, i)) is = clause.out_fault seen wrote tells net_seen first now input output status end is
   out_fault status (inr (built, runs, q)) is = absurd (never_output input.words input.files Runs status runs is)
 
   pub front : (status : Status) → End status → status ≡ ended.OutFault
-      → (PutsFront input output × (now ≡ first)) ⊎ (IsBuilt input.builder × Serving input.words input.files (λ cfg count. Breaks net_seen (ServedBy seen wrote net_seen cfg) (LostBy seen wrote net_seen cfg) (address_of cfg.bind) count first now output.old output.new))
-  front status (inl (end, i)) is = clause.front seen wrote net_seen first now input output status end is
+      → (PutsFront input output × (now ≡ first)) ⊎ (IsBuilt input.builder × Serving input.words input.files (λ cfg count. Breaks net_seen (ServedBy seen wrote tells net_seen cfg) (LostBy seen wrote tells net_seen cfg) (address_of cfg.bind) count first now output.old output.new))
+  front status (inl (end, i)) is = clause.front seen wrote tells net_seen first now input output status end is
   front status (inr (built, runs, q)) is = absurd (never_output input.words input.files Runs status runs is)
 
   pub memory : (status : Status) → End status → status ≡ ended.OutOfMemory
       → (((output.new ≡ output.old) ⊎ PutsFront input output) × (now ≡ first))
-      ⊎ ((IsBuilt input.builder × Serving input.words input.files (λ cfg count. Breaks net_seen (ServedBy seen wrote net_seen cfg) (LostBy seen wrote net_seen cfg) (address_of cfg.bind) count first now output.old output.new))
+      ⊎ ((IsBuilt input.builder × Serving input.words input.files (λ cfg count. Breaks net_seen (ServedBy seen wrote tells net_seen cfg) (LostBy seen wrote tells net_seen cfg) (address_of cfg.bind) count first now output.old output.new))
       ⊎ (IsBuilt input.builder × RunsTo input.words input.files Runs status))
-  memory status (inl (end, i)) is = or_ran (clause.memory seen wrote net_seen first now input output status end is)
+  memory status (inl (end, i)) is = or_ran (clause.memory seen wrote tells net_seen first now input output status end is)
   memory status (inr (built, runs, q)) is = inr (inr (built, runs))
 
   pub net_fault : (status : Status) → End status → status ≡ ended.NetFault
-      → Serving input.words input.files (λ cfg count. NetFails net_seen (ServedBy seen wrote net_seen cfg) (address_of cfg.bind) count net_line first now output.old output.new)
+      → Serving input.words input.files (λ cfg count. NetFails net_seen (ServedBy seen wrote tells net_seen cfg) (address_of cfg.bind) count net_line first now output.old output.new)
       ⊎ RunsTo input.words input.files Runs status
-  net_fault status (inl (end, i)) is = inl (clause.net_fault seen wrote net_seen first now input output status end is)
+  net_fault status (inl (end, i)) is = inl (clause.net_fault seen wrote tells net_seen first now input output status end is)
   net_fault status (inr (built, runs, q)) is = inr runs
 
   -- ---- the builder
 
   pub built : (status : Status) → End status → status ≡ ended.Good → IsBuilt input.builder
-  built status (inl (end, i)) is = clause.built seen wrote net_seen first now input output status end is
+  built status (inl (end, i)) is = clause.built seen wrote tells net_seen first now input output status end is
   built status (inr (b, runs, q)) is = b
 
   pub net_built : (status : Status) → End status → status ≡ ended.NetFault → IsBuilt input.builder
-  net_built status (inl (end, i)) is = clause.net_built seen wrote net_seen first now input output status end is
+  net_built status (inl (end, i)) is = clause.net_built seen wrote tells net_seen first now input output status end is
   net_built status (inr (b, runs, q)) is = b
 
   -- ---- the net
 
   pub bound : (status : Status) → End status → ((net_seen now).bound ≡ (net_seen first).bound) ⊎ Serving input.words input.files (λ cfg count. GainsBind (net_seen first) (net_seen now) cfg)
-  bound status (inl (end, i)) = clause.bound seen wrote net_seen first now input output status end
+  bound status (inl (end, i)) = clause.bound seen wrote tells net_seen first now input output status end
   bound status (inr (built, runs, q)) = inl (ap (λ (n : N). (net_seen n).bound) q)
 
   pub dialled : (status : Status) → End status
       → ((net_seen now).dialled ≡ (net_seen first).dialled) ⊎ Serving input.words input.files (λ cfg count. (net_seen now).dialled ≡ with_address (net_seen first).dialled (address_of cfg.server))
-  dialled status (inl (end, i)) = clause.dialled seen wrote net_seen first now input output status end
+  dialled status (inl (end, i)) = clause.dialled seen wrote tells net_seen first now input output status end
   dialled status (inr (built, runs, q)) = inl (ap (λ (n : N). (net_seen n).dialled) q)
 
   pub lent : (status : Status) → End status → (net_seen now).lent ≡ (net_seen first).lent
-  lent status (inl (end, i)) = clause.lent seen wrote net_seen first now input output status end
+  lent status (inl (end, i)) = clause.lent seen wrote tells net_seen first now input output status end
   lent status (inr (built, runs, q)) = ap (λ (n : N). (net_seen n).lent) q
 
   pub refused : (status : Status) → End status → IsRefusal status → now ≡ first
-  refused status (inl (end, i)) refusal = clause.refused seen wrote net_seen first now input output status end refusal
+  refused status (inl (end, i)) refusal = clause.refused seen wrote tells net_seen first now input output status end refusal
   refused status (inr (built, runs, q)) refusal = q
 
   pub untouched : (status : Status) → End status → (NamesServe input.words → ⊥) → now ≡ first
-  untouched status (inl (end, i)) never = clause.untouched seen wrote net_seen first now input output status end never
+  untouched status (inl (end, i)) never = clause.untouched seen wrote tells net_seen first now input output status end never
   untouched status (inr (built, runs, q)) never = q
 
   -- ---- completeness
@@ -256,5 +257,5 @@ module _ {L N : Type 0} (seen : L → Seen) (wrote : L → List ℕ → Type 0) 
   pub complete : (status : Status) → End status → (fs : List NamedBytes) → input.files ≡ Some fs → (wanted : Status) → IsDue input.words fs wanted
       → (Rose input.reads input.reads_now → ⊥) → (Rose output.writes output.writes_now → ⊥) → (Rose input.builder.before input.builder.now → ⊥)
       → (NamesServe input.words → Rose (net_seen first).bind_faults (net_seen now).bind_faults → ⊥) → (status ≡ wanted) ⊎ (status ≡ ended.OutOfMemory)
-  complete status (inl (end, i)) fs files wanted due reads writes builds binds = clause.complete seen wrote net_seen first now input output status end fs files wanted due reads writes builds binds
+  complete status (inl (end, i)) fs files wanted due reads writes builds binds = clause.complete seen wrote tells net_seen first now input output status end fs files wanted due reads writes builds binds
   complete status (inr (built, runs, q)) fs files wanted due reads writes builds binds = absurd (never_due fs status wanted files runs due)

@@ -3,6 +3,7 @@ use Rattle.std.proofs.Common.{◌≡◌, ℕ, List, ◌⊎◌, inl, inr, refl, s
 use Rattle.std.specs.Prelude.{Option, Some, Result, Ok, Err}
 use Rattle.px_link.specs.Told.{NamedBytes, Gains, Rose}
 use Rattle.px_link.specs.Link.{Seen}
+use Rattle.px_peer.specs.declared.Peer.{Peer}
 use Rattle.px_link.specs.Net.{Coming, Kept, NetSeen, address_of, with_address}
 use Rattle.px_command.specs.Command.{IsServe, IsUsage}
 use Rattle.px_command.specs.Texts.{EndsLine}
@@ -23,9 +24,9 @@ use Rattle.proxy_call.proofs.Due.{due_once, good_due, of_told, record_due, refus
 use Rattle.proxy_call.proofs.Words.{good_or_serve, same_count}
 
 -- how a call ended whose net went from one state to another
-abbrev pub EndedBy : {L N : Type 0} (seen : L → Seen) (wrote : L → List ℕ → Type 0) (net_seen : N → NetSeen) (first now : N) → Input → Output → Status → Type 0
-EndedBy seen wrote net_seen first now input output status =
-    Ended input output (now ≡ first) (Serves seen wrote net_seen first now output.writes output.writes_now output.old output.new) status
+abbrev pub EndedBy : {L N : Type 0} (seen : L → Seen) (wrote : L → List ℕ → Type 0) (tells : L → Option Peer → Type 0) (net_seen : N → NetSeen) (first now : N) → Input → Output → Status → Type 0
+EndedBy seen wrote tells net_seen first now input output status =
+    Ended input output (now ≡ first) (Serves seen wrote tells net_seen first now output.writes output.writes_now output.old output.new) status
 
 -- ---- statuses that `serve` itself does not end with
 
@@ -39,69 +40,69 @@ not_serving : (answer : Result (Unit {0}) ServeFault) (status : Status) → IsRe
 not_serving answer status refusal is = after_serving answer (subst IsRefusal is refusal)
 
 -- ---- clauses
-module _ {L N : Type 0} (seen : L → Seen) (wrote : L → List ℕ → Type 0) (net_seen : N → NetSeen) (first now : N) (input : Input) (output : Output) where
-  only_told : (status : Status) → IsRefusal status → EndedBy seen wrote net_seen first now input output status → Tells input output status
+module _ {L N : Type 0} (seen : L → Seen) (wrote : L → List ℕ → Type 0) (tells : L → Option Peer → Type 0) (net_seen : N → NetSeen) (first now : N) (input : Input) (output : Output) where
+  only_told : (status : Status) → IsRefusal status → EndedBy seen wrote tells net_seen first now input output status → Tells input output status
   only_told status refusal (inl (told, quiet)) = told
   only_told status refusal (inr (built, (name, count, is, cfg, accepted, (answer, serves, same)))) = absurd (not_serving answer status refusal same)
 
-  at : (status wanted : Status) → EndedBy seen wrote net_seen first now input output status → status ≡ wanted → EndedBy seen wrote net_seen first now input output wanted
-  at status wanted end is = subst (λ (s : Status). EndedBy seen wrote net_seen first now input output s) is end
+  at : (status wanted : Status) → EndedBy seen wrote tells net_seen first now input output status → status ≡ wanted → EndedBy seen wrote tells net_seen first now input output wanted
+  at status wanted end is = subst (λ (s : Status). EndedBy seen wrote tells net_seen first now input output s) is end
 
-  pub usage : (status : Status) → EndedBy seen wrote net_seen first now input output status → status ≡ ended.Usage → IsUsage input.words × (text : List ℕ) × EndsLine text × Gains output.old output.new text
+  pub usage : (status : Status) → EndedBy seen wrote tells net_seen first now input output status → status ≡ ended.Usage → IsUsage input.words × (text : List ℕ) × EndsLine text × Gains output.old output.new text
   usage status end is = let a = only_told ended.Usage tt (at status ended.Usage end is) in (a.answer.0, a.text, a.answer.1, a.gains)
 
-  pub config : (status : Status) → EndedBy seen wrote net_seen first now input output status → status ≡ ended.Config
+  pub config : (status : Status) → EndedBy seen wrote tells net_seen first now input output status → status ≡ ended.Config
       → (text : List ℕ) × IsRefusedBy input.words input.files input.builder text × Gains output.old output.new text
   config status end is =
       let a = only_told ended.Config tt (at status ended.Config end is) in
       (a.text, a.answer, a.gains)
 
-  pub record_refused : (status : Status) → EndedBy seen wrote net_seen first now input output status → status ≡ ended.Record
+  pub record_refused : (status : Status) → EndedBy seen wrote tells net_seen first now input output status → status ≡ ended.Record
       → (name : List ℕ) × DecidesRecord input.words input.files input.builder name × (text : List ℕ) × IsRecordRefusedOf input.files name text × Gains output.old output.new text
   record_refused status end is =
       let a = only_told ended.Record tt (at status ended.Record end is) in
       (a.answer.0, a.answer.1, a.text, a.answer.2, a.gains)
 
-  pub file_fault : (status : Status) → EndedBy seen wrote net_seen first now input output status → status ≡ ended.FileFault → Rose input.reads input.reads_now
+  pub file_fault : (status : Status) → EndedBy seen wrote tells net_seen first now input output status → status ≡ ended.FileFault → Rose input.reads input.reads_now
   file_fault status end is = (only_told ended.FileFault tt (at status ended.FileFault end is)).cause refl
 
-  pub file_name : (status : Status) → EndedBy seen wrote net_seen first now input output status → status ≡ ended.FileFault → DecidesBy input.words input.files input.builder input.last
+  pub file_name : (status : Status) → EndedBy seen wrote tells net_seen first now input output status → status ≡ ended.FileFault → DecidesBy input.words input.files input.builder input.last
   file_name status end is = (only_told ended.FileFault tt (at status ended.FileFault end is)).answer.0
 
-  pub file_told : (status : Status) → EndedBy seen wrote net_seen first now input output status → status ≡ ended.FileFault → Gains output.old output.new (file_line input.last)
+  pub file_told : (status : Status) → EndedBy seen wrote tells net_seen first now input output status → status ≡ ended.FileFault → Gains output.old output.new (file_line input.last)
   file_told status end is =
       let a = only_told ended.FileFault tt (at status ended.FileFault end is) in
       subst (λ (t : List ℕ). Gains output.old output.new t) a.answer.1 a.gains
 
   -- ---- good
 
-  good_of : EndedBy seen wrote net_seen first now input output ended.Good → NamesServe input.words ⊎ ((text : List ℕ) × IsGood input.words input.files text × Gains output.old output.new text)
+  good_of : EndedBy seen wrote tells net_seen first now input output ended.Good → NamesServe input.words ⊎ ((text : List ℕ) × IsGood input.words input.files text × Gains output.old output.new text)
   good_of (inl (a, quiet)) = inr (a.text, a.answer, a.gains)
   good_of (inr (built, (name, count, is, cfg, accepted, (answer, serves, same)))) = inl (name, count, is)
 
-  pub good : (status : Status) → EndedBy seen wrote net_seen first now input output status → status ≡ ended.Good
+  pub good : (status : Status) → EndedBy seen wrote tells net_seen first now input output status → status ≡ ended.Good
       → NamesServe input.words ⊎ ((text : List ℕ) × IsGood input.words input.files text × Gains output.old output.new text)
   good status end is = good_of (at status ended.Good end is)
 
-  served_of : EndedBy seen wrote net_seen first now input output ended.Good → NamesServe input.words
-      → Serving input.words input.files (λ cfg count. Serves seen wrote net_seen first now output.writes output.writes_now output.old output.new cfg count (Ok tt))
+  served_of : EndedBy seen wrote tells net_seen first now input output ended.Good → NamesServe input.words
+      → Serving input.words input.files (λ cfg count. Serves seen wrote tells net_seen first now output.writes output.writes_now output.old output.new cfg count (Ok tt))
   served_of (inl (a, quiet)) named = absurd (good_or_serve input.words a.text input.files a.answer named)
   served_of (inr (built, (name, count, is, cfg, accepted, (Ok done, serves, same)))) named = (name, count, is, cfg, accepted, serves)
   served_of (inr (built, (name, count, is, cfg, accepted, (Err serving.Net, serves, same)))) named = absurd cc
   served_of (inr (built, (name, count, is, cfg, accepted, (Err serving.Output, serves, same)))) named = absurd cc
   served_of (inr (built, (name, count, is, cfg, accepted, (Err serving.OutOfMemory, serves, same)))) named = absurd cc
 
-  pub served : (status : Status) → EndedBy seen wrote net_seen first now input output status → status ≡ ended.Good → NamesServe input.words
-      → Serving input.words input.files (λ cfg count. ServedAll net_seen (ServedBy seen wrote net_seen cfg) (address_of cfg.bind) count first now output.old output.new)
+  pub served : (status : Status) → EndedBy seen wrote tells net_seen first now input output status → status ≡ ended.Good → NamesServe input.words
+      → Serving input.words input.files (λ cfg count. ServedAll net_seen (ServedBy seen wrote tells net_seen cfg) (address_of cfg.bind) count first now output.old output.new)
   served status end is named =
       let s = served_of (at status ended.Good end is) named in (s.0, s.1, s.2, s.3, s.4, s.5.good)
 
-  pub binds : (status : Status) → EndedBy seen wrote net_seen first now input output status → status ≡ ended.Good → NamesServe input.words
+  pub binds : (status : Status) → EndedBy seen wrote tells net_seen first now input output status → status ≡ ended.Good → NamesServe input.words
       → Serving input.words input.files (λ cfg count. GainsBind (net_seen first) (net_seen now) cfg)
   binds status end is named =
       let s = served_of (at status ended.Good end is) named in (s.0, s.1, s.2, s.3, s.4, s.5.binds)
 
-  pub told : (status : Status) → EndedBy seen wrote net_seen first now input output status → (cfg_name : List ℕ) (count : ℕ) → IsServe input.words cfg_name count → status ≡ ended.Good
+  pub told : (status : Status) → EndedBy seen wrote tells net_seen first now input output status → (cfg_name : List ℕ) (count : ℕ) → IsServe input.words cfg_name count → status ≡ ended.Good
       → (coming : List Coming) (answers : List (Option Coming)) (kept : List Kept)
       → (net_seen first).accepts ≡ Some coming → (net_seen first).answers ≡ Some answers → (net_seen first).kept ≡ Some kept → Visited (net_seen now) coming kept count
   told status end cfg_name count serve is coming answers kept accepts connects keeps =
@@ -111,69 +112,69 @@ module _ {L N : Type 0} (seen : L → Seen) (wrote : L → List ℕ → Type 0) 
 
   -- ---- faults
 
-  out_of : EndedBy seen wrote net_seen first now input output ended.OutFault → Rose output.writes output.writes_now
+  out_of : EndedBy seen wrote tells net_seen first now input output ended.OutFault → Rose output.writes output.writes_now
   out_of (inl (told, quiet)) = told.0
   out_of (inr (built, (name, count, is, cfg, accepted, (Ok done, serves, same)))) = absurd cc
   out_of (inr (built, (name, count, is, cfg, accepted, (Err serving.Net, serves, same)))) = absurd cc
   out_of (inr (built, (name, count, is, cfg, accepted, (Err serving.Output, serves, same)))) = serves.output refl
   out_of (inr (built, (name, count, is, cfg, accepted, (Err serving.OutOfMemory, serves, same)))) = absurd cc
 
-  pub out_fault : (status : Status) → EndedBy seen wrote net_seen first now input output status → status ≡ ended.OutFault → Rose output.writes output.writes_now
+  pub out_fault : (status : Status) → EndedBy seen wrote tells net_seen first now input output status → status ≡ ended.OutFault → Rose output.writes output.writes_now
   out_fault status end is = out_of (at status ended.OutFault end is)
 
-  front_of : EndedBy seen wrote net_seen first now input output ended.OutFault
-      → (PutsFront input output × (now ≡ first)) ⊎ (IsBuilt input.builder × Serving input.words input.files (λ cfg count. Breaks net_seen (ServedBy seen wrote net_seen cfg) (LostBy seen wrote net_seen cfg) (address_of cfg.bind) count first now output.old output.new))
+  front_of : EndedBy seen wrote tells net_seen first now input output ended.OutFault
+      → (PutsFront input output × (now ≡ first)) ⊎ (IsBuilt input.builder × Serving input.words input.files (λ cfg count. Breaks net_seen (ServedBy seen wrote tells net_seen cfg) (LostBy seen wrote tells net_seen cfg) (address_of cfg.bind) count first now output.old output.new))
   front_of (inl (told, quiet)) = inl (told.1, quiet)
   front_of (inr (built, (name, count, is, cfg, accepted, (Ok done, serves, same)))) = absurd cc
   front_of (inr (built, (name, count, is, cfg, accepted, (Err fault, serves, same)))) = inr (built, (name, count, is, cfg, accepted, serves.front))
 
-  pub front : (status : Status) → EndedBy seen wrote net_seen first now input output status → status ≡ ended.OutFault
-      → (PutsFront input output × (now ≡ first)) ⊎ (IsBuilt input.builder × Serving input.words input.files (λ cfg count. Breaks net_seen (ServedBy seen wrote net_seen cfg) (LostBy seen wrote net_seen cfg) (address_of cfg.bind) count first now output.old output.new))
+  pub front : (status : Status) → EndedBy seen wrote tells net_seen first now input output status → status ≡ ended.OutFault
+      → (PutsFront input output × (now ≡ first)) ⊎ (IsBuilt input.builder × Serving input.words input.files (λ cfg count. Breaks net_seen (ServedBy seen wrote tells net_seen cfg) (LostBy seen wrote tells net_seen cfg) (address_of cfg.bind) count first now output.old output.new))
   front status end is = front_of (at status ended.OutFault end is)
 
-  memory_of : EndedBy seen wrote net_seen first now input output ended.OutOfMemory
+  memory_of : EndedBy seen wrote tells net_seen first now input output ended.OutOfMemory
       → (((output.new ≡ output.old) ⊎ PutsFront input output) × (now ≡ first))
-      ⊎ (IsBuilt input.builder × Serving input.words input.files (λ cfg count. Breaks net_seen (ServedBy seen wrote net_seen cfg) (LostBy seen wrote net_seen cfg) (address_of cfg.bind) count first now output.old output.new))
+      ⊎ (IsBuilt input.builder × Serving input.words input.files (λ cfg count. Breaks net_seen (ServedBy seen wrote tells net_seen cfg) (LostBy seen wrote tells net_seen cfg) (address_of cfg.bind) count first now output.old output.new))
   memory_of (inl (told, quiet)) = inl (told, quiet)
   memory_of (inr (built, (name, count, is, cfg, accepted, (Ok done, serves, same)))) = absurd cc
   memory_of (inr (built, (name, count, is, cfg, accepted, (Err fault, serves, same)))) = inr (built, (name, count, is, cfg, accepted, serves.front))
 
-  pub memory : (status : Status) → EndedBy seen wrote net_seen first now input output status → status ≡ ended.OutOfMemory
+  pub memory : (status : Status) → EndedBy seen wrote tells net_seen first now input output status → status ≡ ended.OutOfMemory
       → (((output.new ≡ output.old) ⊎ PutsFront input output) × (now ≡ first))
-      ⊎ (IsBuilt input.builder × Serving input.words input.files (λ cfg count. Breaks net_seen (ServedBy seen wrote net_seen cfg) (LostBy seen wrote net_seen cfg) (address_of cfg.bind) count first now output.old output.new))
+      ⊎ (IsBuilt input.builder × Serving input.words input.files (λ cfg count. Breaks net_seen (ServedBy seen wrote tells net_seen cfg) (LostBy seen wrote tells net_seen cfg) (address_of cfg.bind) count first now output.old output.new))
   memory status end is = memory_of (at status ended.OutOfMemory end is)
 
-  net_of : EndedBy seen wrote net_seen first now input output ended.NetFault
-      → Serving input.words input.files (λ cfg count. NetFails net_seen (ServedBy seen wrote net_seen cfg) (address_of cfg.bind) count net_line first now output.old output.new)
+  net_of : EndedBy seen wrote tells net_seen first now input output ended.NetFault
+      → Serving input.words input.files (λ cfg count. NetFails net_seen (ServedBy seen wrote tells net_seen cfg) (address_of cfg.bind) count net_line first now output.old output.new)
   net_of (inl (told, quiet)) = absurd told
   net_of (inr (built, (name, count, is, cfg, accepted, (Ok done, serves, same)))) = absurd cc
   net_of (inr (built, (name, count, is, cfg, accepted, (Err serving.Net, serves, same)))) = (name, count, is, cfg, accepted, serves.net refl)
   net_of (inr (built, (name, count, is, cfg, accepted, (Err serving.Output, serves, same)))) = absurd cc
   net_of (inr (built, (name, count, is, cfg, accepted, (Err serving.OutOfMemory, serves, same)))) = absurd cc
 
-  pub net_fault : (status : Status) → EndedBy seen wrote net_seen first now input output status → status ≡ ended.NetFault
-      → Serving input.words input.files (λ cfg count. NetFails net_seen (ServedBy seen wrote net_seen cfg) (address_of cfg.bind) count net_line first now output.old output.new)
+  pub net_fault : (status : Status) → EndedBy seen wrote tells net_seen first now input output status → status ≡ ended.NetFault
+      → Serving input.words input.files (λ cfg count. NetFails net_seen (ServedBy seen wrote tells net_seen cfg) (address_of cfg.bind) count net_line first now output.old output.new)
   net_fault status end is = net_of (at status ended.NetFault end is)
 
   -- ---- the builder
 
-  built_of : EndedBy seen wrote net_seen first now input output ended.Good → IsBuilt input.builder
+  built_of : EndedBy seen wrote tells net_seen first now input output ended.Good → IsBuilt input.builder
   built_of (inl (a, quiet)) = a.built refl
   built_of (inr (built, serves)) = built
 
-  pub built : (status : Status) → EndedBy seen wrote net_seen first now input output status → status ≡ ended.Good → IsBuilt input.builder
+  pub built : (status : Status) → EndedBy seen wrote tells net_seen first now input output status → status ≡ ended.Good → IsBuilt input.builder
   built status end is = built_of (at status ended.Good end is)
 
-  net_built_of : EndedBy seen wrote net_seen first now input output ended.NetFault → IsBuilt input.builder
+  net_built_of : EndedBy seen wrote tells net_seen first now input output ended.NetFault → IsBuilt input.builder
   net_built_of (inl (told, quiet)) = absurd told
   net_built_of (inr (built, serves)) = built
 
-  pub net_built : (status : Status) → EndedBy seen wrote net_seen first now input output status → status ≡ ended.NetFault → IsBuilt input.builder
+  pub net_built : (status : Status) → EndedBy seen wrote tells net_seen first now input output status → status ≡ ended.NetFault → IsBuilt input.builder
   net_built status end is = net_built_of (at status ended.NetFault end is)
 
   -- ---- the net
 
-  pub bound : (status : Status) → EndedBy seen wrote net_seen first now input output status
+  pub bound : (status : Status) → EndedBy seen wrote tells net_seen first now input output status
       → ((net_seen now).bound ≡ (net_seen first).bound) ⊎ Serving input.words input.files (λ cfg count. GainsBind (net_seen first) (net_seen now) cfg)
   bound status (inl (told, quiet)) = inl (ap (λ (n : N). (net_seen n).bound) quiet)
   bound status (inr (built, (name, count, is, cfg, accepted, (answer, serves, same)))) = by_case serves.bound
@@ -183,7 +184,7 @@ module _ {L N : Type 0} (seen : L → Seen) (wrote : L → List ℕ → Type 0) 
       by_case (inl none) = inl none
       by_case (inr gains) = inr (name, count, is, cfg, accepted, gains)
 
-  pub dialled : (status : Status) → EndedBy seen wrote net_seen first now input output status
+  pub dialled : (status : Status) → EndedBy seen wrote tells net_seen first now input output status
       → ((net_seen now).dialled ≡ (net_seen first).dialled) ⊎ Serving input.words input.files (λ cfg count. (net_seen now).dialled ≡ with_address (net_seen first).dialled (address_of cfg.server))
   dialled status (inl (told, quiet)) = inl (ap (λ (n : N). (net_seen n).dialled) quiet)
   dialled status (inr (built, (name, count, is, cfg, accepted, (answer, serves, same)))) = by_case serves.dialled
@@ -193,15 +194,15 @@ module _ {L N : Type 0} (seen : L → Seen) (wrote : L → List ℕ → Type 0) 
       by_case (inl none) = inl none
       by_case (inr gains) = inr (name, count, is, cfg, accepted, gains)
 
-  pub lent : (status : Status) → EndedBy seen wrote net_seen first now input output status → (net_seen now).lent ≡ (net_seen first).lent
+  pub lent : (status : Status) → EndedBy seen wrote tells net_seen first now input output status → (net_seen now).lent ≡ (net_seen first).lent
   lent status (inl (told, quiet)) = ap (λ (n : N). (net_seen n).lent) quiet
   lent status (inr (built, (name, count, is, cfg, accepted, (answer, serves, same)))) = serves.lent
 
-  pub refused : (status : Status) → EndedBy seen wrote net_seen first now input output status → IsRefusal status → now ≡ first
+  pub refused : (status : Status) → EndedBy seen wrote tells net_seen first now input output status → IsRefusal status → now ≡ first
   refused status (inl (told, quiet)) refusal = quiet
   refused status (inr (built, (name, count, is, cfg, accepted, (answer, serves, same)))) refusal = absurd (not_serving answer status refusal same)
 
-  pub untouched : (status : Status) → EndedBy seen wrote net_seen first now input output status → (NamesServe input.words → ⊥) → now ≡ first
+  pub untouched : (status : Status) → EndedBy seen wrote tells net_seen first now input output status → (NamesServe input.words → ⊥) → now ≡ first
   untouched status (inl (told, quiet)) never = quiet
   untouched status (inr (built, (name, count, is, cfg, accepted, (answer, serves, same)))) never = absurd (never (name, count, is))
 
@@ -221,7 +222,7 @@ module _ {L N : Type 0} (seen : L → Seen) (wrote : L → List ℕ → Type 0) 
   told_due fs ended.OutOfMemory files reads writes builds told = inr refl
 
   serving_due : (fs : List NamedBytes) (status : Status) → input.files ≡ Some fs → (Rose output.writes output.writes_now → ⊥) → (NamesServe input.words → Rose (net_seen first).bind_faults (net_seen now).bind_faults → ⊥)
-      → Serving input.words input.files (λ cfg count. (answer : Result (Unit {0}) ServeFault) × Serves seen wrote net_seen first now output.writes output.writes_now output.old output.new cfg count answer × (status ≡ status_after answer))
+      → Serving input.words input.files (λ cfg count. (answer : Result (Unit {0}) ServeFault) × Serves seen wrote tells net_seen first now output.writes output.writes_now output.old output.new cfg count answer × (status ≡ status_after answer))
       → IsDue input.words fs status ⊎ (status ≡ ended.OutOfMemory)
   serving_due fs status files writes binds (name, count, is, cfg, accepted, (Ok done, serves, same)) =
       inl (subst (IsDue input.words fs) (sym same) (inl (name, inr (count, is), cfg, of_told input.files fs _ files accepted)))
@@ -231,7 +232,7 @@ module _ {L N : Type 0} (seen : L → Seen) (wrote : L → List ℕ → Type 0) 
 
   ended_due : (fs : List NamedBytes) (status : Status) → input.files ≡ Some fs → (Rose input.reads input.reads_now → ⊥) → (Rose output.writes output.writes_now → ⊥) → (Rose input.builder.before input.builder.now → ⊥)
       → (NamesServe input.words → Rose (net_seen first).bind_faults (net_seen now).bind_faults → ⊥)
-      → EndedBy seen wrote net_seen first now input output status → IsDue input.words fs status ⊎ (status ≡ ended.OutOfMemory)
+      → EndedBy seen wrote tells net_seen first now input output status → IsDue input.words fs status ⊎ (status ≡ ended.OutOfMemory)
   ended_due fs status files reads writes builds binds (inl (told, quiet)) = told_due fs status files reads writes builds told
   ended_due fs status files reads writes builds binds (inr (built, serves)) = serving_due fs status files writes binds serves
 
@@ -239,7 +240,7 @@ module _ {L N : Type 0} (seen : L → Seen) (wrote : L → List ℕ → Type 0) 
   due_or_memory fs status wanted due (inl is) = inl (due_once input.words fs status wanted is due)
   due_or_memory fs status wanted due (inr memory) = inr memory
 
-  pub complete : (status : Status) → EndedBy seen wrote net_seen first now input output status → (fs : List NamedBytes) → input.files ≡ Some fs → (wanted : Status) → IsDue input.words fs wanted
+  pub complete : (status : Status) → EndedBy seen wrote tells net_seen first now input output status → (fs : List NamedBytes) → input.files ≡ Some fs → (wanted : Status) → IsDue input.words fs wanted
       → (Rose input.reads input.reads_now → ⊥) → (Rose output.writes output.writes_now → ⊥) → (Rose input.builder.before input.builder.now → ⊥)
       → (NamesServe input.words → Rose (net_seen first).bind_faults (net_seen now).bind_faults → ⊥) → (status ≡ wanted) ⊎ (status ≡ ended.OutOfMemory)
   complete status end fs files wanted due reads writes builds binds = due_or_memory fs status wanted due (ended_due fs status files reads writes builds binds end)

@@ -13,8 +13,9 @@ use crate::serving::{ServeCommand, serve};
 use crate::sessions::{Switch, Workers};
 use crate::stop::Stop;
 use px_command::{Asked, asked_by, help_of_text, help_text, version_text};
-use px_link::{Bytes, Files, Net, Sink, Waits, WaitsNet, Wakes};
+use px_link::{Bytes, Files, Link, Net, Sink, Waits, WaitsNet, Wakes};
 use px_pattern::Patterns;
+use px_proxyproto::HasPeer;
 use px_run::Nets;
 use std::alloc::Global;
 
@@ -31,8 +32,9 @@ fn write<'a, K: Sink>(made: Result<Bytes, Stop<'a>>, out: &mut K) -> Result<(), 
 pub fn run<
     'a,
     F: Files,
-    N: Net,
-    L: Waits + Drop,
+    H: Link + HasPeer,
+    N: Net<Link = H>,
+    L: Waits + HasPeer + Drop,
     M: WaitsNet<Link = L> + Drop,
     S: Nets<M> + Switch + Workers<M>,
     W: Wakes<M>,
@@ -48,8 +50,8 @@ pub fn run<
 ) -> Result<(), Stop<'a>>
     ensures { RanAny (given (map string_bytes words.now) (F.files files.old) (told_by (P.refusals pats.old) (P.refusals pats.new) (P.last_refused pats.new)) (F.last_failed files.new) (F.faults files.old) (F.faults files.new))
         (put (K.faults out.old) (K.faults out.new) (K.written out.old) (K.written out.new)) (nets.new.serve ≡ nets.old.serve) (nets.new.run ≡ nets.old.run)
-        (Serves N.Link.seen N.Link.wrote N.seen nets.old.serve nets.new.serve (K.faults out.old) (K.faults out.new) (K.written out.old) (K.written out.new))
-        (Runs L.seen L.wrote M.seen (S.accepts_none nets.new.run.nets) nets.old.run.net nets.new.run.net (K.faults out.old) (K.faults out.new) (K.written out.old) (K.written out.new)) result }
+        (Serves H.seen H.wrote H.tells N.seen nets.old.serve nets.new.serve (K.faults out.old) (K.faults out.new) (K.written out.old) (K.written out.new))
+        (Runs L.seen L.wrote L.tells M.seen (S.accepts_none nets.new.run.nets) nets.old.run.net nets.new.run.net (K.faults out.old) (K.faults out.new) (K.written out.old) (K.written out.new)) result }
 {
     match asked_by(alloc, words)? {
         Asked::Check { cfg } => write(check(alloc, files, cfg, pats), out),

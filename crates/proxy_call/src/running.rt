@@ -12,6 +12,7 @@ use crate::stop::Stop;
 use px_command::RunOptions;
 use px_link::{Files, Sink, Waits, WaitsNet, Wakes};
 use px_pattern::Patterns;
+use px_proxyproto::HasPeer;
 use px_run::Nets;
 use std::alloc::Global;
 
@@ -27,7 +28,7 @@ pub struct RunCommand<'a> {
 pub fn run_many<
     'a,
     F: Files,
-    L: Waits + Drop,
+    L: Waits + HasPeer + Drop,
     N: WaitsNet<Link = L> + Drop,
     S: Nets<N> + Switch + Workers<N>,
     W: Wakes<N>,
@@ -44,7 +45,7 @@ pub fn run_many<
     ensures { (words : List (List ℕ)) → IsRun words asked.now.cfg.now asked.now.options
         → RanRun (given words (F.files files.old) (told_by (P.refusals pats.old) (P.refusals pats.new) (P.last_refused pats.new)) (F.last_failed files.new) (F.faults files.old) (F.faults files.new))
         (put (K.faults out.old) (K.faults out.new) (K.written out.old) (K.written out.new)) (many.new ≡ many.old)
-        (Runs L.seen L.wrote N.seen (S.accepts_none many.new.nets) many.old.net many.new.net (K.faults out.old) (K.faults out.new) (K.written out.old) (K.written out.new)) result }
+        (Runs L.seen L.wrote L.tells N.seen (S.accepts_none many.new.nets) many.old.net many.new.net (K.faults out.old) (K.faults out.new) (K.written out.old) (K.written out.new)) result }
 {
     let cfg = configuration(alloc, files, asked.cfg, pats)?;
     run_clients(alloc, &cfg, asked.options, many, out)?;

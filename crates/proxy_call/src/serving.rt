@@ -9,8 +9,9 @@ ghost use Rattle.proxy_call.specs.Stops.{given};
 use crate::answer::configuration;
 use crate::sessions::serve_clients;
 use crate::stop::Stop;
-use px_link::{Files, Net, Sink};
+use px_link::{Files, Link, Net, Sink};
 use px_pattern::Patterns;
+use px_proxyproto::HasPeer;
 use std::alloc::Global;
 
 /// What the words of `serve` say.
@@ -22,7 +23,7 @@ pub struct ServeCommand<'a> {
 }
 
 /// Serves so many connections by the configuration in a file, and writes their lines.
-pub fn serve<'a, F: Files, N: Net, K: Sink, P: Patterns>(
+pub fn serve<'a, F: Files, H: Link + HasPeer, N: Net<Link = H>, K: Sink, P: Patterns>(
     alloc: Global,
     files: &mut F,
     asked: &ServeCommand<'a>,
@@ -33,7 +34,7 @@ pub fn serve<'a, F: Files, N: Net, K: Sink, P: Patterns>(
     ensures { (words : List (List ℕ)) → IsServe words asked.now.cfg.now asked.now.connections
         → Ran (given words (F.files files.old) (told_by (P.refusals pats.old) (P.refusals pats.new) (P.last_refused pats.new)) (F.last_failed files.new) (F.faults files.old) (F.faults files.new))
         (put (K.faults out.old) (K.faults out.new) (K.written out.old) (K.written out.new)) (net.new ≡ net.old)
-        (Serves N.Link.seen N.Link.wrote N.seen net.old net.new (K.faults out.old) (K.faults out.new) (K.written out.old) (K.written out.new)) result }
+        (Serves H.seen H.wrote H.tells N.seen net.old net.new (K.faults out.old) (K.faults out.new) (K.written out.old) (K.written out.new)) result }
 {
     let cfg = configuration(alloc, files, asked.cfg, pats)?;
     serve_clients(alloc, &cfg, asked.connections, net, out)?;

@@ -19,8 +19,9 @@ use crate::reply::end;
 use crate::run::run;
 use crate::sessions::{Switch, Workers};
 use crate::status::Status;
-use px_link::{Files, Net, Sink, Waits, WaitsNet, Wakes};
+use px_link::{Files, Link, Net, Sink, Waits, WaitsNet, Wakes};
 use px_pattern::Patterns;
+use px_proxyproto::HasPeer;
 use px_run::Nets;
 use std::alloc::Global;
 
@@ -28,8 +29,9 @@ use std::alloc::Global;
 /// a use for its own. `pats` builds the patterns of a configuration.
 pub fn htx_proxy<
     F: Files,
-    N: Net,
-    L: Waits + Drop,
+    H: Link + HasPeer,
+    N: Net<Link = H>,
+    L: Waits + HasPeer + Drop,
     M: WaitsNet<Link = L> + Drop,
     S: Nets<M> + Switch + Workers<M>,
     W: Wakes<M>,
@@ -50,7 +52,7 @@ pub fn htx_proxy<
     // Good of `serve`: the net was bound, so many connections were served by the configuration, one after another, and their lines
     // were written and nothing else.
     ensures served { result ≡ Status.Good → NamesServe (map string_bytes words.now) → Serving (map string_bytes words.now) (F.files files.old)
-        (λ cfg count. ServedAll N.seen (ServedBy N.Link.seen N.Link.wrote N.seen cfg) (address_of cfg.bind) count nets.old.serve nets.new.serve (K.written out.old) (K.written out.new)) }
+        (λ cfg count. ServedAll N.seen (ServedBy H.seen H.wrote H.tells N.seen cfg) (address_of cfg.bind) count nets.old.serve nets.new.serve (K.written out.old) (K.written out.new)) }
 
     // Where the net tells its links, so many were accepted, in order, and each connection's servers and then its client were kept.
     ensures told { (cfg_name : List ℕ) (count : ℕ) → IsServe (map string_bytes words.now) cfg_name count → result ≡ Status.Good
@@ -60,7 +62,7 @@ pub fn htx_proxy<
 
     // Good of `run`: it did what running by the configuration does.
     ensures ran { result ≡ Status.Good → NamesRun (map string_bytes words.now)
-        → RunsTo (map string_bytes words.now) (F.files files.old) (Runs L.seen L.wrote M.seen (S.accepts_none nets.new.run.nets) nets.old.run.net nets.new.run.net (K.faults out.old) (K.faults out.new) (K.written out.old) (K.written out.new)) result }
+        → RunsTo (map string_bytes words.now) (F.files files.old) (Runs L.seen L.wrote L.tells M.seen (S.accepts_none nets.new.run.nets) nets.old.run.net nets.new.run.net (K.faults out.old) (K.faults out.new) (K.written out.old) (K.written out.new)) result }
 
     // Good, and NetFault where `serve` or `run` had accepted its configuration, come only where the builder refused no pattern.
     ensures built { result ≡ Status.Good → P.refusals pats.new ≡ P.refusals pats.old }
@@ -89,8 +91,8 @@ pub fn htx_proxy<
     // NetFault comes only in `serve`, where a bind or an accept failed, and its count rose, and the lines of exactly the connections before it
     // and then `net` were written; and in `run`, by what that does.
     ensures net_fault { result ≡ Status.NetFault → Serving (map string_bytes words.now) (F.files files.old)
-        (λ cfg count. NetFails N.seen (ServedBy N.Link.seen N.Link.wrote N.seen cfg) (address_of cfg.bind) count net_line nets.old.serve nets.new.serve (K.written out.old) (K.written out.new))
-        ⊎ RunsTo (map string_bytes words.now) (F.files files.old) (Runs L.seen L.wrote M.seen (S.accepts_none nets.new.run.nets) nets.old.run.net nets.new.run.net (K.faults out.old) (K.faults out.new) (K.written out.old) (K.written out.new)) result }
+        (λ cfg count. NetFails N.seen (ServedBy H.seen H.wrote H.tells N.seen cfg) (address_of cfg.bind) count net_line nets.old.serve nets.new.serve (K.written out.old) (K.written out.new))
+        ⊎ RunsTo (map string_bytes words.now) (F.files files.old) (Runs L.seen L.wrote L.tells M.seen (S.accepts_none nets.new.run.nets) nets.old.run.net nets.new.run.net (K.faults out.old) (K.faults out.new) (K.written out.old) (K.written out.new)) result }
 
     // With a fault of the output a prefix of what another status would have written was written: the line of a file only where the files'
     // count rose, a good text, and lines of `serve`, only where the builder refused no pattern. It is said of each link that `serve` accepted
@@ -99,7 +101,7 @@ pub fn htx_proxy<
         → (WritesFront (map string_bytes words.now) (F.files files.old) (told_by (P.refusals pats.old) (P.refusals pats.new) (P.last_refused pats.new)) (F.last_failed files.new) (F.faults files.old) (F.faults files.new) (K.written out.old) (K.written out.new)
         × (nets.new.serve ≡ nets.old.serve))
         ⊎ ((P.refusals pats.new ≡ P.refusals pats.old) × Serving (map string_bytes words.now) (F.files files.old)
-        (λ cfg count. Breaks N.seen (ServedBy N.Link.seen N.Link.wrote N.seen cfg) (LostBy N.Link.seen N.Link.wrote N.seen cfg) (address_of cfg.bind) count nets.old.serve nets.new.serve (K.written out.old) (K.written out.new))) }
+        (λ cfg count. Breaks N.seen (ServedBy H.seen H.wrote H.tells N.seen cfg) (LostBy H.seen H.wrote H.tells N.seen cfg) (address_of cfg.bind) count nets.old.serve nets.new.serve (K.written out.old) (K.written out.new))) }
 
     // Where memory ran out, nothing or such a prefix was written, and so it is said of each link that `serve` accepted: the session in hand was given up,
     // and its links were written a prefix of one. Or it ran out in `run`, by what that does.
@@ -108,8 +110,8 @@ pub fn htx_proxy<
         ⊎ WritesFront (map string_bytes words.now) (F.files files.old) (told_by (P.refusals pats.old) (P.refusals pats.new) (P.last_refused pats.new)) (F.last_failed files.new) (F.faults files.old) (F.faults files.new) (K.written out.old) (K.written out.new))
         × (nets.new.serve ≡ nets.old.serve))
         ⊎ (((P.refusals pats.new ≡ P.refusals pats.old) × Serving (map string_bytes words.now) (F.files files.old)
-        (λ cfg count. Breaks N.seen (ServedBy N.Link.seen N.Link.wrote N.seen cfg) (LostBy N.Link.seen N.Link.wrote N.seen cfg) (address_of cfg.bind) count nets.old.serve nets.new.serve (K.written out.old) (K.written out.new)))
-        ⊎ ((P.refusals pats.new ≡ P.refusals pats.old) × RunsTo (map string_bytes words.now) (F.files files.old) (Runs L.seen L.wrote M.seen (S.accepts_none nets.new.run.nets) nets.old.run.net nets.new.run.net (K.faults out.old) (K.faults out.new) (K.written out.old) (K.written out.new)) result)) }
+        (λ cfg count. Breaks N.seen (ServedBy H.seen H.wrote H.tells N.seen cfg) (LostBy H.seen H.wrote H.tells N.seen cfg) (address_of cfg.bind) count nets.old.serve nets.new.serve (K.written out.old) (K.written out.new)))
+        ⊎ ((P.refusals pats.new ≡ P.refusals pats.old) × RunsTo (map string_bytes words.now) (F.files files.old) (Runs L.seen L.wrote L.tells M.seen (S.accepts_none nets.new.run.nets) nets.old.run.net nets.new.run.net (K.faults out.old) (K.faults out.new) (K.written out.old) (K.written out.new)) result)) }
 
     // The net gains at most the configuration's address among those of binds, and has it where `serve` answers Good.
     ensures binds { result ≡ Status.Good → NamesServe (map string_bytes words.now) → Serving (map string_bytes words.now) (F.files files.old)
@@ -130,7 +132,7 @@ pub fn htx_proxy<
     // What `run` is handed is as it was behind each such refusal, and whatever comes of other words; else `run` did what it does.
     ensures refused_idle { IsRefusal result → nets.new.run ≡ nets.old.run }
     ensures idle { (NamesRun (map string_bytes words.now) → ⊥) → nets.new.run ≡ nets.old.run }
-    ensures left_idle { (nets.new.run ≡ nets.old.run) ⊎ RunsTo (map string_bytes words.now) (F.files files.old) (Runs L.seen L.wrote M.seen (S.accepts_none nets.new.run.nets) nets.old.run.net nets.new.run.net (K.faults out.old) (K.faults out.new) (K.written out.old) (K.written out.new)) result }
+    ensures left_idle { (nets.new.run ≡ nets.old.run) ⊎ RunsTo (map string_bytes words.now) (F.files files.old) (Runs L.seen L.wrote L.tells M.seen (S.accepts_none nets.new.run.nets) nets.old.run.net nets.new.run.net (K.faults out.old) (K.faults out.new) (K.written out.old) (K.written out.new)) result }
 
     // Where nothing failed, only memory is in the way of the status that words and files call for.
     ensures complete { (fs : List NamedBytes) → F.files files.old ≡ Some fs

@@ -29,6 +29,8 @@ use Rattle.http_rules.specs.declared.config.Config.{Config}
 use Rattle.http_rules.specs.Lives.{answering}
 use Rattle.http_rules.specs.Rules.{Comes, rules_of}
 use Rattle.forward_core.specs.Meaning.Product.{meaning_of}
+use Rattle.forward_core.specs.Meaning.Beginning.{beginning}
+use Rattle.px_peer.specs.declared.Peer.{Peer}
 use Rattle.rec_format.specs.Entries.{ServerEntry}
 use Rattle.rec_format.specs.Recorded.{Visit}
 use Rattle.px_explain.specs.Traced as told
@@ -263,15 +265,19 @@ module _ (cfg : Config) (visit : Visit) (traced : Traced) (out : Out) (one : One
   answer_is : t.behind.answer ≡ traced.answer
   answer_is = sym (ap (λ (x : Traced). x.answer) t.is)
 
+  -- no peer is told, so no variable is set
+  follow : Follow (meaning_of cfg) s.session.exchanges no_variables visit.client s.servers out.how
+  follow = subst (λ (p : Option Peer). Follow (meaning_of cfg) s.session.exchanges (beginning p) visit.client s.servers out.how) s.nobody s.session.follow
+
   by : (es : List (Exchange Variables)) → s.session.exchanges ≡ es → TellsStatus traced.answer out.client.bytes
   by [] is =
-      let f : Follow (meaning_of cfg) [] no_variables visit.client s.servers out.how = subst (λ (es : List (Exchange Variables)). Follow (meaning_of cfg) es no_variables visit.client s.servers out.how) is s.session.follow in
+      let f : Follow (meaning_of cfg) [] no_variables visit.client s.servers out.how = subst (λ (es : List (Exchange Variables)). Follow (meaning_of cfg) es no_variables visit.client s.servers out.how) is follow in
       let same : t.head ≡ f.0.head = one readers.Request cfg.limits visit.client.bytes t.head f.0.head t.reads f.0.reads in
       let none : asked_of (meaning_of cfg) no_variables visit.client.ending t.head ≡ Nothing = ap (λ (h : HeadReading). asked_of (meaning_of cfg) no_variables visit.client.ending h) same ∙ sym f.0.asks in
       let empty : out.client.bytes ≡ [] = ap (λ (o : Out). o.client.bytes) s.session.comes_to ∙ ap (λ (es : List (Exchange Variables)). (out_of es out.how).client.bytes) is in
       subst (λ (o : Option ℕ). TellsStatus o out.client.bytes) (sym (nothing_asked cfg (asked_of (meaning_of cfg) no_variables visit.client.ending t.head) visit.servers t.behind none t.answers) ∙ answer_is) empty
   by (e ∷ es) is =
-      let f : Follow (meaning_of cfg) (e ∷ es) no_variables visit.client s.servers out.how = subst (λ (es : List (Exchange Variables)). Follow (meaning_of cfg) es no_variables visit.client s.servers out.how) is s.session.follow in
+      let f : Follow (meaning_of cfg) (e ∷ es) no_variables visit.client s.servers out.how = subst (λ (es : List (Exchange Variables)). Follow (meaning_of cfg) es no_variables visit.client s.servers out.how) is follow in
       let same : t.head ≡ f.2.head = one readers.Request cfg.limits visit.client.bytes t.head f.2.head t.reads f.2.reads in
       let asked : asked_of (meaning_of cfg) no_variables visit.client.ending t.head ≡ f.0 = ap (λ (h : HeadReading). asked_of (meaning_of cfg) no_variables visit.client.ending h) same ∙ sym f.2.asks in
       let text : out.client.bytes ≡ e.client ++ flat_map (λ (x : Exchange Variables). x.client) es = ap (λ (o : Out). o.client.bytes) s.session.comes_to ∙ ap (λ (es : List (Exchange Variables)). (out_of es out.how).client.bytes) is in

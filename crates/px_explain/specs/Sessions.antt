@@ -39,8 +39,9 @@ abbrev pub TellsStatus : Option ℕ → (text : List ℕ) → Type 0
 TellsStatus None text = text ≡ []
 TellsStatus (Some code) text = BeginsWithStatus code text
 
--- a session of the connection in which no request is refused for its cut before an answer begins
+-- A session of the connection in which no request is refused for its cut before an answer begins. A connection of a record has no peer.
 pub record IsSessionOf (cfg : Config) (visit : Visit) (out : Out) : Type 0 where
+  pub nobody : cfg.peer ≡ None
   pub servers : List Server
   pub found : AreEntries visit.servers servers
   pub session : Session (meaning_of cfg) visit.client servers out

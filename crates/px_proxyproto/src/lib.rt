@@ -5,6 +5,7 @@
 mod address;
 mod binary;
 mod greeting;
+mod has_peer;
 mod headers;
 pub mod laws;
 mod line;
@@ -17,7 +18,9 @@ mod state;
 mod writing;
 
 pub use greeting::{Greeting, greet};
+pub use has_peer::HasPeer;
 pub use headers::header_text;
+pub use line_text::address_text;
 pub use note_list::{Heading, NoteRoom};
 pub use px_peer::{Pair, Peer};
 pub use reader::ProxyReader;

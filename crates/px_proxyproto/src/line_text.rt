@@ -6,7 +6,7 @@ ghost use Rattle.px_proxyproto.specs.Texts as Spec;
 use crate::line::family_word;
 use crate::writing::{octets_4, put};
 use px_bytes::{write_decimal, write_hex};
-use px_peer::Pair;
+use px_peer::{Pair, Peer};
 use std::net::Ipv6Addr;
 
 /// Writes a number of at most five digits.
@@ -112,6 +112,14 @@ fn put_address(into: &mut [u8; 107], at: usize, v6: bool, addr: u128) -> usize
         return put_address_6(into, at, addr);
     }
     put_address_4(into, at, addr)
+}
+
+/// Writes the address of an end at the front, and tells its length: four numbers with a dot between them, or all eight groups.
+pub fn address_text(peer: &Peer, into: &mut [u8; 107]) -> usize
+    ensures within { result ≤ 40 }
+    ensures front { take result into.new ≡ Spec.address_text peer.now.v6 peer.now.addr }
+{
+    put_address(into, 0, peer.v6, peer.addr)
 }
 
 /// Writes both addresses with a space behind each.

@@ -2,6 +2,8 @@
 use Rattle.std.specs.Prelude.{◌≡◌, ℕ, List, [], ◌∷◌, true, Option, Some, None, Result, is_some}
 use Rattle.session_model.specs.Meaning.{Meaning}
 use Rattle.session_core.specs.History.{Past}
+use Rattle.px_peer.specs.declared.Peer.{Peer}
+use Rattle.htx_drive.specs.Weave.State.{IsFresh}
 use Rattle.px_link.specs.Link.{Seen}
 use Rattle.px_link.specs.Net.{Place, NetSeen}
 use Rattle.htx_drive.specs.Machine.{CoreSeen}
@@ -12,6 +14,10 @@ use Rattle.px_run.specs.Lines.{outcomes_in}
 use Rattle.px_run.specs.Course.{IsSame, GoesOn, CameTo, MayStep}
 use Rattle.px_run.specs.declared.connection.Looked.{Looked}
 use Rattle.px_run.specs.declared.connection.Looked.TheVariants as looks
+
+-- nothing has happened to a core, whosever connection it is to serve
+abbrev pub IsFreshFor : {C : Type 0} → (stands : Option Peer → C → Past → Type 0) → C → Type 0
+IsFreshFor stands core = (peer : Option Peer) × IsFresh (stands peer) core
 
 -- nothing of it was touched
 pub record IsWaiting {L : Type 0} (seen : L → Seen) (wrote : L → List ℕ → Type 0) (first client : L) (server : Option L) (first_net net : NetSeen) : Type 0 where

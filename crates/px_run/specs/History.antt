@@ -4,6 +4,7 @@ use Rattle.std.specs.List.{sum_by}
 use Rattle.session_model.specs.Meaning.{Meaning}
 use Rattle.session_core.specs.History.{Past}
 use Rattle.px_link.specs.Link.{Seen}
+use Rattle.px_peer.specs.declared.Peer.{Peer}
 use Rattle.px_link.specs.Net.{Place, NetSeen, Accepted, AcceptFailed, AcceptUnroomed, Keeps}
 use Rattle.htx_drive.specs.Machine.{CoreSeen}
 use Rattle.htx_drive.specs.declared.Ran.{Ran}
@@ -14,16 +15,17 @@ use Rattle.px_run.specs.Lines.{Ended, outcomes_in, said_of}
 
 -- ---- connections
 
--- A connection: its link as it was accepted, the net that was made for it, what it came to, and both as they were when the link was given back.
+-- A connection: its link as it was accepted, what that told of its peer, the net that was made for it, what it came to, and both as they were when the link was given back.
 pub record Visit (L N : Type 0) : Type 0 where
   pub first : L
+  pub peer : Option Peer
   pub own : N
   pub came : Option (Result Ran SessionFault)
   pub back : Option (L × N)
 
 -- one that was accepted
-abbrev pub new_visit : {L N : Type 0} → L → N → Visit L N
-new_visit link own = record { first = link; own = own; came = None; back = None }
+abbrev pub new_visit : {L N : Type 0} → L → N → Option Peer → Visit L N
+new_visit link own peer = record { first = link; peer = peer; own = own; came = None; back = None }
 
 -- the one of this number: they are numbered from 1
 abbrev pub numbered : {A : Type 0} → (number : ℕ) → List A → Option A
@@ -71,10 +73,11 @@ open_in (Some back) = 0
 abbrev pub count_open : {L N : Type 0} → List (Visit L N) → ℕ
 count_open {L} {N} visits = sum_by (λ (visit : Visit L N). open_in visit.back) visits
 
--- Its net is a new one. Where its link was given back, its session led there from the link that was accepted, or it was given up.
-pub record IsVisit {C L N : Type 0} (M : Meaning) (stands : C → Past → Type 0) (sees : C → CoreSeen) (seen : L → Seen) (wrote : L → List ℕ → Type 0) (sees_net : N → NetSeen) (to : Place) (visit : Visit L N) : Type 0 where
+-- Its net is a new one. Where its link was given back, its session, which began with its peer, led there from the link that was accepted, or it was given up.
+pub record IsVisit {C L N : Type 0} (M : Option Peer → Meaning) (stands : Option Peer → C → Past → Type 0) (sees : C → CoreSeen) (seen : L → Seen) (wrote : L → List ℕ → Type 0) (tells : L → Option Peer → Type 0) (sees_net : N → NetSeen) (to : Place) (visit : Visit L N) : Type 0 where
   pub new_net : IsNewNet (sees_net visit.own)
-  pub back : IfSome visit.back (λ (back : L × N). EndedOrLeft M stands sees seen wrote visit.first back.0 to (sees_net visit.own) (sees_net back.1) visit.came)
+  pub told : tells visit.first visit.peer
+  pub back : IfSome visit.back (λ (back : L × N). EndedOrLeft (M visit.peer) (stands visit.peer) sees seen wrote visit.first back.0 to (sees_net visit.own) (sees_net back.1) visit.came)
 
 -- It is given back only once it has come to something, and not for want of memory.
 pub record EndsByItself {L N : Type 0} (visit : Visit L N) : Type 0 where

@@ -2,6 +2,7 @@
 ghost use Rattle.std.specs.Prelude.{◌≡◌, ◌<◌, ◌≤◌, ◌+◌, ◌-◌, ◌^◌, ◌++◌, ◌∷◌, [], ◌⊎◌, ℕ, List, Bool, true, false, Option, None, Some, IfSome, length, slice_index_or};
 ghost use Rattle.px_link.specs.Net.{NetSeen, Place};
 ghost use Rattle.px_run.specs.declared.connection.Connection.{Connection};
+ghost use Rattle.px_peer.specs.declared.Peer.{Peer};
 ghost use Rattle.px_run.specs.Course.{IsNewNet};
 ghost use Rattle.px_run.specs.History.{Visit, new_visit};
 ghost use Rattle.px_run.specs.Hall.{AllStand, Goes, count_taken, IsSameNet, IsBalanced};
@@ -10,8 +11,9 @@ use crate::agenda::Agenda;
 use crate::connection::Connection;
 use crate::hall::Hall;
 use crate::{Nets, Plan, RunFault};
-use htx_drive::weave::{Conn, Resets};
+use htx_drive::weave::{Conn, ResetsFor};
 use px_link::{Fault, OutOfMemory, Waits, WaitsNet, Wakes};
+use px_proxyproto::HasPeer;
 
 /// Whether as many links were accepted as are to be, or as the number of a connection counts.
 fn has_all(accepted: u32, connections: Option<u32>) -> bool
@@ -69,7 +71,7 @@ fn put<T>(at: &mut Option<T>, value: T)
 }
 
 /// A connection over a link that was accepted, at a place at which none is.
-fn take_in<C: Resets + Drop, L: Waits, N: WaitsNet<Link = L>, W: Wakes<N>>(
+fn take_in<C: ResetsFor + Drop, L: Waits + HasPeer, N: WaitsNet<Link = L>, W: Wakes<N>>(
     hall: &mut Hall<C, L, N>,
     place: usize,
     link: L,
@@ -80,17 +82,19 @@ fn take_in<C: Resets + Drop, L: Waits, N: WaitsNet<Link = L>, W: Wakes<N>>(
     requires none { (d : Option (Connection C L N)) → slice_index_or hall.old.places.items place d ≡ None }
     requires more { hall.old.accepted < 2 ^ 32 - 1 }
     requires own { IsNewNet (N.seen own) }
-    ensures stands { (cfg : C.Settings) (to : Place) (visits : List (Visit L N)) → hall.old.accepted ≡ length visits → AllStand (C.meaning cfg) (C.stands cfg) C.seen C.sound L.seen L.wrote N.seen to visits hall.old.places.items hall.old.sets.items
-        → AllStand (C.meaning cfg) (C.stands cfg) C.seen C.sound L.seen L.wrote N.seen to (visits ++ new_visit link own ∷ []) hall.new.places.items hall.new.sets.items }
+    ensures stands { (cfg : C.Settings) (to : Place) (visits : List (Visit L N)) → hall.old.accepted ≡ length visits → AllStand (λ peer. C.meaning (C.for_peer cfg peer)) (λ peer. C.stands (C.for_peer cfg peer)) C.seen C.sound L.seen L.wrote L.tells N.seen to visits hall.old.places.items hall.old.sets.items
+        → (peer : Option Peer) × AllStand (λ peer. C.meaning (C.for_peer cfg peer)) (λ peer. C.stands (C.for_peer cfg peer)) C.seen C.sound L.seen L.wrote L.tells N.seen to (visits ++ new_visit link own peer ∷ []) hall.new.places.items hall.new.sets.items }
     ensures accepted { hall.new.accepted ≡ hall.old.accepted + 1 }
     ensures output { hall.new.output ≡ hall.old.output }
     ensures taken { count_taken hall.new.places.items ≡ 1 + count_taken hall.old.places.items }
 {
+    let peer = link.peer();
     let mut link = link;
     wakes.watch_client(place, &mut link);
     hall.accepted += 1;
     let connection = Connection {
         number: hall.accepted,
+        peer,
         conn: Conn::new(link, own),
         core: None,
     };
@@ -98,7 +102,13 @@ fn take_in<C: Resets + Drop, L: Waits, N: WaitsNet<Link = L>, W: Wakes<N>>(
 }
 
 /// Accepts a link at a place at which no connection is.
-fn accept<C: Resets + Drop, L: Waits, N: WaitsNet<Link = L> + Drop, S: Nets<N>, W: Wakes<N>>(
+fn accept<
+    C: ResetsFor + Drop,
+    L: Waits + HasPeer,
+    N: WaitsNet<Link = L> + Drop,
+    S: Nets<N>,
+    W: Wakes<N>,
+>(
     hall: &mut Hall<C, L, N>,
     place: usize,
     net: &mut N,
@@ -108,8 +118,8 @@ fn accept<C: Resets + Drop, L: Waits, N: WaitsNet<Link = L> + Drop, S: Nets<N>, 
     requires within { place < length hall.old.places.items }
     requires none { (d : Option (Connection C L N)) → slice_index_or hall.old.places.items place d ≡ None }
     requires more { hall.old.accepted < 2 ^ 32 - 1 }
-    ensures goes { (cfg : C.Settings) (to : Place) (begun : NetSeen) (writes writes_now : ℕ) (before after : Option (List ℕ)) → Goes (C.meaning cfg) (C.stands cfg) C.seen C.sound L.seen L.wrote N.seen to true true begun (N.seen net.old) writes writes_now before after hall.old
-        → Goes (C.meaning cfg) (C.stands cfg) C.seen C.sound L.seen L.wrote N.seen to true true begun (N.seen net.new) writes writes_now before after hall.new }
+    ensures goes { (cfg : C.Settings) (to : Place) (begun : NetSeen) (writes writes_now : ℕ) (before after : Option (List ℕ)) → Goes (λ peer. C.meaning (C.for_peer cfg peer)) (λ peer. C.stands (C.for_peer cfg peer)) C.seen C.sound L.seen L.wrote L.tells N.seen to true true begun (N.seen net.old) writes writes_now before after hall.old
+        → Goes (λ peer. C.meaning (C.for_peer cfg peer)) (λ peer. C.stands (C.for_peer cfg peer)) C.seen C.sound L.seen L.wrote L.tells N.seen to true true begun (N.seen net.new) writes writes_now before after hall.new }
     ensures accepted { hall.new.accepted ≤ hall.old.accepted + 1 }
     ensures balanced { IsBalanced (N.seen net.old) (N.seen net.new) hall.old.places.items hall.new.places.items }
     ensures net { IsSameNet (N.seen net.old) (N.seen net.new) }
@@ -139,7 +149,13 @@ fn is_free<C, L, N>(places: &[Option<Connection<C, L, N>>], place: usize) -> boo
 }
 
 /// Accepts a link where one waits, and answers whether another may be accepted at once.
-fn accept_next<C: Resets + Drop, L: Waits, N: WaitsNet<Link = L> + Drop, S: Nets<N>, W: Wakes<N>>(
+fn accept_next<
+    C: ResetsFor + Drop,
+    L: Waits + HasPeer,
+    N: WaitsNet<Link = L> + Drop,
+    S: Nets<N>,
+    W: Wakes<N>,
+>(
     hall: &mut Hall<C, L, N>,
     agenda: &mut Agenda,
     net: &mut N,
@@ -147,8 +163,8 @@ fn accept_next<C: Resets + Drop, L: Waits, N: WaitsNet<Link = L> + Drop, S: Nets
     wakes: &mut W,
     plan: &Plan,
 ) -> Result<bool, RunFault>
-    ensures goes { (cfg : C.Settings) (to : Place) (begun : NetSeen) (writes writes_now : ℕ) (before after : Option (List ℕ)) → Goes (C.meaning cfg) (C.stands cfg) C.seen C.sound L.seen L.wrote N.seen to true true begun (N.seen net.old) writes writes_now before after hall.old
-        → Goes (C.meaning cfg) (C.stands cfg) C.seen C.sound L.seen L.wrote N.seen to true true begun (N.seen net.new) writes writes_now before after hall.new }
+    ensures goes { (cfg : C.Settings) (to : Place) (begun : NetSeen) (writes writes_now : ℕ) (before after : Option (List ℕ)) → Goes (λ peer. C.meaning (C.for_peer cfg peer)) (λ peer. C.stands (C.for_peer cfg peer)) C.seen C.sound L.seen L.wrote L.tells N.seen to true true begun (N.seen net.old) writes writes_now before after hall.old
+        → Goes (λ peer. C.meaning (C.for_peer cfg peer)) (λ peer. C.stands (C.for_peer cfg peer)) C.seen C.sound L.seen L.wrote L.tells N.seen to true true begun (N.seen net.new) writes writes_now before after hall.new }
     ensures within { IfSome plan.now.connections (λ count. hall.old.accepted ≤ count → hall.new.accepted ≤ count) }
     ensures balanced { IsBalanced (N.seen net.old) (N.seen net.new) hall.old.places.items hall.new.places.items }
     ensures net { IsSameNet (N.seen net.old) (N.seen net.new) }
@@ -184,8 +200,8 @@ fn accept_next<C: Resets + Drop, L: Waits, N: WaitsNet<Link = L> + Drop, S: Nets
 
 /// Accepts the links that wait, while places are free.
 pub(crate) fn accepts<
-    C: Resets + Drop,
-    L: Waits,
+    C: ResetsFor + Drop,
+    L: Waits + HasPeer,
     N: WaitsNet<Link = L> + Drop,
     S: Nets<N>,
     W: Wakes<N>,
@@ -197,8 +213,8 @@ pub(crate) fn accepts<
     wakes: &mut W,
     plan: &Plan,
 ) -> Result<(), RunFault>
-    ensures goes { (cfg : C.Settings) (to : Place) (begun : NetSeen) (writes writes_now : ℕ) (before after : Option (List ℕ)) → Goes (C.meaning cfg) (C.stands cfg) C.seen C.sound L.seen L.wrote N.seen to true true begun (N.seen net.old) writes writes_now before after hall.old
-        → Goes (C.meaning cfg) (C.stands cfg) C.seen C.sound L.seen L.wrote N.seen to true true begun (N.seen net.new) writes writes_now before after hall.new }
+    ensures goes { (cfg : C.Settings) (to : Place) (begun : NetSeen) (writes writes_now : ℕ) (before after : Option (List ℕ)) → Goes (λ peer. C.meaning (C.for_peer cfg peer)) (λ peer. C.stands (C.for_peer cfg peer)) C.seen C.sound L.seen L.wrote L.tells N.seen to true true begun (N.seen net.old) writes writes_now before after hall.old
+        → Goes (λ peer. C.meaning (C.for_peer cfg peer)) (λ peer. C.stands (C.for_peer cfg peer)) C.seen C.sound L.seen L.wrote L.tells N.seen to true true begun (N.seen net.new) writes writes_now before after hall.new }
     ensures within { IfSome plan.now.connections (λ count. hall.old.accepted ≤ count → hall.new.accepted ≤ count) }
     ensures balanced { IsBalanced (N.seen net.old) (N.seen net.new) hall.old.places.items hall.new.places.items }
     ensures net { IsSameNet (N.seen net.old) (N.seen net.new) }

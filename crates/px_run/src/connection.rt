@@ -2,16 +2,18 @@
 ghost use Rattle.std.specs.Prelude.{◌≡◌, ℕ, Option, Some, None, Result, true, false, is_some, IfSome};
 ghost use Rattle.std.specs.List.{AllByRecursion};
 ghost use Rattle.px_link.specs.Net.{address_of, Place};
+ghost use Rattle.px_peer.specs.declared.Peer.{Peer};
 ghost use Rattle.htx_drive.specs.Weave.State.{IsReady, IsFresh};
 ghost use Rattle.px_run.specs.Course.{IsSame, IsSameServer, GoesOn, CameTo, StandsSomehow, StepsTo, EndsWith, MayStep, HasCome, HasCore};
 ghost use Rattle.htx_drive.specs.declared.Ran.{Ran};
 ghost use Rattle.htx_drive.specs.declared.SessionFault.{SessionFault};
-ghost use Rattle.px_run.specs.Connection.{IsAt, LookedSo, IsIdle};
+ghost use Rattle.px_run.specs.Connection.{IsAt, IsFreshFor, LookedSo, IsIdle};
 
 use crate::pace::Pace;
 use crate::step::{Stepped, Tools, step};
-use htx_drive::weave::{Conn, Resets};
+use htx_drive::weave::{Conn, Resets, ResetsFor};
 use px_link::{Address, Waits, WaitsNet, Wakes};
+use px_peer::Peer;
 use serve_run::{Outcome, Ran, SessionFault};
 
 /// How many steps one connection makes in a row, while others wait.
@@ -22,6 +24,8 @@ const STEPS: usize = 16;
 pub(crate) struct Connection<C, L, N> {
     /// Its number in the order in which links were accepted, from 1.
     pub number: u32,
+    /// Who asks, where its link told that as it was accepted.
+    pub peer: Option<Peer>,
     pub conn: Conn<L, N>,
     pub core: Option<C>,
 }
@@ -135,11 +139,11 @@ fn moves<C: Resets, L: Waits, N: WaitsNet<Link = L>, W: Wakes<N>>(
 }
 
 /// Takes back the core of a connection that has ended: nothing has happened to it, and it is free. There is room for it, since it was taken out before.
-fn give_set<C: Resets + Drop>(set: C, sets: &mut Vec<C>)
+fn give_set<C: ResetsFor + Drop>(set: C, sets: &mut Vec<C>)
     requires sound { C.sound set }
     requires ready { AllByRecursion (IsReady C.seen C.sound) sets.old.items }
     ensures ready { AllByRecursion (IsReady C.seen C.sound) sets.new.items }
-    ensures fresh { (cfg : C.Settings) → StandsSomehow (C.stands cfg) set → AllByRecursion (IsFresh (C.stands cfg)) sets.old.items → AllByRecursion (IsFresh (C.stands cfg)) sets.new.items }
+    ensures fresh { (cfg : C.Settings) (peer : Option Peer) → StandsSomehow (C.stands (C.for_peer cfg peer)) set → AllByRecursion (IsFreshFor (λ peer. C.stands (C.for_peer cfg peer))) sets.old.items → AllByRecursion (IsFreshFor (λ peer. C.stands (C.for_peer cfg peer))) sets.new.items }
 {
     let mut set = set;
     set.reset();
@@ -175,6 +179,7 @@ fn go<C: Resets, L: Waits, N: WaitsNet<Link = L>, W: Wakes<N>>(
         (EndsWith result (CameTo (C.meaning cfg) (C.stands cfg) C.seen L.seen L.wrote first connection.new.conn.client (address_of to.now) (N.seen first_net) (N.seen connection.new.conn.net) connection.new.conn.ran) (StandsSomehow (C.stands cfg) core))) }
     ensures may { HasCore connection.new.core (λ core. StepsTo result (MayStep C.seen C.sound core connection.new.conn.server (N.seen connection.new.conn.net) connection.new.conn.ran) (HasCome result (C.sound core) connection.new.conn.server connection.new.conn.ran)) }
     ensures number { connection.new.number ≡ connection.old.number }
+    ensures peer { connection.new.peer ≡ connection.old.peer }
 {
     match &mut connection.core {
         Some(core) => moves(&mut connection.conn, core, pace, wakes, to, tools),
@@ -183,12 +188,12 @@ fn go<C: Resets, L: Waits, N: WaitsNet<Link = L>, W: Wakes<N>>(
 }
 
 /// The core of a connection that has ended is free.
-fn free<C: Resets + Drop>(core: &mut Option<C>, sets: &mut Vec<C>)
+fn free<C: ResetsFor + Drop>(core: &mut Option<C>, sets: &mut Vec<C>)
     requires sound { HasCore core.old C.sound }
     requires ready { AllByRecursion (IsReady C.seen C.sound) sets.old.items }
     ensures none { core.new ≡ None }
     ensures ready { AllByRecursion (IsReady C.seen C.sound) sets.new.items }
-    ensures fresh { (cfg : C.Settings) → HasCore core.old (StandsSomehow (C.stands cfg)) → AllByRecursion (IsFresh (C.stands cfg)) sets.old.items → AllByRecursion (IsFresh (C.stands cfg)) sets.new.items }
+    ensures fresh { (cfg : C.Settings) (peer : Option Peer) → HasCore core.old (StandsSomehow (C.stands (C.for_peer cfg peer))) → AllByRecursion (IsFreshFor (λ peer. C.stands (C.for_peer cfg peer))) sets.old.items → AllByRecursion (IsFreshFor (λ peer. C.stands (C.for_peer cfg peer))) sets.new.items }
 {
     match core.take() {
         Some(set) => give_set(set, sets),
@@ -197,7 +202,7 @@ fn free<C: Resets + Drop>(core: &mut Option<C>, sets: &mut Vec<C>)
 }
 
 /// Steps of a connection that has a core, which is free behind its end, but for one that found no memory.
-fn moved<C: Resets + Drop, L: Waits, N: WaitsNet<Link = L>, W: Wakes<N>>(
+fn moved<C: ResetsFor + Drop, L: Waits, N: WaitsNet<Link = L>, W: Wakes<N>>(
     connection: &mut Connection<C, L, N>,
     sets: &mut Vec<C>,
     pace: &mut Pace,
@@ -210,10 +215,11 @@ fn moved<C: Resets + Drop, L: Waits, N: WaitsNet<Link = L>, W: Wakes<N>>(
     ensures ready { AllByRecursion (IsReady C.seen C.sound) sets.new.items }
     ensures at { (cfg : C.Settings) (first : L) (first_net : N) → HasCore connection.old.core (λ core. GoesOn (C.stands cfg) C.seen core L.seen L.wrote first connection.old.conn.client connection.old.conn.server (address_of to.now) (N.seen first_net) (N.seen connection.old.conn.net))
         → IsAt (C.meaning cfg) (C.stands cfg) C.seen C.sound L.seen L.wrote first connection.new.conn.client connection.new.conn.server (address_of to.now) (N.seen first_net) (N.seen connection.new.conn.net) connection.new.conn.ran connection.new.core }
-    ensures fresh { (cfg : C.Settings) (first : L) (first_net : N) → HasCore connection.old.core (λ core. GoesOn (C.stands cfg) C.seen core L.seen L.wrote first connection.old.conn.client connection.old.conn.server (address_of to.now) (N.seen first_net) (N.seen connection.old.conn.net))
-        → AllByRecursion (IsFresh (C.stands cfg)) sets.old.items → AllByRecursion (IsFresh (C.stands cfg)) sets.new.items }
+    ensures fresh { (cfg : C.Settings) (peer : Option Peer) (first : L) (first_net : N) → HasCore connection.old.core (λ core. GoesOn (C.stands (C.for_peer cfg peer)) C.seen core L.seen L.wrote first connection.old.conn.client connection.old.conn.server (address_of to.now) (N.seen first_net) (N.seen connection.old.conn.net))
+        → AllByRecursion (IsFreshFor (λ peer. C.stands (C.for_peer cfg peer))) sets.old.items → AllByRecursion (IsFreshFor (λ peer. C.stands (C.for_peer cfg peer))) sets.new.items }
     ensures looked { LookedSo result connection.old.number None connection.new.conn.ran }
     ensures number { connection.new.number ≡ connection.old.number }
+    ensures peer { connection.new.peer ≡ connection.old.peer }
 {
     match go(connection, pace, wakes, to, tools) {
         Stepped::Moved => Looked::GoesOn,
@@ -232,17 +238,24 @@ fn moved<C: Resets + Drop, L: Waits, N: WaitsNet<Link = L>, W: Wakes<N>>(
     }
 }
 
-/// A core for a connection that has none, where one is free.
-fn take_set<C: Resets + Drop>(core: &mut Option<C>, sets: &mut Vec<C>, pace: &mut Pace) -> bool
+/// A core for a connection of this peer that has none, where one is free.
+fn take_set<C: ResetsFor + Drop>(
+    core: &mut Option<C>,
+    sets: &mut Vec<C>,
+    peer: Option<Peer>,
+    pace: &mut Pace,
+) -> bool
     requires none { core.old ≡ None }
     requires ready { AllByRecursion (IsReady C.seen C.sound) sets.old.items }
     ensures ready { AllByRecursion (IsReady C.seen C.sound) sets.new.items }
-    ensures fresh { (cfg : C.Settings) → AllByRecursion (IsFresh (C.stands cfg)) sets.old.items → AllByRecursion (IsFresh (C.stands cfg)) sets.new.items }
-    ensures took { result ≡ true → HasCore core.new (λ set. IsReady C.seen C.sound set × ((cfg : C.Settings) → AllByRecursion (IsFresh (C.stands cfg)) sets.old.items → IsFresh (C.stands cfg) set)) }
+    ensures fresh { (cfg : C.Settings) → AllByRecursion (IsFreshFor (λ peer. C.stands (C.for_peer cfg peer))) sets.old.items → AllByRecursion (IsFreshFor (λ peer. C.stands (C.for_peer cfg peer))) sets.new.items }
+    ensures took { result ≡ true → HasCore core.new (λ set. IsReady C.seen C.sound set × ((cfg : C.Settings) → AllByRecursion (IsFreshFor (λ peer. C.stands (C.for_peer cfg peer))) sets.old.items → IsFresh (C.stands (C.for_peer cfg peer)) set)) }
     ensures none { result ≡ false → core.new ≡ None }
 {
     match sets.pop() {
-        Some(set) => {
+        Some(free) => {
+            let mut set = free;
+            set.reset_for(peer);
             pace.room = Some(set.client_room());
             match core.replace(set) {
                 None => true,
@@ -254,7 +267,7 @@ fn take_set<C: Resets + Drop>(core: &mut Option<C>, sets: &mut Vec<C>, pace: &mu
 }
 
 /// A look at a connection that has no core: whether it gets one, since its client gives its first bytes.
-fn sit_down<C: Resets + Drop, L: Waits, N: WaitsNet<Link = L>>(
+fn sit_down<C: ResetsFor + Drop, L: Waits, N: WaitsNet<Link = L>>(
     connection: &mut Connection<C, L, N>,
     sets: &mut Vec<C>,
     pace: &mut Pace,
@@ -262,8 +275,8 @@ fn sit_down<C: Resets + Drop, L: Waits, N: WaitsNet<Link = L>>(
     requires none { connection.old.core ≡ None }
     requires ready { AllByRecursion (IsReady C.seen C.sound) sets.old.items }
     ensures ready { AllByRecursion (IsReady C.seen C.sound) sets.new.items }
-    ensures fresh { (cfg : C.Settings) → AllByRecursion (IsFresh (C.stands cfg)) sets.old.items → AllByRecursion (IsFresh (C.stands cfg)) sets.new.items }
-    ensures took { result ≡ None → HasCore connection.new.core (λ set. IsReady C.seen C.sound set × ((cfg : C.Settings) → AllByRecursion (IsFresh (C.stands cfg)) sets.old.items → IsFresh (C.stands cfg) set)) }
+    ensures fresh { (cfg : C.Settings) → AllByRecursion (IsFreshFor (λ peer. C.stands (C.for_peer cfg peer))) sets.old.items → AllByRecursion (IsFreshFor (λ peer. C.stands (C.for_peer cfg peer))) sets.new.items }
+    ensures took { result ≡ None → HasCore connection.new.core (λ set. IsReady C.seen C.sound set × ((cfg : C.Settings) → AllByRecursion (IsFreshFor (λ peer. C.stands (C.for_peer cfg peer))) sets.old.items → IsFresh (C.stands (C.for_peer cfg connection.old.peer)) set)) }
     ensures none { is_some result ≡ true → connection.new.core ≡ None }
     ensures looked { IfSome result IsIdle }
     ensures client { IsSame L.seen L.wrote connection.old.conn.client connection.new.conn.client }
@@ -271,18 +284,19 @@ fn sit_down<C: Resets + Drop, L: Waits, N: WaitsNet<Link = L>>(
     ensures net { connection.new.conn.net ≡ connection.old.conn.net }
     ensures ran { connection.new.conn.ran ≡ connection.old.conn.ran }
     ensures number { connection.new.number ≡ connection.old.number }
+    ensures peer { connection.new.peer ≡ connection.old.peer }
 {
     if !connection.conn.client.can_read() {
         return Some(Looked::Waits);
     }
-    if take_set(&mut connection.core, sets, pace) {
+    if take_set(&mut connection.core, sets, connection.peer, pace) {
         return None;
     }
     Some(Looked::Hungry)
 }
 
 /// The same of one that may have a core already.
-fn seat<C: Resets + Drop, L: Waits, N: WaitsNet<Link = L>>(
+fn seat<C: ResetsFor + Drop, L: Waits, N: WaitsNet<Link = L>>(
     connection: &mut Connection<C, L, N>,
     sets: &mut Vec<C>,
     pace: &mut Pace,
@@ -290,13 +304,14 @@ fn seat<C: Resets + Drop, L: Waits, N: WaitsNet<Link = L>>(
     requires goes_on { connection.old.conn.ran ≡ None }
     requires ready { AllByRecursion (IsReady C.seen C.sound) sets.old.items }
     ensures ready { AllByRecursion (IsReady C.seen C.sound) sets.new.items }
-    ensures fresh { (cfg : C.Settings) → AllByRecursion (IsFresh (C.stands cfg)) sets.old.items → AllByRecursion (IsFresh (C.stands cfg)) sets.new.items }
-    ensures at { (cfg : C.Settings) (first : L) (to : Place) (first_net : N) → AllByRecursion (IsFresh (C.stands cfg)) sets.old.items → IsAt (C.meaning cfg) (C.stands cfg) C.seen C.sound L.seen L.wrote first connection.old.conn.client connection.old.conn.server to (N.seen first_net) (N.seen connection.old.conn.net) connection.old.conn.ran connection.old.core
-        → IsAt (C.meaning cfg) (C.stands cfg) C.seen C.sound L.seen L.wrote first connection.new.conn.client connection.new.conn.server to (N.seen first_net) (N.seen connection.new.conn.net) connection.new.conn.ran connection.new.core }
+    ensures fresh { (cfg : C.Settings) → AllByRecursion (IsFreshFor (λ peer. C.stands (C.for_peer cfg peer))) sets.old.items → AllByRecursion (IsFreshFor (λ peer. C.stands (C.for_peer cfg peer))) sets.new.items }
+    ensures at { (cfg : C.Settings) (first : L) (to : Place) (first_net : N) → AllByRecursion (IsFreshFor (λ peer. C.stands (C.for_peer cfg peer))) sets.old.items → IsAt (C.meaning (C.for_peer cfg connection.old.peer)) (C.stands (C.for_peer cfg connection.old.peer)) C.seen C.sound L.seen L.wrote first connection.old.conn.client connection.old.conn.server to (N.seen first_net) (N.seen connection.old.conn.net) connection.old.conn.ran connection.old.core
+        → IsAt (C.meaning (C.for_peer cfg connection.old.peer)) (C.stands (C.for_peer cfg connection.old.peer)) C.seen C.sound L.seen L.wrote first connection.new.conn.client connection.new.conn.server to (N.seen first_net) (N.seen connection.new.conn.net) connection.new.conn.ran connection.new.core }
     ensures has { result ≡ None → is_some connection.new.core ≡ true }
     ensures looked { IfSome result IsIdle }
     ensures ran { connection.new.conn.ran ≡ None }
     ensures number { connection.new.number ≡ connection.old.number }
+    ensures peer { connection.new.peer ≡ connection.old.peer }
 {
     if connection.core.is_some() {
         return None;
@@ -319,7 +334,7 @@ fn leaves<L: Waits>(client: &mut L, pace: &Pace) -> Looked
 }
 
 /// A look at a connection: it gets a core, makes steps, ends or leaves.
-pub(crate) fn look<C: Resets + Drop, L: Waits, N: WaitsNet<Link = L>, W: Wakes<N>>(
+pub(crate) fn look<C: ResetsFor + Drop, L: Waits, N: WaitsNet<Link = L>, W: Wakes<N>>(
     connection: &mut Connection<C, L, N>,
     sets: &mut Vec<C>,
     pace: &mut Pace,
@@ -327,15 +342,16 @@ pub(crate) fn look<C: Resets + Drop, L: Waits, N: WaitsNet<Link = L>, W: Wakes<N
     to: &Address,
     tools: &mut Tools,
 ) -> Looked
-    requires at { (cfg : C.Settings) × (first : L) × (first_net : N) × AllByRecursion (IsFresh (C.stands cfg)) sets.old.items × IsAt (C.meaning cfg) (C.stands cfg) C.seen C.sound L.seen L.wrote first connection.old.conn.client connection.old.conn.server (address_of to.now) (N.seen first_net) (N.seen connection.old.conn.net) connection.old.conn.ran connection.old.core }
+    requires at { (cfg : C.Settings) × (first : L) × (first_net : N) × AllByRecursion (IsFreshFor (λ peer. C.stands (C.for_peer cfg peer))) sets.old.items × IsAt (C.meaning (C.for_peer cfg connection.old.peer)) (C.stands (C.for_peer cfg connection.old.peer)) C.seen C.sound L.seen L.wrote first connection.old.conn.client connection.old.conn.server (address_of to.now) (N.seen first_net) (N.seen connection.old.conn.net) connection.old.conn.ran connection.old.core }
     requires ready { AllByRecursion (IsReady C.seen C.sound) sets.old.items }
     ensures ready { AllByRecursion (IsReady C.seen C.sound) sets.new.items }
-    ensures at { (cfg : C.Settings) (first : L) (first_net : N) → AllByRecursion (IsFresh (C.stands cfg)) sets.old.items → IsAt (C.meaning cfg) (C.stands cfg) C.seen C.sound L.seen L.wrote first connection.old.conn.client connection.old.conn.server (address_of to.now) (N.seen first_net) (N.seen connection.old.conn.net) connection.old.conn.ran connection.old.core
-        → IsAt (C.meaning cfg) (C.stands cfg) C.seen C.sound L.seen L.wrote first connection.new.conn.client connection.new.conn.server (address_of to.now) (N.seen first_net) (N.seen connection.new.conn.net) connection.new.conn.ran connection.new.core }
-    ensures fresh { (cfg : C.Settings) (first : L) (first_net : N) → AllByRecursion (IsFresh (C.stands cfg)) sets.old.items → IsAt (C.meaning cfg) (C.stands cfg) C.seen C.sound L.seen L.wrote first connection.old.conn.client connection.old.conn.server (address_of to.now) (N.seen first_net) (N.seen connection.old.conn.net) connection.old.conn.ran connection.old.core
-        → AllByRecursion (IsFresh (C.stands cfg)) sets.new.items }
+    ensures at { (cfg : C.Settings) (first : L) (first_net : N) → AllByRecursion (IsFreshFor (λ peer. C.stands (C.for_peer cfg peer))) sets.old.items → IsAt (C.meaning (C.for_peer cfg connection.old.peer)) (C.stands (C.for_peer cfg connection.old.peer)) C.seen C.sound L.seen L.wrote first connection.old.conn.client connection.old.conn.server (address_of to.now) (N.seen first_net) (N.seen connection.old.conn.net) connection.old.conn.ran connection.old.core
+        → IsAt (C.meaning (C.for_peer cfg connection.old.peer)) (C.stands (C.for_peer cfg connection.old.peer)) C.seen C.sound L.seen L.wrote first connection.new.conn.client connection.new.conn.server (address_of to.now) (N.seen first_net) (N.seen connection.new.conn.net) connection.new.conn.ran connection.new.core }
+    ensures fresh { (cfg : C.Settings) (first : L) (first_net : N) → AllByRecursion (IsFreshFor (λ peer. C.stands (C.for_peer cfg peer))) sets.old.items → IsAt (C.meaning (C.for_peer cfg connection.old.peer)) (C.stands (C.for_peer cfg connection.old.peer)) C.seen C.sound L.seen L.wrote first connection.old.conn.client connection.old.conn.server (address_of to.now) (N.seen first_net) (N.seen connection.old.conn.net) connection.old.conn.ran connection.old.core
+        → AllByRecursion (IsFreshFor (λ peer. C.stands (C.for_peer cfg peer))) sets.new.items }
     ensures looked { LookedSo result connection.old.number connection.old.conn.ran connection.new.conn.ran }
     ensures number { connection.new.number ≡ connection.old.number }
+    ensures peer { connection.new.peer ≡ connection.old.peer }
 {
     if connection.conn.ran.is_some() {
         return leaves(&mut connection.conn.client, pace);

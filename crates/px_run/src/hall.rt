@@ -2,7 +2,8 @@
 ghost use Rattle.std.specs.Prelude.{◌≡◌, ◌≤◌, ◌++◌, ℕ, List, Option, true, is_ok, IfOk, OnOk};
 ghost use Rattle.std.specs.List.{AllByRecursion};
 ghost use Rattle.px_link.specs.Net.{address_of, NetSeen};
-ghost use Rattle.htx_drive.specs.Weave.State.{IsReady, IsFresh};
+ghost use Rattle.htx_drive.specs.Weave.State.{IsReady};
+ghost use Rattle.px_run.specs.Connection.{IsFreshFor};
 ghost use Rattle.px_run.specs.Course.{IsSame, IsSameServer};
 ghost use Rattle.px_run.specs.Lines.{Writes, ended_by, lines_of};
 ghost use Rattle.px_run.specs.History.{Visit};
@@ -13,8 +14,9 @@ use crate::lines::{Output, write_line};
 use crate::pace::Pace;
 use crate::step::Tools;
 use crate::{Call, Plan};
-use htx_drive::weave::{Conn, Resets};
+use htx_drive::weave::{Conn, Resets, ResetsFor};
 use px_link::{Address, OutOfMemory, Readiness, Sink, Waits, WaitsNet, Wakes};
+use px_proxyproto::HasPeer;
 use std::alloc::Global;
 
 /// All connections.
@@ -142,7 +144,7 @@ pub(crate) fn expire<C: Resets, L: Waits, N: WaitsNet<Link = L>>(
 }
 
 /// A look at the connection of a place.
-fn look_at<C: Resets + Drop, L: Waits, N: WaitsNet<Link = L>, W: Wakes<N>>(
+fn look_at<C: ResetsFor + Drop, L: Waits + HasPeer, N: WaitsNet<Link = L>, W: Wakes<N>>(
     at: &mut Option<Connection<C, L, N>>,
     sets: &mut Vec<C>,
     pace: &mut Pace,
@@ -150,11 +152,11 @@ fn look_at<C: Resets + Drop, L: Waits, N: WaitsNet<Link = L>, W: Wakes<N>>(
     to: &Address,
     tools: &mut Tools,
 ) -> Looked
-    requires at { (cfg : C.Settings) × (visits : List (Visit L N)) × AllByRecursion (IsFresh (C.stands cfg)) sets.old.items × IsPlaced (C.meaning cfg) (C.stands cfg) C.seen C.sound L.seen L.wrote N.seen (address_of to.now) visits at.old }
+    requires at { (cfg : C.Settings) × (visits : List (Visit L N)) × AllByRecursion (IsFreshFor (λ peer. C.stands (C.for_peer cfg peer))) sets.old.items × IsPlaced (λ peer. C.meaning (C.for_peer cfg peer)) (λ peer. C.stands (C.for_peer cfg peer)) C.seen C.sound L.seen L.wrote L.tells N.seen (address_of to.now) visits at.old }
     requires ready { AllByRecursion (IsReady C.seen C.sound) sets.old.items }
     ensures ready { AllByRecursion (IsReady C.seen C.sound) sets.new.items }
-    ensures placed { (cfg : C.Settings) (visits : List (Visit L N)) → AllByRecursion (IsFresh (C.stands cfg)) sets.old.items → IsPlaced (C.meaning cfg) (C.stands cfg) C.seen C.sound L.seen L.wrote N.seen (address_of to.now) visits at.old → IsPlaced (C.meaning cfg) (C.stands cfg) C.seen C.sound L.seen L.wrote N.seen (address_of to.now) (advanced at.new visits) at.new }
-    ensures fresh { (cfg : C.Settings) (visits : List (Visit L N)) → AllByRecursion (IsFresh (C.stands cfg)) sets.old.items → IsPlaced (C.meaning cfg) (C.stands cfg) C.seen C.sound L.seen L.wrote N.seen (address_of to.now) visits at.old → AllByRecursion (IsFresh (C.stands cfg)) sets.new.items }
+    ensures placed { (cfg : C.Settings) (visits : List (Visit L N)) → AllByRecursion (IsFreshFor (λ peer. C.stands (C.for_peer cfg peer))) sets.old.items → IsPlaced (λ peer. C.meaning (C.for_peer cfg peer)) (λ peer. C.stands (C.for_peer cfg peer)) C.seen C.sound L.seen L.wrote L.tells N.seen (address_of to.now) visits at.old → IsPlaced (λ peer. C.meaning (C.for_peer cfg peer)) (λ peer. C.stands (C.for_peer cfg peer)) C.seen C.sound L.seen L.wrote L.tells N.seen (address_of to.now) (advanced at.new visits) at.new }
+    ensures fresh { (cfg : C.Settings) (visits : List (Visit L N)) → AllByRecursion (IsFreshFor (λ peer. C.stands (C.for_peer cfg peer))) sets.old.items → IsPlaced (λ peer. C.meaning (C.for_peer cfg peer)) (λ peer. C.stands (C.for_peer cfg peer)) C.seen C.sound L.seen L.wrote L.tells N.seen (address_of to.now) visits at.old → AllByRecursion (IsFreshFor (λ peer. C.stands (C.for_peer cfg peer))) sets.new.items }
     ensures looked { LookedAt result at.old at.new }
 {
     match at {
@@ -164,15 +166,15 @@ fn look_at<C: Resets + Drop, L: Waits, N: WaitsNet<Link = L>, W: Wakes<N>>(
 }
 
 /// A look at the connection of the place that this pace is of.
-fn look_here<C: Resets + Drop, L: Waits, N: WaitsNet<Link = L>, W: Wakes<N>>(
+fn look_here<C: ResetsFor + Drop, L: Waits + HasPeer, N: WaitsNet<Link = L>, W: Wakes<N>>(
     hall: &mut Hall<C, L, N>,
     pace: &mut Pace,
     wakes: &mut W,
     to: &Address,
 ) -> Looked
-    requires stands { (cfg : C.Settings) × (visits : List (Visit L N)) × AllStand (C.meaning cfg) (C.stands cfg) C.seen C.sound L.seen L.wrote N.seen (address_of to.now) visits hall.old.places.items hall.old.sets.items }
-    ensures stands { (cfg : C.Settings) (visits : List (Visit L N)) → AllStand (C.meaning cfg) (C.stands cfg) C.seen C.sound L.seen L.wrote N.seen (address_of to.now) visits hall.old.places.items hall.old.sets.items
-        → (behind : List (Visit L N)) × Advances result visits behind × AllStand (C.meaning cfg) (C.stands cfg) C.seen C.sound L.seen L.wrote N.seen (address_of to.now) behind hall.new.places.items hall.new.sets.items }
+    requires stands { (cfg : C.Settings) × (visits : List (Visit L N)) × AllStand (λ peer. C.meaning (C.for_peer cfg peer)) (λ peer. C.stands (C.for_peer cfg peer)) C.seen C.sound L.seen L.wrote L.tells N.seen (address_of to.now) visits hall.old.places.items hall.old.sets.items }
+    ensures stands { (cfg : C.Settings) (visits : List (Visit L N)) → AllStand (λ peer. C.meaning (C.for_peer cfg peer)) (λ peer. C.stands (C.for_peer cfg peer)) C.seen C.sound L.seen L.wrote L.tells N.seen (address_of to.now) visits hall.old.places.items hall.old.sets.items
+        → (behind : List (Visit L N)) × Advances result visits behind × AllStand (λ peer. C.meaning (C.for_peer cfg peer)) (λ peer. C.stands (C.for_peer cfg peer)) C.seen C.sound L.seen L.wrote L.tells N.seen (address_of to.now) behind hall.new.places.items hall.new.sets.items }
     ensures taken { count_taken hall.new.places.items ≡ count_taken hall.old.places.items }
     ensures accepted { hall.new.accepted ≡ hall.old.accepted }
     ensures output { hall.new.output ≡ hall.old.output }
@@ -192,16 +194,22 @@ fn look_here<C: Resets + Drop, L: Waits, N: WaitsNet<Link = L>, W: Wakes<N>>(
 }
 
 /// A look at the connection of a place, and its line where it has ended.
-pub(crate) fn visit<C: Resets + Drop, L: Waits, N: WaitsNet<Link = L>, W: Wakes<N>, K: Sink>(
+pub(crate) fn visit<
+    C: ResetsFor + Drop,
+    L: Waits + HasPeer,
+    N: WaitsNet<Link = L>,
+    W: Wakes<N>,
+    K: Sink,
+>(
     hall: &mut Hall<C, L, N>,
     pace: &mut Pace,
     wakes: &mut W,
     out: &mut K,
     plan: &Plan,
 ) -> Result<Looked, OutOfMemory>
-    requires stands { (cfg : C.Settings) × (visits : List (Visit L N)) × AllStand (C.meaning cfg) (C.stands cfg) C.seen C.sound L.seen L.wrote N.seen (address_of plan.now.to.now) visits hall.old.places.items hall.old.sets.items }
-    ensures goes { (cfg : C.Settings) (begun now : NetSeen) (writes : ℕ) (before : Option (List ℕ)) → Goes (C.meaning cfg) (C.stands cfg) C.seen C.sound L.seen L.wrote N.seen (address_of plan.now.to.now) true true begun now writes (K.faults out.old) before (K.written out.old) hall.old
-        → Goes (C.meaning cfg) (C.stands cfg) C.seen C.sound L.seen L.wrote N.seen (address_of plan.now.to.now) (is_ok result) (is_ok result) begun now writes (K.faults out.new) before (K.written out.new) hall.new }
+    requires stands { (cfg : C.Settings) × (visits : List (Visit L N)) × AllStand (λ peer. C.meaning (C.for_peer cfg peer)) (λ peer. C.stands (C.for_peer cfg peer)) C.seen C.sound L.seen L.wrote L.tells N.seen (address_of plan.now.to.now) visits hall.old.places.items hall.old.sets.items }
+    ensures goes { (cfg : C.Settings) (begun now : NetSeen) (writes : ℕ) (before : Option (List ℕ)) → Goes (λ peer. C.meaning (C.for_peer cfg peer)) (λ peer. C.stands (C.for_peer cfg peer)) C.seen C.sound L.seen L.wrote L.tells N.seen (address_of plan.now.to.now) true true begun now writes (K.faults out.old) before (K.written out.old) hall.old
+        → Goes (λ peer. C.meaning (C.for_peer cfg peer)) (λ peer. C.stands (C.for_peer cfg peer)) C.seen C.sound L.seen L.wrote L.tells N.seen (address_of plan.now.to.now) (is_ok result) (is_ok result) begun now writes (K.faults out.new) before (K.written out.new) hall.new }
     ensures taken { count_taken hall.new.places.items ≡ count_taken hall.old.places.items }
     ensures accepted { hall.new.accepted ≡ hall.old.accepted }
 {

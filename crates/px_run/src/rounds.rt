@@ -8,8 +8,9 @@ use crate::connection::Looked;
 use crate::hall::{Hall, expire, give_back, note_client, note_server, visit};
 use crate::pace::Pace;
 use crate::{Call, Plan, RunFault};
-use htx_drive::weave::Resets;
+use htx_drive::weave::{Resets, ResetsFor};
 use px_link::{Fault, OutOfMemory, Sink, Waits, WaitsNet, Wake, Wakes, Watched};
+use px_proxyproto::HasPeer;
 
 /// Takes in what an event tells.
 fn note<C: Resets, L: Waits, N: WaitsNet<Link = L>>(
@@ -98,8 +99,8 @@ fn again(
 
 /// A look at the connection of a place, which leaves where it has ended and can.
 fn visit_place<
-    C: Resets + Drop,
-    L: Waits + Drop,
+    C: ResetsFor + Drop,
+    L: Waits + HasPeer + Drop,
     N: WaitsNet<Link = L> + Drop,
     W: Wakes<N>,
     K: Sink,
@@ -111,10 +112,10 @@ fn visit_place<
     out: &mut K,
     plan: &Plan,
 ) -> Result<Looked, OutOfMemory>
-    requires goes { (cfg : C.Settings) × (begun : NetSeen) × (writes : ℕ) × (before : Option (List ℕ)) × Goes (C.meaning cfg) (C.stands cfg) C.seen C.sound L.seen L.wrote N.seen (address_of plan.now.to.now) true true begun (N.seen net.old) writes (K.faults out.old) before (K.written out.old) hall.old }
+    requires goes { (cfg : C.Settings) × (begun : NetSeen) × (writes : ℕ) × (before : Option (List ℕ)) × Goes (λ peer. C.meaning (C.for_peer cfg peer)) (λ peer. C.stands (C.for_peer cfg peer)) C.seen C.sound L.seen L.wrote L.tells N.seen (address_of plan.now.to.now) true true begun (N.seen net.old) writes (K.faults out.old) before (K.written out.old) hall.old }
     requires lent { count_taken hall.old.places.items ≤ (N.seen net.old).lent }
-    ensures goes { (cfg : C.Settings) (begun : NetSeen) (writes : ℕ) (before : Option (List ℕ)) → Goes (C.meaning cfg) (C.stands cfg) C.seen C.sound L.seen L.wrote N.seen (address_of plan.now.to.now) true true begun (N.seen net.old) writes (K.faults out.old) before (K.written out.old) hall.old
-        → Goes (C.meaning cfg) (C.stands cfg) C.seen C.sound L.seen L.wrote N.seen (address_of plan.now.to.now) (is_ok result) (is_ok result) begun (N.seen net.new) writes (K.faults out.new) before (K.written out.new) hall.new }
+    ensures goes { (cfg : C.Settings) (begun : NetSeen) (writes : ℕ) (before : Option (List ℕ)) → Goes (λ peer. C.meaning (C.for_peer cfg peer)) (λ peer. C.stands (C.for_peer cfg peer)) C.seen C.sound L.seen L.wrote L.tells N.seen (address_of plan.now.to.now) true true begun (N.seen net.old) writes (K.faults out.old) before (K.written out.old) hall.old
+        → Goes (λ peer. C.meaning (C.for_peer cfg peer)) (λ peer. C.stands (C.for_peer cfg peer)) C.seen C.sound L.seen L.wrote L.tells N.seen (address_of plan.now.to.now) (is_ok result) (is_ok result) begun (N.seen net.new) writes (K.faults out.new) before (K.written out.new) hall.new }
     ensures accepted { hall.new.accepted ≡ hall.old.accepted }
     ensures balanced { IsBalanced (N.seen net.old) (N.seen net.new) hall.old.places.items hall.new.places.items }
     ensures net { IsSameNet (N.seen net.old) (N.seen net.new) }
@@ -133,7 +134,13 @@ fn visit_place<
 }
 
 /// A look at each that is due.
-fn visits<C: Resets + Drop, L: Waits + Drop, N: WaitsNet<Link = L> + Drop, W: Wakes<N>, K: Sink>(
+fn visits<
+    C: ResetsFor + Drop,
+    L: Waits + HasPeer + Drop,
+    N: WaitsNet<Link = L> + Drop,
+    W: Wakes<N>,
+    K: Sink,
+>(
     hall: &mut Hall<C, L, N>,
     agenda: &mut Agenda,
     net: &mut N,
@@ -141,10 +148,10 @@ fn visits<C: Resets + Drop, L: Waits + Drop, N: WaitsNet<Link = L> + Drop, W: Wa
     out: &mut K,
     plan: &Plan,
 ) -> Result<(), OutOfMemory>
-    requires goes { (cfg : C.Settings) × (begun : NetSeen) × (writes : ℕ) × (before : Option (List ℕ)) × Goes (C.meaning cfg) (C.stands cfg) C.seen C.sound L.seen L.wrote N.seen (address_of plan.now.to.now) true true begun (N.seen net.old) writes (K.faults out.old) before (K.written out.old) hall.old }
+    requires goes { (cfg : C.Settings) × (begun : NetSeen) × (writes : ℕ) × (before : Option (List ℕ)) × Goes (λ peer. C.meaning (C.for_peer cfg peer)) (λ peer. C.stands (C.for_peer cfg peer)) C.seen C.sound L.seen L.wrote L.tells N.seen (address_of plan.now.to.now) true true begun (N.seen net.old) writes (K.faults out.old) before (K.written out.old) hall.old }
     requires lent { count_taken hall.old.places.items ≤ (N.seen net.old).lent }
-    ensures goes { (cfg : C.Settings) (begun : NetSeen) (writes : ℕ) (before : Option (List ℕ)) → Goes (C.meaning cfg) (C.stands cfg) C.seen C.sound L.seen L.wrote N.seen (address_of plan.now.to.now) true true begun (N.seen net.old) writes (K.faults out.old) before (K.written out.old) hall.old
-        → Goes (C.meaning cfg) (C.stands cfg) C.seen C.sound L.seen L.wrote N.seen (address_of plan.now.to.now) (is_ok result) (is_ok result) begun (N.seen net.new) writes (K.faults out.new) before (K.written out.new) hall.new }
+    ensures goes { (cfg : C.Settings) (begun : NetSeen) (writes : ℕ) (before : Option (List ℕ)) → Goes (λ peer. C.meaning (C.for_peer cfg peer)) (λ peer. C.stands (C.for_peer cfg peer)) C.seen C.sound L.seen L.wrote L.tells N.seen (address_of plan.now.to.now) true true begun (N.seen net.old) writes (K.faults out.old) before (K.written out.old) hall.old
+        → Goes (λ peer. C.meaning (C.for_peer cfg peer)) (λ peer. C.stands (C.for_peer cfg peer)) C.seen C.sound L.seen L.wrote L.tells N.seen (address_of plan.now.to.now) (is_ok result) (is_ok result) begun (N.seen net.new) writes (K.faults out.new) before (K.written out.new) hall.new }
     ensures accepted { hall.new.accepted ≡ hall.old.accepted }
     ensures balanced { IsBalanced (N.seen net.old) (N.seen net.new) hall.old.places.items hall.new.places.items }
     ensures net { IsSameNet (N.seen net.old) (N.seen net.new) }
@@ -228,8 +235,8 @@ fn free_one<C: Resets, L: Waits, N: WaitsNet<Link = L>>(
 
 /// A look at each that is due, and what follows of deadlines.
 pub(crate) fn looks<
-    C: Resets + Drop,
-    L: Waits + Drop,
+    C: ResetsFor + Drop,
+    L: Waits + HasPeer + Drop,
     N: WaitsNet<Link = L> + Drop,
     W: Wakes<N>,
     K: Sink,
@@ -241,10 +248,10 @@ pub(crate) fn looks<
     out: &mut K,
     plan: &Plan,
 ) -> Result<(), OutOfMemory>
-    requires goes { (cfg : C.Settings) × (begun : NetSeen) × (writes : ℕ) × (before : Option (List ℕ)) × Goes (C.meaning cfg) (C.stands cfg) C.seen C.sound L.seen L.wrote N.seen (address_of plan.now.to.now) true true begun (N.seen net.old) writes (K.faults out.old) before (K.written out.old) hall.old }
+    requires goes { (cfg : C.Settings) × (begun : NetSeen) × (writes : ℕ) × (before : Option (List ℕ)) × Goes (λ peer. C.meaning (C.for_peer cfg peer)) (λ peer. C.stands (C.for_peer cfg peer)) C.seen C.sound L.seen L.wrote L.tells N.seen (address_of plan.now.to.now) true true begun (N.seen net.old) writes (K.faults out.old) before (K.written out.old) hall.old }
     requires lent { count_taken hall.old.places.items ≤ (N.seen net.old).lent }
-    ensures goes { (cfg : C.Settings) (begun : NetSeen) (writes : ℕ) (before : Option (List ℕ)) → Goes (C.meaning cfg) (C.stands cfg) C.seen C.sound L.seen L.wrote N.seen (address_of plan.now.to.now) true true begun (N.seen net.old) writes (K.faults out.old) before (K.written out.old) hall.old
-        → Goes (C.meaning cfg) (C.stands cfg) C.seen C.sound L.seen L.wrote N.seen (address_of plan.now.to.now) (is_ok result) (is_ok result) begun (N.seen net.new) writes (K.faults out.new) before (K.written out.new) hall.new }
+    ensures goes { (cfg : C.Settings) (begun : NetSeen) (writes : ℕ) (before : Option (List ℕ)) → Goes (λ peer. C.meaning (C.for_peer cfg peer)) (λ peer. C.stands (C.for_peer cfg peer)) C.seen C.sound L.seen L.wrote L.tells N.seen (address_of plan.now.to.now) true true begun (N.seen net.old) writes (K.faults out.old) before (K.written out.old) hall.old
+        → Goes (λ peer. C.meaning (C.for_peer cfg peer)) (λ peer. C.stands (C.for_peer cfg peer)) C.seen C.sound L.seen L.wrote L.tells N.seen (address_of plan.now.to.now) (is_ok result) (is_ok result) begun (N.seen net.new) writes (K.faults out.new) before (K.written out.new) hall.new }
     ensures accepted { hall.new.accepted ≡ hall.old.accepted }
     ensures balanced { IsBalanced (N.seen net.old) (N.seen net.new) hall.old.places.items hall.new.places.items }
     ensures net { IsSameNet (N.seen net.old) (N.seen net.new) }

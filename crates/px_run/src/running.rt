@@ -2,9 +2,10 @@
 ghost use Rattle.std.specs.Prelude.{◌≡◌, ◌≤◌, ◌+◌, ◌⊎◌, ℕ, List, Bool, Option, true, false, IfSome, OnOk};
 ghost use Rattle.std.specs.List.{AllByRecursion};
 ghost use Rattle.px_link.specs.Net.{address_of, NetSeen, Place};
-ghost use Rattle.htx_drive.specs.Weave.State.{IsReady, IsFresh};
+ghost use Rattle.htx_drive.specs.Weave.State.{IsReady};
+ghost use Rattle.px_peer.specs.declared.Peer.{Peer};
 ghost use Rattle.px_run.specs.Course.{EndedOrLeft};
-ghost use Rattle.px_run.specs.Connection.{IsAt};
+ghost use Rattle.px_run.specs.Connection.{IsAt, IsFreshFor};
 ghost use Rattle.px_run.specs.History.{Visit};
 ghost use Rattle.px_run.specs.Served.{had_memory, ServedMany};
 ghost use Rattle.px_run.specs.Hall.{IsPlaced, GaveUpAt, Goes, taken_at, count_taken, IsSameNet, IsBalanced};
@@ -18,16 +19,17 @@ use crate::rounds::{looks, wait};
 use crate::step::Tools;
 use crate::{Nets, Plan, RunFault};
 use htx_drive::MOST_READ;
-use htx_drive::weave::{Conn, Resets, abandon};
+use htx_drive::weave::{Conn, Resets, ResetsFor, abandon};
 use px_link::{OutOfMemory, Sink, Waits, WaitsNet, Wakes};
+use px_proxyproto::HasPeer;
 
 /// How many connections may be open for each core: those that have none yet cost a link alone.
 const PLACES_A_SET: usize = 4;
 
 /// Rounds, until no connection is open and no further one is to be accepted.
 fn rounds<
-    C: Resets + Drop,
-    L: Waits + Drop,
+    C: ResetsFor + Drop,
+    L: Waits + HasPeer + Drop,
     N: WaitsNet<Link = L> + Drop,
     S: Nets<N>,
     W: Wakes<N>,
@@ -40,10 +42,10 @@ fn rounds<
     out: &mut K,
     plan: &Plan,
 ) -> Result<(), RunFault>
-    requires goes { (cfg : C.Settings) × (begun : NetSeen) × (writes : ℕ) × (before : Option (List ℕ)) × Goes (C.meaning cfg) (C.stands cfg) C.seen C.sound L.seen L.wrote N.seen (address_of plan.now.to.now) true true begun (N.seen net.old) writes (K.faults out.old) before (K.written out.old) hall.old }
+    requires goes { (cfg : C.Settings) × (begun : NetSeen) × (writes : ℕ) × (before : Option (List ℕ)) × Goes (λ peer. C.meaning (C.for_peer cfg peer)) (λ peer. C.stands (C.for_peer cfg peer)) C.seen C.sound L.seen L.wrote L.tells N.seen (address_of plan.now.to.now) true true begun (N.seen net.old) writes (K.faults out.old) before (K.written out.old) hall.old }
     requires lent { count_taken hall.old.places.items ≤ (N.seen net.old).lent }
-    ensures goes { (cfg : C.Settings) (begun : NetSeen) (writes : ℕ) (before : Option (List ℕ)) → Goes (C.meaning cfg) (C.stands cfg) C.seen C.sound L.seen L.wrote N.seen (address_of plan.now.to.now) true true begun (N.seen net.old) writes (K.faults out.old) before (K.written out.old) hall.old
-        → Goes (C.meaning cfg) (C.stands cfg) C.seen C.sound L.seen L.wrote N.seen (address_of plan.now.to.now) (had_memory result) (had_memory result) begun (N.seen net.new) writes (K.faults out.new) before (K.written out.new) hall.new }
+    ensures goes { (cfg : C.Settings) (begun : NetSeen) (writes : ℕ) (before : Option (List ℕ)) → Goes (λ peer. C.meaning (C.for_peer cfg peer)) (λ peer. C.stands (C.for_peer cfg peer)) C.seen C.sound L.seen L.wrote L.tells N.seen (address_of plan.now.to.now) true true begun (N.seen net.old) writes (K.faults out.old) before (K.written out.old) hall.old
+        → Goes (λ peer. C.meaning (C.for_peer cfg peer)) (λ peer. C.stands (C.for_peer cfg peer)) C.seen C.sound L.seen L.wrote L.tells N.seen (address_of plan.now.to.now) (had_memory result) (had_memory result) begun (N.seen net.new) writes (K.faults out.new) before (K.written out.new) hall.new }
     ensures within { IfSome plan.now.connections (λ count. hall.old.accepted ≤ count → hall.new.accepted ≤ count) }
     ensures balanced { IsBalanced (N.seen net.old) (N.seen net.new) hall.old.places.items hall.new.places.items }
     ensures net { IsSameNet (N.seen net.old) (N.seen net.new) }
@@ -87,13 +89,13 @@ fn give_up<C: Resets, L: Waits, N: WaitsNet<Link = L>>(conn: &mut Conn<L, N>)
 }
 
 /// Gives up the connection of a place: each of its links that is still open is closed Failed, and all are given back.
-fn leave<C: Resets + Drop, L: Waits + Drop, N: WaitsNet<Link = L> + Drop>(
+fn leave<C: ResetsFor + Drop, L: Waits + HasPeer + Drop, N: WaitsNet<Link = L> + Drop>(
     at: Option<Connection<C, L, N>>,
     net: &mut N,
 )
-    requires placed { (cfg : C.Settings) × (to : Place) × (visits : List (Visit L N)) × IsPlaced (C.meaning cfg) (C.stands cfg) C.seen C.sound L.seen L.wrote N.seen to visits at }
+    requires placed { (cfg : C.Settings) × (to : Place) × (visits : List (Visit L N)) × IsPlaced (λ peer. C.meaning (C.for_peer cfg peer)) (λ peer. C.stands (C.for_peer cfg peer)) C.seen C.sound L.seen L.wrote L.tells N.seen to visits at }
     requires lent { taken_at at ≤ (N.seen net.old).lent }
-    ensures gave_up { (cfg : C.Settings) (to : Place) → GaveUpAt (C.meaning cfg) (C.stands cfg) C.seen C.sound L.seen L.wrote N.seen to (N.seen net.old) (N.seen net.new) at }
+    ensures gave_up { (cfg : C.Settings) (to : Place) → GaveUpAt (λ peer. C.meaning (C.for_peer cfg peer)) (λ peer. C.stands (C.for_peer cfg peer)) C.seen C.sound L.seen L.wrote L.tells N.seen to (N.seen net.old) (N.seen net.new) at }
     ensures balanced { (N.seen net.new).lent + taken_at at ≡ (N.seen net.old).lent }
     ensures net { IsSameNet (N.seen net.old) (N.seen net.new) }
 {
@@ -108,14 +110,14 @@ fn leave<C: Resets + Drop, L: Waits + Drop, N: WaitsNet<Link = L> + Drop>(
 }
 
 /// Gives up the connection at each place.
-fn leave_all<C: Resets + Drop, L: Waits + Drop, N: WaitsNet<Link = L> + Drop>(
+fn leave_all<C: ResetsFor + Drop, L: Waits + HasPeer + Drop, N: WaitsNet<Link = L> + Drop>(
     hall: &mut Hall<C, L, N>,
     net: &mut N,
 )
-    requires goes { (cfg : C.Settings) × (to : Place) × (fair whole : Bool) × (begun : NetSeen) × (writes writes_now : ℕ) × (before after : Option (List ℕ)) × Goes (C.meaning cfg) (C.stands cfg) C.seen C.sound L.seen L.wrote N.seen to fair whole begun (N.seen net.old) writes writes_now before after hall.old }
+    requires goes { (cfg : C.Settings) × (to : Place) × (fair whole : Bool) × (begun : NetSeen) × (writes writes_now : ℕ) × (before after : Option (List ℕ)) × Goes (λ peer. C.meaning (C.for_peer cfg peer)) (λ peer. C.stands (C.for_peer cfg peer)) C.seen C.sound L.seen L.wrote L.tells N.seen to fair whole begun (N.seen net.old) writes writes_now before after hall.old }
     requires lent { count_taken hall.old.places.items ≤ (N.seen net.old).lent }
-    ensures goes { (cfg : C.Settings) (to : Place) (fair whole : Bool) (begun : NetSeen) (writes writes_now : ℕ) (before after : Option (List ℕ)) → Goes (C.meaning cfg) (C.stands cfg) C.seen C.sound L.seen L.wrote N.seen to fair whole begun (N.seen net.old) writes writes_now before after hall.old
-        → Goes (C.meaning cfg) (C.stands cfg) C.seen C.sound L.seen L.wrote N.seen to false whole begun (N.seen net.new) writes writes_now before after hall.new }
+    ensures goes { (cfg : C.Settings) (to : Place) (fair whole : Bool) (begun : NetSeen) (writes writes_now : ℕ) (before after : Option (List ℕ)) → Goes (λ peer. C.meaning (C.for_peer cfg peer)) (λ peer. C.stands (C.for_peer cfg peer)) C.seen C.sound L.seen L.wrote L.tells N.seen to fair whole begun (N.seen net.old) writes writes_now before after hall.old
+        → Goes (λ peer. C.meaning (C.for_peer cfg peer)) (λ peer. C.stands (C.for_peer cfg peer)) C.seen C.sound L.seen L.wrote L.tells N.seen to false whole begun (N.seen net.new) writes writes_now before after hall.new }
     ensures accepted { hall.new.accepted ≡ hall.old.accepted }
     ensures none { count_taken hall.new.places.items ≡ 0 }
     ensures balanced { IsBalanced (N.seen net.old) (N.seen net.new) hall.old.places.items hall.new.places.items }
@@ -132,8 +134,8 @@ fn leave_all<C: Resets + Drop, L: Waits + Drop, N: WaitsNet<Link = L> + Drop>(
 /// Serves many connections at once, each by the session of a core of its own, until so many were accepted and have ended, or until the caller accepts no more
 /// and none is open. The net is bound already. `sets` are the cores that connections take in turn.
 pub fn run<
-    C: Resets + Drop,
-    L: Waits + Drop,
+    C: ResetsFor + Drop,
+    L: Waits + HasPeer + Drop,
     N: WaitsNet<Link = L> + Drop,
     S: Nets<N>,
     W: Wakes<N>,
@@ -147,9 +149,9 @@ pub fn run<
     plan: &Plan,
 ) -> Result<(), RunFault>
     requires ready { AllByRecursion (IsReady C.seen C.sound) sets.items }
-    requires fresh { (cfg : C.Settings) × AllByRecursion (IsFresh (C.stands cfg)) sets.items }
+    requires fresh { (cfg : C.Settings) × AllByRecursion (IsFreshFor (λ peer. C.stands (C.for_peer cfg peer))) sets.items }
     // Each link that was accepted is that of a connection, which was served to its end or given up, and was given back; and the lines were written.
-    ensures served { (cfg : C.Settings) → AllByRecursion (IsFresh (C.stands cfg)) sets.items → ServedMany (C.meaning cfg) (C.stands cfg) C.seen L.seen L.wrote N.seen (address_of plan.now.to.now) plan.now.connections (S.accepts_none nets.new) (N.seen net.old) (N.seen net.new) (K.faults out.old) (K.faults out.new) (K.written out.old) (K.written out.new) result }
+    ensures served { (cfg : C.Settings) → AllByRecursion (IsFreshFor (λ peer. C.stands (C.for_peer cfg peer))) sets.items → ServedMany (λ peer. C.meaning (C.for_peer cfg peer)) (λ peer. C.stands (C.for_peer cfg peer)) C.seen L.seen L.wrote L.tells N.seen (address_of plan.now.to.now) plan.now.connections (S.accepts_none nets.new) (N.seen net.old) (N.seen net.new) (K.faults out.old) (K.faults out.new) (K.written out.old) (K.written out.new) result }
     ensures lent { (N.seen net.new).lent ≡ (N.seen net.old).lent }
     ensures bound { (N.seen net.new).bound ≡ (N.seen net.old).bound }
     ensures dialled { (N.seen net.new).dialled ≡ (N.seen net.old).dialled }

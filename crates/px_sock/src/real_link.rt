@@ -1,11 +1,14 @@
 //! A link over a stream of the system.
-ghost use Rattle.std.specs.Prelude.{◌≡◌};
+ghost use Rattle.std.specs.Prelude.{◌≡◌, ⊤};
 ghost use Rattle.px_link.specs.Link.{untold};
 
 use crate::faults::{count, counted};
 use crate::linger::linger;
+use crate::peers::peer_of;
 use crate::stream_calls::{read_open, sends_end, write_open};
 use px_link::{Close, Failed, Fault, Link};
+use px_peer::Peer;
+use px_proxyproto::HasPeer;
 use std::io::{Read, Write};
 use std::marker::Model;
 use std::net::OpenStream;
@@ -93,5 +96,14 @@ impl<S: Read + Write + OpenStream + Drop> Link for RealLink<S> {
         if self.lingers && sends_end(&stream) {
             self.closing = stream;
         }
+    }
+}
+
+/// The system tells the other end, of which no contract says more.
+impl<S: OpenStream> HasPeer for RealLink<S> {
+    ghost tells = { λ _ _. ⊤ };
+
+    fn peer(&self) -> Option<Peer> {
+        peer_of(&self.stream)
     }
 }

@@ -1,23 +1,25 @@
 //! What follows where the net tells its links.
 ghost use Rattle.std.specs.Prelude.{◌≡◌, ◌∷◌, List, Option, Some, Ok};
 ghost use Rattle.htx_drive.specs.declared.Ran.{Ran};
+ghost use Rattle.px_peer.specs.declared.Peer.{Peer};
 ghost use Rattle.px_link.specs.Net.{Coming, Kept, Place};
 ghost use Rattle.serve_run.specs.Drove.{Drove};
 ghost use Rattle.serve_run.specs.Headline.{ServedSession};
 ghost use Rattle.serve_run.specs.Served.{Connection};
 
-use htx_drive::Machine;
 use htx_drive::laws::ran_is_the_session;
-use px_link::Net;
+use htx_drive::weave::ResetsFor;
+use px_link::{Link, Net};
+use px_proxyproto::HasPeer;
 
 /// A connection that the driver served to its end is the session of the accepted link's own stream, or where a read of it failed of the
 /// bytes that were read before, broken off, and of the servers that the connects found, with the end and the number of exchanges that
 /// its line says.
-pub fn a_line_is_its_session<C: Machine, N: Net>()
+pub fn a_line_is_its_session<C: ResetsFor, L: Link + HasPeer, N: Net<Link = L>>()
     ensures { (cfg : C.Settings) (to : Place) (before after : N) (ran : Ran) (link : Coming) (later : List Coming) (answers : List (Option Coming)) (kept : List Kept)
-        → Connection N.Link.seen N.Link.wrote N.seen (λ first client first_net net result. Drove C.meaning C.stands C.seen N.Link.seen N.Link.wrote cfg to first client (N.seen first_net) (N.seen net) result) to before after (Ok ran)
+        → Connection L.seen L.wrote N.seen (λ first client first_net net result. (peer : Option Peer) × L.tells first peer × Drove C.meaning C.stands C.seen L.seen L.wrote (C.for_peer cfg peer) to first client (N.seen first_net) (N.seen net) result) to before after (Ok ran)
         → (N.seen before).accepts ≡ Some (link ∷ later) → (N.seen before).answers ≡ Some answers → (N.seen before).kept ≡ Some kept
-        → ServedSession (C.meaning cfg) N.Link.seen N.Link.wrote N.seen to link answers kept after ran }
+        → (peer : Option Peer) × (served : ServedSession (C.meaning (C.for_peer cfg peer)) L.seen L.wrote N.seen to link answers kept after ran) × L.tells served.first peer }
 {
-    ran_is_the_session::<C, N::Link, N>();
+    ran_is_the_session::<C, L, N>();
 }

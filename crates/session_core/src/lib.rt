@@ -13,7 +13,7 @@ mod work;
 
 pub use http_model::{Close, End, Ending, OutOfMemory};
 pub use machine::{At, Core, Wants};
-pub use sides::{Asked, Renewable, Works};
+pub use sides::{Asked, Renewable, RenewableFor, Works};
 
 /// How the last that answers stands.
 #[derive(Clone, Copy)]

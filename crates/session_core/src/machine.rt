@@ -6,10 +6,12 @@ ghost use Rattle.session_core.specs.Sided.{Sided, HoldsList};
 ghost use Rattle.session_core.specs.Place as place;
 ghost use Rattle.session_core.specs.Place.{IsPlaced};
 ghost use Rattle.session_core.specs.Leads.{Stands, IsFresh};
+ghost use Rattle.px_peer.specs.declared.Peer.{Peer};
 
 use crate::Phase;
-use crate::sides::{Renewable, Works};
+use crate::sides::{Renewable, RenewableFor, Works};
 use http_model::{Close, End};
+use px_peer::Peer;
 
 /// Where a core stands beside its directions.
 #[derive(Clone, Copy)]
@@ -145,6 +147,25 @@ impl<S: Renewable> Core<S> {
         ensures lost { self.new.lost ≡ self.old.lost }
     {
         self.sides.renew();
+        self.at = At {
+            phase: Phase::Reading,
+            cut: None,
+            exchanges: 0,
+        };
+    }
+}
+
+impl<S: RenewableFor> Core<S> {
+    /// A core to which nothing has happened, in the same memory, for the same configuration and a connection of this peer. It takes no memory.
+    pub fn reset_for(&mut self, peer: Option<Peer>)
+        requires placed { IsPlaced (S.placed self.old.sides) (S.answer self.old.sides) self.old.at.phase self.old.at.cut }
+        ensures placed { IsPlaced (S.placed self.new.sides) (S.answer self.new.sides) self.new.at.phase self.new.at.cut }
+        ensures stands { (cfg : S.Settings) (other : Option Peer) (past : Past) → Stands (S.meaning (S.for_peer cfg other)) S.request S.answer (S.stands (S.for_peer cfg other)) self.old.sides self.old.at past
+            → Stands (S.meaning (S.for_peer cfg peer)) S.request S.answer (S.stands (S.for_peer cfg peer)) self.new.sides self.new.at nothing_yet }
+        ensures idle { is_serving self.new.at.phase ≡ false }
+        ensures lost { self.new.lost ≡ self.old.lost }
+    {
+        self.sides.renew_for(peer);
         self.at = At {
             phase: Phase::Reading,
             cut: None,

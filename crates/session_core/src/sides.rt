@@ -1,6 +1,7 @@
 //! The two directions of a core, as it sees them.
-ghost use Rattle.std.specs.Prelude.{◌≡◌, ◌≢◌, ◌≤◌, ◌<◌, ◌++◌, ◌-◌, [], ℕ, List, Bool, true, false, not, nat_lt, length, take, drop, OnOk, IfOk, IsOk, IsTrue};
+ghost use Rattle.std.specs.Prelude.{◌≡◌, ◌≢◌, ◌≤◌, ◌<◌, ◌++◌, ◌-◌, [], ℕ, List, Bool, Option, true, false, not, nat_lt, length, take, drop, OnOk, IfOk, IsOk, IsTrue};
 ghost use Rattle.session_model.specs.Meaning.{Meaning};
+ghost use Rattle.px_peer.specs.declared.Peer.{Peer};
 ghost use Rattle.session_core.specs.Consequences.{IsTotal};
 ghost use Rattle.session_core.specs.History.{no_stream, gains, ends};
 ghost use Rattle.std.specs.Borrow.{sem};
@@ -13,6 +14,7 @@ ghost use Rattle.session_core.specs.Leads.{StepsRequest, KeepsRequest, StepsAnsw
 
 use crate::Told;
 use http_model::{Ending, OutOfMemory, Source};
+use px_peer::Peer;
 
 /// What the client's next request asks for.
 #[derive(Clone, Copy)]
@@ -322,4 +324,17 @@ pub trait Renewable: Works {
         ensures placed { Self.placed self.new place.Reads }
         ensures stands { (cfg : Self.Settings) (p : Sided (Self.meaning cfg)) → Self.stands cfg self.old p
             → (q : Sided (Self.meaning cfg)) × Self.stands cfg self.new q × IsFresh (Self.meaning cfg) (Self.request self.new) (Self.answer self.new) q };
+}
+
+/// Two directions that can begin again for a connection of another peer.
+pub trait RenewableFor: Renewable {
+    /// The configuration, and who asks.
+    ghost for_peer: { Self.Settings → Option Peer → Self.Settings };
+
+    /// As new ones, for the same configuration and a connection of this peer: by what they stand for nothing has happened yet. It takes no memory.
+    fn renew_for(&mut self, peer: Option<Peer>)
+        requires placed { IsSomewhere (Self.placed self.old) }
+        ensures placed { Self.placed self.new place.Reads }
+        ensures stands { (cfg : Self.Settings) (other : Option Peer) (p : Sided (Self.meaning (for_peer cfg other))) → Self.stands (for_peer cfg other) self.old p
+            → (q : Sided (Self.meaning (for_peer cfg peer))) × Self.stands (for_peer cfg peer) self.new q × IsFresh (Self.meaning (for_peer cfg peer)) (Self.request self.new) (Self.answer self.new) q };
 }

@@ -1,6 +1,7 @@
 -- A test: CRITERION FLAGS VALUES (Configuration Manual, section 7.1).
 use Rattle.std.specs.Prelude.{ℕ, ◌-◌, Bool, true, false, ◌||◌, List, [], ◌∷◌, ◌++◌, length, take, drop, slice_get, Option, Some, None, Ok, Err, if◌then◌else◌, codes}
 use Rattle.std.specs.Str.{bytes_eq}
+use Rattle.px_peer.specs.Names.{src_port_name}
 use Rattle.px_sample.specs.declared.fetch.Fetch.{Fetch}
 use Rattle.px_sample.specs.declared.fetch.Fetch.TheVariants as fetches
 use Rattle.px_conv.specs.declared.conv.Conv.{Conv}
@@ -36,6 +37,7 @@ fetch_match (fetches.Int n) = matches.Int
 fetch_match (fetches.Bool b) = matches.Bool
 fetch_match fetches.AlwaysTrue = matches.Bool
 fetch_match fetches.AlwaysFalse = matches.Bool
+fetch_match (fetches.Var scope name) = if bytes_eq name src_port_name then matches.Int else matches.Str
 fetch_match _ = matches.Str
 
 abbrev pub source_match : Source → Match

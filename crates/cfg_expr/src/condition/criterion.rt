@@ -1,5 +1,7 @@
 //! The criterion of a test: an expression, behind whose fetch's name a match may stand.
-ghost use Rattle.std.specs.Prelude.{◌≡◌, ◌-◌, length, take, drop};
+ghost use Rattle.std.specs.Prelude.{◌≡◌, ◌-◌, length, take, drop, if◌then◌else◌};
+ghost use Rattle.std.specs.Str.{bytes_eq};
+ghost use Rattle.px_peer.specs.Names.{src_port_name};
 ghost use Rattle.cfg_expr.specs.Calls.{form_of};
 ghost use Rattle.cfg_expr.specs.Faults.{ReadsText};
 ghost use Rattle.cfg_expr.specs.Condition.Tests.{takes_suffix, suffix_match, match_in, fetch_form, convs_to_end, criterion_of, fetch_match, source_match, conv_match, default_match};
@@ -121,6 +123,17 @@ pub(crate) fn read_criterion<P: Patterns>(
     }
 }
 
+/// The match of a variable: that of the client's port is a number.
+fn variable_match(name: &[u8]) -> Match
+    ensures { result ≡ (if bytes_eq name.now src_port_name then Match.Int else Match.Str) }
+{
+    if is_word(name, b":src_port") {
+        Match::Int
+    } else {
+        Match::Str
+    }
+}
+
 /// The match of what a fetch gives.
 fn fetch_match(fetch: &Fetch) -> Match
     ensures { result ≡ fetch_match fetch.now }
@@ -128,6 +141,7 @@ fn fetch_match(fetch: &Fetch) -> Match
     match fetch {
         Fetch::ReqHdrCnt(_) | Fetch::ResHdrCnt(_) | Fetch::Status | Fetch::Int(_) => Match::Int,
         Fetch::Bool(_) | Fetch::AlwaysTrue | Fetch::AlwaysFalse => Match::Bool,
+        Fetch::Var(_, name) => variable_match(name.as_slice()),
         _ => Match::Str,
     }
 }

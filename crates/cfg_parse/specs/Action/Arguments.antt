@@ -1,5 +1,5 @@
 -- The arguments of a rule, word by word.
-use Rattle.std.specs.Prelude.{ℕ, ◌-◌, List, length, take, drop, Bool, ◌&&◌, nat_le, nat_lt, nat_eq, if◌then◌else◌, Option, Some, None, Ok, Err, codes}
+use Rattle.std.specs.Prelude.{ℕ, ◌-◌, List, [], ◌∷◌, length, take, drop, Bool, ◌&&◌, nat_le, nat_lt, nat_eq, if◌then◌else◌, Option, Some, None, Ok, Err, codes}
 use Rattle.std.specs.List.{list_any, starts_with, ends_with}
 use Rattle.std.specs.Str.{bytes_eq, str_to_ascii_lowercase}
 use Rattle.http_model.specs.Sizes.{most_name}
@@ -76,3 +76,19 @@ made_name_at words = do
   word ← argument words
   name ← made_name word.0
   Ok (name, word.1)
+
+-- ---- the field of `option forwardfor` (Configuration Manual, section 4.2)
+
+-- nothing follows
+abbrev pub ended : {A : Type 0} → A → Words → Read A
+ended x [] = Ok x
+ended x (word ∷ others) = Err Argument
+
+-- the last word as the name of a field that a rule makes
+unfoldable pub last_name : Words → Read (List ℕ)
+last_name words = made_name_at words >>= λ found. ended found.0 found.1
+
+-- the name behind `header`, or `x-forwarded-for`
+unfoldable pub forwarded_name : Words → Read (List ℕ)
+forwarded_name [] = made_name (codes "x-forwarded-for")
+forwarded_name (word ∷ others) = if bytes_eq word (codes "header") then last_name others else Err Argument

@@ -75,7 +75,7 @@ fn is_framing(name: &[u8]) -> bool
 
 /// The name of a field that a rule makes, in lower case.
 #[tactic(auto, unfolding(crate::specs::Action::Arguments::made_name, crate::specs::Action::Arguments::is_framing))]
-fn made_name(alloc: Global, word: &[u8]) -> Result<Text, RuleFault>
+pub fn made_name(alloc: Global, word: &[u8]) -> Result<Text, RuleFault>
     ensures name { Gives (λ name. name) result (made_name word.now) }
     ensures good { IfOk result IsMadeName }
 {

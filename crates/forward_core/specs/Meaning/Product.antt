@@ -11,11 +11,12 @@ use Rattle.body_filter.specs.declared.filter_spec.FedState.{FedState}
 use Rattle.body_filter.specs.declared.filter_spec.FedState.TheVariants.{Going, Over, Refused}
 use Rattle.body_filter.specs.Filter as filter
 use Rattle.session_model.specs.Meaning.{Meaning, Filters, Filtered}
-use Rattle.px_sample.specs.Variables.{Variables, no_variables}
+use Rattle.px_sample.specs.Variables.{Variables}
 use Rattle.http_rules.specs.declared.config.Config.{Config}
 use Rattle.http_rules.specs.Rules.{rules_of, after_of}
 use Rattle.http_rules.specs.Lives.{renewed, answering}
 use Rattle.http_rules.specs.Valid as valid
+use Rattle.forward_core.specs.Meaning.Beginning.{beginning}
 
 -- ---- filters of one direction
 
@@ -67,7 +68,7 @@ meaning_of cfg =
     record {
       limits = cfg.limits;
       Vars = Variables;
-      begins = no_variables;
+      begins = beginning cfg.peer;
       renewed = renewed;
       answering = answering;
       reads_request = RequestOf cfg.limits;

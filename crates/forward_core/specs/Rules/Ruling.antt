@@ -14,8 +14,9 @@ use Rattle.http_rules.specs.declared.verdict.Verdict.{Verdict}
 use Rattle.http_rules.specs.declared.verdict.Verdict.TheVariants as verdicts
 use Rattle.forward_core.specs.declared.rules.rules.SessionRules.{SessionRules}
 
+-- the configuration, for the peer of its session
 abbrev pub config_of : SessionRules → Config
-config_of rules = rules.config.now
+config_of rules = record rules.config.now { peer = rules.peer }
 
 -- the size of its arrays, in bytes
 abbrev pub size_of : SessionRules → ℕ

@@ -31,6 +31,7 @@ ghost use Rattle.forward_core.specs.Joined.Joined.{DirectionsStand, Placed, requ
 impl<'c> Directions<'c> {
     /// Directions to which nothing has happened. Their arrays and input windows have `tune.bufsize` bytes, their output windows
     /// `window`. Beside rules with patterns, this call alone takes memory.
+    #[tactic(auto, using(crate::proofs::RulesLemmas::Peers::peers))]
     pub fn new(
         alloc: Global,
         config: &'c Config,
@@ -44,7 +45,7 @@ impl<'c> Directions<'c> {
         ensures windows { IfOk result (HasWindows window) }
     {
         total();
-        let method = Buf::new(alloc, config.limits.bufsize)?;
+        let mut method = Buf::new(alloc, config.limits.bufsize)?;
         let request = RequestSide::new(
             alloc,
             config.limits,
@@ -63,7 +64,7 @@ impl<'c> Directions<'c> {
                 return Err(fault);
             }
         };
-        let rules = match SessionRules::new(alloc, config) {
+        let rules = match SessionRules::new(alloc, config, &mut method) {
             Ok(rules) => rules,
             Err(fault) => {
                 drop(request);

@@ -3,9 +3,11 @@ ghost use Rattle.std.specs.Prelude.{◌≡◌};
 
 use crate::joined::directions::Directions;
 use crate::joined::saying;
+use crate::request::laws::total;
 use http_model::{Ending, OutOfMemory, Source};
 use http_rules::Config;
-use session_core::{Asked, Renewable, Told, Works};
+use px_peer::Peer;
+use session_core::{Asked, Renewable, RenewableFor, Told, Works};
 
 impl<'c> Works for Directions<'c> {
     /// The configuration, and how many bytes an output window has.
@@ -211,7 +213,18 @@ impl<'c> Renewable for Directions<'c> {
     fn renew(&mut self) {
         self.request.renew();
         self.answer.renew();
-        self.rules.renew();
-        self.method.clear();
+        let peer = self.rules.peer();
+        self.rules.renew_for(peer, &mut self.method);
+    }
+}
+
+impl<'c> RenewableFor for Directions<'c> {
+    ghost for_peer = { λ settings peer. (record settings.0 { peer = peer }, settings.1) };
+
+    fn renew_for(&mut self, peer: Option<Peer>) {
+        total();
+        self.request.renew();
+        self.answer.renew();
+        self.rules.renew_for(peer, &mut self.method);
     }
 }

@@ -1,21 +1,23 @@
 //! The rules of a session on the heads of its messages, and the lives of its variables.
-ghost use Rattle.std.specs.Prelude.{◌≡◌, [], false, true, List, ℕ, IfOk, IsOk};
+ghost use Rattle.std.specs.Prelude.{◌≡◌, ◌≤◌, [], false, true, List, ℕ, IfOk, IsOk};
 ghost use Rattle.http_model.specs.Head.{Head, head_blocks, front_blocks};
 ghost use Rattle.session_model.specs.Env.{request_env, response_env};
-ghost use Rattle.px_sample.specs.Variables.{no_variables};
 ghost use Rattle.http_rules.specs.declared.action.side.Side.TheVariants as sides;
 ghost use Rattle.http_rules.specs.Lives.{renewed, answering};
 ghost use Rattle.http_rules.specs.Run.{IsHead, Leaves};
 ghost use Rattle.http_rules.specs.Valid.{IsValid};
 ghost use Rattle.forward_core.specs.Meaning.Product.{meaning_of};
+ghost use Rattle.forward_core.specs.Meaning.Beginning.{beginning};
 
+use crate::rules::beginning::begin_with;
 use http_model::OutOfMemory;
 use http_rules::{
     Config, Scratch, Vars, Verdict, begin_answer, begin_exchange, body_stays, run_after,
     run_request, run_response,
 };
 use htx_arena::Arena;
-use px_sample::Scope;
+use px_peer::Peer;
+use px_sample::{Buf, Scope};
 use std::alloc::Global;
 
 /// The rules of a configuration in one session.
@@ -26,6 +28,8 @@ pub struct SessionRules<'c> {
     /// What is said to the client in place of a server's answer.
     pub said: Arena,
     config: &'c Config,
+    /// Whose session it is.
+    peer: Option<Peer>,
     scratch: Scratch,
 }
 
@@ -42,39 +46,64 @@ fn passed(verdict: Verdict) -> bool
 }
 
 impl<'c> SessionRules<'c> {
-    /// The rules of a session that begins: no variable is set, nothing is said. Beside rules with patterns, this call alone
-    /// takes memory.
-    pub fn new(alloc: Global, config: &'c Config) -> Result<SessionRules<'c>, OutOfMemory>
-        requires { IsValid config.now }
+    /// The rules of a session that begins: the variables are those of its peer, nothing is said. Beside rules with patterns, this
+    /// call alone takes memory. The buffer is for the address.
+    pub fn new(
+        alloc: Global,
+        config: &'c Config,
+        text: &mut Buf,
+    ) -> Result<SessionRules<'c>, OutOfMemory>
+        requires valid { IsValid config.now }
+        requires room { 40 ≤ text.old.cap }
         ensures ready { IfOk result IsReady }
         ensures config { IfOk result (λ rules. config_of rules ≡ config.now) }
-        ensures vars { IfOk result (λ rules. rules.vars ≡ no_variables) }
+        ensures vars { IfOk result (λ rules. rules.vars ≡ beginning config.now.peer) }
         ensures said { IfOk result (λ rules. rules.said.blocks ≡ []) }
+        ensures cap { text.new.cap ≡ text.old.cap }
     {
+        let said = Arena::new(alloc, config.limits.bufsize)?;
+        let scratch = Scratch::new(alloc, config.limits.bufsize)?;
+        let mut vars = Vars::new(alloc)?;
+        begin_with(&mut vars, config.peer, text);
         Ok(SessionRules {
-            said: Arena::new(alloc, config.limits.bufsize)?,
-            scratch: Scratch::new(alloc, config.limits.bufsize)?,
-            vars: Vars::new(alloc)?,
+            said,
+            scratch,
+            vars,
             config,
+            peer: config.peer,
         })
     }
 
-    /// As new ones, in the same memory and with the searchers that were made: no variable is set, nothing is said.
-    pub fn renew(&mut self)
+    /// As new ones for a session of this peer, in the same memory and with the searchers that were made: the variables are those
+    /// of the peer, nothing is said. The buffer is for the address.
+    #[tactic(auto, using(crate::proofs::RulesLemmas::Peers::peers))]
+    pub fn renew_for(&mut self, peer: Option<Peer>, text: &mut Buf)
         requires ready { IsReady self.old }
+        requires room { 40 ≤ text.old.cap }
         ensures ready { IsReady self.new }
-        ensures config { config_of self.new ≡ config_of self.old }
-        ensures vars { self.new.vars ≡ no_variables }
+        ensures config { config_of self.new ≡ record (config_of self.old) { peer = peer } }
+        ensures vars { self.new.vars ≡ beginning peer }
         ensures said { self.new.said.blocks ≡ [] }
+        ensures empty { text.new.bytes ≡ [] }
+        ensures cap { text.new.cap ≡ text.old.cap }
     {
+        self.peer = peer;
         self.begin_exchange();
         self.vars.clear(Scope::Sess);
+        begin_with(&mut self.vars, peer, text);
         self.said.clear();
     }
 
-    /// The configuration.
+    /// Whose session it is.
+    pub fn peer(&self) -> Option<Peer>
+        ensures { result ≡ (config_of self.now).peer }
+    {
+        self.peer
+    }
+
+    /// The configuration, whose own peer doesn't count.
     pub fn config(&self) -> &'c Config
-        ensures { result.now ≡ config_of self.now }
+        ensures { record result.now { peer = (config_of self.now).peer } ≡ config_of self.now }
     {
         self.config
     }

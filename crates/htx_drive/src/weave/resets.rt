@@ -1,8 +1,10 @@
 //! Cores that connections share, one after another.
-ghost use Rattle.std.specs.Prelude.{◌≡◌, false};
+ghost use Rattle.std.specs.Prelude.{◌≡◌, false, Option};
+ghost use Rattle.px_peer.specs.declared.Peer.{Peer};
 ghost use Rattle.session_core.specs.History.{Past, nothing_yet};
 
 use crate::Machine;
+use px_peer::Peer;
 
 /// A core that can begin again in its own memory.
 pub trait Resets: Machine {
@@ -12,4 +14,17 @@ pub trait Resets: Machine {
         ensures sound { Self.sound self.new }
         ensures idle { (Self.seen self.new).serving ≡ false }
         ensures stands { (cfg : Self.Settings) (past : Past) → Self.stands cfg self.old past → Self.stands cfg self.new nothing_yet };
+}
+
+/// A core that can begin again for a connection of another peer.
+pub trait ResetsFor: Resets {
+    /// The configuration, and who asks.
+    ghost for_peer: { Self.Settings → Option Peer → Self.Settings };
+
+    /// Nothing has happened to it, for the same configuration and a connection of this peer. It takes no memory.
+    fn reset_for(&mut self, peer: Option<Peer>)
+        requires sound { Self.sound self.old }
+        ensures sound { Self.sound self.new }
+        ensures idle { (Self.seen self.new).serving ≡ false }
+        ensures stands { (cfg : Self.Settings) (other : Option Peer) (past : Past) → Self.stands (for_peer cfg other) self.old past → Self.stands (for_peer cfg peer) self.new nothing_yet };
 }

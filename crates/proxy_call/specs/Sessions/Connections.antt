@@ -5,6 +5,7 @@ use Rattle.http_model.specs.declared.Close.TheVariants.{Failed}
 use Rattle.session_model.specs.Meaning.{Meaning}
 use Rattle.session_core.specs.History.{Past}
 use Rattle.px_link.specs.Link.{Seen, closed_by}
+use Rattle.px_peer.specs.declared.Peer.{Peer}
 use Rattle.px_link.specs.Net.{Place, Coming, Kept, NetSeen}
 use Rattle.http_rules.specs.declared.config.Config.{Config}
 use Rattle.forward_core.specs.Meaning.Product.{meaning_of}
@@ -54,3 +55,7 @@ ServesWith {C} {L} M stands core_seen seen wrote to first client first_net net (
 -- by a configuration: an output window has as many bytes as a buffer
 abbrev pub ServesClient : {L : Type 0} (cfg : Config) (seen : L → Seen) (wrote : L → List ℕ → Type 0) (to : Place) (first client : L) (first_net net : NetSeen) → Result Ran SessionFault → Type 0
 ServesClient cfg = ServesWith (meaning_of cfg) (stands_for cfg) seen_of
+
+-- the same by what its link may tell of its peer: where that is told, the session begins with it
+abbrev pub ServesFor : {L : Type 0} (tells : L → Option Peer → Type 0) (cfg : Config) (seen : L → Seen) (wrote : L → List ℕ → Type 0) (to : Place) (first client : L) (first_net net : NetSeen) → Result Ran SessionFault → Type 0
+ServesFor tells cfg seen wrote to first client first_net net result = (peer : Option Peer) × tells first peer × ServesClient (record cfg { peer = peer }) seen wrote to first client first_net net result

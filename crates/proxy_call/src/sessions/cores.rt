@@ -1,5 +1,7 @@
 //! What makes the cores of a configuration.
-ghost use Rattle.std.specs.Prelude.{◌≡◌, ◌≤◌, IfOk, false};
+ghost use Rattle.std.specs.Prelude.{◌≡◌, ◌≤◌, Option, IfOk, false};
+ghost use Rattle.px_peer.specs.declared.Peer.{Peer};
+ghost use Rattle.proxy_call.specs.Sessions.Spare.{IsUsed};
 ghost use Rattle.http_rules.specs.Valid.{IsValid};
 ghost use Rattle.forward_core.specs.Meaning.Product.{meaning_of};
 ghost use Rattle.session_core.specs.History.{nothing_yet};
@@ -12,6 +14,7 @@ use forward_core::joined::Directions;
 use http_model::OutOfMemory;
 use http_rules::Config;
 use htx_drive::replay::Cores;
+use px_peer::Peer;
 use serve_run::Opens;
 use session_core::Core;
 use std::alloc::Global;
@@ -72,7 +75,7 @@ impl<'c> Cores<ConfigCore<'c>> for RecordCores<'c> {
 pub(crate) struct ClientCores<'c> {
     alloc: Global,
     config: &'c Config,
-    /// A core to which nothing has happened, in the memory of an earlier session.
+    /// The core of an earlier session, for its memory.
     spare: Option<ConfigCore<'c>>,
 }
 
@@ -99,21 +102,34 @@ impl<'c> ClientCores<'c> {
             spare: None,
         }
     }
-}
 
-impl<'c> Opens<ConfigCore<'c>> for ClientCores<'c> {
-    ghost settings = { λ cores. (cores, cores.limits.bufsize) };
-
-    fn open(&mut self) -> Result<ConfigCore<'c>, OutOfMemory> {
+    /// A core in the memory of an earlier session, or in its own.
+    fn next(&mut self) -> Result<ConfigCore<'c>, OutOfMemory>
+        ensures used { IfOk result (IsUsed self.old) }
+        ensures same { self.new ≡ self.old }
+    {
         match self.spare.take() {
             Some(core) => Ok(core),
             None => open_core(self.alloc, self.config, self.config.limits.bufsize),
         }
     }
+}
+
+impl<'c> Opens<ConfigCore<'c>> for ClientCores<'c> {
+    ghost settings = { λ cores. (cores, cores.limits.bufsize) };
+
+    fn open(&mut self, peer: Option<Peer>) -> Result<ConfigCore<'c>, OutOfMemory> {
+        match self.next() {
+            Ok(used) => {
+                let mut core = used;
+                core.reset_for(peer);
+                Ok(core)
+            }
+            Err(OutOfMemory) => Err(OutOfMemory),
+        }
+    }
 
     fn keep(&mut self, core: ConfigCore<'c>) {
-        let mut next = core;
-        next.reset();
-        drop(self.spare.replace(next));
+        drop(self.spare.replace(core));
     }
 }

@@ -14,6 +14,7 @@ use http_rules::{Config, Timeouts};
 use htx_drive::weave::cores_for;
 use px_command::RunOptions;
 use px_link::{Fault, OutOfMemory, Sink, Waits, WaitsNet, Wakes};
+use px_proxyproto::HasPeer;
 use px_run::{Nets, Plan, RunFault, Times, run};
 use std::alloc::Global;
 
@@ -72,7 +73,7 @@ fn write_listening<K: Sink>(alloc: Global, config: &Config, out: &mut K) -> Resu
 
 /// Serves many clients at once with cores of this process. The net is bound already.
 fn serve_here<
-    L: Waits + Drop,
+    L: Waits + HasPeer + Drop,
     N: WaitsNet<Link = L> + Drop,
     S: Nets<N> + Switch,
     W: Wakes<N>,
@@ -88,7 +89,7 @@ fn serve_here<
     ensures lent { (N.seen many.new.net).lent ≡ (N.seen many.old.net).lent }
     ensures bound { (N.seen many.new.net).bound ≡ (N.seen many.old.net).bound }
     ensures did { (first : N) → Bound (N.seen first) (N.seen many.old.net) (address_of config.now.bind)
-        → RanLoop L.seen L.wrote N.seen (S.accepts_none many.new.nets) first many.new.net (K.faults out.old) (K.faults out.new) (K.written out.old) (K.written out.new) config.now options result
+        → RanLoop L.seen L.wrote L.tells N.seen (S.accepts_none many.new.nets) first many.new.net (K.faults out.old) (K.faults out.new) (K.written out.old) (K.written out.new) config.now options result
         ⊎ NotBegun (N.seen first) (N.seen many.new.net) (K.written out.old) (K.written out.new) (address_of config.now.bind) result }
 {
     bounded();
@@ -153,7 +154,7 @@ fn serve_by_workers<N, S: Workers<N>, W, K: Sink>(
 
 /// Listens where the configuration says, and serves many clients at once.
 pub fn run_clients<
-    L: Waits + Drop,
+    L: Waits + HasPeer + Drop,
     N: WaitsNet<Link = L> + Drop,
     S: Nets<N> + Switch + Workers<N>,
     W: Wakes<N>,
@@ -166,7 +167,7 @@ pub fn run_clients<
     out: &mut K,
 ) -> Result<(), RunFault>
     requires valid { IsValid config.now }
-    ensures { Runs L.seen L.wrote N.seen (S.accepts_none many.new.nets) many.old.net many.new.net (K.faults out.old) (K.faults out.new) (K.written out.old) (K.written out.new) config.now options result }
+    ensures { Runs L.seen L.wrote L.tells N.seen (S.accepts_none many.new.nets) many.old.net many.new.net (K.faults out.old) (K.faults out.new) (K.written out.old) (K.written out.new) config.now options result }
 {
     match many.net.bind(&config.bind) {
         Ok(()) => {}

@@ -6,20 +6,40 @@ use Rattle.px_run.proofs.accepts.accept_next.Goals as goal
 
 pub returns-in-Ok-accept_failed-clause-goes : goal.returns-in-Ok-accept_failed-clause-goes
 returns-in-Ok-accept_failed-clause-goes g c = λ cfg to begun writes writes_now before after h.
-    let P : NetSeen → Type 0 = λ n. Goes (g.C.Machine.meaning cfg) (g.C.Machine.stands cfg) g.C.Machine.seen g.C.Machine.sound g.L.Link.seen g.L.Link.wrote g.N.Net.seen to true true begun n writes writes_now before after c.args.hall.now in
+    let P : NetSeen → Type 0 = λ n. Goes (λ peer. g.C.Machine.meaning (g.C.ResetsFor.for_peer cfg peer)) (λ peer. g.C.Machine.stands (g.C.ResetsFor.for_peer cfg peer)) g.C.Machine.seen g.C.Machine.sound g.L.Link.seen g.L.Link.wrote g.L.HasPeer.tells g.N.Net.seen to true true begun n writes writes_now before after c.args.hall.now in
     c.in-Err-Failed.ensures.goes cfg to begun writes writes_now before after (subst P (sym c.can_accept.ensures.seen) h)
 
 pub returns-in-Err-accept_failed-clause-goes : goal.returns-in-Err-accept_failed-clause-goes
 returns-in-Err-accept_failed-clause-goes g c = λ cfg to begun writes writes_now before after h.
-    let P : NetSeen → Type 0 = λ n. Goes (g.C.Machine.meaning cfg) (g.C.Machine.stands cfg) g.C.Machine.seen g.C.Machine.sound g.L.Link.seen g.L.Link.wrote g.N.Net.seen to true true begun n writes writes_now before after c.args.hall.now in
+    let P : NetSeen → Type 0 = λ n. Goes (λ peer. g.C.Machine.meaning (g.C.ResetsFor.for_peer cfg peer)) (λ peer. g.C.Machine.stands (g.C.ResetsFor.for_peer cfg peer)) g.C.Machine.seen g.C.Machine.sound g.L.Link.seen g.L.Link.wrote g.L.HasPeer.tells g.N.Net.seen to true true begun n writes writes_now before after c.args.hall.now in
     c.in-Err-Failed.ensures.goes cfg to begun writes writes_now before after (subst P (sym c.can_accept.ensures.seen) h)
 
 pub returns-in-Err-OutOfMemory-clause-goes : goal.returns-in-Err-OutOfMemory-clause-goes
 returns-in-Err-OutOfMemory-clause-goes g c = λ cfg to begun writes writes_now before after h.
-    let P : NetSeen → Type 0 = λ n. Goes (g.C.Machine.meaning cfg) (g.C.Machine.stands cfg) g.C.Machine.seen g.C.Machine.sound g.L.Link.seen g.L.Link.wrote g.N.Net.seen to true true begun n writes writes_now before after c.args.hall.now in
+    let P : NetSeen → Type 0 = λ n. Goes (λ peer. g.C.Machine.meaning (g.C.ResetsFor.for_peer cfg peer)) (λ peer. g.C.Machine.stands (g.C.ResetsFor.for_peer cfg peer)) g.C.Machine.seen g.C.Machine.sound g.L.Link.seen g.L.Link.wrote g.L.HasPeer.tells g.N.Net.seen to true true begun n writes writes_now before after c.args.hall.now in
     c.in-Err-OutOfMemory.ensures.goes cfg to begun writes writes_now before after (subst P (sym c.can_accept.ensures.seen) h)
 
 pub returns-in-Err-OutOfMemory-clause-within : goal.returns-in-Err-OutOfMemory-clause-within
 returns-in-Err-OutOfMemory-clause-within g c =
     let more : c.has_all.result ≡ false = search rules in
     within_one c.args.plan.now.connections c.args.hall.now.accepted c.accept.new.hall.accepted (c.has_all.ensures.within more) c.in-Err-OutOfMemory.ensures.accepted
+
+pub returns-in-Ok-begin-clause-goes : goal.returns-in-Ok-begin-clause-goes
+returns-in-Ok-begin-clause-goes g c = λ cfg to begun writes writes_now before after h.
+    let P : NetSeen → Type 0 = λ n. Goes (λ peer. g.C.Machine.meaning (g.C.ResetsFor.for_peer cfg peer)) (λ peer. g.C.Machine.stands (g.C.ResetsFor.for_peer cfg peer)) g.C.Machine.seen g.C.Machine.sound g.L.Link.seen g.L.Link.wrote g.L.HasPeer.tells g.N.Net.seen to true true begun n writes writes_now before after c.args.hall.now in
+    c.in-Ok.ensures.goes cfg to begun writes writes_now before after (subst P (sym c.can_accept.ensures.seen) h)
+
+pub returns-in-Ok-begin-clause-within : goal.returns-in-Ok-begin-clause-within
+returns-in-Ok-begin-clause-within g c =
+    let more : c.has_all.result ≡ false = search rules in
+    within_one c.args.plan.now.connections c.args.hall.now.accepted c.accept.new.hall.accepted (c.has_all.ensures.within more) c.in-Ok.ensures.accepted
+
+pub returns-in-Err-clause-goes : goal.returns-in-Err-clause-goes
+returns-in-Err-clause-goes g c = λ cfg to begun writes writes_now before after h.
+    let P : NetSeen → Type 0 = λ n. Goes (λ peer. g.C.Machine.meaning (g.C.ResetsFor.for_peer cfg peer)) (λ peer. g.C.Machine.stands (g.C.ResetsFor.for_peer cfg peer)) g.C.Machine.seen g.C.Machine.sound g.L.Link.seen g.L.Link.wrote g.L.HasPeer.tells g.N.Net.seen to true true begun n writes writes_now before after c.args.hall.now in
+    c.in-Ok.ensures.goes cfg to begun writes writes_now before after (subst P (sym c.can_accept.ensures.seen) h)
+
+pub returns-in-Err-clause-within : goal.returns-in-Err-clause-within
+returns-in-Err-clause-within g c =
+    let more : c.has_all.result ≡ false = search rules in
+    within_one c.args.plan.now.connections c.args.hall.now.accepted c.accept.new.hall.accepted (c.has_all.ensures.within more) c.in-Ok.ensures.accepted

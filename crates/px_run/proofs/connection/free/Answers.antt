@@ -9,6 +9,6 @@ give_set-requires-clause-sound g c =
     has_it g.C.Machine.sound c.args.core.now c.in-Some.set e c.requires.sound
 
 pub returns-clause-fresh : goal.returns-clause-fresh
-returns-clause-fresh g c = λ cfg s h.
+returns-clause-fresh g c = λ cfg peer s h.
     let e : c.args.core.now ≡ Some c.in-Some.set = search rules in
-    c.give_set.ensures.fresh cfg (has_it (StandsSomehow (g.C.Machine.stands cfg)) c.args.core.now c.in-Some.set e s) h
+    c.give_set.ensures.fresh cfg peer (has_it (StandsSomehow (g.C.Machine.stands (g.C.ResetsFor.for_peer cfg peer))) c.args.core.now c.in-Some.set e s) h

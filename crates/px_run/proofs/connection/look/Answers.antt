@@ -9,29 +9,29 @@ moved-requires-clause-may g c =
     let q = c.requires.at in
     let none : c.seat.result ≡ None = search rules in
     let a = c.seat.ensures.at q.0 q.1 (address_of c.args.to.now) q.2 q.3 q.4 in
-    may_of (g.C.Machine.meaning q.0) (g.C.Machine.stands q.0) g.C.Machine.seen g.C.Machine.sound g.L.Link.seen g.L.Link.wrote q.1 (address_of c.args.to.now) (g.N.Net.seen q.2) _ _ _ _ _ c.seat.ensures.ran
-    (serving_of (g.C.Machine.meaning q.0) (g.C.Machine.stands q.0) g.C.Machine.seen g.C.Machine.sound g.L.Link.seen g.L.Link.wrote q.1 (address_of c.args.to.now) (g.N.Net.seen q.2) _ _ _ _ _ c.seat.ensures.ran (c.seat.ensures.has none) a)
+    may_of (g.C.Machine.meaning (g.C.ResetsFor.for_peer q.0 c.args.connection.now.peer)) (g.C.Machine.stands (g.C.ResetsFor.for_peer q.0 c.args.connection.now.peer)) g.C.Machine.seen g.C.Machine.sound g.L.Link.seen g.L.Link.wrote q.1 (address_of c.args.to.now) (g.N.Net.seen q.2) _ _ _ _ _ c.seat.ensures.ran
+    (serving_of (g.C.Machine.meaning (g.C.ResetsFor.for_peer q.0 c.args.connection.now.peer)) (g.C.Machine.stands (g.C.ResetsFor.for_peer q.0 c.args.connection.now.peer)) g.C.Machine.seen g.C.Machine.sound g.L.Link.seen g.L.Link.wrote q.1 (address_of c.args.to.now) (g.N.Net.seen q.2) _ _ _ _ _ c.seat.ensures.ran (c.seat.ensures.has none) a)
 
 pub returns-clause-at : goal.returns-clause-at
 returns-clause-at g c = λ cfg first first_net f h.
     let none : c.seat.result ≡ None = search rules in
     let a = c.seat.ensures.at cfg first (address_of c.args.to.now) first_net f h in
-    c.moved.ensures.at cfg first first_net
-    (goes_of (g.C.Machine.meaning cfg) (g.C.Machine.stands cfg) g.C.Machine.seen g.C.Machine.sound g.L.Link.seen g.L.Link.wrote first (address_of c.args.to.now) (g.N.Net.seen first_net) _ _ _ _
-    (serving_of (g.C.Machine.meaning cfg) (g.C.Machine.stands cfg) g.C.Machine.seen g.C.Machine.sound g.L.Link.seen g.L.Link.wrote first (address_of c.args.to.now) (g.N.Net.seen first_net) _ _ _ _ _ c.seat.ensures.ran (c.seat.ensures.has none) a))
+    c.moved.ensures.at (g.C.ResetsFor.for_peer cfg c.args.connection.now.peer) first first_net
+    (goes_of (g.C.Machine.meaning (g.C.ResetsFor.for_peer cfg c.args.connection.now.peer)) (g.C.Machine.stands (g.C.ResetsFor.for_peer cfg c.args.connection.now.peer)) g.C.Machine.seen g.C.Machine.sound g.L.Link.seen g.L.Link.wrote first (address_of c.args.to.now) (g.N.Net.seen first_net) _ _ _ _
+    (serving_of (g.C.Machine.meaning (g.C.ResetsFor.for_peer cfg c.args.connection.now.peer)) (g.C.Machine.stands (g.C.ResetsFor.for_peer cfg c.args.connection.now.peer)) g.C.Machine.seen g.C.Machine.sound g.L.Link.seen g.L.Link.wrote first (address_of c.args.to.now) (g.N.Net.seen first_net) _ _ _ _ _ c.seat.ensures.ran (c.seat.ensures.has none) a))
 
 pub returns-clause-fresh : goal.returns-clause-fresh
 returns-clause-fresh g c = λ cfg first first_net f h.
     let none : c.seat.result ≡ None = search rules in
     let a = c.seat.ensures.at cfg first (address_of c.args.to.now) first_net f h in
-    c.moved.ensures.fresh cfg first first_net
-    (goes_of (g.C.Machine.meaning cfg) (g.C.Machine.stands cfg) g.C.Machine.seen g.C.Machine.sound g.L.Link.seen g.L.Link.wrote first (address_of c.args.to.now) (g.N.Net.seen first_net) _ _ _ _
-    (serving_of (g.C.Machine.meaning cfg) (g.C.Machine.stands cfg) g.C.Machine.seen g.C.Machine.sound g.L.Link.seen g.L.Link.wrote first (address_of c.args.to.now) (g.N.Net.seen first_net) _ _ _ _ _ c.seat.ensures.ran (c.seat.ensures.has none) a))
+    c.moved.ensures.fresh cfg c.args.connection.now.peer first first_net
+    (goes_of (g.C.Machine.meaning (g.C.ResetsFor.for_peer cfg c.args.connection.now.peer)) (g.C.Machine.stands (g.C.ResetsFor.for_peer cfg c.args.connection.now.peer)) g.C.Machine.seen g.C.Machine.sound g.L.Link.seen g.L.Link.wrote first (address_of c.args.to.now) (g.N.Net.seen first_net) _ _ _ _
+    (serving_of (g.C.Machine.meaning (g.C.ResetsFor.for_peer cfg c.args.connection.now.peer)) (g.C.Machine.stands (g.C.ResetsFor.for_peer cfg c.args.connection.now.peer)) g.C.Machine.seen g.C.Machine.sound g.L.Link.seen g.L.Link.wrote first (address_of c.args.to.now) (g.N.Net.seen first_net) _ _ _ _ _ c.seat.ensures.ran (c.seat.ensures.has none) a))
     (c.seat.ensures.fresh cfg f)
 
 pub returns-then-is_some-clause-at : goal.returns-then-is_some-clause-at
 returns-then-is_some-clause-at g c = λ cfg first first_net f h.
-    asked_at (g.C.Machine.meaning cfg) (g.C.Machine.stands cfg) g.C.Machine.seen g.C.Machine.sound g.L.Link.seen g.L.Link.wrote first (address_of c.args.to.now) (g.N.Net.seen first_net) _ _ _ _ _ _ _ _ c.leaves.ensures.client (same_server g.L.Link.seen g.L.Link.wrote c.args.connection.now.conn.server) refl h
+    asked_at (g.C.Machine.meaning (g.C.ResetsFor.for_peer cfg c.args.connection.now.peer)) (g.C.Machine.stands (g.C.ResetsFor.for_peer cfg c.args.connection.now.peer)) g.C.Machine.seen g.C.Machine.sound g.L.Link.seen g.L.Link.wrote first (address_of c.args.to.now) (g.N.Net.seen first_net) _ _ _ _ _ _ _ _ c.leaves.ensures.client (same_server g.L.Link.seen g.L.Link.wrote c.args.connection.now.conn.server) refl h
 
 pub returns-in-Some-clause-fresh : goal.returns-in-Some-clause-fresh
 returns-in-Some-clause-fresh g c = λ cfg first first_net f h. c.in-Some.ensures.fresh cfg f

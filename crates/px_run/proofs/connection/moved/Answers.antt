@@ -43,6 +43,6 @@ returns-in-Lost-clause-at g c = λ cfg first first_net h.
     over_at (g.C.Machine.meaning cfg) (g.C.Machine.stands cfg) g.C.Machine.seen g.C.Machine.sound g.L.Link.seen g.L.Link.wrote first (address_of c.args.to.now) (g.N.Net.seen first_net) _ _ _ _ _ n c.in-Lost.ensures.may.2.no_server (c.in-Lost.ensures.goes cfg first first_net h).2.so
 
 pub returns-in-Ended-clause-fresh : goal.returns-in-Ended-clause-fresh
-returns-in-Ended-clause-fresh g c = λ cfg first first_net h f.
-    let e = c.in-Ended.ensures.goes cfg first first_net h in
-    c.free.ensures.fresh cfg (e.0, e.1, e.2.core) f
+returns-in-Ended-clause-fresh g c = λ cfg peer first first_net h f.
+    let e = c.in-Ended.ensures.goes (g.C.ResetsFor.for_peer cfg peer) first first_net h in
+    c.free.ensures.fresh cfg peer (e.0, e.1, e.2.core) f

@@ -6,5 +6,5 @@ use Rattle.px_run.proofs.hall.visit.Goals as goal
 
 pub returns-clause-goes : goal.returns-clause-goes
 returns-clause-goes g c = λ cfg begun now writes before h.
-    goes_looked (g.C.Machine.meaning cfg) (g.C.Machine.stands cfg) g.C.Machine.seen g.C.Machine.sound g.L.Link.seen g.L.Link.wrote g.N.Net.seen (address_of c.args.plan.now.to.now) begun writes before _ now _ _ _ _ c.args.hall.now _ c.look_here-looked.result h (c.look_here-looked.ensures.stands cfg h.visits h.all) c.look_here-looked.ensures.accepted
+    goes_looked (λ peer. g.C.Machine.meaning (g.C.ResetsFor.for_peer cfg peer)) (λ peer. g.C.Machine.stands (g.C.ResetsFor.for_peer cfg peer)) g.C.Machine.seen g.C.Machine.sound g.L.Link.seen g.L.Link.wrote g.L.HasPeer.tells g.N.Net.seen (address_of c.args.plan.now.to.now) begun writes before _ now _ _ _ _ c.args.hall.now _ c.look_here-looked.result h (c.look_here-looked.ensures.stands cfg h.visits h.all) c.look_here-looked.ensures.accepted
     (λ e. on_ok_then c.say.result _ c.say.ensures.kept_on e) (λ text w. c.say.ensures.writes writes before text (writes_open true _ _ writes _ before _ text (sym c.look_here-looked.ensures.output) w))

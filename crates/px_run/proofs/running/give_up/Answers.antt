@@ -1,4 +1,5 @@
 use Rattle.std.proofs.Common.{rules, ◌≡◌, None}
+use Rattle.std.specs.Bool.{⊤}
 use Rattle.px_run.proofs.Stays.{at_over}
 use Rattle.px_run.proofs.Leaves.{lent_at, left_at}
 use Rattle.px_run.proofs.running.give_up.Goals as goal
@@ -20,5 +21,5 @@ returns g c = record {
 pub returns-then-is_some : goal.returns-then-is_some
 returns-then-is_some g c = record {
   left = λ cfg to first first_net held h.
-      at_over (g.C.Machine.meaning cfg) (g.C.Machine.stands cfg) g.C.Machine.seen g.C.Machine.sound g.L.Link.seen g.L.Link.wrote g.N.Net.seen to first c.args.conn.now.client c.args.conn.now.server (g.N.Net.seen first_net) (g.N.Net.seen c.args.conn.now.net) c.args.conn.now.ran held (search rules) h;
+      at_over (λ peer. g.C.Machine.meaning cfg) (λ peer. g.C.Machine.stands cfg) g.C.Machine.seen g.C.Machine.sound g.L.Link.seen g.L.Link.wrote (λ link peer. ⊤) g.N.Net.seen to None first c.args.conn.now.client c.args.conn.now.server (g.N.Net.seen first_net) (g.N.Net.seen c.args.conn.now.net) c.args.conn.now.ran held (search rules) h;
 }

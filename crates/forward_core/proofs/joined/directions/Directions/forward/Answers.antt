@@ -2,6 +2,7 @@ use Rattle.std.proofs.Common.{Bool, refl, sym, ◌∙◌, subst}
 use Rattle.std.proofs.lemmas.Result.{IfOk-weaker}
 use Rattle.http_rules.specs.declared.verdict.Verdict.TheVariants as verdicts
 use Rattle.session_core.specs.declared.sides.Asked.TheVariants as asks
+use Rattle.forward_core.specs.Joined.Joined.{settings_of}
 use Rattle.forward_core.specs.declared.joined.directions.Directions.{Directions}
 use Rattle.forward_core.proofs.JoinedLemmas.Finished.{Finishes, finishes_for, head_finished, sends_so}
 use Rattle.forward_core.proofs.JoinedLemmas.Judged.{as_asked, limit_of, framing_sent, too_long, unfit, goes_to_server}
@@ -15,7 +16,7 @@ returns-then-declares_too_much-clause-asks c =
     let d = c.args.self.now in
     let new = c.refuse_asked.new.self in
     let kept = c.args.kept in
-    let long = limit_of d c.config.result.now c.config.ensures ∙ sym c.declares_too_much.ensures ∙ c.if-declares_too_much.true in
+    let long = limit_of d (record c.config.result.now { peer = (settings_of d).peer }) c.config.ensures ∙ sym c.declares_too_much.ensures ∙ c.if-declares_too_much.true in
     IfOk-weaker c.refuse_asked.result _ _
     (λ asked h. as_asked d new kept verdicts.Pass verdicts.Pass asked asks.Refuse refl h.0 (too_long d new kept c.body_stays.ensures c.requires.read long h.1))
     c.refuse_asked.ensures.refuses
@@ -56,11 +57,11 @@ returns-then-finish_head-clause-asks c =
     let framing = c.sent_framing-framing.result in
     let kept = c.args.kept in
     let f = finishes_for d r framing c.finish_head.result c.requires.read c.finish_head.ensures in
-    let short = limit_of d c.config.result.now c.config.ensures ∙ sym c.declares_too_much.ensures ∙ c.if-declares_too_much.false in
+    let short = limit_of d (record c.config.result.now { peer = (settings_of d).peer }) c.config.ensures ∙ sym c.declares_too_much.ensures ∙ c.if-declares_too_much.false in
     let b = c.begin.ensures in
     let s = c.send.ensures in
     goes_to_server d mid (record mid { answer = c.begin.new.self; request = c.send.new.self }) kept framing c.body_stays.ensures short
-    (framing_sent d c.config.result.now framing c.config.ensures c.sent_framing-framing.ensures)
+    (framing_sent d (record c.config.result.now { peer = (settings_of d).peer }) framing c.config.ensures c.sent_framing-framing.ensures)
     (subst (λ (x : Bool). Finishes d mid framing x) c.if-finish_head.true f)
     (sends_so mid c.begin.new.self c.send.new.self c.asker_of.result framing kept c.requests.ensures f.read c.asker_of.ensures
     (record { leads = b.leads; seen = b.seen; place = b.place; sound = b.sound; size = b.size; window_size = b.window_size })
@@ -80,9 +81,9 @@ returns-else-finish_head-clause-asks c =
     let new = c.refuse_asked-else-finish_head.new.self in
     let kept = c.args.kept in
     let framing = c.sent_framing-framing.result in
-    let short = limit_of d c.config.result.now c.config.ensures ∙ sym c.declares_too_much.ensures ∙ c.if-declares_too_much.false in
+    let short = limit_of d (record c.config.result.now { peer = (settings_of d).peer }) c.config.ensures ∙ sym c.declares_too_much.ensures ∙ c.if-declares_too_much.false in
     let f = subst (λ (b : Bool). Finishes d mid framing b) c.if-finish_head.false (finishes_for d r framing c.finish_head.result c.requires.read c.finish_head.ensures) in
     IfOk-weaker c.refuse_asked-else-finish_head.result _ _
     (λ asked h. as_asked d new kept verdicts.Pass verdicts.Pass asked asks.Refuse refl h.0
-    (unfit d mid new kept framing c.body_stays.ensures c.requires.read short (framing_sent d c.config.result.now framing c.config.ensures c.sent_framing-framing.ensures) f h.1))
+    (unfit d mid new kept framing c.body_stays.ensures c.requires.read short (framing_sent d (record c.config.result.now { peer = (settings_of d).peer }) framing c.config.ensures c.sent_framing-framing.ensures) f h.1))
     c.refuse_asked-else-finish_head.ensures.refuses
