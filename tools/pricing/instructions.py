@@ -92,3 +92,8 @@ for size in (2, 204800):
     alone = recorded(["replay"], 64, size, f"replay-64-{size}")
     shared = [(k, recorded(["weave", str(k)], 64, size, f"weave-64-{k}-{size}")) for k in (1, 8, 64)]
     print(f"{size:6} replay {alone:,}" + "".join(f", weave over {k} {it:,} ({it / alone:.2f})" for k, it in shared))
+
+print("a record of one exchange, in all")
+for size in (2, 204800):
+    alone, told = recorded(["replay"], 1, size, f"replay-1-{size}"), recorded(["explain"], 1, size, f"explain-1-{size}")
+    print(f"{size:6} replay {alone:,}, explain {told:,} ({told / alone:.2f})")

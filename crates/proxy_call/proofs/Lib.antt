@@ -1,8 +1,10 @@
 mod AnyEnd
 mod Causes
+mod Connections
 mod Drill
 mod Due
 mod Endings
+mod Replayed
 mod Stopped
 mod Told
 mod Words

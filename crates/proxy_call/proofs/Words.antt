@@ -3,7 +3,7 @@ use Rattle.std.proofs.Common.{◌≡◌, ℕ, ◌+◌, ◌*◌, ◌==◌, ◌||�
 use Rattle.std.specs.Prelude.{Option, Some}
 use Rattle.px_bytes.specs.Numbers.{decimal_of}
 use Rattle.px_link.specs.Told.{NamedBytes}
-use Rattle.px_command.specs.Command.{IsCheck, IsCheckAll, IsCheckRecord, IsReplay, IsWeave, RunsRecord, IsServe, IsRun, IsDrill, AsksText, IsFileWord, NamesConfig, ReadsConfig}
+use Rattle.px_command.specs.Command.{IsCheck, IsCheckAll, IsCheckRecord, IsReplay, IsExplain, IsWeave, RunsRecord, IsServe, IsRun, IsDrill, AsksText, IsFileWord, NamesConfig, ReadsConfig}
 use Rattle.px_command.specs.declared.options.RunOptions.{RunOptions}
 use Rattle.proxy_call.specs.Answers.{AsksNoFile, Checks, IsGood, NamesServe}
 use Rattle.proxy_call.specs.Running.{NamesRun}
@@ -41,6 +41,10 @@ record_key words rec is = ap key is.0
 replay_key : (words : List (List ℕ)) (cfg rec : List ℕ) → IsReplay words cfg rec → key words ≡ 2112
 replay_key words cfg rec is = ap key is.0
 
+-- `replay` and `explain` have the same letter there, and stand together
+explain_key : (words : List (List ℕ)) (cfg rec : List ℕ) → IsExplain words cfg rec → key words ≡ 2112
+explain_key words cfg rec is = ap key is.0
+
 weave_key : (words : List (List ℕ)) (cfg rec : List ℕ) (cores : ℕ) → IsWeave words cfg rec cores → key words ≡ 3097
 weave_key words cfg rec cores is = ap key is.1
 
@@ -72,7 +76,8 @@ text_short words (inr (inr (inr is))) = ap short is
 
 runs_long : (words : List (List ℕ)) (cfg rec : List ℕ) → RunsRecord words cfg rec → short words ≡ false
 runs_long words cfg rec (inl is) = ap short is.0
-runs_long words cfg rec (inr (cores, is)) = ap short is.1
+runs_long words cfg rec (inr (inl is)) = ap short is.0
+runs_long words cfg rec (inr (inr (cores, is))) = ap short is.1
 
 -- ---- which words name a configuration
 
@@ -88,7 +93,8 @@ no_bool b p q = cc
 config_there : (words : List (List ℕ)) (cfg : List ℕ) → NamesConfig words cfg → config_key words ≡ true
 config_there words cfg (inl check) = ap config_key check.0
 config_there words cfg (inr (inl (rec, inl replay))) = ap config_key replay.0
-config_there words cfg (inr (inl (rec, inr weave))) = ap config_key weave.1.1
+config_there words cfg (inr (inl (rec, inr (inl explain)))) = ap config_key explain.0
+config_there words cfg (inr (inl (rec, inr (inr weave)))) = ap config_key weave.1.1
 config_there words cfg (inr (inr (inl serve))) = ap config_key serve.1.1
 config_there words cfg (inr (inr (inr ran))) = ap config_key ran.1.1
 
@@ -166,7 +172,8 @@ has_record k = k == 2101 || (k == 2112 || k == 3097)
 record_there : (words : List (List ℕ)) (rec : List ℕ) → IsCheckRecord words rec ⊎ ((cfg : List ℕ) × RunsRecord words cfg rec) → has_record (key words) ≡ true
 record_there words rec (inl is) = ap has_record (record_key words rec is)
 record_there words rec (inr (cfg, inl replay)) = ap has_record (replay_key words cfg rec replay)
-record_there words rec (inr (cfg, inr weave)) = ap has_record (weave_key words cfg rec weave.0 weave.1)
+record_there words rec (inr (cfg, inr (inl explain))) = ap has_record (explain_key words cfg rec explain)
+record_there words rec (inr (cfg, inr (inr weave))) = ap has_record (weave_key words cfg rec weave.0 weave.1)
 
 text_or_record : (words : List (List ℕ)) (rec : List ℕ) → AsksText words → IsCheckRecord words rec ⊎ ((cfg : List ℕ) × RunsRecord words cfg rec) → ⊥
 text_or_record words rec text (inl is) = no_bool (short words) (text_short words text) (ap short is.0)
@@ -197,9 +204,10 @@ good_or_serve words text files (inl (cfg, inl is, made)) serve = serve_key_or wo
 good_or_serve words text files (inl (cfg, inr all, made)) serve = serve_key_or words (ap is_serve (all_key words cfg all)) serve
 good_or_serve words text files (inr (inl (rec, is, made))) serve = serve_key_or words (ap is_serve (record_key words rec is)) serve
 good_or_serve words text files (inr (inr (inl (cfg, rec, is, made)))) serve = serve_key_or words (ap is_serve (replay_key words cfg rec is)) serve
-good_or_serve words text files (inr (inr (inr (inl (cfg, rec, cores, is, made))))) serve = serve_key_or words (ap is_serve (weave_key words cfg rec cores is)) serve
-good_or_serve words text files (inr (inr (inr (inr (inl (seed, exchanges, is, made)))))) serve = serve_key_or words (ap is_serve (drill_key words seed exchanges is)) serve
-good_or_serve words text files (inr (inr (inr (inr (inr (asks, ends)))))) (cfg, count, is) = no_bool (short words) (text_short words asks) (ap short is.1)
+good_or_serve words text files (inr (inr (inr (inl (cfg, rec, is, made))))) serve = serve_key_or words (ap is_serve (explain_key words cfg rec is)) serve
+good_or_serve words text files (inr (inr (inr (inr (inl (cfg, rec, cores, is, made)))))) serve = serve_key_or words (ap is_serve (weave_key words cfg rec cores is)) serve
+good_or_serve words text files (inr (inr (inr (inr (inr (inl (seed, exchanges, is, made))))))) serve = serve_key_or words (ap is_serve (drill_key words seed exchanges is)) serve
+good_or_serve words text files (inr (inr (inr (inr (inr (inr (asks, ends))))))) (cfg, count, is) = no_bool (short words) (text_short words asks) (ap short is.1)
 
 -- ---- which words are `run`
 
@@ -213,7 +221,8 @@ run_or_check words cfg (name, options, is) (inr all) = no_bool (runs words) (run
 pub run_or_record : (words : List (List ℕ)) (rec : List ℕ) → NamesRun words → IsCheckRecord words rec ⊎ ((cfg : List ℕ) × RunsRecord words cfg rec) → ⊥
 run_or_record words rec (name, options, is) (inl record_is) = no_bool (runs words) (run_letter words name options is) (ap runs record_is.0)
 run_or_record words rec (name, options, is) (inr (cfg, inl replay)) = no_bool (runs words) (run_letter words name options is) (ap runs replay.0)
-run_or_record words rec (name, options, is) (inr (cfg, inr (cores, weave))) = no_bool (runs words) (run_letter words name options is) (ap runs weave.1)
+run_or_record words rec (name, options, is) (inr (cfg, inr (inl explain))) = no_bool (runs words) (run_letter words name options is) (ap runs explain.0)
+run_or_record words rec (name, options, is) (inr (cfg, inr (inr (cores, weave)))) = no_bool (runs words) (run_letter words name options is) (ap runs weave.1)
 
 pub run_or_fileless : (words : List (List ℕ)) → NamesRun words → AsksNoFile words → ⊥
 run_or_fileless words (name, options, is) (inl (seed, exchanges, drill)) = no_bool (runs words) (run_letter words name options is) (ap runs drill.2)
@@ -223,16 +232,18 @@ pub good_or_run : (words : List (List ℕ)) (text : List ℕ) (files : Option (L
 good_or_run words text files (inl (cfg, is, made)) named = run_or_check words cfg named is
 good_or_run words text files (inr (inl (rec, is, made))) named = run_or_record words rec named (inl is)
 good_or_run words text files (inr (inr (inl (cfg, rec, is, made)))) named = run_or_record words rec named (inr (cfg, inl is))
-good_or_run words text files (inr (inr (inr (inl (cfg, rec, cores, is, made))))) named = run_or_record words rec named (inr (cfg, inr (cores, is)))
-good_or_run words text files (inr (inr (inr (inr (inl (seed, exchanges, is, made)))))) named = run_or_fileless words named (inl (seed, exchanges, is))
-good_or_run words text files (inr (inr (inr (inr (inr (asks, ends)))))) named = run_or_fileless words named (inr asks)
+good_or_run words text files (inr (inr (inr (inl (cfg, rec, is, made))))) named = run_or_record words rec named (inr (cfg, inr (inl is)))
+good_or_run words text files (inr (inr (inr (inr (inl (cfg, rec, cores, is, made)))))) named = run_or_record words rec named (inr (cfg, inr (inr (cores, is))))
+good_or_run words text files (inr (inr (inr (inr (inr (inl (seed, exchanges, is, made))))))) named = run_or_fileless words named (inl (seed, exchanges, is))
+good_or_run words text files (inr (inr (inr (inr (inr (inr (asks, ends))))))) named = run_or_fileless words named (inr asks)
 
 -- ---- the names of files
 
 config_second : (words : List (List ℕ)) (cfg : List ℕ) → NamesConfig words cfg → second words ≡ cfg
 config_second words cfg (inl check) = ap second check.0
 config_second words cfg (inr (inl (rec, inl is))) = ap second is.0
-config_second words cfg (inr (inl (rec, inr (cores, is)))) = ap second is.1
+config_second words cfg (inr (inl (rec, inr (inl is)))) = ap second is.0
+config_second words cfg (inr (inl (rec, inr (inr (cores, is))))) = ap second is.1
 config_second words cfg (inr (inr (inl (count, is)))) = ap second is.1
 config_second words cfg (inr (inr (inr (options, is)))) = ap second is.1
 
@@ -251,7 +262,8 @@ same_config_name words a b (inr p) (inr q) = same_third words a b p q
 record_third : (words : List (List ℕ)) (rec : List ℕ) → IsCheckRecord words rec ⊎ ((cfg : List ℕ) × RunsRecord words cfg rec) → third words ≡ rec
 record_third words rec (inl is) = ap third is.0
 record_third words rec (inr (cfg, inl is)) = ap third is.0
-record_third words rec (inr (cfg, inr (cores, is))) = ap third is.1
+record_third words rec (inr (cfg, inr (inl is))) = ap third is.0
+record_third words rec (inr (cfg, inr (inr (cores, is)))) = ap third is.1
 
 pub same_record_name : (words : List (List ℕ)) (a b : List ℕ) → IsCheckRecord words a ⊎ ((cfg : List ℕ) × RunsRecord words cfg a) → IsCheckRecord words b ⊎ ((cfg : List ℕ) × RunsRecord words cfg b) → a ≡ b
 same_record_name words a b p q = let x = record_third words a p in let y = record_third words b q in cc

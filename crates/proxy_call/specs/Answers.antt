@@ -7,7 +7,7 @@ use Rattle.cfg_parse.specs.declared.fault.CfgKind.{CfgKind}
 use Rattle.cfg_parse.specs.declared.refused.RefusedLine.{RefusedLine}
 use Rattle.htx_drive.specs.Drill.Drill.{configuration}
 use Rattle.forward_core.specs.Meaning.Product.{meaning_of}
-use Rattle.px_command.specs.Command.{IsCheck, IsCheckAll, IsCheckRecord, IsReplay, IsWeave, RunsRecord, IsServe, IsDrill, AsksText, IsUsage, NamesConfig, ReadsConfig}
+use Rattle.px_command.specs.Command.{IsCheck, IsCheckAll, IsCheckRecord, IsReplay, IsExplain, IsWeave, RunsRecord, IsServe, IsDrill, AsksText, IsUsage, NamesConfig, ReadsConfig}
 use Rattle.px_command.specs.Texts.{EndsLine}
 use Rattle.rec_format.specs.declared.record.RecKind.{RecKind}
 use Rattle.rec_format.specs.Recorded.{Recorded}
@@ -15,6 +15,7 @@ use Rattle.rec_format.specs.Written.{written}
 use Rattle.htx_drive.specs.Replay.Written.{IsReplayOf, IsDrillOf}
 use Rattle.htx_drive.specs.Weave.Recorded.{IsWeaveOf}
 use Rattle.proxy_call.specs.Sessions.Driven.{stands_for, seen_of}
+use Rattle.proxy_call.specs.Explained.{IsExplanation}
 use Rattle.proxy_call.specs.Lines.{accepted_line, refused_line, record_line, file_line}
 use Rattle.proxy_call.specs.Refusals.{refused_text}
 use Rattle.proxy_call.specs.Files.{IfTold, Builder, Configured, IsBuilt, RecordIs, Refuses, RefusesAll, Say}
@@ -64,6 +65,11 @@ abbrev pub IsReportOf : Option (List NamedBytes) → (cfg_name rec_name text : L
 IsReportOf files cfg_name rec_name text =
     (cfg : Config) × (rec : Recorded) × IfTold files (λ fs. Say fs cfg_name rec_name cfg rec) × IsReplayOf (meaning_of cfg) (stands_for cfg) seen_of rec text
 
+-- the text is what is told of the first exchange of the record's first connection, by what the configuration makes of it
+abbrev pub IsExplanationOf : Option (List NamedBytes) → (cfg_name rec_name text : List ℕ) → Type 0
+IsExplanationOf files cfg_name rec_name text =
+    (cfg : Config) × (rec : Recorded) × IfTold files (λ fs. Say fs cfg_name rec_name cfg rec) × IsExplanation cfg rec text
+
 -- The text is the report of a record, always in the second format, by what the configuration makes of its connections over so many cores that they share, each by its
 -- own turns behind those that found none. With a core for each connection none waits: it is the report of `replay` in that format.
 pub record IsWoven (cfg : Config) (cores : ℕ) (rec : Recorded) (text : List ℕ) : Type 0 where
@@ -79,8 +85,8 @@ IsWovenReportOf files cfg_name rec_name cores text =
 abbrev pub IsDrilled : (seed exchanges : ℕ) → (text : List ℕ) → Type 0
 IsDrilled seed exchanges text = (cfg : Config) × (config_of configuration None ≡ Ok cfg) × IsDrillOf (meaning_of cfg) (stands_for cfg) seen_of seed exchanges text
 
--- The name is that of the record: `check --record` reads it at once, and `replay` and `weave` only where the configuration is accepted and each of its
--- patterns was built.
+-- The name is that of the record: `check --record` reads it at once, and `replay`, `explain` and `weave` only where the configuration is accepted and
+-- each of its patterns was built.
 abbrev pub DecidesRecord : List (List ℕ) → Option (List NamedBytes) → Builder → (name : List ℕ) → Type 0
 DecidesRecord words files builder name =
     IsCheckRecord words name ⊎ ((cfg_name : List ℕ) × RunsRecord words cfg_name name × IsAccepted files cfg_name × IsBuilt builder)
@@ -97,16 +103,17 @@ NamesServe words = (cfg_name : List ℕ) × (connections : ℕ) × IsServe words
 abbrev pub Checks : List (List ℕ) → (cfg_name : List ℕ) → Type 0
 Checks words cfg_name = IsCheck words cfg_name ⊎ IsCheckAll words cfg_name
 
--- The text is what the words ask for: the line of `check`, the record of `check --record`, the report of `replay` or of `weave`, the lines of
--- `drill`, or lines of help or of the version, which tests show. What `serve` writes is said with what it does.
+-- The text is what the words ask for: the line of `check`, the record of `check --record`, the report of `replay` or of `weave`, what `explain`
+-- tells, the lines of `drill`, or lines of help or of the version, which tests show. What `serve` writes is said with what it does.
 abbrev pub IsGood : List (List ℕ) → Option (List NamedBytes) → (text : List ℕ) → Type 0
 IsGood words files text =
     ((cfg_name : List ℕ) × Checks words cfg_name × IsCheckOf files cfg_name text)
     ⊎ (((rec_name : List ℕ) × IsCheckRecord words rec_name × IsRewritten files rec_name text)
     ⊎ (((cfg_name : List ℕ) × (rec_name : List ℕ) × IsReplay words cfg_name rec_name × IsReportOf files cfg_name rec_name text)
+    ⊎ (((cfg_name : List ℕ) × (rec_name : List ℕ) × IsExplain words cfg_name rec_name × IsExplanationOf files cfg_name rec_name text)
     ⊎ (((cfg_name : List ℕ) × (rec_name : List ℕ) × (cores : ℕ) × IsWeave words cfg_name rec_name cores × IsWovenReportOf files cfg_name rec_name cores text)
     ⊎ (((seed : ℕ) × (exchanges : ℕ) × IsDrill words seed exchanges × IsDrilled seed exchanges text)
-    ⊎ (AsksText words × EndsLine text)))))
+    ⊎ (AsksText words × EndsLine text))))))
 
 -- The text is what is written with this status, where the last failed read was of this name. The lines of a usage text are shown by tests.
 abbrev pub IsAnswer : List (List ℕ) → Option (List NamedBytes) → Builder → (last : List ℕ) → Status → (text : List ℕ) → Type 0

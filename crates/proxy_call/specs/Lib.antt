@@ -1,5 +1,6 @@
 pub mod Answers
 pub mod Ends
+pub mod Explained
 pub mod Files
 pub mod Lines
 pub mod Refusals

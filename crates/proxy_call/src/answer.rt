@@ -3,7 +3,7 @@
 ghost use Rattle.std.specs.Prelude.{◌≡◌, ◌+◌, ◌<◌, ◌≤◌, length, vec_len, ℕ, List, Option, Ok, IfOk, IfErr, OnOk};
 ghost use Rattle.px_link.specs.Told.{NamedBytes, Reads};
 ghost use Rattle.http_rules.specs.Valid.{IsValid};
-ghost use Rattle.px_command.specs.Command.{IsCheck, IsCheckAll, IsCheckRecord, IsReplay, IsWeave, RunsRecord, IsDrill, NamesConfig};
+ghost use Rattle.px_command.specs.Command.{IsCheck, IsCheckAll, IsCheckRecord, IsReplay, IsExplain, IsWeave, RunsRecord, IsDrill, NamesConfig};
 ghost use Rattle.rec_format.specs.Numbered.{IsNumbered};
 ghost use Rattle.rec_format.specs.Read.{meaning_of};
 ghost use Rattle.rec_format.specs.Reports.{Reportable};
@@ -11,6 +11,7 @@ ghost use Rattle.proxy_call.specs.Files.{IfTold, Builder, Configured, IsBuilt, S
 ghost use Rattle.proxy_call.specs.Stops.{Answers, ReadStops, SaysVerdict, StopsBy, given};
 ghost use Rattle.proxy_call.specs.Lines.{accepted_line};
 
+use crate::explaining::explanation;
 use crate::lines::accepted_line;
 use crate::refusals::refused_text;
 use crate::sessions::{drill_lines, replay_report, weave_report};
@@ -129,7 +130,7 @@ pub fn check_record<'a, F: Files>(
     Ok(write_record(alloc, &record)?)
 }
 
-/// What the two files of `replay` and of `weave` say.
+/// What the two files of `replay`, of `explain` and of `weave` say.
 #[derive(Drop)]
 pub struct TwoFiles {
     pub config: Config,
@@ -148,6 +149,7 @@ fn two_files<'a, F: Files, P: Patterns>(
     ensures valid { IfOk result (λ said. IsValid said.config) }
     ensures reportable { IfOk result (λ said. Reportable said.record.version (vec_len said.record.conns)) }
     ensures numbered { IfOk result (λ said. IsNumbered (meaning_of said.record)) }
+    ensures some { IfOk result (λ said. 0 < vec_len said.record.conns) }
     ensures built { OnOk result (P.refusals pats.new ≡ P.refusals pats.old) }
     ensures stop { (words : List (List ℕ)) → RunsRecord words cfg_name.now rec_name.now
         → IfErr result (StopsBy (given words (F.files files.old) (told_by (P.refusals pats.old) (P.refusals pats.new) (P.last_refused pats.new)) (F.last_failed files.new) (F.faults files.old) (F.faults files.new))) }
@@ -173,6 +175,21 @@ pub fn replay<'a, F: Files, P: Patterns>(
 {
     let said = two_files(alloc, files, cfg_name, rec_name, pats)?;
     Ok(replay_report(alloc, &said.config, &said.record)?)
+}
+
+/// What `explain CFG REC` tells.
+pub fn explain<'a, F: Files, P: Patterns>(
+    alloc: Global,
+    files: &mut F,
+    cfg_name: &'a str,
+    rec_name: &'a str,
+    pats: &mut P,
+) -> Result<Bytes, Stop<'a>>
+    ensures { (words : List (List ℕ)) → IsExplain words cfg_name.now rec_name.now
+        → Answers (given words (F.files files.old) (told_by (P.refusals pats.old) (P.refusals pats.new) (P.last_refused pats.new)) (F.last_failed files.new) (F.faults files.old) (F.faults files.new)) result }
+{
+    let said = two_files(alloc, files, cfg_name, rec_name, pats)?;
+    Ok(explanation(alloc, &said.config, &said.record)?)
 }
 
 /// The report of `weave CFG REC K`.

@@ -2,6 +2,7 @@
 #![tactic(auto)]
 
 mod answer;
+mod explaining;
 mod lines;
 mod networks;
 mod refusals;

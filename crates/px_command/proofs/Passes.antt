@@ -7,7 +7,7 @@ use Rattle.clap.specs.declared.error.Error.{Error}
 use Rattle.clap.specs.declared.error.kind.ErrorKind.{ErrorKind}
 use Rattle.clap.specs.declared.error.kind.ErrorKind.TheVariants.{OutOfMemory}
 use Rattle.clap.proofs.OnLiterals.{clap_on_literals}
-use Rattle.px_command.specs.Command.{IsFileWord, IsCheck, IsCheckAll, IsCheckRecord, IsReplay, IsWeave, IsServe, IsRun, IsDrill, AsksText, IsUsage}
+use Rattle.px_command.specs.Command.{IsFileWord, IsCheck, IsCheckAll, IsCheckRecord, IsReplay, IsExplain, IsWeave, IsServe, IsRun, IsDrill, AsksText, IsUsage}
 use Rattle.px_command.specs.Parser.{IsRefused, parser}
 use Rattle.px_command.specs.declared.options.RunOptions.{RunOptions}
 use Rattle.px_command.proofs.Accepted.{number_word}
@@ -33,6 +33,10 @@ module _ (x : ℕ) (a : List ℕ) (dash : (x == 45) ≡ false) where
     unfolding clap_on_literals
     replay_passes = simp (dash, other) refl
 
+    explain_passes : fault_of parser (codes "explain" ∷ (x ∷ a) ∷ (y ∷ b) ∷ []) ≡ []
+    unfolding clap_on_literals
+    explain_passes = simp (dash, other) refl
+
     serve_passes : fault_of parser (codes "serve" ∷ (x ∷ a) ∷ (y ∷ b) ∷ []) ≡ []
     unfolding clap_on_literals
     serve_passes = simp (dash, other) refl
@@ -51,13 +55,12 @@ one_passes : (a : Text) → IsFileWord a → (fault_of parser (codes "check" ∷
 one_passes [] file = absurd file
 one_passes (x ∷ a) file = let p : (x == 45) ≡ false = not_dash x file in (check_passes x a p, check_all_passes x a p, check_record_passes x a p)
 
-two_pass : (a b : Text) → IsFileWord a → IsFileWord b → (fault_of parser (codes "replay" ∷ a ∷ b ∷ []) ≡ [])
-    × (fault_of parser (codes "serve" ∷ a ∷ b ∷ []) ≡ []) × (fault_of parser (codes "drill" ∷ a ∷ b ∷ []) ≡ [])
-two_pass [] b file other = absurd file
-two_pass (x ∷ a) [] file other = absurd other
-two_pass (x ∷ a) (y ∷ b) file other =
-    let p : (x == 45) ≡ false = not_dash x file in
-    let q : (y == 45) ≡ false = not_dash y other in (replay_passes x a p y b q, serve_passes x a p y b q, drill_passes x a p y b q)
+-- what comes of any command with two such words
+by_words : (command : Text) → ((x : ℕ) (a : List ℕ) → (x == 45) ≡ false → (y : ℕ) (b : List ℕ) → (y == 45) ≡ false → fault_of parser (command ∷ (x ∷ a) ∷ (y ∷ b) ∷ []) ≡ [])
+    → (a b : Text) → IsFileWord a → IsFileWord b → fault_of parser (command ∷ a ∷ b ∷ []) ≡ []
+by_words command passes [] b file other = absurd file
+by_words command passes (x ∷ a) [] file other = absurd other
+by_words command passes (x ∷ a) (y ∷ b) file other = passes x a (not_dash x file) y b (not_dash y other)
 
 three_pass : (a b d : Text) → IsFileWord a → IsFileWord b → IsFileWord d → fault_of parser (codes "weave" ∷ a ∷ b ∷ d ∷ []) ≡ []
 three_pass [] b d file other third = absurd file
@@ -75,17 +78,21 @@ passes_check_all : (ws : List Text) (cfg : Text) → IsCheckAll ws cfg → fault
 passes_check_all ws cfg is = ap (fault_of parser) is.0 ∙ (one_passes cfg is.1).1
 
 passes_replay : (ws : List Text) (cfg rec : Text) → IsReplay ws cfg rec → fault_of parser ws ≡ []
-passes_replay ws cfg rec is = ap (fault_of parser) is.0 ∙ (two_pass cfg rec is.1 is.2).0
+passes_replay ws cfg rec is = ap (fault_of parser) is.0 ∙ by_words (codes "replay") replay_passes cfg rec is.1 is.2
+
+passes_explain : (ws : List Text) (cfg rec : Text) → IsExplain ws cfg rec → fault_of parser ws ≡ []
+passes_explain ws cfg rec is = ap (fault_of parser) is.0 ∙ by_words (codes "explain") explain_passes cfg rec is.1 is.2
 
 passes_weave : (ws : List Text) (cfg rec : Text) (cores : ℕ) → IsWeave ws cfg rec cores → fault_of parser ws ≡ []
 passes_weave ws cfg rec cores is = ap (fault_of parser) is.1 ∙ three_pass cfg rec is.0 is.2 is.3 (number_word 1 256 is.0 cores is.4)
 
 passes_serve : (ws : List Text) (cfg : Text) (connections : ℕ) → IsServe ws cfg connections → fault_of parser ws ≡ []
-passes_serve ws cfg connections is = ap (fault_of parser) is.1 ∙ (two_pass cfg is.0 is.2 (number_word 1 1000000 is.0 connections is.3)).1
+passes_serve ws cfg connections is =
+    ap (fault_of parser) is.1 ∙ by_words (codes "serve") serve_passes cfg is.0 is.2 (number_word 1 1000000 is.0 connections is.3)
 
 passes_drill : (ws : List Text) (seed exchanges : ℕ) → IsDrill ws seed exchanges → fault_of parser ws ≡ []
 passes_drill ws seed exchanges is =
-    ap (fault_of parser) is.2 ∙ (two_pass is.0 is.1 (number_word 0 2147483647 is.0 seed is.3) (number_word 0 4000 is.1 exchanges is.4)).2
+    ap (fault_of parser) is.2 ∙ by_words (codes "drill") drill_passes is.0 is.1 (number_word 0 2147483647 is.0 seed is.3) (number_word 0 4000 is.1 exchanges is.4)
 
 -- ---- from a parse
 
@@ -108,6 +115,7 @@ refused_usage ws e refused other text run =
       check_all = λ cfg is. only_memory ws e refused other (passes_check_all ws cfg is);
       check_record = λ rec is. only_memory ws e refused other (passes_check_record ws rec is);
       replay = λ cfg rec is. only_memory ws e refused other (passes_replay ws cfg rec is);
+      explain = λ cfg rec is. only_memory ws e refused other (passes_explain ws cfg rec is);
       weave = λ cfg rec cores is. only_memory ws e refused other (passes_weave ws cfg rec cores is);
       serve = λ cfg connections is. only_memory ws e refused other (passes_serve ws cfg connections is);
       drill = λ seed exchanges is. only_memory ws e refused other (passes_drill ws seed exchanges is);

@@ -2,7 +2,7 @@
 use Rattle.std.specs.Prelude.{◌≡◌, ◌≢◌, ℕ, ◌≤◌, List, [], ◌∷◌, ◌⊎◌, Some, codes}
 use Rattle.px_bytes.specs.Numbers.{decimal_of}
 use Rattle.px_command.specs.declared.name.CommandName.{CommandName}
-use Rattle.px_command.specs.declared.name.CommandName.TheVariants.{Check, Replay, Weave, Serve, Run, Drill}
+use Rattle.px_command.specs.declared.name.CommandName.TheVariants.{Check, Replay, Explain, Weave, Serve, Run, Drill}
 use Rattle.px_command.specs.Options.{options_of}
 use Rattle.px_command.specs.declared.options.RunOptions.{RunOptions}
 
@@ -31,18 +31,26 @@ IsCheckAll words cfg = IsFlagged words (codes "--all") cfg
 abbrev pub IsCheckRecord : List (List ℕ) → (rec : List ℕ) → Type 0
 IsCheckRecord words rec = IsFlagged words (codes "--record") rec
 
+-- the words are this command and two files
+abbrev pub IsOfFiles : List (List ℕ) → (command cfg rec : List ℕ) → Type 0
+IsOfFiles words command cfg rec = (words ≡ command ∷ cfg ∷ rec ∷ []) × IsFileWord cfg × IsFileWord rec
+
 -- the words are `replay CFG REC`
 abbrev pub IsReplay : List (List ℕ) → (cfg rec : List ℕ) → Type 0
-IsReplay words cfg rec = (words ≡ codes "replay" ∷ cfg ∷ rec ∷ []) × IsFileWord cfg × IsFileWord rec
+IsReplay words cfg rec = IsOfFiles words (codes "replay") cfg rec
+
+-- the words are `explain CFG REC`
+abbrev pub IsExplain : List (List ℕ) → (cfg rec : List ℕ) → Type 0
+IsExplain words cfg rec = IsOfFiles words (codes "explain") cfg rec
 
 -- the words are `weave CFG REC K`, with 1 to 256 cores
 abbrev pub IsWeave : List (List ℕ) → (cfg rec : List ℕ) → (cores : ℕ) → Type 0
 IsWeave words cfg rec cores =
     (count : List ℕ) × (words ≡ codes "weave" ∷ cfg ∷ rec ∷ count ∷ []) × IsFileWord cfg × IsFileWord rec × IsNumber 1 256 count cores
 
--- the words are `replay` or `weave` of these two files
+-- the words are `replay`, `explain` or `weave` of these two files
 abbrev pub RunsRecord : List (List ℕ) → (cfg rec : List ℕ) → Type 0
-RunsRecord words cfg rec = IsReplay words cfg rec ⊎ ((cores : ℕ) × IsWeave words cfg rec cores)
+RunsRecord words cfg rec = IsReplay words cfg rec ⊎ (IsExplain words cfg rec ⊎ ((cores : ℕ) × IsWeave words cfg rec cores))
 
 -- the words are `serve CFG COUNT`, with 1 to 1000000 connections
 abbrev pub IsServe : List (List ℕ) → (cfg : List ℕ) → (connections : ℕ) → Type 0
@@ -63,6 +71,7 @@ IsDrill words seed exchanges =
 abbrev pub word_of : CommandName → List ℕ
 word_of Check = codes "check"
 word_of Replay = codes "replay"
+word_of Explain = codes "explain"
 word_of Weave = codes "weave"
 word_of Serve = codes "serve"
 word_of Run = codes "run"
@@ -91,6 +100,7 @@ pub record IsUsage (words : List (List ℕ)) : Type 0 where
   pub check_all : (cfg : List ℕ) → IsCheckAll words cfg → ⊥
   pub check_record : (rec : List ℕ) → IsCheckRecord words rec → ⊥
   pub replay : (cfg rec : List ℕ) → IsReplay words cfg rec → ⊥
+  pub explain : (cfg rec : List ℕ) → IsExplain words cfg rec → ⊥
   pub weave : (cfg rec : List ℕ) (cores : ℕ) → IsWeave words cfg rec cores → ⊥
   pub serve : (cfg : List ℕ) (connections : ℕ) → IsServe words cfg connections → ⊥
   pub run : (cfg : List ℕ) (options : RunOptions) → IsRun words cfg options → ⊥

@@ -49,7 +49,8 @@ abbrev pub parser : App
 parser =
     let check = with_subcommand top_level check_shape.top in
     let replay = with_subcommand check (two_words (codes "replay") (codes "CFG") (codes "REC")).top in
-    let weave = with_subcommand replay weave_shape.top in
+    let explain = with_subcommand replay (two_words (codes "explain") (codes "CFG") (codes "REC")).top in
+    let weave = with_subcommand explain weave_shape.top in
     let serve = with_subcommand weave (two_words (codes "serve") (codes "CFG") (codes "COUNT")).top in
     let run = with_subcommand serve run_shape.top in
     with_subcommand run (two_words (codes "drill") (codes "SEED") (codes "COUNT")).top

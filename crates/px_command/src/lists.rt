@@ -1,6 +1,6 @@
 //! The lists of words that name a command, or a text of the program.
 ghost use Rattle.std.specs.Prelude.{◌↔◌, ℕ, List, map, IsTrue, IfSome, IfNone, string_bytes};
-ghost use Rattle.px_command.specs.Command.{IsFlagged, IsCheck, IsCheckAll, IsCheckRecord, IsReplay, IsWeave, IsServe, IsRun, IsDrill, IsHelp, IsHelpOf, IsVersion};
+ghost use Rattle.px_command.specs.Command.{IsFlagged, IsOfFiles, IsCheck, IsCheckAll, IsCheckRecord, IsReplay, IsExplain, IsWeave, IsServe, IsRun, IsDrill, IsHelp, IsHelpOf, IsVersion};
 ghost use Rattle.px_command.specs.declared.name.CommandName.{CommandName as Named};
 ghost use Rattle.px_command.specs.declared.options.RunOptions.{RunOptions as Options};
 
@@ -53,16 +53,32 @@ pub fn check_record_file<'a>(words: &'a [String]) -> Option<&'a str>
     flagged_file(words, "--record")
 }
 
+/// The two files behind this command.
+fn files_behind<'a>(words: &'a [String], command: &str) -> Option<(&'a str, &'a str)>
+    ensures some { IfSome result (λ files. IsOfFiles (map string_bytes words.now) command.now files.0.now files.1.now) }
+    ensures none { IfNone result ((cfg rec : List ℕ) → IsOfFiles (map string_bytes words.now) command.now cfg rec → ⊥) }
+{
+    let (cfg, rec) = two_behind(words, command)?;
+    if !is_file_word(cfg) || !is_file_word(rec) {
+        return None;
+    }
+    Some((cfg, rec))
+}
+
 /// The two files of `replay CFG REC`.
 pub fn replay_files<'a>(words: &'a [String]) -> Option<(&'a str, &'a str)>
     ensures some { IfSome result (λ files. IsReplay (map string_bytes words.now) files.0.now files.1.now) }
     ensures none { IfNone result ((cfg rec : List ℕ) → IsReplay (map string_bytes words.now) cfg rec → ⊥) }
 {
-    let (cfg, rec) = two_behind(words, "replay")?;
-    if !is_file_word(cfg) || !is_file_word(rec) {
-        return None;
-    }
-    Some((cfg, rec))
+    files_behind(words, "replay")
+}
+
+/// The two files of `explain CFG REC`.
+pub fn explain_files<'a>(words: &'a [String]) -> Option<(&'a str, &'a str)>
+    ensures some { IfSome result (λ files. IsExplain (map string_bytes words.now) files.0.now files.1.now) }
+    ensures none { IfNone result ((cfg rec : List ℕ) → IsExplain (map string_bytes words.now) cfg rec → ⊥) }
+{
+    files_behind(words, "explain")
 }
 
 /// The two files and the number of cores of `weave CFG REC K`.
@@ -147,6 +163,9 @@ pub fn help_command(words: &[String]) -> Option<CommandName>
     }
     if asks_help_of(words, CommandName::Replay) {
         return Some(CommandName::Replay);
+    }
+    if asks_help_of(words, CommandName::Explain) {
+        return Some(CommandName::Explain);
     }
     if asks_help_of(words, CommandName::Weave) {
         return Some(CommandName::Weave);

@@ -5,6 +5,7 @@
 pub enum CommandName {
     Check,
     Replay,
+    Explain,
     Weave,
     Serve,
     Run,
@@ -22,6 +23,7 @@ impl CommandName {
         match self {
             CommandName::Check => "check",
             CommandName::Replay => "replay",
+            CommandName::Explain => "explain",
             CommandName::Weave => "weave",
             CommandName::Serve => "serve",
             CommandName::Run => "run",

@@ -114,6 +114,21 @@ pub fn replay_command<'a>(alloc: Global) -> Result<Command<'a>, AllocError>
     )
 }
 
+/// `explain CFG REC`.
+pub fn explain_command<'a>(alloc: Global) -> Result<Command<'a>, AllocError>
+    ensures app { IfOk result (λ c. app_of c ≡ two_words (codes "explain") (codes "CFG") (codes "REC")) }
+    ensures local { IfOk result (λ c. (out-Command c).has_globals ≡ false) }
+{
+    word_behind(
+        alloc,
+        "explain",
+        "Says what each rule does to the first exchange of a record, and what its client is sent",
+        cfg_word(alloc),
+        "REC",
+        "The file of the record",
+    )
+}
+
 /// `weave CFG REC K`.
 pub fn weave_command<'a>(alloc: Global) -> Result<Command<'a>, AllocError>
     ensures app { IfOk result (λ c. app_of c ≡ weave_shape) }
@@ -256,7 +271,8 @@ pub fn command<'a>(alloc: Global) -> Result<Command<'a>, AllocError>
 {
     let check = with_command(Ok(top_command(alloc)), check_command(alloc));
     let replay = with_command(check, replay_command(alloc));
-    let weave = with_command(replay, weave_command(alloc));
+    let explain = with_command(replay, explain_command(alloc));
+    let weave = with_command(explain, weave_command(alloc));
     let serve = with_command(weave, serve_command(alloc));
     let run = with_command(serve, run_command(alloc));
     with_command(run, drill_command(alloc))

@@ -4,8 +4,8 @@ ghost use Rattle.px_command.specs.Texts.{EndsLine};
 
 use crate::name::CommandName;
 use crate::parser::{
-    check_command, command, drill_command, replay_command, run_command, serve_command,
-    weave_command,
+    check_command, command, drill_command, explain_command, replay_command, run_command,
+    serve_command, weave_command,
 };
 use crate::wrong::{Wrong, has_word, wrong_word};
 use clap::{Command, Error};
@@ -18,6 +18,7 @@ const COMMANDS: &[u8] = b"
 Examples:
   htx_proxy check site.cfg            says what the configuration in site.cfg has, or which line of it is refused
   htx_proxy replay site.cfg site.rec  writes what becomes of the session that is recorded in site.rec
+  htx_proxy explain site.cfg site.rec says which rules are reached in it, what each does, and the status that its client is sent
   htx_proxy weave site.cfg site.rec 2 writes the same of each connection of site.rec, over two shared cores
   htx_proxy serve site.cfg 100        serves 100 connections, one after another
   htx_proxy run site.cfg              serves many connections at once, and goes on
@@ -66,6 +67,27 @@ Lines end with a line feed, and numbers have no zeros in front.";
 const REPLAY: &[u8] = b"
 Example:
   htx_proxy replay site.cfg site.rec  writes a report that begins with `PXREP 1`
+
+Refused in this order: the words (1), the file of the configuration (4), the configuration (2), the file of the record (4),
+the record (3), the output (5).";
+
+/// What the help of `explain` says behind its words.
+const EXPLAIN: &[u8] = b"
+Example:
+  htx_proxy explain site.cfg site.rec  writes lines as `request rule 1 done`, and at last one as `answer 200`
+
+It is of the first exchange of the record's first connection. Each rule that is reached has a line, with its list, its number
+there from 1, and what it came to. The list `request` is of the request, `response` of the server's final head, and `after`
+of all that the client is sent.
+  passed     its condition does not hold
+  done       it did what it says
+  skipped    it failed, and strict mode is off
+  stop       it ends its list
+  reply      it answers in the server's place
+  deny CODE  it refuses with this status
+  fail       it failed, and the client is refused with 500
+The last line is the status that the client is sent: `answer CODE`, or `answer none` where nothing is asked. The request is
+taken as one that comes whole, and a server that is not in the record as one that refuses.
 
 Refused in this order: the words (1), the file of the configuration (4), the configuration (2), the file of the record (4),
 the record (3), the output (5).";
@@ -174,6 +196,9 @@ pub fn help_of_text(alloc: Global, command: CommandName) -> Result<Bytes, OutOfM
     match command {
         CommandName::Check => help_under(alloc, check_command(alloc), "htx_proxy check", CHECK),
         CommandName::Replay => help_under(alloc, replay_command(alloc), "htx_proxy replay", REPLAY),
+        CommandName::Explain => {
+            help_under(alloc, explain_command(alloc), "htx_proxy explain", EXPLAIN)
+        }
         CommandName::Weave => help_under(alloc, weave_command(alloc), "htx_proxy weave", WEAVE),
         CommandName::Serve => help_under(alloc, serve_command(alloc), "htx_proxy serve", SERVE),
         CommandName::Run => help_under(alloc, run_command(alloc), "htx_proxy run", RUN),

@@ -30,6 +30,14 @@ fn more_options(options: RunOptions, answers: &mut Answers) {
     }
 }
 
+/// Says a command of two files.
+fn say_files(command: &[u8], cfg: &str, rec: &str, answers: &mut Answers) {
+    answers.say(command);
+    answers.bracket(cfg.as_bytes());
+    answers.more(b" ");
+    answers.bracket(rec.as_bytes());
+}
+
 /// Says what words ask for.
 fn say_asked(alloc: Global, asked: &Asked<'_>, answers: &mut Answers) -> Result<(), Fault> {
     match asked {
@@ -45,17 +53,10 @@ fn say_asked(alloc: Global, asked: &Asked<'_>, answers: &mut Answers) -> Result<
             answers.say(b"check --record ");
             answers.bracket(rec.as_bytes());
         }
-        Asked::Replay { cfg, rec } => {
-            answers.say(b"replay ");
-            answers.bracket(cfg.as_bytes());
-            answers.more(b" ");
-            answers.bracket(rec.as_bytes());
-        }
+        Asked::Replay { cfg, rec } => say_files(b"replay ", cfg, rec, answers),
+        Asked::Explain { cfg, rec } => say_files(b"explain ", cfg, rec, answers),
         Asked::Weave { cfg, rec, cores } => {
-            answers.say(b"weave ");
-            answers.bracket(cfg.as_bytes());
-            answers.more(b" ");
-            answers.bracket(rec.as_bytes());
+            say_files(b"weave ", cfg, rec, answers);
             answers.more(b" ");
             answers.more_count(u64::from(*cores));
         }

@@ -30,6 +30,6 @@ returns g c =
     let loads : Loads configuration before now kept (Ok c.in_ok-cfg.cfg) =
     subst (λ (t : List ℕ). Loads t before now kept (Ok c.in_ok-cfg.cfg)) c.configuration.ensures c.in_ok-cfg.ensures.loads in
     λ words files last reads reads_now drill. (
-      inr (inr (inr (inr (inl (c.args.seed, c.args.exchanges, drill, (c.in_ok-cfg.cfg, accepted_text configuration before now kept c.in_ok-cfg.cfg loads, c.in_ok-drill_lines.ensures)))))),
+      inr (inr (inr (inr (inr (inl (c.args.seed, c.args.exchanges, drill, (c.in_ok-cfg.cfg, accepted_text configuration before now kept c.in_ok-cfg.cfg loads, c.in_ok-drill_lines.ensures))))))),
       built_text configuration before now kept c.in_ok-cfg.cfg loads,
     )

@@ -1,4 +1,4 @@
-use Rattle.std.proofs.Common.{ℕ, List, ◌≡◌, inl, inr, sym, subst, length, map, arith, vec_len}
+use Rattle.std.proofs.Common.{ℕ, List, ◌≡◌, ◌<◌, inl, inr, sym, subst, length, map, arith, vec_len}
 use Rattle.std.specs.Prelude.{Option}
 use Rattle.std.proofs.lemmas.List.{length-map}
 use Rattle.px_link.specs.Told.{NamedBytes, Reads}
@@ -9,6 +9,7 @@ use Rattle.proxy_call.specs.Files.{Builder, told_by}
 use Rattle.proxy_call.specs.Stops.{Input, StopsBy, given, stop_of_record}
 use Rattle.proxy_call.proofs.Causes.{accepted, passed_on, read_stops, record_stops}
 use Rattle.proxy_call.proofs.Told.{said}
+use Rattle.proxy_call.proofs.Connections.{some_connection}
 use Rattle.proxy_call.proofs.answer.two_files.Goals as goal
 
 pub returns-in_err-config-clause-stop : goal.returns-in_err-config-clause-stop
@@ -60,3 +61,9 @@ returns-clause-reportable g c =
 
 pub returns-clause-numbered : goal.returns-clause-numbered
 returns-clause-numbered g c = c.numbered.ensures c.as_slice.result.now (meaning_of c.in_ok-record.record) c.in_ok-record.ensures.read
+
+pub returns-clause-some : goal.returns-clause-some
+returns-clause-some g c =
+    let conns = c.in_ok-record.record.conns in
+    let count : length (map visit conns.items) ≡ vec_len conns = omega (arith, length-map conns.items visit, conns.ok.0) in
+    subst (λ (n : ℕ). 0 < n) count (some_connection c.as_slice.result.now (meaning_of c.in_ok-record.record) c.in_ok-record.ensures.read)

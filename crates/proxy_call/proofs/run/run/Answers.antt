@@ -8,7 +8,7 @@ use Rattle.proxy_call.specs.Ends.{put}
 use Rattle.proxy_call.specs.Running.{Runs}
 use Rattle.proxy_call.specs.Serving.{Serves}
 use Rattle.px_command.specs.Asked.{IsAsked}
-use Rattle.px_command.specs.Command.{IsCheck, IsCheckAll, IsCheckRecord, IsReplay, IsWeave, IsServe, IsRun, IsDrill, IsHelp, IsHelpOf, IsVersion}
+use Rattle.px_command.specs.Command.{IsCheck, IsCheckAll, IsCheckRecord, IsReplay, IsExplain, IsWeave, IsServe, IsRun, IsDrill, IsHelp, IsHelpOf, IsVersion}
 use Rattle.proxy_call.specs.Files.{Builder, told_by}
 use Rattle.proxy_call.specs.Stops.{Input, given}
 use Rattle.proxy_call.proofs.AnyEnd.{any_of_run}
@@ -45,6 +45,14 @@ returns-in-Replay g c =
     let builder : Builder = told_by (g.P.Patterns.refusals c.args.pats.now) (g.P.Patterns.refusals c.replay.new.pats) (g.P.Patterns.last_refused c.replay.new.pats) in
     let input : Input = given words (g.F.Files.files c.args.files.now) builder (g.F.Files.last_failed c.replay.new.files) (g.F.Files.faults c.args.files.now) (g.F.Files.faults c.replay.new.files) in
     inl (inl (c.write-in-Replay.ensures input (c.replay.ensures words is), refl), refl)
+
+pub returns-in-Explain : goal.returns-in-Explain
+returns-in-Explain g c =
+    let words : List (List ℕ) = map string_bytes c.args.words.now in
+    let is : IsExplain words c.in-Explain.cfg.now c.in-Explain.rec.now = subst (IsAsked words) c.in-Explain.is c.in_ok-cfg.ensures in
+    let builder : Builder = told_by (g.P.Patterns.refusals c.args.pats.now) (g.P.Patterns.refusals c.explain.new.pats) (g.P.Patterns.last_refused c.explain.new.pats) in
+    let input : Input = given words (g.F.Files.files c.args.files.now) builder (g.F.Files.last_failed c.explain.new.files) (g.F.Files.faults c.args.files.now) (g.F.Files.faults c.explain.new.files) in
+    inl (inl (c.write-in-Explain.ensures input (c.explain.ensures words is), refl), refl)
 
 pub returns-in-Weave : goal.returns-in-Weave
 returns-in-Weave g c =
@@ -88,7 +96,7 @@ returns-in_ok-help_text-in-Help g c =
     let is : IsHelp words = subst (IsAsked words) c.in-Help.is c.in_ok-cfg.ensures in
     let builder : Builder = told_by (g.P.Patterns.refusals c.args.pats.now) (g.P.Patterns.refusals c.args.pats.now) (g.P.Patterns.last_refused c.args.pats.now) in
     let input : Input = given words (g.F.Files.files c.args.files.now) builder (g.F.Files.last_failed c.args.files.now) (g.F.Files.faults c.args.files.now) (g.F.Files.faults c.args.files.now) in
-    inl (inl (c.write-in-Help.ensures input (inr (inr (inr (inr (inr (inl is, c.in_ok-help_text-in-Help.ensures))))), refl), refl), refl)
+    inl (inl (c.write-in-Help.ensures input (inr (inr (inr (inr (inr (inr (inl is, c.in_ok-help_text-in-Help.ensures)))))), refl), refl), refl)
 
 pub returns-in_ok-help_of_text-in-HelpOf : goal.returns-in_ok-help_of_text-in-HelpOf
 returns-in_ok-help_of_text-in-HelpOf g c =
@@ -96,7 +104,7 @@ returns-in_ok-help_of_text-in-HelpOf g c =
     let is : IsHelpOf words c.in-HelpOf.command = subst (IsAsked words) c.in-HelpOf.is c.in_ok-cfg.ensures in
     let builder : Builder = told_by (g.P.Patterns.refusals c.args.pats.now) (g.P.Patterns.refusals c.args.pats.now) (g.P.Patterns.last_refused c.args.pats.now) in
     let input : Input = given words (g.F.Files.files c.args.files.now) builder (g.F.Files.last_failed c.args.files.now) (g.F.Files.faults c.args.files.now) (g.F.Files.faults c.args.files.now) in
-    inl (inl (c.write-in-HelpOf.ensures input (inr (inr (inr (inr (inr (inr (inl (c.in-HelpOf.command, is)), c.in_ok-help_of_text-in-HelpOf.ensures))))), refl), refl), refl)
+    inl (inl (c.write-in-HelpOf.ensures input (inr (inr (inr (inr (inr (inr (inr (inl (c.in-HelpOf.command, is)), c.in_ok-help_of_text-in-HelpOf.ensures)))))), refl), refl), refl)
 
 pub returns-in_ok-version_text-in-Version : goal.returns-in_ok-version_text-in-Version
 returns-in_ok-version_text-in-Version g c =
@@ -104,4 +112,4 @@ returns-in_ok-version_text-in-Version g c =
     let is : IsVersion words = subst (IsAsked words) c.in-Version.is c.in_ok-cfg.ensures in
     let builder : Builder = told_by (g.P.Patterns.refusals c.args.pats.now) (g.P.Patterns.refusals c.args.pats.now) (g.P.Patterns.last_refused c.args.pats.now) in
     let input : Input = given words (g.F.Files.files c.args.files.now) builder (g.F.Files.last_failed c.args.files.now) (g.F.Files.faults c.args.files.now) (g.F.Files.faults c.args.files.now) in
-    inl (inl (c.write-in-Version.ensures input (inr (inr (inr (inr (inr (inr (inr is), c.in_ok-version_text-in-Version.ensures))))), refl), refl), refl)
+    inl (inl (c.write-in-Version.ensures input (inr (inr (inr (inr (inr (inr (inr (inr is), c.in_ok-version_text-in-Version.ensures)))))), refl), refl), refl)
