@@ -3,3 +3,4 @@ pub use Rattle.htx_model.specs.Blocks
 pub mod Lending
 pub mod Fields
 pub mod Layout
+pub mod Space

@@ -5,6 +5,7 @@
 mod arena;
 mod fields;
 pub mod layout;
+mod space;
 
 pub use arena::{Arena, Full, Line};
 pub use fields::Fields;

@@ -4,8 +4,8 @@ use Rattle.std.specs.Prelude.{insert, remove}
 use Rattle.std.proofs.lemmas.Bool.{cases_lt, cases_eq, lt-ltb, le-ltb}
 use Rattle.std.proofs.lemmas.List.Sums.{sum_by-remove}
 use Rattle.htx_model.specs.Block.{Block, payload_len, EndHeaders}
-use Rattle.htx_space.specs.declared.space.Desc.{Desc}
-use Rattle.htx_space.specs.Windows.{desc_at}
+use Rattle.htx_arena.specs.declared.space.space.Desc.{Desc}
+use Rattle.htx_arena.specs.Space.Windows.{desc_at}
 use Rattle.htx_arena.specs.Layout.Raw.{listed, addr_in, len_in, block_in, blocks_of, addrs_of}
 use Rattle.htx_arena.specs.Layout.Sound.{IsSound, end_of, IsTold, IsFilled, IsLaid, IsTop}
 use Rattle.htx_arena.specs.Layout.Moves.{IsLast, IsShifted, IsUpTo, IsSunk, CanSink}

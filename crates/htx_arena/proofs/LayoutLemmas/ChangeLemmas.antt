@@ -1,8 +1,8 @@
 -- A payload is rewritten behind its first bytes, or loses them.
 use Rattle.std.proofs.Common.{◌≡◌, ℕ, ◌+◌, ◌^◌, ◌<◌, ◌≤◌, List, ◌++◌, length, take, drop, subst, ap, sym, ◌∙◌, arith}
 use Rattle.std.proofs.lemmas.List.{take-take, drop-take, drop-drop}
-use Rattle.htx_space.specs.declared.space.Desc.{Desc}
-use Rattle.htx_space.specs.Windows.{window, overwritten}
+use Rattle.htx_arena.specs.declared.space.space.Desc.{Desc}
+use Rattle.htx_arena.specs.Space.Windows.{window, overwritten}
 use Rattle.htx_arena.specs.Layout.Raw.{addr_in, len_in, payload_in, info_len}
 use Rattle.htx_arena.specs.Layout.Sound.{IsSound}
 use Rattle.htx_arena.specs.Layout.Moves.{CanRenew, IsRenewed}

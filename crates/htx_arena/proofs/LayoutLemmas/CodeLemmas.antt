@@ -4,8 +4,8 @@ use Rattle.std.proofs.Math.Seq.{take-append_seam, drop-append_seam, drop-append-
 use Rattle.htx_model.specs.Block.{Block, RequestLine, ResponseLine, Header, EndHeaders, Data, Trailer, EndTrailers, block, kind_of, name_of, payload_len, IsFieldKind, IsLineKind, IsEndKind}
 use Rattle.htx_model.specs.declared.Kind.{Kind}
 use Rattle.htx_model.specs.declared.Kind.TheVariants as kinds
-use Rattle.htx_space.specs.Windows.{window, word_at}
-use Rattle.htx_space.proofs.PublicLaws.{word_at_is}
+use Rattle.htx_arena.specs.Space.Windows.{window, word_at}
+use Rattle.htx_arena.proofs.SpaceLemmas.PublicLaws.{word_at_is}
 use Rattle.htx_arena.specs.Layout.Raw.{code_of, lengths_of, info_of, line_head, payload_of, kind_of_code, info_kind, name_len, len_by, info_len, block_by, block_of, Tells, Describes}
 
 -- what an array of at most 262144 bytes can hold

@@ -1,9 +1,9 @@
 -- What holds of each payload's descriptor and block holds after an edit.
 use Rattle.std.proofs.Common.{subst, ◌≡◌, ℕ, ◌+◌, ◌-◌, ◌^◌, ◌<◌, ◌≤◌, ◌⊎◌, inl, inr, List, length, ap, sym, ◌∙◌, arith}
 use Rattle.std.proofs.lemmas.List.{take_all}
-use Rattle.htx_space.specs.declared.space.Desc.{Desc}
-use Rattle.htx_space.specs.Windows.{desc_at, window}
-use Rattle.htx_space.proofs.PublicLaws.{window-overwritten_within}
+use Rattle.htx_arena.specs.declared.space.space.Desc.{Desc}
+use Rattle.htx_arena.specs.Space.Windows.{desc_at, window}
+use Rattle.htx_arena.proofs.SpaceLemmas.PublicLaws.{window-overwritten_within}
 use Rattle.htx_arena.specs.Layout.Raw.{info_len, payload_in, Tells}
 use Rattle.htx_arena.specs.Layout.Steps.{unlisted, placed, listed_at}
 use Rattle.htx_arena.specs.Layout.Sound.{IsSound, end_of, IsTold, IsFilled, IsLaid}

@@ -2,9 +2,9 @@
 use Rattle.std.proofs.Common.{refl, ◌≡◌, ℕ, zero, suc, ◌+◌, ◌*◌, ◌-◌, ◌^◌, ◌<◌, ◌≤◌, inl, inr, List, [], ◌∷◌, ◌++◌, length, ap, sym, ◌∙◌, arith, set, subst}
 use Rattle.std.specs.Prelude.{insert, remove}
 use Rattle.std.proofs.lemmas.Bool.{cases_lt}
-use Rattle.htx_space.specs.declared.space.Desc.{Desc}
-use Rattle.htx_space.specs.Windows.{window, desc_at}
-use Rattle.htx_space.proofs.PublicLaws.{length-window, window-overwritten_below}
+use Rattle.htx_arena.specs.declared.space.space.Desc.{Desc}
+use Rattle.htx_arena.specs.Space.Windows.{window, desc_at}
+use Rattle.htx_arena.proofs.SpaceLemmas.PublicLaws.{length-window, window-overwritten_below}
 use Rattle.htx_arena.specs.Layout.Raw.{Tells, addr_in, len_in, block_in, block_of, info_len, blocks_of, addrs_of, payload_in}
 use Rattle.htx_arena.specs.Layout.Steps.{unlisted, placed}
 use Rattle.htx_arena.specs.Layout.Sound.{IsSound, end_of, IsTold, IsFilled, IsLaid}

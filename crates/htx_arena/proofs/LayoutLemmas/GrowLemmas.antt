@@ -3,9 +3,9 @@ use Rattle.std.proofs.Common.{refl, ◌≡◌, ◌≢◌, ℕ, ◌+◌, ◌*◌,
 use Rattle.std.proofs.Math.Seq.{take-add}
 use Rattle.std.proofs.lemmas.Bool.{cases_lt, cases_eq}
 use Rattle.std.proofs.lemmas.List.{take_all, drop-drop, take-append-drop}
-use Rattle.htx_space.specs.declared.space.Desc.{Desc}
-use Rattle.htx_space.specs.Windows.{desc_at, desc_place, desc_bytes, window, overwritten}
-use Rattle.htx_space.proofs.PublicLaws.{length-overwritten, length-window, window-overwritten_below, window-overwritten_above, window-overwritten_within, desc_at-overwritten, desc_at-overwritten_below, desc_at-written, length-desc_bytes}
+use Rattle.htx_arena.specs.declared.space.space.Desc.{Desc}
+use Rattle.htx_arena.specs.Space.Windows.{desc_at, desc_place, desc_bytes, window, overwritten}
+use Rattle.htx_arena.proofs.SpaceLemmas.PublicLaws.{length-overwritten, length-window, window-overwritten_below, window-overwritten_above, window-overwritten_within, desc_at-overwritten, desc_at-overwritten_below, desc_at-written, length-desc_bytes}
 use Rattle.htx_arena.specs.Layout.Raw.{addr_in, len_in, payload_in, block_in, block_of, info_len, blocks_of, addrs_of, Tells}
 use Rattle.htx_arena.specs.Layout.Sound.{IsSound, IsTold, end_of, IsLaid}
 use Rattle.htx_arena.specs.Layout.Moves.{CanPlace, IsOverwritten, CanRenew, IsRenewed, IsKept, IsOpen}

@@ -5,8 +5,8 @@ use Rattle.std.specs.List.{range_with_len}
 use Rattle.std.proofs.lemmas.Bool.{ne_eqb}
 use Rattle.htx_model.specs.Block.{Block, RequestLine, EndHeaders, payload_len}
 use Rattle.htx_model.specs.Blocks.{block_at}
-use Rattle.htx_space.specs.declared.space.Desc.{Desc}
-use Rattle.htx_space.specs.Windows.{window, desc_at}
+use Rattle.htx_arena.specs.declared.space.space.Desc.{Desc}
+use Rattle.htx_arena.specs.Space.Windows.{window, desc_at}
 use Rattle.htx_arena.specs.Layout.Raw.{addr_in, len_in, block_in, info_of, payload_of, blocks_of, addrs_of}
 use Rattle.htx_arena.specs.Layout.Sound.{IsLaid}
 use Rattle.htx_arena.specs.Layout.Held.{held, told_from, blocks_of as told_blocks}

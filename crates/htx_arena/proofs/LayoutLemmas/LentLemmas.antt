@@ -4,8 +4,8 @@ use Rattle.std.proofs.lemmas.List.{length-take-le}
 use Rattle.std.specs.List.{refill, length_refill}
 use Rattle.htx_model.specs.Block.{kind_of, value_of, HasValue, with_value}
 use Rattle.htx_model.specs.Blocks.{block_at}
-use Rattle.htx_space.specs.declared.space.Desc.{Desc}
-use Rattle.htx_space.specs.Windows.{window, overwritten}
+use Rattle.htx_arena.specs.declared.space.space.Desc.{Desc}
+use Rattle.htx_arena.specs.Space.Windows.{window, overwritten}
 use Rattle.htx_arena.specs.Layout.Raw.{info_len, block_in, blocks_of, addrs_of}
 use Rattle.htx_arena.specs.Layout.Sound.{IsSound, IsLaid, end_of}
 use Rattle.htx_arena.specs.Layout.Values.{value_start, value_length}

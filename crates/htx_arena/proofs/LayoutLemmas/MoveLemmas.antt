@@ -2,9 +2,9 @@
 use Rattle.std.proofs.Common.{subst, ◌≡◌, ◌≢◌, ℕ, ◌+◌, ◌*◌, ◌^◌, ◌<◌, ◌≤◌, inl, inr, List, length, get_or, set, drop, ap, sym, ◌∙◌, arith, length-drop}
 use Rattle.std.proofs.lemmas.List.{same_lists, length-take-le, length-set, get_or-set_same, get_or-set_other, take_all}
 use Rattle.std.proofs.lemmas.Bool.{cases_lt, cases_eq}
-use Rattle.htx_space.specs.declared.space.Desc.{Desc}
-use Rattle.htx_space.specs.Windows.{window, overwritten, desc_at, desc_place, desc_bytes}
-use Rattle.htx_space.proofs.PublicLaws.{length-overwritten, window-overwritten_below, window-overwritten_above, window-overwritten_within, desc_at-overwritten, desc_at-overwritten_below, desc_at-written, length-desc_bytes}
+use Rattle.htx_arena.specs.declared.space.space.Desc.{Desc}
+use Rattle.htx_arena.specs.Space.Windows.{window, overwritten, desc_at, desc_place, desc_bytes}
+use Rattle.htx_arena.proofs.SpaceLemmas.PublicLaws.{length-overwritten, window-overwritten_below, window-overwritten_above, window-overwritten_within, desc_at-overwritten, desc_at-overwritten_below, desc_at-written, length-desc_bytes}
 use Rattle.htx_arena.specs.Layout.Raw.{Tells, listed, addr_in, len_in, block_in, block_of, info_len, blocks_of, payload_in}
 use Rattle.htx_arena.specs.Layout.Sound.{IsSound, end_of, IsTold, IsFilled}
 use Rattle.htx_arena.specs.Layout.Moves.{IsShifted, CanMove, IsMoved}

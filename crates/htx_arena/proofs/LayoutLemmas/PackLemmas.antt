@@ -4,8 +4,8 @@ use Rattle.std.specs.List.{range_with_len}
 use Rattle.std.proofs.lemmas.Bool.{cases_lt, cases_eq, lt-ltb, le-ltb}
 use Rattle.std.proofs.lemmas.List.Sums.{sum_by-cons}
 use Rattle.htx_model.specs.Block.{payload_len}
-use Rattle.htx_space.specs.declared.space.Desc.{Desc}
-use Rattle.htx_space.specs.Windows.{desc_at}
+use Rattle.htx_arena.specs.declared.space.space.Desc.{Desc}
+use Rattle.htx_arena.specs.Space.Windows.{desc_at}
 use Rattle.htx_arena.specs.Layout.Raw.{addr_in, len_in, block_in, info_len, blocks_of, addrs_of, payload_in}
 use Rattle.htx_arena.specs.Layout.Sound.{IsSound, end_of, IsTold, IsFilled, IsTop}
 use Rattle.htx_arena.specs.Layout.Moves.{IsShifted, CanMove, IsMoved, IsNext, IsPast, IsUpTo}

@@ -2,8 +2,8 @@
 use Rattle.std.proofs.Common.{◌≡◌, ℕ, ◌+◌, ◌≤◌, List, ◌++◌, length, take, drop, ap, sym, ◌∙◌, arith, length-append, append_assoc}
 use Rattle.std.proofs.lemmas.List.{drop-drop, length-take-le}
 use Rattle.std.proofs.Math.Seq.{take-append_seam, drop-append-add}
-use Rattle.htx_space.specs.Windows.{overwritten}
-use Rattle.htx_space.proofs.PublicLaws.{length-overwritten}
+use Rattle.htx_arena.specs.Space.Windows.{overwritten}
+use Rattle.htx_arena.proofs.SpaceLemmas.PublicLaws.{length-overwritten}
 
 -- two pieces, one behind the other, are one piece
 pub overwritten_twice : (raw : List ℕ) (at : ℕ) (p q : List ℕ) → at + (length p + length q) ≤ length raw → overwritten (overwritten raw at p) (at + length p) q ≡ overwritten raw at (p ++ q)

@@ -7,8 +7,8 @@ use Rattle.htx_model.specs.Block.{Data, EndHeaders, kind_of, value_of, payload_l
 use Rattle.htx_model.specs.declared.Kind.TheVariants as kinds
 use Rattle.htx_model.proofs.PublicLaws.{data_is}
 use Rattle.htx_model.specs.Blocks.{load, block_at}
-use Rattle.htx_space.specs.declared.space.Desc.{Desc}
-use Rattle.htx_space.specs.Windows.{desc_at, window}
+use Rattle.htx_arena.specs.declared.space.space.Desc.{Desc}
+use Rattle.htx_arena.specs.Space.Windows.{desc_at, window}
 use Rattle.htx_arena.specs.Layout.Raw.{Tells, Describes, info_len, addr_in, len_in, block_in, block_of, payload_in, payload_of, blocks_of, addrs_of}
 use Rattle.htx_arena.specs.Layout.Sound.{IsLaid, IsTop, IsKnown, StaysLow, end_of}
 use Rattle.htx_arena.specs.declared.layout.scan.Ends.{Ends}

@@ -4,9 +4,9 @@ use Rattle.std.proofs.lemmas.Bool.{cases_lt, cases_eq}
 use Rattle.std.proofs.lemmas.List.{same_lists, length-take-le, length-append, take_all, get_or-take, get_or-drop, get_or_append_left, get_or-append_right}
 use Rattle.std.proofs.lemmas.List.Edits.{length-insert, get_or-insert_below, get_or-insert_at, get_or-insert_above}
 use Rattle.std.proofs.lemmas.List.FromFn.{length-map-range_with_len, get_or-map-range_with_len}
-use Rattle.htx_space.specs.declared.space.Desc.{Desc}
-use Rattle.htx_space.specs.Windows.{window, overwritten, shifted, desc_at, desc_place, desc_bytes}
-use Rattle.htx_space.proofs.PublicLaws.{length-overwritten, window-overwritten_below, window-overwritten_above, window-overwritten_within, desc_at-overwritten, desc_at-overwritten_below, desc_at-copied, desc_at-written, length-desc_bytes}
+use Rattle.htx_arena.specs.declared.space.space.Desc.{Desc}
+use Rattle.htx_arena.specs.Space.Windows.{window, overwritten, shifted, desc_at, desc_place, desc_bytes}
+use Rattle.htx_arena.proofs.SpaceLemmas.PublicLaws.{length-overwritten, window-overwritten_below, window-overwritten_above, window-overwritten_within, desc_at-overwritten, desc_at-overwritten_below, desc_at-copied, desc_at-written, length-desc_bytes}
 use Rattle.htx_arena.specs.Layout.Raw.{listed, addr_in, len_in, payload_in, block_in, block_of, info_len, blocks_of, addrs_of}
 use Rattle.htx_arena.specs.Layout.Steps.{unlisted, spread, listed_at, placed}
 use Rattle.htx_arena.specs.Layout.Sound.{IsSound, AreApart, end_of}

@@ -1,8 +1,8 @@
 -- When a last block of data grows where it stands.
 use Rattle.std.proofs.Common.{◌≡◌, ℕ, ◌+◌, ◌*◌, ◌<◌, ◌≤◌, inl, inr, List, length, sym, arith}
 use Rattle.std.proofs.lemmas.Bool.{cases_lt}
-use Rattle.htx_space.specs.declared.space.Desc.{Desc}
-use Rattle.htx_space.specs.Windows.{desc_at}
+use Rattle.htx_arena.specs.declared.space.space.Desc.{Desc}
+use Rattle.htx_arena.specs.Space.Windows.{desc_at}
 use Rattle.htx_arena.specs.Layout.Raw.{addr_in, len_in, info_len, blocks_of, addrs_of}
 use Rattle.htx_arena.specs.Layout.Sound.{IsSound, end_of, IsLaid}
 use Rattle.htx_arena.specs.Layout.Place.{top}

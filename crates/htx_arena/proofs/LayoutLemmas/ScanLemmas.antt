@@ -3,7 +3,7 @@ use Rattle.std.specs.List.{range_with_len}
 use Rattle.std.proofs.lemmas.Bool.{le-leb, lt-leb}
 use Rattle.std.specs.Option.{option_map_or}
 use Rattle.htx_model.specs.Block.{payload_len}
-use Rattle.htx_space.specs.Windows.{desc_at}
+use Rattle.htx_arena.specs.Space.Windows.{desc_at}
 use Rattle.htx_arena.specs.Layout.Raw.{addr_in, block_in}
 use Rattle.htx_arena.specs.Layout.Place.{top, low, least}
 use Rattle.htx_arena.specs.Layout.Sound.{IsTold, end_of}

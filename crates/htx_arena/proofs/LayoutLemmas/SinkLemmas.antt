@@ -1,9 +1,9 @@
 -- A payload is brought behind all others: its bytes by one rotation, and then the descriptors.
 use Rattle.std.proofs.Common.{subst, refl, ◌≡◌, ◌≢◌, ℕ, ◌+◌, ◌*◌, ◌-◌, ◌^◌, ◌<◌, ◌≤◌, inl, inr, List, ◌++◌, length, ap, sym, ◌∙◌, arith, length-append}
 use Rattle.std.proofs.lemmas.Bool.{cases_lt, cases_eq, le-leb, lt-leb, eq-eqb, ne_eqb}
-use Rattle.htx_space.specs.declared.space.Desc.{Desc}
-use Rattle.htx_space.specs.Windows.{desc_at, desc_place, desc_bytes, window, overwritten, rotated}
-use Rattle.htx_space.proofs.PublicLaws.{length-overwritten, length-window, window-overwritten_below, window-overwritten_within, desc_at-overwritten, desc_at-overwritten_below, desc_at-written, length-desc_bytes, window_back, window_front, window-window}
+use Rattle.htx_arena.specs.declared.space.space.Desc.{Desc}
+use Rattle.htx_arena.specs.Space.Windows.{desc_at, desc_place, desc_bytes, window, overwritten, rotated}
+use Rattle.htx_arena.proofs.SpaceLemmas.PublicLaws.{length-overwritten, length-window, window-overwritten_below, window-overwritten_within, desc_at-overwritten, desc_at-overwritten_below, desc_at-written, length-desc_bytes, window_back, window_front, window-window}
 use Rattle.htx_arena.specs.Layout.Raw.{addr_in, len_in, info_len}
 use Rattle.htx_arena.specs.Layout.Sound.{IsSound, AreApart, end_of}
 use Rattle.htx_arena.specs.Layout.Moves.{IsShifted, IsSunk, CanSink, sunk}

@@ -1,7 +1,7 @@
 -- A spot is free, and `front` parts the payloads again.
 use Rattle.std.proofs.Common.{subst, refl, ◌≡◌, ℕ, zero, suc, ◌+◌, ◌*◌, ◌<◌, ◌≤◌, inl, inr, List, length, ap, sym, ◌∙◌, arith, nat_le, nat_eq, if◌then◌else◌, Option, Some, None, Bool, true, false, min}
 use Rattle.std.proofs.lemmas.Bool.{cases_lt, cases_eq, le-leb, lt-leb, leb-true}
-use Rattle.htx_space.specs.Windows.{desc_at}
+use Rattle.htx_arena.specs.Space.Windows.{desc_at}
 use Rattle.htx_arena.specs.Layout.Raw.{addr_in, block_in, blocks_of, addrs_of}
 use Rattle.htx_arena.specs.Layout.Sound.{end_of, IsTold, IsParted}
 use Rattle.htx_arena.specs.Layout.Place.{top, low, least, spot, before, layout, layout_by, settled, settled_by}

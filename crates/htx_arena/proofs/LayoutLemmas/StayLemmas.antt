@@ -2,7 +2,7 @@
 use Rattle.std.proofs.Common.{refl, sym, ap, ◌≡◌, ◌≢◌, ℕ, ◌+◌, ◌*◌, ◌<◌, ◌≤◌, ◌⊎◌, inl, inr, List, length, arith, nat_le, nat_eq, if◌then◌else◌, Option, Some, None, Bool, true, false}
 use Rattle.std.proofs.lemmas.Bool.{leb-true, eqb-true}
 use Rattle.std.proofs.lemmas.Option.{none-some}
-use Rattle.htx_space.specs.Windows.{desc_at}
+use Rattle.htx_arena.specs.Space.Windows.{desc_at}
 use Rattle.htx_arena.specs.Layout.Raw.{addr_in, len_in, info_len, block_in, blocks_of, addrs_of}
 use Rattle.htx_arena.specs.Layout.Sound.{IsLaid, end_of}
 use Rattle.htx_arena.specs.Layout.Place.{top, low, grown_at_top, grown_at_front, stays}

@@ -5,8 +5,8 @@ use Rattle.htx_model.specs.Block.{EndHeaders, kind_of, name_of, line_of, payload
 use Rattle.htx_model.specs.Blocks.{block_at}
 use Rattle.htx_model.specs.declared.Kind.{Kind}
 use Rattle.htx_model.specs.declared.Kind.TheVariants as kinds
-use Rattle.htx_space.specs.Windows.{window, word_at}
-use Rattle.htx_space.proofs.PublicLaws.{word_at_is, length-window}
+use Rattle.htx_arena.specs.Space.Windows.{window, word_at}
+use Rattle.htx_arena.proofs.SpaceLemmas.PublicLaws.{word_at_is, length-window}
 use Rattle.htx_arena.specs.Layout.Raw.{Tells, info_kind, info_len, name_len, line_head, payload_of, block_by, block_of, block_in, payload_in, addr_in, len_in, listed, blocks_of, addrs_of}
 use Rattle.htx_arena.specs.Layout.Sound.{IsSound, IsTold}
 use Rattle.htx_arena.proofs.LayoutLemmas.RawLemmas.{length-listed, get_or-listed}

@@ -4,7 +4,7 @@ use Rattle.std.specs.Prelude.{insert, remove}
 use Rattle.std.proofs.lemmas.Bool.{cases_lt}
 use Rattle.htx_model.specs.Block.{Block, payload_len}
 use Rattle.htx_model.specs.Blocks.{block_at}
-use Rattle.htx_space.specs.Windows.{desc_at}
+use Rattle.htx_arena.specs.Space.Windows.{desc_at}
 use Rattle.htx_arena.specs.Layout.Raw.{addr_in, block_in, len_in, blocks_of, addrs_of}
 use Rattle.htx_arena.specs.Layout.Place.{top}
 use Rattle.htx_arena.specs.Layout.Sound.{IsSound, IsTold, IsTop, IsLaid, end_of}

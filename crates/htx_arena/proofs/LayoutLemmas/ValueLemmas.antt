@@ -5,9 +5,9 @@ use Rattle.std.proofs.lemmas.Bool.{cases_lt, cases_eq}
 use Rattle.htx_model.specs.Block.{Block, RequestLine, Header, Data, Trailer, block, kind_of, value_of, payload_len, HasValue, IsFieldKind, with_value}
 use Rattle.htx_model.specs.declared.Kind.{Kind}
 use Rattle.htx_model.specs.declared.Kind.TheVariants as kinds
-use Rattle.htx_space.specs.declared.space.Desc.{Desc}
-use Rattle.htx_space.specs.Windows.{window, overwritten, desc_at}
-use Rattle.htx_space.proofs.PublicLaws.{length-overwritten, window-overwritten_below, window-overwritten_above, window-overwritten_within, desc_at-overwritten}
+use Rattle.htx_arena.specs.declared.space.space.Desc.{Desc}
+use Rattle.htx_arena.specs.Space.Windows.{window, overwritten, desc_at}
+use Rattle.htx_arena.proofs.SpaceLemmas.PublicLaws.{length-overwritten, window-overwritten_below, window-overwritten_above, window-overwritten_within, desc_at-overwritten}
 use Rattle.htx_arena.specs.Layout.Raw.{addr_in, len_in, payload_in, info_of, payload_of, Tells, block_in, block_of, block_by, info_len, info_kind, len_by, name_len, value_len, blocks_of, addrs_of}
 use Rattle.htx_arena.specs.Layout.Sound.{IsSound, AreApart, end_of, IsTold}
 use Rattle.htx_arena.specs.Layout.Values.{value_off, value_size, value_start, value_length}

@@ -3,8 +3,8 @@ use Rattle.std.proofs.Common.{◌≡◌, ℕ, ◌+◌, ◌*◌, ◌≤◌, ◌<�
 use Rattle.htx_model.specs.Block.{Block, kind_of, payload_len, weight}
 use Rattle.htx_model.specs.Blocks.{load, block_at}
 use Rattle.htx_model.proofs.PublicLaws.{load-payloads, load-set, load-remove, load-take_drop}
-use Rattle.htx_space.specs.declared.space.Desc.{Desc}
-use Rattle.htx_space.specs.Windows.{desc_at}
+use Rattle.htx_arena.specs.declared.space.space.Desc.{Desc}
+use Rattle.htx_arena.specs.Space.Windows.{desc_at}
 use Rattle.htx_arena.specs.Layout.Raw.{Tells, Describes, info_kind, block_of, addr_in, block_in, payload_in, payload_of, len_in, blocks_of, addrs_of}
 use Rattle.htx_arena.specs.Layout.Sound.{IsLaid, IsTold, IsTop, IsKnown}
 use Rattle.htx_arena.specs.declared.layout.scan.Ends.{Ends}

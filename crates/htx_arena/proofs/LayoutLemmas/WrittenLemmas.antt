@@ -6,7 +6,7 @@ use Rattle.std.specs.List.{refill, length_refill}
 use Rattle.htx_model.specs.Block.{kind_of, value_of, HasValue, with_value}
 use Rattle.htx_model.specs.Blocks.{load, block_at}
 use Rattle.htx_model.proofs.PublicLaws.{load-set}
-use Rattle.htx_space.specs.Windows.{window, overwritten}
+use Rattle.htx_arena.specs.Space.Windows.{window, overwritten}
 use Rattle.htx_arena.specs.Layout.Raw.{block_in, blocks_of}
 use Rattle.htx_arena.specs.Layout.Values.{value_start, value_length}
 use Rattle.htx_arena.proofs.LayoutLemmas.RawLemmas.{length-listed}

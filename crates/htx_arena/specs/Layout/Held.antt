@@ -2,7 +2,7 @@
 use Rattle.std.specs.Prelude.{ℕ, zero, suc, Bool, ◌≡◌, ◌+◌, ◌*◌, ◌/◌, ◌^◌, ◌<◌, ◌≤◌, ◌⊎◌, List, [], ◌∷◌, length, slice_index, nat_eq, if◌then◌else◌}
 use Rattle.htx_model.specs.Block.{Block, payload_len}
 use Rattle.htx_model.specs.Blocks.{block_at}
-use Rattle.htx_space.specs.Windows.{window, desc_at}
+use Rattle.htx_arena.specs.Space.Windows.{window, desc_at}
 use Rattle.htx_arena.specs.Layout.Raw.{info_of, payload_of, block_in}
 
 -- The array's first descriptors and the payload bytes at their addresses are those of these blocks at these

@@ -1,6 +1,6 @@
 -- A payload that becomes longer: bytes of its own that stand in the array, and others behind them.
 use Rattle.std.specs.Prelude.{ℕ, ◌≡◌, ◌+◌, ◌<◌, ◌≤◌, ◌++◌, List, length}
-use Rattle.htx_space.specs.Windows.{window}
+use Rattle.htx_arena.specs.Space.Windows.{window}
 use Rattle.htx_arena.specs.Layout.Raw.{info_len, Tells}
 use Rattle.htx_arena.specs.declared.layout.longer.Longer.{Longer}
 

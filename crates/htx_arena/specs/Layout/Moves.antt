@@ -1,7 +1,7 @@
 -- What the steps of an edit need, and what they leave as it was.
 use Rattle.std.specs.Prelude.{ℕ, ◌+◌, ◌-◌, ◌*◌, ◌^◌, ◌≡◌, ◌≢◌, ◌<◌, ◌≤◌, ◌⊎◌, List, length, nat_le, nat_eq, if◌then◌else◌}
-use Rattle.htx_space.specs.declared.space.Desc.{Desc}
-use Rattle.htx_space.specs.Windows.{desc_at}
+use Rattle.htx_arena.specs.declared.space.space.Desc.{Desc}
+use Rattle.htx_arena.specs.Space.Windows.{desc_at}
 use Rattle.htx_arena.specs.Layout.Raw.{addr_in, len_in, info_len, payload_in}
 use Rattle.htx_arena.specs.Layout.Sound.{IsSound, IsFilled, IsParted, end_of}
 use Rattle.htx_arena.specs.declared.layout.scan.Spot.{Spot}

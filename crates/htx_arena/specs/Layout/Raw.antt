@@ -5,7 +5,7 @@ use Rattle.std.specs.Int.{to_le_bytes, w32}
 use Rattle.htx_model.specs.Block.{Block, RequestLine, ResponseLine, Header, EndHeaders, Data, Trailer, EndTrailers, block, kind_of, payload_len, IsFieldKind}
 use Rattle.htx_model.specs.declared.Kind.{Kind}
 use Rattle.htx_model.specs.declared.Kind.TheVariants as kinds
-use Rattle.htx_space.specs.Windows.{window, word_at, desc_at}
+use Rattle.htx_arena.specs.Space.Windows.{window, word_at, desc_at}
 
 -- ---- what a block's descriptor and payload are
 

@@ -1,7 +1,7 @@
 -- What holds of an array between two calls.
 use Rattle.std.specs.Prelude.{ℕ, Option, Some, ◌≡◌, ◌+◌, ◌*◌, ◌<◌, ◌≤◌, ◌⊎◌, List, length}
-use Rattle.htx_space.specs.declared.space.Desc.{Desc}
-use Rattle.htx_space.specs.Windows.{desc_at}
+use Rattle.htx_arena.specs.declared.space.space.Desc.{Desc}
+use Rattle.htx_arena.specs.Space.Windows.{desc_at}
 use Rattle.htx_arena.specs.Layout.Raw.{info_len, addr_in, len_in, payload_in, blocks_of, addrs_of, Tells}
 use Rattle.htx_arena.specs.Layout.Place.{top, low}
 use Rattle.htx_arena.specs.declared.layout.scan.Ends.{Ends}

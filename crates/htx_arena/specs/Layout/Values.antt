@@ -2,7 +2,7 @@
 use Rattle.std.specs.Prelude.{ℕ, ◌+◌, ◌%◌, ◌^◌, List}
 use Rattle.htx_model.specs.declared.Kind.{Kind}
 use Rattle.htx_model.specs.declared.Kind.TheVariants as kinds
-use Rattle.htx_space.specs.Windows.{desc_at}
+use Rattle.htx_arena.specs.Space.Windows.{desc_at}
 use Rattle.htx_arena.specs.Layout.Raw.{name_len, value_len, info_kind, addr_in}
 
 -- where in a payload the value lies: behind the name of a field

@@ -12,8 +12,8 @@ mod replace;
 
 use crate::layout::scan::Ends;
 use crate::layout::words::Info;
+use crate::space::Space;
 use htx_model::{Kind, OutOfMemory};
-use htx_space::Space;
 use std::alloc::Global;
 use std::marker::Model;
 

@@ -9,7 +9,7 @@ ghost use Rattle.htx_arena.specs.Layout.Moves.{CanRenew, IsRenewed};
 use crate::layout::pack;
 use crate::layout::payload::{self, Payload};
 use crate::layout::words::Info;
-use htx_space::{Desc, Space};
+use crate::space::{Desc, Space};
 
 /// Writes bytes behind the first ones of a payload, where it stands.
 pub fn rewrite(space: &mut Space, count: u32, index: u32, keep: u32, info: Info, more: &Payload<'_>)

@@ -5,10 +5,10 @@ ghost use Rattle.htx_arena.specs.Layout.Sound.{IsSound, IsLaid, end_of};
 ghost use Rattle.htx_arena.specs.Layout.Moves.{CanPlace};
 ghost use Rattle.htx_arena.specs.Layout.Steps.{unlisted, placed};
 ghost use Rattle.htx_arena.specs.Layout.Values.{value_start, value_length};
-ghost use Rattle.htx_space.specs.Windows.{window};
+ghost use Rattle.htx_arena.specs.Space.Windows.{window};
 
 use crate::layout::payload::{self, Payload};
-use htx_space::{Desc, Space};
+use crate::space::{Desc, Space};
 
 /// Takes out `n` blocks from a number on, in one move of the descriptors behind them. Their payloads stay as holes.
 #[tactic(auto, using(crate::proofs::LayoutLemmas::RawLemmas::raws))]

@@ -6,12 +6,12 @@ ghost use Rattle.htx_arena.specs.Layout.Sound.{IsLaid, IsTop, IsKnown};
 ghost use Rattle.htx_arena.specs.Layout.Place.{packed, layout};
 ghost use Rattle.htx_arena.specs.Layout.Moves.{IsSite, IsOpen, IsKept};
 ghost use Rattle.htx_arena.specs.Layout.Longer.{IsLonger, longer_bytes};
-ghost use Rattle.htx_space.specs.Windows.{window};
+ghost use Rattle.htx_arena.specs.Space.Windows.{window};
 
 use crate::layout::scan::{self, Ends, Spot};
 use crate::layout::words::Info;
 use crate::layout::{change, edits};
-use htx_space::{Desc, Space};
+use crate::space::{Desc, Space};
 
 /// A payload that becomes longer: bytes of its own, which stand in the array at `from`, as many as `kept` tells, and
 /// `more` behind them.

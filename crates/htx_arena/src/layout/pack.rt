@@ -3,12 +3,12 @@ ghost use Rattle.std.specs.Prelude.{◌≡◌, ◌+◌, ◌-◌, ◌*◌, ◌^�
 ghost use Rattle.htx_model.specs.Block.{payload_len};
 ghost use Rattle.htx_arena.specs.Layout.Raw.{blocks_of, addrs_of, addr_in};
 ghost use Rattle.htx_arena.specs.Layout.Sound.{IsSound, IsTold, IsFilled, IsLaid, IsTop, end_of};
-ghost use Rattle.htx_space.specs.Windows.{desc_at};
+ghost use Rattle.htx_arena.specs.Space.Windows.{desc_at};
 ghost use Rattle.htx_arena.specs.Layout.Place.{packed};
 ghost use Rattle.htx_arena.specs.Layout.Moves.{CanMove, IsMoved, IsShifted, IsNext, IsPast, IsUpTo, CanSink, IsSunk, IsLast};
 
 use crate::layout::words::Info;
-use htx_space::{Desc, Space};
+use crate::space::{Desc, Space};
 
 /// The number of the payload with the least address at or above a place. `hint` is looked at first.
 fn next_of(space: &Space, count: u32, from: u32, hint: u32) -> Option<u32>

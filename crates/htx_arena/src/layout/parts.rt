@@ -4,10 +4,10 @@ ghost use Rattle.htx_model.specs.Block.{IsFieldKind};
 ghost use Rattle.htx_arena.specs.Layout.Raw.{payload_in, info_kind, name_len};
 ghost use Rattle.htx_arena.specs.Layout.Sound.{IsSound};
 ghost use Rattle.htx_arena.specs.Layout.Values.{value_start, value_length};
-ghost use Rattle.htx_space.specs.Windows.{window, word_at, desc_at};
+ghost use Rattle.htx_arena.specs.Space.Windows.{window, word_at, desc_at};
 
 use crate::layout::words::{self, Info};
-use htx_space::{Space, word};
+use crate::space::{Space, word};
 
 /// The bytes of a payload.
 pub fn payload(space: &Space, count: u32, index: u32) -> &[u8]

@@ -1,8 +1,8 @@
 //! A payload in up to four pieces, and how it is written, without joining them first. It knows no kind of block.
 ghost use Rattle.std.specs.Prelude.{◌≡◌, ◌+◌, ◌≤◌, ◌++◌, length};
-ghost use Rattle.htx_space.specs.Windows.{overwritten};
+ghost use Rattle.htx_arena.specs.Space.Windows.{overwritten};
 
-use htx_space::Space;
+use crate::space::Space;
 use std::marker::Model;
 
 /// A payload in pieces, which are written one behind the other.

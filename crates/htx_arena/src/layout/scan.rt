@@ -3,13 +3,13 @@ ghost use Rattle.std.specs.Prelude.{ℕ, Option, Some, ◌≡◌, ◌+◌, ◌-�
 ghost use Rattle.std.specs.Option.{option_map_or};
 ghost use Rattle.htx_arena.specs.Layout.Raw.{blocks_of, addrs_of, addr_in, len_in, block_in};
 ghost use Rattle.htx_arena.specs.Layout.Sound.{IsSound, IsTold, IsLaid, IsTop, IsKnown, StaysLow, end_of};
-ghost use Rattle.htx_space.specs.Windows.{desc_at};
+ghost use Rattle.htx_arena.specs.Space.Windows.{desc_at};
 ghost use Rattle.htx_arena.specs.Layout.Place.{top, low, spot, stays, grown_at_top as top_growth, grown_at_front as front_growth, before as before_spot};
 ghost use Rattle.htx_model.specs.Block.{payload_len};
 ghost use Rattle.htx_model.specs.Blocks.{load};
 
 use crate::layout::words::Info;
-use htx_space::Space;
+use crate::space::Space;
 
 /// Where the bytes in use end: at the beginning since wrapping, or 0, and at the top; and the least address at or above
 /// `front`, where it is known.

@@ -9,7 +9,7 @@ ghost use Rattle.htx_arena.specs.Layout.Moves.{IsSite};
 use crate::layout::new_block::NewBlock;
 use crate::layout::scan::{self, Ends, Spot};
 use crate::layout::{edits, pack};
-use htx_space::{Desc, Space};
+use crate::space::{Desc, Space};
 
 /// Where a payload goes, and the ends of the bytes in use among the others.
 #[derive(Clone, Copy)]

@@ -1,12 +1,12 @@
 //! The words that describe a payload: the packed word of a descriptor, and the lengths of a start line's parts.
 ghost use Rattle.std.specs.Prelude.{◌≡◌, ◌+◌, ◌*◌, ◌^◌, ◌<◌, ◌≤◌, length};
 ghost use Rattle.htx_arena.specs.Layout.Raw.{info_len, info_kind, name_len, value_len, code_of, line_head as head_bytes};
-ghost use Rattle.htx_space.specs.Windows.{desc_at};
+ghost use Rattle.htx_arena.specs.Space.Windows.{desc_at};
 ghost use Rattle.htx_arena.specs.Layout.Sound.{end_of};
 ghost use Rattle.htx_arena.specs.Layout.Values.{value_start, value_length};
 
+use crate::space::Space;
 use htx_model::Kind;
-use htx_space::Space;
 
 /// The packed word of a descriptor: four bits for the type, then 20 for the length of a field's value and 8 for that of
 /// its name, or 28 for the length of any other payload.

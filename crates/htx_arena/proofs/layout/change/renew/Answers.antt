@@ -1,8 +1,8 @@
 use Rattle.std.proofs.Common.{◌≡◌, ◌++◌, ◌∙◌, ap, subst, List, ℕ, length, arith, inr, set, take}
 use Rattle.std.proofs.lemmas.List.{take_all}
 use Rattle.htx_model.specs.Block.{Block}
-use Rattle.htx_space.specs.declared.space.Desc.{Desc}
-use Rattle.htx_space.proofs.PublicLaws.{length-window}
+use Rattle.htx_arena.specs.declared.space.space.Desc.{Desc}
+use Rattle.htx_arena.proofs.SpaceLemmas.PublicLaws.{length-window}
 use Rattle.htx_arena.specs.Layout.Raw.{info_len, addr_in, len_in, payload_in, block_of}
 use Rattle.htx_arena.specs.Layout.Sound.{IsTop}
 use Rattle.htx_arena.specs.Layout.Moves.{CanRenew, IsRenewed}

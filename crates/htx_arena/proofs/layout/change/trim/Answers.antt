@@ -1,5 +1,5 @@
 use Rattle.std.proofs.Common.{◌≡◌, ◌+◌, ◌∙◌, subst, sym, ap, arith, drop, ℕ, List}
-use Rattle.htx_space.specs.declared.space.Desc.{Desc}
+use Rattle.htx_arena.specs.declared.space.space.Desc.{Desc}
 use Rattle.htx_arena.specs.Layout.Raw.{addr_in, payload_in}
 use Rattle.htx_arena.specs.Layout.Moves.{IsRenewed}
 use Rattle.htx_arena.proofs.LayoutLemmas.GrowLemmas.{redescribed}

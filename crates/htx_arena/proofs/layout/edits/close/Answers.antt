@@ -1,5 +1,5 @@
 use Rattle.std.proofs.Common.{◌≡◌, ◌∙◌, ◌+◌, ◌-◌, ◌*◌, subst, sym, ap, ℕ, List}
-use Rattle.htx_space.specs.Windows.{window, overwritten}
+use Rattle.htx_arena.specs.Space.Windows.{window, overwritten}
 use Rattle.htx_arena.specs.Layout.Sound.{IsLaid}
 use Rattle.htx_arena.specs.Layout.Steps.{unlisted}
 use Rattle.htx_arena.proofs.LayoutLemmas.EachLemmas.{IsLaid-unlisted}

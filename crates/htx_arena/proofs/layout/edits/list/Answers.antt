@@ -1,5 +1,5 @@
 use Rattle.std.proofs.Common.{◌≡◌, ◌∙◌, ap, List, ℕ}
-use Rattle.htx_space.specs.Windows.{overwritten, desc_place, desc_bytes}
+use Rattle.htx_arena.specs.Space.Windows.{overwritten, desc_place, desc_bytes}
 use Rattle.htx_arena.specs.Layout.Steps.{listed_at}
 use Rattle.htx_arena.proofs.LayoutLemmas.RawLemmas.{shift_up}
 use Rattle.htx_arena.proofs.LayoutLemmas.GrowLemmas.{listed_placed}

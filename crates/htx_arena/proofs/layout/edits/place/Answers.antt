@@ -1,5 +1,5 @@
 use Rattle.std.proofs.Common.{arith, ◌≡◌, ◌∙◌, ◌+◌, length, ap, subst, sym, List, ℕ}
-use Rattle.htx_space.specs.Windows.{overwritten, desc_place, desc_bytes}
+use Rattle.htx_arena.specs.Space.Windows.{overwritten, desc_place, desc_bytes}
 use Rattle.htx_arena.specs.Layout.Raw.{blocks_of, addrs_of}
 use Rattle.htx_arena.specs.Layout.Sound.{IsSound}
 use Rattle.htx_arena.specs.Layout.Steps.{listed_at, placed}

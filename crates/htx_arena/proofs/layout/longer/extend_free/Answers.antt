@@ -1,8 +1,8 @@
 use Rattle.std.proofs.Common.{◌≡◌, ◌+◌, ◌∙◌, subst, sym, ap, List, ℕ, length, arith, refl}
 use Rattle.std.specs.Prelude.{insert}
-use Rattle.htx_space.specs.declared.space.Desc.{Desc}
-use Rattle.htx_space.specs.Windows.{window}
-use Rattle.htx_space.proofs.PublicLaws.{length-window}
+use Rattle.htx_arena.specs.declared.space.space.Desc.{Desc}
+use Rattle.htx_arena.specs.Space.Windows.{window}
+use Rattle.htx_arena.proofs.SpaceLemmas.PublicLaws.{length-window}
 use Rattle.htx_arena.specs.Layout.Raw.{Tells, info_len, block_of, blocks_of, addrs_of}
 use Rattle.htx_arena.specs.Layout.Moves.{CanPlace}
 use Rattle.htx_arena.specs.Layout.Sound.{IsLaid}

@@ -1,5 +1,5 @@
 use Rattle.std.proofs.Common.{◌≡◌, ◌+◌, ◌∙◌, subst, sym, ap, List, ℕ, length}
-use Rattle.htx_space.specs.Windows.{window, overwritten}
+use Rattle.htx_arena.specs.Space.Windows.{window, overwritten}
 use Rattle.htx_arena.specs.Layout.Raw.{info_len}
 use Rattle.htx_arena.specs.Layout.Moves.{IsKept, IsOpen}
 use Rattle.htx_arena.specs.Layout.Longer.{kept_bytes, longer_bytes}

@@ -1,6 +1,6 @@
 use Rattle.std.proofs.Common.{◌≡◌, ◌+◌, subst, sym, ap, ℕ, arith, ◌∙◌}
-use Rattle.htx_space.specs.declared.space.Desc.{Desc}
-use Rattle.htx_space.specs.Windows.{desc_at}
+use Rattle.htx_arena.specs.declared.space.space.Desc.{Desc}
+use Rattle.htx_arena.specs.Space.Windows.{desc_at}
 use Rattle.htx_arena.specs.Layout.Raw.{info_len, len_in}
 use Rattle.htx_arena.specs.Layout.Sound.{end_of}
 use Rattle.htx_arena.proofs.LayoutLemmas.PackLemmas.{Packing, packing_begins, next_can_move, packing_goes_on, packing_shifts, packing_ends, packing_up_to, packing_total, packing_top}

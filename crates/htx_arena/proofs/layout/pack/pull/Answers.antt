@@ -1,6 +1,6 @@
 use Rattle.std.proofs.Common.{◌≡◌, ◌<◌, ◌^◌, subst, sym, ap, List, ℕ, arith}
-use Rattle.htx_space.specs.declared.space.Desc.{Desc}
-use Rattle.htx_space.specs.Windows.{desc_at}
+use Rattle.htx_arena.specs.declared.space.space.Desc.{Desc}
+use Rattle.htx_arena.specs.Space.Windows.{desc_at}
 use Rattle.htx_arena.specs.Layout.Moves.{IsMoved}
 use Rattle.htx_arena.proofs.LayoutLemmas.MoveLemmas.{moved, moved_is}
 use Rattle.htx_arena.proofs.layout.pack.pull.Goals as goal

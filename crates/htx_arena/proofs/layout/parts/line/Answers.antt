@@ -1,6 +1,6 @@
 use Rattle.std.proofs.Common.{◌+◌, ◌∙◌, ap, take, drop}
 use Rattle.std.proofs.lemmas.List.{drop-drop}
-use Rattle.htx_space.specs.Windows.{window}
+use Rattle.htx_arena.specs.Space.Windows.{window}
 use Rattle.htx_arena.proofs.layout.parts.line.Goals as goal
 
 pub returns-clause-third : goal.returns-clause-third

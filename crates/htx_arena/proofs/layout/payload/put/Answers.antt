@@ -1,5 +1,5 @@
 use Rattle.std.proofs.Common.{◌+◌, ◌∙◌, ap, List, ℕ, length, arith}
-use Rattle.htx_space.specs.Windows.{overwritten}
+use Rattle.htx_arena.specs.Space.Windows.{overwritten}
 use Rattle.htx_arena.proofs.LayoutLemmas.PieceLemmas.{overwritten_four, length-four}
 use Rattle.htx_arena.proofs.layout.payload.put.Goals as goal
 

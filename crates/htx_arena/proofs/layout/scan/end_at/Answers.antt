@@ -1,5 +1,5 @@
 use Rattle.std.proofs.Common.{arith, ap}
-use Rattle.htx_space.specs.declared.space.Desc.{Desc}
+use Rattle.htx_arena.specs.declared.space.space.Desc.{Desc}
 use Rattle.htx_arena.specs.Layout.Raw.{info_len}
 use Rattle.htx_arena.proofs.layout.scan.end_at.Goals as goal
 

@@ -1,5 +1,5 @@
 use Rattle.std.proofs.Common.{rules, ◌≡◌, ◌+◌, ◌-◌, max, arith, ap, sym, ◌∙◌, Some}
-use Rattle.htx_space.specs.declared.space.Desc.{Desc}
+use Rattle.htx_arena.specs.declared.space.space.Desc.{Desc}
 use Rattle.htx_arena.proofs.LayoutLemmas.ScanLemmas.{top_from_all, top_step, low_from, low_skipped, low_taken, merged}
 use Rattle.htx_arena.proofs.LayoutLemmas.TopLemmas.{is_top}
 use Rattle.htx_arena.proofs.layout.scan.ends_of.Goals as goal

@@ -4,8 +4,8 @@ use Rattle.std.proofs.lemmas.List.{drop_all}
 use Rattle.std.proofs.lemmas.List.Sums.{sum_by-drop_more, sum_by-take-drop}
 use Rattle.htx_model.specs.Block.{weight, payload_len, EndHeaders}
 use Rattle.htx_model.specs.Blocks.{load, block_at}
-use Rattle.htx_space.specs.declared.space.Desc.{Desc}
-use Rattle.htx_space.specs.Windows.{desc_at}
+use Rattle.htx_arena.specs.declared.space.space.Desc.{Desc}
+use Rattle.htx_arena.specs.Space.Windows.{desc_at}
 use Rattle.htx_arena.specs.Layout.Raw.{block_in, len_in, info_len, blocks_of}
 use Rattle.htx_arena.specs.Layout.Sound.{IsTold, end_of}
 use Rattle.htx_arena.proofs.LayoutLemmas.RawLemmas.{length-listed, get_or-listed}

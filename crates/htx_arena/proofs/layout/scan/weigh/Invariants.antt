@@ -1,6 +1,6 @@
 use Rattle.std.proofs.Common.{ℕ, ◌≡◌, ◌≤◌, ◌<◌, ◌+◌, drop}
 use Rattle.htx_model.specs.Blocks.{load}
-use Rattle.htx_space.specs.Windows.{desc_at}
+use Rattle.htx_arena.specs.Space.Windows.{desc_at}
 use Rattle.htx_arena.specs.Layout.Raw.{blocks_of}
 use Rattle.htx_arena.specs.Layout.Sound.{end_of}
 use Rattle.htx_arena.proofs.layout.scan.weigh.Given as goal

@@ -1,5 +1,5 @@
 use Rattle.std.proofs.Common.{◌∙◌, ap, sym}
-use Rattle.htx_space.specs.declared.space.Desc.{Desc}
+use Rattle.htx_arena.specs.declared.space.space.Desc.{Desc}
 use Rattle.htx_arena.proofs.LayoutLemmas.WholeLemmas.{at}
 use Rattle.htx_arena.proofs.layout.array.Array.addr.Goals as goal
 

@@ -1,5 +1,5 @@
 use Rattle.std.proofs.Common.{◌++◌, ◌∙◌, ap, sym, arith, set}
-use Rattle.htx_space.specs.declared.space.Desc.{Desc}
+use Rattle.htx_arena.specs.declared.space.space.Desc.{Desc}
 use Rattle.htx_arena.specs.Layout.Raw.{block_of, info_len}
 use Rattle.htx_arena.specs.Layout.Longer.{longer_bytes}
 use Rattle.htx_arena.specs.declared.layout.longer.Longer.{Longer}

@@ -1,6 +1,6 @@
 use Rattle.std.proofs.Common.{ℕ, ap, subst, arith, refl, length}
 use Rattle.std.specs.Prelude.{IfSome}
-use Rattle.htx_space.specs.declared.space.Desc.{Desc}
+use Rattle.htx_arena.specs.declared.space.space.Desc.{Desc}
 use Rattle.htx_arena.specs.Layout.Sound.{StaysLow}
 use Rattle.htx_arena.proofs.LayoutLemmas.WholeLemmas.{at}
 use Rattle.htx_arena.proofs.LayoutLemmas.PlaceLemmas.{may_extend, extended}

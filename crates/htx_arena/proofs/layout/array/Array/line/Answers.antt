@@ -1,6 +1,6 @@
 use Rattle.std.proofs.Common.{◌≡◌, ◌+◌, ◌≤◌, ◌∙◌, ap, sym, subst, arith, List, ℕ, length}
 use Rattle.htx_model.specs.Block.{line_of, IsLineKind}
-use Rattle.htx_space.specs.Windows.{desc_at, word_at, window}
+use Rattle.htx_arena.specs.Space.Windows.{desc_at, word_at, window}
 use Rattle.htx_arena.specs.Layout.Raw.{payload_in}
 use Rattle.htx_arena.proofs.LayoutLemmas.TellLemmas.{line_told, line_fits, length-payload_in}
 use Rattle.htx_arena.proofs.LayoutLemmas.WholeLemmas.{at, kind_at}

@@ -1,6 +1,6 @@
 use Rattle.std.proofs.Common.{◌∙◌, ap, sym, subst}
 use Rattle.htx_model.specs.Block.{name_of, IsFieldKind}
-use Rattle.htx_space.specs.Windows.{desc_at}
+use Rattle.htx_arena.specs.Space.Windows.{desc_at}
 use Rattle.htx_arena.specs.Layout.Raw.{payload_in}
 use Rattle.htx_arena.proofs.LayoutLemmas.TellLemmas.{name_told}
 use Rattle.htx_arena.proofs.LayoutLemmas.WholeLemmas.{at, kind_at}

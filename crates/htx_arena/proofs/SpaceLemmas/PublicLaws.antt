@@ -1,9 +1,9 @@
 -- The public laws of windows and descriptors.
 use Rattle.std.proofs.Common.{◌≡◌, ℕ, ◌+◌, ◌≤◌, List, length, ◌++◌, ◌^◌, ◌<◌, ◌*◌}
 use Rattle.std.specs.Int.{to_le_bytes, w32}
-use Rattle.htx_space.specs.Windows.{overwritten, window, desc_bytes, word_at, desc_place, desc_at}
-use Rattle.htx_space.specs.declared.space.Desc.{Desc}
-use Rattle.htx_space.proofs.WindowLemmas as window_lemmas
+use Rattle.htx_arena.specs.Space.Windows.{overwritten, window, desc_bytes, word_at, desc_place, desc_at}
+use Rattle.htx_arena.specs.declared.space.space.Desc.{Desc}
+use Rattle.htx_arena.proofs.SpaceLemmas.WindowLemmas as window_lemmas
 
 -- A piece that is written within the bytes leaves their length.
 pub length-overwritten : (bytes : List ℕ) (at : ℕ) (piece : List ℕ) → at + length piece ≤ length bytes → length (overwritten bytes at piece) ≡ length bytes

@@ -1,6 +1,6 @@
 use Rattle.std.specs.Prelude.{ℕ, Bool, ◌+◌, ◌-◌, ◌*◌, List, ◌++◌, length, take, drop, if◌then◌else◌}
 use Rattle.std.specs.Int.{from_le_bytes, to_le_bytes, w32}
-use Rattle.htx_space.specs.declared.space.Desc.{Desc}
+use Rattle.htx_arena.specs.declared.space.space.Desc.{Desc}
 
 -- the len bytes from `at` on
 abbrev pub window : List ℕ → ℕ → ℕ → List ℕ

@@ -1,8 +1,8 @@
 //! The bytes, of a fixed number: written, lent, moved and rotated; and descriptors of eight bytes among them, read, written and moved.
 ghost use Rattle.std.specs.Prelude.{◌≡◌, ◌+◌, ◌-◌, ◌*◌, ◌^◌, ◌<◌, ◌≤◌, length, IfOk, IsTrue, IsFalse, replicate, ◌++◌, take, drop};
-ghost use Rattle.htx_space.specs.Windows.{window, overwritten, rotated, desc_at, desc_bytes, desc_place, shifted};
+ghost use Rattle.htx_arena.specs.Space.Windows.{window, overwritten, rotated, desc_at, desc_bytes, desc_place, shifted};
 
-use crate::lend;
+use crate::space::lend;
 use htx_model::OutOfMemory;
 use std::alloc::Global;
 use std::marker::Model;
@@ -32,7 +32,7 @@ impl Model for Space {
 
 impl Space {
     ghost use Rattle.std.specs.Borrow.{sem};
-    ghost use Rattle.htx_space.specs.SpaceLends.{LendsWindow};
+    ghost use Rattle.htx_arena.specs.Space.SpaceLends.{LendsWindow};
 
     pub fn new(alloc: Global, size: u32) -> Result<Self, OutOfMemory>
         requires { size ≤ 262144 }
@@ -100,7 +100,7 @@ impl Space {
         turn(&mut self.bytes, from, mid, to);
     }
 
-    #[tactic(auto, unfolding(crate::specs::Windows::desc_at))]
+    #[tactic(auto, unfolding(crate::specs::Space::Windows::desc_at))]
     /// The descriptor of this number, counted from the end.
     pub fn descriptor(&self, index: u32) -> Desc
         requires { 8 * (index + 1) ≤ length self.now }
@@ -113,7 +113,7 @@ impl Space {
         }
     }
 
-    #[tactic(auto, unfolding(crate::specs::Windows::desc_bytes))]
+    #[tactic(auto, unfolding(crate::specs::Space::Windows::desc_bytes))]
     pub fn set_descriptor(&mut self, index: u32, desc: Desc)
         requires { 8 * (index + 1) ≤ length self.old }
         ensures { self.new ≡ overwritten self.old (desc_place self.old index) (desc_bytes desc) }
@@ -138,10 +138,10 @@ impl Space {
     }
 }
 
-ghost use Rattle.htx_space.specs.Windows.{word_at};
+ghost use Rattle.htx_arena.specs.Space.Windows.{word_at};
 
 /// The little-endian word at a place.
-#[tactic(auto, unfolding(crate::specs::Windows::word_at))]
+#[tactic(auto, unfolding(crate::specs::Space::Windows::word_at))]
 pub fn word(bytes: &[u8], at: usize) -> u32
     requires { at + 4 ≤ length bytes.now }
     ensures { result ≡ word_at bytes.now at }

@@ -1,6 +1,5 @@
 //! One array of bytes that payloads and descriptors share, the descriptors counted from its end. Each call is its edit of the bytes; what a
 //! descriptor or a payload means is not known here.
-#![tactic(auto)]
 
 mod lend;
 mod space;
