@@ -20,7 +20,8 @@ use Rattle.proxy_call.specs.Ends.{EndedAny, Output, PutsFront, RanAny, RanRun, R
 use Rattle.proxy_call.specs.Files.{IsBuilt}
 use Rattle.proxy_call.specs.Lines.{file_line}
 use Rattle.proxy_call.specs.Running.{NamesRun}
-use Rattle.proxy_call.specs.Serving.{GainsBind, LostBy, ServedBy, Serves, Serving}
+use Rattle.proxy_call.specs.Serving.{Serving}
+use Rattle.proxy_sessions.specs.Serving.{GainsBind, LostBy, ServedBy, Serves}
 use Rattle.proxy_call.specs.Stops.{Input, IsSilent, StopsBy, status_of, stop_of_running}
 use Rattle.proxy_call.specs.declared.status.Status.{Status}
 use Rattle.proxy_call.specs.declared.status.Status.TheVariants as ended

@@ -16,7 +16,8 @@ use Rattle.proxy_call.specs.Answers.{DecidesBy, DecidesRecord, IsDue, IsGood, Is
 use Rattle.proxy_call.specs.Ends.{Ended, Output, PutsFront, Tells, status_after}
 use Rattle.proxy_call.specs.Files.{IsBuilt}
 use Rattle.proxy_call.specs.Lines.{file_line}
-use Rattle.proxy_call.specs.Serving.{GainsBind, LostBy, ServedBy, Serves, Serving}
+use Rattle.proxy_call.specs.Serving.{Serving}
+use Rattle.proxy_sessions.specs.Serving.{GainsBind, LostBy, ServedBy, Serves}
 use Rattle.proxy_call.specs.Stops.{Input}
 use Rattle.proxy_call.specs.declared.status.Status.{Status}
 use Rattle.proxy_call.specs.declared.status.Status.TheVariants as ended

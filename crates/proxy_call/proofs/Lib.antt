@@ -9,4 +9,3 @@ mod Stopped
 mod Told
 mod Words
 mod Writing
-mod SessionsLemmas

@@ -16,7 +16,7 @@ use Rattle.px_explain.specs.Text.{text_of}
 use Rattle.px_explain.specs.Traced.{Traced, TraceOf}
 use Rattle.htx_drive.specs.Replay.Replayed.{Finds, IsFound, Replays}
 use Rattle.proxy_call.specs.Explained.{IsExplanation}
-use Rattle.proxy_call.specs.Sessions.Driven.{stands_for, seen_of}
+use Rattle.proxy_sessions.specs.Driven.{stands_for, seen_of}
 
 is_entry : (entry : Option ServerEntry) (server : Server) (sent : Option Sent) → IsFound entry server sent → IsEntry entry server
 is_entry None NotThere sent found = tt

@@ -14,7 +14,7 @@ use Rattle.rec_format.specs.Recorded.{Recorded}
 use Rattle.rec_format.specs.Written.{written}
 use Rattle.htx_drive.specs.Replay.Written.{IsReplayOf, IsDrillOf}
 use Rattle.htx_drive.specs.Weave.Recorded.{IsWeaveOf}
-use Rattle.proxy_call.specs.Sessions.Driven.{stands_for, seen_of}
+use Rattle.proxy_sessions.specs.Driven.{stands_for, seen_of}
 use Rattle.proxy_call.specs.Explained.{IsExplanation}
 use Rattle.proxy_call.specs.Lines.{accepted_line, refused_line, record_line, file_line}
 use Rattle.proxy_call.specs.Refusals.{refused_text}

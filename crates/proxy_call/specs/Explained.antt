@@ -9,7 +9,7 @@ use Rattle.px_explain.specs.Sessions.{IsSessionOf, TellsStatus}
 use Rattle.px_explain.specs.Text.{text_of}
 use Rattle.px_explain.specs.Traced.{Traced, TraceOf}
 use Rattle.htx_drive.specs.Replay.Replayed.{Replays}
-use Rattle.proxy_call.specs.Sessions.Driven.{stands_for, seen_of}
+use Rattle.proxy_sessions.specs.Driven.{stands_for, seen_of}
 
 -- The text is that of what is told of the first exchange of the record's first connection.
 pub record IsExplanation (cfg : Config) (rec : Recorded) (text : List ℕ) : Type 0 where

@@ -7,5 +7,4 @@ pub mod Refusals
 pub mod Serving
 pub mod Running
 pub mod Stops
-pub mod Sessions
 pub mod Numbers

@@ -2,7 +2,6 @@
 use Rattle.std.specs.Prelude.{ℕ, List, ◌++◌, codes, decimal}
 use Rattle.cfg_parse.specs.declared.fault.CfgKind.{CfgKind}
 use Rattle.cfg_parse.specs.declared.fault.CfgKind.TheVariants.{Word, Section, Keyword, Argument, Expr, Acl, Pattern, FramingName, Limit, Missing}
-use Rattle.px_link.specs.Net.{Place}
 use Rattle.rec_format.specs.declared.record.RecKind.{RecKind}
 use Rattle.rec_format.specs.declared.record.RecKind.TheVariants as kinds
 
@@ -43,7 +42,3 @@ record_line place kind = codes "record: byte " ++ decimal place ++ codes ": " ++
 -- the file of this name could not be read
 unfoldable pub file_line : List ℕ → List ℕ
 file_line name = codes "file: " ++ name ++ codes "\n"
-
--- it listens at this address
-unfoldable pub listening_line : Place → List ℕ
-listening_line at = codes "listening " ++ at.0 ++ codes ":" ++ decimal at.1 ++ codes "\n"

@@ -14,7 +14,7 @@ ghost use Rattle.proxy_call.specs.Lines.{accepted_line};
 use crate::explaining::explanation;
 use crate::lines::accepted_line;
 use crate::refusals::refused_text;
-use crate::sessions::{drill_lines, replay_report, weave_report};
+use proxy_sessions::{drill_lines, replay_report, weave_report};
 use crate::stop::Stop;
 use cfg_parse::{Config, MAX_TEXT, Verdict, load, verdict_of};
 use http_model::OutOfMemory;

@@ -10,12 +10,11 @@ mod reply;
 mod run;
 mod running;
 mod serving;
-pub mod sessions;
 mod status;
 mod stop;
 mod top;
 
 pub use networks::Networks;
-pub use sessions::{Many, Switch, Workers};
+pub use proxy_sessions::{Many, Switch, Workers};
 pub use status::Status;
 pub use top::htx_proxy;

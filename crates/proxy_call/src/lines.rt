@@ -1,11 +1,10 @@
 //! The lines that the program writes itself.
 ghost use Rattle.std.specs.Prelude.{◌≡◌, IfOk};
-ghost use Rattle.proxy_call.specs.Lines.{kind_name, record_kind_name, accepted_line, refused_line, record_line, file_line, listening_line};
-ghost use Rattle.px_link.specs.Net.{address_of};
+ghost use Rattle.proxy_call.specs.Lines.{kind_name, record_kind_name, accepted_line, refused_line, record_line, file_line};
 
 use cfg_parse::CfgKind;
 use http_model::OutOfMemory;
-use px_link::{Address, Bytes};
+use px_link::Bytes;
 use rec_format::RecKind;
 use std::alloc::Global;
 
@@ -92,19 +91,6 @@ pub fn file_line(alloc: Global, name: &str) -> Result<Bytes, OutOfMemory>
 {
     let mut text = Bytes::copy(alloc, b"file: ")?;
     text.push(name.as_bytes())?;
-    text.push(b"\n")?;
-    Ok(text)
-}
-
-/// It listens at this address.
-#[tactic(auto, unfolding(crate::specs::Lines::listening_line))]
-pub fn listening_line(alloc: Global, at: &Address) -> Result<Bytes, OutOfMemory>
-    ensures { IfOk result (λ text. text ≡ listening_line (address_of at.now)) }
-{
-    let mut text = Bytes::copy(alloc, b"listening ")?;
-    text.push(at.host.as_slice())?;
-    text.push(b":")?;
-    text.push(at.port.to_string(alloc)?.as_bytes())?;
     text.push(b"\n")?;
     Ok(text)
 }

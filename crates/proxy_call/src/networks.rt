@@ -1,5 +1,5 @@
 //! The nets that the program is handed.
-use crate::sessions::Many;
+use proxy_sessions::Many;
 
 /// What commands make their calls on.
 #[derive(Drop)]

@@ -2,15 +2,15 @@
 ghost use Rattle.std.specs.Prelude.{◌≡◌, map, string_bytes};
 ghost use Rattle.proxy_call.specs.Ends.{RanAny, Writes, put};
 ghost use Rattle.proxy_call.specs.Files.{told_by};
-ghost use Rattle.proxy_call.specs.Running.{Runs};
-ghost use Rattle.proxy_call.specs.Serving.{Serves};
+ghost use Rattle.proxy_sessions.specs.Running.{Runs};
+ghost use Rattle.proxy_sessions.specs.Serving.{Serves};
 ghost use Rattle.proxy_call.specs.Stops.{Answers, Input, given};
 
 use crate::answer::{check, check_all, check_record, drill, explain, replay, weave};
 use crate::networks::Networks;
 use crate::running::{RunCommand, run_many};
 use crate::serving::{ServeCommand, serve};
-use crate::sessions::{Switch, Workers};
+use proxy_sessions::{Switch, Workers};
 use crate::stop::Stop;
 use px_command::{Asked, asked_by, help_of_text, help_text, version_text};
 use px_link::{Bytes, Files, Link, Net, Sink, Waits, WaitsNet, Wakes};

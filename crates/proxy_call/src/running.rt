@@ -3,11 +3,11 @@ ghost use Rattle.std.specs.Prelude.{◌≡◌, ℕ, List};
 ghost use Rattle.px_command.specs.Command.{IsRun};
 ghost use Rattle.proxy_call.specs.Ends.{RanRun, put};
 ghost use Rattle.proxy_call.specs.Files.{told_by};
-ghost use Rattle.proxy_call.specs.Running.{Runs};
+ghost use Rattle.proxy_sessions.specs.Running.{Runs};
 ghost use Rattle.proxy_call.specs.Stops.{given};
 
 use crate::answer::configuration;
-use crate::sessions::{Many, Switch, Workers, run_clients};
+use proxy_sessions::{Many, Switch, Workers, run_clients};
 use crate::stop::Stop;
 use px_command::RunOptions;
 use px_link::{Files, Sink, Waits, WaitsNet, Wakes};

@@ -3,11 +3,11 @@ ghost use Rattle.std.specs.Prelude.{◌≡◌, ℕ, List};
 ghost use Rattle.px_command.specs.Command.{IsServe};
 ghost use Rattle.proxy_call.specs.Ends.{Ran, put};
 ghost use Rattle.proxy_call.specs.Files.{told_by};
-ghost use Rattle.proxy_call.specs.Serving.{Serves};
+ghost use Rattle.proxy_sessions.specs.Serving.{Serves};
 ghost use Rattle.proxy_call.specs.Stops.{given};
 
 use crate::answer::configuration;
-use crate::sessions::serve_clients;
+use proxy_sessions::serve_clients;
 use crate::stop::Stop;
 use px_link::{Files, Link, Net, Sink};
 use px_pattern::Patterns;

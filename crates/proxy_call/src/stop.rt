@@ -2,7 +2,7 @@
 ghost use Rattle.std.specs.Prelude.{◌≡◌};
 ghost use Rattle.proxy_call.specs.Stops.{status_of};
 
-use crate::sessions::ServeFault;
+use proxy_sessions::ServeFault;
 use crate::status::Status;
 use cfg_parse::{CfgFault, CfgKind};
 use http_model::OutOfMemory;

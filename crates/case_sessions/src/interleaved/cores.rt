@@ -15,7 +15,7 @@ pub(crate) struct SharedCores<'c> {
 }
 
 impl<'c> Cores<Core<Directions<'c>>> for SharedCores<'c> {
-    ghost use Rattle.proxy_call.specs.Sessions.Ready.{IsReady};
+    ghost use Rattle.proxy_sessions.specs.Ready.{IsReady};
 
     ghost settings = { λ cores. (cores.config.now, cores.config.now.limits.bufsize) };
 

@@ -6,7 +6,7 @@ use crate::session::{facts_of, record_in};
 use case_rows::{Answers, Fault};
 use cfg_parse::{CfgFault, load};
 use http_rules::Config;
-use proxy_call::sessions::session_report;
+use proxy_sessions::session_report;
 use px_link::Turn;
 use px_pattern::RealPatterns;
 use rec_format::{Connection, write_report};

@@ -5,8 +5,8 @@ use Rattle.px_command.specs.declared.options.RunOptions.{RunOptions}
 use Rattle.px_run.specs.declared.plan.RunFault.{RunFault}
 use Rattle.serve_run.specs.declared.outcome.ServeFault.{ServeFault}
 use Rattle.proxy_call.specs.Ends.{put}
-use Rattle.proxy_call.specs.Running.{Runs}
-use Rattle.proxy_call.specs.Serving.{Serves}
+use Rattle.proxy_sessions.specs.Running.{Runs}
+use Rattle.proxy_sessions.specs.Serving.{Serves}
 use Rattle.px_command.specs.Asked.{IsAsked}
 use Rattle.px_command.specs.Command.{IsCheck, IsCheckAll, IsCheckRecord, IsReplay, IsExplain, IsWeave, IsServe, IsRun, IsDrill, IsHelp, IsHelpOf, IsVersion}
 use Rattle.proxy_call.specs.Files.{Builder, told_by}

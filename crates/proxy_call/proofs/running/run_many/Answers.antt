@@ -5,7 +5,7 @@ use Rattle.px_command.specs.declared.options.RunOptions.{RunOptions}
 use Rattle.px_run.specs.declared.plan.RunFault.{RunFault}
 use Rattle.proxy_call.specs.Ends.{Output, put}
 use Rattle.proxy_call.specs.Files.{Builder, told_by}
-use Rattle.proxy_call.specs.Running.{Runs}
+use Rattle.proxy_sessions.specs.Running.{Runs}
 use Rattle.proxy_call.specs.Stops.{Input, given, stop_of_running}
 use Rattle.proxy_call.proofs.AnyEnd.{run_err}
 use Rattle.proxy_call.proofs.Writing.{stops_early}

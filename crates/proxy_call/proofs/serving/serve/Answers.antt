@@ -4,7 +4,7 @@ use Rattle.http_rules.specs.declared.config.Config.{Config}
 use Rattle.serve_run.specs.declared.outcome.ServeFault.{ServeFault}
 use Rattle.proxy_call.specs.Ends.{Output, put}
 use Rattle.proxy_call.specs.Files.{Builder, told_by}
-use Rattle.proxy_call.specs.Serving.{Serves}
+use Rattle.proxy_sessions.specs.Serving.{Serves}
 use Rattle.proxy_call.specs.Stops.{Input, given, stop_of_serving}
 use Rattle.proxy_call.proofs.Writing.{ran_err, stops_early}
 use Rattle.proxy_call.proofs.serving.serve.Goals as goal

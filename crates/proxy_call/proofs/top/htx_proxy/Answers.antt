@@ -6,8 +6,8 @@ use Rattle.proxy_call.specs.Ends.{Output, put}
 use Rattle.proxy_call.specs.Files.{told_by}
 use Rattle.px_command.specs.declared.options.RunOptions.{RunOptions}
 use Rattle.px_run.specs.declared.plan.RunFault.{RunFault}
-use Rattle.proxy_call.specs.Running.{Runs}
-use Rattle.proxy_call.specs.Serving.{Serves}
+use Rattle.proxy_sessions.specs.Running.{Runs}
+use Rattle.proxy_sessions.specs.Serving.{Serves}
 use Rattle.proxy_call.specs.Stops.{Input, given}
 use Rattle.proxy_call.specs.declared.status.Status.TheVariants as ended
 use Rattle.proxy_call.proofs.AnyEnd as clause

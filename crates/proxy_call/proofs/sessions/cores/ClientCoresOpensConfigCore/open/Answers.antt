@@ -1,6 +1,0 @@
-use Rattle.proxy_call.proofs.sessions.cores.ClientCoresOpensConfigCore.open.Goals as goal
-
-pub returns-in-Ok-clause-stands : goal.returns-in-Ok-clause-stands
-returns-in-Ok-clause-stands c =
-    let used = c.in-Ok.ensures.used in
-    c.reset_for.ensures.stands (c.args.self.now, c.args.self.now.limits.bufsize) used.peer used.past used.stands

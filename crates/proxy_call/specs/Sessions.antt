@@ -1,4 +1,0 @@
-pub mod Connections
-pub mod Driven
-pub mod Ready
-pub mod Spare

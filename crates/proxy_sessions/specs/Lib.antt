@@ -1,0 +1,7 @@
+pub mod Connections
+pub mod Driven
+pub mod Lines
+pub mod Ready
+pub mod Running
+pub mod Serving
+pub mod Spare
