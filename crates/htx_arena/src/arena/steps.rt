@@ -11,6 +11,7 @@ use crate::layout::NewBlock;
 
 impl Arena {
     /// Puts in a block.
+    #[inline(always)]
     pub(super) fn put(&mut self, at: u32, new: &NewBlock<'_>)
         requires within { at ≤ length self.old.blocks }
         requires fits { load self.old.blocks + 8 + payload_len new.now ≤ self.old.size }

@@ -55,6 +55,7 @@ pub fn drop_first(space: &mut Space, count: u32, n: u32)
 
 /// Puts in a block whose payload comes to free bytes.
 #[tactic(auto, using(crate::proofs::LayoutLemmas::RawLemmas::raws))]
+#[inline(always)]
 pub fn place(space: &mut Space, count: u32, at: u32, desc: Desc, payload: &Payload<'_>)
     requires can { CanPlace space.old count at desc payload.now }
     requires small { length space.old ≤ 262144 }

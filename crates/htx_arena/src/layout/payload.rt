@@ -58,6 +58,7 @@ impl<'a> Payload<'a> {
 }
 
 /// Writes a payload.
+#[inline(always)]
 pub fn put(space: &mut Space, at: u32, payload: &Payload<'_>)
     requires inside { at + length payload.now ≤ length space.old }
     requires small { length space.old ≤ 262144 }

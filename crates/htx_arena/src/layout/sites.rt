@@ -19,6 +19,7 @@ struct Found {
 }
 
 /// Finds the place of a payload, by the four cases.
+#[inline(always)]
 fn site(space: &mut Space, count: u32, ends: Ends, len: u32) -> Found
     requires laid { IsLaid space.old count ends.front }
     requires topped { IsTop space.old count ends.top }
@@ -65,6 +66,7 @@ pub fn settle(ends: Ends) -> u32
 }
 
 /// Puts in a block, and answers the ends of the bytes in use.
+#[inline(always)]
 pub fn add(space: &mut Space, count: u32, ends: Ends, at: u32, new: &NewBlock<'_>) -> Ends
     requires laid { IsLaid space.old count ends.front }
     requires topped { IsTop space.old count ends.top }

@@ -78,12 +78,16 @@ impl Space {
         lend::run(&mut self.bytes, start, end)
     }
 
-    /// Copies as if through a second array.
+    /// Copies as if through a second array. Of no bytes nothing is done.
+    #[tactic(auto, using(crate::proofs::SpaceLemmas::WindowLemmas::nothings))]
     pub fn slide(&mut self, from: u32, to: u32, len: u32)
         requires source { from + len ≤ length self.old }
         requires target { to + len ≤ length self.old }
         ensures { self.new ≡ overwritten self.old to (window self.old from len) }
     {
+        if len == 0 {
+            return;
+        }
         let from = from as usize;
         self.bytes
             .copy_within(from..from + len as usize, to as usize);
@@ -124,13 +128,17 @@ impl Space {
         self.bytes[at..at + 8].copy_from_slice(&[a, b, c, d, e, f, g, h]);
     }
 
-    /// Moves `count` descriptors by one place, to the next higher numbers or to the next lower ones.
+    /// Moves `count` descriptors by one place, to the next higher numbers or to the next lower ones. Of none nothing is done.
+    #[tactic(auto, using(crate::proofs::SpaceLemmas::WindowLemmas::nothings))]
     pub fn shift(&mut self, from: u32, count: u32, up: bool)
         requires inside { 8 * (from + count) ≤ length self.old }
         requires up { IsTrue up → 8 * (from + count + 1) ≤ length self.old }
         requires down { IsFalse up → 1 ≤ from }
         ensures { self.new ≡ shifted self.old from count up }
     {
+        if count == 0 {
+            return;
+        }
         let len = 8 * count as usize;
         let at = self.bytes.len() - 8 * from as usize - len;
         let to = if up { at - 8 } else { at + 8 };

@@ -11,6 +11,7 @@ use crate::layout::sites;
 #[tactic(auto, using(crate::proofs::LayoutLemmas::WholeLemmas::wholes))]
 impl Array {
     /// Puts in a block.
+    #[inline(always)]
     pub fn add(&mut self, at: u32, new: &NewBlock<'_>)
         requires within { at ≤ length self.old.blocks }
         requires fits { load self.old.blocks + 8 + payload_len new.now ≤ self.old.size }
