@@ -69,8 +69,9 @@ fn bring_front(ring: &mut HeapCircularBuffer<u8>, begin: usize, end: usize)
     ring.make_contiguous().copy_within(begin..end, 0);
 }
 
-/// Makes room for so many bytes behind the `len` from `begin` on, and answers where these begin then.
-fn make_room(ring: &mut HeapCircularBuffer<u8>, begin: usize, len: usize, more: usize) -> usize
+/// Makes room for so many bytes behind the `len` from `begin` on, where the ring has too few items for them yet, and answers where these begin then.
+#[inline(never)]
+fn grow_room(ring: &mut HeapCircularBuffer<u8>, begin: usize, len: usize, more: usize) -> usize
     requires within { begin + len ≤ length ring.old.items }
     requires fits { len + more ≤ ring.old.capacity }
     ensures room { result + len + more ≤ length ring.new.items }
@@ -89,7 +90,24 @@ fn make_room(ring: &mut HeapCircularBuffer<u8>, begin: usize, len: usize, more: 
     0
 }
 
+/// Makes room for so many bytes behind the `len` from `begin` on, and answers where these begin then. Mostly the ring has had items there before.
+#[inline(always)]
+fn make_room(ring: &mut HeapCircularBuffer<u8>, begin: usize, len: usize, more: usize) -> usize
+    requires within { begin + len ≤ length ring.old.items }
+    requires fits { len + more ≤ ring.old.capacity }
+    ensures room { result + len + more ≤ length ring.new.items }
+    ensures within { result + len + more ≤ ring.new.capacity }
+    ensures kept { take len (drop result ring.new.items) ≡ take len (drop begin ring.old.items) }
+    ensures capacity { ring.new.capacity ≡ ring.old.capacity }
+{
+    if more <= ring.len() - (begin + len) {
+        return begin;
+    }
+    grow_room(ring, begin, len, more)
+}
+
 /// Writes a piece over bytes that are as many. No call is made for an empty one.
+#[inline(always)]
 fn lay(room: &mut [u8], piece: &[u8])
     requires { length room.old ≡ length piece.now }
     ensures { room.new ≡ piece.now }
@@ -111,6 +129,7 @@ struct Pieces<'a> {
 }
 
 /// How many bytes they have.
+#[inline(always)]
 fn count_of(pieces: &Pieces<'_>) -> usize
     requires { length (pieces.now.first.now ++ (pieces.now.second.now ++ (pieces.now.third.now ++ (pieces.now.fourth.now ++ pieces.now.fifth.now)))) < 2 ^ 32 }
     ensures { result ≡ length (pieces.now.first.now ++ (pieces.now.second.now ++ (pieces.now.third.now ++ (pieces.now.fourth.now ++ pieces.now.fifth.now)))) }
@@ -123,6 +142,7 @@ fn count_of(pieces: &Pieces<'_>) -> usize
 }
 
 /// Writes them over bytes that are as many.
+#[inline(always)]
 fn lay_out(room: &mut [u8], pieces: &Pieces<'_>)
     requires { length room.old ≡ length (pieces.now.first.now ++ (pieces.now.second.now ++ (pieces.now.third.now ++ (pieces.now.fourth.now ++ pieces.now.fifth.now)))) }
     ensures { room.new ≡ pieces.now.first.now ++ (pieces.now.second.now ++ (pieces.now.third.now ++ (pieces.now.fourth.now ++ pieces.now.fifth.now))) }
@@ -139,6 +159,7 @@ fn lay_out(room: &mut [u8], pieces: &Pieces<'_>)
 }
 
 /// Writes them, which have so many bytes, over the items from a place on.
+#[inline(always)]
 fn write_pieces(ring: &mut HeapCircularBuffer<u8>, at: usize, count: usize, pieces: &Pieces<'_>)
     requires count { count ≡ length (pieces.now.first.now ++ (pieces.now.second.now ++ (pieces.now.third.now ++ (pieces.now.fourth.now ++ pieces.now.fifth.now)))) }
     requires within { at + count ≤ length ring.old.items }
@@ -198,6 +219,7 @@ impl Window {
     }
 
     /// Takes five pieces, one behind another, for all of which there is room. One that is empty is none.
+    #[inline(always)]
     pub fn push_five(
         &mut self,
         first: &[u8],
