@@ -1,6 +1,6 @@
 -- The steps of a call.
 use Rattle.std.proofs.Common.{◌≡◌, ℕ, zero, suc, ◌+◌, ◌<◌, ◌≤◌, List, [], ◌∷◌, ◌++◌, Bool, true, false, length, take, drop, refl, ap, sym, ◌∙◌, subst, arith}
-use Rattle.std.proofs.lemmas.List.{append-nil, take_all, drop_more}
+use Rattle.std.proofs.lemmas.List.{append-nil, take_all, drop_all, drop_more}
 use Rattle.std.specs.Prelude.{if◌then◌else◌}
 use Rattle.std.proofs.lemmas.Bool.{lt-ltb}
 use Rattle.wire_buf.specs.Buffer.{Buffer}
@@ -245,3 +245,9 @@ end_whole old pos put w w' left at none p e = record {
       let P : List Block → Type 0 = λ ls. Goes framing no_body taken ls (text ++ drop pos (take put.pos (end_text old.coding old.place))) (writer old.coding old.place stage.Done) ls in
       subst P (sym empty) (ended framing no_body taken old.coding old.place pos put.pos h.front text h.coding h.spells b.0 p.from (p.whole e));
 }
+
+-- where all blocks are written, none is left
+pub all_left : (old new : List Block) (count : ℕ) → count ≡ length old → new ≡ [] → new ≡ drop count old
+all_left old new count all none = none ∙ sym (drop_all count old (omega arith))
+
+pub ruleset leaves = (all_left)
