@@ -93,17 +93,15 @@ HasEnd-without_framing (Header n v ∷ bs) h = by_test (is_framing_header (Heade
     by_test false rest = rest
 
 -- a finished list that weighs more than there is room for doesn't fit
-pub too_much : (fs : List Field) (close : Bool) (bs : List Block) (size room gone : ℕ) → HasEnd bs → room + load bs ≡ size
-    → gone + load (without_framing bs) ≡ load bs → room + gone < fields_load fs + fields_load (close_fields close)
+pub too_much : (fs : List Field) (close : Bool) (bs : List Block) (size : ℕ) → HasEnd bs
+    → size < fields_load fs + fields_load (close_fields close) + load (without_framing bs)
     → Fits (finished fs close bs) size → ⊥
-too_much fs close bs size room gone h sized went over fits =
+too_much fs close bs size h over fits =
     omega (
       arith,
       fits,
       load-with_headers (fs ++ close_fields close) (without_framing bs) (HasEnd-without_framing bs h),
       fields_load-append fs (close_fields close),
-      sized,
-      went,
       over,
     )
 

@@ -1,9 +1,9 @@
 //! A head as it is sent: what framed it and spoke of its connection goes, and what frames it on the next hop comes behind
 //! the other fields, in one step (RFC 9110 section 7.6.1, RFC 9112 section 6).
-ghost use Rattle.std.specs.Prelude.{◌≡◌, ◌∷◌, [], ◌++◌, ◌↔◌, OnOk, OnErr, IsOk};
+ghost use Rattle.std.specs.Prelude.{◌≡◌, ◌≤◌, ◌<◌, ◌+◌, ◌∷◌, [], ◌++◌, ◌↔◌, OnOk, OnErr, IsOk, IsTrue, IsFalse};
 ghost use Rattle.http_model.specs.Head.{Head, head_blocks};
 ghost use Rattle.http_model.specs.Finish.{finish_request, finish_response, framing_fields, length_field, close_fields};
-ghost use Rattle.htx_arena.specs.Blocks.{Fits};
+ghost use Rattle.htx_arena.specs.Blocks.{Fits, load};
 ghost use Rattle.header_ops.specs.Headers.{HasEnd, without_framing};
 ghost use Rattle.px_reply.specs.Finished.{told_fields, with_headers, fields_load, finished};
 
@@ -37,6 +37,18 @@ fn put(msg: &mut Arena, told: &Told<'_>, close: bool)
     }
 }
 
+/// Whether so many bytes have room once the fields that framed the message are gone. These are weighed only where it matters.
+fn has_room(msg: &Arena, need: usize) -> bool
+    ensures room { IsTrue result → need + load (without_framing msg.now.blocks) ≤ msg.now.size }
+    ensures full { IsFalse result → msg.now.size < need + load (without_framing msg.now.blocks) }
+{
+    let room = msg.room() as usize;
+    if need <= room {
+        return true;
+    }
+    need <= room + load_of_framing(msg) as usize
+}
+
 /// Puts the fields of a framing in the place of those that framed the message. Nothing goes before it is known that the
 /// new list fits.
 #[tactic(auto, using(crate::proofs::Weights::puts))]
@@ -48,9 +60,8 @@ fn refit(msg: &mut Arena, told: &Told<'_>, close: bool) -> Result<(), Full>
     ensures end { HasEnd msg.new.blocks }
     ensures size { msg.new.size ≡ msg.old.size }
 {
-    let room = msg.room() as usize + load_of_framing(msg) as usize;
     let need = weight_of(told) + weight_of_close(close);
-    if need > room {
+    if !has_room(msg, need) {
         return Err(Full);
     }
     remove_framing(msg);
