@@ -7,6 +7,7 @@ use http_model::is_framing_name;
 use htx_arena::{Arena, Kind};
 
 /// Whether the block at an index is a header of a name that frames a message or speaks of its connection.
+#[inline(always)]
 pub fn is_framing(msg: &Arena, at: u32) -> bool
     requires { at < length msg.now.blocks }
     ensures { result ≡ is_framing_header (block_at msg.now.blocks at) }

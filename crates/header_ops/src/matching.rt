@@ -43,6 +43,7 @@ fn has_part(name: &[u8], part: &[u8]) -> bool
     part.is_empty()
 }
 
+#[inline(always)]
 fn is_match(which: &NameMatch<'_>, name: &[u8]) -> bool
     ensures { result ≡ is_match which.now name.now }
 {
@@ -55,6 +56,7 @@ fn is_match(which: &NameMatch<'_>, name: &[u8]) -> bool
 }
 
 /// Whether the block at an index is a header whose name matches, and none of the framing headers.
+#[inline(always)]
 pub fn is_matching(msg: &Arena, at: u32, which: &NameMatch<'_>) -> bool
     requires { at < length msg.now.blocks }
     ensures { result ≡ is_header_matching which.now (block_at msg.now.blocks at) }

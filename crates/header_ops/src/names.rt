@@ -9,6 +9,7 @@ use htx_arena::{Arena, Kind};
 use px_bytes::eq_fold;
 
 /// Whether the block at an index is a header of this name.
+#[inline(always)]
 pub fn is_named(msg: &Arena, at: u32, name: &[u8]) -> bool
     requires { at < length msg.now.blocks }
     ensures { result ≡ is_header_named name.now (block_at msg.now.blocks at) }
@@ -20,6 +21,7 @@ pub fn is_named(msg: &Arena, at: u32, name: &[u8]) -> bool
 }
 
 /// The value of the block at an index, where it is a header of this name.
+#[inline(always)]
 pub fn named_value<'a>(msg: &'a Arena, at: u32, name: &[u8]) -> Option<&'a [u8]>
     requires { at < length msg.now.blocks }
     ensures { MatchOption result

@@ -19,6 +19,7 @@ enum Taken<'a> {
 }
 
 /// Whether the block at an index is one of the headers that go.
+#[inline(always)]
 fn is_taken(msg: &Arena, at: u32, taken: &Taken<'_>) -> bool
     requires { at < length msg.now.blocks }
     ensures { result ≡ is_taken taken.now (block_at msg.now.blocks at) }
@@ -31,6 +32,7 @@ fn is_taken(msg: &Arena, at: u32, taken: &Taken<'_>) -> bool
 }
 
 /// Removes these headers, and answers how many there were.
+#[inline(always)]
 #[tactic(auto, using(crate::proofs::Ends::ends))]
 fn remove_taken(msg: &mut Arena, taken: &Taken<'_>) -> u32
     ensures blocks { msg.new.blocks ≡ without_taken taken.now msg.old.blocks }
