@@ -11,6 +11,7 @@ mod LinkReads
 mod Prefix
 mod Shown
 mod Bits
+mod Whole
 mod Written
 mod Sending
 mod Nets

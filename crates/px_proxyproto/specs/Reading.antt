@@ -2,6 +2,8 @@
 use Rattle.std.specs.Prelude.{◌≡◌, ℕ, ◌+◌, ◌-◌, ◌≤◌, true, false, not, ◌||◌, nat_lt, if◌then◌else◌, List, length, take}
 use Rattle.px_proxyproto.specs.declared.state.ProxyState.{ProxyState}
 use Rattle.px_proxyproto.specs.declared.state.ProxyState.TheVariants.{More, Got, Bad}
+use Rattle.px_proxyproto.specs.declared.front.Front.{Front}
+use Rattle.px_proxyproto.specs.declared.front.Front.TheVariants as fronts
 use Rattle.px_proxyproto.specs.Binary.{is_signed, block_len}
 use Rattle.px_proxyproto.specs.Headers.{IsHeader, NoHeader, NoneYet, MayStill}
 
@@ -44,3 +46,9 @@ abbrev pub Told : ProxyState → Read → (bytes : List ℕ) → Type 0
 Told More read bytes = HasRead read bytes
 Told (Got pair) read bytes = IsHeader bytes pair
 Told Bad read bytes = NoHeader bytes × NoneYet bytes
+
+-- What stands in front of bytes: a header of so many of them, with this pair; no header begins so, and none ended before; or they may become one.
+abbrev pub StandsInFront : Front → (bytes : List ℕ) → Type 0
+StandsInFront (fronts.Header len pair) bytes = (len ≤ length bytes) × IsHeader (take len bytes) pair
+StandsInFront fronts.Other bytes = NoHeader bytes × NoneYet bytes
+StandsInFront fronts.Part bytes = MayStill bytes

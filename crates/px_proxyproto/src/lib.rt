@@ -4,12 +4,14 @@
 
 mod address;
 mod binary;
+mod front;
 mod greeting;
 mod has_peer;
 mod headers;
 pub mod laws;
 mod line;
 mod line_text;
+mod meeting;
 mod note_list;
 mod reader;
 mod send_link;
@@ -17,10 +19,12 @@ mod send_net;
 mod state;
 mod writing;
 
+pub use front::{Front, front_of};
 pub use greeting::{Greeting, greet};
 pub use has_peer::HasPeer;
 pub use headers::header_text;
 pub use line_text::address_text;
+pub use meeting::{Met, meet, source_of};
 pub use note_list::{Heading, NoteRoom};
 pub use px_peer::{Pair, Peer};
 pub use reader::ProxyReader;
