@@ -3,4 +3,5 @@ pub mod Nets
 pub mod Outcome
 pub mod Replayed
 pub mod Seen
+pub mod Streams
 pub mod Written

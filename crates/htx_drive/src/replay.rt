@@ -8,10 +8,12 @@ pub(crate) mod links;
 pub(crate) mod outcome;
 pub(crate) mod record_net;
 mod sessions;
+pub(crate) mod streams;
 mod texts;
 mod turns;
 
 pub use cores::Cores;
-pub use sessions::{replay, replay_connection};
+pub use sessions::{replay, replay_connection, replay_streams};
+pub use streams::Streams;
 pub use texts::{drill_text, replay_text};
 pub use turns::turns_of;

@@ -3,7 +3,9 @@ ghost use Rattle.std.specs.Prelude.{◌≡◌, IfSome, sum_by};
 ghost use Rattle.htx_drive.specs.Budget.{enough};
 ghost use Rattle.rec_format.specs.Read.{visit, servers};
 ghost use Rattle.htx_drive.specs.Replay.Memory.{size_of, needed_by};
+ghost use Rattle.htx_drive.specs.Replay.Streams.{visit_in};
 
+use crate::replay::streams::Streams;
 use rec_format::{Connection, ServerSpec};
 
 /// How many bytes servers give together; none where it is more than a number can say.
@@ -36,4 +38,16 @@ pub(crate) fn budget_of(conn: &Connection, bufsize: u32) -> Option<u64>
 {
     let servers = servers_size(&conn.servers)?;
     turns_for(conn.client.bytes.as_slice().len() as u64, servers, bufsize)
+}
+
+/// The same for the session of these streams.
+pub(crate) fn budget_for(streams: &Streams<'_>, bufsize: u32) -> Option<u64>
+    ensures { IfSome result (λ budget. budget ≡ needed_by (visit_in streams.now) bufsize) }
+{
+    let servers = servers_size(streams.servers)?;
+    turns_for(
+        streams.client.bytes.as_slice().len() as u64,
+        servers,
+        bufsize,
+    )
 }

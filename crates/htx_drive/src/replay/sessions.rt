@@ -6,13 +6,15 @@ ghost use Rattle.rec_format.specs.Read.{visit, visits};
 ghost use Rattle.rec_format.specs.ReportParts.{out_of};
 ghost use Rattle.htx_drive.specs.Replay.Replayed.{Replays, ReplaysAll};
 ghost use Rattle.htx_drive.specs.Replay.Seen.{IsFresh, IsFreshNet, RanByTurns};
+ghost use Rattle.htx_drive.specs.Replay.Streams.{visit_in};
 
-use crate::replay::budget::budget_of;
+use crate::replay::budget::budget_for;
 use crate::replay::cores::Cores;
 use crate::replay::laws::only_want_of_memory_gives_up;
 use crate::replay::links::{client_link, net_for};
 use crate::replay::outcome::report_of;
 use crate::replay::record_net::RecordNet;
+use crate::replay::streams::Streams;
 use crate::replay::turns::turns_of;
 use crate::weave::Conn;
 use crate::{
@@ -36,7 +38,7 @@ fn run_over<C: Machine, K: Cores<C>>(
     cores: &K,
     core: &mut C,
     to: &Address,
-    conn: &Connection,
+    streams: &Streams<'_>,
     over: &mut Conn<MemLink, RecordNet>,
     turns: &mut ListTurns,
 ) -> Result<Ran, OutOfMemory>
@@ -44,11 +46,11 @@ fn run_over<C: Machine, K: Cores<C>>(
     requires stands { C.stands (K.settings cores.now) core.old nothing_yet }
     requires idle { (C.seen core.old).serving ≡ false }
     requires sound { C.sound core.old }
-    requires client { IsFresh (visit conn.now).client None over.old.client }
-    requires net { IsFreshNet (visit conn.now).servers over.old.net.net over.old.net.refused }
-    ensures { IfOk result (RanByTurns (C.meaning (K.settings cores.now)) (C.stands (K.settings cores.now)) C.seen turns.old turns.new (visit conn.now) (address_of to.now) over.old.client over.new.client over.old.net.net over.old.net.refused over.new.net.net over.new.net.refused) }
+    requires client { IsFresh (visit_in streams.now).client None over.old.client }
+    requires net { IsFreshNet (visit_in streams.now).servers over.old.net.net over.old.net.refused }
+    ensures { IfOk result (RanByTurns (C.meaning (K.settings cores.now)) (C.stands (K.settings cores.now)) C.seen turns.old turns.new (visit_in streams.now) (address_of to.now) over.old.client over.new.client over.old.net.net over.old.net.refused over.new.net.net over.new.net.refused) }
 {
-    let Some(budget) = budget_of(conn, cores.bufsize()) else {
+    let Some(budget) = budget_for(streams, cores.bufsize()) else {
         return Err(OutOfMemory);
     };
     only_want_of_memory_gives_up::<C, K>();
@@ -69,7 +71,32 @@ fn run_over<C: Machine, K: Cores<C>>(
     }
 }
 
-/// Runs the session of a connection by these turns, and reports it. Want of memory is the only error.
+/// Runs the session of these streams by these turns, and reports it. Want of memory is the only error.
+pub fn replay_streams<C: Machine + Drop, K: Cores<C>>(
+    alloc: Global,
+    cores: &K,
+    to: &Address,
+    streams: Streams<'_>,
+    turns: Vec<Turn>,
+) -> Result<Report, OutOfMemory>
+    requires ready { K.ready cores.now }
+    ensures { IfOk result (λ report. Replays (C.meaning (K.settings cores.now)) (C.stands (K.settings cores.now)) C.seen turns.items (visit_in streams.entry) (out_of report)) }
+{
+    let client = client_link(alloc, streams.client)?;
+    let net = net_for(alloc, streams.servers)?;
+    let mut over = Conn {
+        client,
+        net,
+        server: None,
+        ran: None,
+    };
+    let mut turns = ListTurns::new(turns);
+    let mut core = cores.core(alloc)?;
+    let ran = run_over(cores, &mut core, to, &streams, &mut over, &mut turns)?;
+    report_of(alloc, ran, &over.client, &over.net)
+}
+
+/// The same of a connection of a record.
 pub fn replay_connection<C: Machine + Drop, K: Cores<C>>(
     alloc: Global,
     cores: &K,
@@ -80,18 +107,11 @@ pub fn replay_connection<C: Machine + Drop, K: Cores<C>>(
     requires ready { K.ready cores.now }
     ensures { IfOk result (λ report. Replays (C.meaning (K.settings cores.now)) (C.stands (K.settings cores.now)) C.seen turns.items (visit conn.now) (out_of report)) }
 {
-    let client = client_link(alloc, &conn.client)?;
-    let net = net_for(alloc, &conn.servers)?;
-    let mut over = Conn {
-        client,
-        net,
-        server: None,
-        ran: None,
+    let streams = Streams {
+        client: &conn.client,
+        servers: &conn.servers,
     };
-    let mut turns = ListTurns::new(turns);
-    let mut core = cores.core(alloc)?;
-    let ran = run_over(cores, &mut core, to, conn, &mut over, &mut turns)?;
-    report_of(alloc, ran, &over.client, &over.net)
+    replay_streams(alloc, cores, to, streams, turns)
 }
 
 /// Runs the sessions of a record one after another, each with a core of its own and by the turns of its number. Want of memory is the

@@ -1,27 +1,13 @@
 use Rattle.std.proofs.Common.{List, Option, subst}
-use Rattle.std.proofs.lemmas.Result.{IfOk-weaker}
-use Rattle.px_link.specs.Net.{address_of}
-use Rattle.px_link.specs.declared.turns.Turn.{Turn}
-use Rattle.session_model.specs.Session.{Out}
+use Rattle.std.specs.Prelude.{IfOk}
 use Rattle.htx_drive.specs.Replay.Replayed.{Replays}
 use Rattle.rec_format.specs.declared.record.ServerSpec.{ServerSpec}
-use Rattle.rec_format.specs.Read.{visit, servers}
+use Rattle.rec_format.specs.Read.{stream, servers}
 use Rattle.rec_format.specs.ReportParts.{out_of}
-use Rattle.htx_drive.specs.Replay.Seen.{IsFreshNet}
-use Rattle.htx_drive.proofs.ReplayLemmas.Whole.{replays}
 use Rattle.htx_drive.proofs.replay.sessions.replay_connection.Goals as goal
 
 pub returns : goal.returns
 returns g c =
-    let v = visit c.args.conn.now in
     let cfg = g.K.Cores.settings c.args.cores.now in
-    let net = c.in_ok-net.net in
-    let after = c.run_over.new.over.net in
-    let N : List (Option ServerSpec) → Type 0 = λ entries. IsFreshNet (servers entries) net.net net.refused in
-    let fresh = subst N c.deref.ensures.value c.in_ok-net.ensures in
-    let M = g.C.Machine.meaning cfg in
-    let stands = g.C.Machine.stands cfg in
-    let R : List Turn → Out → Type 0 = λ turns out. Replays M stands g.C.Machine.seen turns v out in
-    IfOk-weaker c.report_of.result _ _
-    (λ report is. subst (λ turns. R turns (out_of report)) c.new-turns.ensures (replays M stands g.C.Machine.seen c.new-turns.result c.run_over.new.turns v (address_of c.args.to.now) c.in_ok-client.client c.run_over.new.over.client net.net net.refused after.net after.refused c.in_ok-ran.ran (out_of report) c.in_ok-client.ensures fresh c.in_ok-ran.ensures is))
-    c.report_of.ensures
+    let R : List (Option ServerSpec) → Type 0 = λ entries. IfOk c.replay_streams.result (λ report. Replays (g.C.Machine.meaning cfg) (g.C.Machine.stands cfg) g.C.Machine.seen c.args.turns.items (record { client = stream c.args.conn.now.client; servers = servers entries }) (out_of report)) in
+    subst R c.deref.ensures.value c.replay_streams.ensures

@@ -2,15 +2,15 @@ use Rattle.std.proofs.Common.{subst}
 use Rattle.px_link.specs.Net.{address_of}
 use Rattle.session_model.specs.Meaning.{Meaning}
 use Rattle.htx_drive.specs.declared.SessionFault.{SessionFault}
-use Rattle.rec_format.specs.Read.{visit}
 use Rattle.htx_drive.specs.Replay.Seen.{GaveUpOver}
+use Rattle.htx_drive.specs.Replay.Streams.{visit_in}
 use Rattle.htx_drive.proofs.ReplayLemmas.Whole.{is_enough, only_memory}
 use Rattle.htx_drive.proofs.ReplayLemmas.Turned.{by_turns}
 use Rattle.htx_drive.proofs.replay.sessions.run_over.Goals as goal
 
 pub returns-in-Ok : goal.returns-in-Ok
 returns-in-Ok g c =
-    let v = visit c.args.conn.now in
+    let v = visit_in c.args.streams.now in
     let cfg = g.K.Cores.settings c.args.cores.now in
     let ran = c.in-Ok.ensures.in_turns cfg c.requires.stands in
     let net = c.args.over.now.net in
@@ -19,7 +19,7 @@ returns-in-Ok g c =
 
 pub only_memory-requires : goal.only_memory-requires
 only_memory-requires g c =
-    let v = visit c.args.conn.now in
+    let v = visit_in c.args.streams.now in
     let cfg = g.K.Cores.settings c.args.cores.now in
     let to = address_of c.args.to.now in
     let link = c.args.over.now.client in
