@@ -1,0 +1,6 @@
+pub mod Runs
+pub mod Passing
+pub mod Sections
+pub mod Heads
+pub mod Translating
+pub mod Feeding

@@ -1,0 +1,16 @@
+use Rattle.std.proofs.Common.{◌≡◌, ◌≤◌, ◌+◌, ◌-◌, take, drop, length}
+use Rattle.fcgi_lane.specs.Answer.Flow.{Passes}
+use Rattle.fcgi_lane.proofs.answer.squeezing.squeeze.Given as goal
+
+abbrev pub invariant-loop-used : goal.invariant-loop-used
+invariant-loop-used l = record {
+  found : l.found ≤ l.used;
+  used : l.used ≤ length l.fn.bytes;
+  len : length l.bytes ≡ length l.fn.bytes;
+  behind : drop l.used l.bytes ≡ drop l.used l.fn.bytes;
+  idle : l.found ≡ 0 → l.records.idle ≡ l.fn.records.idle + l.used;
+  passes : Passes l.fn.records (take l.used l.fn.bytes) l.records (take l.found l.bytes);
+}
+
+abbrev pub decreases-loop-used : goal.decreases-loop-used
+decreases-loop-used l = length l.fn.bytes - l.used
