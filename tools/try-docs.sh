@@ -15,7 +15,7 @@
 #   answers                METHOD TARGET HOST, ` => `, such a line, under the last cfg
 #   record, report         a record, and what `replay` writes of it under the last cfg; U+240D stands for a carriage return
 #   woven K                what `weave` writes of the last record over K cores
-#   explained              what `explain` writes of the last record under the last cfg
+#   explained [--blocks]   what `explain` writes of the last record under the last cfg
 #   rewritten              what `check --record` writes of the last record
 #   record-refused P KIND  a record that is refused so, as the line of text above says too
 #   drill SEED COUNT       what `drill` writes
@@ -240,7 +240,7 @@ class Page:
         elif kind == "report":
             yield (0, text.replace("\u240d", "\r").encode()), ran(["replay", "c", "r"], c=self.config, r=self.record)
         elif kind == "explained":
-            yield (0, text.encode()), ran(["explain", "c", "r"], c=self.config, r=self.record)
+            yield (0, text.encode()), ran(["explain", *words, "c", "r"], c=self.config, r=self.record)
         elif kind == "woven":
             yield (0, text.replace("\u240d", "\r").encode()), ran(["weave", "c", "r", *words], c=self.config, r=self.record)
         elif kind == "rewritten":

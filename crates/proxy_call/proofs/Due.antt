@@ -58,7 +58,8 @@ config_named words name (inr serve) = inl (inr (inr (inl serve)))
 
 runs_or_usage : (words : List (List ℕ)) (cfg rec : List ℕ) → RunsRecord words cfg rec → IsUsage words → ⊥
 runs_or_usage words cfg rec (inl replay) usage = usage.replay cfg rec replay
-runs_or_usage words cfg rec (inr (inl explain)) usage = usage.explain cfg rec explain
+runs_or_usage words cfg rec (inr (inl (inl explain))) usage = usage.explain cfg rec explain
+runs_or_usage words cfg rec (inr (inl (inr blocks))) usage = usage.explain_blocks cfg rec blocks
 runs_or_usage words cfg rec (inr (inr (cores, weave))) usage = usage.weave cfg rec cores weave
 
 good_or_usage : (words : List (List ℕ)) (files : List NamedBytes) → IsDue words files Good → IsUsage words → ⊥
@@ -167,7 +168,8 @@ pub good_due : (words : List (List ℕ)) (files : Option (List NamedBytes)) (fs 
 good_due words files fs text told (inl (name, is, (cfg, ok, line))) = inl (name, inl is, cfg, of_told files fs _ told ok)
 good_due words files fs text told (inr (inl (rec, is, (r, ok, wrote)))) = inr (inl (rec, is, r, of_told files fs _ told ok))
 good_due words files fs text told (inr (inr (inl (name, rec, is, (cfg, r, say, wrote))))) = inr (inr (inl (name, rec, inl is, cfg, r, of_told files fs _ told say)))
-good_due words files fs text told (inr (inr (inr (inl (name, rec, is, (cfg, r, say, wrote)))))) = inr (inr (inl (name, rec, inr (inl is), cfg, r, of_told files fs _ told say)))
+good_due words files fs text told (inr (inr (inr (inl (name, rec, inl (is, (cfg, r, say, wrote))))))) = inr (inr (inl (name, rec, inr (inl (inl is)), cfg, r, of_told files fs _ told say)))
+good_due words files fs text told (inr (inr (inr (inl (name, rec, inr (is, (cfg, r, say, wrote))))))) = inr (inr (inl (name, rec, inr (inl (inr is)), cfg, r, of_told files fs _ told say)))
 good_due words files fs text told (inr (inr (inr (inr (inl (name, rec, cores, is, (cfg, r, say, wrote))))))) = inr (inr (inl (name, rec, inr (inr (cores, is)), cfg, r, of_told files fs _ told say)))
 good_due words files fs text told (inr (inr (inr (inr (inr (inl (seed, exchanges, is, wrote))))))) = inr (inr (inr (inl (seed, exchanges, is))))
 good_due words files fs text told (inr (inr (inr (inr (inr (inr texts)))))) = inr (inr (inr (inr texts.0)))

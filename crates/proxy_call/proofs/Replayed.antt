@@ -12,10 +12,9 @@ use Rattle.rec_format.specs.Read.{meaning_of, visit, visits}
 use Rattle.rec_format.specs.declared.record.Connection.{Connection}
 use Rattle.rec_format.specs.declared.record.Record.{Record}
 use Rattle.px_explain.specs.Sessions.{AreEntries, IsEntry, IsSessionOf, TellsStatus}
-use Rattle.px_explain.specs.Text.{text_of}
 use Rattle.px_explain.specs.Traced.{Traced, TraceOf}
 use Rattle.htx_drive.specs.Replay.Replayed.{Finds, IsFound, Replays}
-use Rattle.proxy_call.specs.Explained.{IsExplanation}
+use Rattle.proxy_call.specs.Explained.{IsToldOf}
 use Rattle.proxy_sessions.specs.Driven.{stands_for, seen_of}
 
 is_entry : (entry : Option ServerEntry) (server : Server) (sent : Option Sent) → IsFound entry server sent → IsEntry entry server
@@ -42,10 +41,10 @@ first_visit : (conns : List Connection) (conn : Connection) → 0 < length conns
 first_visit [] conn some is = absurd (omega arith)
 first_visit (x ∷ xs) conn some is = ap (λ (c : Connection). visit c ∷ visits xs) (sym is)
 
-pub explained : (cfg : Config) (recorded : Record) (conn : Connection) (told : Traced) (text : List ℕ) → 0 < vec_len recorded.conns → conn ≡ get_or recorded.conns.items 0 conn → TraceOf cfg (visit conn) told
+pub explained : (cfg : Config) (recorded : Record) (conn : Connection) (told : Traced) (IsWritten : Traced → Type 0) → 0 < vec_len recorded.conns → conn ≡ get_or recorded.conns.items 0 conn → TraceOf cfg (visit conn) told
     → ((cfg : Config) (visit : Visit) (traced : Traced) (out : Out) → TraceOf cfg visit traced → IsSessionOf cfg visit out → TellsStatus traced.answer out.client.bytes)
-    → text ≡ text_of told → IsExplanation cfg (meaning_of recorded) text
-explained cfg recorded conn told text some is traced law text_is =
+    → IsWritten told → IsToldOf cfg (meaning_of recorded) IsWritten
+explained cfg recorded conn told IsWritten some is traced law is_written =
     let sessions : (out : Out) → IsSessionOf cfg (visit conn) out → TellsStatus told.answer out.client.bytes = λ out session. law cfg (visit conn) told out traced session in
     let count : length recorded.conns.items ≡ vec_len recorded.conns = sym recorded.conns.ok.0 in
     record {
@@ -54,7 +53,7 @@ explained cfg recorded conn told text some is traced law text_is =
       is_first = first_visit recorded.conns.items conn (omega (arith, count)) is;
       traced = told;
       is_traced = traced;
-      is_text = text_is;
+      is_written = is_written;
       sessions = sessions;
       replays = told_by_replays cfg (visit conn) told.answer sessions;
     }

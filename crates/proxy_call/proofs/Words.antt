@@ -1,9 +1,9 @@
 -- Lists of words are told apart, and say the names of their files.
-use Rattle.std.proofs.Common.{◌≡◌, ℕ, ◌+◌, ◌*◌, ◌==◌, ◌||◌, Bool, true, false, List, [], ◌∷◌, ◌⊎◌, inl, inr, refl, ap, sym, ◌∙◌, subst, codes, length, get_or}
-use Rattle.std.specs.Prelude.{Option, Some}
+use Rattle.std.proofs.Common.{◌≡◌, ℕ, ◌+◌, ◌*◌, ◌==◌, ◌||◌, ◌&&◌, Bool, true, false, List, [], ◌∷◌, ◌⊎◌, inl, inr, refl, ap, sym, ◌∙◌, subst, codes, length, get_or}
+use Rattle.std.specs.Prelude.{Option, Some, if◌then◌else◌}
 use Rattle.px_bytes.specs.Numbers.{decimal_of}
 use Rattle.px_link.specs.Told.{NamedBytes}
-use Rattle.px_command.specs.Command.{IsCheck, IsCheckAll, IsCheckRecord, IsReplay, IsExplain, IsWeave, RunsRecord, IsServe, IsRun, IsDrill, AsksText, IsFileWord, NamesConfig, ReadsConfig}
+use Rattle.px_command.specs.Command.{IsCheck, IsCheckAll, IsCheckRecord, IsReplay, IsExplain, IsExplainBlocks, IsWeave, RunsRecord, IsServe, IsRun, IsDrill, AsksText, IsFileWord, NamesConfig, ReadsConfig}
 use Rattle.px_command.specs.declared.options.RunOptions.{RunOptions}
 use Rattle.proxy_call.specs.Answers.{AsksNoFile, Checks, IsGood, NamesServe}
 use Rattle.proxy_call.specs.Running.{NamesRun}
@@ -29,6 +29,13 @@ third (a ∷ []) = []
 third (a ∷ b ∷ []) = []
 third (a ∷ b ∷ d ∷ rest) = d
 
+abbrev fourth : List (List ℕ) → List ℕ
+fourth [] = []
+fourth (a ∷ []) = []
+fourth (a ∷ b ∷ []) = []
+fourth (a ∷ b ∷ d ∷ []) = []
+fourth (a ∷ b ∷ d ∷ e ∷ rest) = e
+
 check_key : (words : List (List ℕ)) (cfg : List ℕ) → IsCheck words cfg → key words ≡ 1101
 check_key words cfg is = ap key is.0
 
@@ -44,6 +51,9 @@ replay_key words cfg rec is = ap key is.0
 -- `replay` and `explain` have the same letter there, and stand together
 explain_key : (words : List (List ℕ)) (cfg rec : List ℕ) → IsExplain words cfg rec → key words ≡ 2112
 explain_key words cfg rec is = ap key is.0
+
+blocks_key : (words : List (List ℕ)) (cfg rec : List ℕ) → IsExplainBlocks words cfg rec → key words ≡ 3112
+blocks_key words cfg rec is = ap key is.0
 
 weave_key : (words : List (List ℕ)) (cfg rec : List ℕ) (cores : ℕ) → IsWeave words cfg rec cores → key words ≡ 3097
 weave_key words cfg rec cores is = ap key is.1
@@ -76,13 +86,14 @@ text_short words (inr (inr (inr is))) = ap short is
 
 runs_long : (words : List (List ℕ)) (cfg rec : List ℕ) → RunsRecord words cfg rec → short words ≡ false
 runs_long words cfg rec (inl is) = ap short is.0
-runs_long words cfg rec (inr (inl is)) = ap short is.0
+runs_long words cfg rec (inr (inl (inl is))) = ap short is.0
+runs_long words cfg rec (inr (inl (inr is))) = ap short is.0
 runs_long words cfg rec (inr (inr (cores, is))) = ap short is.1
 
 -- ---- which words name a configuration
 
 abbrev has_config : ℕ → Bool
-has_config k = k == 1101 || (k == 2112 || (k == 3097 || k == 2114))
+has_config k = k == 1101 || (k == 2112 || (k == 3112 || (k == 3097 || k == 2114)))
 
 abbrev config_key : List (List ℕ) → Bool
 config_key words = runs words || has_config (key words)
@@ -93,7 +104,8 @@ no_bool b p q = cc
 config_there : (words : List (List ℕ)) (cfg : List ℕ) → NamesConfig words cfg → config_key words ≡ true
 config_there words cfg (inl check) = ap config_key check.0
 config_there words cfg (inr (inl (rec, inl replay))) = ap config_key replay.0
-config_there words cfg (inr (inl (rec, inr (inl explain)))) = ap config_key explain.0
+config_there words cfg (inr (inl (rec, inr (inl (inl explain))))) = ap config_key explain.0
+config_there words cfg (inr (inl (rec, inr (inl (inr blocks))))) = ap config_key blocks.0
 config_there words cfg (inr (inl (rec, inr (inr weave)))) = ap config_key weave.1.1
 config_there words cfg (inr (inr (inl serve))) = ap config_key serve.1.1
 config_there words cfg (inr (inr (inr ran))) = ap config_key ran.1.1
@@ -167,12 +179,13 @@ fileless_or_config words cfg none (inr all) = fileless_or_all words cfg none all
 -- ---- which words name a record
 
 abbrev has_record : ℕ → Bool
-has_record k = k == 2101 || (k == 2112 || k == 3097)
+has_record k = k == 2101 || (k == 2112 || (k == 3112 || k == 3097))
 
 record_there : (words : List (List ℕ)) (rec : List ℕ) → IsCheckRecord words rec ⊎ ((cfg : List ℕ) × RunsRecord words cfg rec) → has_record (key words) ≡ true
 record_there words rec (inl is) = ap has_record (record_key words rec is)
 record_there words rec (inr (cfg, inl replay)) = ap has_record (replay_key words cfg rec replay)
-record_there words rec (inr (cfg, inr (inl explain))) = ap has_record (explain_key words cfg rec explain)
+record_there words rec (inr (cfg, inr (inl (inl explain)))) = ap has_record (explain_key words cfg rec explain)
+record_there words rec (inr (cfg, inr (inl (inr blocks)))) = ap has_record (blocks_key words cfg rec blocks)
 record_there words rec (inr (cfg, inr (inr weave))) = ap has_record (weave_key words cfg rec weave.0 weave.1)
 
 text_or_record : (words : List (List ℕ)) (rec : List ℕ) → AsksText words → IsCheckRecord words rec ⊎ ((cfg : List ℕ) × RunsRecord words cfg rec) → ⊥
@@ -204,7 +217,8 @@ good_or_serve words text files (inl (cfg, inl is, made)) serve = serve_key_or wo
 good_or_serve words text files (inl (cfg, inr all, made)) serve = serve_key_or words (ap is_serve (all_key words cfg all)) serve
 good_or_serve words text files (inr (inl (rec, is, made))) serve = serve_key_or words (ap is_serve (record_key words rec is)) serve
 good_or_serve words text files (inr (inr (inl (cfg, rec, is, made)))) serve = serve_key_or words (ap is_serve (replay_key words cfg rec is)) serve
-good_or_serve words text files (inr (inr (inr (inl (cfg, rec, is, made))))) serve = serve_key_or words (ap is_serve (explain_key words cfg rec is)) serve
+good_or_serve words text files (inr (inr (inr (inl (cfg, rec, inl (is, made)))))) serve = serve_key_or words (ap is_serve (explain_key words cfg rec is)) serve
+good_or_serve words text files (inr (inr (inr (inl (cfg, rec, inr (is, made)))))) serve = serve_key_or words (ap is_serve (blocks_key words cfg rec is)) serve
 good_or_serve words text files (inr (inr (inr (inr (inl (cfg, rec, cores, is, made)))))) serve = serve_key_or words (ap is_serve (weave_key words cfg rec cores is)) serve
 good_or_serve words text files (inr (inr (inr (inr (inr (inl (seed, exchanges, is, made))))))) serve = serve_key_or words (ap is_serve (drill_key words seed exchanges is)) serve
 good_or_serve words text files (inr (inr (inr (inr (inr (inr (asks, ends))))))) (cfg, count, is) = no_bool (short words) (text_short words asks) (ap short is.1)
@@ -221,7 +235,8 @@ run_or_check words cfg (name, options, is) (inr all) = no_bool (runs words) (run
 pub run_or_record : (words : List (List ℕ)) (rec : List ℕ) → NamesRun words → IsCheckRecord words rec ⊎ ((cfg : List ℕ) × RunsRecord words cfg rec) → ⊥
 run_or_record words rec (name, options, is) (inl record_is) = no_bool (runs words) (run_letter words name options is) (ap runs record_is.0)
 run_or_record words rec (name, options, is) (inr (cfg, inl replay)) = no_bool (runs words) (run_letter words name options is) (ap runs replay.0)
-run_or_record words rec (name, options, is) (inr (cfg, inr (inl explain))) = no_bool (runs words) (run_letter words name options is) (ap runs explain.0)
+run_or_record words rec (name, options, is) (inr (cfg, inr (inl (inl explain)))) = no_bool (runs words) (run_letter words name options is) (ap runs explain.0)
+run_or_record words rec (name, options, is) (inr (cfg, inr (inl (inr blocks)))) = no_bool (runs words) (run_letter words name options is) (ap runs blocks.0)
 run_or_record words rec (name, options, is) (inr (cfg, inr (inr (cores, weave)))) = no_bool (runs words) (run_letter words name options is) (ap runs weave.1)
 
 pub run_or_fileless : (words : List (List ℕ)) → NamesRun words → AsksNoFile words → ⊥
@@ -232,23 +247,37 @@ pub good_or_run : (words : List (List ℕ)) (text : List ℕ) (files : Option (L
 good_or_run words text files (inl (cfg, is, made)) named = run_or_check words cfg named is
 good_or_run words text files (inr (inl (rec, is, made))) named = run_or_record words rec named (inl is)
 good_or_run words text files (inr (inr (inl (cfg, rec, is, made)))) named = run_or_record words rec named (inr (cfg, inl is))
-good_or_run words text files (inr (inr (inr (inl (cfg, rec, is, made))))) named = run_or_record words rec named (inr (cfg, inr (inl is)))
+good_or_run words text files (inr (inr (inr (inl (cfg, rec, inl (is, made)))))) named = run_or_record words rec named (inr (cfg, inr (inl (inl is))))
+good_or_run words text files (inr (inr (inr (inl (cfg, rec, inr (is, made)))))) named = run_or_record words rec named (inr (cfg, inr (inl (inr is))))
 good_or_run words text files (inr (inr (inr (inr (inl (cfg, rec, cores, is, made)))))) named = run_or_record words rec named (inr (cfg, inr (inr (cores, is))))
 good_or_run words text files (inr (inr (inr (inr (inr (inl (seed, exchanges, is, made))))))) named = run_or_fileless words named (inl (seed, exchanges, is))
 good_or_run words text files (inr (inr (inr (inr (inr (inr (asks, ends))))))) named = run_or_fileless words named (inr asks)
 
 -- ---- the names of files
 
-config_second : (words : List (List ℕ)) (cfg : List ℕ) → NamesConfig words cfg → second words ≡ cfg
-config_second words cfg (inl check) = ap second check.0
-config_second words cfg (inr (inl (rec, inl is))) = ap second is.0
-config_second words cfg (inr (inl (rec, inr (inl is)))) = ap second is.0
-config_second words cfg (inr (inl (rec, inr (inr (cores, is))))) = ap second is.1
-config_second words cfg (inr (inr (inl (count, is)))) = ap second is.1
-config_second words cfg (inr (inr (inr (options, is)))) = ap second is.1
+-- whether a flag stands in front of the two files: three words behind one whose third letter is that of `explain`
+abbrev has_flag : List (List ℕ) → Bool
+has_flag [] = false
+has_flag (first ∷ rest) = get_or first 2 0 == 112 && length rest == 3
+
+-- where these stand
+abbrev config_word : List (List ℕ) → List ℕ
+config_word words = if has_flag words then third words else second words
+
+abbrev record_word : List (List ℕ) → List ℕ
+record_word words = if has_flag words then fourth words else third words
+
+config_named_there : (words : List (List ℕ)) (cfg : List ℕ) → NamesConfig words cfg → config_word words ≡ cfg
+config_named_there words cfg (inl check) = ap config_word check.0
+config_named_there words cfg (inr (inl (rec, inl is))) = ap config_word is.0
+config_named_there words cfg (inr (inl (rec, inr (inl (inl is))))) = ap config_word is.0
+config_named_there words cfg (inr (inl (rec, inr (inl (inr is))))) = ap config_word is.0
+config_named_there words cfg (inr (inl (rec, inr (inr (cores, is))))) = ap config_word is.1
+config_named_there words cfg (inr (inr (inl (count, is)))) = ap config_word is.1
+config_named_there words cfg (inr (inr (inr (options, is)))) = ap config_word is.1
 
 same_named : (words : List (List ℕ)) (a b : List ℕ) → NamesConfig words a → NamesConfig words b → a ≡ b
-same_named words a b p q = let x = config_second words a p in let y = config_second words b q in cc
+same_named words a b p q = let x = config_named_there words a p in let y = config_named_there words b q in cc
 
 same_third : (words : List (List ℕ)) (a b : List ℕ) → IsCheckAll words a → IsCheckAll words b → a ≡ b
 same_third words a b p q = let x : third words ≡ a = ap third p.0 in let y : third words ≡ b = ap third q.0 in cc
@@ -259,14 +288,15 @@ same_config_name words a b (inl p) (inr q) = absurd (named_or_all words a b p q)
 same_config_name words a b (inr p) (inl q) = absurd (named_or_all words b a q p)
 same_config_name words a b (inr p) (inr q) = same_third words a b p q
 
-record_third : (words : List (List ℕ)) (rec : List ℕ) → IsCheckRecord words rec ⊎ ((cfg : List ℕ) × RunsRecord words cfg rec) → third words ≡ rec
-record_third words rec (inl is) = ap third is.0
-record_third words rec (inr (cfg, inl is)) = ap third is.0
-record_third words rec (inr (cfg, inr (inl is))) = ap third is.0
-record_third words rec (inr (cfg, inr (inr (cores, is)))) = ap third is.1
+record_named_there : (words : List (List ℕ)) (rec : List ℕ) → IsCheckRecord words rec ⊎ ((cfg : List ℕ) × RunsRecord words cfg rec) → record_word words ≡ rec
+record_named_there words rec (inl is) = ap record_word is.0
+record_named_there words rec (inr (cfg, inl is)) = ap record_word is.0
+record_named_there words rec (inr (cfg, inr (inl (inl is)))) = ap record_word is.0
+record_named_there words rec (inr (cfg, inr (inl (inr is)))) = ap record_word is.0
+record_named_there words rec (inr (cfg, inr (inr (cores, is)))) = ap record_word is.1
 
 pub same_record_name : (words : List (List ℕ)) (a b : List ℕ) → IsCheckRecord words a ⊎ ((cfg : List ℕ) × RunsRecord words cfg a) → IsCheckRecord words b ⊎ ((cfg : List ℕ) × RunsRecord words cfg b) → a ≡ b
-same_record_name words a b p q = let x = record_third words a p in let y = record_third words b q in cc
+same_record_name words a b p q = let x = record_named_there words a p in let y = record_named_there words b q in cc
 
 same_number : (a b w : List ℕ) (count n : ℕ) → w ≡ a → w ≡ b → decimal_of 10 a ≡ Some count → decimal_of 10 b ≡ Some n → count ≡ n
 same_number a b w count n p q c d = let e : decimal_of 10 a ≡ decimal_of 10 b = ap (decimal_of 10) (sym p ∙ q) in cc

@@ -7,7 +7,7 @@ use Rattle.cfg_parse.specs.declared.fault.CfgKind.{CfgKind}
 use Rattle.cfg_parse.specs.declared.refused.RefusedLine.{RefusedLine}
 use Rattle.htx_drive.specs.Drill.Drill.{configuration}
 use Rattle.forward_core.specs.Meaning.Product.{meaning_of}
-use Rattle.px_command.specs.Command.{IsCheck, IsCheckAll, IsCheckRecord, IsReplay, IsExplain, IsWeave, RunsRecord, IsServe, IsDrill, AsksText, IsUsage, NamesConfig, ReadsConfig}
+use Rattle.px_command.specs.Command.{IsCheck, IsCheckAll, IsCheckRecord, IsReplay, IsExplain, IsExplainBlocks, IsWeave, RunsRecord, IsServe, IsDrill, AsksText, IsUsage, NamesConfig, ReadsConfig}
 use Rattle.px_command.specs.Texts.{EndsLine}
 use Rattle.rec_format.specs.declared.record.RecKind.{RecKind}
 use Rattle.rec_format.specs.Recorded.{Recorded}
@@ -15,7 +15,7 @@ use Rattle.rec_format.specs.Written.{written}
 use Rattle.htx_drive.specs.Replay.Written.{IsReplayOf, IsDrillOf}
 use Rattle.htx_drive.specs.Weave.Recorded.{IsWeaveOf}
 use Rattle.proxy_sessions.specs.Driven.{stands_for, seen_of}
-use Rattle.proxy_call.specs.Explained.{IsExplanation}
+use Rattle.proxy_call.specs.Explained.{IsExplanation, IsBlockExplanation}
 use Rattle.proxy_call.specs.Lines.{accepted_line, refused_line, record_line, file_line}
 use Rattle.proxy_call.specs.Refusals.{refused_text}
 use Rattle.proxy_call.specs.Files.{IfTold, Builder, Configured, IsBuilt, RecordIs, Refuses, RefusesAll, Say}
@@ -70,6 +70,17 @@ abbrev pub IsExplanationOf : Option (List NamedBytes) → (cfg_name rec_name tex
 IsExplanationOf files cfg_name rec_name text =
     (cfg : Config) × (rec : Recorded) × IfTold files (λ fs. Say fs cfg_name rec_name cfg rec) × IsExplanation cfg rec text
 
+-- the text is that with the arrays that the rules left
+abbrev pub IsBlockExplanationOf : Option (List NamedBytes) → (cfg_name rec_name text : List ℕ) → Type 0
+IsBlockExplanationOf files cfg_name rec_name text =
+    (cfg : Config) × (rec : Recorded) × IfTold files (λ fs. Say fs cfg_name rec_name cfg rec) × IsBlockExplanation cfg rec text
+
+-- the text is what `explain` of these files tells, with the flag or without
+abbrev pub IsExplained : List (List ℕ) → Option (List NamedBytes) → (cfg_name rec_name text : List ℕ) → Type 0
+IsExplained words files cfg_name rec_name text =
+    (IsExplain words cfg_name rec_name × IsExplanationOf files cfg_name rec_name text)
+    ⊎ (IsExplainBlocks words cfg_name rec_name × IsBlockExplanationOf files cfg_name rec_name text)
+
 -- The text is the report of a record, always in the second format, by what the configuration makes of its connections over so many cores that they share, each by its
 -- own turns behind those that found none. With a core for each connection none waits: it is the report of `replay` in that format.
 pub record IsWoven (cfg : Config) (cores : ℕ) (rec : Recorded) (text : List ℕ) : Type 0 where
@@ -110,7 +121,7 @@ IsGood words files text =
     ((cfg_name : List ℕ) × Checks words cfg_name × IsCheckOf files cfg_name text)
     ⊎ (((rec_name : List ℕ) × IsCheckRecord words rec_name × IsRewritten files rec_name text)
     ⊎ (((cfg_name : List ℕ) × (rec_name : List ℕ) × IsReplay words cfg_name rec_name × IsReportOf files cfg_name rec_name text)
-    ⊎ (((cfg_name : List ℕ) × (rec_name : List ℕ) × IsExplain words cfg_name rec_name × IsExplanationOf files cfg_name rec_name text)
+    ⊎ (((cfg_name : List ℕ) × (rec_name : List ℕ) × IsExplained words files cfg_name rec_name text)
     ⊎ (((cfg_name : List ℕ) × (rec_name : List ℕ) × (cores : ℕ) × IsWeave words cfg_name rec_name cores × IsWovenReportOf files cfg_name rec_name cores text)
     ⊎ (((seed : ℕ) × (exchanges : ℕ) × IsDrill words seed exchanges × IsDrilled seed exchanges text)
     ⊎ (AsksText words × EndsLine text))))))

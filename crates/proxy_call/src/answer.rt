@@ -3,7 +3,7 @@
 ghost use Rattle.std.specs.Prelude.{◌≡◌, ◌+◌, ◌<◌, ◌≤◌, length, vec_len, ℕ, List, Option, Ok, IfOk, IfErr, OnOk};
 ghost use Rattle.px_link.specs.Told.{NamedBytes, Reads};
 ghost use Rattle.http_rules.specs.Valid.{IsValid};
-ghost use Rattle.px_command.specs.Command.{IsCheck, IsCheckAll, IsCheckRecord, IsReplay, IsExplain, IsWeave, RunsRecord, IsDrill, NamesConfig};
+ghost use Rattle.px_command.specs.Command.{IsCheck, IsCheckAll, IsCheckRecord, IsReplay, IsExplain, IsExplainBlocks, IsWeave, RunsRecord, IsDrill, NamesConfig};
 ghost use Rattle.rec_format.specs.Numbered.{IsNumbered};
 ghost use Rattle.rec_format.specs.Read.{meaning_of};
 ghost use Rattle.rec_format.specs.Reports.{Reportable};
@@ -11,7 +11,7 @@ ghost use Rattle.proxy_call.specs.Files.{IfTold, Builder, Configured, IsBuilt, S
 ghost use Rattle.proxy_call.specs.Stops.{Answers, ReadStops, SaysVerdict, StopsBy, given};
 ghost use Rattle.proxy_call.specs.Lines.{accepted_line};
 
-use crate::explaining::explanation;
+use crate::explaining::{block_explanation, explanation};
 use crate::lines::accepted_line;
 use crate::refusals::refused_text;
 use proxy_sessions::{drill_lines, replay_report, weave_report};
@@ -190,6 +190,21 @@ pub fn explain<'a, F: Files, P: Patterns>(
 {
     let said = two_files(alloc, files, cfg_name, rec_name, pats)?;
     Ok(explanation(alloc, &said.config, &said.record)?)
+}
+
+/// What `explain --blocks CFG REC` tells.
+pub fn explain_blocks<'a, F: Files, P: Patterns>(
+    alloc: Global,
+    files: &mut F,
+    cfg_name: &'a str,
+    rec_name: &'a str,
+    pats: &mut P,
+) -> Result<Bytes, Stop<'a>>
+    ensures { (words : List (List ℕ)) → IsExplainBlocks words cfg_name.now rec_name.now
+        → Answers (given words (F.files files.old) (told_by (P.refusals pats.old) (P.refusals pats.new) (P.last_refused pats.new)) (F.last_failed files.new) (F.faults files.old) (F.faults files.new)) result }
+{
+    let said = two_files(alloc, files, cfg_name, rec_name, pats)?;
+    Ok(block_explanation(alloc, &said.config, &said.record)?)
 }
 
 /// The report of `weave CFG REC K`.

@@ -6,7 +6,9 @@ ghost use Rattle.proxy_sessions.specs.Running.{Runs};
 ghost use Rattle.proxy_sessions.specs.Serving.{Serves};
 ghost use Rattle.proxy_call.specs.Stops.{Answers, Input, given};
 
-use crate::answer::{check, check_all, check_record, drill, explain, replay, weave};
+use crate::answer::{
+    check, check_all, check_record, drill, explain, explain_blocks, replay, weave,
+};
 use crate::networks::Networks;
 use crate::running::{RunCommand, run_many};
 use crate::serving::{ServeCommand, serve};
@@ -59,6 +61,9 @@ pub fn run<
         Asked::CheckRecord { rec } => write(check_record(alloc, files, rec), out),
         Asked::Replay { cfg, rec } => write(replay(alloc, files, cfg, rec, pats), out),
         Asked::Explain { cfg, rec } => write(explain(alloc, files, cfg, rec, pats), out),
+        Asked::ExplainBlocks { cfg, rec } => {
+            write(explain_blocks(alloc, files, cfg, rec, pats), out)
+        }
         Asked::Weave { cfg, rec, cores } => {
             write(weave(alloc, files, cfg, rec, cores, pats), out)
         }

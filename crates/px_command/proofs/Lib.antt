@@ -1,4 +1,5 @@
 mod Accepted
+mod FlagWords
 mod Items
 mod Passes
 mod Reading

@@ -7,10 +7,11 @@ use Rattle.clap.specs.declared.error.Error.{Error}
 use Rattle.clap.specs.declared.error.kind.ErrorKind.{ErrorKind}
 use Rattle.clap.specs.declared.error.kind.ErrorKind.TheVariants.{OutOfMemory}
 use Rattle.clap.proofs.OnLiterals.{clap_on_literals}
-use Rattle.px_command.specs.Command.{IsFileWord, IsCheck, IsCheckAll, IsCheckRecord, IsReplay, IsExplain, IsWeave, IsServe, IsRun, IsDrill, AsksText, IsUsage}
+use Rattle.px_command.specs.Command.{IsFileWord, IsCheck, IsCheckAll, IsCheckRecord, IsReplay, IsExplain, IsExplainBlocks, IsWeave, IsServe, IsRun, IsDrill, AsksText, IsUsage}
 use Rattle.px_command.specs.Parser.{IsRefused, parser}
 use Rattle.px_command.specs.declared.options.RunOptions.{RunOptions}
 use Rattle.px_command.proofs.Accepted.{number_word}
+use Rattle.px_command.proofs.FlagWords.{explain_blocks_passes}
 use Rattle.px_command.proofs.ThreeWords.{weave_passes}
 
 -- ---- by computing, with words of which no dash stands in front
@@ -62,6 +63,11 @@ by_words command passes [] b file other = absurd file
 by_words command passes (x ∷ a) [] file other = absurd other
 by_words command passes (x ∷ a) (y ∷ b) file other = passes x a (not_dash x file) y b (not_dash y other)
 
+blocks_pass : (a b : Text) → IsFileWord a → IsFileWord b → fault_of parser (codes "explain" ∷ codes "--blocks" ∷ a ∷ b ∷ []) ≡ []
+blocks_pass [] b file other = absurd file
+blocks_pass (x ∷ a) [] file other = absurd other
+blocks_pass (x ∷ a) (y ∷ b) file other = explain_blocks_passes x y a b (not_dash x file) (not_dash y other)
+
 three_pass : (a b d : Text) → IsFileWord a → IsFileWord b → IsFileWord d → fault_of parser (codes "weave" ∷ a ∷ b ∷ d ∷ []) ≡ []
 three_pass [] b d file other third = absurd file
 three_pass (x ∷ a) [] d file other third = absurd other
@@ -82,6 +88,9 @@ passes_replay ws cfg rec is = ap (fault_of parser) is.0 ∙ by_words (codes "rep
 
 passes_explain : (ws : List Text) (cfg rec : Text) → IsExplain ws cfg rec → fault_of parser ws ≡ []
 passes_explain ws cfg rec is = ap (fault_of parser) is.0 ∙ by_words (codes "explain") explain_passes cfg rec is.1 is.2
+
+passes_explain_blocks : (ws : List Text) (cfg rec : Text) → IsExplainBlocks ws cfg rec → fault_of parser ws ≡ []
+passes_explain_blocks ws cfg rec is = ap (fault_of parser) is.0 ∙ blocks_pass cfg rec is.1 is.2
 
 passes_weave : (ws : List Text) (cfg rec : Text) (cores : ℕ) → IsWeave ws cfg rec cores → fault_of parser ws ≡ []
 passes_weave ws cfg rec cores is = ap (fault_of parser) is.1 ∙ three_pass cfg rec is.0 is.2 is.3 (number_word 1 256 is.0 cores is.4)
@@ -116,6 +125,7 @@ refused_usage ws e refused other text run =
       check_record = λ rec is. only_memory ws e refused other (passes_check_record ws rec is);
       replay = λ cfg rec is. only_memory ws e refused other (passes_replay ws cfg rec is);
       explain = λ cfg rec is. only_memory ws e refused other (passes_explain ws cfg rec is);
+      explain_blocks = λ cfg rec is. only_memory ws e refused other (passes_explain_blocks ws cfg rec is);
       weave = λ cfg rec cores is. only_memory ws e refused other (passes_weave ws cfg rec cores is);
       serve = λ cfg connections is. only_memory ws e refused other (passes_serve ws cfg connections is);
       drill = λ seed exchanges is. only_memory ws e refused other (passes_drill ws seed exchanges is);

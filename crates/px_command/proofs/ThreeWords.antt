@@ -10,14 +10,17 @@ use Rattle.clap.specs.Walk.{Held, Names, Walk, answers_to, finished, idle, nothi
 use Rattle.clap.proofs.OnLiterals.{clap_on_literals}
 use Rattle.px_command.specs.Parser.{parser}
 
--- the command's own level
-abbrev weave_level : Shape
-weave_level = unwrap_or (find (λ (s : Shape). answers_to (codes "weave") (label_of s)) (built parser).subs) (built parser).top
+-- a command's own level
+abbrev pub level_of : (command : Text) → Shape
+level_of command = unwrap_or (find (λ (s : Shape). answers_to command (label_of s)) (built parser).subs) (built parser).top
 
--- the walk behind a word that goes to the argument of this name
-abbrev walk_behind : Held → (position : ℕ) → (name word : Text) → Walk
-walk_behind held position name word = record {
-  held = pushed name word (settled weave_level.rules held);
+abbrev weave_level : Shape
+weave_level = level_of (codes "weave")
+
+-- the walk on a level behind a word that goes to the argument of this name
+abbrev pub walk_behind : Shape → Held → (position : ℕ) → (name word : Text) → Walk
+walk_behind level held position name word = record {
+  held = pushed name word (settled level.rules held);
   waiting = idle;
   position = position;
   is_trailing = false;
@@ -25,19 +28,19 @@ walk_behind held position name word = record {
 }
 
 -- one word without fault, and the others
-walks_on : (s : Shape) (names : Names) (w next : Walk) (word : Text) (rest : List Text) → turn_fault s names w word ≡ [] → walked s.rules names w word ≡ next
+pub walks_on : (s : Shape) (names : Names) (w next : Walk) (word : Text) (rest : List Text) → turn_fault s names w word ≡ [] → walked s.rules names w word ≡ next
     → walk_fault s names next rest ≡ [] → walk_fault s names w (word ∷ rest) ≡ []
 unfolding walk_fault
 walks_on s names w next word rest turn is others =
     ap (λ (k : Kinds). or_else k (walk_fault s names (walked s.rules names w word) rest)) turn ∙ (ap (λ (v : Walk). walk_fault s names v rest) is ∙ others)
 
 -- where a level's walk ends
-abbrev rest_of_level : Shape → Held → Kinds
+abbrev pub rest_of_level : Shape → Held → Kinds
 rest_of_level s held =
     or_else (settle_fault s.rules s.args_override_self held) (or_else (defaults_fault (settled s.rules held).rows s.rules) (check_fault s (finished s.rules held) false))
 
 -- a level without fault, by its walk
-level_passes : (s : Shape) (words : List Text) (held : Held) → walk_fault s [] (walk_from nothing_held) words ≡ [] → (walk s.rules [] nothing_held words).held ≡ held
+pub level_passes : (s : Shape) (words : List Text) (held : Held) → walk_fault s [] (walk_from nothing_held) words ≡ [] → (walk s.rules [] nothing_held words).held ≡ held
     → rest_of_level s held ≡ [] → level_fault s [] nothing_held words false [] ≡ []
 level_passes s words held walks ends rest =
     ap (λ (k : Kinds). or_else k (rest_of_level s (walk s.rules [] nothing_held words).held)) walks ∙ (ap (rest_of_level s) ends ∙ rest)
@@ -48,13 +51,13 @@ module _ (x y z : ℕ) (a b d : List ℕ) (first : (x == 45) ≡ false) (second 
 
   -- where the walk stands behind each word
   abbrev behind_one : Walk
-  behind_one = walk_behind nothing_held 2 (codes "CFG") (x ∷ a)
+  behind_one = walk_behind weave_level nothing_held 2 (codes "CFG") (x ∷ a)
 
   abbrev behind_two : Walk
-  behind_two = walk_behind behind_one.held 3 (codes "REC") (y ∷ b)
+  behind_two = walk_behind weave_level behind_one.held 3 (codes "REC") (y ∷ b)
 
   abbrev behind_three : Walk
-  behind_three = walk_behind behind_two.held 4 (codes "K") (z ∷ d)
+  behind_three = walk_behind weave_level behind_two.held 4 (codes "K") (z ∷ d)
 
   walked_one : walked weave_level.rules [] (walk_from nothing_held) (x ∷ a) ≡ behind_one
   unfolding clap_on_literals

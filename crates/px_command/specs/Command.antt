@@ -43,6 +43,14 @@ IsReplay words cfg rec = IsOfFiles words (codes "replay") cfg rec
 abbrev pub IsExplain : List (List ℕ) → (cfg rec : List ℕ) → Type 0
 IsExplain words cfg rec = IsOfFiles words (codes "explain") cfg rec
 
+-- the words are `explain --blocks CFG REC`
+abbrev pub IsExplainBlocks : List (List ℕ) → (cfg rec : List ℕ) → Type 0
+IsExplainBlocks words cfg rec = (words ≡ codes "explain" ∷ codes "--blocks" ∷ cfg ∷ rec ∷ []) × IsFileWord cfg × IsFileWord rec
+
+-- the words are `explain` of these two files, with the flag or without
+abbrev pub Explains : List (List ℕ) → (cfg rec : List ℕ) → Type 0
+Explains words cfg rec = IsExplain words cfg rec ⊎ IsExplainBlocks words cfg rec
+
 -- the words are `weave CFG REC K`, with 1 to 256 cores
 abbrev pub IsWeave : List (List ℕ) → (cfg rec : List ℕ) → (cores : ℕ) → Type 0
 IsWeave words cfg rec cores =
@@ -50,7 +58,7 @@ IsWeave words cfg rec cores =
 
 -- the words are `replay`, `explain` or `weave` of these two files
 abbrev pub RunsRecord : List (List ℕ) → (cfg rec : List ℕ) → Type 0
-RunsRecord words cfg rec = IsReplay words cfg rec ⊎ (IsExplain words cfg rec ⊎ ((cores : ℕ) × IsWeave words cfg rec cores))
+RunsRecord words cfg rec = IsReplay words cfg rec ⊎ (Explains words cfg rec ⊎ ((cores : ℕ) × IsWeave words cfg rec cores))
 
 -- the words are `serve CFG COUNT`, with 1 to 1000000 connections
 abbrev pub IsServe : List (List ℕ) → (cfg : List ℕ) → (connections : ℕ) → Type 0
@@ -101,6 +109,7 @@ pub record IsUsage (words : List (List ℕ)) : Type 0 where
   pub check_record : (rec : List ℕ) → IsCheckRecord words rec → ⊥
   pub replay : (cfg rec : List ℕ) → IsReplay words cfg rec → ⊥
   pub explain : (cfg rec : List ℕ) → IsExplain words cfg rec → ⊥
+  pub explain_blocks : (cfg rec : List ℕ) → IsExplainBlocks words cfg rec → ⊥
   pub weave : (cfg rec : List ℕ) (cores : ℕ) → IsWeave words cfg rec cores → ⊥
   pub serve : (cfg : List ℕ) (connections : ℕ) → IsServe words cfg connections → ⊥
   pub run : (cfg : List ℕ) (options : RunOptions) → IsRun words cfg options → ⊥

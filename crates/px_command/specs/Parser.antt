@@ -18,6 +18,10 @@ flag_rule name = record (new_rule name) { long = Some name; action = Some SetTru
 abbrev pub two_words : (name first second : Text) → App
 two_words name first second = with_rule (with_rule (new_app name) (word_rule first)) (word_rule second)
 
+-- `explain`, with the flag that asks for the blocks, and two files
+abbrev pub explain_shape : App
+explain_shape = with_rule (with_rule (with_rule (new_app (codes "explain")) (flag_rule (codes "blocks"))) (word_rule (codes "CFG"))) (word_rule (codes "REC"))
+
 -- `weave`, with two files and a number
 abbrev pub weave_shape : App
 weave_shape = with_rule (two_words (codes "weave") (codes "CFG") (codes "REC")) (word_rule (codes "K"))
@@ -49,7 +53,7 @@ abbrev pub parser : App
 parser =
     let check = with_subcommand top_level check_shape.top in
     let replay = with_subcommand check (two_words (codes "replay") (codes "CFG") (codes "REC")).top in
-    let explain = with_subcommand replay (two_words (codes "explain") (codes "CFG") (codes "REC")).top in
+    let explain = with_subcommand replay explain_shape.top in
     let weave = with_subcommand explain weave_shape.top in
     let serve = with_subcommand weave (two_words (codes "serve") (codes "CFG") (codes "COUNT")).top in
     let run = with_subcommand serve run_shape.top in

@@ -7,7 +7,8 @@ ghost use Rattle.px_command.specs.declared.options.RunOptions.{RunOptions as Opt
 
 use crate::lists::{
     asks_help, asks_version, check_all_file, check_file, check_record_file, drill_numbers,
-    explain_files, help_command, replay_files, run_words, serve_words, weave_words,
+    explain_blocks_files, explain_files, help_command, replay_files, run_words, serve_words,
+    weave_words,
 };
 use crate::name::CommandName;
 use crate::options::RunOptions;
@@ -41,6 +42,11 @@ pub enum Asked<'a> {
     },
     /// `explain CFG REC`.
     Explain {
+        cfg: &'a str,
+        rec: &'a str,
+    },
+    /// `explain --blocks CFG REC`.
+    ExplainBlocks {
         cfg: &'a str,
         rec: &'a str,
     },
@@ -99,6 +105,9 @@ fn taken<'a>(alloc: Global, words: &'a [String]) -> Result<Asked<'a>, OutOfMemor
     }
     if let Some((cfg, rec)) = explain_files(words) {
         return Ok(Asked::Explain { cfg, rec });
+    }
+    if let Some((cfg, rec)) = explain_blocks_files(words) {
+        return Ok(Asked::ExplainBlocks { cfg, rec });
     }
     if let Some((cfg, rec, cores)) = weave_words(words) {
         return Ok(Asked::Weave { cfg, rec, cores });

@@ -1,6 +1,6 @@
 //! The lists of words that name a command, or a text of the program.
 ghost use Rattle.std.specs.Prelude.{◌↔◌, ℕ, List, map, IsTrue, IfSome, IfNone, string_bytes};
-ghost use Rattle.px_command.specs.Command.{IsFlagged, IsOfFiles, IsCheck, IsCheckAll, IsCheckRecord, IsReplay, IsExplain, IsWeave, IsServe, IsRun, IsDrill, IsHelp, IsHelpOf, IsVersion};
+ghost use Rattle.px_command.specs.Command.{IsFlagged, IsOfFiles, IsCheck, IsCheckAll, IsCheckRecord, IsReplay, IsExplain, IsExplainBlocks, IsWeave, IsServe, IsRun, IsDrill, IsHelp, IsHelpOf, IsVersion};
 ghost use Rattle.px_command.specs.declared.name.CommandName.{CommandName as Named};
 ghost use Rattle.px_command.specs.declared.options.RunOptions.{RunOptions as Options};
 
@@ -79,6 +79,21 @@ pub fn explain_files<'a>(words: &'a [String]) -> Option<(&'a str, &'a str)>
     ensures none { IfNone result ((cfg rec : List ℕ) → IsExplain (map string_bytes words.now) cfg rec → ⊥) }
 {
     files_behind(words, "explain")
+}
+
+/// The two files of `explain --blocks CFG REC`.
+pub fn explain_blocks_files<'a>(words: &'a [String]) -> Option<(&'a str, &'a str)>
+    ensures some { IfSome result (λ files. IsExplainBlocks (map string_bytes words.now) files.0.now files.1.now) }
+    ensures none { IfNone result ((cfg rec : List ℕ) → IsExplainBlocks (map string_bytes words.now) cfg rec → ⊥) }
+{
+    let (flag, cfg, rec) = three_behind(words, "explain")?;
+    if flag != "--blocks" {
+        return None;
+    }
+    if !is_file_word(cfg) || !is_file_word(rec) {
+        return None;
+    }
+    Some((cfg, rec))
 }
 
 /// The two files and the number of cores of `weave CFG REC K`.

@@ -2,7 +2,7 @@
 ghost use Rattle.std.specs.Prelude.{◌≡◌, ℕ, List, IfOk, false, codes};
 ghost use Rattle.clap.specs.Words.{App, app_of, new_app, rule_of, with_rule, with_subcommand};
 ghost use Rattle.clap.specs.declared.builder.command.Command.TheViews.{out-Command};
-ghost use Rattle.px_command.specs.Parser.{word_rule, flag_rule, two_words, weave_shape, run_numbers, run_shape, option_rule, check_shape, top_level, parser};
+ghost use Rattle.px_command.specs.Parser.{word_rule, flag_rule, two_words, explain_shape, weave_shape, run_numbers, run_shape, option_rule, check_shape, top_level, parser};
 
 use clap::{Arg, ArgAction, Command};
 use std::alloc::{AllocError, Global};
@@ -114,19 +114,20 @@ pub fn replay_command<'a>(alloc: Global) -> Result<Command<'a>, AllocError>
     )
 }
 
-/// `explain CFG REC`.
+/// `explain CFG REC` and `explain --blocks CFG REC`.
 pub fn explain_command<'a>(alloc: Global) -> Result<Command<'a>, AllocError>
-    ensures app { IfOk result (λ c. app_of c ≡ two_words (codes "explain") (codes "CFG") (codes "REC")) }
+    ensures app { IfOk result (λ c. app_of c ≡ explain_shape) }
     ensures local { IfOk result (λ c. (out-Command c).has_globals ≡ false) }
 {
-    word_behind(
+    let about =
+        "Says what each rule does to the first exchange of a record, and what its client is sent";
+    let blocks = flag(
         alloc,
-        "explain",
-        "Says what each rule does to the first exchange of a record, and what its client is sent",
-        cfg_word(alloc),
-        "REC",
-        "The file of the record",
-    )
+        "blocks",
+        "Writes the blocks of the message behind each rule that ran",
+    );
+    let file = one_argument(alloc, "explain", about, blocks)?.arg(cfg_word(alloc))?;
+    file.arg(word(alloc, "REC", "The file of the record"))
 }
 
 /// `weave CFG REC K`.

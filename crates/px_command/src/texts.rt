@@ -73,8 +73,9 @@ the record (3), the output (5).";
 
 /// What the help of `explain` says behind its words.
 const EXPLAIN: &[u8] = b"
-Example:
-  htx_proxy explain site.cfg site.rec  writes lines as `request rule 1 done`, and at last one as `answer 200`
+Examples:
+  htx_proxy explain site.cfg site.rec           writes lines as `request rule 1 done`, and at last one as `answer 200`
+  htx_proxy explain --blocks site.cfg site.rec  writes the blocks of the message too, behind the line of each rule that ran
 
 It is of the first exchange of the record's first connection. Each rule that is reached has a line, with its list, its number
 there from 1, and what it came to. The list `request` is of the request, `response` of the server's final head, and `after`
@@ -88,6 +89,12 @@ of all that the client is sent.
   fail       it failed, and the client is refused with 500
 The last line is the status that the client is sent: `answer CODE`, or `answer none` where nothing is asked. The request is
 taken as one that comes whole, and a server that is not in the record as one that refuses.
+
+With --blocks a rule that ran has more lines behind its own: of the array in which the message stands, as the rule left it.
+  room SIZE load L free F                     the array has SIZE bytes; the blocks weigh L, and F more may come
+  block I KIND at A name N value V TEXT       block I, counted from 0; N bytes of name and V behind them stand from byte A on
+Each block weighs 8 bytes more than it has. TEXT is the first 64 bytes, without the three lengths of 4 bytes in front of a
+start line; a byte that is neither a blank nor from `!` to `~` is `\\xNN`.
 
 Refused in this order: the words (1), the file of the configuration (4), the configuration (2), the file of the record (4),
 the record (3), the output (5).";
@@ -292,6 +299,9 @@ fn wrong_text(alloc: Global, wrong: &Wrong<'_>) -> Result<Bytes, OutOfMemory>
     reason_and_help(alloc, reason.as_slice())
 }
 
+/// What is wrong with the flag of `explain`.
+const WRONG_BLOCKS: &[u8] = b"the argument '--blocks' must stand in front of '<CFG>'";
+
 /// What is wrong with the flags of `check`.
 fn wrong_flag(words: &[String]) -> &'static [u8] {
     if has_word(words, "--all") && has_word(words, "--record") {
@@ -318,6 +328,7 @@ fn wrong_option(words: &[String]) -> &'static [u8] {
 fn wrong_order(words: &[String]) -> &'static [u8] {
     match words {
         [command, ..] if command.as_str() == "run" => wrong_option(words),
+        [command, ..] if command.as_str() == "explain" => WRONG_BLOCKS,
         _ => wrong_flag(words),
     }
 }

@@ -76,7 +76,7 @@ fn wrong_files<'a>(cfg: &'a str, rec: &'a str) -> Option<Wrong<'a>> {
     wrong_file("REC", rec)
 }
 
-/// The first word that is wrong of the three of `weave`, the only command with so many.
+/// The first word that is wrong of the three of `weave`.
 fn wrong_weave<'a>(cfg: &'a str, rec: &'a str, cores: &'a str) -> Option<Wrong<'a>> {
     if let Some(wrong) = wrong_files(cfg, rec) {
         return Some(wrong);
@@ -100,6 +100,22 @@ fn wrong_of_two<'a>(command: &str, first: &'a str, second: &'a str) -> Option<Wr
         return wrong_serve(first, second);
     }
     wrong_files(first, second)
+}
+
+/// The first word that is wrong of the three behind a command.
+fn wrong_of_three<'a>(
+    command: &str,
+    first: &'a str,
+    second: &'a str,
+    third: &'a str,
+) -> Option<Wrong<'a>> {
+    if command == "weave" {
+        return wrong_weave(first, second, third);
+    }
+    if command == "explain" && first == "--blocks" {
+        return wrong_files(second, third);
+    }
+    None
 }
 
 /// The word that is wrong of the value of this option of `run`.
@@ -158,11 +174,13 @@ pub fn wrong_word(words: &[String]) -> Option<Wrong<'_>> {
     if let Some(file) = one_behind(words, "check") {
         return wrong_file("FILE", file);
     }
-    if let [command, cfg, rec, cores] = words {
-        if command.as_str() == "check" {
-            return None;
-        }
-        return wrong_weave(cfg.as_str(), rec.as_str(), cores.as_str());
+    if let [command, first, second, third] = words {
+        return wrong_of_three(
+            command.as_str(),
+            first.as_str(),
+            second.as_str(),
+            third.as_str(),
+        );
     }
     let [command, first, second] = words else {
         return None;

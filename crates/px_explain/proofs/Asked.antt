@@ -28,6 +28,7 @@ use Rattle.rec_format.specs.Read.{servers as entries}
 use Rattle.rec_format.specs.declared.record.ServerSpec.{ServerSpec}
 use Rattle.px_explain.specs.declared.trace.Which.TheVariants.{Request}
 use Rattle.px_explain.specs.declared.walk.Walk.{Walk}
+use Rattle.px_explain.specs.Shown.{Adds}
 use Rattle.px_explain.specs.Told.{told}
 use Rattle.px_explain.specs.Traced.{AnswerOf, Serves, Answers, refused, replied}
 use Rattle.px_explain.specs.Walked.{Tells, IsTold, IsToldBehind, IsMeant, IsAsker}
@@ -91,7 +92,7 @@ module _ (cfg : Config) (received : Received) (left : Head) (framing : Framing) 
 -- ---- what the rules of a request come to
 
 module _ (cfg : Config) (received : Received) (rest : Stream) (old mid new : Walk) (answer : ℕ) (servers : List (Option ServerEntry))
-    (lines : mid.teller.lines.items ≡ old.teller.lines.items ++ told Request cfg.limits.bufsize cfg.request (request_env old.teller.vars received.head)) where
+    (lines : Adds old.teller.trail mid.teller.trail (told Request cfg.limits.bufsize cfg.request (request_env old.teller.vars received.head))) where
   abbrev comes : Comes
   comes = rules_of cfg.limits.bufsize cfg.request (request_env old.teller.vars received.head)
 

@@ -26,6 +26,7 @@ use Rattle.px_explain.specs.declared.answering.Finish.{Finish}
 use Rattle.px_explain.specs.declared.heads.Head.{Head as FoundHead}
 use Rattle.px_explain.specs.declared.trace.Which.TheVariants.{After}
 use Rattle.px_explain.specs.declared.walk.Walk.{Walk}
+use Rattle.px_explain.specs.Shown.{Adds}
 use Rattle.px_explain.specs.Told.{told}
 use Rattle.px_explain.specs.Traced.{Traced, code_of, plain_code, answer_code, passed}
 use Rattle.px_explain.specs.Walked.{Tells, IsMeant, IsLeft, Finishes}
@@ -53,7 +54,7 @@ module _ (cfg : Config) (asker : Asker) (received : Received) (env : Env) where
       ∙ ap (λ (f : Framing). declares_too_much (filters_of cfg.res_filters) received.declared && not (is_bodiless f)) m.framing))
 
   -- the rules on all that the client is sent ran on it
-  pub amends : (old new : Walk) (answer : ℕ) → response_declares_too_much (meaning_of cfg) received ≡ false → new.teller.lines.items ≡ old.teller.lines.items ++ told After cfg.limits.bufsize cfg.after env
+  pub amends : (old new : Walk) (answer : ℕ) → response_declares_too_much (meaning_of cfg) received ≡ false → Adds old.teller.trail new.teller.trail (told After cfg.limits.bufsize cfg.after env)
       → answer ≡ answer_code cfg asker received (after_of cfg.limits.bufsize cfg.after env) → Tells old new answer (passed cfg asker received env)
   amends old new answer e lines is =
       let same : passed cfg asker received env ≡ record { lines = told After cfg.limits.bufsize cfg.after env; answer = Some (answer_code cfg asker received (after_of cfg.limits.bufsize cfg.after env)) } = rw e refl in

@@ -11,3 +11,5 @@ mod Judged
 mod Asked
 mod Begun
 mod Once
+mod Shown
+mod Arrays

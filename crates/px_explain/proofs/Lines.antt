@@ -1,5 +1,5 @@
 -- Rules are told of one by one.
-use Rattle.std.proofs.Common.{◌≡◌, ℕ, zero, suc, ◌+◌, ◌≤◌, List, [], ◌∷◌, ◌++◌, Bool, true, false, refl, sym, ap, ◌∙◌, subst, length, drop, arith}
+use Rattle.std.proofs.Common.{◌≡◌, ℕ, zero, suc, ◌+◌, ◌≤◌, List, [], ◌∷◌, ◌++◌, Bool, true, false, refl, sym, ap, ◌∙◌, subst, length, drop, map, arith}
 use Rattle.std.specs.Prelude.{slice_get, Some}
 use Rattle.std.proofs.Math.ListN.{drop_of_length-le}
 use Rattle.std.proofs.lemmas.List.{append-nil, append_assoc}
@@ -15,15 +15,22 @@ use Rattle.http_rules.specs.Action.Given.{Env}
 use Rattle.http_rules.specs.Action.Outcome.{IsAt, IsFront}
 use Rattle.http_rules.specs.Rules.{Comes, walk, rules_of}
 use Rattle.http_rules.specs.Run.{Leaves}
-use Rattle.http_rules.specs.Steps.{Course, Onward, Over, course_of, comes_behind, steps_behind, steps_from}
+use Rattle.http_rules.specs.Steps.{Course, Onward, Over, course_of, comes_behind, steps_behind, steps_from, steps_of}
 use Rattle.http_rules.specs.Stepped.{StepLeaves}
-use Rattle.session_model.specs.Env.{Pass}
+use Rattle.session_model.specs.Env.{Pass, Reply, Deny, Fail}
+use Rattle.http_model.specs.Head.{front_blocks}
+use Rattle.htx_arena.specs.Layout.Contents.{Contents}
 use Rattle.px_sample.specs.Variables.{Variables}
 use Rattle.px_explain.specs.declared.trace.Which.{Which}
 use Rattle.px_explain.specs.declared.trace.TraceLine.{TraceLine}
 use Rattle.px_explain.specs.declared.telling.RuleList.{RuleList}
 use Rattle.px_explain.specs.declared.walk.Teller.{Teller}
-use Rattle.px_explain.specs.Told.{line_of, lines_from, told, ToldOf}
+use Rattle.px_explain.specs.declared.trail.Trail.{Trail}
+use Rattle.px_explain.specs.Entry.{TraceEntry, line_in}
+use Rattle.px_explain.specs.Shown.{Adds}
+use Rattle.px_explain.specs.Told.{line_of, lines_from, end_of, entry_of, entries_behind, entries_from, told, ToldOf}
+use Rattle.px_explain.specs.Walked.{entry_in}
+use Rattle.px_explain.proofs.Shown.{adds_nothing, adds_more}
 
 -- the rules from a place on begin with the one that stands there
 drop_get : (rules : List Rule) (at : ℕ) (rule : Rule) → slice_get rules at ≡ Some rule → drop at rules ≡ rule ∷ drop (suc at) rules
@@ -42,25 +49,50 @@ held (Answer method) blocks vars front =
 abbrev pub ByFirst : Type 0
 ByFirst = (size : ℕ) (rule : Rule) (rules : List Rule) (strict : Bool) (env : Env) → walk size (rule ∷ rules) strict env ≡ comes_behind (course_of size rule strict env) (walk size rules)
 
--- where the rules stand: on an environment of which those that are left make what all make of the first, and are told as all are behind the lines so far
-pub record Reached (list : RuleList) (side : Side) (size : ℕ) (env : Env) (before : List TraceLine) (at : ℕ) (strict : Bool) (lines : List TraceLine) (blocks : List Block) (vars : Variables) : Type 0 where
+-- what stands in the array is the environment in which the rules end
+leaves_left : (side : Side) (comes : Comes) (verdict : Verdict) (blocks reply : List Block) (vars : Variables) → Leaves side comes verdict blocks vars reply → blocks ≡ front_blocks (end_of comes).head (end_of comes).body
+leaves_left side (Pass left) verdicts.Pass blocks reply vars l = l.0.blocks_are
+leaves_left side (Pass left) verdicts.Reply blocks reply vars l = absurd l
+leaves_left side (Pass left) (verdicts.Deny code) blocks reply vars l = absurd l
+leaves_left side (Pass left) (verdicts.Fail why) blocks reply vars l = absurd l
+leaves_left side (Reply m left) verdicts.Pass blocks reply vars l = absurd l
+leaves_left side (Reply m left) verdicts.Reply blocks reply vars l = l.0.blocks_are
+leaves_left side (Reply m left) (verdicts.Deny code) blocks reply vars l = absurd l
+leaves_left side (Reply m left) (verdicts.Fail why) blocks reply vars l = absurd l
+leaves_left side (Deny code left) verdicts.Pass blocks reply vars l = absurd l
+leaves_left side (Deny code left) verdicts.Reply blocks reply vars l = absurd l
+leaves_left side (Deny code left) (verdicts.Deny told) blocks reply vars l = l.1.blocks_are
+leaves_left side (Deny code left) (verdicts.Fail why) blocks reply vars l = absurd l
+leaves_left side (Fail why left) verdicts.Pass blocks reply vars l = absurd l
+leaves_left side (Fail why left) verdicts.Reply blocks reply vars l = absurd l
+leaves_left side (Fail why left) (verdicts.Deny code) blocks reply vars l = absurd l
+leaves_left side (Fail why left) (verdicts.Fail told) blocks reply vars l = l.1.blocks_are
+
+-- the entry of a rule is that of its step and of the array that it left
+same_entry : (which : Which) (at size : ℕ) (told meant : Step) (array : Contents) (left : Env) → told ≡ meant → array.size ≡ size → array.blocks ≡ front_blocks left.head left.body
+    → entry_in (line_of which at told) array ≡ entry_of which at size meant left
+same_entry which at size told meant array left is sized blocks = λ i. record { line = line_of which at (is i); size = sized i; left = blocks i }
+
+-- where the rules stand: on an environment of which those that are left make what all make of the first, and behind entries with which those of the others are those of all
+pub record Reached (list : RuleList) (side : Side) (size : ℕ) (env : Env) (before : Trail) (at : ℕ) (strict : Bool) (trail : Trail) (blocks : List Block) (vars : Variables) : Type 0 where
   pub now : Env
   pub at_now : IsAt side now blocks vars
   pub left : walk size (drop at list.rules.now) strict now ≡ rules_of size list.rules.now env
-  pub lines_left : lines ++ lines_from list.which at (steps_from size (drop at list.rules.now) strict now) ≡ before ++ told list.which size list.rules.now env
+  pub so_far : List TraceEntry
+  pub adds : Adds before trail so_far
+  pub entries_left : so_far ++ entries_from list.which at size (drop at list.rules.now) strict now ≡ told list.which size list.rules.now env
 
-pub begins : (list : RuleList) (side : Side) (size : ℕ) (env : Env) (lines : List TraceLine) (blocks : List Block) (vars : Variables) → IsAt side env blocks vars → Reached list side size env lines 0 true lines blocks vars
-begins list side size env lines blocks vars at = record { now = env; at_now = at; left = refl; lines_left = refl }
+pub begins : (list : RuleList) (side : Side) (size : ℕ) (env : Env) (trail : Trail) (blocks : List Block) (vars : Variables) → IsAt side env blocks vars → Reached list side size env trail 0 true trail blocks vars
+begins list side size env trail blocks vars at = record { now = env; at_now = at; left = refl; so_far = []; adds = adds_nothing trail; entries_left = refl }
 
--- one line more
-behind_line : (which : Which) (at : ℕ) (step : Step) (steps : List Step) (lines : List TraceLine)
-    → (lines ++ line_of which at step ∷ []) ++ lines_from which (at + 1) steps ≡ lines ++ lines_from which at (step ∷ steps)
-behind_line which at step steps lines = append_assoc lines (line_of which at step ∷ []) (lines_from which (at + 1) steps)
-
-module _ (list : RuleList) (side : Side) (size : ℕ) (env : Env) (before : List TraceLine) (at : ℕ) (rule : Rule) (strict : Bool) (lines : List TraceLine) (old new : List Block) (vars left_vars : Variables)
-    (first : ByFirst) (is : slice_get list.rules.now at ≡ Some rule) (r : Reached list side size env before at strict lines old vars) where
+module _ (list : RuleList) (side : Side) (size : ℕ) (env : Env) (before : Trail) (at : ℕ) (rule : Rule) (strict : Bool) (trail : Trail) (old : List Block) (array : Contents) (vars left_vars : Variables)
+    (first : ByFirst) (is : slice_get list.rules.now at ≡ Some rule) (sized : array.size ≡ size) (r : Reached list side size env before at strict trail old vars) where
   abbrev others : List Rule
   others = drop (at + 1) list.rules.now
+
+  -- what is told of those behind it
+  abbrev behind : Bool → Env → List TraceEntry
+  behind mode next = entries_from list.which (at + 1) size others mode next
 
   front : drop at list.rules.now ≡ rule ∷ others
   front =
@@ -70,56 +102,81 @@ module _ (list : RuleList) (side : Side) (size : ℕ) (env : Env) (before : List
   comes : comes_behind (course_of size rule strict r.now) (walk size others) ≡ rules_of size list.rules.now env
   comes = sym (first size rule others strict r.now) ∙ (sym (ap (λ (rs : List Rule). walk size rs strict r.now) front) ∙ r.left)
 
-  steps : lines ++ lines_from list.which at (steps_behind (course_of size rule strict r.now) (steps_from size others)) ≡ before ++ told list.which size list.rules.now env
-  steps = sym (ap (λ (rs : List Rule). lines ++ lines_from list.which at (steps_from size rs strict r.now)) front) ∙ r.lines_left
+  entries : r.so_far ++ entries_behind list.which at size (course_of size rule strict r.now) behind ≡ told list.which size list.rules.now env
+  entries = sym (ap (λ (rs : List Rule). r.so_far ++ entries_from list.which at size rs strict r.now) front) ∙ r.entries_left
 
   -- a rule behind which the next one runs
-  pub goes_on : (step : Step) (mode : Bool) (reply : List Block) → StepLeaves side (course_of size rule strict r.now) (Goes step mode) new left_vars reply
-      → (reply ≡ []) × Reached list side size env before (at + 1) mode (lines ++ line_of list.which at step ∷ []) new left_vars
-  goes_on step mode reply h = by (course_of size rule strict r.now) refl h
+  pub goes_on : (step : Step) (mode : Bool) (reply : List Block) (next_trail : Trail) → Adds trail next_trail (entry_in (line_of list.which at step) array ∷ [])
+      → StepLeaves side (course_of size rule strict r.now) (Goes step mode) array.blocks left_vars reply
+      → (reply ≡ []) × Reached list side size env before (at + 1) mode next_trail array.blocks left_vars
+  goes_on step mode reply next_trail one h = by (course_of size rule strict r.now) refl h
     where
-      by : (c : Course) → course_of size rule strict r.now ≡ c → StepLeaves side c (Goes step mode) new left_vars reply
-          → (reply ≡ []) × Reached list side size env before (at + 1) mode (lines ++ line_of list.which at step ∷ []) new left_vars
-      by (Onward meant on next) e l = (
-        l.3,
-        record {
-          now = next;
-          at_now = l.2;
-          left = ap (λ (m : Bool). walk size others m next) l.1 ∙ (sym (ap (λ (c : Course). comes_behind c (walk size others)) e) ∙ comes);
-          lines_left =
-              behind_line list.which at step (steps_from size others mode next) lines
-              ∙ (ap (λ (m : Bool). lines ++ lines_from list.which at (step ∷ steps_from size others m next)) l.1
-              ∙ (ap (λ (s : Step). lines ++ lines_from list.which at (s ∷ steps_from size others on next)) l.0
-              ∙ (sym (ap (λ (c : Course). lines ++ lines_from list.which at (steps_behind c (steps_from size others))) e) ∙ steps)));
-        },
-      )
+      by : (c : Course) → course_of size rule strict r.now ≡ c → StepLeaves side c (Goes step mode) array.blocks left_vars reply
+          → (reply ≡ []) × Reached list side size env before (at + 1) mode next_trail array.blocks left_vars
+      by (Onward meant on next) e l =
+          let entry : TraceEntry = entry_of list.which at size meant next in
+          let same : entry_in (line_of list.which at step) array ≡ entry = same_entry list.which at size step meant array next l.0 sized l.2.blocks_are in (
+            l.3,
+            record {
+              now = next;
+              at_now = l.2;
+              left = ap (λ (m : Bool). walk size others m next) l.1 ∙ (sym (ap (λ (c : Course). comes_behind c (walk size others)) e) ∙ comes);
+              so_far = r.so_far ++ entry ∷ [];
+              adds = adds_more before trail next_trail r.so_far (entry ∷ []) r.adds (subst (λ (x : TraceEntry). Adds trail next_trail (x ∷ [])) same one);
+              entries_left =
+                  append_assoc r.so_far (entry ∷ []) (behind mode next)
+                  ∙ (ap (λ (m : Bool). r.so_far ++ entry ∷ behind m next) l.1
+                  ∙ (sym (ap (λ (c : Course). r.so_far ++ entries_behind list.which at size c behind) e) ∙ entries));
+            },
+          )
       by (Over meant _) e l = absurd l
 
   -- one that decides
-  pub ends : (step : Step) (verdict : Verdict) (reply : List Block) (teller : Teller) → teller.vars ≡ left_vars → teller.lines.items ≡ lines ++ line_of list.which at step ∷ []
-      → StepLeaves side (course_of size rule strict r.now) (Ends step verdict) new left_vars reply → ToldOf list side size env before verdict teller new reply
-  ends step verdict reply teller vars_are lines_are h = by (course_of size rule strict r.now) refl h
+  pub ends : (step : Step) (verdict : Verdict) (reply : List Block) (start teller : Teller) → start.trail ≡ before → teller.vars ≡ left_vars
+      → Adds trail teller.trail (entry_in (line_of list.which at step) array ∷ [])
+      → StepLeaves side (course_of size rule strict r.now) (Ends step verdict) array.blocks left_vars reply → ToldOf list side size env start verdict teller array.blocks reply
+  ends step verdict reply start teller starts vars_are one h = by (course_of size rule strict r.now) refl h
     where
-      by : (c : Course) → course_of size rule strict r.now ≡ c → StepLeaves side c (Ends step verdict) new left_vars reply → ToldOf list side size env before verdict teller new reply
+      by : (c : Course) → course_of size rule strict r.now ≡ c → StepLeaves side c (Ends step verdict) array.blocks left_vars reply → ToldOf list side size env start verdict teller array.blocks reply
       by (Over meant over) e l =
-          let same : over ≡ rules_of size list.rules.now env = sym (ap (λ (c : Course). comes_behind c (walk size others)) e) ∙ comes in
+          let entry : TraceEntry = entry_of list.which at size meant (end_of over) in
+          let same : entry_in (line_of list.which at step) array ≡ entry = same_entry list.which at size step meant array (end_of over) l.0 sized (leaves_left side over verdict array.blocks reply left_vars l.1) in
+          let comes_so : over ≡ rules_of size list.rules.now env = sym (ap (λ (c : Course). comes_behind c (walk size others)) e) ∙ comes in
+          let all : r.so_far ++ entry ∷ [] ≡ told list.which size list.rules.now env = sym (ap (λ (c : Course). r.so_far ++ entries_behind list.which at size c behind) e) ∙ entries in
           record {
             lines =
-                lines_are ∙ (ap (λ (s : Step). lines ++ line_of list.which at s ∷ []) l.0
-                ∙ (sym (ap (λ (c : Course). lines ++ lines_from list.which at (steps_behind c (steps_from size others))) e) ∙ steps));
-            leaves = subst (λ (v : Variables). Leaves side (rules_of size list.rules.now env) verdict new v reply) (sym vars_are)
-                (subst (λ (c : Comes). Leaves side c verdict new left_vars reply) same l.1);
+                subst (λ (t : Trail). Adds t teller.trail (told list.which size list.rules.now env)) (sym starts)
+                (subst (λ (xs : List TraceEntry). Adds before teller.trail xs) all
+                (adds_more before trail teller.trail r.so_far (entry ∷ []) r.adds (subst (λ (x : TraceEntry). Adds trail teller.trail (x ∷ [])) same one)));
+            leaves = subst (λ (v : Variables). Leaves side (rules_of size list.rules.now env) verdict array.blocks v reply) (sym vars_are)
+                (subst (λ (c : Comes). Leaves side c verdict array.blocks left_vars reply) comes_so l.1);
           }
       by (Onward meant on next) e l = absurd l
 
 -- all rules have run
-pub over : (list : RuleList) (side : Side) (size : ℕ) (env : Env) (before : List TraceLine) (at : ℕ) (strict : Bool) (teller : Teller) (blocks reply : List Block)
-    → length list.rules.now ≤ at → reply ≡ [] → Reached list side size env before at strict teller.lines.items blocks teller.vars → ToldOf list side size env before verdicts.Pass teller blocks reply
-over list side size env before at strict teller blocks reply all silent r =
+pub over : (list : RuleList) (side : Side) (size : ℕ) (env : Env) (start : Teller) (at : ℕ) (strict : Bool) (teller : Teller) (blocks reply : List Block)
+    → length list.rules.now ≤ at → reply ≡ [] → Reached list side size env start.trail at strict teller.trail blocks teller.vars → ToldOf list side size env start verdicts.Pass teller blocks reply
+over list side size env start at strict teller blocks reply all silent r =
     let none : drop at list.rules.now ≡ [] = drop_of_length-le list.rules.now all in
     let comes : Pass r.now ≡ rules_of size list.rules.now env = sym (ap (λ (rs : List Rule). walk size rs strict r.now) none) ∙ r.left in
+    let all_told : r.so_far ≡ told list.which size list.rules.now env =
+    sym (append-nil r.so_far) ∙ (sym (ap (λ (rs : List Rule). r.so_far ++ entries_from list.which at size rs strict r.now) none) ∙ r.entries_left) in
     record {
-      lines =
-          sym (append-nil teller.lines.items) ∙ (sym (ap (λ (rs : List Rule). teller.lines.items ++ lines_from list.which at (steps_from size rs strict r.now)) none) ∙ r.lines_left);
+      lines = subst (λ (xs : List TraceEntry). Adds start.trail teller.trail xs) all_told r.adds;
       leaves = subst (λ (c : Comes). Leaves side c verdicts.Pass blocks teller.vars reply) comes (r.at_now, silent);
     }
+
+-- ---- the lines of a list are those of its steps
+
+module _ (which : Which) (size : ℕ) where
+  lines_behind : (at : ℕ) (c : Course) (behind : Bool → Env → List TraceEntry) (steps : Bool → Env → List Step) → ((strict : Bool) (env : Env) → map line_in (behind strict env) ≡ lines_from which (at + 1) (steps strict env))
+      → map line_in (entries_behind which at size c behind) ≡ lines_from which at (steps_behind c steps)
+  lines_behind at (Onward meant strict next) _ steps h = ap (λ (ls : List TraceLine). line_of which at meant ∷ ls) (h strict next)
+  lines_behind at (Over meant _) _ steps h = refl
+
+  lines_of_rules : (at : ℕ) (rules : List Rule) (strict : Bool) (env : Env) → map line_in (entries_from which at size rules strict env) ≡ lines_from which at (steps_from size rules strict env)
+  lines_of_rules at [] strict env = refl
+  lines_of_rules at (rule ∷ rules) strict env = lines_behind at (course_of size rule strict env) (entries_from which (at + 1) size rules) (steps_from size rules) (lines_of_rules (at + 1) rules)
+
+  pub lines_are_steps : (rules : List Rule) (env : Env) → map line_in (told which size rules env) ≡ lines_from which 0 (steps_of size rules env)
+  lines_are_steps rules env = lines_of_rules 0 rules true env

@@ -26,7 +26,6 @@ use Rattle.http_rules.specs.declared.action.side.Side.TheVariants.{Answer}
 use Rattle.http_rules.specs.declared.rule.rule.Rule.{Rule}
 use Rattle.http_rules.specs.Action.Outcome.{IsAt}
 use Rattle.px_explain.specs.declared.telling.RuleList.{RuleList}
-use Rattle.px_explain.specs.declared.trace.TraceLine.{TraceLine}
 use Rattle.px_explain.specs.declared.walk.Teller.{Teller}
 use Rattle.px_explain.specs.Told.{is_pass, ToldOf}
 use Rattle.px_explain.specs.Traced.{code_of, plain_code, replied}
@@ -148,7 +147,7 @@ module _ (cfg : Config) (m : Message) (method : List ℕ) (vars : Variables) whe
 -- ---- what is told
 
 -- rules are told of alike in arrays of the same size
-pub sized : (a b : ℕ) (list : RuleList) (side : Side) (env : Env) (before : List TraceLine) (verdict : Verdict) (teller : Teller) (blocks reply : List Block) → a ≡ b
+pub sized : (a b : ℕ) (list : RuleList) (side : Side) (env : Env) (before : Teller) (verdict : Verdict) (teller : Teller) (blocks reply : List Block) → a ≡ b
     → ToldOf list side a env before verdict teller blocks reply → ToldOf list side b env before verdict teller blocks reply
 sized a b list side env before verdict teller blocks reply same t = subst (λ (n : ℕ). ToldOf list side n env before verdict teller blocks reply) same t
 

@@ -1,6 +1,6 @@
 -- What is told while an exchange is walked through.
 use Rattle.std.proofs.Common.{◌≡◌, ℕ, List, [], ◌++◌, refl, sym, ap, subst, ◌∙◌}
-use Rattle.std.proofs.lemmas.List.{append-nil, append_assoc}
+use Rattle.std.proofs.lemmas.List.{append-nil}
 use denote.Ref.{Bor}
 use Rattle.http_model.specs.Block.{Block}
 use Rattle.http_model.specs.declared.Why.{Why}
@@ -16,21 +16,20 @@ use Rattle.http_rules.specs.Action.Given.{Env}
 use Rattle.http_rules.specs.Action.Outcome.{IsAt}
 use Rattle.http_rules.specs.Rules.{Comes}
 use Rattle.http_rules.specs.Run.{Leaves}
-use Rattle.px_explain.specs.declared.trace.TraceLine.{TraceLine}
 use Rattle.px_explain.specs.declared.telling.RuleList.{RuleList}
 use Rattle.px_explain.specs.declared.walk.Teller.{Teller}
 use Rattle.px_explain.specs.declared.walk.Walk.{Walk}
+use Rattle.px_explain.specs.Entry.{TraceEntry}
+use Rattle.px_explain.specs.Shown.{Adds}
 use Rattle.px_explain.specs.Told.{ToldOf}
 use Rattle.px_explain.specs.Traced.{Traced, behind_lines, refused, replied}
 use Rattle.px_explain.specs.Walked.{Tells}
+use Rattle.px_explain.proofs.Shown.{adds_more}
 
 -- more was told behind lines
-pub tells_behind : (old mid new : Walk) (answer : ℕ) (lines : List TraceLine) (rest : Traced) → mid.teller.lines.items ≡ old.teller.lines.items ++ lines → Tells mid new answer rest → Tells old new answer (behind_lines lines rest)
+pub tells_behind : (old mid new : Walk) (answer : ℕ) (lines : List TraceEntry) (rest : Traced) → Adds old.teller.trail mid.teller.trail lines → Tells mid new answer rest → Tells old new answer (behind_lines lines rest)
 tells_behind old mid new answer lines rest e t =
-    record {
-      lines = t.lines ∙ (ap (λ (xs : List TraceLine). xs ++ rest.lines) e ∙ append_assoc old.teller.lines.items lines rest.lines);
-      status = t.status;
-    }
+    record { lines = adds_more old.teller.trail mid.teller.trail new.teller.trail lines rest.lines e t.lines; status = t.status }
 
 -- a refusal of the same method and variables
 pub refused_as : (cfg : Config) (old new : Walk) (answer code : ℕ) (method asked : List ℕ) (vars now : Variables) → method ≡ asked → vars ≡ now → Tells old new answer (refused cfg code method vars) → Tells old new answer (refused cfg code asked now)
@@ -43,7 +42,7 @@ replied_as cfg old new answer message method asked vars now m v t =
     subst (λ (x : Variables). Tells old new answer (replied cfg message asked x)) v (subst (λ (x : List ℕ). Tells old new answer (replied cfg message x vars)) m t)
 
 -- what rules were told of, by the size of the arrays and the verdict
-pub told_so : (a b : ℕ) (list : RuleList) (side : Side) (env : Env) (before : List TraceLine) (verdict is : Verdict) (teller : Teller) (blocks reply : List Block) → a ≡ b → verdict ≡ is
+pub told_so : (a b : ℕ) (list : RuleList) (side : Side) (env : Env) (before : Teller) (verdict is : Verdict) (teller : Teller) (blocks reply : List Block) → a ≡ b → verdict ≡ is
     → ToldOf list side a env before verdict teller blocks reply → ToldOf list side b env before is teller blocks reply
 told_so a b list side env before verdict is teller blocks reply sized same t =
     subst (λ (v : Verdict). ToldOf list side b env before v teller blocks reply) same (subst (λ (n : ℕ). ToldOf list side n env before verdict teller blocks reply) sized t)

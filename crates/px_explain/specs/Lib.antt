@@ -1,3 +1,7 @@
+pub mod Entry
+pub mod Array
+pub mod Lines
+pub mod Shown
 pub mod Told
 pub mod Traced
 pub mod Walked

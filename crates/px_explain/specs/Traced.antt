@@ -21,16 +21,16 @@ use Rattle.forward_core.specs.Meaning.Product.{meaning_of}
 use Rattle.rec_format.specs.Entries.{ServerEntry}
 use Rattle.rec_format.specs.Recorded.{Visit}
 use Rattle.px_explain.specs.declared.trace.Which.TheVariants.{Request, Response, After}
-use Rattle.px_explain.specs.declared.trace.TraceLine.{TraceLine}
+use Rattle.px_explain.specs.Entry.{TraceEntry}
 use Rattle.px_explain.specs.Told.{told}
 
--- a line for each rule that is reached, and the status that the client is sent, none where nothing was asked
+-- an entry for each rule that is reached, and the status that the client is sent, none where nothing was asked
 pub record Traced : Type 0 where
-  pub lines : List TraceLine
+  pub lines : List TraceEntry
   pub answer : Option ℕ
 
--- the same with lines in front
-abbrev pub behind_lines : List TraceLine → Traced → Traced
+-- the same with entries in front
+abbrev pub behind_lines : List TraceEntry → Traced → Traced
 behind_lines lines traced = record { lines = lines ++ traced.lines; answer = traced.answer }
 
 -- the number of the status in a start line; no status line has the number 0
@@ -127,8 +127,8 @@ Answers cfg (Refused code no_body method vars) servers traced = traced ≡ refus
 Answers cfg (Replied m no_body keep rest method vars) servers traced = traced ≡ replied cfg m method (answering vars)
 Answers cfg (Sends f) servers traced = Serves cfg f servers traced
 
--- the lines of the rules on a request, of which none runs where no head was read
-abbrev pub asking_lines : Config → HeadReading → List TraceLine
+-- the entries of the rules on a request, of which none runs where no head was read
+abbrev pub asking_lines : Config → HeadReading → List TraceEntry
 asking_lines cfg reading.Nothing = []
 asking_lines cfg (reading.Refused code) = []
 asking_lines cfg (reading.Begins received rest) = told Request cfg.limits.bufsize cfg.request (request_env no_variables received.head)

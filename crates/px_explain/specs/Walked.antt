@@ -1,5 +1,5 @@
 -- What the code holds while it walks through an exchange.
-use Rattle.std.specs.Prelude.{◌≡◌, ℕ, List, [], ◌++◌, false, not, Option, Some, None}
+use Rattle.std.specs.Prelude.{◌≡◌, ℕ, List, [], ◌++◌, Bool, false, not, Option, Some, None, map}
 use Rattle.http_model.specs.Block.{Block}
 use Rattle.http_model.specs.Finish.{response_framing}
 use Rattle.http_model.specs.Head.{Message, head_blocks, message_blocks}
@@ -21,15 +21,25 @@ use Rattle.rec_format.specs.Entries.{ServerEntry}
 use Rattle.rec_format.specs.Recorded.{Visit}
 use Rattle.px_explain.specs.declared.answering.Finish.{Finish}
 use Rattle.px_explain.specs.declared.heads.Head.{Head as FoundHead}
+use Rattle.htx_arena.specs.Layout.Contents.{Contents}
 use Rattle.px_explain.specs.declared.trace.Trace.{Trace}
+use Rattle.px_explain.specs.declared.trace.TraceLine.{TraceLine}
 use Rattle.px_explain.specs.declared.trace.Which.TheVariants.{Request}
 use Rattle.px_explain.specs.declared.walk.Walk.{Walk}
+use Rattle.px_explain.specs.declared.trail.Trail.{Trail}
+use Rattle.px_explain.specs.Entry.{TraceEntry, line_in}
+use Rattle.px_explain.specs.Shown.{Adds}
+use Rattle.px_explain.specs.Text.{IsBlockText}
 use Rattle.px_explain.specs.Told.{told}
 use Rattle.px_explain.specs.Traced.{Traced, behind_lines, Answers, TraceOf}
 
--- what a trace tells
-abbrev pub traced : Trace → Traced
-traced trace = record { lines = trace.lines.items; answer = trace.answer }
+-- the trace has the lines and the status of what is told of this connection
+abbrev pub IsTrace : Config → Visit → Trace → Type 0
+IsTrace cfg visit trace = (traced : Traced) × TraceOf cfg visit traced × (trace.lines.items ≡ map line_in traced.lines) × (trace.answer ≡ traced.answer)
+
+-- the text is that of what is told of this connection, with the arrays
+abbrev pub IsBlockTrace : Config → Visit → List ℕ → Type 0
+IsBlockTrace cfg visit text = (traced : Traced) × TraceOf cfg visit traced × IsBlockText traced text
 
 -- the configuration is valid, and all is of its size
 pub record IsReady (cfg : Config) (walk : Walk) : Type 0 where
@@ -39,22 +49,35 @@ pub record IsReady (cfg : Config) (walk : Walk) : Type 0 where
   pub said : walk.said.size ≡ cfg.limits.bufsize
   pub method : walk.method.cap ≡ cfg.limits.bufsize
 
--- nothing was done yet
-pub record IsBegun (cfg : Config) (walk : Walk) : Type 0 where
+-- nothing was told, and the text is written or not
+pub record IsEmpty (wanted : Bool) (trail : Trail) : Type 0 where
+  pub lines : trail.lines.items ≡ []
+  pub shows : trail.shows ≡ wanted
+  pub text : trail.text ≡ []
+
+-- what is told of a rule with this line, which left this array
+abbrev pub entry_in : TraceLine → Contents → TraceEntry
+entry_in line array = record { line = line; size = array.size; left = array.blocks }
+
+-- nothing was done yet, and what is told goes behind this
+pub record IsBegun (cfg : Config) (trail : Trail) (walk : Walk) : Type 0 where
   pub ready : IsReady cfg walk
   pub vars : walk.teller.vars ≡ no_variables
-  pub lines : walk.teller.lines.items ≡ []
+  pub told : walk.teller.trail ≡ trail
   pub none : walk.method.bytes ≡ []
   pub silent : walk.said.blocks ≡ []
 
--- the rest of the exchange was told: these lines behind those before, and this status
+-- the rest of the exchange was told: these entries behind those before, and this status
 pub record Tells (old new : Walk) (answer : ℕ) (traced : Traced) : Type 0 where
-  pub lines : new.teller.lines.items ≡ old.teller.lines.items ++ traced.lines
+  pub lines : Adds old.teller.trail new.teller.trail traced.lines
   pub status : Some answer ≡ traced.answer
 
--- the whole exchange of this connection was told
-abbrev pub IsTraced : Config → Walk → (answer : Option ℕ) → Visit → Type 0
-IsTraced cfg walk answer visit = TraceOf cfg visit (record { lines = walk.teller.lines.items; answer = answer })
+-- the whole exchange of this connection was told behind what was told before
+pub record IsTraced (cfg : Config) (old new : Trail) (answer : Option ℕ) (visit : Visit) : Type 0 where
+  pub traced : Traced
+  pub is_traced : TraceOf cfg visit traced
+  pub lines : Adds old new traced.lines
+  pub status : answer ≡ traced.answer
 
 -- something with this property was told
 pub record IsTold (old new : Walk) (answer : ℕ) (P : Traced → Type 0) : Type 0 where

@@ -176,8 +176,8 @@ pub(crate) fn ask(
     walk: &mut Walk,
     conn: &Connection,
 ) -> Result<Option<u16>, OutOfMemory>
-    requires { IsBegun config.now walk.old }
-    ensures { IfOk result (λ answer. IsTraced config.now walk.new answer (visit conn.now)) }
+    requires { IsBegun config.now walk.old.teller.trail walk.old }
+    ensures { IfOk result (λ answer. IsTraced config.now walk.old.teller.trail walk.new.teller.trail answer (visit conn.now)) }
 {
     is_received();
     match find_head(

@@ -37,7 +37,7 @@ pub(crate) enum Found {
 }
 
 /// The first bytes, as many as there may be.
-fn front(bytes: &[u8], most: usize) -> &[u8]
+pub(crate) fn front(bytes: &[u8], most: usize) -> &[u8]
     ensures { result.now ≡ take most bytes.now }
 {
     if bytes.len() <= most {

@@ -3,6 +3,7 @@
 #![tactic(auto)]
 
 mod answering;
+mod array;
 mod asking;
 mod exchange;
 mod heads;
@@ -11,9 +12,10 @@ mod saying;
 mod telling;
 mod text;
 mod trace;
+mod trail;
 mod walk;
 
-pub use exchange::explain;
+pub use exchange::{explain, explain_blocks};
 pub use http_rules::{OutOfMemory, Step};
 pub use text::trace_text;
 pub use trace::{Trace, TraceLine, Which};

@@ -1,12 +1,13 @@
 //! One list of rules, run rule by rule, with a line for each that is reached.
-ghost use Rattle.std.specs.Prelude.{◌≡◌, ◌<◌, ◌-◌, ◌^◌, ◌++◌, ◌∷◌, [], IfOk, OnOk};
+ghost use Rattle.std.specs.Prelude.{◌≡◌, [], IfOk};
 ghost use Rattle.std.specs.List.{AllByRecursion};
 ghost use Rattle.http_rules.specs.Rule.Valid.{IsGoodAction};
 ghost use Rattle.http_rules.specs.Action.Given.{Env};
 ghost use Rattle.http_rules.specs.Action.Outcome.{IsScratch, IsAt, IsFront};
-ghost use Rattle.px_explain.specs.Told.{ToldOf, is_pass, line_of};
+ghost use Rattle.px_explain.specs.Told.{ToldOf, is_pass, step_in};
 
-use crate::trace::{TraceLine, Which};
+use crate::trace::Which;
+use crate::trail::tell;
 use crate::walk::Teller;
 use http_rules::action::Side;
 use http_rules::{OutOfMemory, Rules, Step, Turn, Turned, Verdict, step_rule, stepping_is_the_run};
@@ -19,19 +20,14 @@ pub(crate) struct RuleList<'r> {
     pub(crate) rules: &'r Rules,
 }
 
-/// Tells what the rule at an index came to.
-fn tell(teller: &mut Teller, which: Which, at: u32, step: Step) -> Result<(), OutOfMemory>
-    requires { at < 2 ^ 32 - 1 }
-    ensures lines { OnOk result (teller.new.lines.items ≡ teller.old.lines.items ++ line_of which at step ∷ []) }
-    ensures vars { teller.new.vars ≡ teller.old.vars }
-    ensures scratch { teller.new.scratch ≡ teller.old.scratch }
+/// How the turn of a rule is told.
+fn step_in(turned: Turned) -> Step
+    ensures { result ≡ step_in turned }
 {
-    teller.lines.push(TraceLine {
-        which,
-        rule: at + 1,
-        step,
-    })?;
-    Ok(())
+    match turned {
+        Turned::Goes(step, _) => step,
+        Turned::Ends(step, _) => step,
+    }
 }
 
 /// Runs rules on a message, with a body or none behind its head, and tells what each came to. A reply of theirs comes into an array of
@@ -49,7 +45,7 @@ pub(crate) fn tell_rules(
     requires no_reply { reply.old.blocks ≡ [] }
     requires good { AllByRecursion (λ rule. IsGoodAction rule.action) list.rules.now }
     ensures told { IfOk result (λ verdict. (env : Env) → IsAt side.entry env msg.old.blocks teller.old.vars
-        → ToldOf list.entry side.entry msg.old.size env teller.old.lines.items verdict teller.new msg.new.blocks reply.new.blocks) }
+        → ToldOf list.entry side.entry msg.old.size env teller.old verdict teller.new msg.new.blocks reply.new.blocks) }
     ensures size { msg.new.size ≡ msg.old.size }
     ensures scratch { IsScratch msg.old.size teller.new.scratch }
     ensures reply_size { reply.new.size ≡ reply.old.size }
@@ -61,22 +57,18 @@ pub(crate) fn tell_rules(
             rule: list.rules.get(at),
             strict,
         };
-        match step_rule(
+        let turned = step_rule(
             turn,
             side,
             msg,
             &mut teller.vars,
             &mut teller.scratch,
             reply,
-        )? {
-            Turned::Goes(step, mode) => {
-                tell(teller, list.which, at, step)?;
-                strict = mode;
-            }
-            Turned::Ends(step, verdict) => {
-                tell(teller, list.which, at, step)?;
-                return Ok(verdict);
-            }
+        )?;
+        tell(&mut teller.trail, list.which, at, step_in(turned), msg)?;
+        match turned {
+            Turned::Goes(_, mode) => strict = mode,
+            Turned::Ends(_, verdict) => return Ok(verdict),
         }
     }
     Ok(Verdict::Pass)

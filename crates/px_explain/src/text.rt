@@ -1,8 +1,8 @@
 //! The text of what is told of an exchange.
 ghost use Rattle.std.specs.Prelude.{◌≡◌, ◌++◌, [], Option, ℕ, IfOk, OnOk};
 ghost use Rattle.std.specs.List.{flat_map};
-ghost use Rattle.px_explain.specs.Text.{which_name, step_text, line_text, answer_line, text_of};
-ghost use Rattle.px_explain.specs.Walked.{traced};
+ghost use Rattle.px_explain.specs.Lines.{which_name, step_text, line_text};
+ghost use Rattle.px_explain.specs.Text.{answer_line, lines_text};
 
 use crate::trace::{Trace, TraceLine, Which};
 use http_rules::{OutOfMemory, Step};
@@ -39,8 +39,8 @@ fn push_step(alloc: Global, text: &mut Bytes, step: Step) -> Result<(), OutOfMem
 }
 
 /// Puts the line of a rule behind a text.
-#[tactic(auto, unfolding(crate::specs::Text::line_text))]
-fn push_line(alloc: Global, text: &mut Bytes, line: TraceLine) -> Result<(), OutOfMemory>
+#[tactic(auto, unfolding(crate::specs::Lines::line_text))]
+pub(crate) fn push_line(alloc: Global, text: &mut Bytes, line: TraceLine) -> Result<(), OutOfMemory>
     ensures { OnOk result (text.new ≡ text.old ++ line_text line) }
 {
     text.push(which_name(line.which).as_bytes())?;
@@ -62,7 +62,11 @@ fn push_lines(alloc: Global, text: &mut Bytes, lines: &[TraceLine]) -> Result<()
 }
 
 /// Puts the last line behind a text.
-fn push_answer(alloc: Global, text: &mut Bytes, answer: Option<u16>) -> Result<(), OutOfMemory>
+pub(crate) fn push_answer(
+    alloc: Global,
+    text: &mut Bytes,
+    answer: Option<u16>,
+) -> Result<(), OutOfMemory>
     ensures { OnOk result (text.new ≡ text.old ++ answer_line answer) }
 {
     match answer {
@@ -77,7 +81,7 @@ fn push_answer(alloc: Global, text: &mut Bytes, answer: Option<u16>) -> Result<(
 
 /// A line for each rule that was reached, and one for the status that the client is sent.
 pub fn trace_text(alloc: Global, trace: &Trace) -> Result<Bytes, OutOfMemory>
-    ensures { IfOk result (λ text. text ≡ text_of (traced trace.now)) }
+    ensures { IfOk result (λ text. text ≡ lines_text trace.now.lines.items trace.now.answer) }
 {
     let mut text = Bytes::copy(alloc, b"")?;
     push_lines(alloc, &mut text, trace.lines.as_slice())?;

@@ -2,7 +2,7 @@
 ghost use Rattle.std.specs.Prelude.{IfOk};
 ghost use Rattle.http_rules.specs.Valid.{IsValid};
 
-use crate::trace::TraceLine;
+use crate::trail::Trail;
 use http_rules::{Config, OutOfMemory, Scratch, Vars};
 use htx_arena::Arena;
 use px_sample::Buf;
@@ -13,7 +13,7 @@ use std::alloc::Global;
 pub(crate) struct Teller {
     pub(crate) vars: Vars,
     pub(crate) scratch: Scratch,
-    pub(crate) lines: Vec<TraceLine>,
+    pub(crate) trail: Trail,
 }
 
 /// The exchange so far.
@@ -30,16 +30,16 @@ pub(crate) struct Walk {
 
 ghost use Rattle.px_explain.specs.Walked.{IsBegun};
 
-/// The beginning of an exchange, in which no variable is set and nothing was told.
-pub(crate) fn begin(alloc: Global, config: &Config) -> Result<Walk, OutOfMemory>
+/// The beginning of an exchange, in which no variable is set. What is told of it goes behind what was told.
+pub(crate) fn begin(alloc: Global, config: &Config, trail: Trail) -> Result<Walk, OutOfMemory>
     requires { IsValid config.now }
-    ensures { IfOk result (IsBegun config.now) }
+    ensures { IfOk result (IsBegun config.now trail) }
 {
     let size = config.limits.bufsize;
     let teller = Teller {
         vars: Vars::new(alloc)?,
         scratch: Scratch::new(alloc, size)?,
-        lines: Vec::new(alloc),
+        trail,
     };
     Ok(Walk {
         teller,

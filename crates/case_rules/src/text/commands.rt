@@ -55,6 +55,7 @@ fn say_asked(alloc: Global, asked: &Asked<'_>, answers: &mut Answers) -> Result<
         }
         Asked::Replay { cfg, rec } => say_files(b"replay ", cfg, rec, answers),
         Asked::Explain { cfg, rec } => say_files(b"explain ", cfg, rec, answers),
+        Asked::ExplainBlocks { cfg, rec } => say_files(b"explain --blocks ", cfg, rec, answers),
         Asked::Weave { cfg, rec, cores } => {
             say_files(b"weave ", cfg, rec, answers);
             answers.more(b" ");

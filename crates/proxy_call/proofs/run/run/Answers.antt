@@ -8,7 +8,7 @@ use Rattle.proxy_call.specs.Ends.{put}
 use Rattle.proxy_sessions.specs.Running.{Runs}
 use Rattle.proxy_sessions.specs.Serving.{Serves}
 use Rattle.px_command.specs.Asked.{IsAsked}
-use Rattle.px_command.specs.Command.{IsCheck, IsCheckAll, IsCheckRecord, IsReplay, IsExplain, IsWeave, IsServe, IsRun, IsDrill, IsHelp, IsHelpOf, IsVersion}
+use Rattle.px_command.specs.Command.{IsCheck, IsCheckAll, IsCheckRecord, IsReplay, IsExplain, IsExplainBlocks, IsWeave, IsServe, IsRun, IsDrill, IsHelp, IsHelpOf, IsVersion}
 use Rattle.proxy_call.specs.Files.{Builder, told_by}
 use Rattle.proxy_call.specs.Stops.{Input, given}
 use Rattle.proxy_call.proofs.AnyEnd.{any_of_run}
@@ -53,6 +53,14 @@ returns-in-Explain g c =
     let builder : Builder = told_by (g.P.Patterns.refusals c.args.pats.now) (g.P.Patterns.refusals c.explain.new.pats) (g.P.Patterns.last_refused c.explain.new.pats) in
     let input : Input = given words (g.F.Files.files c.args.files.now) builder (g.F.Files.last_failed c.explain.new.files) (g.F.Files.faults c.args.files.now) (g.F.Files.faults c.explain.new.files) in
     inl (inl (c.write-in-Explain.ensures input (c.explain.ensures words is), refl), refl)
+
+pub returns-in-ExplainBlocks : goal.returns-in-ExplainBlocks
+returns-in-ExplainBlocks g c =
+    let words : List (List ℕ) = map string_bytes c.args.words.now in
+    let is : IsExplainBlocks words c.in-ExplainBlocks.cfg.now c.in-ExplainBlocks.rec.now = subst (IsAsked words) c.in-ExplainBlocks.is c.in_ok-cfg.ensures in
+    let builder : Builder = told_by (g.P.Patterns.refusals c.args.pats.now) (g.P.Patterns.refusals c.explain_blocks.new.pats) (g.P.Patterns.last_refused c.explain_blocks.new.pats) in
+    let input : Input = given words (g.F.Files.files c.args.files.now) builder (g.F.Files.last_failed c.explain_blocks.new.files) (g.F.Files.faults c.args.files.now) (g.F.Files.faults c.explain_blocks.new.files) in
+    inl (inl (c.write-in-ExplainBlocks.ensures input (c.explain_blocks.ensures words is), refl), refl)
 
 pub returns-in-Weave : goal.returns-in-Weave
 returns-in-Weave g c =

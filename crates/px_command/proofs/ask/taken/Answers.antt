@@ -8,6 +8,7 @@ returns c = (
     check_record = c.in_default-check_record_file.ensures.none;
     replay = c.in_default-replay_files.ensures.none;
     explain = c.in_default-explain_files.ensures.none;
+    explain_blocks = c.in_default-explain_blocks_files.ensures.none;
     weave = c.in_default-weave_words.ensures.none;
     serve = c.in_default-serve_words.ensures.none;
     drill = c.in_default-drill_numbers.ensures.none;

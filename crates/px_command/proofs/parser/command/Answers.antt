@@ -1,6 +1,6 @@
 use Rattle.std.proofs.Common.{codes}
 use Rattle.clap.specs.Words.{App, with_subcommand}
-use Rattle.px_command.specs.Parser.{check_shape, run_shape, top_level, two_words, weave_shape}
+use Rattle.px_command.specs.Parser.{check_shape, explain_shape, run_shape, top_level, two_words, weave_shape}
 use Rattle.px_command.proofs.parser.command.Goals as goal
 
 abbrev with_check : App → App
@@ -10,7 +10,7 @@ abbrev with_replay : App → App
 with_replay level = with_subcommand level (two_words (codes "replay") (codes "CFG") (codes "REC")).top
 
 abbrev with_explain : App → App
-with_explain level = with_subcommand level (two_words (codes "explain") (codes "CFG") (codes "REC")).top
+with_explain level = with_subcommand level explain_shape.top
 
 abbrev with_weave : App → App
 with_weave level = with_subcommand level weave_shape.top
@@ -27,7 +27,6 @@ with_drill level = with_subcommand level (two_words (codes "drill") (codes "SEED
 pub returns : goal.returns
 returns c =
     let replay_shape = two_words (codes "replay") (codes "CFG") (codes "REC") in
-    let explain_shape = two_words (codes "explain") (codes "CFG") (codes "REC") in
     let serve_shape = two_words (codes "serve") (codes "CFG") (codes "COUNT") in
     let drill_shape = two_words (codes "drill") (codes "SEED") (codes "COUNT") in
     let check = c.with_command-check.ensures.app top_level check_shape c.top_command.ensures.app c.check_command.ensures.app in

@@ -1,6 +1,6 @@
 use Rattle.std.proofs.Common.{◌≡◌, ◌++◌, drop}
 use Rattle.std.specs.List.{flat_map}
-use Rattle.px_explain.specs.Text.{line_text}
+use Rattle.px_explain.specs.Lines.{line_text}
 use Rattle.px_explain.proofs.text.push_lines.Given as goal
 
 -- what is left of the lines is still to come
