@@ -1,5 +1,5 @@
 -- The text of an array, block by block.
-use Rattle.std.proofs.Common.{◌≡◌, ℕ, zero, suc, ◌+◌, ◌-◌, ◌<◌, ◌≤◌, List, [], ◌++◌, refl, sym, ap, ◌∙◌, length, take, drop, slice_index, arith}
+use Rattle.std.proofs.Common.{◌≡◌, ℕ, suc, ◌+◌, ◌-◌, ◌<◌, ◌≤◌, List, [], ◌++◌, refl, sym, ap, ◌∙◌, length, take, drop, slice_index, arith}
 use Rattle.std.proofs.lemmas.List.{append_assoc, drop-take, drop-drop}
 use Rattle.http_model.specs.Block.{Block, RequestLine, ResponseLine, Header, EndHeaders, Data, Trailer, EndTrailers, IsFieldKind, kind_of, name_of, payload_len}
 use Rattle.http_model.specs.Blocks.{block_at}

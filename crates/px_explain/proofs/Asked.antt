@@ -1,5 +1,5 @@
 -- What a request asks for is told.
-use Rattle.std.proofs.Common.{◌≡◌, ◌≤◌, ℕ, List, [], ◌∷◌, ◌++◌, Bool, true, false, refl, sym, ap, subst, ◌∙◌}
+use Rattle.std.proofs.Common.{◌≡◌, ◌≤◌, ℕ, List, [], ◌∷◌, Bool, true, false, refl, sym, ap, subst, ◌∙◌}
 use Rattle.std.specs.Prelude.{Option, Some, slice_get, nat_le, ◌↔◌}
 use Rattle.std.proofs.lemmas.Bool.{le-leb, leb-true, false≢true}
 use Rattle.http_model.specs.Block.{Block}

@@ -1,7 +1,7 @@
 -- A whole exchange was told.
-use Rattle.std.proofs.Common.{◌≡◌, ℕ, List, [], ◌++◌, refl, ap, subst, ◌∙◌}
+use Rattle.std.proofs.Common.{◌≡◌, ℕ, List, [], refl, ap, subst}
 use Rattle.std.specs.Prelude.{Some, None}
-use Rattle.http_model.specs.Reading.{HeadReading, Received}
+use Rattle.http_model.specs.Reading.{Received}
 use Rattle.http_model.specs.Reading as reading
 use Rattle.h1_head.specs.Request.{RequestOf}
 use Rattle.session_model.specs.Asking.{asked_by}

@@ -1,5 +1,5 @@
 -- What the rules on a server's final head come to is told.
-use Rattle.std.proofs.Common.{◌≡◌, ℕ, ◌++◌, sym, subst}
+use Rattle.std.proofs.Common.{◌≡◌, ℕ, sym, subst}
 use Rattle.http_model.specs.declared.Why.{Why}
 use Rattle.http_model.specs.Head.{Message}
 use Rattle.http_model.specs.Reading.{Received}

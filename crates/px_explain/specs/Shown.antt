@@ -1,6 +1,5 @@
 -- What is written of rules with the arrays that they leave.
 use Rattle.std.specs.Prelude.{◌≡◌, ℕ, List, [], ◌∷◌, ◌++◌, Bool, map, length, if◌then◌else◌}
-use Rattle.http_model.specs.Block.{Block}
 use Rattle.http_rules.specs.declared.step.Step.{Step}
 use Rattle.http_rules.specs.declared.step.Step.TheVariants.{Passed}
 use Rattle.htx_arena.specs.Layout.Contents.{Contents}

@@ -1,5 +1,5 @@
 -- What the code holds while it walks through an exchange.
-use Rattle.std.specs.Prelude.{◌≡◌, ℕ, List, [], ◌++◌, Bool, false, not, Option, Some, None, map}
+use Rattle.std.specs.Prelude.{◌≡◌, ℕ, List, [], Bool, false, not, Option, Some, None, map}
 use Rattle.http_model.specs.Block.{Block}
 use Rattle.http_model.specs.Finish.{response_framing}
 use Rattle.http_model.specs.Head.{Message, head_blocks, message_blocks}

@@ -1,4 +1,4 @@
-use Rattle.std.proofs.Common.{◌≡◌, ℕ, ◌+◌, ◌-◌, ◌<◌, ◌++◌, List, rules, sym, ap, ◌∙◌, length, slice_index}
+use Rattle.std.proofs.Common.{ℕ, ◌+◌, ◌-◌, ◌<◌, ◌++◌, List, rules, sym, ap, ◌∙◌, length, slice_index}
 use Rattle.std.proofs.lemmas.List.{append_assoc}
 use Rattle.htx_model.specs.Blocks.{block_at}
 use Rattle.px_explain.specs.Array.{block_line, block_lines}

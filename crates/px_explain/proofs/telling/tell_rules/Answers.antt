@@ -1,4 +1,4 @@
-use Rattle.std.proofs.Common.{◌≡◌, ℕ, ◌+◌, [], ◌∷◌, refl, sym, ap, subst, ◌∙◌}
+use Rattle.std.proofs.Common.{◌≡◌, ℕ, ◌+◌, [], ◌∷◌, refl, ap, subst, ◌∙◌}
 use Rattle.htx_arena.specs.Layout.Contents.{Contents}
 use Rattle.http_rules.specs.declared.step.Step.{Step}
 use Rattle.http_rules.specs.declared.turn.Turned.{Turned}
@@ -7,8 +7,6 @@ use Rattle.http_rules.specs.Action.Given.{Env}
 use Rattle.http_rules.specs.Action.Outcome.{IsAt, IsScratch}
 use Rattle.http_rules.specs.Steps.{course_of}
 use Rattle.http_rules.specs.Stepped.{StepLeaves}
-use Rattle.px_sample.specs.Variables.{Variables}
-use Rattle.px_explain.specs.declared.trail.Trail.{Trail}
 use Rattle.px_explain.specs.declared.walk.Teller.{Teller}
 use Rattle.px_explain.specs.Shown.{Adds}
 use Rattle.px_explain.specs.Told.{line_of, step_in}

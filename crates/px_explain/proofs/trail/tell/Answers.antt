@@ -1,5 +1,4 @@
 use Rattle.std.proofs.Common.{◌++◌, ◌∷◌, [], ap, ◌∙◌}
-use Rattle.px_explain.specs.declared.trail.Trail.{Trail}
 use Rattle.px_explain.specs.declared.trace.TraceLine.{TraceLine}
 use Rattle.px_explain.specs.Told.{line_of}
 use Rattle.px_explain.proofs.Shown.{adds_one}
