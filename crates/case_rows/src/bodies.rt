@@ -8,6 +8,6 @@ mod targets;
 mod windows;
 
 pub use bodies::framing_of;
-pub use filters::filters_of;
+pub use filters::{filters_of, is_cut_same};
 pub use heads::LIMITS;
 pub use kinds::made;

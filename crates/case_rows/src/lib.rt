@@ -1,8 +1,9 @@
 //! Rows of tables: their fields, the bytes, calls and steps that these say, what a row comes to, and how many agree; in
-//! folders, rows of arrays of blocks, of heads and bodies, and of messages as text.
+//! folders, rows of arrays of blocks, of heads and bodies, of messages as text, and of FastCGI applications.
 #![tactic(auto)]
 
 mod answers;
+pub mod applications;
 pub mod array;
 pub mod bodies;
 mod escapes;

@@ -38,11 +38,19 @@ fn made_of_parts(alloc: Global, kind: &str, row: Row<'_>) -> Option<Result<Vec<u
     }
 }
 
+/// What a row of messages that are written, or of applications, comes to.
+fn made_of_writings(alloc: Global, kind: &str, row: Row<'_>) -> Option<Result<Vec<u8>, Fault>> {
+    match case_rows::writing::made(alloc, kind, row) {
+        Some(made) => Some(made),
+        None => case_rows::applications::made(alloc, kind, row),
+    }
+}
+
 /// What a row of bodies or of whole messages comes to.
 fn made_of_messages(alloc: Global, kind: &str, row: Row<'_>) -> Option<Result<Vec<u8>, Fault>> {
     match case_rows::bodies::made(alloc, kind, row) {
         Some(made) => Some(made),
-        None => case_rows::writing::made(alloc, kind, row),
+        None => made_of_writings(alloc, kind, row),
     }
 }
 
