@@ -12,8 +12,8 @@ use crate::answer::{
 use crate::networks::Networks;
 use crate::running::{RunCommand, run_many};
 use crate::serving::{ServeCommand, serve};
-use proxy_sessions::{Switch, Workers};
 use crate::stop::Stop;
+use proxy_sessions::{Switch, Workers};
 use px_command::{Asked, asked_by, help_of_text, help_text, version_text};
 use px_link::{Bytes, Files, Link, Net, Sink, Waits, WaitsNet, Wakes};
 use px_pattern::Patterns;

@@ -7,8 +7,8 @@ ghost use Rattle.proxy_sessions.specs.Running.{Runs};
 ghost use Rattle.proxy_call.specs.Stops.{given};
 
 use crate::answer::configuration;
-use proxy_sessions::{Many, Switch, Workers, run_clients};
 use crate::stop::Stop;
+use proxy_sessions::{Many, Switch, Workers, run_clients};
 use px_command::RunOptions;
 use px_link::{Files, Sink, Waits, WaitsNet, Wakes};
 use px_pattern::Patterns;

@@ -7,8 +7,8 @@ ghost use Rattle.proxy_sessions.specs.Serving.{Serves};
 ghost use Rattle.proxy_call.specs.Stops.{given};
 
 use crate::answer::configuration;
-use proxy_sessions::serve_clients;
 use crate::stop::Stop;
+use proxy_sessions::serve_clients;
 use px_link::{Files, Link, Net, Sink};
 use px_pattern::Patterns;
 use px_proxyproto::HasPeer;

@@ -2,10 +2,10 @@
 ghost use Rattle.std.specs.Prelude.{◌≡◌};
 ghost use Rattle.proxy_call.specs.Stops.{status_of};
 
-use proxy_sessions::ServeFault;
 use crate::status::Status;
 use cfg_parse::{CfgFault, CfgKind};
 use http_model::OutOfMemory;
+use proxy_sessions::ServeFault;
 use px_link::{Bytes, Fault};
 use px_run::RunFault;
 use rec_format::{RecFault, RecKind};

@@ -6,8 +6,8 @@ ghost use Rattle.px_link.specs.Told.{GainsFront};
 ghost use Rattle.proxy_sessions.specs.Lines.{listening_line};
 ghost use Rattle.proxy_sessions.specs.Running.{Runs, RanLoop, NotBegun, WroteListening};
 
-use crate::lines::listening_line;
 use crate::cores::RecordCores;
+use crate::lines::listening_line;
 use forward_core::bounds::bounded;
 use forward_core::request::laws::total;
 use http_rules::{Config, Timeouts};
