@@ -2,6 +2,9 @@
 #![tactic(auto)]
 
 pub mod interleaved;
+mod program;
 pub mod served;
 pub mod session;
 pub mod windows;
+
+pub use program::Program;

@@ -5,5 +5,5 @@ pub(crate) mod links;
 pub(crate) mod many;
 mod served;
 
-pub use served::made;
-pub(crate) use served::no_net;
+pub use many::{MemNetworks, RecordNets, many_of};
+pub use served::{made, no_net};

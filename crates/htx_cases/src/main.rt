@@ -3,10 +3,16 @@
 //! starts itself twice, with the words of a role.
 #![tactic(auto)]
 
+mod program;
+mod roles;
+mod serving;
+
+use crate::program::TopCall;
+use crate::roles::play_role;
 use case_rows::{Fault, Row, Score, decoded};
 use case_sessions::session::{session_made, woven_made};
 use case_sessions::windows::windows_made;
-use px_loop::visit::{play_role, run_both};
+use px_loop::visit::run_both;
 use std::alloc::{AllocError, Global};
 use std::process::{ExitCode, id};
 use std::rt::Files;
@@ -64,7 +70,7 @@ fn made_of_rules(alloc: Global, kind: &str, row: Row<'_>) -> Option<Result<Vec<u
 
 /// What a row of connections over links and nets in memory comes to.
 fn made_of_links(alloc: Global, kind: &str, row: Row<'_>) -> Option<Result<Vec<u8>, Fault>> {
-    match case_sessions::served::made(alloc, kind, row) {
+    match case_sessions::served::made::<TopCall>(alloc, kind, row) {
         Some(made) => Some(made),
         None => case_sessions::interleaved::made(alloc, kind, row),
     }
@@ -72,7 +78,7 @@ fn made_of_links(alloc: Global, kind: &str, row: Row<'_>) -> Option<Result<Vec<u
 
 /// What a row of the program comes to.
 fn made_of_program(alloc: Global, kind: &str, row: Row<'_>) -> Option<Result<Vec<u8>, Fault>> {
-    match case_sessions::session::made(alloc, kind, row) {
+    match case_sessions::session::made::<TopCall>(alloc, kind, row) {
         Some(made) => Some(made),
         None => made_of_links(alloc, kind, row),
     }
@@ -156,8 +162,8 @@ fn bytes_in<R: Files + AllocGlobal>(
 fn made_of_files(alloc: Global, ending: &str, cfg: &[u8], rec: &[u8]) -> Result<Vec<u8>, Fault> {
     match ending {
         "windows" => windows_made(alloc, cfg, rec),
-        "woven" => woven_made(alloc, cfg, rec),
-        _ => session_made(alloc, ending, cfg, rec),
+        "woven" => woven_made::<TopCall>(alloc, cfg, rec),
+        _ => session_made::<TopCall>(alloc, ending, cfg, rec),
     }
 }
 

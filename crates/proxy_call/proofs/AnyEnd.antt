@@ -1,6 +1,6 @@
 -- What the end of a call says, clause by clause, where `run` is among the commands.
 use Rattle.std.proofs.Common.{◌≡◌, ℕ, List, ◌⊎◌, inl, inr, refl, sym, ap, ◌∙◌, subst}
-use Rattle.std.specs.Prelude.{Option, Some, Result, Ok, Err, IsErrAnd}
+use Rattle.std.specs.Prelude.{Option, Some, Result, Ok, Err}
 use Rattle.px_link.specs.Told.{NamedBytes, Gains, Rose}
 use Rattle.px_link.specs.Link.{Seen}
 use Rattle.px_peer.specs.declared.Peer.{Peer}
@@ -15,17 +15,19 @@ use Rattle.serve_run.specs.Lines.{net_line}
 use Rattle.serve_run.specs.Served.{Breaks, NetFails, ServedAll}
 use Rattle.serve_run.specs.Told.{Visited}
 use Rattle.serve_run.specs.declared.outcome.ServeFault.{ServeFault}
-use Rattle.proxy_call.specs.Answers.{DecidesBy, DecidesRecord, IsDue, IsGood, IsRecordRefusedOf, IsRefusal, IsRefusedBy, NamesServe}
-use Rattle.proxy_call.specs.Ends.{EndedAny, Output, PutsFront, RanAny, RanRun, RunsTo, Tells, put, ran_as, status_of_run}
-use Rattle.proxy_call.specs.Files.{IsBuilt}
-use Rattle.proxy_call.specs.Lines.{file_line}
-use Rattle.proxy_call.specs.Running.{NamesRun}
-use Rattle.proxy_call.specs.Serving.{Serving}
+use Rattle.proxy_commands.specs.Answers.{DecidesBy, DecidesRecord, IsGood, IsRecordRefusedOf, IsRefusal, IsRefusedBy, NamesServe}
+use Rattle.proxy_call.specs.Due.{IsDue}
+use Rattle.proxy_commands.specs.Ends.{Output, PutsFront, RanAny, Tells, put, ran_as}
+use Rattle.proxy_call.specs.Ends.{EndedAny, RunsTo, status_of_run}
+use Rattle.proxy_commands.specs.Files.{IsBuilt}
+use Rattle.proxy_commands.specs.Lines.{file_line}
+use Rattle.proxy_commands.specs.Running.{NamesRun}
+use Rattle.proxy_commands.specs.Serving.{Serving}
 use Rattle.proxy_sessions.specs.Serving.{GainsBind, LostBy, ServedBy, Serves}
-use Rattle.proxy_call.specs.Stops.{Input, IsSilent, StopsBy, status_of, stop_of_running}
-use Rattle.proxy_call.specs.declared.status.Status.{Status}
-use Rattle.proxy_call.specs.declared.status.Status.TheVariants as ended
-use Rattle.proxy_call.specs.declared.stop.Stop.{Stop}
+use Rattle.proxy_commands.specs.Stops.{Input, IsSilent, StopsBy, status_of, stop_of_running}
+use Rattle.proxy_commands.specs.declared.status.Status.{Status}
+use Rattle.proxy_commands.specs.declared.status.Status.TheVariants as ended
+use Rattle.proxy_commands.specs.declared.stop.Stop.{Stop}
 use Rattle.proxy_call.proofs.Due.{of_told, run_not_due}
 use Rattle.proxy_call.proofs.Endings as clause
 use Rattle.proxy_call.proofs.Endings.{EndedBy}
@@ -52,18 +54,6 @@ after_run answer s status fault which stop is = is ∙ ap status_of stop ∙ ap 
 
 still_ran : (F : ℕ → Option (List ℕ) → Type 0) (now later : ℕ) (new last : Option (List ℕ)) → later ≡ now → last ≡ new → F now new → F later last
 still_ran F now later new last quiet same f = subst (λ (w : ℕ). F w last) (sym quiet) (subst (λ (o : Option (List ℕ)). F now o) (sym same) f)
-
--- what a `?` passes on
-pub run_err : (input : Input) (output : Output) (idle : Type 0) (Runs : Config → RunOptions → Result (Unit {0}) RunFault → Type 0) (r : Result (Unit {0}) Stop) (s : Stop) → IsErrAnd r (λ (y : Stop). y ≡ s)
-    → RanRun input output idle Runs (Err s) → RanRun input output idle Runs r
-run_err input output idle Runs (Ok done) s is p = absurd is
-run_err input output idle Runs (Err y) s is p = subst (λ (t : Stop). RanRun input output idle Runs (Err t)) (sym is) p
-
--- what `run` came to is what a command came to
-pub any_of_run : (input : Input) (output : Output) (quiet idle : Type 0) (Does : Config → ℕ → Result (Unit {0}) ServeFault → Type 0) (Runs : Config → RunOptions → Result (Unit {0}) RunFault → Type 0)
-    (result : Result (Unit {0}) Stop) → quiet → RanRun input output idle Runs result → RanAny input output quiet idle Does Runs result
-any_of_run input output quiet idle Does Runs result q (inl (wrote, i)) = inl (inl (wrote, q), i)
-any_of_run input output quiet idle Does Runs result q (inr ran) = inr (ran, q)
 
 pub any_ok : (input : Input) (output : Output) (quiet idle : Type 0) (Does : Config → ℕ → Result (Unit {0}) ServeFault → Type 0) (Runs : Config → RunOptions → Result (Unit {0}) RunFault → Type 0)
     → RanAny input output quiet idle Does Runs (Ok tt) → EndedAny input output quiet idle Does Runs ended.Good

@@ -11,11 +11,12 @@ use Rattle.rec_format.specs.Recorded as records
 use Rattle.rec_format.specs.Recorded.{Recorded, record_of}
 use Rattle.px_command.specs.Command.{IsCheckAll, IsCheckRecord, RunsRecord, IsServe, IsRun, IsUsage, NamesConfig, ReadsConfig}
 use Rattle.px_command.specs.declared.options.RunOptions.{RunOptions}
-use Rattle.proxy_call.specs.Answers.{Checks, DecidesRecord, IsDue, IsGood, IsRefused, IsRefusedBy}
-use Rattle.proxy_call.specs.Files.{Builder, Configured, Holds, IfTold, RecordIs, RefusesAll}
-use Rattle.proxy_call.specs.declared.status.Status.{Status}
-use Rattle.proxy_call.specs.declared.status.Status.TheVariants.{Good, Usage, FileFault, OutFault, NetFault, OutOfMemory}
-use Rattle.proxy_call.specs.declared.status.Status.TheVariants as ended
+use Rattle.proxy_commands.specs.Answers.{Checks, DecidesRecord, IsGood, IsRefused, IsRefusedBy}
+use Rattle.proxy_call.specs.Due.{IsDue}
+use Rattle.proxy_commands.specs.Files.{Builder, Configured, Holds, IfTold, RecordIs, RefusesAll}
+use Rattle.proxy_commands.specs.declared.status.Status.{Status}
+use Rattle.proxy_commands.specs.declared.status.Status.TheVariants.{Good, Usage, FileFault, OutFault, NetFault, OutOfMemory}
+use Rattle.proxy_commands.specs.declared.status.Status.TheVariants as ended
 use Rattle.proxy_call.proofs.Words.{record_or_config, fileless_or_config, fileless_or_record, check_or_record, serve_or_record, run_or_check, run_or_serve, run_or_record, run_or_fileless, same_config_name, same_record_name}
 
 -- ---- a file has one content

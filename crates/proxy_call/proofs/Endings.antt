@@ -12,15 +12,17 @@ use Rattle.serve_run.specs.Served.{Breaks, NetFails, ServedAll}
 use Rattle.serve_run.specs.Told.{Visited}
 use Rattle.serve_run.specs.declared.outcome.ServeFault.{ServeFault}
 use Rattle.serve_run.specs.declared.outcome.ServeFault.TheVariants as serving
-use Rattle.proxy_call.specs.Answers.{DecidesBy, DecidesRecord, IsDue, IsGood, IsRecordRefusedOf, IsRefusal, IsRefusedBy, NamesServe}
-use Rattle.proxy_call.specs.Ends.{Ended, Output, PutsFront, Tells, status_after}
-use Rattle.proxy_call.specs.Files.{IsBuilt}
-use Rattle.proxy_call.specs.Lines.{file_line}
-use Rattle.proxy_call.specs.Serving.{Serving}
+use Rattle.proxy_commands.specs.Answers.{DecidesBy, DecidesRecord, IsGood, IsRecordRefusedOf, IsRefusal, IsRefusedBy, NamesServe}
+use Rattle.proxy_call.specs.Due.{IsDue}
+use Rattle.proxy_commands.specs.Ends.{Output, PutsFront, Tells}
+use Rattle.proxy_call.specs.Ends.{Ended, status_after}
+use Rattle.proxy_commands.specs.Files.{IsBuilt}
+use Rattle.proxy_commands.specs.Lines.{file_line}
+use Rattle.proxy_commands.specs.Serving.{Serving}
 use Rattle.proxy_sessions.specs.Serving.{GainsBind, LostBy, ServedBy, Serves}
-use Rattle.proxy_call.specs.Stops.{Input}
-use Rattle.proxy_call.specs.declared.status.Status.{Status}
-use Rattle.proxy_call.specs.declared.status.Status.TheVariants as ended
+use Rattle.proxy_commands.specs.Stops.{Input}
+use Rattle.proxy_commands.specs.declared.status.Status.{Status}
+use Rattle.proxy_commands.specs.declared.status.Status.TheVariants as ended
 use Rattle.proxy_call.proofs.Due.{due_once, good_due, of_told, record_due, refused_by_due}
 use Rattle.proxy_call.proofs.Words.{good_or_serve, same_count}
 

@@ -1,11 +1,5 @@
 mod AnyEnd
-mod Causes
-mod Connections
-mod Drill
 mod Due
 mod Endings
-mod Replayed
 mod Stopped
-mod Told
 mod Words
-mod Writing

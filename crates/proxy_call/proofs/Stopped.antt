@@ -4,34 +4,13 @@ use Rattle.std.specs.Prelude.{Option, Result, Ok, Err}
 use Rattle.http_rules.specs.declared.config.Config.{Config}
 use Rattle.serve_run.specs.declared.outcome.ServeFault.{ServeFault}
 use Rattle.serve_run.specs.declared.outcome.ServeFault.TheVariants as serving
-use Rattle.proxy_call.specs.Ends.{Answered, Ended, Output, Ran, Says, Tells, Writes, put, served_as, status_after}
-use Rattle.proxy_call.specs.Stops.{Input, IsSilent, StopsBy, status_of, stop_of_serving}
-use Rattle.proxy_call.specs.declared.status.Status.{Status}
-use Rattle.proxy_call.specs.declared.status.Status.TheVariants as ended
-use Rattle.proxy_call.specs.declared.stop.Stop.{Stop}
-use Rattle.proxy_call.specs.declared.stop.Stop.TheVariants as stops
-
--- an answer that was written is what is told with its status
-pub tells : (input : Input) (output : Output) (status : Status) → Answered input output status → Tells input output status
-tells input output ended.Good a = a
-tells input output ended.Usage a = a
-tells input output ended.Config a = a
-tells input output ended.Record a = a
-tells input output ended.FileFault a = a
-tells input output ended.OutFault a = absurd a.answer
-tells input output ended.NetFault a = absurd a.answer
-tells input output ended.OutOfMemory a = absurd a.answer
-
--- so is what was written where writing stopped
-pub tells_stop : (input : Input) (output : Output) (s : Stop) → Says input output (Err s) → Tells input output (status_of s)
-tells_stop input output (stops.Usage text) said = absurd said
-tells_stop input output (stops.Refused line kind) said = absurd said
-tells_stop input output (stops.RefusedAll text) said = absurd said
-tells_stop input output (stops.Record place kind) said = absurd said
-tells_stop input output (stops.File name) said = absurd said
-tells_stop input output stops.Output said = said
-tells_stop input output stops.Net said = absurd said
-tells_stop input output stops.OutOfMemory said = said
+use Rattle.proxy_commands.specs.Ends.{Output, Ran, Tells, Writes, put, served_as}
+use Rattle.proxy_call.specs.Ends.{Ended, status_after}
+use Rattle.proxy_commands.specs.Stops.{Input, IsSilent, StopsBy, status_of, stop_of_serving}
+use Rattle.proxy_commands.specs.declared.status.Status.{Status}
+use Rattle.proxy_commands.specs.declared.status.Status.TheVariants as ended
+use Rattle.proxy_commands.specs.declared.stop.Stop.{Stop}
+use Rattle.proxy_commands.specs.declared.stop.Stop.TheVariants as stops
 
 -- what was told since nothing was written yet is told since the start
 from_start : (input : Input) (writes later now : ℕ) (old middle new : Option (List ℕ)) (status : Status) → middle ≡ old → later ≡ writes → Tells input (put later now middle new) status → Tells input (put writes now old new) status

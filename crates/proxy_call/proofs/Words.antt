@@ -5,8 +5,9 @@ use Rattle.px_bytes.specs.Numbers.{decimal_of}
 use Rattle.px_link.specs.Told.{NamedBytes}
 use Rattle.px_command.specs.Command.{IsCheck, IsCheckAll, IsCheckRecord, IsReplay, IsExplain, IsExplainBlocks, IsWeave, RunsRecord, IsServe, IsRun, IsDrill, AsksText, IsFileWord, NamesConfig, ReadsConfig}
 use Rattle.px_command.specs.declared.options.RunOptions.{RunOptions}
-use Rattle.proxy_call.specs.Answers.{AsksNoFile, Checks, IsGood, NamesServe}
-use Rattle.proxy_call.specs.Running.{NamesRun}
+use Rattle.proxy_commands.specs.Answers.{Checks, IsGood, NamesServe}
+use Rattle.proxy_call.specs.Due.{AsksNoFile}
+use Rattle.proxy_commands.specs.Running.{NamesRun}
 
 -- how many words stand behind the first, and its third letter
 abbrev key : List (List ℕ) → ℕ

@@ -1,10 +1,2 @@
-pub mod Answers
+pub mod Due
 pub mod Ends
-pub mod Explained
-pub mod Files
-pub mod Lines
-pub mod Refusals
-pub mod Serving
-pub mod Running
-pub mod Stops
-pub mod Numbers

@@ -4,7 +4,8 @@ ghost use Rattle.std.specs.Prelude.{◌≡◌, [], IfOk};
 
 use crate::served::links::put_servers;
 use case_rows::{Call, Fault};
-use proxy_call::{Many, Switch, Workers};
+use proxy_commands::Networks;
+use proxy_sessions::{Many, Switch, Workers};
 use px_link::{Fault as Failure, MemNet, MemWakes, OutOfMemory, Script, ScriptedNet, Sink};
 use px_run::Nets;
 use rec_format::Connection;
@@ -21,7 +22,7 @@ fn ready(alloc: Global, net: MemNet) -> ScriptedNet<MemNet>
 
 /// The nets of the connections of a record, in their order, and behind them nets without a server.
 #[derive(Drop)]
-pub(crate) struct RecordNets<'r> {
+pub struct RecordNets<'r> {
     alloc: Global,
     conns: &'r [Connection],
     asked: usize,
@@ -80,10 +81,13 @@ impl<'r> Nets<ScriptedNet<MemNet>> for RecordNets<'r> {
 }
 
 /// What `run` is handed in memory.
-pub(crate) type MemMany<'r> = Many<ScriptedNet<MemNet>, RecordNets<'r>, MemWakes>;
+pub type MemMany<'r> = Many<ScriptedNet<MemNet>, RecordNets<'r>, MemWakes>;
+
+/// What the program is handed in memory.
+pub type MemNetworks<'r> = Networks<MemNet, ScriptedNet<MemNet>, RecordNets<'r>, MemWakes>;
 
 /// What `run` is handed, with the clients on this net, and the servers of these connections. Its clock stands still.
-pub(crate) fn many_of<'r>(alloc: Global, net: MemNet, conns: &'r [Connection]) -> MemMany<'r> {
+pub fn many_of<'r>(alloc: Global, net: MemNet, conns: &'r [Connection]) -> MemMany<'r> {
     Many {
         net: ready(alloc, net),
         nets: RecordNets {

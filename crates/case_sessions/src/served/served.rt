@@ -1,10 +1,11 @@
 //! `serve` and `run` over links and nets in memory, one of whose calls may fail.
+use crate::program::Program;
 use crate::served::failing::calls_of;
 use crate::served::links::net_of;
 use crate::served::many::many_of;
 use crate::session::record_in;
 use case_rows::{Answers, Call, Fault, Row, decoded, words_of};
-use proxy_call::{Networks, Status, htx_proxy};
+use proxy_commands::{Networks, Status};
 use px_link::{MemFiles, MemNet, MemSink};
 use px_pattern::RealPatterns;
 use std::alloc::Global;
@@ -39,7 +40,7 @@ fn tell(alloc: Global, status: Status, out: &MemSink, net: &MemNet) -> Result<Ve
 }
 
 /// NAME, the call that fails, words, the file `c`, the record whose clients come, and what comes of it.
-fn served(alloc: Global, row: Row<'_>) -> Result<Vec<u8>, Fault> {
+fn served<P: Program>(alloc: Global, row: Row<'_>) -> Result<Vec<u8>, Fault> {
     let (failing, _) = Call::first(row.field(1).as_bytes());
     let words = words_of(alloc, row.field(2))?;
     let cfg = decoded(alloc, row.field(3).as_bytes())?;
@@ -51,17 +52,17 @@ fn served(alloc: Global, row: Row<'_>) -> Result<Vec<u8>, Fault> {
     };
     let mut out = output_of(alloc, &failing)?;
     let mut pats = RealPatterns::new();
-    let status = htx_proxy(alloc, &words, &mut files, &mut nets, &mut out, &mut pats);
+    let status = P::call(alloc, &words, &mut files, &mut nets, &mut out, &mut pats);
     tell(alloc, status, &out, &nets.serve)
 }
 
 /// A net to which no client comes.
-pub(crate) fn no_net(alloc: Global) -> Result<MemNet, Fault> {
+pub fn no_net(alloc: Global) -> Result<MemNet, Fault> {
     Ok(MemNet::new(alloc, Vec::new(alloc), Vec::new(alloc))?)
 }
 
 /// NAME, the call of the net that fails, words of `run`, the file `c`, the record whose clients come, and what comes of it: the clients' links alone.
-fn ran(alloc: Global, row: Row<'_>) -> Result<Vec<u8>, Fault> {
+fn ran<P: Program>(alloc: Global, row: Row<'_>) -> Result<Vec<u8>, Fault> {
     let (failing, _) = Call::first(row.field(1).as_bytes());
     let words = words_of(alloc, row.field(2))?;
     let cfg = decoded(alloc, row.field(3).as_bytes())?;
@@ -73,15 +74,15 @@ fn ran(alloc: Global, row: Row<'_>) -> Result<Vec<u8>, Fault> {
     };
     let mut out = output_of(alloc, &failing)?;
     let mut pats = RealPatterns::new();
-    let status = htx_proxy(alloc, &words, &mut files, &mut nets, &mut out, &mut pats);
+    let status = P::call(alloc, &words, &mut files, &mut nets, &mut out, &mut pats);
     tell(alloc, status, &out, nets.run.net.net())
 }
 
 /// What a row of `served` or `ran` comes to; none of another kind.
-pub fn made(alloc: Global, kind: &str, row: Row<'_>) -> Option<Result<Vec<u8>, Fault>> {
+pub fn made<P: Program>(alloc: Global, kind: &str, row: Row<'_>) -> Option<Result<Vec<u8>, Fault>> {
     match kind {
-        "served" => Some(served(alloc, row)),
-        "ran" => Some(ran(alloc, row)),
+        "served" => Some(served::<P>(alloc, row)),
+        "ran" => Some(ran::<P>(alloc, row)),
         _ => None,
     }
 }

@@ -1,18 +1,16 @@
 //! The clients and the origin, played against a process that serves.
 ghost use Rattle.std.specs.Prelude.{◌≡◌, ◌<◌, IfOk};
 
+use crate::visit::PLAY;
 use crate::visit::ports::{Ports, loopback};
 use crate::{PlayFault, connect_patiently, forwarded, redirected};
-use proxy_call::Status;
+use proxy_commands::Status;
 use px_link::{Address, Close, Fault, Link, Net, OutOfMemory};
 use px_sock::RealNet;
 use std::io::Eprint;
 use std::process::ExitCode;
 use std::time::{Clock, Duration};
 use std::{net, thread};
-
-/// The word that asks for it.
-pub const WORD: &str = "play";
 
 /// How often a client connects while nobody listens, and how long it waits between.
 const TRIES: u32 = 6000;
@@ -142,7 +140,7 @@ pub fn play<R: net::Net + Clock + Print + Eprint + AllocGlobal>(rt: &R, ports: P
     match visits(rt, ports) {
         Ok(()) => ExitCode::SUCCESS,
         Err(stop) => {
-            let _ = eprintln!(rt; "{WORD}: {stop:?}");
+            let _ = eprintln!(rt; "{PLAY}: {stop:?}");
             stop.status()
         }
     }

@@ -1,7 +1,7 @@
 //! Both processes of a run, watched to their ends: neither is left running, whatever the other does.
 use crate::visit::ports::Ports;
-use crate::visit::{playing, serving};
-use proxy_call::Status;
+use crate::visit::{PLAY, SERVE};
+use proxy_commands::Status;
 use std::alloc::Global;
 use std::io::Eprint;
 use std::process::{Child, Command, ExitCode, OpenProcess, Processes, Stdio};
@@ -127,8 +127,8 @@ fn run_at<R: Processes + Clock + Eprint + AllocGlobal>(
     program: &str,
     ports: Ports,
 ) -> io::Result<Outcome> {
-    let mut server = start(rt, program, serving::WORD, ports, Stdio::piped())?;
-    let mut player = match start(rt, program, playing::WORD, ports, Stdio::inherit()) {
+    let mut server = start(rt, program, SERVE, ports, Stdio::piped())?;
+    let mut player = match start(rt, program, PLAY, ports, Stdio::inherit()) {
         Ok(player) => player,
         Err(error) => {
             let _ = end(&mut server);

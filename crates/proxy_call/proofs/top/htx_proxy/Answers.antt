@@ -2,14 +2,14 @@ use Rattle.std.proofs.Common.{ℕ, List, ◌≡◌, ap, map}
 use Rattle.std.specs.Prelude.{Option, Result, string_bytes}
 use Rattle.http_rules.specs.declared.config.Config.{Config}
 use Rattle.serve_run.specs.declared.outcome.ServeFault.{ServeFault}
-use Rattle.proxy_call.specs.Ends.{Output, put}
-use Rattle.proxy_call.specs.Files.{told_by}
+use Rattle.proxy_commands.specs.Ends.{Output, put}
+use Rattle.proxy_commands.specs.Files.{told_by}
 use Rattle.px_command.specs.declared.options.RunOptions.{RunOptions}
 use Rattle.px_run.specs.declared.plan.RunFault.{RunFault}
 use Rattle.proxy_sessions.specs.Running.{Runs}
 use Rattle.proxy_sessions.specs.Serving.{Serves}
-use Rattle.proxy_call.specs.Stops.{Input, given}
-use Rattle.proxy_call.specs.declared.status.Status.TheVariants as ended
+use Rattle.proxy_commands.specs.Stops.{Input, given}
+use Rattle.proxy_commands.specs.declared.status.Status.TheVariants as ended
 use Rattle.proxy_call.proofs.AnyEnd as clause
 use Rattle.proxy_call.proofs.AnyEnd.{End, any_err, any_ok}
 use Rattle.proxy_call.proofs.top.htx_proxy.Goals as goal

@@ -1,0 +1,6 @@
+mod Causes
+mod Connections
+mod Drill
+mod Replayed
+mod Told
+mod Writing

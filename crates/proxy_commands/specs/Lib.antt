@@ -1,0 +1,10 @@
+pub mod Answers
+pub mod Ends
+pub mod Explained
+pub mod Files
+pub mod Lines
+pub mod Refusals
+pub mod Serving
+pub mod Running
+pub mod Stops
+pub mod Numbers
