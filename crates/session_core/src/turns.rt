@@ -14,6 +14,7 @@ use http_model::{End, OutOfMemory};
 
 impl<S: Works> Core<S> {
     /// Where the exchange in hand has ended, what follows it.
+    #[inline(always)]
     pub(crate) fn end_exchange(&mut self)
         requires placed { IsPlaced (S.placed self.old.sides) (S.answer self.old.sides) self.old.at.phase self.old.at.cut }
         ensures placed { IsPlaced (S.placed self.new.sides) (S.answer self.new.sides) self.new.at.phase self.new.at.cut }

@@ -123,6 +123,7 @@ impl<S: Works> Core<S> {
     }
 
     /// What the core wants of its driver. It changes with each event and with work alone.
+    #[inline(always)]
     pub fn wants(&self) -> Wants
         requires placed { IsPlaced (S.placed self.now.sides) (S.answer self.now.sides) self.now.at.phase self.now.at.cut }
         ensures { result ≡ wants_of (S.request self.now.sides) (S.answer self.now.sides) self.now.at }
@@ -131,6 +132,7 @@ impl<S: Works> Core<S> {
     }
 
     /// The same, wherever the directions stand.
+    #[inline(always)]
     fn wants_here(&self) -> Wants
         requires placed { IsSomewhere (S.placed self.now.sides) }
         ensures { result ≡ wants_of (S.request self.now.sides) (S.answer self.now.sides) self.now.at }

@@ -163,6 +163,7 @@ impl<S: Works> Core<S> {
     }
 
     /// The answer direction, as far as it can go.
+    #[inline(always)]
     fn run_answer(&mut self) -> Result<(), OutOfMemory>
         requires placed { IsPlaced (S.placed self.old.sides) (S.answer self.old.sides) self.old.at.phase self.old.at.cut }
         ensures placed { OnOk result (IsPlaced (S.placed self.new.sides) (S.answer self.new.sides) self.new.at.phase self.new.at.cut) }
