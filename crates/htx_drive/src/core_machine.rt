@@ -26,6 +26,7 @@ impl<S: Works> Machine for Core<S> {
 
     ghost with_to_server = { λ core text. record core { sides = S.with_to_server core.sides text } };
 
+    #[inline(always)]
     fn wants(&self) -> Wants {
         self.wants()
     }

@@ -15,6 +15,7 @@ use crate::{Machine, SessionFault, Wants};
 use px_link::{Link, Turn};
 
 /// A turn while no server is open, and whether it moved something.
+#[inline(always)]
 pub(crate) fn turn_idle<C: Machine, L: Link>(
     core: &mut C,
     client: &mut L,
@@ -53,6 +54,7 @@ pub(crate) fn turn_idle<C: Machine, L: Link>(
 }
 
 /// A turn while a server is open, and whether it moved something.
+#[inline(always)]
 pub(crate) fn turn_open<C: Machine, L: Link>(
     core: &mut C,
     client: &mut L,
