@@ -1,6 +1,6 @@
 -- A step of a server's answer.
 use Rattle.std.proofs.Common.{◌≡◌, ◌≢◌, ◌<◌, ◌⊎◌, inl, inr, ℕ, List, [], ◌++◌, Bool, true, false, refl, sym, ap, ◌∙◌, subst, append_assoc}
-use Rattle.std.specs.Prelude.{Result, Ok, Err, OnOk}
+use Rattle.std.specs.Prelude.{Result, Ok, Err, OnOk, is_none}
 use Rattle.std.proofs.lemmas.List.{append-nil}
 use Rattle.px_sample.specs.Variables.{Variables}
 use Rattle.http_rules.specs.declared.config.Config.{Config}
@@ -11,7 +11,7 @@ use Rattle.session_core.specs.declared.Told.TheVariants as told
 use Rattle.lane.specs.Answering.{source_of}
 use Rattle.forward_core.specs.Answer.Seen.{seen, place_of, size_of, window_size_of, is_last, told_at}
 use Rattle.forward_core.specs.Answer.Said.{PutsMore}
-use Rattle.forward_core.specs.Answer.Stands.{AnswerStands, RestsAt, FitsAt, IsSoundSide, is_serving}
+use Rattle.forward_core.specs.Answer.Stands.{AnswerStands, HeadRests, RestsAt, FitsAt, IsSoundSide, is_serving}
 use Rattle.forward_core.specs.Answer.Stepping.{VarsAt, StepsOn}
 use Rattle.forward_core.specs.Answer.Hearing.{IsBetween, Hears, WaitsForHead}
 use Rattle.forward_core.specs.Answer.Judging.{Finds, GoesOut, Decides, KeepsOn}
@@ -74,6 +74,24 @@ decides_last cfg old mid new asking server put more saying vars window g f =
 waits_told : (side : AnswerSide) → side.place ≡ place.Heads → WaitsForHead side → ((seen side).window ≢ []) ⊎ (((seen side).told ≡ told.Going) × ((seen side).is_open ≡ true) × (0 < (seen side).room))
 waits_told side heads (inl some) = inl some
 waits_told side heads (inr w) = inr (ap (λ (p : Place). told_at p (source_of side.lane)) heads, w.0, w.1)
+
+-- a direction at rest among heads waits for one
+rests_waiting : (side : AnswerSide) (head_asked : Bool) → 0 < (seen side).room → HeadRests head_asked side.lane → WaitsForHead side
+rests_waiting side head_asked room (inl shows) = inl shows.1
+rests_waiting side head_asked room (inr reads) = inr (ap is_none reads.1, room)
+
+-- nothing, where nothing came since the last step
+pub decides_rested : (cfg : Config) (side : AnswerSide) (asking : Asking Variables) (server : Coming) (put : List ℕ) (now : Variables) (saying : Saying) (vars : Variables) → AnswerStands cfg side asking server put now saying
+    → VarsAt (place_of side) (answering asking.vars) now vars → side.place ≡ place.Heads → side.at_rest ≡ true → 0 < (seen side).room → Decides cfg side side asking server put saying vars
+decides_rested cfg side asking server put now saying vars s at heads rest room =
+    record {
+      put = [];
+      behind = now;
+      stands = subst (λ (xs : List ℕ). AnswerStands cfg side asking server xs now saying) (sym (append-nil put)) s;
+      vars = at;
+      window = sym (append-nil (seen side).window);
+      waits = λ _. (rest, λ off. waits_told side heads (rests_waiting side (asker_in asking).head_asked room (subst (λ (p : Place). RestsAt p (asker_in asking).head_asked side.lane) heads (s.rests rest))));
+    }
 
 -- more is waited for
 pub decides_more : (cfg : Config) (old mid new : AnswerSide) (asking : Asking Variables) (server : Coming) (put : List ℕ) (now : Variables) (saying : Saying) (vars : Variables) → new ≡ record mid { at_rest = true } → mid.place ≡ place.Heads

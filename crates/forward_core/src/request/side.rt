@@ -1,5 +1,5 @@
 //! The request direction of a session, and its events and work.
-ghost use Rattle.std.specs.Prelude.{◌≡◌, ◌≢◌, ◌≤◌, ◌+◌, ◌-◌, ℕ, List, [], ◌++◌, true, false, drop, length, IfOk};
+ghost use Rattle.std.specs.Prelude.{◌≡◌, ◌≢◌, ◌≤◌, ◌<◌, ◌+◌, ◌-◌, ℕ, List, [], ◌++◌, true, false, drop, length, IfOk};
 ghost use Rattle.http_model.specs.Head.{Head, head_blocks};
 ghost use Rattle.http_model.specs.Sizes.{least_size, most_size, least_head};
 ghost use Rattle.body_filter.specs.Valid.{AreFilters};
@@ -168,7 +168,8 @@ impl RequestSide {
         }
     }
 
-    /// Reads the head of the client's next request. Where it stands in the array, rules may edit it there before it is sent.
+    /// Reads the head of the client's next request. Where it stands in the array, rules may edit it there before it is sent. Where nothing
+    /// came since the last look there is nothing to read.
     pub fn read_head(&mut self) -> LaneHead
         requires sound { IsSound self.old }
         requires place { place_of self.old ≡ place.Reading }
@@ -180,6 +181,9 @@ impl RequestSide {
         ensures limits { limits_of self.new ≡ limits_of self.old }
         ensures window_size { window_size_of self.new ≡ window_size_of self.old }
     {
+        if self.is_waiting() {
+            return LaneHead::More;
+        }
         has_bytes();
         self.at_rest = false;
         match self.lane.read_head(Side::Request) {
@@ -200,6 +204,14 @@ impl RequestSide {
                 LaneHead::Refuse(code)
             }
         }
+    }
+
+    /// Whether nothing came since a head was last looked for, and more can come.
+    fn is_waiting(&self) -> bool
+        ensures rests { result ≡ true → self.now.at_rest ≡ true }
+        ensures room { result ≡ true → 0 < room_of self.now }
+    {
+        self.at_rest && self.client_room() > 0
     }
 
     /// The head that stands in the array, which rules edited and which is finished for its server, goes out, and the body behind

@@ -1,5 +1,5 @@
 //! A step of a server's answer.
-ghost use Rattle.std.specs.Prelude.{◌≡◌, ◌≢◌, ℕ, List, true, false, IsOk, OnOk};
+ghost use Rattle.std.specs.Prelude.{◌≡◌, ◌≢◌, ◌<◌, ℕ, List, true, false, IsOk, OnOk};
 ghost use Rattle.px_sample.specs.Variables.{Variables};
 ghost use Rattle.http_rules.specs.declared.config.Config.{Config};
 ghost use Rattle.http_rules.specs.Lives.{answering};
@@ -49,7 +49,8 @@ impl AnswerSide {
         Ok(())
     }
 
-    /// Where heads are read, reads them, and begins what answers once a final one came, or none is to be had.
+    /// Where heads are read, reads them, and begins what answers once a final one came, or none is to be had. Where nothing came since
+    /// the last step there is nothing to read.
     fn decide(&mut self, rules: &mut SessionRules<'_>, method: &[u8]) -> Result<(), OutOfMemory>
         requires sound { IsSoundSide self.old }
         requires serving { is_serving (place_of self.old) ≡ true }
@@ -63,6 +64,9 @@ impl AnswerSide {
         ensures config { config_of rules.new ≡ config_of rules.old }
     {
         if !self.is_hearing() {
+            return Ok(());
+        }
+        if self.is_waiting() {
             return Ok(());
         }
         self.at_rest = false;
@@ -83,5 +87,13 @@ impl AnswerSide {
         ensures rests { result ≡ false → place_of self.now ≢ place.Heads }
     {
         self.place == Place::Heads
+    }
+
+    /// Whether nothing came of the server, and nothing was taken, since the last step, and more can come.
+    fn is_waiting(&self) -> bool
+        ensures rests { result ≡ true → (seen self.now).at_rest ≡ true }
+        ensures room { result ≡ true → 0 < (seen self.now).room }
+    {
+        self.at_rest && self.room() > 0
     }
 }

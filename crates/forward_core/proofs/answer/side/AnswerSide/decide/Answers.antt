@@ -8,7 +8,7 @@ use Rattle.forward_core.specs.Answer.Judging.{Settles}
 use Rattle.forward_core.specs.declared.answer.hearing.Heard.TheVariants as heard
 use Rattle.forward_core.proofs.AnswerLemmas.ReadLemmas.{in_heads, hears_from, stirred, stirred_sound}
 use Rattle.forward_core.proofs.AnswerLemmas.SettleLemmas.{settles_refused}
-use Rattle.forward_core.proofs.AnswerLemmas.StepLemmas.{vars_heads, decides_none, decides_last, decides_more, keeps_out, keeps_more, on_ok_both}
+use Rattle.forward_core.proofs.AnswerLemmas.StepLemmas.{vars_heads, decides_none, decides_rested, decides_last, decides_more, keeps_out, keeps_more, on_ok_both}
 use Rattle.forward_core.proofs.answer.side.AnswerSide.decide.Goals as goal
 
 -- ---- no heads are read
@@ -19,6 +19,17 @@ returns-then-not-is_hearing-clause-leads c = λ cfg asking server put now saying
 
 pub returns-then-not-is_hearing-clause-keeps : goal.returns-then-not-is_hearing-clause-keeps
 returns-then-not-is_hearing-clause-keeps c = record { serving = c.requires.serving; sound = c.requires.sound; begun = λ was. was; heard = λ was. was; is_open = refl; size = refl; window_size = refl }
+
+-- ---- nothing came
+
+pub returns-then-is_waiting-clause-leads : goal.returns-then-is_waiting-clause-leads
+returns-then-is_waiting-clause-leads c = λ cfg asking server put now saying s runs vars.
+    decides_rested cfg c.args.self.now asking server put now saying c.args.rules.now.vars s vars (c.is_hearing.ensures.heads c.if-not-is_hearing.false) (c.is_waiting.ensures.rests c.if-is_waiting.true) (c.is_waiting.ensures.room c.if-is_waiting.true)
+
+pub returns-then-is_waiting-clause-keeps : goal.returns-then-is_waiting-clause-keeps
+returns-then-is_waiting-clause-keeps c = record { serving = c.requires.serving; sound = c.requires.sound; begun = λ was. was; heard = λ was. was; is_open = refl; size = refl; window_size = refl }
+
+-- ---- heads are read
 
 pub hear-requires-clause-heads : goal.hear-requires-clause-heads
 hear-requires-clause-heads c = c.is_hearing.ensures.heads c.if-not-is_hearing.false

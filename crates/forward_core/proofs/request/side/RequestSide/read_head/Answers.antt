@@ -1,13 +1,28 @@
-use Rattle.std.proofs.Common.{ℕ, false, ap, ◌∙◌, refl}
+use Rattle.std.proofs.Common.{ℕ, false, ap, ◌∙◌, refl, subst}
 use Rattle.std.specs.Prelude.{is_none, is_some}
 use Rattle.http_model.specs.Reading.{Nothing, Refused}
 use Rattle.wire_buf.specs.Buffer.{Buffer}
 use Rattle.h1_head.specs.declared.answer.Side.TheVariants as side
+use Rattle.forward_core.specs.declared.request.place.Place.{Place}
 use Rattle.forward_core.specs.declared.request.place.Place.TheVariants as place
+use Rattle.forward_core.specs.Request.Rests.{WaitsForHead, RestsAt}
 use Rattle.forward_core.proofs.RequestLemmas.Events.{for_same, same_by}
 use Rattle.forward_core.proofs.RequestLemmas.Reading.{at_reading, on_reading, still_reading, nothing_out, each_nothing, asks_reading, head_read, reads_on, some_room, refuses_bytes, head_uses}
 use Rattle.forward_core.proofs.RequestLemmas.Resting.{more_rests}
 use Rattle.forward_core.proofs.request.side.RequestSide.read_head.Goals as goal
+
+pub returns-then-is_waiting-clause-tells : goal.returns-then-is_waiting-clause-tells
+returns-then-is_waiting-clause-tells c =
+    let lane = c.args.self.now.lane in
+    let rests = c.is_waiting.ensures.rests c.if-is_waiting.true in
+    let waits : WaitsForHead lane = subst (λ (at : Place). RestsAt at lane) c.requires.place (c.requires.sound.rests rests) in
+    record {
+      place = c.requires.place;
+      is_open = ap is_none waits.ended;
+      room = c.is_waiting.ensures.room c.if-is_waiting.true;
+      rests = rests;
+      leads = λ cfg vars came asking to_server reply h. h;
+    }
 
 pub returns-in-More-clause-sound : goal.returns-in-More-clause-sound
 returns-in-More-clause-sound c =
