@@ -13,3 +13,5 @@ mod Begun
 mod Once
 mod Shown
 mod Arrays
+mod Edits
+mod Weighed

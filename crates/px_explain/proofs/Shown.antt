@@ -1,6 +1,7 @@
 -- What is told behind what was told, with its text.
 use Rattle.std.proofs.Common.{◌≡◌, ℕ, List, [], ◌∷◌, ◌++◌, Bool, true, false, map, length, refl, sym, ap, subst, ◌∙◌}
 use Rattle.std.proofs.lemmas.List.{append-nil, append_assoc, map-append}
+use Rattle.std.specs.Prelude.{Option}
 use Rattle.htx_arena.specs.Layout.Contents.{Contents}
 use Rattle.htx_arena.specs.Layout.Held.{held}
 use Rattle.px_explain.specs.declared.trace.TraceLine.{TraceLine}
@@ -8,6 +9,7 @@ use Rattle.px_explain.specs.declared.trail.Trail.{Trail}
 use Rattle.px_explain.specs.Entry.{TraceEntry, line_in}
 use Rattle.px_explain.specs.Shown.{AreShown, Adds, entry_text, text_behind}
 use Rattle.px_explain.specs.Walked.{entry_in, IsEmpty}
+use Rattle.px_explain.specs.Wanted.{IsAsMeant}
 
 -- ---- texts
 
@@ -29,16 +31,23 @@ shown_more (entry ∷ xs) ys a b x y = (x.0, x.1 ++ b, x.2, shown_more xs ys x.1
 pub adds_nothing : (trail : Trail) → Adds trail trail []
 adds_nothing trail = record { lines = sym (append-nil trail.lines.items); shows = refl; piece = []; shown = refl; text = text_nothing trail.shows trail.text }
 
+-- the load that is told is the one that is meant, where texts are written
+text_meant : (shows : Bool) (t : List ℕ) (line : TraceLine) (needed meant : Option ℕ) (array : Contents) → IsAsMeant shows needed meant
+    → text_behind shows t (entry_text line needed array) ≡ text_behind shows t (entry_text line meant array)
+text_meant true t line needed meant array as_meant = ap (λ (w : Option ℕ). t ++ entry_text line w array) (as_meant refl)
+text_meant false t line needed meant array as_meant = refl
+
 -- one rule
-pub adds_one : (old new : Trail) (line : TraceLine) (array : Contents) (raw : List ℕ) → new.lines.items ≡ old.lines.items ++ line ∷ [] → new.shows ≡ old.shows
-    → new.text ≡ text_behind old.shows old.text (entry_text line array) → length raw ≡ array.size → held raw array.blocks array.addrs → Adds old new (entry_in line array ∷ [])
-adds_one old new line array raw lines shows text fills stands =
+pub adds_one : (old new : Trail) (line : TraceLine) (needed meant : Option ℕ) (array : Contents) (raw : List ℕ) → new.lines.items ≡ old.lines.items ++ line ∷ [] → new.shows ≡ old.shows
+    → new.text ≡ text_behind old.shows old.text (entry_text line needed array) → IsAsMeant old.shows needed meant → length raw ≡ array.size → held raw array.blocks array.addrs
+    → Adds old new (entry_in line meant array ∷ [])
+adds_one old new line needed meant array raw lines shows text as_meant fills stands =
     record {
       lines = lines;
       shows = shows;
-      piece = entry_text line array;
-      shown = (entry_text line array, [], (array, record { size = refl; blocks = refl; raw = raw; fills = fills; stands = stands }, refl), refl, sym (append-nil (entry_text line array)));
-      text = text;
+      piece = entry_text line meant array;
+      shown = (entry_text line meant array, [], (array, record { size = refl; blocks = refl; raw = raw; fills = fills; stands = stands }, refl), refl, sym (append-nil (entry_text line meant array)));
+      text = text ∙ text_meant old.shows old.text line needed meant array as_meant;
     }
 
 -- rules behind others

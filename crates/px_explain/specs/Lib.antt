@@ -1,4 +1,5 @@
 pub mod Entry
+pub mod Wanted
 pub mod Array
 pub mod Lines
 pub mod Shown

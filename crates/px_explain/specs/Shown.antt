@@ -1,5 +1,5 @@
 -- What is written of rules with the arrays that they leave.
-use Rattle.std.specs.Prelude.{◌≡◌, ℕ, List, [], ◌∷◌, ◌++◌, Bool, map, length, if◌then◌else◌}
+use Rattle.std.specs.Prelude.{◌≡◌, ℕ, List, [], ◌∷◌, ◌++◌, Bool, map, length, if◌then◌else◌, Option, Some, None, codes, decimal}
 use Rattle.http_rules.specs.declared.step.Step.{Step}
 use Rattle.http_rules.specs.declared.step.Step.TheVariants.{Passed}
 use Rattle.htx_arena.specs.Layout.Contents.{Contents}
@@ -15,9 +15,14 @@ abbrev pub view_text : Step → Contents → List ℕ
 view_text Passed array = []
 view_text _ array = array_text array
 
--- the line of a rule, and the array where it ran
-abbrev pub entry_text : TraceLine → Contents → List ℕ
-entry_text line array = line_text line ++ view_text line.step array
+-- the load that a rule would have needed, and nothing where none is told
+abbrev pub wanted_text : Option ℕ → List ℕ
+wanted_text None = []
+wanted_text (Some needed) = codes "wanted " ++ decimal needed ++ codes "\n"
+
+-- the line of a rule, the load that it would have needed, and the array where it ran
+abbrev pub entry_text : TraceLine → (wanted : Option ℕ) → Contents → List ℕ
+entry_text line wanted array = line_text line ++ wanted_text wanted ++ view_text line.step array
 
 -- the array that a rule left: it has the size and the blocks, which stand in bytes at its addresses
 pub record IsLeftBy (entry : TraceEntry) (array : Contents) : Type 0 where
@@ -29,7 +34,7 @@ pub record IsLeftBy (entry : TraceEntry) (array : Contents) : Type 0 where
 
 -- the text is that of a rule with the array that it left
 abbrev pub IsEntryText : TraceEntry → List ℕ → Type 0
-IsEntryText entry text = (array : Contents) × IsLeftBy entry array × (text ≡ entry_text entry.line array)
+IsEntryText entry text = (array : Contents) × IsLeftBy entry array × (text ≡ entry_text entry.line entry.wanted array)
 
 -- the text is that of these rules with the arrays that they left, one behind the other
 abbrev pub AreShown : List TraceEntry → List ℕ → Type 0

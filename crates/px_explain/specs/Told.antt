@@ -1,8 +1,9 @@
--- What is told of the rules of one list: their lines, and the blocks that each of them leaves.
+-- What is told of the rules of one list: their lines, the blocks that each of them leaves, and what one would have needed that failed for want of room.
 use Rattle.std.specs.Prelude.{ℕ, ◌+◌, List, [], ◌∷◌, Bool, true, false}
 use Rattle.http_model.specs.Block.{Block}
 use Rattle.http_model.specs.Head.{front_blocks}
 use Rattle.session_model.specs.Env.{Pass, Reply, Deny, Fail}
+use Rattle.http_rules.specs.declared.rule.action.Action.{Action}
 use Rattle.http_rules.specs.declared.rule.rule.Rule.{Rule}
 use Rattle.http_rules.specs.declared.action.side.Side.{Side}
 use Rattle.http_rules.specs.declared.step.Step.{Step}
@@ -20,6 +21,7 @@ use Rattle.px_explain.specs.declared.telling.RuleList.{RuleList}
 use Rattle.px_explain.specs.declared.walk.Teller.{Teller}
 use Rattle.px_explain.specs.Entry.{TraceEntry}
 use Rattle.px_explain.specs.Shown.{Adds}
+use Rattle.px_explain.specs.Wanted.{wanted_by}
 
 -- the line of the rule at an index, whose number is one more
 abbrev pub line_of : Which → (at : ℕ) → Step → TraceLine
@@ -38,18 +40,20 @@ end_of (Deny code env) = env
 end_of (Fail why env) = env
 
 -- what is told of the rule at an index, which leaves this environment in an array of this size
-abbrev pub entry_of : Which → (at size : ℕ) → Step → Env → TraceEntry
-entry_of which at size step env = record { line = line_of which at step; size = size; left = front_blocks env.head env.body }
+abbrev pub entry_of : Which → (at size : ℕ) → Action → Step → Env → TraceEntry
+entry_of which at size action step env =
+    record { line = line_of which at step; wanted = wanted_by step size action env; size = size; left = front_blocks env.head env.body }
 
 -- what is told of the rule at an index, and of those behind it
-abbrev pub entries_behind : Which → (at size : ℕ) → Course → (Bool → Env → List TraceEntry) → List TraceEntry
-entries_behind which at size (Onward step strict next) others = entry_of which at size step next ∷ others strict next
-entries_behind which at size (Over step comes) others = entry_of which at size step (end_of comes) ∷ []
+abbrev pub entries_behind : Which → (at size : ℕ) → Action → Course → (Bool → Env → List TraceEntry) → List TraceEntry
+entries_behind which at size action (Onward step strict next) others = entry_of which at size action step next ∷ others strict next
+entries_behind which at size action (Over step comes) others = entry_of which at size action step (end_of comes) ∷ []
 
 -- what is told of rules under a mode, the first of which stands at an index
 abbrev pub entries_from : Which → (at size : ℕ) → List Rule → (strict : Bool) → Env → List TraceEntry
 entries_from which at size [] strict env = []
-entries_from which at size (rule ∷ rules) strict env = entries_behind which at size (course_of size rule strict env) (entries_from which (at + 1) size rules)
+entries_from which at size (rule ∷ rules) strict env =
+    entries_behind which at size rule.action (course_of size rule strict env) (entries_from which (at + 1) size rules)
 
 -- an entry for each rule of a list that is reached, in their order
 abbrev pub told : Which → (size : ℕ) → List Rule → Env → List TraceEntry

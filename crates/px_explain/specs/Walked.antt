@@ -55,9 +55,9 @@ pub record IsEmpty (wanted : Bool) (trail : Trail) : Type 0 where
   pub shows : trail.shows ≡ wanted
   pub text : trail.text ≡ []
 
--- what is told of a rule with this line, which left this array
-abbrev pub entry_in : TraceLine → Contents → TraceEntry
-entry_in line array = record { line = line; size = array.size; left = array.blocks }
+-- what is told of a rule with this line, which would have needed this load where that is told, and left this array
+abbrev pub entry_in : TraceLine → (wanted : Option ℕ) → Contents → TraceEntry
+entry_in line wanted array = record { line = line; wanted = wanted; size = array.size; left = array.blocks }
 
 -- nothing was done yet, and what is told goes behind this
 pub record IsBegun (cfg : Config) (trail : Trail) (walk : Walk) : Type 0 where

@@ -14,6 +14,7 @@ mod text;
 mod trace;
 mod trail;
 mod walk;
+mod weighing;
 
 pub use exchange::{explain, explain_blocks};
 pub use http_rules::{OutOfMemory, Step};

@@ -1,6 +1,7 @@
 //! One list of rules, run rule by rule, with a line for each that is reached.
-ghost use Rattle.std.specs.Prelude.{◌≡◌, [], IfOk};
+ghost use Rattle.std.specs.Prelude.{◌≡◌, ◌≤◌, [], IfOk};
 ghost use Rattle.std.specs.List.{AllByRecursion};
+ghost use Rattle.http_model.specs.Sizes.{most_size};
 ghost use Rattle.http_rules.specs.Rule.Valid.{IsGoodAction};
 ghost use Rattle.http_rules.specs.Action.Given.{Env};
 ghost use Rattle.http_rules.specs.Action.Outcome.{IsScratch, IsAt, IsFront};
@@ -9,6 +10,7 @@ ghost use Rattle.px_explain.specs.Told.{ToldOf, is_pass, step_in};
 use crate::trace::Which;
 use crate::trail::tell;
 use crate::walk::Teller;
+use crate::weighing::wanted;
 use http_rules::action::Side;
 use http_rules::{OutOfMemory, Rules, Step, Turn, Turned, Verdict, step_rule, stepping_is_the_run};
 use htx_arena::Arena;
@@ -41,6 +43,7 @@ pub(crate) fn tell_rules(
 ) -> Result<Verdict, OutOfMemory>
     requires scratch { IsScratch msg.old.size teller.old.scratch }
     requires front { IsFront msg.old.blocks }
+    requires small { msg.old.size ≤ most_size }
     requires reply_size { reply.old.size ≡ msg.old.size }
     requires no_reply { reply.old.blocks ≡ [] }
     requires good { AllByRecursion (λ rule. IsGoodAction rule.action) list.rules.now }
@@ -53,10 +56,8 @@ pub(crate) fn tell_rules(
     stepping_is_the_run();
     let mut strict = true;
     for at in 0..list.rules.len() {
-        let turn = Turn {
-            rule: list.rules.get(at),
-            strict,
-        };
+        let rule = list.rules.get(at);
+        let turn = Turn { rule, strict };
         let turned = step_rule(
             turn,
             side,
@@ -65,7 +66,9 @@ pub(crate) fn tell_rules(
             &mut teller.scratch,
             reply,
         )?;
-        tell(&mut teller.trail, list.which, at, step_in(turned), msg)?;
+        let step = step_in(turned);
+        let needed = wanted(teller, step, &rule.action, side, msg)?;
+        tell(&mut teller.trail, list.which, at, step, needed, msg)?;
         match turned {
             Turned::Goes(_, mode) => strict = mode,
             Turned::Ends(_, verdict) => return Ok(verdict),

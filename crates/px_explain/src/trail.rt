@@ -1,7 +1,8 @@
 //! What was told so far: the lines of rules, and where it is asked for the text that has the arrays too.
-ghost use Rattle.std.specs.Prelude.{◌≡◌, ◌<◌, ◌-◌, ◌^◌, ◌++◌, ◌∷◌, [], true, false, IfOk, OnOk};
+ghost use Rattle.std.specs.Prelude.{◌≡◌, ◌<◌, ◌-◌, ◌^◌, ◌++◌, ◌∷◌, [], ℕ, Option, true, false, IfOk, OnOk};
 ghost use Rattle.px_explain.specs.Told.{line_of};
-ghost use Rattle.px_explain.specs.Shown.{view_text, entry_text, text_behind, Adds};
+ghost use Rattle.px_explain.specs.Shown.{wanted_text, view_text, entry_text, text_behind, Adds};
+ghost use Rattle.px_explain.specs.Wanted.{IsAsMeant};
 
 use crate::array::push_array;
 use crate::text::push_line;
@@ -38,6 +39,20 @@ impl Trail {
     }
 }
 
+/// Puts the load that a rule would have needed behind its line, where one is told.
+fn push_wanted(alloc: Global, text: &mut Bytes, wanted: Option<u32>) -> Result<(), OutOfMemory>
+    ensures { OnOk result (text.new ≡ text.old ++ wanted_text wanted) }
+{
+    match wanted {
+        None => Ok(()),
+        Some(needed) => {
+            text.push(b"wanted ")?;
+            text.push(needed.to_string(alloc)?.as_bytes())?;
+            text.push(b"\n")
+        }
+    }
+}
+
 /// Puts the array behind the line of a rule that ran.
 fn push_view(alloc: Global, text: &mut Bytes, step: Step, msg: &Arena) -> Result<(), OutOfMemory>
     ensures { OnOk result (text.new ≡ text.old ++ view_text step msg.now) }
@@ -53,41 +68,49 @@ fn push_view(alloc: Global, text: &mut Bytes, step: Step, msg: &Arena) -> Result
     }
 }
 
-/// Puts the line of a rule behind a text, and the array behind that where the rule ran.
+/// Puts the line of a rule behind a text, and behind that the load that it would have needed, and the array where it ran.
 fn push_entry(
     alloc: Global,
     text: &mut Bytes,
     line: TraceLine,
+    wanted: Option<u32>,
     msg: &Arena,
 ) -> Result<(), OutOfMemory>
-    ensures { OnOk result (text.new ≡ text.old ++ entry_text line msg.now) }
+    ensures { OnOk result (text.new ≡ text.old ++ entry_text line wanted msg.now) }
 {
     push_line(alloc, text, line)?;
+    push_wanted(alloc, text, wanted)?;
     push_view(alloc, text, line.step, msg)
 }
 
 /// The same, where the text is written.
-fn show(trail: &mut Trail, line: TraceLine, msg: &Arena) -> Result<(), OutOfMemory>
-    ensures text { OnOk result (trail.new.text ≡ text_behind trail.old.shows trail.old.text (entry_text line msg.now)) }
+fn show(
+    trail: &mut Trail,
+    line: TraceLine,
+    wanted: Option<u32>,
+    msg: &Arena,
+) -> Result<(), OutOfMemory>
+    ensures text { OnOk result (trail.new.text ≡ text_behind trail.old.shows trail.old.text (entry_text line wanted msg.now)) }
     ensures shows { trail.new.shows ≡ trail.old.shows }
     ensures lines { trail.new.lines ≡ trail.old.lines }
 {
     if !trail.shows {
         return Ok(());
     }
-    push_entry(trail.alloc, &mut trail.text, line, msg)
+    push_entry(trail.alloc, &mut trail.text, line, wanted, msg)
 }
 
-/// Tells what the rule at an index came to, which left this array.
+/// Tells what the rule at an index came to, which left this array, and what it would have needed, where texts are written.
 pub(crate) fn tell(
     trail: &mut Trail,
     which: Which,
     at: u32,
     step: Step,
+    wanted: Option<u32>,
     msg: &Arena,
 ) -> Result<(), OutOfMemory>
     requires { at < 2 ^ 32 - 1 }
-    ensures { OnOk result (Adds trail.old trail.new (entry_in (line_of which at step) msg.now ∷ [])) }
+    ensures { OnOk result ((meant : Option ℕ) → IsAsMeant trail.old.shows wanted meant → Adds trail.old trail.new (entry_in (line_of which at step) meant msg.now ∷ [])) }
 {
     // called for its clause alone: the blocks stand in the bytes of the array
     let _raw = msg.raw();
@@ -96,7 +119,7 @@ pub(crate) fn tell(
         rule: at + 1,
         step,
     };
-    show(trail, line, msg)?;
+    show(trail, line, wanted, msg)?;
     trail.lines.push(line)?;
     Ok(())
 }
