@@ -194,7 +194,7 @@ pub(crate) fn wanted(
     ensures wanted { IfOk result (λ told. (env : Env) → IsAt side.entry env msg.now.blocks teller.old.vars → IsAsMeant teller.old.trail.shows told (wanted_by step msg.now.size action.now env)) }
     ensures vars { OnOk result (teller.new.vars ≡ teller.old.vars) }
     ensures trail { OnOk result (teller.new.trail ≡ teller.old.trail) }
-    ensures scratch { OnOk result (teller.new.scratch ≡ teller.old.scratch) }
+    ensures scratch { teller.new.scratch ≡ teller.old.scratch }
 {
     if !teller.trail.shows {
         return Ok(None);
