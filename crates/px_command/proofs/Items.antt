@@ -59,9 +59,6 @@ first_of_three a b d x y z is = cc
 pub first_of_four : (a b d e x y z w : List ℕ) → a ∷ b ∷ d ∷ e ∷ [] ≡ x ∷ y ∷ z ∷ w ∷ [] → a ≡ x
 first_of_four a b d e x y z w is = cc
 
-pub front_of_more : (a x y : List ℕ) (b : List ℕ) (rest behind : List (List ℕ)) → a ∷ b ∷ rest ≡ x ∷ y ∷ behind → a ≡ x
-front_of_more a x y b rest behind is = cc
-
 pub front_are : (a b x y : List ℕ) (rest : List (List ℕ)) → a ≡ x → b ≡ y → a ∷ b ∷ rest ≡ x ∷ y ∷ rest
 front_are a b x y rest p q = cc
 

@@ -6,26 +6,6 @@ use Rattle.http_model.specs.Blocks.{block_at}
 use Rattle.htx_arena.specs.Layout.Contents.{Contents}
 use Rattle.px_explain.specs.Array.{lengths_before, block_line, block_lines}
 
--- no block but a field has a name
-pub no_name : (b : Block) → (IsFieldKind (kind_of b) → ⊥) → 0 ≡ length (name_of b)
-no_name (RequestLine a b c) other = refl
-no_name (ResponseLine a b c) other = refl
-no_name (Header n v) other = absurd (other tt)
-no_name EndHeaders other = refl
-no_name (Data p) other = refl
-no_name (Trailer n v) other = absurd (other tt)
-no_name EndTrailers other = refl
-
--- a name is within its payload
-pub name_within : (b : Block) → length (name_of b) ≤ payload_len b
-name_within (RequestLine a b c) = omega arith
-name_within (ResponseLine a b c) = omega arith
-name_within (Header n v) = omega arith
-name_within EndHeaders = omega arith
-name_within (Data p) = omega arith
-name_within (Trailer n v) = omega arith
-name_within EndTrailers = omega arith
-
 -- so are the lengths in front of a start line
 pub lengths_within : (b : Block) → lengths_before (kind_of b) ≤ payload_len b
 lengths_within (RequestLine a b c) = omega arith
@@ -50,11 +30,6 @@ pub lines_next : (array : Contents) (at count : ℕ) → at < count
 lines_next array at count some =
     let more : count - at ≡ suc (count - (at + 1)) = omega arith in
     ap (λ (n : ℕ). block_lines array at n) more
-
-pub lines_over : (array : Contents) (at count : ℕ) → count ≤ at → block_lines array at (count - at) ≡ []
-lines_over array at count all =
-    let none : count - at ≡ 0 = omega arith in
-    ap (λ (n : ℕ). block_lines array at n) none
 
 -- ---- texts
 

@@ -109,9 +109,6 @@ pub record Reached (list : RuleList) (side : Side) (size : ℕ) (env : Env) (bef
   pub adds : Adds before trail so_far
   pub entries_left : so_far ++ entries_from list.which at size (drop at list.rules.now) strict now ≡ told list.which size list.rules.now env
 
-pub begins : (list : RuleList) (side : Side) (size : ℕ) (env : Env) (trail : Trail) (blocks : List Block) (vars : Variables) → IsAt side env blocks vars → Reached list side size env trail 0 true trail blocks vars
-begins list side size env trail blocks vars at = record { now = env; at_now = at; left = refl; so_far = []; adds = adds_nothing trail; entries_left = refl }
-
 module _ (list : RuleList) (side : Side) (size : ℕ) (env : Env) (before : Trail) (at : ℕ) (rule : Rule) (strict : Bool) (trail : Trail) (old : List Block) (array : Contents) (vars left_vars : Variables)
     (first : ByFirst) (is : slice_get list.rules.now at ≡ Some rule) (sized : array.size ≡ size) (r : Reached list side size env before at strict trail old vars) where
   abbrev others : List Rule

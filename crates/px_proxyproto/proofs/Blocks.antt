@@ -64,41 +64,12 @@ more_stands bytes rest long = λ i. may_stand (get_or_append_left bytes rest 0 1
 
 -- ---- a block that is kept in part has what its family wants
 
-block_more : (four six other : Bool) (n m : ℕ) → min 91 n ≤ m → cond four (nat_le 12 n) (cond six (nat_le 36 n) other) ≡ true → cond four (nat_le 12 m) (cond six (nat_le 36 m) other) ≡ true
-block_more true six other n m le h = le-leb 12 m (omega (arith, le, leb-true 12 n h))
-block_more false true other n m le h = le-leb 36 m (omega (arith, le, leb-true 36 n h))
-block_more false false other n m le h = h
-
-command_more : (local proxy : Bool) (block more : Bool) → (block ≡ true → more ≡ true) → cond local true (cond proxy block false) ≡ true → cond local true (cond proxy more false) ≡ true
-command_more true proxy block more step h = refl
-command_more false true block more step h = step h
-command_more false false block more step h = h
-
-pub stands_kept : (command family n m : ℕ) → min 91 n ≤ m → may_stand command family n ≡ true → may_stand command family m ≡ true
-stands_kept command family n m le h =
-    command_more (command == 0x20) (command == 0x21) _ _ (block_more (family == 0x11) (family == 0x21) (is_other_family family) n m le) h
-
 -- ---- what is told
 
 none_in : (bytes : List ℕ) → Agrees bytes signature → ((front rest : List ℕ) (pair : Option Pair) → bytes ≡ front ++ rest → IsBinary front pair → ⊥)
     → (front rest : List ℕ) (pair : Option Pair) → bytes ≡ front ++ rest → IsHeader front pair → ⊥
 none_in bytes a binary front rest pair e (inl is) = text_front_apart bytes front rest pair e a is
 none_in bytes a binary front rest pair e (inr is) = binary front rest pair e is
-
--- below 16 bytes
-pub begins : (bytes : List ℕ) → Agrees bytes signature → length bytes < 16 → MayStill bytes
-begins bytes a short = record {
-  none_yet = none_in bytes a (λ front rest pair e is. absurd (omega (arith, is.len, ap length e, length-append front rest, short)));
-  text = λ _. omega (arith, short);
-  binary = λ _ long. absurd (omega (arith, short, long));
-}
-
-pub never_stands : (bytes : List ℕ) → Agrees bytes signature → 16 ≤ length bytes → may_stand (get_or bytes 12 0) (get_or bytes 13 0) (block_len bytes) ≡ false
-    → (rest : List ℕ) (pair : Option Pair) → IsHeader (bytes ++ rest) pair → ⊥
-never_stands bytes a long never rest pair (inl is) = text_apart bytes rest pair (omega (arith, long)) a is
-never_stands bytes a long never rest pair (inr is) =
-    let both : true ≡ false = sym is.stands ∙ (more_stands bytes rest long ∙ never) in
-    absurd cc
 
 goes_on_by : (bytes rest : List ℕ) → take 12 bytes ≡ signature → 16 ≤ length bytes → may_stand (get_or bytes 12 0) (get_or bytes 13 0) (block_len bytes) ≡ true
     → length bytes + length rest ≡ 16 + block_len bytes → IsBinary (bytes ++ rest) (pair_in (get_or (bytes ++ rest) 12 0) (get_or (bytes ++ rest) 13 0) (drop 16 (bytes ++ rest)))

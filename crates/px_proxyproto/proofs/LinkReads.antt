@@ -20,22 +20,9 @@ Next bytes old new = IfSome old (λ all. (rest : List ℕ) × (all ≡ bytes ++ 
 abbrev Taken : ℕ → Option ℕ → Option ℕ → Type 0
 Taken n old new = IfSome old (λ k. new ≡ Some (k + n))
 
-next_none : (o : Option (List ℕ)) → Next [] o o
-next_none None = tt
-next_none (Some all) = (all, refl, refl)
-
 taken_none : (o : Option ℕ) → Taken 0 o o
 taken_none None = tt
 taken_none (Some k) = let e : k ≡ k + 0 = omega arith in ap Some e
-
-pub none_taken : (s : Seen) → TakenFrom s s []
-none_taken s = record {
-  next = next_none s.to_come;
-  taken = taken_none s.taken;
-  kind = record { ending = refl; plain = refl; takes = refl };
-  closed = refl;
-  writes = refl;
-}
 
 next_both : (x y : List ℕ) (a b c : Option (List ℕ)) → Next x a b → Next y b c → Next (x ++ y) a c
 next_both x y None b c p q = tt

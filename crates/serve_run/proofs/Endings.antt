@@ -51,14 +51,6 @@ pub bind_breaks : {N : Type 0} (net_seen : N → NetSeen) (One : N → N → Out
 bind_breaks net_seen One Lost at count first now old b =
     inr (inl (record { outcomes = []; fails = inl (b, refl); rose = b.rose; written = ([], net_line, refl, gains_none old) }))
 
--- connections behind a bind, of which a prefix was written
-pub begun_breaks : {N : Type 0} (net_seen : N → NetSeen) (One : N → N → Outcome → Type 0) (Lost : N → N → Type 0) (at : Place) (count : ℕ) (first bound now : N) (old new : Option (List ℕ))
-    → Binds (net_seen first) (net_seen bound) at (Ok tt)
-    → (outcomes : List Outcome) → length outcomes ≤ count → (last : N) → Serves One bound outcomes last → StopsAt net_seen Lost last now → GainsFront old new (lines_from 1 outcomes)
-    → Breaks net_seen One Lost at count first now old new
-begun_breaks net_seen One Lost at count first bound now old new b outcomes most last serves stops written =
-    inl (record { outcomes = outcomes; most = most; last = last; reached = (bound, b, serves); stops = stops; written = written })
-
 -- ---- what a net tells of it
 
 pub all_visited : {L N : Type 0} (seen : L → Seen) (wrote : L → List ℕ → Type 0) (net_seen : N → NetSeen) (does : L → L → N → N → Result Ran SessionFault → Type 0) (to : Place)

@@ -35,9 +35,6 @@ joined_over size code wanted held keeps =
     ∙ ap (λ (t : Bool). cond t (Ok (redirect_reply code (trimmed wanted))) (Err Room))
     (lt-leb (load (message_blocks (closing (redirect_reply code (trimmed wanted))))) size (omega (arith, is_long size wanted held keeps, counted code (trimmed wanted))))
 
-pub joined_bad : (size code : ℕ) (wanted : List ℕ) → are_value_bytes wanted ≡ false → led_to size code wanted ≡ Err Bytes
-joined_bad size code wanted bad = ap (λ (t : Bool). cond t (fitting size (redirect_reply code (trimmed wanted))) (Err Bytes)) bad
-
 pub joined_held : (size code : ℕ) (wanted held : List ℕ) → Keeps size wanted true held → led_to size code held ≡ led_to size code wanted
 joined_held size code wanted held keeps =
     ap (λ (t : Bool). cond t (fitting size (redirect_reply code (trimmed held))) (Err Bytes)) (held_good size wanted held true keeps)

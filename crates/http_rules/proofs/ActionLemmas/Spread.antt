@@ -170,16 +170,6 @@ stop_joining size cap pat template field front from placed others so_far held no
     let long : is_short size pat template placed.1 ≡ false = subst (λ (n : ℕ). is_short n pat template placed.1 ≡ false) caps (subst (λ (p : Option Joined). IsPut cap pat template before.pieces front placed.1 p now) is done) in
     sym before.short ∙ ap (λ (t : Bool). t && list_all (is_short size pat template) (map value_at others)) long
 
--- the rest of the field behind the last
-pub end_joining : (size cap : ℕ) (pat : Pattern) (template field rest : List ℕ) (from : ℕ) (others : List (ℕ × List ℕ)) (so_far joined : Joined) (held now : List ℕ)
-    → (before : Joining size pat template field from others so_far held) → others ≡ [] → rest ≡ drop from field → cap ≡ size → Joins cap (before.pieces ++ rest) joined now
-    → AreJoined size pat template field (Some joined) now
-end_joining size cap pat template field rest from others so_far joined held now before none is caps joins = (
-  sym before.short ∙ ap (λ (ps : List (ℕ × List ℕ)). list_all (is_short size pat template) (map value_at ps)) none,
-  retold size cap (before.pieces ++ rest) (replaced_values pat template field) now joined caps
-      (ap (λ (bs : List ℕ). before.pieces ++ bs) is ∙ sym (ap (λ (ps : List (ℕ × List ℕ)). before.pieces ++ rebuilt (replaced pat template) field from ps) none) ∙ before.rest) joins,
-)
-
 -- ---- the field's new value
 
 -- a value that is longer than the array does not fit
@@ -208,12 +198,3 @@ listed size cap env pat template field held edit joined f counts is are = at joi
         ∙ sym (ap (λ (t : Bool). cond t (edited size env (edit (trimmed held))) (Err Bytes)) (held_good size value held true h.1))
     at (Some Over) h = short h.0 ∙ of_good h.1.good ∙ no_room size env edit (trimmed value) counts (is_long size value held h.1)
     at (Some Bad) h = short h.0 ∙ ap (λ (t : Bool). cond t (edited size env (edit (trimmed value))) (Err Bytes)) h.1
-
--- so is what came of a field in a value of which the pattern matches
-pub by_template : (size : ℕ) (env : Env) (pat : Pattern) (fmt : Fmt) (field held lent made : List ℕ) (edit : List ℕ → Head) (one fits : Bool) (f : Filled) → one ≡ list_any (matches pat) (values_of field) → one ≡ true
-    → IsMade size (text_on size env fmt) fits held → fits ≡ true → lent ≡ held → by_listed size env pat lent field edit ≡ valued_by size f made env edit
-    → by_matches size env pat fmt field (λ text. by_value size env text edit) ≡ valued_by size f made env edit
-by_template size env pat fmt field held lent made edit one fits f is good text within same done =
-    ap (λ (t : Bool). cond t (by_text size (text_on size env fmt) (λ template. by_listed size env pat template field edit)) (Ok env)) (sym is ∙ good)
-    ∙ short_is size (text_on size env fmt) held (λ template. by_listed size env pat template field edit) (subst (λ (t : Bool). IsMade size (text_on size env fmt) t held) within text)
-    ∙ sym (ap (λ (t : List ℕ). by_listed size env pat t field edit) same) ∙ done

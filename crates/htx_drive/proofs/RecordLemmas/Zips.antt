@@ -41,12 +41,6 @@ sums need (x ∷ xs) (n ∷ ns) all =
     let rest = sums need xs ns all.1 in
     omega (arith, first, rest, sum_by-cons need x xs, sum_by-cons (λ (m : ℕ). m) n ns)
 
-pub each_at : {A : Type 0} (P : A → Type 0) (xs : List A) (k : ℕ) (x : A) → AllByRecursion P xs → slice_get xs k ≡ Some x → P x
-each_at P [] k x all e = absurd cc
-each_at {A} P (y ∷ xs) zero x all e =
-    let f : y ≡ x = cc in subst P f all.0
-each_at P (y ∷ xs) (suc k) x all e = each_at P xs k x all.1 e
-
 -- ---- lists that grow at their end
 
 pub each_push : {A : Type 0} (P : A → Type 0) (xs : List A) (x : A) → AllByRecursion P xs → P x → AllByRecursion P (xs ++ x ∷ [])
@@ -61,13 +55,6 @@ pub zip_done : {A B : Type 0} (R : A → B → Type 0) (all left : List A) (fron
 zip_done {A} {B} R all left front none so =
     let Q : List A → Type 0 = λ l. AllZip R l [] in
     subst (λ (l : List B). AllZip R all l) (append-nil front) (so [] (subst Q (sym none) tt))
-
--- one more stands in front of what is left
-pub zip_next : {A B : Type 0} (R : A → B → Type 0) (all left rest : List A) (front : List B) (x : A) (y : B) → left ≡ x ∷ rest → R x y → ((later : List B) → AllZip R left later → AllZip R all (front ++ later))
-    → (later : List B) → AllZip R rest later → AllZip R all ((front ++ y ∷ []) ++ later)
-zip_next {A} {B} R all left rest front x y is one so later zip =
-    let Q : List A → Type 0 = λ l. AllZip R l (y ∷ later) in
-    subst (λ (l : List B). AllZip R all l) (sym (append_assoc front (y ∷ []) later)) (so (y ∷ later) (subst Q (sym is) (one, zip)))
 
 pub one_longer : {A : Type 0} (xs : List A) (x : A) (ys : List A) {n : ℕ} → ys ≡ xs ++ x ∷ [] → length xs ≡ n → length ys ≡ n + 1
 one_longer xs x ys {n = n} e f = omega (arith, ap (λ l. length l) e, length-append xs (x ∷ []), f)

@@ -143,9 +143,6 @@ as_moved stands sees all ahead core seen wrote first client server to first_net 
     let P : Moved → Type 0 = λ d. Pays total left (Going stands sees all (ahead_behind d ahead) core seen wrote first client server to first_net net) in
     subst P e r
 
-pub over_is : (was : Moved) (end : End) (wants : Wants) → was ≡ moves.Over end → OverIs was wants → wants.over ≡ Some end
-over_is was end wants e h = let P : Moved → Type 0 = λ d. OverIs d wants in subst P e h
-
 pub as_fault : {C L : Type 0} (M : Meaning) (stands : C → Past → Type 0) (sees : C → CoreSeen) (all : List Turn) (core : C) (seen : L → Seen) (wrote : L → List ℕ → Type 0) (first client : L) (to : Place) (first_net net : NetSeen) (total left : ℕ) (was fault : SessionFault) → was ≡ fault
     → Pays total left (λ count. (ahead : List Turn) × Stopped (LeftSo M stands sees all ahead count core (failed_by was)) seen wrote first client (failed_by was) to first_net net count)
     → Pays total left (λ count. (ahead : List Turn) × Stopped (LeftSo M stands sees all ahead count core (failed_by fault)) seen wrote first client (failed_by fault) to first_net net count)

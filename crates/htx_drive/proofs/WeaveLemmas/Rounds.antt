@@ -100,9 +100,6 @@ pub record Rests {C L N : Type 0} (places : ℕ) (old new : Seats C) (were conns
   pub same_left : left ≡ before
   pub why : (place : ℕ) (conn : Conn L N) → place < places → slice_get were place ≡ Some conn → Idles (suc place) old.owners conn.ran
 
-pub none_moved : {C L N : Type 0} (old : Seats C) (conns : List (Conn L N)) (before : ℕ) → AllMovedOn conns conns before before ⊎ Rests 0 old old conns conns before before
-none_moved old conns before = inr (record { same_pool = refl; same_conns = refl; same_left = refl; why = λ place conn h. absurd (omega (arith, h)) })
-
 module _ {C L N : Type 0} (place : ℕ) (old middle new : Seats C) (were conns next : List (Conn L N)) (before left behind : ℕ) where
   pub round_on : (at : ℕ) → at ≡ place → (AllMovedOn were conns before left ⊎ Rests place old middle were conns before left) → (AllMovedOn conns next left behind ⊎ RestedAt at middle new conns next left behind)
       → AllMovedOn were next before behind ⊎ Rests (place + 1) old new were next before behind

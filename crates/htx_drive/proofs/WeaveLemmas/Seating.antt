@@ -60,38 +60,6 @@ has_done serving held server lent ran was e none h =
 
 -- ---- it may be called with the core that it got
 
-first_may : {C L : Type 0} (sees : C → CoreSeen) (sound : C → Type 0) (server : Option L) (lent : ℕ) (free : List C) → server ≡ None → AllByRecursion (IsReady sees sound) free → IfSome (first_of free) (MayCall sees sound server lent)
-first_may sees sound server lent [] e all = tt
-first_may sees sound server lent (core ∷ free) e all =
-    record { is_sound = all.0.0; serving = all.0.1 ∙ sym (ap is_some e); is_lent = λ h. absurd (none_is (ap is_some e) h) }
-  where
-    none_is : {b : Bool} → b ≡ false → b ≡ true → ⊥
-    none_is e h = cc
-
-call_of : {C L : Type 0} (sees : C → CoreSeen) (sound : C → Type 0) (server : Option L) (lent : ℕ) (held : Option C) → MayMove sees sound server lent None held → IfSome held (MayCall sees sound server lent)
-call_of sees sound server lent None h = tt
-call_of sees sound server lent (Some core) h = h
-
-none_open : {C L : Type 0} (sees : C → CoreSeen) (sound : C → Type 0) (server : Option L) (lent : ℕ) (held : Option C) → held ≡ None → MayMove sees sound server lent None held → server ≡ None
-none_open sees sound server lent held e h = let P : Option _ → Type 0 = λ o. MayMove sees sound server lent None o in subst P e h
-
-pub may_call : {C L : Type 0} (sees : C → CoreSeen) (sound : C → Type 0) (server : Option L) (lent number : ℕ) (old new : Seats C) → Seated number old new → MayMove sees sound server lent None (core_of number old) → AllByRecursion (IsReady sees sound) (free_of old)
-    → IfSome (core_of number new) (MayCall sees sound server lent)
-may_call sees sound server lent number old new (inl k) h all =
-    let P : Option _ → Type 0 = λ o. IfSome o (MayCall sees sound server lent) in
-    subst P (sym k.core) (call_of sees sound server lent (core_of number old) h)
-may_call sees sound server lent number old new (inr t) h all =
-    let P : Option _ → Type 0 = λ o. IfSome o (MayCall sees sound server lent) in
-    subst P (sym t.core) (first_may sees sound server lent (free_of old) (none_open sees sound server lent (core_of number old) t.none h) all)
-
-pub as_sound : {C L : Type 0} (sees : C → CoreSeen) (sound : C → Type 0) (server : Option L) (lent : ℕ) (held : Option C) → IfSome held (MayCall sees sound server lent) → IfSome held sound
-as_sound sees sound server lent None h = tt
-as_sound sees sound server lent (Some core) h = h.is_sound
-
-pub as_serving : {C L : Type 0} (sees : C → CoreSeen) (sound : C → Type 0) (server : Option L) (lent : ℕ) (held : Option C) → IfSome held (MayCall sees sound server lent) → IfSome held (λ core. (sees core).serving ≡ is_some server)
-as_serving sees sound server lent None h = tt
-as_serving sees sound server lent (Some core) h = h.serving
-
 pub as_lent : {C L : Type 0} (sees : C → CoreSeen) (sound : C → Type 0) (server : Option L) (lent : ℕ) (held : Option C) → MayMove sees sound server lent None held → is_some server ≡ true → 0 < lent
 as_lent sees sound server lent None h e = absurd (let f : is_some server ≡ false = ap is_some h in not_open (is_some server) f e)
   where
@@ -107,22 +75,3 @@ free_seated P number old new (inr t) all = let Q : List _ → Type 0 = λ l. All
     rest_all : (l : List _) → AllByRecursion P l → AllByRecursion P (rest_of l)
     rest_all [] all = tt
     rest_all (core ∷ l) all = all.1
-
--- it may move again
-pub may_again : {C L : Type 0} (sees : C → CoreSeen) (sound : C → Type 0) (held : Option C) (server : Option L) (lent : ℕ) (ran : Option (Result Ran SessionFault)) → KeepsOn sees sound held server lent ran → MayMove sees sound server lent ran held
-may_again {C = C} sees sound held server lent ran k =
-    let P : Option C → Type 0 = λ o. MayMove sees sound server lent None o in
-    let Q : Option (Result Ran SessionFault) → Type 0 = λ r. MayMove sees sound server lent r held in
-    subst Q (sym k.goes_on) (subst P (sym k.is) (record { is_sound = k.is_sound; serving = k.serving; is_lent = k.is_lent }))
-
-pub may_ended : {C L : Type 0} (sees : C → CoreSeen) (sound : C → Type 0) (held : Option C) (server : Option L) (lent : ℕ) (ran : Option (Result Ran SessionFault)) → is_some ran ≡ true → MayMove sees sound server lent ran held
-may_ended sees sound held server lent None e = absurd (false_is e)
-  where
-    false_is : false ≡ true → ⊥
-    false_is e = cc
-may_ended sees sound held server lent (Some ran) e = tt
-
-pub may_set : {C L : Type 0} (sees : C → CoreSeen) (sound : C → Type 0) (held : Option C) (server : Option L) (lent : ℕ) (ran : Option (Result Ran SessionFault)) (w : Went) → SetSo w sees sound held server lent ran → MayMove sees sound server lent ran held
-may_set sees sound held server lent ran went.On k = may_again sees sound held server lent ran k
-may_set sees sound held server lent ran went.Ended k = may_ended sees sound held server lent ran k.ended
-may_set sees sound held server lent ran went.Spent k = may_again sees sound held server lent ran k

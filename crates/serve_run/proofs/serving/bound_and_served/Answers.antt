@@ -1,4 +1,4 @@
-use Rattle.serve_run.proofs.Endings.{net_behind, bind_breaks, begun_breaks}
+use Rattle.serve_run.proofs.Endings.{net_behind, bind_breaks}
 use Rattle.serve_run.proofs.serving.bound_and_served.Goals as goal
 
 pub returns-in-Ok-clause-net : goal.returns-in-Ok-clause-net
