@@ -6,7 +6,7 @@ ghost use Rattle.cfg_lex.specs.Words.{most_words};
 use std::marker::Model;
 
 /// Where the bytes of a word stand.
-#[derive(Clone, Copy, Drop)]
+#[derive(Clone, Copy)]
 pub struct Span {
     pub from: usize,
     pub len: usize,

@@ -68,7 +68,7 @@ pub enum Ending {
 }
 
 /// How a link was closed.
-#[derive(Clone, Copy, Debug, PartialEq, Eq)]
+#[derive(Clone, Copy, Debug)]
 pub enum Close {
     /// In order.
     Clean,

@@ -2,7 +2,7 @@
 use http_model::Why;
 
 /// What one rule came to.
-#[derive(Clone, Copy, Debug)]
+#[derive(Clone, Copy)]
 pub enum Step {
     /// Its condition doesn't hold: the next one runs.
     Passed,

@@ -2,7 +2,7 @@
 use http_rules::Step;
 
 /// A list of rules.
-#[derive(Clone, Copy, Debug)]
+#[derive(Clone, Copy)]
 pub enum Which {
     /// Those on the request.
     Request,
@@ -13,7 +13,7 @@ pub enum Which {
 }
 
 /// What one rule came to.
-#[derive(Clone, Copy, Debug)]
+#[derive(Clone, Copy)]
 pub struct TraceLine {
     pub which: Which,
     /// Its number in its list, from 1.

@@ -4,7 +4,7 @@ ghost use Rattle.std.specs.Prelude.{◌≡◌, List, ℕ};
 use crate::{Fault, Net, OutOfMemory};
 
 /// What an event tells of a stream: of both directions, as they are now.
-#[derive(Clone, Copy, Debug, PartialEq, Eq)]
+#[derive(Clone, Copy)]
 pub struct Readiness {
     /// A read is answered at once.
     pub reads: bool,
@@ -15,7 +15,7 @@ pub struct Readiness {
 }
 
 /// Whom an event speaks of. A place is the loop's own number of a connection.
-#[derive(Clone, Copy, Debug, PartialEq, Eq)]
+#[derive(Clone, Copy)]
 pub enum Watched {
     /// A link waits to be accepted.
     Listener,
@@ -26,7 +26,7 @@ pub enum Watched {
 }
 
 /// An event.
-#[derive(Clone, Copy, Debug, PartialEq, Eq)]
+#[derive(Clone, Copy)]
 pub struct Wake {
     pub whom: Watched,
     pub readiness: Readiness,

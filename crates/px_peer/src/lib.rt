@@ -2,7 +2,7 @@
 #![tactic(auto)]
 
 /// One end: an address of either family, and a port. An IPv4 address is the low 32 bits of `addr`.
-#[derive(Clone, Copy, Debug, PartialEq, Eq)]
+#[derive(Clone, Copy)]
 pub struct Peer {
     pub v6: bool,
     pub addr: u128,
@@ -10,7 +10,7 @@ pub struct Peer {
 }
 
 /// Who asked, and whom. Both are of one family.
-#[derive(Clone, Copy, Debug, PartialEq, Eq)]
+#[derive(Clone, Copy)]
 pub struct Pair {
     pub src: Peer,
     pub dst: Peer,

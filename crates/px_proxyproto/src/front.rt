@@ -7,7 +7,7 @@ use crate::state::ProxyState;
 use px_peer::Pair;
 
 /// What stands in front of bytes.
-#[derive(Clone, Copy, Debug, PartialEq, Eq)]
+#[derive(Clone, Copy)]
 pub enum Front {
     /// A header of so many bytes, with this pair.
     Header(usize, Option<Pair>),

@@ -9,7 +9,7 @@ use px_link::Link;
 use px_peer::Pair;
 
 /// What stands in front of a stream.
-#[derive(Clone, Copy, Debug, PartialEq, Eq)]
+#[derive(Clone, Copy)]
 pub enum Greeting {
     /// A header with this pair.
     Got(Option<Pair>),

@@ -8,7 +8,7 @@ use px_link::Link;
 use px_peer::{Pair, Peer};
 
 /// Who asks over a link.
-#[derive(Clone, Copy, Debug, PartialEq, Eq)]
+#[derive(Clone, Copy)]
 pub enum Met {
     /// This peer, where one is told.
     Caller(Option<Peer>),

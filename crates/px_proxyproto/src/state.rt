@@ -11,7 +11,7 @@ use crate::line::{begins, read_line};
 use px_peer::Pair;
 
 /// What is known of the bytes that were read.
-#[derive(Clone, Copy, Debug, PartialEq, Eq)]
+#[derive(Clone, Copy)]
 pub enum ProxyState {
     /// They may become a header.
     More,

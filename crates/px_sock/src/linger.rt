@@ -36,7 +36,7 @@ fn throw_piece<S: Read>(stream: &mut Option<S>) -> Thrown {
 }
 
 /// What a stream's end has come to.
-#[derive(Clone, Copy, Debug, PartialEq, Eq)]
+#[derive(Clone, Copy, PartialEq, Eq)]
 pub enum Lingering {
     /// The peer may still send.
     GoesOn,

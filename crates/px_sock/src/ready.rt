@@ -1,7 +1,7 @@
 //! What is known of one direction of a stream.
 
 /// Whether a call would be answered at once.
-#[derive(Clone, Copy, Debug, PartialEq, Eq)]
+#[derive(Clone, Copy, PartialEq, Eq)]
 pub enum Ready {
     /// It would wait, and an event will tell when that changes.
     No,

@@ -7,7 +7,7 @@ ghost use Rattle.uri_parts.specs.Authority as spec;
 use std::net::Ipv6Addr;
 
 /// What is owed behind the bytes of a name.
-#[derive(Clone, Copy, PartialEq, Eq)]
+#[derive(Clone, Copy)]
 enum NameState {
     Plain,
     /// Two hexadecimal digits, behind `%`.
