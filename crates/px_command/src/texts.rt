@@ -93,6 +93,7 @@ taken as one that comes whole, and a server that is not in the record as one tha
 With --blocks a rule that ran has more lines behind its own: of the array in which the message stands, as the rule left it.
   room SIZE load L free F                     the array has SIZE bytes; the blocks weigh L, and F more may come
   block I KIND at A name N value V TEXT       block I, counted from 0; N bytes of name and V behind them stand from byte A on
+  wanted W                                    the rule found no room: the blocks that it would have left weigh W
 Each block weighs 8 bytes more than it has. TEXT is the first 64 bytes, without the three lengths of 4 bytes in front of a
 start line; a byte that is neither a blank nor from `!` to `~` is `\\xNN`.
 
