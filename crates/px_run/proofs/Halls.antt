@@ -36,9 +36,6 @@ same_net_then a b c s t = record { bound = t.bound ∙ s.bound; dialled = t.dial
 
 -- ---- none is open
 
-pub none_taken : {C L N : Type 0} (at : Option (Connection C L N)) → at ≡ None → taken_at at ≡ 0
-none_taken at e = ap (λ o. taken_at o) e
-
 pub taken_pushed : {C L N : Type 0} (places : List (Option (Connection C L N))) (at : Option (Connection C L N)) → count_taken (places ++ at ∷ []) ≡ count_taken places + taken_at at
 taken_pushed {C} {L} {N} [] at =
     let one : count_taken {C = C} {L = L} {N = N} (at ∷ []) ≡ taken_at at + count_taken {C = C} {L = L} {N = N} [] = sum_by-cons (λ (o : Option (Connection C L N)). taken_at o) at [] in
@@ -56,15 +53,6 @@ pub taken_popped : {C L N : Type 0} (old new : List (Option (Connection C L N)))
 taken_popped {C} {L} {N} old new last at f e =
     let Q : Option (Option (Connection C L N)) → Type 0 = λ o. count_taken old ≡ count_taken (new ++ option_to_list o) in
     subst Q f (ap (λ (l : List (Option (Connection C L N))). count_taken l) e) ∙ taken_pushed new at
-
-pub taken_empty : {C L N : Type 0} (places : List (Option (Connection C L N))) → length places ≡ 0 → count_taken places ≡ 0
-taken_empty [] e = refl
-taken_empty (x ∷ xs) e = absurd (omega (arith, e))
-
--- one more place at which none is
-pub taken_more : {C L N : Type 0} (done : Bool) (old new : List (Option (Connection C L N))) (at : Option (Connection C L N)) → new ≡ (if done then old ++ at ∷ [] else old) → taken_at at ≡ 0 → count_taken old ≡ 0 → count_taken new ≡ 0
-taken_more {C} {L} {N} true old new at e z h = let p = taken_pushed old at in let q = ap (λ (l : List (Option (Connection C L N))). count_taken l) e in omega (arith, p, q, z, h)
-taken_more {C} {L} {N} false old new at e z h = ap (λ (l : List (Option (Connection C L N))). count_taken l) e ∙ h
 
 is_none_taken : {C L N : Type 0} (at : Option (Connection C L N)) → is_some at ≡ false → taken_at at ≡ 0
 is_none_taken None e = refl
@@ -90,11 +78,3 @@ taken_set_same {C} {L} {N} places i y d w e t = taken_same places i y d w (t ∙
 
 pub balanced_then : {C L N : Type 0} (a b c : NetSeen) (ps qs rs : List (Option (Connection C L N))) → IsBalanced a b ps qs → IsBalanced b c qs rs → IsBalanced a c ps rs
 balanced_then a b c ps qs rs s t = omega (arith, s, t)
-
--- where the places are balanced, as many links are lent as there are connections, at least
-pub still_lent : {C L N : Type 0} (a b : NetSeen) (ps qs : List (Option (Connection C L N))) → count_taken ps ≤ a.lent → IsBalanced a b ps qs → count_taken qs ≤ b.lent
-still_lent a b ps qs l s = omega (arith, l, s)
-
--- the same behind what changes no net, and no number of connections
-pub balanced_same : {C L N : Type 0} (a b : NetSeen) (ps qs rs : List (Option (Connection C L N))) → IsBalanced a b ps qs → count_taken rs ≡ count_taken qs → IsBalanced a b ps rs
-balanced_same a b ps qs rs s e = omega (arith, s, e)

@@ -5,11 +5,13 @@ mod Sets
 mod Begins
 mod Looks
 mod Numbers
-mod Places
 mod Halls
 mod Texts
+mod AskedAll
+mod AtPlace
 mod Stays
 mod Leaves
 mod Puts
 mod Tellings
+mod Acts
 mod Stories

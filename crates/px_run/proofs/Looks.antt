@@ -22,10 +22,6 @@ has_it P held core e h =
     let same : h.0 ≡ core = cc in
     subst P same h.2
 
-pub some_has : {C : Type 0} (held : Option C) → is_some held ≡ true → (core : C) × (held ≡ Some core)
-some_has None e = absurd (false≢true e)
-some_has (Some core) e = (core, refl)
-
 -- no server is open, where none was
 none_same : {L : Type 0} (seen : L → Seen) (wrote : L → List ℕ → Type 0) (was server : Option L) → IsSameServer seen wrote was server → was ≡ None → server ≡ None
 none_same seen wrote None None s e = refl

@@ -145,10 +145,6 @@ here_set (y ∷ ys) (suc place) (suc other) at x h = elim (here_set ys place oth
 pub here_at : {A : Type 0} (places : List (Option A)) (place : ℕ) (at : Option A) (x : A) → place < length places → get_or places place at ≡ at → at ≡ Some x → IsHere places place x
 here_at places place at x w e f = slice_get-get_or places place at w ∙ ap (λ o. Some o) (e ∙ f)
 
--- it stands at one place of the two
-pub here_once : {A : Type 0} (places : List (Option A)) (place : ℕ) (x y : A) → IsHere places place x → IsHere places place y → x ≡ y
-here_once places place x y h k = some_same x y (some_same (Some x) (Some y) (sym h ∙ k))
-
 pub here_more : {A : Type 0} (places more : List (Option A)) (place : ℕ) (x : A) → IsHere places place x → IsHere (places ++ more) place x
 here_more places more place x h = get_more places more place (Some x) h
 

@@ -18,53 +18,14 @@ use Rattle.px_run.specs.Course.{IsNewNet, IsSame, EndedOrLeft}
 use Rattle.px_run.specs.Connection.{IsAt, IsFreshFor, LookedSo, IsIdle}
 use Rattle.px_run.specs.Lines.{outcomes_in, said_of, ended_by}
 use Rattle.px_run.specs.History.{Visit, new_visit, numbered, change_numbered, came_to, given_back, links_back, outcomes_of, open_in, count_open, IsVisit, EndsByItself}
-use Rattle.px_run.specs.Hall.{IsOf, IsPlaced, IsAsked, IsAskedAt, LookedAt, IsHere, AllStand, AllAsked, Advances, GaveUp, GaveUpAt, HasEnded, advanced, taken_at, count_taken}
-use Rattle.px_run.specs.declared.hall.Hall.{Hall}
+use Rattle.px_run.specs.Hall.{IsOf, IsPlaced, IsAsked, LookedAt, IsHere, AllStand, Advances, advanced, taken_at, count_taken}
 use Rattle.px_run.specs.declared.connection.Connection.{Connection}
 use Rattle.px_run.specs.declared.connection.Looked.{Looked}
-use Rattle.px_run.specs.declared.connection.Looked.TheVariants as looks
-use Rattle.px_run.proofs.Asked.{same_link, same_server, same_then, same_server_then}
 use Rattle.px_run.proofs.Looks.{asked_at}
 use Rattle.px_run.proofs.Halls.{here_taken, taken_set, taken_set_same}
 use Rattle.px_run.proofs.Numbers.{some_same, num_here, num_other, num_view, num_map, num_all, num_sum, num_more, num_last, num_within, here_set, here_at, here_last}
 use Rattle.px_run.proofs.Sets.{all_more}
 use Rattle.px_run.proofs.Texts.{looked_says, looked_other, looked_keeps, idle_says}
-
--- ---- links that were asked
-
-module _ {C L N : Type 0} (seen : L → Seen) (wrote : L → List ℕ → Type 0) (sees_net : N → NetSeen) where
-  pub asked_same : (c : Connection C L N) → IsAsked seen wrote sees_net c c
-  asked_same c = record { number = refl; peer = refl; client = same_link seen wrote c.conn.client; server = same_server seen wrote c.conn.server; net = refl; ran = refl; core = refl }
-
-  pub asked_some : (old : Option (Connection C L N)) (c : Connection C L N) → IsAskedAt seen wrote sees_net old (Some c) → (b : Connection C L N) × (old ≡ Some b) × IsAsked seen wrote sees_net b c
-  asked_some None c a = absurd a
-  asked_some (Some b) c a = (b, refl, a)
-
-  pub asked_taken : (old new : Option (Connection C L N)) → IsAskedAt seen wrote sees_net old new → taken_at new ≡ taken_at old
-  asked_taken None None a = refl
-  asked_taken None (Some c) a = absurd a
-  asked_taken (Some b) None a = absurd a
-  asked_taken (Some b) (Some c) a = refl
-
-  pub asked_at_none : (at : Option (Connection C L N)) → at ≡ None → IsAskedAt seen wrote sees_net at at
-  asked_at_none None e = tt
-  asked_at_none (Some c) e = cc
-
-  pub asked_at_some : (at : Option (Connection C L N)) (b c : Connection C L N) → at ≡ Some b → IsAsked seen wrote sees_net b c → IsAskedAt seen wrote sees_net at (Some c)
-  asked_at_some None b c e a = cc
-  asked_at_some (Some d) b c e a = let same : b ≡ d = sym (some_same d b e) in subst (λ (o : Connection C L N). IsAsked seen wrote sees_net o c) same a
-
-  -- at one place of all
-  pub asked_set : (places : List (Option (Connection C L N))) (place : ℕ) (old new : Option (Connection C L N)) → place < length places → get_or places place old ≡ old → IsAskedAt seen wrote sees_net old new
-      → (other : ℕ) (c : Connection C L N) → IsHere (set places place new) other c → (b : Connection C L N) × IsHere places other b × IsAsked seen wrote sees_net b c
-  asked_set places place old new w e a other c h = elim (here_set places place other new c h) [
-    | inl k ↦ (let b = asked_some old c (subst (λ (o : Option (Connection C L N)). IsAskedAt seen wrote sees_net old o) k.1 a) in
-        (b.0, subst (λ (n : ℕ). IsHere places n b.0) (sym k.0) (here_at places place old b.0 w e b.1), b.2))
-    | inr k ↦ (c, k.1, asked_same c)
-  ]
-
-  pub asked_set_taken : (places : List (Option (Connection C L N))) (place : ℕ) (old new : Option (Connection C L N)) → place < length places → get_or places place old ≡ old → IsAskedAt seen wrote sees_net old new → count_taken (set places place new) ≡ count_taken places
-  asked_set_taken places place old new w e a = taken_set_same places place new old w e (asked_taken old new a)
 
 module _ {C L N : Type 0} (M : Option Peer → Meaning) (stands : Option Peer → C → Past → Type 0) (sees : C → CoreSeen) (sound : C → Type 0) (seen : L → Seen) (wrote : L → List ℕ → Type 0) (tells : L → Option Peer → Type 0) (sees_net : N → NetSeen) (to : Place) where
   -- ---- one connection
@@ -383,64 +344,3 @@ module _ {C L N : Type 0} (M : Option Peer → Meaning) (stands : Option Peer �
       → AllStand M stands sees sound seen wrote tells sees_net to visits places sets → AllStand M stands sees sound seen wrote tells sees_net to (visits ++ new_visit link own peer ∷ []) (set places place at) sets
   stand_new_at visits places sets place link own peer c at w free f n net told of s =
       subst (λ (o : Option (Connection C L N)). AllStand M stands sees sound seen wrote tells sees_net to (visits ++ new_visit link own peer ∷ []) (set places place o) sets) (sym f) (stand_new visits places sets place link own peer c w free n net told of s)
-
-module _ {C L N : Type 0} (M : Option Peer → Meaning) (stands : Option Peer → C → Past → Type 0) (sees : C → CoreSeen) (sound : C → Type 0) (seen : L → Seen) (wrote : L → List ℕ → Type 0) (tells : L → Option Peer → Type 0) (sees_net : N → NetSeen) (to : Place) where
-  pub gave_up_some : (old_net net : NetSeen) (at : Option (Connection C L N)) (c : Connection C L N) → at ≡ Some c → GaveUp M stands sees sound seen wrote tells sees_net to old_net net c → GaveUpAt M stands sees sound seen wrote tells sees_net to old_net net at
-  gave_up_some old_net net at c e h = subst (λ (o : Option (Connection C L N)). GaveUpAt M stands sees sound seen wrote tells sees_net to old_net net o) (sym e) h
-
-  pub gave_up_none : (net : NetSeen) (at : Option (Connection C L N)) → at ≡ None → GaveUpAt M stands sees sound seen wrote tells sees_net to net net at
-  gave_up_none net at e = subst (λ (o : Option (Connection C L N)). GaveUpAt M stands sees sound seen wrote tells sees_net to net net o) (sym e) refl
-
--- it has ended
-pub ended_is : {C L N : Type 0} (at : Option (Connection C L N)) (c : Connection C L N) → at ≡ Some c → HasEnded at → is_some c.conn.ran ≡ true
-ended_is {C} {L} {N} at c e h = subst (λ (o : Option (Connection C L N)). HasEnded o) e h
-
-pub looked_at_some : {C L N : Type 0} (looked : Looked) (at : Option (Connection C L N)) (b c : Connection C L N) → at ≡ Some b → c.number ≡ b.number → LookedSo looked b.number b.conn.ran c.conn.ran → LookedAt looked at (Some c)
-looked_at_some {C} {L} {N} looked at b c e n l = subst (λ (o : Option (Connection C L N)). LookedAt looked o (Some c)) (sym e) (n, l)
-
-pub looked_at_none : {C L N : Type 0} (at : Option (Connection C L N)) → at ≡ None → LookedAt looks.Waits at at
-looked_at_none None e = λ number ran. refl
-looked_at_none (Some c) e = cc
-
-module _ {C L N : Type 0} (seen : L → Seen) (wrote : L → List ℕ → Type 0) (sees_net : N → NetSeen) where
-  pub all_asked : (hall : Hall C L N) → AllAsked seen wrote sees_net hall hall
-  all_asked hall = record { each = λ place c h. (c, h, asked_same seen wrote sees_net c); taken = refl; sets = refl; accepted = refl; output = refl }
-
-  asked_then : (a b c : Connection C L N) → IsAsked seen wrote sees_net a b → IsAsked seen wrote sees_net b c → IsAsked seen wrote sees_net a c
-  asked_then a b c s t =
-      record {
-        number = t.number ∙ s.number;
-        client = same_then seen wrote a.conn.client b.conn.client c.conn.client s.client t.client;
-        server = same_server_then seen wrote a.conn.server b.conn.server c.conn.server s.server t.server;
-        net = t.net ∙ s.net;
-        peer = t.peer ∙ s.peer;
-        ran = t.ran ∙ s.ran;
-        core = t.core ∙ s.core;
-      }
-
-  pub all_asked_then : (a b c : Hall C L N) → AllAsked seen wrote sees_net a b → AllAsked seen wrote sees_net b c → AllAsked seen wrote sees_net a c
-  all_asked_then a b c s t =
-      record {
-        each = λ place x h. let y = t.each place x h in let z = s.each place y.0 y.1 in (z.0, z.1, asked_then z.0 y.0 x z.2 y.2);
-        taken = t.taken ∙ s.taken;
-        sets = t.sets ∙ s.sets;
-        accepted = t.accepted ∙ s.accepted;
-        output = t.output ∙ s.output;
-      }
-
-  -- the same connections are here
-  pub all_asked_by : (old new : Hall C L N) → ((place : ℕ) (c : Connection C L N) → IsHere new.places.items place c → IsHere old.places.items place c) → count_taken new.places.items ≡ count_taken old.places.items → new.sets ≡ old.sets → new.accepted ≡ old.accepted → new.output ≡ old.output
-      → AllAsked seen wrote sees_net old new
-  all_asked_by old new here taken sets accepted output =
-      record { each = λ place c h. (c, here place c h, asked_same seen wrote sees_net c); taken = taken; sets = ap (λ s. s.items) sets; accepted = accepted; output = output }
-
-  -- the same, with another time
-  pub asked_as : (old new other : Hall C L N) → other.places.items ≡ new.places.items → other.sets.items ≡ new.sets.items → other.accepted ≡ new.accepted → other.output ≡ new.output → AllAsked seen wrote sees_net old new → AllAsked seen wrote sees_net old other
-  asked_as old new other places sets accepted output a =
-      record {
-        each = λ place c h. a.each place c (subst (λ (l : List (Option (Connection C L N))). IsHere l place c) places h);
-        taken = ap (λ (l : List (Option (Connection C L N))). count_taken l) places ∙ a.taken;
-        sets = sets ∙ a.sets;
-        accepted = accepted ∙ a.accepted;
-        output = output ∙ a.output;
-      }

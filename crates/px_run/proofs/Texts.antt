@@ -36,9 +36,6 @@ front_whole old new xs g = (xs, [], sym (append-nil xs), g)
 front_then : (old mid new : Option (List ℕ)) (xs ys : List ℕ) → Gains old mid xs → GainsFront mid new ys → GainsFront old new (xs ++ ys)
 front_then old mid new xs ys g h = (xs ++ h.0, h.1, ap (λ b. xs ++ b) h.2 ∙ sym (append_assoc xs h.0 h.1), gains_then old mid new xs h.0 g h.3)
 
-front_more : (old new : Option (List ℕ)) (xs ys : List ℕ) → GainsFront old new xs → GainsFront old new (xs ++ ys)
-front_more old new xs ys h = (h.0, h.1 ++ ys, ap (λ b. b ++ ys) h.2 ∙ append_assoc h.0 h.1 ys, h.3)
-
 pub writes_none : (writes : ℕ) (old : Option (List ℕ)) → Writes true outputs.Open writes writes old old []
 writes_none writes old = (refl, gains_none old)
 
@@ -50,15 +47,6 @@ writes_front outputs.Gone writes writes_now old new text w = w.1
 pub writes_weaker : (whole : Bool) (output : Output) (writes writes_now : ℕ) (old new : Option (List ℕ)) (text : List ℕ) → Writes true output writes writes_now old new text → Writes whole output writes writes_now old new text
 writes_weaker true output writes writes_now old new text w = w
 writes_weaker false output writes writes_now old new text w = writes_front output writes writes_now old new text w
-
--- no further line is written
-pub writes_no_more : (output : Output) (writes writes_now : ℕ) (old new : Option (List ℕ)) (text line : List ℕ) → output ≡ outputs.Gone → Writes true output writes writes_now old new text → Writes true output writes writes_now old new (text ++ line)
-writes_no_more outputs.Open writes writes_now old new text line e w = cc
-writes_no_more outputs.Gone writes writes_now old new text line e w = (w.0, front_more old new text line w.1)
-
--- the line was written
-pub writes_line : (writes mid now : ℕ) (old between new : Option (List ℕ)) (text line : List ℕ) → now ≡ mid → Gains between new line → Writes true outputs.Open writes mid old between text → Writes true outputs.Open writes now old new (text ++ line)
-writes_line writes mid now old between new text line e g w = (e ∙ w.0, gains_then old between new text line w.1 g)
 
 -- a front of it was
 pub writes_part : (writes mid : ℕ) (old between new : Option (List ℕ)) (text line : List ℕ) → GainsFront between new line → Writes true outputs.Open writes mid old between text → GainsFront old new (text ++ line)

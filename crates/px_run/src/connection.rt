@@ -4,13 +4,14 @@ ghost use Rattle.std.specs.List.{AllByRecursion};
 ghost use Rattle.px_link.specs.Net.{address_of, Place};
 ghost use Rattle.px_peer.specs.declared.Peer.{Peer};
 ghost use Rattle.htx_drive.specs.Weave.State.{IsReady, IsFresh};
-ghost use Rattle.px_run.specs.Course.{IsSame, IsSameServer, GoesOn, CameTo, StandsSomehow, StepsTo, EndsWith, MayStep, HasCome, HasCore};
+ghost use Rattle.px_run.specs.Course.{IsSame, GoesOn, CameTo, StandsSomehow, StepsTo, EndsWith, MayStep, HasCome, HasCore};
 ghost use Rattle.htx_drive.specs.declared.Ran.{Ran};
 ghost use Rattle.htx_drive.specs.declared.SessionFault.{SessionFault};
 ghost use Rattle.px_run.specs.Connection.{IsAt, IsFreshFor, LookedSo, IsIdle};
 
 use crate::pace::Pace;
 use crate::step::{Stepped, Tools, step};
+use crate::watching::{watch_connect, watch_server};
 use htx_drive::weave::{Conn, Resets, ResetsFor};
 use px_link::{Address, Waits, WaitsNet, Wakes};
 use px_peer::Peer;
@@ -45,40 +46,6 @@ pub(crate) enum Looked {
     Lost,
     /// It had ended before, and its client's link can be given back.
     Leaves,
-}
-
-/// Has later waits tell of a server's link that was opened.
-fn watch_server<L: Waits, N: WaitsNet<Link = L>, W: Wakes<N>>(
-    conn: &mut Conn<L, N>,
-    place: usize,
-    wakes: &mut W,
-)
-    ensures client { conn.new.client ≡ conn.old.client }
-    ensures server { IsSameServer L.seen L.wrote conn.old.server conn.new.server }
-    ensures net { conn.new.net ≡ conn.old.net }
-    ensures ran { conn.new.ran ≡ conn.old.ran }
-{
-    match &mut conn.server {
-        Some(link) => wakes.watch_server(place, link),
-        None => {}
-    }
-}
-
-/// Has later waits tell of the connect that is waited for.
-fn watch_connect<L: Waits, N: WaitsNet<Link = L>, W: Wakes<N>>(
-    conn: &mut Conn<L, N>,
-    connects: bool,
-    place: usize,
-    wakes: &mut W,
-)
-    ensures client { conn.new.client ≡ conn.old.client }
-    ensures server { conn.new.server ≡ conn.old.server }
-    ensures net { N.seen conn.new.net ≡ N.seen conn.old.net }
-    ensures ran { conn.new.ran ≡ conn.old.ran }
-{
-    if connects {
-        wakes.watch_connect(place, &mut conn.net);
-    }
 }
 
 /// A step of a connection that has this core, and what waits are to tell of behind it.

@@ -13,6 +13,7 @@ mod plan;
 mod rounds;
 mod running;
 mod step;
+mod watching;
 
 pub use deadline::{Call, Marks, Phase, Times, deadline_of, expired_of};
 pub use next::{Next, Ready, next_of};

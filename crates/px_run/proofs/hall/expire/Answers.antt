@@ -1,5 +1,5 @@
 use Rattle.std.proofs.Common.{rules, ◌≡◌, Some, None, refl, ap}
-use Rattle.px_run.proofs.Stays.{asked_at_some, asked_at_none}
+use Rattle.px_run.proofs.AskedAll.{asked_at_some, asked_at_none}
 use Rattle.px_run.proofs.hall.expire.Goals as goal
 
 pub returns-in-Some : goal.returns-in-Some

@@ -1,5 +1,5 @@
 use Rattle.std.proofs.Common.{rules, ◌≡◌, Some, true, inl}
-use Rattle.px_run.proofs.Stays.{ended_is}
+use Rattle.px_run.proofs.AtPlace.{ended_is}
 use Rattle.px_run.proofs.hall.give_back.Goals as goal
 
 pub returns-in-Some-clause-gives : goal.returns-in-Some-clause-gives

@@ -1,6 +1,7 @@
 use Rattle.std.proofs.Common.{rules, ◌≡◌, Some, None}
 use Rattle.px_link.specs.Net.{address_of}
-use Rattle.px_run.proofs.Stays.{placed_is, of_looked, looked_at_some, looked_at_none, placed_none}
+use Rattle.px_run.proofs.Stays.{placed_is, of_looked, placed_none}
+use Rattle.px_run.proofs.AtPlace.{looked_at_some, looked_at_none}
 use Rattle.px_run.proofs.hall.look_at.Goals as goal
 
 pub look-requires-clause-at : goal.look-requires-clause-at

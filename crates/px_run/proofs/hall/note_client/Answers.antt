@@ -1,6 +1,6 @@
 use Rattle.std.proofs.Common.{rules, ◌≡◌, Some, None, refl}
 use Rattle.px_run.proofs.Asked.{same_server}
-use Rattle.px_run.proofs.Stays.{asked_at_some, asked_at_none}
+use Rattle.px_run.proofs.AskedAll.{asked_at_some, asked_at_none}
 use Rattle.px_run.proofs.hall.note_client.Goals as goal
 
 pub returns-in-Some : goal.returns-in-Some

@@ -1,4 +1,4 @@
-use Rattle.px_run.proofs.Stays.{all_asked, all_asked_then}
+use Rattle.px_run.proofs.AskedAll.{all_asked, all_asked_then}
 use Rattle.px_run.proofs.rounds.expire_all.Goals as goal
 
 pub returns-in-Err : goal.returns-in-Err

@@ -1,5 +1,5 @@
 use Rattle.std.proofs.Common.{rules, ◌≡◌, ◌<◌, length, get_or, refl}
-use Rattle.px_run.proofs.Stays.{asked_set, asked_set_taken, all_asked}
+use Rattle.px_run.proofs.AskedAll.{asked_set, asked_set_taken, all_asked}
 use Rattle.px_run.proofs.rounds.expire_at.Goals as goal
 
 pub returns-in-Some : goal.returns-in-Some

@@ -1,4 +1,4 @@
-use Rattle.px_run.proofs.Stays.{all_asked, all_asked_then}
+use Rattle.px_run.proofs.AskedAll.{all_asked, all_asked_then}
 use Rattle.px_run.proofs.rounds.wait.Goals as goal
 
 pub returns-in-Err-note : goal.returns-in-Err-note

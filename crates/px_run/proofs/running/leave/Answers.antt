@@ -1,5 +1,6 @@
 use Rattle.std.proofs.Common.{rules, ◌≡◌, Some, None}
-use Rattle.px_run.proofs.Stays.{placed_is, gave_up_some, gave_up_none}
+use Rattle.px_run.proofs.Stays.{placed_is}
+use Rattle.px_run.proofs.AtPlace.{gave_up_some, gave_up_none}
 use Rattle.px_run.proofs.running.leave.Goals as goal
 
 pub give_up-requires : goal.give_up-requires

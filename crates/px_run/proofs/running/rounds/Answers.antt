@@ -4,7 +4,7 @@ use Rattle.px_run.specs.Hall.{count_taken}
 use Rattle.px_run.specs.declared.connection.Connection.{Connection}
 use Rattle.px_run.proofs.Halls.{same_net_then}
 use Rattle.px_run.proofs.Texts.{within_then, within_same}
-use Rattle.px_run.proofs.Stays.{asked_as}
+use Rattle.px_run.proofs.AskedAll.{asked_as}
 use Rattle.px_run.proofs.Stories.{goes_asked, goes_weaker}
 use Rattle.px_run.proofs.running.rounds.Goals as goal
 
