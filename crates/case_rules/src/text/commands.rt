@@ -30,6 +30,12 @@ fn more_options(options: RunOptions, answers: &mut Answers) {
     }
 }
 
+/// Says a command of one file.
+fn say_file(command: &[u8], name: &str, answers: &mut Answers) {
+    answers.say(command);
+    answers.bracket(name.as_bytes());
+}
+
 /// Says a command of two files.
 fn say_files(command: &[u8], cfg: &str, rec: &str, answers: &mut Answers) {
     answers.say(command);
@@ -41,18 +47,9 @@ fn say_files(command: &[u8], cfg: &str, rec: &str, answers: &mut Answers) {
 /// Says what words ask for.
 fn say_asked(alloc: Global, asked: &Asked<'_>, answers: &mut Answers) -> Result<(), Fault> {
     match asked {
-        Asked::Check { cfg } => {
-            answers.say(b"check ");
-            answers.bracket(cfg.as_bytes());
-        }
-        Asked::CheckAll { cfg } => {
-            answers.say(b"check --all ");
-            answers.bracket(cfg.as_bytes());
-        }
-        Asked::CheckRecord { rec } => {
-            answers.say(b"check --record ");
-            answers.bracket(rec.as_bytes());
-        }
+        Asked::Check { cfg } => say_file(b"check ", cfg, answers),
+        Asked::CheckAll { cfg } => say_file(b"check --all ", cfg, answers),
+        Asked::CheckRecord { rec } => say_file(b"check --record ", rec, answers),
         Asked::Replay { cfg, rec } => say_files(b"replay ", cfg, rec, answers),
         Asked::Explain { cfg, rec } => say_files(b"explain ", cfg, rec, answers),
         Asked::ExplainBlocks { cfg, rec } => say_files(b"explain --blocks ", cfg, rec, answers),
@@ -62,14 +59,12 @@ fn say_asked(alloc: Global, asked: &Asked<'_>, answers: &mut Answers) -> Result<
             answers.more_count(u64::from(*cores));
         }
         Asked::Serve { cfg, connections } => {
-            answers.say(b"serve ");
-            answers.bracket(cfg.as_bytes());
+            say_file(b"serve ", cfg, answers);
             answers.more(b" ");
             answers.more_count(u64::from(*connections));
         }
         Asked::Run { cfg, options } => {
-            answers.say(b"run ");
-            answers.bracket(cfg.as_bytes());
+            say_file(b"run ", cfg, answers);
             more_options(*options, answers);
         }
         Asked::Drill { seed, exchanges } => {
