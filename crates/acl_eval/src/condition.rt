@@ -3,11 +3,19 @@ use px_expr::{Expr, Pat, Text};
 use px_link::ItemList;
 
 /// `if` or `unless`, and groups of terms that `or` joins.
-#[derive(Drop)]
 pub struct Cond {
     /// The whole is negated.
     pub unless: bool,
     pub groups: GroupList,
+}
+
+impl Drop for Cond {
+    fn drop(self) {
+        let Cond {
+            unless: _,
+            groups: _,
+        } = self;
+    }
 }
 
 /// Groups that are joined by or.
@@ -17,18 +25,22 @@ pub type GroupList = ItemList<TermList>;
 pub type TermList = ItemList<Term>;
 
 /// A term: the tests of a name's lines, or of braces.
-#[derive(Drop)]
 pub struct Term {
     /// `!` stands in front.
     pub not: bool,
     pub tests: TestList,
 }
 
+impl Drop for Term {
+    fn drop(self) {
+        let Term { not: _, tests: _ } = self;
+    }
+}
+
 /// Tests that are joined by or.
 pub type TestList = ItemList<Test>;
 
 /// An expression whose samples are tried against values.
-#[derive(Drop)]
 pub struct Test {
     pub expr: Expr,
     pub how: Match,
@@ -36,6 +48,17 @@ pub struct Test {
     pub icase: bool,
     /// None of them for `found` and `bool`.
     pub values: ValueList,
+}
+
+impl Drop for Test {
+    fn drop(self) {
+        let Test {
+            expr: _,
+            how: _,
+            icase: _,
+            values: _,
+        } = self;
+    }
 }
 
 /// How a sample is compared with a value.
@@ -65,10 +88,19 @@ pub enum Match {
 pub type ValueList = ItemList<TestValue>;
 
 /// What a sample is compared with.
-#[derive(Drop)]
 pub enum TestValue {
     /// Numbers from `low` to `high`, open where there is none; none where `low` is above `high`.
     Range { low: Option<i64>, high: Option<i64> },
     Literal(Text),
     Pattern(Pat),
+}
+
+impl Drop for TestValue {
+    fn drop(self) {
+        match self {
+            TestValue::Range { low: _, high: _ } => {}
+            TestValue::Literal(_) => {}
+            TestValue::Pattern(_) => {}
+        }
+    }
 }

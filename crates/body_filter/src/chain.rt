@@ -14,9 +14,14 @@ use std::alloc::Global;
 
 /// A chain of at most eight filters, and how far it came in a body. The filters stand in memory of their own, so that what has a chain, or room
 /// for one, is small: they have 1,600 bytes.
-#[derive(Drop)]
 pub struct Chain {
     line: Box<Line<Line<Line<Line<Line<Line<Line<Source>>>>>>>>,
+}
+
+impl Drop for Chain {
+    fn drop(self) {
+        let Chain { line: _ } = self;
+    }
 }
 
 impl Chain {

@@ -2,7 +2,6 @@
 use px_link::Bytes;
 
 /// A filter over the bytes of a body.
-#[derive(Drop)]
 pub enum FilterSpec {
     /// The first so many bytes; more are refused with 413.
     Limit(u64),
@@ -11,6 +10,16 @@ pub enum FilterSpec {
     /// Each text of the first kind, from the left and without overlap, becomes the second. They have 1 to 256 bytes, and
     /// at most 256.
     Replace(Bytes, Bytes),
+}
+
+impl Drop for FilterSpec {
+    fn drop(self) {
+        match self {
+            FilterSpec::Limit(_) => {}
+            FilterSpec::Deny(_) => {}
+            FilterSpec::Replace(_, _) => {}
+        }
+    }
 }
 
 /// Where a body stands.

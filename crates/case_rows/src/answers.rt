@@ -4,11 +4,20 @@ use std::alloc::Global;
 use std::fmt::Debug;
 
 /// What was said so far.
-#[derive(Drop)]
 pub struct Answers {
     alloc: Global,
     text: Vec<u8>,
     short: bool,
+}
+
+impl Drop for Answers {
+    fn drop(self) {
+        let Answers {
+            alloc: _,
+            text: _,
+            short: _,
+        } = self;
+    }
 }
 
 impl Answers {

@@ -5,12 +5,22 @@ use crate::reading::number_of;
 use std::alloc::Global;
 
 /// A sample that a row gives.
-#[derive(Drop)]
 pub enum Held {
     Absent,
     Truth(bool),
     Number(i64),
     Bytes(Vec<u8>),
+}
+
+impl Drop for Held {
+    fn drop(self) {
+        match self {
+            Held::Absent => {}
+            Held::Truth(_) => {}
+            Held::Number(_) => {}
+            Held::Bytes(_) => {}
+        }
+    }
 }
 
 /// The sample that a text without quotes says.

@@ -9,10 +9,15 @@ use std::alloc::Global;
 const MOST_WORDS: usize = 16;
 
 /// A step.
-#[derive(Drop)]
 pub struct Step<'a> {
     text: &'a str,
     words: Vec<Vec<u8>>,
+}
+
+impl Drop for Step<'_> {
+    fn drop(self) {
+        let Step { text: _, words: _ } = self;
+    }
 }
 
 /// Puts the bytes of a word, which may stand in double quotes, behind the others.
@@ -71,9 +76,14 @@ impl<'a> Step<'a> {
 }
 
 /// Steps, with semicolons between them in their text.
-#[derive(Drop)]
 pub struct Steps<'a> {
     steps: Vec<Step<'a>>,
+}
+
+impl Drop for Steps<'_> {
+    fn drop(self) {
+        let Steps { steps: _ } = self;
+    }
 }
 
 /// Puts the step that a text says behind the others.

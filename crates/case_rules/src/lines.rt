@@ -8,13 +8,22 @@ use px_pattern::RealPatterns;
 use std::alloc::Global;
 
 /// What ends a rule.
-#[derive(Drop)]
 pub enum RuleEnd {
     /// Nothing stands there.
     Absent,
     Condition(Cond),
     /// It is refused, for a reason with this name.
     Refused(&'static [u8]),
+}
+
+impl Drop for RuleEnd {
+    fn drop(self) {
+        match self {
+            RuleEnd::Absent => {}
+            RuleEnd::Condition(_) => {}
+            RuleEnd::Refused(_) => {}
+        }
+    }
 }
 
 /// The words of a line.

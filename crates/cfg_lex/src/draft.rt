@@ -11,13 +11,24 @@ use htx_model::OutOfMemory;
 use std::alloc::Global;
 use std::marker::Model;
 
-#[derive(Drop)]
 pub struct Draft {
     bytes: Vec<u8>,
     spans: Vec<Span>,
     is_open: bool,
     from: usize,
     faulty: bool,
+}
+
+impl Drop for Draft {
+    fn drop(self) {
+        let Draft {
+            bytes: _,
+            spans: _,
+            is_open: _,
+            from: _,
+            faulty: _,
+        } = self;
+    }
 }
 
 impl Model for Draft {

@@ -13,10 +13,15 @@ pub struct Span {
 }
 
 /// The words of a line, at most 64. Contracts see the list of them, each the list of its bytes.
-#[derive(Drop)]
 pub struct Words {
     bytes: Vec<u8>,
     spans: Vec<Span>,
+}
+
+impl Drop for Words {
+    fn drop(self) {
+        let Words { bytes: _, spans: _ } = self;
+    }
 }
 
 impl Model for Words {

@@ -8,10 +8,15 @@ use cfg_lex::Words;
 use std::marker::Model;
 
 /// The words of a line that are still to be read. Contracts see the list of them.
-#[derive(Drop)]
 pub struct Arguments<'a> {
     words: &'a Words,
     at: u32,
+}
+
+impl Drop for Arguments<'_> {
+    fn drop(self) {
+        let Arguments { words: _, at: _ } = self;
+    }
 }
 
 impl<'a> Model for Arguments<'a> {

@@ -11,18 +11,32 @@ use std::alloc::Global;
 
 /// A refused line, counted from 1, what is wrong there, and its bytes without the end of the line; line 0 is the text as a whole, and
 /// has none.
-#[derive(Drop)]
 pub struct RefusedLine {
     pub line: u32,
     pub kind: CfgKind,
     pub text: Bytes,
 }
 
+impl Drop for RefusedLine {
+    fn drop(self) {
+        let RefusedLine {
+            line: _,
+            kind: _,
+            text: _,
+        } = self;
+    }
+}
+
 /// The first `MAX_KEPT` refused lines of a text, and how many there are.
-#[derive(Drop)]
 pub struct RefusedLines {
     pub first: ItemList<RefusedLine>,
     pub count: u32,
+}
+
+impl Drop for RefusedLines {
+    fn drop(self) {
+        let RefusedLines { first: _, count: _ } = self;
+    }
 }
 
 /// What all lines of a text come to.

@@ -19,10 +19,15 @@ use px_sample::{Buf, Env, Fetch, Place, Sample, Scope, Vars};
 use std::marker::Model;
 
 /// A request in an array, and the variables, as `http-request` rules see them.
-#[derive(Drop)]
 pub struct ReqEnv<'a> {
     msg: &'a Arena,
     vars: &'a Vars,
+}
+
+impl Drop for ReqEnv<'_> {
+    fn drop(self) {
+        let ReqEnv { msg: _, vars: _ } = self;
+    }
 }
 
 impl<'a> Model for ReqEnv<'a> {
@@ -34,11 +39,20 @@ impl<'a> Model for ReqEnv<'a> {
 }
 
 /// A response in an array, the method of its request, and the variables, as `http-response` rules see them.
-#[derive(Drop)]
 pub struct ResEnv<'a> {
     msg: &'a Arena,
     method: &'a [u8],
     vars: &'a Vars,
+}
+
+impl Drop for ResEnv<'_> {
+    fn drop(self) {
+        let ResEnv {
+            msg: _,
+            method: _,
+            vars: _,
+        } = self;
+    }
 }
 
 impl<'a> Model for ResEnv<'a> {

@@ -27,7 +27,6 @@ pub struct Timeouts {
 
 /// What a proxy does: its sizes, where it listens, whom it sends requests to, its rules and its filters
 /// (Configuration Manual, section 4).
-#[derive(Drop)]
 pub struct Config {
     pub limits: Limits,
     pub timeouts: Timeouts,
@@ -47,6 +46,23 @@ pub struct Config {
     pub res_filters: Filters,
     /// Whose connection it is, where that is told. A configuration's text tells none.
     pub peer: Option<Peer>,
+}
+
+impl Drop for Config {
+    fn drop(self) {
+        let Config {
+            limits: _,
+            timeouts: _,
+            bind: _,
+            server: _,
+            request: _,
+            response: _,
+            after: _,
+            req_filters: _,
+            res_filters: _,
+            peer: _,
+        } = self;
+    }
 }
 
 impl Config {

@@ -31,9 +31,14 @@ pub struct Line<'a> {
 }
 
 /// Blocks of at most a size, in an array of bytes that is taken once.
-#[derive(Drop)]
 pub struct Arena {
     array: Array,
+}
+
+impl Drop for Arena {
+    fn drop(self) {
+        let Arena { array: _ } = self;
+    }
 }
 
 impl Model for Arena {

@@ -11,10 +11,15 @@ use htx_model::Kind;
 use std::marker::Model;
 
 /// The headers in turn, each with its index.
-#[derive(Drop)]
 pub struct Fields<'a> {
     arena: &'a Arena,
     at: u32,
+}
+
+impl Drop for Fields<'_> {
+    fn drop(self) {
+        let Fields { arena: _, at: _ } = self;
+    }
 }
 
 impl<'a> Model for Fields<'a> {

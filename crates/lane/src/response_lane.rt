@@ -28,12 +28,21 @@ use htx_model::OutOfMemory;
 use std::alloc::Global;
 
 /// The direction in which a client is answered.
-#[derive(Drop)]
 pub struct ResponseLane {
     lane: Lane,
     phase: Phase,
     /// A byte of the last that answers was put out.
     begun: bool,
+}
+
+impl Drop for ResponseLane {
+    fn drop(self) {
+        let ResponseLane {
+            lane: _,
+            phase: _,
+            begun: _,
+        } = self;
+    }
 }
 
 impl ResponseLane {

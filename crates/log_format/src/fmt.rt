@@ -4,7 +4,6 @@ use px_link::ItemList;
 use px_sample::Text;
 
 /// A part of a format (Configuration Manual, section 8.2.6).
-#[derive(Drop)]
 pub enum Part {
     /// A text as it is.
     Literal(Text),
@@ -12,11 +11,25 @@ pub enum Part {
     Sample(Expr),
 }
 
+impl Drop for Part {
+    fn drop(self) {
+        match self {
+            Part::Literal(_) => {}
+            Part::Sample(_) => {}
+        }
+    }
+}
+
 /// Parts, in their order.
 pub type PartList = ItemList<Part>;
 
 /// A format: its parts, which are joined.
-#[derive(Drop)]
 pub struct Fmt {
     pub parts: PartList,
+}
+
+impl Drop for Fmt {
+    fn drop(self) {
+        let Fmt { parts: _ } = self;
+    }
 }

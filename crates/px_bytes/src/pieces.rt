@@ -69,11 +69,16 @@ pub fn first_value(bytes: &[u8]) -> (&[u8], usize)
 }
 
 /// The values of a field in turn, each with its offset in the field.
-#[derive(Drop)]
 pub struct ValueIndices<'a> {
     field: &'a [u8],
     /// Where the next piece begins; behind the end of the field once none is left.
     next: usize,
+}
+
+impl Drop for ValueIndices<'_> {
+    fn drop(self) {
+        let ValueIndices { field: _, next: _ } = self;
+    }
 }
 
 impl<'a> Model for ValueIndices<'a> {
@@ -122,9 +127,14 @@ impl<'a> Iterator for ValueIndices<'a> {
 }
 
 /// The values of a field in turn.
-#[derive(Drop)]
 pub struct ValueIter<'a> {
     placed: ValueIndices<'a>,
+}
+
+impl Drop for ValueIter<'_> {
+    fn drop(self) {
+        let ValueIter { placed: _ } = self;
+    }
 }
 
 impl<'a> Model for ValueIter<'a> {

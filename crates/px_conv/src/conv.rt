@@ -3,7 +3,7 @@ use px_pattern::Pat;
 use px_sample::Text;
 
 /// A converter with its arguments (Configuration Manual, section 7.3.1).
-#[derive(Debug, Drop)]
+#[derive(Debug)]
 pub enum Conv {
     /// `lower`: ASCII letters in lower case.
     Lower,
@@ -45,6 +45,32 @@ pub enum Conv {
     UrlDec,
     /// `regsub(pattern,template[,flags])`: the first match replaced by the template, with the flag `g` each match.
     Regsub(Pat, Text, Matches),
+}
+
+impl Drop for Conv {
+    fn drop(self) {
+        match self {
+            Conv::Lower => {}
+            Conv::Upper => {}
+            Conv::Length => {}
+            Conv::Bytes(_, _) => {}
+            Conv::Field(_, _, _) => {}
+            Conv::Word(_, _, _) => {}
+            Conv::Iif(_, _) => {}
+            Conv::Add(_) => {}
+            Conv::Sub(_) => {}
+            Conv::Mul(_) => {}
+            Conv::Div(_) => {}
+            Conv::Mod(_) => {}
+            Conv::Neg => {}
+            Conv::Not => {}
+            Conv::Bool => {}
+            Conv::Base64 => {}
+            Conv::Hex => {}
+            Conv::UrlDec => {}
+            Conv::Regsub(_, _, _) => {}
+        }
+    }
 }
 
 /// Which matches of a pattern are replaced.

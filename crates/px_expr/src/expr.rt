@@ -7,8 +7,13 @@ use px_sample::Fetch;
 pub type ConvList = ItemList<Conv>;
 
 /// A fetch and the converters of its sample (Configuration Manual, section 7.1).
-#[derive(Drop)]
 pub struct Expr {
     pub fetch: Fetch,
     pub convs: ConvList,
+}
+
+impl Drop for Expr {
+    fn drop(self) {
+        let Expr { fetch: _, convs: _ } = self;
+    }
 }

@@ -3,9 +3,14 @@
 use crate::Bytes;
 
 /// Where a server listens.
-#[derive(Drop)]
 pub struct Address {
     /// A host name or a numeric address, as it was written.
     pub host: Bytes,
     pub port: u16,
+}
+
+impl Drop for Address {
+    fn drop(self) {
+        let Address { host: _, port: _ } = self;
+    }
 }

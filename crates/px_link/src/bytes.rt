@@ -6,9 +6,14 @@ use std::alloc::Global;
 use std::marker::Model;
 
 /// Bytes on the heap. Contracts see the list of them.
-#[derive(Drop)]
 pub struct Bytes {
     items: Vec<u8>,
+}
+
+impl Drop for Bytes {
+    fn drop(self) {
+        let Bytes { items: _ } = self;
+    }
 }
 
 impl Model for Bytes {

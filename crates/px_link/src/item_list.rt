@@ -6,9 +6,14 @@ use std::alloc::Global;
 use std::marker::Model;
 
 /// A list that grows at its end, of at most 4294967295 items. Contracts see the list of them.
-#[derive(Drop)]
 pub struct ItemList<T> {
     items: Vec<T>,
+}
+
+impl<T: Drop> Drop for ItemList<T> {
+    fn drop(self) {
+        let ItemList { items: _ } = self;
+    }
 }
 
 impl<T> Model for ItemList<T> {

@@ -10,11 +10,20 @@ use std::marker::Model;
 const NAME_ROOM: usize = 255;
 
 /// A name. Contracts see its bytes.
-#[derive(Drop)]
 pub(crate) struct KeptName {
     first: [u8; NAME_ROOM],
     count: usize,
     rest: Vec<u8>,
+}
+
+impl Drop for KeptName {
+    fn drop(self) {
+        let KeptName {
+            first: _,
+            count: _,
+            rest: _,
+        } = self;
+    }
 }
 
 impl Model for KeptName {

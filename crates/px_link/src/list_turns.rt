@@ -5,10 +5,15 @@ use crate::{Turn, Turns};
 use std::marker::Model;
 
 /// Turns from a list. Contracts see those that were not given yet.
-#[derive(Drop)]
 pub struct ListTurns {
     turns: Vec<Turn>,
     at: usize,
+}
+
+impl Drop for ListTurns {
+    fn drop(self) {
+        let ListTurns { turns: _, at: _ } = self;
+    }
 }
 
 impl Model for ListTurns {

@@ -19,13 +19,24 @@ struct NamedFile {
 }
 
 /// Files in memory, the newest first.
-#[derive(Drop)]
 pub struct MemFiles {
     files: Vec<NamedFile>,
     failing: Vec<u64>,
     calls: u64,
     faults: u64,
     last_failed: KeptName,
+}
+
+impl Drop for MemFiles {
+    fn drop(self) {
+        let MemFiles {
+            files: _,
+            failing: _,
+            calls: _,
+            faults: _,
+            last_failed: _,
+        } = self;
+    }
 }
 
 impl Model for MemFiles {

@@ -9,7 +9,6 @@ use std::alloc::Global;
 use std::marker::Model;
 
 /// A link in memory.
-#[derive(Drop)]
 pub struct MemLink {
     bytes: Vec<u8>,
     at: usize,
@@ -23,6 +22,25 @@ pub struct MemLink {
     writes: u64,
     read_faults: u64,
     write_faults: u64,
+}
+
+impl Drop for MemLink {
+    fn drop(self) {
+        let MemLink {
+            bytes: _,
+            at: _,
+            ending: _,
+            written: _,
+            takes: _,
+            closed: _,
+            failing_reads: _,
+            failing_writes: _,
+            reads: _,
+            writes: _,
+            read_faults: _,
+            write_faults: _,
+        } = self;
+    }
 }
 
 impl Model for MemLink {

@@ -13,7 +13,6 @@ use std::collections::VecDeque;
 use std::marker::Model;
 
 /// A net in memory.
-#[derive(Drop)]
 pub struct MemNet {
     accepts: VecDeque<MemLink>,
     servers: VecDeque<Option<MemLink>>,
@@ -26,6 +25,24 @@ pub struct MemNet {
     connects: u32,
     bind_faults: u64,
     connect_faults: u64,
+}
+
+impl Drop for MemNet {
+    fn drop(self) {
+        let MemNet {
+            accepts: _,
+            servers: _,
+            kept: _,
+            bound: _,
+            dialled: _,
+            lent: _,
+            failing: _,
+            calls: _,
+            connects: _,
+            bind_faults: _,
+            connect_faults: _,
+        } = self;
+    }
 }
 
 impl Model for MemNet {

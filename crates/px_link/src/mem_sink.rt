@@ -9,12 +9,22 @@ use std::alloc::Global;
 use std::marker::Model;
 
 /// A sink in memory.
-#[derive(Drop)]
 pub struct MemSink {
     written: Vec<u8>,
     failing: Vec<u64>,
     calls: u64,
     faults: u64,
+}
+
+impl Drop for MemSink {
+    fn drop(self) {
+        let MemSink {
+            written: _,
+            failing: _,
+            calls: _,
+            faults: _,
+        } = self;
+    }
 }
 
 impl Model for MemSink {

@@ -11,7 +11,6 @@ const ALL: Readiness = Readiness {
 
 /// A wait that comes to its end at once, and names the listener and each place at which something was watched, both sides of it. Its clock gives the
 /// numbers of a list, and then the last for ever.
-#[derive(Drop)]
 pub struct MemWakes {
     /// Each place at which something was watched is below.
     places: usize,
@@ -19,6 +18,18 @@ pub struct MemWakes {
     times: Vec<u64>,
     readings: usize,
     time: u64,
+}
+
+impl Drop for MemWakes {
+    fn drop(self) {
+        let MemWakes {
+            places: _,
+            listens: _,
+            times: _,
+            readings: _,
+            time: _,
+        } = self;
+    }
 }
 
 impl MemWakes {

@@ -1,10 +1,18 @@
 //! Answers to questions, given in order.
 
 /// Answers to the questions of one kind: each takes the next, and behind the last the answer is yes.
-#[derive(Drop)]
 pub struct Script {
     answers: Vec<bool>,
     asked: usize,
+}
+
+impl Drop for Script {
+    fn drop(self) {
+        let Script {
+            answers: _,
+            asked: _,
+        } = self;
+    }
 }
 
 impl Script {

@@ -11,11 +11,20 @@ use std::alloc::Global;
 use std::marker::Model;
 
 /// Refuses one build by its number, for tests; each other build is as that of `RealPatterns`.
-#[derive(Drop)]
 pub struct FakePatterns {
     real: RealPatterns,
     refuse: u32,
     builds: u32,
+}
+
+impl Drop for FakePatterns {
+    fn drop(self) {
+        let FakePatterns {
+            real: _,
+            refuse: _,
+            builds: _,
+        } = self;
+    }
 }
 
 impl Model for FakePatterns {

@@ -10,9 +10,14 @@ use std::alloc::Global;
 use std::marker::Model;
 
 /// The groups of a match, from group 0, the match, on. They don't borrow the text.
-#[derive(Drop)]
 pub struct Groups {
     spans: Vec<Option<Span>>,
+}
+
+impl Drop for Groups {
+    fn drop(self) {
+        let Groups { spans: _ } = self;
+    }
 }
 
 impl Model for Groups {

@@ -14,11 +14,21 @@ use std::marker::Model;
 /// A pattern that was built. It does not change, and may be shared. Contracts see its text and whether it ignores case. What was
 /// built lives as long as the program, so that what searches for it names no lifetime. The number that its builder gave it says
 /// where a searcher for it is kept, and nothing else.
-#[derive(Debug, Drop)]
+#[derive(Debug)]
 pub struct Pat {
     regex: &'static Regex,
     icase: bool,
     number: u32,
+}
+
+impl Drop for Pat {
+    fn drop(self) {
+        let Pat {
+            regex: _,
+            icase: _,
+            number: _,
+        } = self;
+    }
 }
 
 impl Model for Pat {
@@ -34,11 +44,20 @@ impl Model for Pat {
 }
 
 /// What searches for a pattern, text after text. To make one costs more than a search does.
-#[derive(Drop)]
 pub struct Searcher {
     regex: &'static Regex,
     icase: bool,
     matcher: Matcher<'static>,
+}
+
+impl Drop for Searcher {
+    fn drop(self) {
+        let Searcher {
+            regex: _,
+            icase: _,
+            matcher: _,
+        } = self;
+    }
 }
 
 impl Model for Searcher {

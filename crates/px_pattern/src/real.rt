@@ -13,11 +13,20 @@ use std::marker::Model;
 /// Builds patterns by `regex`. Each text that it refuses for another cause than memory is refused, and so is
 /// each that is no UTF-8. A copy of the last refused text is kept; where there is no memory for it, the build
 /// ends with want of memory and is no refusal.
-#[derive(Drop)]
 pub struct RealPatterns {
     next: u32,
     refusals: u64,
     last: Option<KeptText>,
+}
+
+impl Drop for RealPatterns {
+    fn drop(self) {
+        let RealPatterns {
+            next: _,
+            refusals: _,
+            last: _,
+        } = self;
+    }
 }
 
 impl Model for RealPatterns {

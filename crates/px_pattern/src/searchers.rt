@@ -13,10 +13,15 @@ use std::alloc::Global;
 const MOST_KEPT: usize = 65536;
 
 /// Searchers for patterns, each made when its pattern is first searched for, and kept at the pattern's number.
-#[derive(Drop)]
 pub struct Searchers {
     alloc: Global,
     kept: Vec<Option<Box<Searcher>>>,
+}
+
+impl Drop for Searchers {
+    fn drop(self) {
+        let Searchers { alloc: _, kept: _ } = self;
+    }
 }
 
 /// Searches with the searcher of a place, which is made where there is none for the pattern.

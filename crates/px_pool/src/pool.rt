@@ -17,10 +17,18 @@ pub enum Took {
 }
 
 /// Cores that connections share, each connection one at most. Contracts see who has which core.
-#[derive(Drop)]
 pub struct Pool<C> {
     owners: Vec<Option<u32>>,
     cores: Vec<C>,
+}
+
+impl<C: Drop> Drop for Pool<C> {
+    fn drop(self) {
+        let Pool {
+            owners: _,
+            cores: _,
+        } = self;
+    }
 }
 
 impl<C> Model for Pool<C> {

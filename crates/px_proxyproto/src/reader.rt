@@ -13,10 +13,15 @@ use std::marker::Model;
 const LEAST: usize = 15;
 
 /// Reads one header. Contracts see the first 107 bytes that it was fed, and how many there were.
-#[derive(Drop)]
 pub struct ProxyReader {
     front: [u8; 107],
     count: usize,
+}
+
+impl Drop for ProxyReader {
+    fn drop(self) {
+        let ProxyReader { front: _, count: _ } = self;
+    }
 }
 
 impl Model for ProxyReader {

@@ -9,13 +9,24 @@ use std::alloc::Global;
 use std::marker::Model;
 
 /// A net over one that it borrows, whose connected links write a header before their first piece. Accepted links pass their bytes on unchanged.
-#[derive(Drop)]
 pub struct SendNet<'a, N> {
     alloc: Global,
     inner: &'a mut N,
     version: u32,
     pair: Option<Pair>,
     notes: Notes,
+}
+
+impl<N: Drop> Drop for SendNet<'_, N> {
+    fn drop(self) {
+        let SendNet {
+            alloc: _,
+            inner: _,
+            version: _,
+            pair: _,
+            notes: _,
+        } = self;
+    }
 }
 
 impl<'a, N> Model for SendNet<'a, N> {

@@ -8,10 +8,15 @@ use std::alloc::Global;
 use std::marker::Model;
 
 /// Bytes up to a number of them, in memory that is taken once.
-#[derive(Drop)]
 pub struct Buf {
     cap: u32,
     bytes: Vec<u8>,
+}
+
+impl Drop for Buf {
+    fn drop(self) {
+        let Buf { cap: _, bytes: _ } = self;
+    }
 }
 
 impl Model for Buf {

@@ -5,7 +5,7 @@ use crate::{Scope, Text};
 use htx_model::OutOfMemory;
 
 /// A fetch with its arguments (Configuration Manual, section 7.3). Names of fields are as the rule has them.
-#[derive(Clone, Debug, Drop)]
+#[derive(Clone, Debug)]
 pub enum Fetch {
     /// `req.hdr(name[,occ])`: the values of a field that holds a list.
     ReqHdr(Text, Option<i64>),
@@ -51,6 +51,35 @@ pub enum Fetch {
     AlwaysTrue,
     /// `always_false`.
     AlwaysFalse,
+}
+
+impl Drop for Fetch {
+    fn drop(self) {
+        match self {
+            Fetch::ReqHdr(_, _) => {}
+            Fetch::ResHdr(_, _) => {}
+            Fetch::ReqFhdr(_, _) => {}
+            Fetch::ResFhdr(_, _) => {}
+            Fetch::ReqHdrCnt(_) => {}
+            Fetch::ResHdrCnt(_) => {}
+            Fetch::Path => {}
+            Fetch::Query => {}
+            Fetch::Pathq => {}
+            Fetch::Url => {}
+            Fetch::Base => {}
+            Fetch::UrlParam(_) => {}
+            Fetch::Method => {}
+            Fetch::ReqVer => {}
+            Fetch::ResVer => {}
+            Fetch::Status => {}
+            Fetch::Var(_, _) => {}
+            Fetch::Str(_) => {}
+            Fetch::Int(_) => {}
+            Fetch::Bool(_) => {}
+            Fetch::AlwaysTrue => {}
+            Fetch::AlwaysFalse => {}
+        }
+    }
 }
 
 impl Fetch {

@@ -18,10 +18,15 @@ const SCOPE_LIMIT: usize = 4096;
 
 /// The variables of one scope, those set last behind: what is known of each, and their names and values one
 /// after another.
-#[derive(Drop)]
 pub struct Shelf {
     slots: Vec<Slot>,
     bytes: Vec<u8>,
+}
+
+impl Drop for Shelf {
+    fn drop(self) {
+        let Shelf { slots: _, bytes: _ } = self;
+    }
 }
 
 impl Model for Shelf {

@@ -6,9 +6,15 @@ use std::alloc::Global;
 use std::marker::Model;
 
 /// The bytes of a name, a text or a template, on the heap. Contracts see the list of them.
-#[derive(Clone, Debug, Drop)]
+#[derive(Clone, Debug)]
 pub struct Text {
     items: Vec<u8>,
+}
+
+impl Drop for Text {
+    fn drop(self) {
+        let Text { items: _ } = self;
+    }
 }
 
 impl Model for Text {

@@ -14,12 +14,22 @@ use std::marker::Model;
 
 /// The variables of four scopes, in memory that is taken once. A scope holds names and values of at most 4096
 /// bytes together; a number counts 8, a truth value 1.
-#[derive(Drop)]
 pub struct Vars {
     sess: Shelf,
     txn: Shelf,
     req: Shelf,
     res: Shelf,
+}
+
+impl Drop for Vars {
+    fn drop(self) {
+        let Vars {
+            sess: _,
+            txn: _,
+            req: _,
+            res: _,
+        } = self;
+    }
 }
 
 impl Model for Vars {

@@ -11,9 +11,14 @@ const PIECE: usize = 4096;
 const PIECES: usize = 1024;
 
 /// Whether standard input has ended. No contract tells when it does.
-#[derive(Drop)]
 pub struct InputEnd {
     has_ended: bool,
+}
+
+impl Drop for InputEnd {
+    fn drop(self) {
+        let InputEnd { has_ended: _ } = self;
+    }
 }
 
 /// Whether a read of standard input is answered at once.

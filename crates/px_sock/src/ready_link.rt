@@ -21,7 +21,6 @@ use std::os::fd::{AsRawFd, RawFd};
 const LONG: usize = 4096;
 
 /// A link over a stream that doesn't block. Contracts see its two counts, and which calls have no time left.
-#[derive(Drop)]
 pub struct ReadyLink<S> {
     /// None once it was closed.
     stream: Option<S>,
@@ -43,6 +42,26 @@ pub struct ReadyLink<S> {
     writes_over: bool,
     read_faults: u64,
     write_faults: u64,
+}
+
+impl<S: Drop> Drop for ReadyLink<S> {
+    fn drop(self) {
+        let ReadyLink {
+            stream: _,
+            closing: _,
+            lingers: _,
+            thrown: _,
+            reads: _,
+            writes: _,
+            follows: _,
+            corked: _,
+            ended: _,
+            reads_over: _,
+            writes_over: _,
+            read_faults: _,
+            write_faults: _,
+        } = self;
+    }
 }
 
 impl<S> Model for ReadyLink<S> {

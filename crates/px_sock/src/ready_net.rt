@@ -19,7 +19,6 @@ use std::{io, net};
 
 /// A net over sockets that don't block. It listens at the address of the last bind that was answered Ok. Contracts see the addresses of its binds
 /// and connects, how many links are lent, and its two counts.
-#[derive(Drop)]
 pub struct ReadyNet<'a, R: net::Net> {
     rt: &'a R,
     alloc: Global,
@@ -38,6 +37,26 @@ pub struct ReadyNet<'a, R: net::Net> {
     lent: u64,
     bind_faults: u64,
     connect_faults: u64,
+}
+
+impl<R: net::Net> Drop for ReadyNet<'_, R> {
+    fn drop(self) {
+        let ReadyNet {
+            rt: _,
+            alloc: _,
+            listener: _,
+            handed: _,
+            came: _,
+            dialling: _,
+            bound: _,
+            dialled: _,
+            numeric: _,
+            telling: _,
+            lent: _,
+            bind_faults: _,
+            connect_faults: _,
+        } = self;
+    }
 }
 
 impl<'a, R: net::Net> Model for ReadyNet<'a, R> {

@@ -24,7 +24,6 @@ const EVENTS: usize = 1024;
 const RETRY_MILLIS: u64 = 100;
 
 /// A wait for all streams of a loop.
-#[derive(Drop)]
 pub struct ReadyPoll<'a, R> {
     rt: &'a R,
     poll: Poll,
@@ -34,6 +33,19 @@ pub struct ReadyPoll<'a, R> {
     time: u64,
     /// The listener is to be watched, and can't be.
     unwatched: bool,
+}
+
+impl<R> Drop for ReadyPoll<'_, R> {
+    fn drop(self) {
+        let ReadyPoll {
+            rt: _,
+            poll: _,
+            events: _,
+            start: _,
+            time: _,
+            unwatched: _,
+        } = self;
+    }
 }
 
 impl<'a, R: net::Net + Clock> ReadyPoll<'a, R> {

@@ -9,11 +9,20 @@ use std::marker::Model;
 use std::{fs, io, rt};
 
 /// Files on disk. Contracts see their count, and the name of the last that failed.
-#[derive(Drop)]
 pub struct RealFiles<'a, R> {
     rt: &'a R,
     last_failed: Bytes,
     faults: u64,
+}
+
+impl<R> Drop for RealFiles<'_, R> {
+    fn drop(self) {
+        let RealFiles {
+            rt: _,
+            last_failed: _,
+            faults: _,
+        } = self;
+    }
 }
 
 impl<'a, R> Model for RealFiles<'a, R> {

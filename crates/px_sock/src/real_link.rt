@@ -15,7 +15,6 @@ use std::net::OpenStream;
 use std::time::Clock;
 
 /// A link over a stream. Contracts see its two counts.
-#[derive(Drop)]
 pub struct RealLink<S> {
     /// None once it was closed.
     stream: Option<S>,
@@ -25,6 +24,18 @@ pub struct RealLink<S> {
     lingers: bool,
     read_faults: u64,
     write_faults: u64,
+}
+
+impl<S: Drop> Drop for RealLink<S> {
+    fn drop(self) {
+        let RealLink {
+            stream: _,
+            closing: _,
+            lingers: _,
+            read_faults: _,
+            write_faults: _,
+        } = self;
+    }
 }
 
 impl<S> Model for RealLink<S> {

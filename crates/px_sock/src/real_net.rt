@@ -17,7 +17,6 @@ use std::{io, net};
 
 /// A net over sockets. It listens at the address of the last bind that was answered Ok. Contracts see the addresses of its binds and
 /// connects, how many links are lent, and its two counts.
-#[derive(Drop)]
 pub struct RealNet<'a, R: net::Net> {
     rt: &'a R,
     alloc: Global,
@@ -30,6 +29,23 @@ pub struct RealNet<'a, R: net::Net> {
     lent: u64,
     bind_faults: u64,
     connect_faults: u64,
+}
+
+impl<R: net::Net> Drop for RealNet<'_, R> {
+    fn drop(self) {
+        let RealNet {
+            rt: _,
+            alloc: _,
+            listener: _,
+            bound: _,
+            dialled: _,
+            numeric: _,
+            telling: _,
+            lent: _,
+            bind_faults: _,
+            connect_faults: _,
+        } = self;
+    }
 }
 
 impl<'a, R: net::Net> Model for RealNet<'a, R> {

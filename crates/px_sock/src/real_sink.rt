@@ -8,10 +8,15 @@ use std::io::Write;
 use std::marker::Model;
 
 /// Standard output. Contracts see its count.
-#[derive(Drop)]
 pub struct RealSink<'a, R> {
     rt: &'a R,
     faults: u64,
+}
+
+impl<R> Drop for RealSink<'_, R> {
+    fn drop(self) {
+        let RealSink { rt: _, faults: _ } = self;
+    }
 }
 
 impl<'a, R> Model for RealSink<'a, R> {

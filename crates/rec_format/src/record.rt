@@ -2,35 +2,68 @@
 use px_link::{Bytes, Ending, Turn};
 
 /// Bytes that come in, and how they end.
-#[derive(Drop)]
 pub struct Stream {
     pub bytes: Bytes,
     pub ending: Ending,
 }
 
+impl Drop for Stream {
+    fn drop(self) {
+        let Stream {
+            bytes: _,
+            ending: _,
+        } = self;
+    }
+}
+
 /// A server that is there.
-#[derive(Drop)]
 pub struct ServerSpec {
     pub stream: Stream,
     /// After how many bytes it stops taking; none where it takes all.
     pub takes: Option<u64>,
 }
 
+impl Drop for ServerSpec {
+    fn drop(self) {
+        let ServerSpec {
+            stream: _,
+            takes: _,
+        } = self;
+    }
+}
+
 /// A client, and the servers in the order of the connects, none for a refused one.
-#[derive(Drop)]
 pub struct Connection {
     pub client: Stream,
     pub servers: Vec<Option<ServerSpec>>,
 }
 
+impl Drop for Connection {
+    fn drop(self) {
+        let Connection {
+            client: _,
+            servers: _,
+        } = self;
+    }
+}
+
 /// A record.
-#[derive(Drop)]
 pub struct Record {
     /// 1 or 2: the format.
     pub version: u32,
     pub conns: Vec<Connection>,
     /// Each with the number of its connection, from 1.
     pub turns: Vec<(u32, Turn)>,
+}
+
+impl Drop for Record {
+    fn drop(self) {
+        let Record {
+            version: _,
+            conns: _,
+            turns: _,
+        } = self;
+    }
 }
 
 /// Why a record is refused.

@@ -9,14 +9,18 @@ use px_link::{Bytes, Close, End, OutOfMemory};
 use std::alloc::Global;
 
 /// What was sent to one side.
-#[derive(Drop)]
 pub struct Sent {
     pub bytes: Bytes,
     pub close: Close,
 }
 
+impl Drop for Sent {
+    fn drop(self) {
+        let Sent { bytes: _, close: _ } = self;
+    }
+}
+
 /// What a session came to.
-#[derive(Drop)]
 pub struct Report {
     /// The number of exchanges.
     pub exchanges: u32,
@@ -26,6 +30,18 @@ pub struct Report {
     pub client: Sent,
     /// In the order of the connects, none for a refused one.
     pub servers: Vec<Option<Sent>>,
+}
+
+impl Drop for Report {
+    fn drop(self) {
+        let Report {
+            exchanges: _,
+            end: _,
+            cut: _,
+            client: _,
+            servers: _,
+        } = self;
+    }
 }
 
 /// Most of what the report has besides bytes that were sent and servers.

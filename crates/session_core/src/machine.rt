@@ -38,12 +38,21 @@ pub struct Wants {
 }
 
 /// A session over two directions. Its contracts say what each call makes of a core that stands for a history.
-#[derive(Drop)]
 pub struct Core<S> {
     pub sides: S,
     pub at: At,
     /// Work found no memory: the core takes no further call.
     pub lost: bool,
+}
+
+impl<S: Drop> Drop for Core<S> {
+    fn drop(self) {
+        let Core {
+            sides: _,
+            at: _,
+            lost: _,
+        } = self;
+    }
 }
 
 impl<S: Works> Core<S> {

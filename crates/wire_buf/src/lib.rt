@@ -12,7 +12,6 @@ use std::alloc::Global;
 use std::marker::Model;
 
 /// A window. Contracts see its bytes as `items`, and the most that it holds as `capacity`.
-#[derive(Drop)]
 pub struct Window {
     /// A ring that only grows: its items are what the window's bytes stand in, as many as it ever reached.
     ring: HeapCircularBuffer<u8>,
@@ -20,6 +19,16 @@ pub struct Window {
     begin: usize,
     /// How many there are.
     len: usize,
+}
+
+impl Drop for Window {
+    fn drop(self) {
+        let Window {
+            ring: _,
+            begin: _,
+            len: _,
+        } = self;
+    }
 }
 
 impl Model for Window {

@@ -8,11 +8,20 @@ use cfg_lex::Words;
 use std::marker::Model;
 
 /// Words of a line that are still to be read, up to its end or to some word. Contracts see the list of them.
-#[derive(Drop)]
 pub struct WordsLeft<'a> {
     words: &'a Words,
     at: u32,
     end: u32,
+}
+
+impl Drop for WordsLeft<'_> {
+    fn drop(self) {
+        let WordsLeft {
+            words: _,
+            at: _,
+            end: _,
+        } = self;
+    }
 }
 
 impl<'a> Model for WordsLeft<'a> {

@@ -15,10 +15,15 @@ pub struct WrittenTest {
 }
 
 /// An `acl` line: its name and its test.
-#[derive(Drop)]
 pub struct AclLine {
     pub name: Text,
     pub test: WrittenTest,
+}
+
+impl Drop for AclLine {
+    fn drop(self) {
+        let AclLine { name: _, test: _ } = self;
+    }
 }
 
 /// The `acl` lines so far. Several lines may have one name.

@@ -27,7 +27,6 @@ use lane::ResponseLane;
 use std::alloc::Global;
 
 /// The answer direction of a session.
-#[derive(Drop)]
 pub struct AnswerSide {
     lane: ResponseLane,
     asker: Asker,
@@ -38,6 +37,19 @@ pub struct AnswerSide {
     heard: bool,
     /// The last step left nothing undone that could be done with what has come.
     at_rest: bool,
+}
+
+impl Drop for AnswerSide {
+    fn drop(self) {
+        let AnswerSide {
+            lane: _,
+            asker: _,
+            place: _,
+            open: _,
+            heard: _,
+            at_rest: _,
+        } = self;
+    }
 }
 
 /// What is known of no request.

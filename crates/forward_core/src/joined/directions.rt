@@ -12,13 +12,23 @@ use px_sample::Buf;
 use std::alloc::Global;
 
 /// Both directions of a session, and the rules between them.
-#[derive(Drop)]
 pub struct Directions<'c> {
     pub(crate) request: RequestSide,
     pub(crate) answer: AnswerSide,
     pub(crate) rules: SessionRules<'c>,
     /// The method of the request in hand, as its rules left it (RFC 9110 section 9). Where no head was read it is empty.
     pub(crate) method: Buf,
+}
+
+impl Drop for Directions<'_> {
+    fn drop(self) {
+        let Directions {
+            request: _,
+            answer: _,
+            rules: _,
+            method: _,
+        } = self;
+    }
 }
 
 ghost use Rattle.session_core.specs.Place as at;

@@ -24,7 +24,6 @@ use lane::{Lane, LaneHead, Stage};
 use std::alloc::Global;
 
 /// The request direction of a session.
-#[derive(Drop)]
 pub struct RequestSide {
     lane: Lane,
     place: Place,
@@ -32,6 +31,17 @@ pub struct RequestSide {
     awaits: bool,
     /// The last step left nothing undone that could be done with what has come.
     at_rest: bool,
+}
+
+impl Drop for RequestSide {
+    fn drop(self) {
+        let RequestSide {
+            lane: _,
+            place: _,
+            awaits: _,
+            at_rest: _,
+        } = self;
+    }
 }
 
 ghost use Rattle.forward_core.specs.Request.Seen.{seen, list_of, limits_of, input_size_of, place_of, is_open, room_of, window_of, window_size_of, to_read};

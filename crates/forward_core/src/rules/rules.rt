@@ -21,7 +21,6 @@ use px_sample::{Buf, Scope};
 use std::alloc::Global;
 
 /// The rules of a configuration in one session.
-#[derive(Drop)]
 pub struct SessionRules<'c> {
     /// The variables of the four scopes.
     pub vars: Vars,
@@ -31,6 +30,18 @@ pub struct SessionRules<'c> {
     /// Whose session it is.
     peer: Option<Peer>,
     scratch: Scratch,
+}
+
+impl Drop for SessionRules<'_> {
+    fn drop(self) {
+        let SessionRules {
+            vars: _,
+            said: _,
+            config: _,
+            peer: _,
+            scratch: _,
+        } = self;
+    }
 }
 
 ghost use Rattle.forward_core.specs.Rules.Ruling.{IsReady, config_of, size_of, holds_pattern, is_pass, AmendsHead, AmendsFront};

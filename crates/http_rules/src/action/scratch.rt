@@ -7,13 +7,24 @@ use std::alloc::Global;
 
 /// Buffers of the array's size, in which texts are made, and searchers for the patterns of rules. What they hold between two calls
 /// changes nothing of what rules come to.
-#[derive(Drop)]
 pub struct Scratch {
     pub searchers: Searchers,
     pub text: Buf,
     pub made: Buf,
     pub buf: Buf,
     pub spare: Buf,
+}
+
+impl Drop for Scratch {
+    fn drop(self) {
+        let Scratch {
+            searchers: _,
+            text: _,
+            made: _,
+            buf: _,
+            spare: _,
+        } = self;
+    }
 }
 
 ghost use Rattle.http_rules.specs.Action.Outcome.{IsScratch};

@@ -10,7 +10,6 @@ use px_expr::{Expr, Pat, Scope, Text};
 
 /// What a rule does (Configuration Manual, sections 4.2 and 6). Names of fields are in lower case. A name that a rule
 /// makes is a token of 1 to 255 bytes that frames no message.
-#[derive(Drop)]
 pub enum Action {
     /// `allow`: no later rule runs.
     Allow,
@@ -71,8 +70,45 @@ pub enum Action {
     StrictMode(bool),
 }
 
+impl Drop for Action {
+    fn drop(self) {
+        match self {
+            Action::Allow => {}
+            Action::Deny(_) => {}
+            Action::AddHeader(_, _) => {}
+            Action::SetHeader(_, _) => {}
+            Action::DelHeader(_) => {}
+            Action::ReplaceHeader(_, _, _) => {}
+            Action::ReplaceValue(_, _, _) => {}
+            Action::SetMethod(_) => {}
+            Action::SetPath(_) => {}
+            Action::SetPathq(_) => {}
+            Action::SetUri(_) => {}
+            Action::SetQuery(_) => {}
+            Action::ReplacePath(_, _) => {}
+            Action::ReplacePathq(_, _) => {}
+            Action::ReplaceUri(_, _) => {}
+            Action::SetStatus(_, _) => {}
+            Action::Redirect {
+                to: _,
+                code: _,
+                drop_query: _,
+                append_slash: _,
+            } => {}
+            Action::Return {
+                status: _,
+                content_type: _,
+                payload: _,
+                hdrs: _,
+            } => {}
+            Action::SetVar(_, _, _) => {}
+            Action::UnsetVar(_, _) => {}
+            Action::StrictMode(_) => {}
+        }
+    }
+}
+
 /// Which names `del-header` means. A name is compared in lower case.
-#[derive(Drop)]
 pub enum DelBy {
     /// The name is this one.
     Str(Text),
@@ -84,6 +120,18 @@ pub enum DelBy {
     Sub(Text),
     /// The pattern matches somewhere in it.
     Reg(Pat),
+}
+
+impl Drop for DelBy {
+    fn drop(self) {
+        match self {
+            DelBy::Str(_) => {}
+            DelBy::Beg(_) => {}
+            DelBy::End(_) => {}
+            DelBy::Sub(_) => {}
+            DelBy::Reg(_) => {}
+        }
+    }
 }
 
 impl Action {

@@ -4,7 +4,6 @@ use px_expr::Text;
 use px_link::ItemList;
 
 /// Where a `redirect` leads.
-#[derive(Drop)]
 pub enum RedirectTo {
     /// The text is the location.
     Location(Fmt),
@@ -14,8 +13,17 @@ pub enum RedirectTo {
     Scheme(Fmt),
 }
 
+impl Drop for RedirectTo {
+    fn drop(self) {
+        match self {
+            RedirectTo::Location(_) => {}
+            RedirectTo::Prefix(_) => {}
+            RedirectTo::Scheme(_) => {}
+        }
+    }
+}
+
 /// The body of a `return`.
-#[derive(Drop)]
 pub enum Payload {
     /// `string`.
     Literal(Text),
@@ -23,11 +31,25 @@ pub enum Payload {
     Format(Fmt),
 }
 
+impl Drop for Payload {
+    fn drop(self) {
+        match self {
+            Payload::Literal(_) => {}
+            Payload::Format(_) => {}
+        }
+    }
+}
+
 /// `hdr`: one more field of a `return`.
-#[derive(Drop)]
 pub struct Hdr {
     pub name: Text,
     pub value: Fmt,
+}
+
+impl Drop for Hdr {
+    fn drop(self) {
+        let Hdr { name: _, value: _ } = self;
+    }
 }
 
 /// The fields of a `return`, in their order.

@@ -18,12 +18,22 @@ use std::alloc::Global;
 use std::marker::Model;
 
 /// Blocks in an array of bytes that is taken once. Their load and the ends of the bytes in use are kept.
-#[derive(Drop)]
 pub struct Array {
     space: Space,
     count: u32,
     load: u32,
     ends: Ends,
+}
+
+impl Drop for Array {
+    fn drop(self) {
+        let Array {
+            space: _,
+            count: _,
+            load: _,
+            ends: _,
+        } = self;
+    }
 }
 
 impl Model for Array {

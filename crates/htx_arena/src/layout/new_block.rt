@@ -10,10 +10,18 @@ use htx_model::Kind;
 use std::marker::Model;
 
 /// The info word and the payload of a block, the payload in pieces.
-#[derive(Drop)]
 pub struct NewBlock<'a> {
     info: Info,
     payload: Payload<'a>,
+}
+
+impl Drop for NewBlock<'_> {
+    fn drop(self) {
+        let NewBlock {
+            info: _,
+            payload: _,
+        } = self;
+    }
 }
 
 impl<'a> Model for NewBlock<'a> {

@@ -6,12 +6,22 @@ use crate::space::Space;
 use std::marker::Model;
 
 /// A payload in pieces, which are written one behind the other.
-#[derive(Drop)]
 pub struct Payload<'a> {
     head: &'a [u8],
     first: &'a [u8],
     second: &'a [u8],
     third: &'a [u8],
+}
+
+impl Drop for Payload<'_> {
+    fn drop(self) {
+        let Payload {
+            head: _,
+            first: _,
+            second: _,
+            third: _,
+        } = self;
+    }
 }
 
 impl<'a> Model for Payload<'a> {

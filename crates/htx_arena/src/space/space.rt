@@ -15,9 +15,14 @@ pub struct Desc {
 }
 
 /// Bytes of a fixed number, with descriptors from the end.
-#[derive(Drop)]
 pub struct Space {
     bytes: Vec<u8>,
+}
+
+impl Drop for Space {
+    fn drop(self) {
+        let Space { bytes: _ } = self;
+    }
 }
 
 impl Model for Space {

@@ -20,7 +20,6 @@ use wire_buf::Window;
 
 /// What both directions of a connection own: from the bytes that come to the text that goes out, a message after the other.
 /// Contracts see a `LaneState`.
-#[derive(Drop)]
 pub struct Lane {
     limits: Limits,
     /// What came and was not used yet.
@@ -46,6 +45,29 @@ pub struct Lane {
     source: Source,
     /// Text is dropped.
     dropped: bool,
+}
+
+impl Drop for Lane {
+    fn drop(self) {
+        let Lane {
+            limits: _,
+            input: _,
+            ended: _,
+            scanned: _,
+            msg: _,
+            out: _,
+            framing: _,
+            declared: _,
+            close: _,
+            reader: _,
+            sieve: _,
+            writer: _,
+            output: _,
+            stage: _,
+            source: _,
+            dropped: _,
+        } = self;
+    }
 }
 
 impl Model for Lane {

@@ -47,7 +47,6 @@ pub enum Sifted {
 }
 
 /// Filters, with what they have not used of a body.
-#[derive(Drop)]
 pub struct Sieve {
     chain: Chain,
     /// Bytes of the body that the filters have not used.
@@ -57,6 +56,18 @@ pub struct Sieve {
     end: BodyEnd,
     /// Room for what the filters give at once.
     given: Vec<u8>,
+}
+
+impl Drop for Sieve {
+    fn drop(self) {
+        let Sieve {
+            chain: _,
+            held: _,
+            section: _,
+            end: _,
+            given: _,
+        } = self;
+    }
 }
 
 /// Hands a text to the filters, and puts what they give into an empty array.

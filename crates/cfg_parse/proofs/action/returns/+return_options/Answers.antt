@@ -20,8 +20,8 @@ returns-in-Ok-clause-reads g t c =
     (g.P.Patterns.refusals c.args.pats.now) (g.P.Patterns.refusals c.return_option.new.pats) (g.P.Patterns.refusals c.return_options.new.pats) (g.P.Patterns.last_refused c.return_options.new.pats)
     c.return_options.result all c.in-Ok.ensures.reads.0 c.in-Ok.ensures.reads.1 c.return_options.ensures.reads
 
-pub returns-in-Err-clause-reads : goal.returns-in-Err-clause-reads
-returns-in-Err-clause-reads g t c =
+pub returns-clause-reads : goal.returns-clause-reads
+returns-clause-reads g t c =
     let next : ReturnOptions × Words → RuleReading (ReturnOptions × Words) = λ found. return_options c.args.side (c.args.most - 1) found.0 found.1 in
     let count : c.args.most ≡ suc (c.args.most - 1) = omega arith in
     let all = returns_on c.args.side c.args.most (c.args.most - 1) c.args.options c.args.words c.in-Some.word.now c.next.new.self c.in-Some-return_word.which
