@@ -1,0 +1,7 @@
+pub mod Reading
+pub mod Places
+pub mod Packings
+pub mod Bodies
+pub mod Feeding
+pub mod Translating
+pub mod Rows
