@@ -4,4 +4,5 @@ pub mod Packings
 pub mod Bodies
 pub mod Feeding
 pub mod Translating
+pub mod Following
 pub mod Rows

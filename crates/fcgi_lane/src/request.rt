@@ -5,6 +5,7 @@ mod body_stages;
 mod field_pairs;
 mod field_texts;
 mod head_reading;
+pub mod laws;
 mod opening;
 mod packing;
 mod pairs;

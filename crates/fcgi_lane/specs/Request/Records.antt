@@ -1,5 +1,5 @@
 -- The records of a request (FastCGI 1.0 sections 3.3, 5.1 to 5.3).
-use Rattle.std.specs.Prelude.{◌≡◌, ◌≢◌, ℕ, ◌+◌, ◌≤◌, Bool, true, false, nat_le, nat_lt, if◌then◌else◌, List, [], ◌∷◌, ◌++◌, length, All, Option, Some, None}
+use Rattle.std.specs.Prelude.{◌≡◌, ◌≢◌, ℕ, ◌+◌, ◌≤◌, ◌⊎◌, Bool, true, false, nat_le, nat_lt, if◌then◌else◌, List, [], ◌∷◌, ◌++◌, length, All, Option, Some, None}
 use Rattle.std.specs.List.{flat_map, fold}
 use Rattle.fcgi_record.specs.Heads.{head_bytes}
 use Rattle.fcgi_record.specs.Pairs.{pair_bytes}
@@ -77,6 +77,23 @@ finished packing = if packing.long then None else Some ((closed packing).text ++
 -- the records of pairs
 abbrev pub params_of : List Pair → Option (List ℕ)
 params_of pairs = finished (put_all nothing pairs)
+
+-- the bytes of pairs, one after the other
+abbrev pub pairs_text : List Pair → List ℕ
+pairs_text pairs = flat_map pair_text pairs
+
+-- pairs that one record holds: some, and no more than it should unless it is a single one
+pub record IsGroup (pairs : List Pair) : Type 0 where
+  pub some : pairs ≢ []
+  pub most : length (pairs_text pairs) ≤ most_alone
+  pub many : (length (pairs_text pairs) ≤ most_content) ⊎ (length pairs ≡ 1)
+
+-- records of these pairs, in order, none of which cuts a pair, and the empty one
+pub record HoldsWhole (pairs : List Pair) (text : List ℕ) : Type 0 where
+  pub groups : List (List Pair)
+  pub each : All IsGroup groups
+  pub joined : flat_map (λ group. group) groups ≡ pairs
+  pub spelled : text ≡ flat_map (λ group. record_bytes Params (pairs_text group)) groups ++ record_bytes Params []
 
 -- ---- the body
 
