@@ -5,4 +5,7 @@ pub mod Bodies
 pub mod Feeding
 pub mod Translating
 pub mod Following
+pub mod Spelling
+pub mod Walking
+pub mod Chunks
 pub mod Rows

@@ -7,5 +7,6 @@ pub mod Body
 pub mod Stages
 pub mod Flow
 pub mod Sending
+pub mod Spelled
 pub mod Stands
 pub mod Opening

@@ -46,7 +46,7 @@ counted at c (suc n) left (b ∷ bytes) some fits =
     }
 
 -- a number that isn't 0 stays as it is
-some_left : (A : Place) (B : Place) (left : ℕ) → 0 < left → cond (nat_eq left 0) A B ≡ B
+pub some_left : (A : Place) (B : Place) (left : ℕ) → 0 < left → cond (nat_eq left 0) A B ≡ B
 some_left A B left some = ap (λ (t : Bool). cond t A B) (ne_eqb left 0 (λ (e : left ≡ 0). omega (arith, e, some)))
 
 pub length_counts : Counts length_left

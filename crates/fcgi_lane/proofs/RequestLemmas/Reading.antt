@@ -34,7 +34,7 @@ ends_whole done n i left (b ∷ line) rest all h is some empty =
     absurd (omega (arith, none))
 
 -- a line that isn't empty
-full_line : (read : List ℕ → Option (List Field)) (line rest : List ℕ) → nat_eq (length line) 0 ≡ false → fields_from read (Some (line, rest)) ≡ more_fields (read rest) (field_of line)
+pub full_line : (read : List ℕ → Option (List Field)) (line rest : List ℕ) → nat_eq (length line) 0 ≡ false → fields_from read (Some (line, rest)) ≡ more_fields (read rest) (field_of line)
 full_line read [] rest full = absurd cc
 full_line read (b ∷ line) rest full = refl
 

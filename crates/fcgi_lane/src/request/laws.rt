@@ -1,11 +1,19 @@
 //! What is asked of an application, over any cut. No code runs here: each law is the contract of an empty function.
-ghost use Rattle.std.specs.Prelude.{◌≡◌, ◌≢◌, ◌++◌, ℕ, List, [], Some};
-ghost use Rattle.fcgi_lane.specs.Request.Pairs.{Pair};
-ghost use Rattle.fcgi_lane.specs.Request.Records.{params_of, HoldsWhole};
-ghost use Rattle.fcgi_lane.specs.Request.Flow.{asked_of, IsSent};
+ghost use Rattle.std.specs.Prelude.{◌≡◌, ◌≢◌, ◌≤◌, ◌-◌, ◌++◌, ℕ, List, [], length, Some};
+ghost use Rattle.std.specs.List.{flat_map, AllByRecursion};
+ghost use Rattle.http_model.specs.Head.{Field};
+ghost use Rattle.http_model.specs.Spelling.{chunk_text, chunks_end};
+ghost use Rattle.fcgi_lane.specs.Request.Head.{RequestHead, head_of, framing_of};
+ghost use Rattle.fcgi_lane.specs.Request.Pairs.{Pair, pairs_of};
+ghost use Rattle.fcgi_lane.specs.Request.Body.{Place, Goes, Whole, body_at, length_left};
+ghost use Rattle.fcgi_lane.specs.Request.Spelled.{IsPlainHead, IsPlainField, IsChunk, spelling};
+ghost use Rattle.fcgi_lane.specs.Request.Records.{begin_record, params_of, HoldsWhole};
+ghost use Rattle.fcgi_lane.specs.Request.Flow.{Behind, asked_of, asked_headed, IsSent};
 ghost use Rattle.fcgi_lane.specs.Request.Stands.{Stands, reading_of, state_at, starting};
 
 use crate::request::state::RequestState;
+use http_model::Framing;
+use px_bytes::laws::hex_read_back;
 
 /// The records of pairs hold whole pairs, in order: as many as fit in 8192 bytes, or a single one.
 pub fn pairs_stay_whole()
@@ -25,4 +33,27 @@ pub fn what_follows()
 /// A translator that was fed nothing stands for nothing.
 pub fn at_the_start()
     ensures { (root : List ℕ) → Stands (starting root) [] [] }
+{}
+
+/// The head that is spelled as the proxy does is the one that is read, and ends the head of a request behind its last byte.
+pub fn heads_are_read()
+    ensures read { (head : RequestHead) → IsPlainHead head → head_of (spelling head) ≡ Some head }
+    ensures asked { (root : List ℕ) (head : RequestHead) → IsPlainHead head → asked_of root (spelling head) ≡ asked_headed root (Some head) }
+{}
+
+/// A body of known length is its bytes. A body in chunks that are spelled as the proxy does is their bytes, and is whole behind the last chunk and the
+/// trailers.
+pub fn bodies_are_read()
+    ensures length { (n : ℕ) (body : List ℕ) → length body ≤ n → Goes (body_at (Framing.Length n)) body (length_left (n - length body)) body }
+    ensures chunks { (chunks : List (List ℕ)) → AllByRecursion IsChunk chunks → Goes (body_at Framing.Chunked) (flat_map chunk_text chunks) (body_at Framing.Chunked) (flat_map (λ chunk. chunk) chunks) }
+    ensures whole { (chunks : List (List ℕ)) (trailers : List Field) → AllByRecursion IsChunk chunks → AllByRecursion IsPlainField trailers
+        → Goes (body_at Framing.Chunked) (flat_map chunk_text chunks ++ chunks_end trailers) Whole (flat_map (λ chunk. chunk) chunks) }
+{
+    hex_read_back();
+}
+
+/// A request whose head is spelled so asks, by the records of its own pairs, what its body is.
+pub fn requests_are_read()
+    ensures { (root : List ℕ) (head : RequestHead) (framing : Framing) (params text body : List ℕ) (to : Place) → IsPlainHead head → framing_of head.fields ≡ Some framing
+        → params_of (pairs_of root head framing) ≡ Some params → Goes (body_at framing) text to body → asked_of root (spelling head ++ text) ≡ Behind (begin_record ++ params) body to }
 {}
