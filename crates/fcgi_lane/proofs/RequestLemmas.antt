@@ -8,4 +8,5 @@ pub mod Following
 pub mod Spelling
 pub mod Walking
 pub mod Chunks
+pub mod Names
 pub mod Rows

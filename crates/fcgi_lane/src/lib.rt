@@ -2,4 +2,5 @@
 #![tactic(auto)]
 
 pub mod answer;
+mod fronts;
 pub mod request;

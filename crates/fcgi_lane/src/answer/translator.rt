@@ -8,6 +8,7 @@ ghost use Rattle.fcgi_lane.specs.Answer.Stands.{Stands, left_in, ready_in, IsDec
 use crate::answer::head_reading::{HeadRead, read_head};
 use crate::answer::records::RecordReader;
 use crate::answer::squeezing::squeeze;
+use crate::fronts::drop_front;
 use http_model::OutOfMemory;
 use std::alloc::Global;
 use std::marker::Model;
@@ -170,14 +171,4 @@ fn state_behind(records: &RecordReader) -> AnswerState
     } else {
         AnswerState::Broken
     }
-}
-
-/// Drops bytes at the front of a text.
-fn drop_front(text: &mut Vec<u8>, count: usize)
-    requires { count ≤ length text.old.items }
-    ensures { text.new.items ≡ drop count text.old.items }
-{
-    let len = text.len();
-    text.copy_within(count.., 0);
-    text.truncate(len - count);
 }

@@ -1,5 +1,5 @@
 //! What is asked of an application, over any cut. No code runs here: each law is the contract of an empty function.
-ghost use Rattle.std.specs.Prelude.{◌≡◌, ◌≢◌, ◌≤◌, ◌-◌, ◌++◌, ℕ, List, [], length, Some};
+ghost use Rattle.std.specs.Prelude.{◌≡◌, ◌≢◌, ◌≤◌, ◌-◌, ◌++◌, ℕ, List, [], length, Some, codes};
 ghost use Rattle.std.specs.List.{flat_map, AllByRecursion};
 ghost use Rattle.http_model.specs.Head.{Field};
 ghost use Rattle.http_model.specs.Spelling.{chunk_text, chunks_end};
@@ -18,6 +18,11 @@ use px_bytes::laws::hex_read_back;
 /// The records of pairs hold whole pairs, in order: as many as fit in 8192 bytes, or a single one.
 pub fn pairs_stay_whole()
     ensures { (pairs : List Pair) (text : List ℕ) → params_of pairs ≡ Some text → HoldsWhole pairs text }
+{}
+
+/// No pair is named `HTTP_PROXY`, whatever the fields are: an application would take it for the proxy that it is to use.
+pub fn no_proxy()
+    ensures { (root : List ℕ) (head : RequestHead) (framing : Framing) → AllByRecursion (λ pair. pair.0 ≢ codes "HTTP_PROXY") (pairs_of root head framing) }
 {}
 
 /// Records of the bytes so far are the front of records of all bytes that may come.

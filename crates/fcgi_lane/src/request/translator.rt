@@ -7,6 +7,7 @@ ghost use Rattle.fcgi_lane.specs.Request.Stages.{place_of};
 ghost use Rattle.fcgi_lane.specs.Request.Opening.{IsHeadFed};
 ghost use Rattle.fcgi_lane.specs.Request.Stands.{Stands, starting, state_in, state_at};
 
+use crate::fronts::drop_front;
 use crate::request::body::continue_body;
 use crate::request::body_stages::{BodyStage, is_going, is_whole};
 use crate::request::opening::{Opened, head_end, open_request};
@@ -30,6 +31,7 @@ pub(crate) enum Progress {
 /// A translator of one request.
 #[derive(Drop)]
 pub struct Translator<'r> {
+    alloc: Global,
     root: &'r [u8],
     head: Vec<u8>,
     progress: Progress,
@@ -78,6 +80,7 @@ impl<'r> Translator<'r> {
         ensures { result ≡ starting root.now }
     {
         Translator {
+            alloc,
             root,
             head: Vec::new(alloc),
             progress: Progress::Head,
@@ -86,12 +89,12 @@ impl<'r> Translator<'r> {
     }
 
     /// Takes bytes of the request, in whatever pieces they come.
-    pub fn feed(&mut self, alloc: Global, bytes: &[u8]) -> Result<(), OutOfMemory>
+    pub fn feed(&mut self, bytes: &[u8]) -> Result<(), OutOfMemory>
         ensures fed { OnOk result ((given taken : List ℕ) → Stands self.old given taken → Stands self.new given (taken ++ bytes.now)) }
         ensures unfed { OnErr result (self.new ≡ self.old) }
     {
         match self.progress {
-            Progress::Head => match feed_head(alloc, self.root, &mut self.head, bytes)? {
+            Progress::Head => match feed_head(self.alloc, self.root, &mut self.head, bytes)? {
                 None => Ok(()),
                 Some(Opened::Body { stage, left }) => {
                     self.progress = Progress::Body(stage);
@@ -104,7 +107,7 @@ impl<'r> Translator<'r> {
                 }
             },
             Progress::Body(stage) => {
-                let (stage, made) = continue_body(alloc, stage, bytes)?;
+                let (stage, made) = continue_body(self.alloc, stage, bytes)?;
                 self.left.extend_from_slice(&made)?;
                 self.progress = Progress::Body(stage);
                 Ok(())
@@ -154,14 +157,4 @@ fn state_of(stage: BodyStage) -> RequestState
     } else {
         RequestState::Broken
     }
-}
-
-/// Drops bytes at the front of a text.
-fn drop_front(text: &mut Vec<u8>, count: usize)
-    requires { count ≤ length text.old.items }
-    ensures { text.new.items ≡ drop count text.old.items }
-{
-    let len = text.len();
-    text.copy_within(count.., 0);
-    text.truncate(len - count);
 }

@@ -1,0 +1,12 @@
+//! Texts whose front was given.
+ghost use Rattle.std.specs.Prelude.{◌≡◌, ◌≤◌, length, drop};
+
+/// Drops bytes at the front of a text.
+pub(crate) fn drop_front(text: &mut Vec<u8>, count: usize)
+    requires { count ≤ length text.old.items }
+    ensures { text.new.items ≡ drop count text.old.items }
+{
+    let len = text.len();
+    text.copy_within(count.., 0);
+    text.truncate(len - count);
+}
