@@ -1,7 +1,8 @@
-//! Rows of FastCGI applications: what their records come to.
+//! Rows of FastCGI applications: what their records come to, and what requests come to.
 
 mod answers;
 mod kinds;
 mod records;
+mod requests;
 
 pub use kinds::made;

@@ -1,5 +1,5 @@
 //! Which interpreter a kind of rows has.
-use crate::applications::answers;
+use crate::applications::{answers, requests};
 use crate::{Answers, Fault, Row};
 use std::alloc::Global;
 
@@ -12,6 +12,7 @@ fn say(
 ) -> Option<Result<(), Fault>> {
     match kind {
         "fastcgi_answers" => Some(answers::answered(alloc, row, answers)),
+        "fastcgi_requests" => Some(requests::asked(alloc, row, answers)),
         _ => None,
     }
 }
