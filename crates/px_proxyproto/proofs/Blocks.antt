@@ -1,15 +1,14 @@
 -- Version 2 while its bytes come.
-use Rattle.std.proofs.Common.{◌≡◌, ℕ, ◌+◌, ◌-◌, ◌≤◌, ◌<◌, Bool, true, false, cond, min, List, ◌++◌, length, take, drop, replicate, get_or, inl, inr, refl, sym, ap, ◌∙◌, arith, le-leb, length-append}
-use Rattle.std.specs.Prelude.{Option, Some, None, nat_le, ◌==◌}
+use Rattle.std.proofs.Common.{◌≡◌, ℕ, ◌+◌, ◌-◌, ◌≤◌, ◌<◌, Bool, true, false, cond, List, ◌++◌, length, take, drop, replicate, get_or, inl, inr, refl, sym, ap, ◌∙◌, arith, length-append}
+use Rattle.std.specs.Prelude.{Option, Some, None, ◌==◌}
 use Rattle.std.specs.Int.{w16, w32, w128, from_be_bytes}
-use Rattle.std.proofs.lemmas.Bool.{leb-true}
 use Rattle.std.proofs.lemmas.List.{take-take, drop-take, take-append-le, length-replicate, get_or-take, get_or_append_left}
 use Rattle.px_peer.specs.declared.Pair.{Pair}
-use Rattle.px_proxyproto.specs.Binary.{IsBinary, signature, number_128, pair_4, pair_6, pair_in, may_stand, is_other_family, block_len}
+use Rattle.px_proxyproto.specs.Binary.{IsBinary, signature, number_128, pair_4, pair_6, pair_in, may_stand, block_len}
 use Rattle.px_proxyproto.specs.Lines.{Agrees}
 use Rattle.px_proxyproto.specs.Headers.{IsHeader, MayStill}
 use Rattle.px_proxyproto.proofs.Lengths.{more_len}
-use Rattle.px_proxyproto.proofs.Fronts.{signed_by, agrees_signed, text_apart, text_front_apart}
+use Rattle.px_proxyproto.proofs.Fronts.{signed_by, agrees_signed, text_front_apart}
 
 -- ---- fields of the first 107 bytes are those of all
 

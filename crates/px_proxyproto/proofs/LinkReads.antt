@@ -6,13 +6,13 @@ use Rattle.http_model.specs.declared.Ending.{Ending}
 use Rattle.http_model.specs.declared.Ending.TheVariants.{Closed, Broke}
 use Rattle.px_link.specs.Link.{Seen, Gave, ReadFailed}
 use Rattle.px_link.specs.Calls.{fault_after}
-use Rattle.px_peer.specs.declared.Pair.{Pair}
 use Rattle.px_proxyproto.specs.declared.state.ProxyState.{ProxyState}
 use Rattle.px_proxyproto.specs.declared.state.ProxyState.TheVariants.{More, Got, Bad}
+use Rattle.px_proxyproto.specs.declared.greeting.Greeting.{Greeting}
 use Rattle.px_proxyproto.specs.declared.greeting.Greeting.TheVariants as greetings
 use Rattle.px_proxyproto.specs.Headers.{NoneYet}
-use Rattle.px_proxyproto.specs.Reading.{Read, HasRead, Told}
-use Rattle.px_proxyproto.specs.Greeting.{TakenFrom, EndsBehind, Refuses, never_begins, has_ended, has_failed, ReadsOn, Greets}
+use Rattle.px_proxyproto.specs.Reading.{Read, Told}
+use Rattle.px_proxyproto.specs.Greeting.{TakenFrom, EndsBehind, Refuses, never_begins, has_ended, has_failed, ReadsOn, GreetsSoFar, WentOn}
 
 abbrev Next : List ℕ → Option (List ℕ) → Option (List ℕ) → Type 0
 Next bytes old new = IfSome old (λ all. (rest : List ℕ) × (all ≡ bytes ++ rest) × (new ≡ Some rest))
@@ -120,23 +120,22 @@ refuses_both s t u x y p same (never_begins never reads) = never_begins never (r
 refuses_both s t u x y p same (has_ended ends reads) = has_ended (ends_both s t x y Closed p ends) (reads ∙ same)
 refuses_both s t u x y p same (has_failed fails reads) = has_failed (λ plain. ends_both s t x y Broke p (fails (p.kind.plain ∙ plain))) (reads ∙ ap fault_after same)
 
--- what was read so far of a link
-pub record Underway (old now : Seen) (reader : Read) : Type 0 where
-  pub bytes : List ℕ
-  pub taken : TakenFrom old now bytes
-  pub reads : now.read_faults ≡ old.read_faults
-  pub has : HasRead reader bytes
-
-pub goes_on : (s t u : Seen) (reader next : Read) → (w : Underway s t reader) → ReadsOn w.bytes t u next More → Underway s u next
-goes_on s t u reader next w r = record {
-  bytes = w.bytes ++ r.0;
-  taken = both_taken s t u w.bytes r.0 w.taken r.1;
-  reads = r.2 ∙ w.reads;
-  has = r.3;
+pub nothing_taken : (s : Seen) → TakenFrom s s []
+nothing_taken s = record {
+  next = failed_next s.to_come s.to_come refl;
+  taken = failed_taken s.taken s.taken refl;
+  kind = record { ending = refl; plain = refl; takes = refl };
+  closed = refl;
+  writes = refl;
 }
 
-pub greets_got : (s t u : Seen) (reader next : Read) (pair : Option Pair) → (w : Underway s t reader) → ReadsOn w.bytes t u next (Got pair) → Greets s u (greetings.Got pair)
-greets_got s t u reader next pair w r = (w.bytes ++ r.0, both_taken s t u w.bytes r.0 w.taken r.1, r.2 ∙ w.reads, r.3)
+-- what a greeter has told by what its piece told
+abbrev pub greeting_of : ProxyState → Option Greeting
+greeting_of More = None
+greeting_of (Got pair) = Some (greetings.Got pair)
+greeting_of Bad = Some greetings.Bad
 
-pub greets_bad : (s t u : Seen) (reader next : Read) → (w : Underway s t reader) → ReadsOn w.bytes t u next Bad → Greets s u greetings.Bad
-greets_bad s t u reader next w r = (w.bytes ++ r.0, both_taken s t u w.bytes r.0 w.taken r.1, refuses_both s t u w.bytes r.0 w.taken w.reads r.2, r.3)
+pub went_on : (state : ProxyState) (s t u : Seen) (reader next : Read) → (w : GreetsSoFar reader s t) → ReadsOn w.0 t u next state → WentOn next s u (greeting_of state)
+went_on More s t u reader next w r = (w.0 ++ r.0, both_taken s t u w.0 r.0 w.1 r.1, r.2 ∙ w.2, r.3)
+went_on (Got pair) s t u reader next w r = (w.0 ++ r.0, both_taken s t u w.0 r.0 w.1 r.1, r.2 ∙ w.2, r.3)
+went_on Bad s t u reader next w r = (w.0 ++ r.0, both_taken s t u w.0 r.0 w.1 r.1, refuses_both s t u w.0 r.0 w.1 w.2 r.2, r.3)

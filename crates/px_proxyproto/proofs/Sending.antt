@@ -1,12 +1,7 @@
 -- Writes of a link below, as writes behind a header.
-use Rattle.std.proofs.Common.{◌≡◌, ℕ, ◌+◌, ◌≤◌, ◌<◌, List, ◌++◌, length, take, drop, refl, sym, ap, subst, ◌∙◌, arith, append_assoc, length-append, take-add}
-use Rattle.std.specs.Prelude.{Result, Ok, Err}
-use Rattle.std.proofs.lemmas.List.{append-nil, length-take-le}
-use Rattle.px_link.specs.declared.fault.Fault.{Fault}
-use Rattle.px_link.specs.declared.fault.Fault.TheVariants as faults
-use Rattle.px_link.specs.declared.fault.Failed.{Failed}
-use Rattle.px_link.specs.Told.{Rose}
-use Rattle.px_link.specs.Link.{Seen, Takes, Untold, UpTo, All, SameKind, SameInput, Reads, Took, WriteFailed, NoRoom, Writes, WithinTakes, MayRefuse}
+use Rattle.std.proofs.Common.{◌≡◌, ℕ, ◌+◌, ◌<◌, List, ◌++◌, length, take, drop, sym, ap, subst, ◌∙◌, take-add}
+use Rattle.std.proofs.lemmas.List.{append-nil}
+use Rattle.px_link.specs.Link.{Seen, SameKind, SameInput, Took, NoRoom}
 use Rattle.px_proxyproto.specs.Sending.{takes_behind, seen_behind, WroteBehind}
 
 kind_behind : (header : List ℕ) (s t : Seen) → SameKind s t → SameKind (seen_behind header s) (seen_behind header t)

@@ -1,5 +1,5 @@
 -- What a greeting does to the link that it reads.
-use Rattle.std.specs.Prelude.{◌≡◌, ℕ, ◌+◌, true, List, [], ◌++◌, length, Some, IfSome}
+use Rattle.std.specs.Prelude.{◌≡◌, ℕ, ◌+◌, true, List, [], ◌++◌, length, Option, None, Some, IfSome}
 use Rattle.http_model.specs.declared.Ending.{Ending}
 use Rattle.http_model.specs.declared.Ending.TheVariants.{Closed, Broke}
 use Rattle.px_link.specs.Link.{Seen, SameKind}
@@ -39,3 +39,12 @@ ReadsOn before old new reader Bad = (piece : List ℕ) × TakenFrom old new piec
 abbrev pub Greets : (old new : Seen) → Greeting → Type 0
 Greets old new (greetings.Got pair) = (header : List ℕ) × TakenFrom old new header × (new.read_faults ≡ old.read_faults) × IsHeader header pair
 Greets old new greetings.Bad = (bytes : List ℕ) × TakenFrom old new bytes × Refuses [] old new bytes × NoneYet bytes
+
+-- So far these many bytes were taken from a link that was first seen so: they may become a header, no read failed, and they were read.
+abbrev pub GreetsSoFar : Read → (first now : Seen) → Type 0
+GreetsSoFar greeter first now = (bytes : List ℕ) × TakenFrom first now bytes × (now.read_faults ≡ first.read_faults) × HasRead greeter bytes
+
+-- what one read more comes to: the header goes on, or the greeting is told
+abbrev pub WentOn : Read → (first now : Seen) → Option Greeting → Type 0
+WentOn greeter first now None = GreetsSoFar greeter first now
+WentOn greeter first now (Some greeting) = Greets first now greeting

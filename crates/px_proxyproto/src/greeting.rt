@@ -1,10 +1,8 @@
 //! Reads the header in front of a client's stream.
-ghost use Rattle.std.specs.Prelude.{◌≡◌, ◌+◌, ◌<◌, ◌≤◌, ℕ, List};
-ghost use Rattle.px_proxyproto.specs.Greeting.{Greets, ReadsOn};
-ghost use Rattle.px_proxyproto.specs.Reading.{HasRead, wants_of};
+ghost use Rattle.std.specs.Prelude.{ℕ, List};
+ghost use Rattle.px_proxyproto.specs.Greeting.{Greets};
 
-use crate::reader::ProxyReader;
-use crate::state::ProxyState;
+use crate::greeter::Greeter;
 use px_link::Link;
 use px_peer::Pair;
 
@@ -17,36 +15,15 @@ pub enum Greeting {
     Bad,
 }
 
-/// One read of the link.
-fn read_on<L: Link>(link: &mut L, reader: &mut ProxyReader) -> ProxyState
-    requires some { 1 ≤ wants_of reader.old }
-    ensures reads { (before : List ℕ) → HasRead reader.old before → ReadsOn before (L.seen link.old) (L.seen link.new) reader.new result }
-    ensures further { result ≡ ProxyState.More → (reader.old.count < reader.new.count) × (reader.new.count ≤ 65551) }
-    ensures wrote { (bytes : List ℕ) → L.wrote link.old bytes → L.wrote link.new bytes }
-{
-    let mut room = [0; 256];
-    let most = (reader.wants() as usize).min(256);
-    let piece = &mut room[..most];
-    let Ok(n) = link.read(piece) else {
-        return ProxyState::Bad;
-    };
-    if n == 0 {
-        return ProxyState::Bad;
-    }
-    reader.feed(&piece[..n])
-}
-
 /// Reads the header in front of a stream, and no byte behind it. Over a link of the system it waits.
 pub fn greet<L: Link>(link: &mut L) -> Greeting
     ensures greets { Greets (L.seen link.old) (L.seen link.new) result }
     ensures wrote { (bytes : List ℕ) → L.wrote link.old bytes → L.wrote link.new bytes }
 {
-    let mut reader = ProxyReader::new();
+    let mut greeter = Greeter::new();
     'reads: loop {
-        match read_on(link, &mut reader) {
-            ProxyState::More => {}
-            ProxyState::Got(pair) => return Greeting::Got(pair),
-            ProxyState::Bad => return Greeting::Bad,
+        if let Some(greeting) = greeter.read_on(link) {
+            return greeting;
         }
     }
 }

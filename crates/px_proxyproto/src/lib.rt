@@ -5,6 +5,7 @@
 mod address;
 mod binary;
 mod front;
+mod greeter;
 mod greeting;
 mod has_peer;
 mod headers;
@@ -20,6 +21,7 @@ mod state;
 mod writing;
 
 pub use front::{Front, front_of};
+pub use greeter::Greeter;
 pub use greeting::{Greeting, greet};
 pub use has_peer::HasPeer;
 pub use headers::header_text;

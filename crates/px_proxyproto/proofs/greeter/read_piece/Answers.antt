@@ -1,5 +1,5 @@
 use Rattle.px_proxyproto.proofs.LinkReads.{read_failed, read_ended, read_told}
-use Rattle.px_proxyproto.proofs.greeting.read_on.Goals as goal
+use Rattle.px_proxyproto.proofs.greeter.read_piece.Goals as goal
 
 pub returns-in_default-clause-reads : goal.returns-in_default-clause-reads
 returns-in_default-clause-reads g c = λ before has. read_failed before _ _ c.args.reader.now has.may.none_yet c.in_default.ensures.reads
