@@ -1,12 +1,15 @@
 -- What the driver's clauses say of a session's net and of its client's link.
 use Rattle.std.proofs.Common.{◌≡◌, ◌≤◌, ℕ, inl, inr, List, [], Some, Result, Ok, Err, sym, ap, subst, ◌∙◌, refl}
-use Rattle.std.specs.Prelude.{IfOk, IfErr}
+use Rattle.std.specs.Prelude.{IfOk, IfErr, IsErrOf}
 use Rattle.std.proofs.lemmas.List.{append-nil}
 use Rattle.std.specs.List.{flat_map}
 use Rattle.session_model.specs.Meaning.{Meaning}
 use Rattle.session_core.specs.History.{Past, Connect}
 use Rattle.px_link.specs.Link.{Seen}
 use Rattle.px_link.specs.Net.{Place, NetSeen}
+use Rattle.px_link.specs.Told.{Rose}
+use Rattle.htx_drive.specs.Came.{FailsSo}
+use Rattle.htx_drive.specs.Driven.{failed_by}
 use Rattle.htx_drive.specs.Machine.{CoreSeen}
 use Rattle.htx_drive.specs.Dialled.{Dials}
 use Rattle.htx_drive.specs.Ran.{RanSo, GaveUp}
@@ -29,7 +32,7 @@ dials_visits to first now connects d =
       told = λ answers kept a k. let t = d.told answers kept a k in (t.left, flat_map (λ dial. dial.kept) t.dials, t.answers, t.kept);
     }
 
-visits_none : (to : Place) (net : NetSeen) → Visits to net net
+pub visits_none : (to : Place) (net : NetSeen) → Visits to net net
 visits_none to net =
     record {
       lent = refl;
@@ -56,6 +59,22 @@ drove_puts meaning stands core_seen seen wrote cfg to first client first_net net
 drove_puts meaning stands core_seen seen wrote cfg to first client first_net net (Err fault) (inl h) = let so = h.1 in (so.past.taken, so.put.wrote)
 drove_puts meaning stands core_seen seen wrote cfg to first client first_net net (Err fault) (inr h) =
     ([], λ bytes w. subst (wrote client) (sym (append-nil bytes)) (h.same bytes w))
+
+rose_by : (fault : SessionFault) (first now : Seen) → FailsSo first now (failed_by fault) → fault ≡ faults.ClientWrite → Rose first.write_faults now.write_faults
+rose_by fault first now fails e = subst (λ (f : SessionFault). FailsSo first now (failed_by f)) e fails
+
+pub drove_fault : {Settings C L : Type 0} (meaning : Settings → Meaning) (stands : Settings → C → Past → Type 0) (core_seen : C → CoreSeen) (seen : L → Seen) (wrote : L → List ℕ → Type 0)
+    (cfg : Settings) (to : Place) (first client : L) (first_net net : NetSeen) (result : Result Ran SessionFault)
+    → Drove meaning stands core_seen seen wrote cfg to first client first_net net result → IsErrOf result faults.ClientWrite → Rose (seen first).write_faults (seen client).write_faults
+drove_fault meaning stands core_seen seen wrote cfg to first client first_net net (Ok ran) h e = cc
+drove_fault meaning stands core_seen seen wrote cfg to first client first_net net (Err fault) (inl h) e =
+    let so = h.1 in
+    let is : fault ≡ faults.ClientWrite = cc in
+    rose_by fault (seen first) (seen client) so.put.fails is
+drove_fault meaning stands core_seen seen wrote cfg to first client first_net net (Err fault) (inr h) e =
+    let is : fault ≡ faults.ClientWrite = cc in
+    let two : faults.OutOfMemory ≡ faults.ClientWrite = sym h.memory ∙ is in
+    cc
 
 -- the driver's clauses, as one
 pub drove_by : {Settings C L : Type 0} (meaning : Settings → Meaning) (stands : Settings → C → Past → Type 0) (core_seen : C → CoreSeen) (seen : L → Seen) (wrote : L → List ℕ → Type 0)

@@ -1,5 +1,5 @@
 -- How serving ends.
-use Rattle.std.proofs.Common.{◌≡◌, ℕ, ◌<◌, ◌≤◌, inl, inr, List, [], ◌++◌, length, Option, Some, Result, Ok, Err, sym, ap, subst, ◌∙◌, refl}
+use Rattle.std.proofs.Common.{◌≡◌, ℕ, ◌<◌, inl, inr, List, [], ◌++◌, length, Option, Some, Result, Ok, Err, sym, ap, subst, ◌∙◌, refl}
 use Rattle.std.proofs.lemmas.List.{append-nil}
 use Rattle.px_link.specs.declared.fault.Fault.TheVariants as faults
 use Rattle.px_link.specs.Told.{Rose, Gains, GainsFront}
@@ -9,7 +9,7 @@ use Rattle.px_link.specs.Link.{Seen}
 use Rattle.px_link.specs.Net.{Place, Coming, Kept, NetSeen, AcceptFailed, Binds}
 use Rattle.serve_run.specs.declared.outcome.Outcome.{Outcome}
 use Rattle.serve_run.specs.Lines.{lines_from, net_line}
-use Rattle.serve_run.specs.Served.{ServedOne, Serves, ServedAll, StopsAt, NetFails, Breaks}
+use Rattle.serve_run.specs.Served.{ServedOne, Serves, ServedAll, NetFails, Breaks}
 use Rattle.serve_run.specs.Told.{Visited}
 use Rattle.serve_run.proofs.Chain.{visited}
 use Rattle.serve_run.proofs.Outputs.{gains_none, gains_as, front_then, front_as}

@@ -1,4 +1,5 @@
 pub mod Lines
+pub mod Met
 pub mod Visits
 pub mod Served
 pub mod Told

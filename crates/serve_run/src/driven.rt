@@ -1,16 +1,18 @@
-//! Sessions that the driver runs, each over a core of its own.
-ghost use Rattle.std.specs.Prelude.{◌≡◌, [], false, Option, IfOk, OnOk};
+//! Sessions that the driver runs, each over a core of its own, once it is known who asks.
+ghost use Rattle.std.specs.Prelude.{◌≡◌, ℕ, [], false, List, Option, IfOk, OnOk};
 ghost use Rattle.px_peer.specs.declared.Peer.{Peer};
 ghost use Rattle.session_core.specs.History.{Past, nothing_yet};
+ghost use Rattle.px_link.specs.Link.{with_close};
 ghost use Rattle.px_link.specs.Net.{address_of};
 ghost use Rattle.serve_run.specs.Drove.{Drove};
+ghost use Rattle.serve_run.specs.Met.{MeetsAndServes, unheard};
 
 use crate::{Ran, SessionFault, Sessions};
 use htx_drive::weave::ResetsFor;
 use htx_drive::{MOST_READ, Machine, Resources, run_session};
-use px_link::{Address, Close, Link, Net, OutOfMemory, Turn, Turns};
+use px_link::{Address, Close, End, Link, Net, OutOfMemory, Turn, Turns};
 use px_peer::Peer;
-use px_proxyproto::HasPeer;
+use px_proxyproto::{HasPeer, Met, meet};
 use std::marker::PhantomData;
 
 /// Makes a core for each connection, and takes it back where its session came to its end.
@@ -39,6 +41,8 @@ pub struct Driven<'a, C, O> {
     pub opener: O,
     /// Where the servers are.
     pub to: &'a Address,
+    /// Whether each client's stream begins with a header of the PROXY protocol, which then says who asks.
+    pub accepts_header: bool,
     /// What each session reads into, with a budget of its own.
     resources: Resources,
     core: PhantomData<C>,
@@ -46,13 +50,15 @@ pub struct Driven<'a, C, O> {
 
 impl<'a, C: ResetsFor, O: Opens<C>> Driven<'a, C, O> {
     /// Sessions over cores of this opener.
-    pub fn new(opener: O, to: &'a Address) -> Self
+    pub fn new(opener: O, to: &'a Address, accepts_header: bool) -> Self
         ensures opener { result.opener ≡ opener }
         ensures to { result.to.now ≡ to.now }
+        ensures accepts_header { result.accepts_header ≡ accepts_header }
     {
         Driven {
             opener,
             to,
+            accepts_header,
             resources: Resources {
                 left: BUDGET,
                 buffer: [0; MOST_READ],
@@ -122,32 +128,65 @@ fn drive_and_keep<C: ResetsFor + Drop, N: Net, O: Opens<C>>(
     }
 }
 
+/// Runs the session of a caller of this peer, over a core that the opener makes.
+fn serve_caller<C: ResetsFor + Drop, N: Net, O: Opens<C>>(
+    opener: &mut O,
+    to: &Address,
+    peer: Option<Peer>,
+    client: &mut N::Link,
+    net: &mut N,
+    resources: &mut Resources,
+) -> Result<Ran, SessionFault>
+    ensures drove { Drove C.meaning C.stands C.seen N.Link.seen N.Link.wrote (C.for_peer (O.settings opener.old) peer) (address_of to.now) client.old client.new (N.seen net.old) (N.seen net.new) result }
+    ensures settings { O.settings opener.new ≡ O.settings opener.old }
+{
+    match opener.open(peer) {
+        Ok(core) => drive_and_keep(opener, core, to, client, net, resources),
+        Err(OutOfMemory) => {
+            client.close(Close::Failed);
+            Err(SessionFault::OutOfMemory)
+        }
+    }
+}
+
+/// Closes the link of a client that isn't heard. Nothing is sent to anybody.
+fn turn_away<L: Link>(client: &mut L) -> Ran
+    ensures ran { result ≡ unheard }
+    ensures closed { L.seen client.new ≡ with_close (L.seen client.old) Close.Failed }
+    ensures wrote { (bytes : List ℕ) → L.wrote client.old bytes → L.wrote client.new bytes }
+{
+    client.close(Close::Failed);
+    Ran {
+        end: End::Closed,
+        exchanges: 0,
+        begun_cut: None,
+    }
+}
+
 impl<'a, L: Link + HasPeer, N: Net<Link = L>, C: ResetsFor + Drop, O: Opens<C>> Sessions<N>
     for Driven<'a, C, O> {
-    type Settings = (C::Settings, Address);
+    type Settings = (C::Settings, Address, bool);
 
-    ghost settings = { λ sessions. (O.settings sessions.opener, sessions.to.now) };
+    ghost settings = { λ sessions. (O.settings sessions.opener, sessions.to.now, sessions.accepts_header) };
 
     ghost to = { λ settings. address_of settings.1 };
 
     ghost session = { λ settings first client first_net net result.
-        (peer : Option Peer) × L.tells first peer × Drove C.meaning C.stands C.seen L.seen L.wrote (C.for_peer settings.0 peer) (address_of settings.1) first client (N.seen first_net) (N.seen net) result };
+        MeetsAndServes L.tells settings.2 L.seen L.wrote
+        (λ peer begins client first_net net result. Drove C.meaning C.stands C.seen L.seen L.wrote (C.for_peer settings.0 peer) (address_of settings.1) begins client first_net net result)
+        first client (N.seen first_net) (N.seen net) result };
 
     fn run(&mut self, client: &mut L, net: &mut N) -> Result<Ran, SessionFault> {
-        let peer = client.peer();
-        match self.opener.open(peer) {
-            Ok(core) => drive_and_keep(
+        match meet(client, self.accepts_header) {
+            Met::Caller(peer) => serve_caller::<C, N, O>(
                 &mut self.opener,
-                core,
                 self.to,
+                peer,
                 client,
                 net,
                 &mut self.resources,
             ),
-            Err(OutOfMemory) => {
-                client.close(Close::Failed);
-                Err(SessionFault::OutOfMemory)
-            }
+            Met::Refused => Ok(turn_away(client)),
         }
     }
 }

@@ -1,31 +1,50 @@
-use Rattle.std.proofs.Common.{sym, subst}
-use Rattle.session_core.specs.History.{nothing_yet}
+use Rattle.std.proofs.Common.{refl}
 use Rattle.px_link.specs.Net.{address_of}
-use Rattle.serve_run.specs.Drove.{Drove}
-use Rattle.serve_run.proofs.Drives.{drove_visits, drove_puts}
+use Rattle.px_proxyproto.specs.declared.meeting.Met.TheVariants as met
+use Rattle.serve_run.specs.Met.{MetSo, TurnedAway}
+use Rattle.serve_run.proofs.Drives.{drove_visits, drove_puts, drove_fault, visits_none}
+use Rattle.serve_run.proofs.Meetings.{rose_behind, puts_behind, turned_puts}
 use Rattle.serve_run.proofs.driven.DrivenSessions.run.Goals as goal
 
-pub drive_and_keep-requires-clause-stands : goal.drive_and_keep-requires-clause-stands
-drive_and_keep-requires-clause-stands g c = (
-  c.peer-peer.result,
-  subst (λ s. g.C.Machine.stands (g.C.ResetsFor.for_peer s c.peer-peer.result) c.in-Ok.core nothing_yet) (sym c.open.ensures.settings) c.in-Ok.ensures.stands,
-)
+pub returns-in-Caller-clause-session : goal.returns-in-Caller-clause-session
+returns-in-Caller-clause-session g c =
+    record {
+      begins = c.meet.new.link;
+      how = met.Caller c.in-Caller.peer;
+      so = record { meets = c.in-Caller.ensures.meets; written = c.in-Caller.ensures.wrote };
+      served = c.serve_caller.ensures.drove;
+    }
 
-pub returns-in-Ok-clause-session : goal.returns-in-Ok-clause-session
-returns-in-Ok-clause-session g c =
-    let stands = subst (λ s. g.C.Machine.stands (g.C.ResetsFor.for_peer s c.peer-peer.result) c.in-Ok.core nothing_yet) (sym c.open.ensures.settings) c.in-Ok.ensures.stands in (
-      c.peer-peer.result,
-      c.peer-peer.ensures,
-      subst (λ s. Drove g.C.Machine.meaning g.C.Machine.stands g.C.Machine.seen g.L.Link.seen g.L.Link.wrote (g.C.ResetsFor.for_peer s c.peer-peer.result) (address_of c.args.self.now.to.now) c.args.client.now c.drive_and_keep.new.client (g.N.Net.seen c.args.net.now) (g.N.Net.seen c.drive_and_keep.new.net) c.drive_and_keep.result)
-          c.open.ensures.settings (c.drive_and_keep.ensures.drove c.peer-peer.result stands),
-    )
+pub returns-in-Caller-clause-visits : goal.returns-in-Caller-clause-visits
+returns-in-Caller-clause-visits g c = drove_visits g.C.Machine.meaning g.C.Machine.stands g.C.Machine.seen g.L.Link.seen g.L.Link.wrote _ _ _ _ _ _ _ c.serve_caller.ensures.drove
 
-pub returns-in-Ok-clause-visits : goal.returns-in-Ok-clause-visits
-returns-in-Ok-clause-visits g c =
-    let stands = subst (λ s. g.C.Machine.stands (g.C.ResetsFor.for_peer s c.peer-peer.result) c.in-Ok.core nothing_yet) (sym c.open.ensures.settings) c.in-Ok.ensures.stands in
-    drove_visits g.C.Machine.meaning g.C.Machine.stands g.C.Machine.seen g.L.Link.seen g.L.Link.wrote _ _ _ _ _ _ _ (c.drive_and_keep.ensures.drove c.peer-peer.result stands)
+pub returns-in-Caller-clause-puts : goal.returns-in-Caller-clause-puts
+returns-in-Caller-clause-puts g c =
+    let so : MetSo g.L.HasPeer.tells c.args.self.now.accepts_header g.L.Link.seen g.L.Link.wrote c.args.client.now c.meet.new.link (met.Caller c.in-Caller.peer) = record { meets = c.in-Caller.ensures.meets; written = c.in-Caller.ensures.wrote } in
+    puts_behind g.L.HasPeer.tells c.args.self.now.accepts_header g.L.Link.seen g.L.Link.wrote c.args.client.now c.meet.new.link c.serve_caller.new.client (met.Caller c.in-Caller.peer) so
+    (drove_puts g.C.Machine.meaning g.C.Machine.stands g.C.Machine.seen g.L.Link.seen g.L.Link.wrote _ _ _ _ _ _ _ c.serve_caller.ensures.drove)
 
-pub returns-in-Ok-clause-puts : goal.returns-in-Ok-clause-puts
-returns-in-Ok-clause-puts g c =
-    let stands = subst (λ s. g.C.Machine.stands (g.C.ResetsFor.for_peer s c.peer-peer.result) c.in-Ok.core nothing_yet) (sym c.open.ensures.settings) c.in-Ok.ensures.stands in
-    drove_puts g.C.Machine.meaning g.C.Machine.stands g.C.Machine.seen g.L.Link.seen g.L.Link.wrote _ _ _ _ _ _ _ (c.drive_and_keep.ensures.drove c.peer-peer.result stands)
+pub returns-in-Caller-clause-fault : goal.returns-in-Caller-clause-fault
+returns-in-Caller-clause-fault g c = λ e.
+    let so : MetSo g.L.HasPeer.tells c.args.self.now.accepts_header g.L.Link.seen g.L.Link.wrote c.args.client.now c.meet.new.link (met.Caller c.in-Caller.peer) = record { meets = c.in-Caller.ensures.meets; written = c.in-Caller.ensures.wrote } in
+    rose_behind g.L.HasPeer.tells c.args.self.now.accepts_header g.L.Link.seen g.L.Link.wrote c.args.client.now c.meet.new.link (met.Caller c.in-Caller.peer) _ so
+    (drove_fault g.C.Machine.meaning g.C.Machine.stands g.C.Machine.seen g.L.Link.seen g.L.Link.wrote _ _ _ _ _ _ _ c.serve_caller.ensures.drove e)
+
+pub returns-in-Refused-clause-session : goal.returns-in-Refused-clause-session
+returns-in-Refused-clause-session g c =
+    record {
+      begins = c.meet.new.link;
+      how = met.Refused;
+      so = record { meets = c.in-Refused.ensures.meets; written = c.in-Refused.ensures.wrote };
+      served = record { is_unheard = c.turn_away.ensures.ran; closed = c.turn_away.ensures.closed; written = c.turn_away.ensures.wrote; untouched = refl };
+    }
+
+pub returns-in-Refused-clause-visits : goal.returns-in-Refused-clause-visits
+returns-in-Refused-clause-visits g c = visits_none (address_of c.args.self.now.to.now) (g.N.Net.seen c.args.net.now)
+
+pub returns-in-Refused-clause-puts : goal.returns-in-Refused-clause-puts
+returns-in-Refused-clause-puts g c =
+    let so : MetSo g.L.HasPeer.tells c.args.self.now.accepts_header g.L.Link.seen g.L.Link.wrote c.args.client.now c.meet.new.link met.Refused = record { meets = c.in-Refused.ensures.meets; written = c.in-Refused.ensures.wrote } in
+    let turned : TurnedAway g.L.Link.seen g.L.Link.wrote c.meet.new.link c.turn_away.new.client (g.N.Net.seen c.args.net.now) (g.N.Net.seen c.args.net.now) c.turn_away.result =
+    record { is_unheard = c.turn_away.ensures.ran; closed = c.turn_away.ensures.closed; written = c.turn_away.ensures.wrote; untouched = refl } in
+    puts_behind g.L.HasPeer.tells c.args.self.now.accepts_header g.L.Link.seen g.L.Link.wrote c.args.client.now c.meet.new.link c.turn_away.new.client met.Refused so (turned_puts g.L.Link.seen g.L.Link.wrote c.meet.new.link c.turn_away.new.client _ _ _ turned)
