@@ -3,9 +3,9 @@ ghost use Rattle.std.specs.Prelude.{◌≡◌, ◌<◌, ◌≤◌, ℕ, List, tr
 ghost use Rattle.session_core.specs.History.{Past};
 ghost use Rattle.px_link.specs.Net.{address_of};
 ghost use Rattle.px_link.specs.declared.turns.Turn.{Turn};
-ghost use Rattle.htx_drive.specs.Driven.{Idle, Rests, Left, Ends};
-ghost use Rattle.htx_drive.specs.Turned.{StandsIn, WorkedIn};
-ghost use Rattle.htx_drive.specs.Dialled.{Served, Goes, Dials};
+ghost use Rattle.htx_drive.specs.Driven.{Idle, Left};
+ghost use Rattle.htx_drive.specs.Dialled.{Served};
+ghost use Rattle.htx_drive.specs.Underway.{ComesTo, RestsIn, RestsWorked, Exchanges};
 
 use crate::resources::Resources;
 use crate::serve::serve;
@@ -26,8 +26,8 @@ fn with_link<C: Machine, L: Link, N: Net<Link = L>, T: Turns>(
     requires lent { 0 < (N.seen net.old).lent }
     requires sound { C.sound core.old }
     ensures sound { OnOk result (C.sound core.new) }
-    ensures goes { (cfg : C.Settings) (all : List Turn) (budget : ℕ) (first : L) (past : Past) → Idle (Rests (WorkedIn (C.stands cfg) C.seen all (T.left turns.old) budget resources.old.left core.old)) L.seen L.wrote first client.old false past
-        → Ends result (λ _. Served (Rests (StandsIn (C.stands cfg) C.seen all (T.left turns.new) budget resources.new.left core.new)) L.seen L.wrote first client.new false lent (N.seen net.old) (N.seen net.new) past resources.old.left resources.new.left) (λ failed. Served (Left (C.meaning cfg) (C.stands cfg) C.seen all (T.left turns.new) budget resources.new.left core.new) L.seen L.wrote first client.new failed lent (N.seen net.old) (N.seen net.new) past resources.old.left resources.new.left) }
+    ensures goes { (cfg : C.Settings) (all : List Turn) (budget : ℕ) (first : L) (past : Past) → Idle (RestsWorked (C.stands cfg) C.seen all (T.left turns.old) budget resources.old.left core.old) L.seen L.wrote first client.old false past
+        → ComesTo result RestsIn (Left (C.meaning cfg)) (C.stands cfg) C.seen all (T.left turns.new) budget resources.new.left core.new (λ S failed. Served S L.seen L.wrote first client.new failed lent (N.seen net.old) (N.seen net.new) past resources.old.left resources.new.left) }
     ensures serving { OnOk result ((C.seen core.new).serving ≡ false) }
     ensures fewer { length (T.left turns.new) ≤ length (T.left turns.old) }
     ensures spends { resources.new.left < resources.old.left }
@@ -64,8 +64,7 @@ pub(crate) fn exchange<C: Machine, L: Link, N: Net<Link = L>, T: Turns>(
     requires some { 0 < resources.old.left }
     requires sound { C.sound core.old }
     ensures sound { OnOk result (C.sound core.new) }
-    ensures goes { (cfg : C.Settings) (all : List Turn) (budget : ℕ) (first : L) (first_net : N) (past : Past) → Idle (Rests (WorkedIn (C.stands cfg) C.seen all (T.left turns.old) budget resources.old.left core.old)) L.seen L.wrote first client.old false past → Dials (address_of to.now) (N.seen first_net) (N.seen net.old) past.connects
-        → Ends result (λ _. Goes (Rests (StandsIn (C.stands cfg) C.seen all (T.left turns.new) budget resources.new.left core.new)) L.seen L.wrote first client.new false (address_of to.now) (N.seen first_net) (N.seen net.new) past resources.old.left resources.new.left) (λ failed. Goes (Left (C.meaning cfg) (C.stands cfg) C.seen all (T.left turns.new) budget resources.new.left core.new) L.seen L.wrote first client.new failed (address_of to.now) (N.seen first_net) (N.seen net.new) past resources.old.left resources.new.left) }
+    ensures goes { Exchanges result RestsWorked RestsIn C.meaning C.stands C.seen L.seen L.wrote N.seen (address_of to.now) core.old core.new client.old client.new net.old net.new (T.left turns.old) (T.left turns.new) resources.old.left resources.new.left }
     ensures serving { OnOk result ((C.seen core.new).serving ≡ false) }
     ensures fewer { length (T.left turns.new) ≤ length (T.left turns.old) }
     ensures spends { resources.new.left ≤ resources.old.left }

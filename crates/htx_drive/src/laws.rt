@@ -1,9 +1,9 @@
 //! What follows for every core.
-ghost use Rattle.std.specs.Prelude.{ℕ, ◌≡◌, ◌≤◌, ◌<◌, List, Option, Some, length, sum_by};
+ghost use Rattle.std.specs.Prelude.{ℕ, ◌≡◌, ◌≤◌, ◌<◌, List, Option, Some, length};
 ghost use Rattle.session_core.specs.Consequences.{IsTotal};
 ghost use Rattle.session_core.specs.MeaningLaws.Bound.{IsBounded};
 ghost use Rattle.px_link.specs.Net.{Coming, Kept, Place};
-ghost use Rattle.htx_drive.specs.Budget.{HasRequests, coming_size, enough};
+ghost use Rattle.htx_drive.specs.Budget.{HasRequests, WithTexts};
 ghost use Rattle.htx_drive.specs.Came.{Came};
 ghost use Rattle.htx_drive.specs.Machine.{TookFront};
 ghost use Rattle.htx_drive.specs.Driven.{moved};
@@ -19,20 +19,14 @@ use crate::{Link, Machine, Net, SessionFault};
 /// What a history moved is less than is enough for the texts of its links: of what was taken as a front, over links and a net that are told.
 pub fn moved_is_bounded<C: Machine, L: Link, N: Net<Link = L>>()
     ensures { (cfg : C.Settings) (first client : L) (to : Place) (first_net net : N) (bytes : List ℕ) (requests : ℕ) (answers : List (Option Coming)) (kept : List Kept) (past : Past)
-        → IsBounded (C.meaning cfg) → 1 ≤ (C.meaning cfg).limits.bufsize → HasRequests (C.meaning cfg) bytes requests
-        → (L.seen first).to_come ≡ Some bytes → (N.seen first_net).answers ≡ Some answers → (N.seen first_net).kept ≡ Some kept
-        → TookFront (C.meaning cfg) past → Came (L.seen first) (L.seen client) past.client → Dials to (N.seen first_net) (N.seen net) past.connects
-        → moved past < enough (length bytes) (sum_by coming_size answers) requests (C.meaning cfg).limits.bufsize }
+        → WithTexts (C.meaning cfg) (L.seen first) (N.seen first_net) bytes requests answers kept (λ most. TookFront (C.meaning cfg) past → Came (L.seen first) (L.seen client) past.client → Dials to (N.seen first_net) (N.seen net) past.connects → moved past < most) }
 {}
 
 /// With a budget that is enough, no session is given up as spent: for every core, for turns of any number, and for links that take
 /// one byte a write.
 pub fn enough_is_never_spent<C: Machine, L: Link, N: Net<Link = L>>()
     ensures { (cfg : C.Settings) (core : C) (first client : L) (to : Place) (first_net net : N) (budget : ℕ) (bytes : List ℕ) (requests : ℕ) (answers : List (Option Coming)) (kept : List Kept)
-        → IsBounded (C.meaning cfg) → 1 ≤ (C.meaning cfg).limits.bufsize → HasRequests (C.meaning cfg) bytes requests
-        → (L.seen first).to_come ≡ Some bytes → (N.seen first_net).answers ≡ Some answers → (N.seen first_net).kept ≡ Some kept
-        → enough (length bytes) (sum_by coming_size answers) requests (C.meaning cfg).limits.bufsize ≤ budget
-        → GaveUp (C.meaning cfg) (C.stands cfg) core (C.seen core).lost L.seen L.wrote first client to (N.seen first_net) (N.seen net) budget SessionFault.Spent → ⊥ }
+        → WithTexts (C.meaning cfg) (L.seen first) (N.seen first_net) bytes requests answers kept (λ most. most ≤ budget → GaveUp (C.meaning cfg) (C.stands cfg) core (C.seen core).lost L.seen L.wrote first client to (N.seen first_net) (N.seen net) budget SessionFault.Spent → ⊥) }
 {}
 
 /// A stream makes no more exchanges than it has bytes and one more, since each but the last takes a head. So the bytes of a

@@ -6,13 +6,18 @@ mod cores;
 pub mod laws;
 pub(crate) mod links;
 pub(crate) mod outcome;
+mod over_cores;
 pub(crate) mod record_net;
+mod replayer;
+mod reports;
 mod sessions;
 pub(crate) mod streams;
 mod texts;
 mod turns;
 
 pub use cores::Cores;
+pub use replayer::Replayer;
+pub use reports::report_text;
 pub use sessions::{replay, replay_connection, replay_streams};
 pub use streams::Streams;
 pub use texts::{drill_text, replay_text};

@@ -2,8 +2,9 @@
 ghost use Rattle.std.specs.Prelude.{◌≡◌, ◌<◌, ◌≤◌, ℕ, List, Some, None, true, false, length, IfOk, OnOk, IsErrOf};
 ghost use Rattle.session_core.specs.History.{Past, Connect};
 ghost use Rattle.px_link.specs.declared.turns.Turn.{Turn};
-ghost use Rattle.htx_drive.specs.Driven.{Hand, HandGoes, Left, Ends, paid_by, paid_more};
-ghost use Rattle.htx_drive.specs.Turned.{StandsIn, WorkedIn, FailsIn};
+ghost use Rattle.htx_drive.specs.Driven.{Hand, HandGoes, Left};
+ghost use Rattle.htx_drive.specs.Turned.{StandsIn, WorkedIn};
+ghost use Rattle.htx_drive.specs.Underway.{TakesOne, ComesTo};
 ghost use Rattle.htx_drive.specs.Acts.{moves_bytes};
 
 use crate::resources::{MOST_READ, Resources};
@@ -27,8 +28,8 @@ fn serve_turn<C: Machine, L: Link, T: Turns>(
     requires going { wants.now.over ≡ None }
     requires sound { C.sound core.old }
     ensures sound { OnOk result (C.sound core.new) }
-    ensures goes { (cfg : C.Settings) (all : List Turn) (budget spare : ℕ) (first first_link : L) (before : List Connect) (past : Past) (c : Connect) → Hand (WorkedIn (C.stands cfg) C.seen all (T.left turns.old) budget spare core.old) L.seen L.wrote first client.old first_link link.old false before past c
-        → Ends result (λ moved. HandGoes (StandsIn (C.stands cfg) C.seen all (T.left turns.new) (paid_more moved budget) spare core.new) L.seen L.wrote first client.new first_link link.new false before past (paid_by moved) 0) (λ failed. HandGoes (FailsIn (C.stands cfg) C.seen all (T.left turns.new) budget spare core.new) L.seen L.wrote first client.new first_link link.new failed before past 0 0) }
+    ensures goes { (cfg : C.Settings) (all : List Turn) (budget spare : ℕ) (first first_link : L) (before : List Connect) (past : Past) (c : Connect) → TakesOne result (C.stands cfg) C.seen all (T.left turns.old) (T.left turns.new) budget spare core.old core.new
+        (λ S. Hand S L.seen L.wrote first client.old first_link link.old false before past c) (λ S failed had has. HandGoes S L.seen L.wrote first client.new first_link link.new failed before past had has) }
     ensures serving { (C.seen core.new).serving ≡ (C.seen core.old).serving }
     ensures fewer { length (T.left turns.new) ≤ length (T.left turns.old) }
     ensures less { IfOk result (λ moved. moved ≡ false → length (T.left turns.new) < length (T.left turns.old)) }
@@ -50,7 +51,7 @@ pub(crate) fn serve<C: Machine, L: Link, T: Turns>(
     requires sound { C.sound core.old }
     ensures sound { OnOk result (C.sound core.new) }
     ensures goes { (cfg : C.Settings) (all : List Turn) (budget : ℕ) (first first_link : L) (before : List Connect) (past : Past) (c : Connect) → Hand (StandsIn (C.stands cfg) C.seen all (T.left turns.old) budget resources.old.left core.old) L.seen L.wrote first client.old first_link link.old false before past c
-        → Ends result (λ _. HandGoes (WorkedIn (C.stands cfg) C.seen all (T.left turns.new) budget resources.new.left core.new) L.seen L.wrote first client.new first_link link.new false before past resources.old.left resources.new.left) (λ failed. HandGoes (Left (C.meaning cfg) (C.stands cfg) C.seen all (T.left turns.new) budget resources.new.left core.new) L.seen L.wrote first client.new first_link link.new failed before past resources.old.left resources.new.left) }
+        → ComesTo result WorkedIn (Left (C.meaning cfg)) (C.stands cfg) C.seen all (T.left turns.new) budget resources.new.left core.new (λ S failed. HandGoes S L.seen L.wrote first client.new first_link link.new failed before past resources.old.left resources.new.left) }
     ensures how { IfOk result (λ how. (C.seen core.new).wants.server_close ≡ Some how) }
     ensures fewer { length (T.left turns.new) ≤ length (T.left turns.old) }
     ensures spends { resources.new.left ≤ resources.old.left }

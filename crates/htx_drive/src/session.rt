@@ -6,9 +6,9 @@ ghost use Rattle.session_core.specs.History.{Past, nothing_yet};
 ghost use Rattle.px_link.specs.Net.{address_of};
 ghost use Rattle.htx_drive.specs.Acts.{moves_bytes};
 ghost use Rattle.px_link.specs.declared.turns.Turn.{Turn};
-ghost use Rattle.htx_drive.specs.Driven.{Idle, IdleGoes, Rests, Left, Ends, paid_by, paid_more};
+ghost use Rattle.htx_drive.specs.Driven.{Idle, IdleGoes};
 ghost use Rattle.htx_drive.specs.Turned.{InTurns, UpToAFault, turns_up_to, StandsIn, WorkedIn, FailsIn};
-ghost use Rattle.htx_drive.specs.Dialled.{Goes, Dials};
+ghost use Rattle.htx_drive.specs.Underway.{TakesOne, ComesTo, RestsIn, RestsWorked, Exchanges};
 ghost use Rattle.htx_drive.specs.Ran.{RanSo, GaveUp};
 
 use crate::exchange::exchange;
@@ -34,8 +34,8 @@ fn client_turn<C: Machine, L: Link, T: Turns>(
     requires no_write { wants.now.server_write ≡ false }
     requires sound { C.sound core.old }
     ensures sound { OnOk result (C.sound core.new) }
-    ensures goes { (cfg : C.Settings) (all : List Turn) (budget spare : ℕ) (first : L) (past : Past) → Idle (WorkedIn (C.stands cfg) C.seen all (T.left turns.old) budget spare core.old) L.seen L.wrote first client.old false past
-        → Ends result (λ moved. IdleGoes (StandsIn (C.stands cfg) C.seen all (T.left turns.new) (paid_more moved budget) spare core.new) L.seen L.wrote first client.new false past (paid_by moved) 0) (λ failed. IdleGoes (FailsIn (C.stands cfg) C.seen all (T.left turns.new) budget spare core.new) L.seen L.wrote first client.new failed past 0 0) }
+    ensures goes { (cfg : C.Settings) (all : List Turn) (budget spare : ℕ) (first : L) (past : Past) → TakesOne result (C.stands cfg) C.seen all (T.left turns.old) (T.left turns.new) budget spare core.old core.new
+        (λ S. Idle S L.seen L.wrote first client.old false past) (λ S failed had has. IdleGoes S L.seen L.wrote first client.new failed past had has) }
     ensures serving { (C.seen core.new).serving ≡ (C.seen core.old).serving }
     ensures fewer { length (T.left turns.new) ≤ length (T.left turns.old) }
     ensures less { IfOk result (λ moved. moved ≡ false → length (T.left turns.new) < length (T.left turns.old)) }
@@ -64,7 +64,7 @@ fn idle_turn<C: Machine, L: Link, T: Turns>(
     requires sound { C.sound core.old }
     ensures sound { OnOk result (C.sound core.new) }
     ensures goes { (cfg : C.Settings) (all : List Turn) (budget : ℕ) (first : L) (past : Past) → Idle (WorkedIn (C.stands cfg) C.seen all (T.left turns.old) budget resources.old.left core.old) L.seen L.wrote first client.old false past
-        → Ends result (λ _. IdleGoes (StandsIn (C.stands cfg) C.seen all (T.left turns.new) budget resources.new.left core.new) L.seen L.wrote first client.new false past resources.old.left resources.new.left) (λ failed. IdleGoes (FailsIn (C.stands cfg) C.seen all (T.left turns.new) budget resources.new.left core.new) L.seen L.wrote first client.new failed past resources.old.left resources.new.left) }
+        → ComesTo result StandsIn FailsIn (C.stands cfg) C.seen all (T.left turns.new) budget resources.new.left core.new (λ S failed. IdleGoes S L.seen L.wrote first client.new failed past resources.old.left resources.new.left) }
     ensures serving { (C.seen core.new).serving ≡ (C.seen core.old).serving }
     ensures less { OnOk result (resources.new.left + length (T.left turns.new) < resources.old.left + length (T.left turns.old)) }
     ensures unspent { IsErrOf result SessionFault.Spent → ⊥ }
@@ -91,8 +91,7 @@ fn exchanges<C: Machine, L: Link, N: Net<Link = L>, T: Turns>(
     requires serving { (C.seen core.old).serving ≡ false }
     requires sound { C.sound core.old }
     ensures sound { OnOk result (C.sound core.new) }
-    ensures goes { (cfg : C.Settings) (all : List Turn) (budget : ℕ) (first : L) (first_net : N) (past : Past) → Idle (Rests (StandsIn (C.stands cfg) C.seen all (T.left turns.old) budget resources.old.left core.old)) L.seen L.wrote first client.old false past → Dials (address_of to.now) (N.seen first_net) (N.seen net.old) past.connects
-        → Ends result (λ _. Goes (Rests (WorkedIn (C.stands cfg) C.seen all (T.left turns.new) budget resources.new.left core.new)) L.seen L.wrote first client.new false (address_of to.now) (N.seen first_net) (N.seen net.new) past resources.old.left resources.new.left) (λ failed. Goes (Left (C.meaning cfg) (C.stands cfg) C.seen all (T.left turns.new) budget resources.new.left core.new) L.seen L.wrote first client.new failed (address_of to.now) (N.seen first_net) (N.seen net.new) past resources.old.left resources.new.left) }
+    ensures goes { Exchanges result RestsIn RestsWorked C.meaning C.stands C.seen L.seen L.wrote N.seen (address_of to.now) core.old core.new client.old client.new net.old net.new (T.left turns.old) (T.left turns.new) resources.old.left resources.new.left }
     ensures over { IfOk result (λ how. (C.seen core.new).wants.over ≡ Some how) }
     ensures spent { IsErrOf result SessionFault.Spent → resources.new.left ≡ 0 }
 {

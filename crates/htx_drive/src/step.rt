@@ -1,13 +1,14 @@
 //! A session in steps, for whoever runs many of them: it works, and then is over, opens or closes a server, or takes one turn.
-ghost use Rattle.std.specs.Prelude.{◌≡◌, ◌<◌, ◌≤◌, ◌+◌, ℕ, Bool, List, Some, None, true, false, is_some, IfOk, OnOk, IsErrOf};
+ghost use Rattle.std.specs.Prelude.{◌≡◌, ◌<◌, ◌≤◌, ℕ, Bool, List, Some, None, true, false, is_some, IfOk, OnOk, IsErrOf};
 ghost use Rattle.session_core.specs.History.{Past};
 ghost use Rattle.px_link.specs.Net.{address_of, Place, NetSeen};
 ghost use Rattle.px_link.specs.declared.turns.Turn.{Turn};
 ghost use Rattle.px_link.specs.Turns.{first_of, rest_of};
-ghost use Rattle.htx_drive.specs.Driven.{Ends, moved};
+ghost use Rattle.htx_drive.specs.Driven.{moved};
 ghost use Rattle.htx_drive.specs.Acts.{moves_bytes};
-ghost use Rattle.htx_drive.specs.Turned.{StandsIn, WorkedIn};
-ghost use Rattle.htx_drive.specs.Underway.{Idles, Runs, Stopped, LeftSo, ahead_of, paid_with, OverSays, MovesBehind};
+ghost use Rattle.htx_drive.specs.Turned.{WorkedIn};
+ghost use Rattle.htx_drive.specs.Underway.{Idles, OverSays, MovesBehind, StepsTo, Steps};
+ghost use Rattle.htx_drive.specs.Weave.Single.{Working};
 
 use crate::resources::MOST_READ;
 use crate::turn::{turn_idle, turn_open};
@@ -43,7 +44,7 @@ pub(crate) fn open_server<C: Machine, L: Link, N: Net<Link = L>>(
     requires sound { C.sound core.old }
     ensures sound { OnOk result (C.sound core.new) }
     ensures goes { (cfg : C.Settings) (all ahead : List Turn) (budget : ℕ) (first client : L) (first_net : N) (past : Past) → Idles (WorkedIn (C.stands cfg) C.seen all ahead budget 0 core.old) L.seen L.wrote first client (address_of to.now) (N.seen first_net) (N.seen net.old) past → budget ≤ moved past
-        → Ends result (λ server. Runs (StandsIn (C.stands cfg) C.seen all ahead (1 + budget) 0 core.new) L.seen L.wrote first client server (address_of to.now) (N.seen first_net) (N.seen net.new) (1 + budget)) (λ failed. Stopped (LeftSo (C.meaning cfg) (C.stands cfg) C.seen all ahead budget core.new failed) L.seen L.wrote first client failed (address_of to.now) (N.seen first_net) (N.seen net.new) budget) }
+        → StepsTo result (λ _. Did.Opened) (λ server. server) (C.meaning cfg) (C.stands cfg) C.seen all ahead ahead core.new L.seen L.wrote first client (address_of to.now) (N.seen first_net) (N.seen net.new) budget }
     ensures serving { IfOk result (λ server. (C.seen core.new).serving ≡ is_some server) }
     ensures lent { IfOk result (λ server. is_some server ≡ true → 0 < (N.seen net.new).lent) }
     ensures kept { IsErrOf result SessionFault.ClientWrite → ⊥ }
@@ -72,8 +73,8 @@ fn asked<C: Machine, L: Link, N: Net<Link = L>>(
     requires sound { C.sound core.old }
     ensures sound { OnOk result (C.sound core.new) }
     ensures kept { IsErrOf result SessionFault.ClientWrite → ⊥ }
-    ensures goes { (cfg : C.Settings) (all ahead : List Turn) (budget : ℕ) (first client : L) (first_net : N) → Runs (WorkedIn (C.stands cfg) C.seen all ahead budget 0 core.old) L.seen L.wrote first client None (address_of to.now) (N.seen first_net) (N.seen net.old) budget
-        → Ends result (λ s. Runs (StandsIn (C.stands cfg) C.seen all (ahead_of s.did ahead) (paid_with s.did budget) 0 core.new) L.seen L.wrote first client s.server (address_of to.now) (N.seen first_net) (N.seen net.new) (paid_with s.did budget)) (λ failed. Stopped (LeftSo (C.meaning cfg) (C.stands cfg) C.seen all ahead budget core.new failed) L.seen L.wrote first client failed (address_of to.now) (N.seen first_net) (N.seen net.new) budget) }
+    ensures goes { (cfg : C.Settings) (all ahead : List Turn) (budget : ℕ) (first client : L) (first_net : N) → Working (C.stands cfg) C.seen all ahead core.old L.seen L.wrote first client None (address_of to.now) (N.seen first_net) (N.seen net.old) budget
+        → StepsTo result (λ s. s.did) (λ s. s.server) (C.meaning cfg) (C.stands cfg) C.seen all ahead ahead core.new L.seen L.wrote first client (address_of to.now) (N.seen first_net) (N.seen net.new) budget }
     ensures opened { IfOk result (λ s. s.did ≡ Did.Opened) }
     ensures unclosed { IfOk result (λ s. s.did ≡ Did.Closed → ⊥) }
     ensures serving { IfOk result (λ s. (C.seen core.new).serving ≡ is_some s.server) }
@@ -106,8 +107,8 @@ fn turned<C: Machine, L: Link>(
     requires no_write { wants.now.server_write ≡ false }
     requires sound { C.sound core.old }
     ensures sound { C.sound core.new }
-    ensures goes { (cfg : C.Settings) (all ahead : List Turn) (budget : ℕ) (first : L) (to : Place) (first_net net : NetSeen) → turn ≡ first_of ahead → Runs (WorkedIn (C.stands cfg) C.seen all ahead budget 0 core.old) L.seen L.wrote first client.old None to first_net net budget
-        → Ends result (λ s. Runs (StandsIn (C.stands cfg) C.seen all (ahead_of s.did ahead) (paid_with s.did budget) 0 core.new) L.seen L.wrote first client.new s.server to first_net net (paid_with s.did budget)) (λ failed. Stopped (LeftSo (C.meaning cfg) (C.stands cfg) C.seen all (rest_of ahead) budget core.new failed) L.seen L.wrote first client.new failed to first_net net budget) }
+    ensures goes { (cfg : C.Settings) (all ahead : List Turn) (budget : ℕ) (first : L) (to : Place) (first_net net : NetSeen) → turn ≡ first_of ahead → Working (C.stands cfg) C.seen all ahead core.old L.seen L.wrote first client.old None to first_net net budget
+        → StepsTo result (λ s. s.did) (λ s. s.server) (C.meaning cfg) (C.stands cfg) C.seen all ahead (rest_of ahead) core.new L.seen L.wrote first client.new to first_net net budget }
     ensures none { IfOk result (λ s. s.server ≡ None) }
     ensures unclosed { IfOk result (λ s. s.did ≡ Did.Closed → ⊥) }
     ensures did { IfOk result (λ s. (moved : Bool) × (s.did ≡ Did.Turned moved) × (turn ≡ None → moved ≡ true)) }
@@ -136,8 +137,7 @@ pub fn step_idle<C: Machine, L: Link, N: Net<Link = L>>(
     requires sound { C.sound core.old }
     ensures sound { OnOk result (C.sound core.new) }
     ensures kept { IsErrOf result SessionFault.ClientWrite → C.sound core.new }
-    ensures goes { (cfg : C.Settings) (all ahead : List Turn) (budget : ℕ) (first : L) (first_net : N) → turn ≡ first_of ahead → Runs (StandsIn (C.stands cfg) C.seen all ahead budget 0 core.old) L.seen L.wrote first client.old None (address_of to.now) (N.seen first_net) (N.seen net.old) budget
-        → Ends result (λ s. Runs (StandsIn (C.stands cfg) C.seen all (ahead_of s.did ahead) (paid_with s.did budget) 0 core.new) L.seen L.wrote first client.new s.server (address_of to.now) (N.seen first_net) (N.seen net.new) (paid_with s.did budget)) (λ failed. (left : List Turn) × Stopped (LeftSo (C.meaning cfg) (C.stands cfg) C.seen all left budget core.new failed) L.seen L.wrote first client.new failed (address_of to.now) (N.seen first_net) (N.seen net.new) budget) }
+    ensures goes { (cfg : C.Settings) (all ahead : List Turn) (budget : ℕ) (first : L) (first_net : N) → turn ≡ first_of ahead → Steps result (λ s. s.did) (λ s. s.server) (C.meaning cfg) (C.stands cfg) C.seen all ahead core.old core.new L.seen L.wrote first client.old client.new None (address_of to.now) (N.seen first_net) (N.seen net.old) (N.seen net.new) budget }
     ensures unclosed { IfOk result (λ s. s.did ≡ Did.Closed → ⊥) }
     ensures over { IfOk result (λ s. OverSays s.did (C.seen core.new).wants) }
     ensures serving { IfOk result (λ s. (C.seen core.new).serving ≡ is_some s.server) }
@@ -176,8 +176,7 @@ pub fn step_open<C: Machine, L: Link, N: Net<Link = L>>(
     requires sound { C.sound core.old }
     ensures sound { OnOk result (C.sound core.new) }
     ensures kept { IsErrOf result SessionFault.ClientWrite → C.sound core.new }
-    ensures goes { (cfg : C.Settings) (all ahead : List Turn) (budget : ℕ) (first : L) (to : Place) (first_net : N) → turn ≡ first_of ahead → Runs (StandsIn (C.stands cfg) C.seen all ahead budget 0 core.old) L.seen L.wrote first client.old (Some link) to (N.seen first_net) (N.seen net.old) budget
-        → Ends result (λ s. Runs (StandsIn (C.stands cfg) C.seen all (ahead_of s.did ahead) (paid_with s.did budget) 0 core.new) L.seen L.wrote first client.new s.server to (N.seen first_net) (N.seen net.new) (paid_with s.did budget)) (λ failed. (left : List Turn) × Stopped (LeftSo (C.meaning cfg) (C.stands cfg) C.seen all left budget core.new failed) L.seen L.wrote first client.new failed to (N.seen first_net) (N.seen net.new) budget) }
+    ensures goes { (cfg : C.Settings) (all ahead : List Turn) (budget : ℕ) (first : L) (to : Place) (first_net : N) → turn ≡ first_of ahead → Steps result (λ s. s.did) (λ s. s.server) (C.meaning cfg) (C.stands cfg) C.seen all ahead core.old core.new L.seen L.wrote first client.old client.new (Some link) to (N.seen first_net) (N.seen net.old) (N.seen net.new) budget }
     ensures closed { IfOk result (λ s. s.did ≡ Did.Closed → s.server ≡ None) }
     ensures over { IfOk result (λ s. OverSays s.did (C.seen core.new).wants) }
     ensures serving { IfOk result (λ s. (C.seen core.new).serving ≡ is_some s.server) }

@@ -3,8 +3,8 @@ ghost use Rattle.std.specs.Prelude.{◌≡◌, ◌<◌, ℕ, List, Some, None, t
 ghost use Rattle.session_core.specs.History.{Past, Connect};
 ghost use Rattle.px_link.specs.declared.turns.Turn.{Turn};
 ghost use Rattle.px_link.specs.Turns.{first_of, rest_of};
-ghost use Rattle.htx_drive.specs.Driven.{Idle, IdleGoes, Hand, HandGoes, Ends, paid_by, paid_more};
-ghost use Rattle.htx_drive.specs.Turned.{StandsIn, WorkedIn, FailsIn};
+ghost use Rattle.htx_drive.specs.Driven.{Idle, IdleGoes, Hand, HandGoes};
+ghost use Rattle.htx_drive.specs.Underway.{TakesOne};
 ghost use Rattle.htx_drive.specs.Acts.{moves_bytes};
 
 use crate::act::{Act, next_act};
@@ -32,8 +32,8 @@ pub(crate) fn turn_idle<C: Machine, L: Link>(
     requires no_write { wants.now.server_write ≡ false }
     requires sound { C.sound core.old }
     ensures sound { C.sound core.new }
-    ensures goes { (cfg : C.Settings) (all ahead : List Turn) (budget spare : ℕ) (first : L) (past : Past) → turn ≡ first_of ahead → Idle (WorkedIn (C.stands cfg) C.seen all ahead budget spare core.old) L.seen L.wrote first client.old false past
-        → Ends result (λ moved. IdleGoes (StandsIn (C.stands cfg) C.seen all (rest_of ahead) (paid_more moved budget) spare core.new) L.seen L.wrote first client.new false past (paid_by moved) 0) (λ failed. IdleGoes (FailsIn (C.stands cfg) C.seen all (rest_of ahead) budget spare core.new) L.seen L.wrote first client.new failed past 0 0) }
+    ensures goes { (cfg : C.Settings) (all ahead : List Turn) (budget spare : ℕ) (first : L) (past : Past) → turn ≡ first_of ahead → TakesOne result (C.stands cfg) C.seen all ahead (rest_of ahead) budget spare core.old core.new
+        (λ S. Idle S L.seen L.wrote first client.old false past) (λ S failed had has. IdleGoes S L.seen L.wrote first client.new failed past had has) }
     ensures serving { (C.seen core.new).serving ≡ (C.seen core.old).serving }
     ensures behind { IfOk result (λ moved. turn ≡ None → moved ≡ true) }
     ensures unspent { IsErrOf result SessionFault.Spent → ⊥ }
@@ -70,8 +70,8 @@ pub(crate) fn turn_open<C: Machine, L: Link>(
     requires going { wants.now.over ≡ None }
     requires sound { C.sound core.old }
     ensures sound { C.sound core.new }
-    ensures goes { (cfg : C.Settings) (all ahead : List Turn) (budget spare : ℕ) (first first_link : L) (before : List Connect) (past : Past) (c : Connect) → turn ≡ first_of ahead → Hand (WorkedIn (C.stands cfg) C.seen all ahead budget spare core.old) L.seen L.wrote first client.old first_link link.old false before past c
-        → Ends result (λ moved. HandGoes (StandsIn (C.stands cfg) C.seen all (rest_of ahead) (paid_more moved budget) spare core.new) L.seen L.wrote first client.new first_link link.new false before past (paid_by moved) 0) (λ failed. HandGoes (FailsIn (C.stands cfg) C.seen all (rest_of ahead) budget spare core.new) L.seen L.wrote first client.new first_link link.new failed before past 0 0) }
+    ensures goes { (cfg : C.Settings) (all ahead : List Turn) (budget spare : ℕ) (first first_link : L) (before : List Connect) (past : Past) (c : Connect) → turn ≡ first_of ahead → TakesOne result (C.stands cfg) C.seen all ahead (rest_of ahead) budget spare core.old core.new
+        (λ S. Hand S L.seen L.wrote first client.old first_link link.old false before past c) (λ S failed had has. HandGoes S L.seen L.wrote first client.new first_link link.new failed before past had has) }
     ensures serving { (C.seen core.new).serving ≡ (C.seen core.old).serving }
     ensures behind { IfOk result (λ moved. turn ≡ None → moved ≡ true) }
     ensures unspent { IsErrOf result SessionFault.Spent → ⊥ }

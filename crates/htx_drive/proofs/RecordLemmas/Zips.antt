@@ -1,5 +1,5 @@
 -- Lists place by place.
-use Rattle.std.proofs.Common.{◌≡◌, ℕ, zero, suc, ◌+◌, ◌<◌, ◌≤◌, List, [], ◌∷◌, ◌++◌, length, Some, append_assoc, refl, sym, ap, subst, ◌∙◌, take, drop, length-append, arith}
+use Rattle.std.proofs.Common.{◌≡◌, ℕ, zero, suc, ◌+◌, ◌<◌, ◌≤◌, List, [], ◌∷◌, ◌++◌, length, Some, refl, sym, ap, subst, ◌∙◌, take, drop, length-append, arith}
 use Rattle.std.specs.Prelude.{slice_get, sum_by}
 use Rattle.std.specs.List.{AllZip, AllByRecursion}
 use Rattle.std.proofs.Math.Seq.{take-append_seam}

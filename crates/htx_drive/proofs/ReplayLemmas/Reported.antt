@@ -15,37 +15,37 @@ use Rattle.rec_format.specs.Recorded.{Visit, Recorded}
 use Rattle.rec_format.specs.Reports.{Reportable, report_of_all}
 use Rattle.htx_drive.specs.Drill.Drill.{drill_of}
 use Rattle.htx_drive.specs.Drill.Lines.{drill_text}
-use Rattle.htx_drive.specs.Replay.Replayed.{Replays, ReplaysFrom, ReplaysAll}
-use Rattle.htx_drive.specs.Replay.Written.{IsReplayOf, IsDrillOf}
+use Rattle.htx_drive.specs.Replay.Replayed.{Replays, EachFrom}
+use Rattle.htx_drive.specs.Replay.Written.{IsReportOf, IsDrillOf}
 
 -- all connections were run
-pub reports_done : {C : Type 0} (M : Meaning) (stands : C → Past → Type 0) (seen : C → CoreSeen) (turns : List (ℕ × Turn)) (owner : ℕ) (all left : List Visit) (front : List Out) → left ≡ []
-    → ((others : List Out) → ReplaysFrom M stands seen turns owner left others → ReplaysAll M stands seen turns all (front ++ others)) → ReplaysAll M stands seen turns all front
-reports_done M stands seen turns owner all left front none so =
-    let P : List Out → Type 0 = λ l. ReplaysAll M stands seen turns all l in
-    let Q : List Visit → Type 0 = λ l. ReplaysFrom M stands seen turns owner l [] in
+pub reports_done : (one : List Turn → Visit → Out → Type 0) (turns : List (ℕ × Turn)) (owner : ℕ) (all left : List Visit) (front : List Out) → left ≡ []
+    → ((others : List Out) → EachFrom one turns owner left others → EachFrom one turns 1 all (front ++ others)) → EachFrom one turns 1 all front
+reports_done one turns owner all left front none so =
+    let P : List Out → Type 0 = λ l. EachFrom one turns 1 all l in
+    let Q : List Visit → Type 0 = λ l. EachFrom one turns owner l [] in
     subst P (append-nil front) (so [] (subst Q (sym none) tt))
 
-as_many : {C : Type 0} (M : Meaning) (stands : C → Past → Type 0) (seen : C → CoreSeen) (turns : List (ℕ × Turn)) (owner : ℕ) (visits : List Visit) (outs : List Out) → ReplaysFrom M stands seen turns owner visits outs → length outs ≡ length visits
-as_many M stands seen turns owner [] [] all = refl
-as_many M stands seen turns owner (visit ∷ visits) (out ∷ outs) all = ap (λ (n : ℕ). suc n) (as_many M stands seen turns (owner + 1) visits outs all.1)
-as_many M stands seen turns owner [] (out ∷ outs) all = absurd all
-as_many M stands seen turns owner (visit ∷ visits) [] all = absurd all
+as_many : (one : List Turn → Visit → Out → Type 0) (turns : List (ℕ × Turn)) (owner : ℕ) (visits : List Visit) (outs : List Out) → EachFrom one turns owner visits outs → length outs ≡ length visits
+as_many one turns owner [] [] all = refl
+as_many one turns owner (visit ∷ visits) (out ∷ outs) all = ap (λ (n : ℕ). suc n) (as_many one turns (owner + 1) visits outs all.1)
+as_many one turns owner [] (out ∷ outs) all = absurd all
+as_many one turns owner (visit ∷ visits) [] all = absurd all
 
 -- there are as many reports as connections
-pub reportable : {C : Type 0} (M : Meaning) (stands : C → Past → Type 0) (seen : C → CoreSeen) (turns : List (ℕ × Turn)) (version count : ℕ) (conns : List Connection) (reports slice : List Report) → Reportable version count → count ≡ length conns → slice ≡ reports
-    → ReplaysAll M stands seen turns (visits conns) (map out_of reports) → Reportable version (length slice)
-reportable M stands seen turns version count conns reports slice can counted same all =
+pub reportable : (one : List Turn → Visit → Out → Type 0) (turns : List (ℕ × Turn)) (version count : ℕ) (conns : List Connection) (reports slice : List Report) → Reportable version count → count ≡ length conns → slice ≡ reports
+    → EachFrom one turns 1 (visits conns) (map out_of reports) → Reportable version (length slice)
+reportable one turns version count conns reports slice can counted same all =
     let P : ℕ → Type 0 = λ n. Reportable version n in
-    let long : length (map out_of reports) ≡ length (visits conns) = as_many M stands seen turns 1 (visits conns) (map out_of reports) all in
+    let long : length (map out_of reports) ≡ length (visits conns) = as_many one turns 1 (visits conns) (map out_of reports) all in
     subst P (counted ∙ sym (length-map conns visit) ∙ sym long ∙ length-map reports out_of ∙ ap (λ (l : List Report). length l) (sym same)) can
 
 -- ---- what is written
 
-pub replay_of : {C E : Type 0} (M : Meaning) (stands : C → Past → Type 0) (seen : C → CoreSeen) (rec : Recorded) (reports slice : List Report) (r : Result (List ℕ) E) → ReplaysAll M stands seen rec.turns rec.connections (map out_of reports) → slice ≡ reports
-    → IfOk r (λ (text : List ℕ). text ≡ report_of_all rec.version (map out_of slice)) → IfOk r (IsReplayOf M stands seen rec)
-replay_of M stands seen rec reports slice (Ok text) all same is = (map out_of reports, all, is ∙ ap (λ (l : List Report). report_of_all rec.version (map out_of l)) same)
-replay_of M stands seen rec reports slice (Err fault) all same is = tt
+pub report_by : {E : Type 0} (one : List Turn → Visit → Out → Type 0) (rec : Recorded) (reports slice : List Report) (r : Result (List ℕ) E) → EachFrom one rec.turns 1 rec.connections (map out_of reports) → slice ≡ reports
+    → IfOk r (λ (text : List ℕ). text ≡ report_of_all rec.version (map out_of slice)) → IfOk r (IsReportOf one rec)
+report_by one rec reports slice (Ok text) all same is = (map out_of reports, all, is ∙ ap (λ (l : List Report). report_of_all rec.version (map out_of l)) same)
+report_by one rec reports slice (Err fault) all same is = tt
 
 pub drilled : {C E : Type 0} (M : Meaning) (stands : C → Past → Type 0) (seen : C → CoreSeen) (seed exchanges : ℕ) (conn : Connection) (report : Report) (r : Result (List ℕ) E) → visit conn ≡ drill_of seed exchanges → Replays M stands seen [] (visit conn) (out_of report)
     → IfOk r (λ (text : List ℕ). text ≡ drill_text (out_of report)) → IfOk r (IsDrillOf M stands seen seed exchanges)

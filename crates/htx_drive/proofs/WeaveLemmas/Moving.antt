@@ -14,18 +14,15 @@ use Rattle.htx_drive.specs.Turned.{StandsIn, none_failed}
 use Rattle.htx_drive.specs.Driven.{paid_by, paid_more, failed_by}
 use Rattle.htx_drive.specs.declared.SessionFault.{SessionFault}
 use Rattle.htx_drive.specs.declared.SessionFault.TheVariants as faults
-use Rattle.session_core.specs.declared.machine.Wants.{Wants}
-use Rattle.http_model.specs.declared.End.{End}
 use Rattle.htx_drive.specs.Underway.{Runs, Stopped, LeftSo, ahead_of, paid_with}
 use Rattle.htx_drive.specs.declared.step.Did.{Did}
 use Rattle.htx_drive.specs.declared.Ran.{Ran}
 use Rattle.htx_drive.proofs.Dialling.{came_shut}
 use Rattle.htx_drive.proofs.Running.{put_shut, shut_closed}
 use Rattle.htx_drive.proofs.Steps.{idles_stop, opens_fault, hand_same}
-use Rattle.htx_drive.specs.Weave.Woven.{Pays, Going, EndedSo, GivenUp, Back, ahead_behind, OverIs}
+use Rattle.htx_drive.specs.Weave.Woven.{Pays, Going, EndedSo, GivenUp, Back, ahead_behind}
 use Rattle.htx_drive.specs.Weave.Went.{OverSo}
 use Rattle.htx_drive.specs.declared.weave.moves.Moved.{Moved}
-use Rattle.htx_drive.specs.declared.weave.moves.Moved.TheVariants as moves
 
 -- the same, of a server that is the same
 pub at_server : {L : Type 0} (S : Past → Type 0) (seen : L → Seen) (wrote : L → List ℕ → Type 0) (first client : L) (old new : Option L) (to : Place) (first_net net : NetSeen) (count : ℕ) → old ≡ new

@@ -3,12 +3,12 @@ use Rattle.std.proofs.Common.{◌≡◌, ℕ, ◌<◌, List, [], ◌∷◌, ◌+
 use Rattle.std.specs.Prelude.{is_some, IfSome, Result}
 use Rattle.std.specs.List.{AllByRecursion}
 use Rattle.px_pool.specs.Owners.{SameBeside}
-use Rattle.px_pool.specs.Seats.{Seats, core_of, free_of, first_of, rest_of, Inserted}
+use Rattle.px_pool.specs.Seats.{Seats, free_of, rest_of, Inserted}
 use Rattle.htx_drive.specs.Machine.{CoreSeen}
 use Rattle.htx_drive.specs.declared.Ran.{Ran}
 use Rattle.htx_drive.specs.declared.SessionFault.{SessionFault}
 use Rattle.htx_drive.specs.Weave.Went.{HoldsOn}
-use Rattle.htx_drive.specs.Weave.State.{IsReady, Seated, KeepsOn, HasDone, SetSo, MayCall, MayMove}
+use Rattle.htx_drive.specs.Weave.State.{Seated, KeepsOn, HasDone, MayMove}
 use Rattle.htx_drive.specs.declared.weave.mover.Went.{Went}
 use Rattle.htx_drive.specs.declared.weave.mover.Went.TheVariants as went
 

@@ -1,5 +1,4 @@
 -- What was drawn, in the words of a generated session.
-use Rattle.std.specs.Prelude.{ℕ, List}
 use Rattle.htx_drive.specs.Drill.Plan as plans
 use Rattle.htx_drive.specs.declared.drill.plan.Plan.{Plan}
 

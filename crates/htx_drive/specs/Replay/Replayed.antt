@@ -67,13 +67,16 @@ pub record Replays {C : Type 0} (M : Meaning) (stands : C → Past → Type 0) (
   pub session : Session M visit.client servers out
   pub led : LedTo stands seen turns visit.client servers out
 
--- each connection from the one of this number on has such an outcome, in their order, by just the turns of its own number
+-- each connection from the one of this number on comes to such an outcome, in their order, by just the turns of its own number
+abbrev pub EachFrom : (one : List Turn → Visit → Out → Type 0) → List (ℕ × Turn) → (owner : ℕ) → List Visit → List Out → Type 0
+EachFrom one turns owner [] [] = ⊤
+EachFrom one turns owner (visit ∷ visits) (out ∷ outs) = one (turns_of owner turns) visit out × EachFrom one turns (owner + 1) visits outs
+EachFrom one turns owner [] (out ∷ outs) = ⊥
+EachFrom one turns owner (visit ∷ visits) [] = ⊥
+
+-- each from the one of this number on has the outcome of a session
 abbrev pub ReplaysFrom : {C : Type 0} → Meaning → (C → Past → Type 0) → (C → CoreSeen) → List (ℕ × Turn) → (owner : ℕ) → List Visit → List Out → Type 0
-ReplaysFrom M stands seen turns owner [] [] = ⊤
-ReplaysFrom M stands seen turns owner (visit ∷ visits) (out ∷ outs) =
-    Replays M stands seen (turns_of owner turns) visit out × ReplaysFrom M stands seen turns (owner + 1) visits outs
-ReplaysFrom M stands seen turns owner [] (out ∷ outs) = ⊥
-ReplaysFrom M stands seen turns owner (visit ∷ visits) [] = ⊥
+ReplaysFrom M stands seen = EachFrom (Replays M stands seen)
 
 -- each connection has, the first of which is number 1
 abbrev pub ReplaysAll : {C : Type 0} → Meaning → (C → Past → Type 0) → (C → CoreSeen) → List (ℕ × Turn) → List Visit → List Out → Type 0

@@ -7,10 +7,10 @@ use Rattle.px_link.specs.declared.turns.Turn.{Turn}
 use Rattle.px_link.specs.Link.{Seen}
 use Rattle.px_link.specs.Net.{Place, NetSeen}
 use Rattle.px_pool.specs.Owners.{has_one, count_out, one_if}
-use Rattle.px_pool.specs.Seats.{Seats, core_of, free_of}
+use Rattle.px_pool.specs.Seats.{Seats, core_of}
 use Rattle.htx_drive.specs.Machine.{CoreSeen}
 use Rattle.htx_drive.specs.Replay.Memory.{turns_of}
-use Rattle.htx_drive.specs.Weave.State.{IsAt, IsReady, IsFresh, MayMove}
+use Rattle.htx_drive.specs.Weave.State.{IsAt, AllReady, AllFresh, MayMove}
 use Rattle.htx_drive.specs.declared.weave.conn.Conn.{Conn}
 
 -- the turn that is handed in is the first that is left, and this connection's; none is handed in where none is left
@@ -42,7 +42,7 @@ held_by owners (suc number) = one_if (has_one (suc number) owners) + held_by own
 -- There are cores; those that are free may be called, and each of the others is of a connection that has not ended. Each connection may be moved.
 pub record MayGoOn {C L N : Type 0} (sees : C → CoreSeen) (sound : C → Type 0) (sees_net : N → NetSeen) (pool : Seats C) (conns : List (Conn L N)) : Type 0 where
   pub some : 0 < length pool.owners
-  pub ready : AllByRecursion (IsReady sees sound) (free_of pool)
+  pub ready : AllReady sees sound pool
   pub counts : count_out pool.owners ≡ held_by pool.owners (length conns)
   pub seated : (number : ℕ) → has_one number pool.owners ≡ true → IsSeated number conns
   pub may : AllMay sees sound sees_net pool conns
@@ -60,7 +60,7 @@ pub record AllAt {C L N : Type 0} (M : Meaning) (stands : C → Past → Type 0)
   pub counted : length counts ≡ length conns
   pub each : (place : ℕ) (first conn : Conn L N) → slice_get firsts place ≡ Some first → slice_get conns place ≡ Some conn → AtPlace M stands sees sound seen wrote sees_net to prompt turns left first conn pool (suc place) (get_or counts place 0)
   pub paid : sum_by (λ (n : ℕ). n) counts + spare ≡ budget
-  pub fresh : AllByRecursion (IsFresh stands) (free_of pool)
+  pub fresh : AllFresh stands pool
 
 -- from their places to their places, whatever the list of turns and the budget that they began with
 abbrev pub LeadsAll : {S C L N : Type 0} → (meaning : S → Meaning) → (stands : S → C → Past → Type 0) → (sees : C → CoreSeen) → (sound : C → Type 0) → (seen : L → Seen) → (wrote : L → List ℕ → Type 0) → (sees_net : N → NetSeen) → Place → (left behind : List (ℕ × Turn)) → (old new : List (Conn L N)) → (old_pool new_pool : Seats C) → (before after : ℕ) → Type 0

@@ -1,5 +1,5 @@
 -- A connection between two of its acts, each of which is done by its own.
-use Rattle.std.specs.Prelude.{◌≡◌, ℕ, List, Bool, false, Option, Result, Ok, Err}
+use Rattle.std.specs.Prelude.{ℕ, List, Bool, Option, Result, Ok, Err}
 use Rattle.session_model.specs.Meaning.{Meaning}
 use Rattle.session_core.specs.History.{Past}
 use Rattle.px_link.specs.declared.turns.Turn.{Turn}

@@ -1,5 +1,6 @@
 -- Where many connections stand between two moves.
 use Rattle.std.specs.Prelude.{◌≡◌, ℕ, ◌<◌, List, drop, true, false, Option, Some, None, Result, is_some, ⊤, ◌⊎◌, Bool}
+use Rattle.std.specs.List.{AllByRecursion}
 use Rattle.session_model.specs.Meaning.{Meaning}
 use Rattle.session_core.specs.History.{Past, nothing_yet}
 use Rattle.px_link.specs.declared.turns.Turn.{Turn}
@@ -10,8 +11,9 @@ use Rattle.px_pool.specs.Seats.{Seats, core_of, free_of, first_of, rest_of}
 use Rattle.htx_drive.specs.Machine.{CoreSeen}
 use Rattle.htx_drive.specs.declared.Ran.{Ran}
 use Rattle.htx_drive.specs.declared.SessionFault.{SessionFault}
-use Rattle.htx_drive.specs.Weave.Woven.{Going}
+use Rattle.htx_drive.specs.Weave.Woven.{Pays, Going}
 use Rattle.htx_drive.specs.Weave.Went.{OverSo}
+use Rattle.htx_drive.specs.declared.weave.conn.Conn.{Conn}
 use Rattle.htx_drive.specs.declared.weave.mover.Went.{Went}
 use Rattle.htx_drive.specs.declared.weave.mover.Went.TheVariants as went
 
@@ -24,6 +26,13 @@ IsReady sees sound core = sound core × ((sees core).serving ≡ false)
 -- nothing has happened to it
 abbrev pub IsFresh : {C : Type 0} → (stands : C → Past → Type 0) → C → Type 0
 IsFresh stands core = stands core nothing_yet
+
+-- so it is of each core that is free
+abbrev pub AllReady : {C : Type 0} → (C → CoreSeen) → (C → Type 0) → Seats C → Type 0
+AllReady sees sound pool = AllByRecursion (IsReady sees sound) (free_of pool)
+
+abbrev pub AllFresh : {C : Type 0} → (C → Past → Type 0) → Seats C → Type 0
+AllFresh stands pool = AllByRecursion (IsFresh stands) (free_of pool)
 
 -- a connection that had a core has the same, and another has the first that was free
 pub record KeepsSet {C : Type 0} (number : ℕ) (old new : Seats C) : Type 0 where
@@ -109,3 +118,8 @@ IsAt M stands sees sound prompt turns ahead seen wrote first client server to fi
 IsAt M stands sees sound prompt turns ahead seen wrote first client server to first_net net None (Some core) count = Holds stands sees sound prompt turns ahead seen wrote first client server to first_net net core count
 IsAt M stands sees sound prompt turns ahead seen wrote first client server to first_net net (Some ran) None count = (done : Done M stands sees turns seen wrote first client server to first_net net ran count) × AtOnce prompt done.waited
 IsAt M stands sees sound prompt turns ahead seen wrote first client server to first_net net (Some ran) (Some core) count = ⊥
+
+-- so it is of this connection and the core that it has of the pool, and it has paid so much that with what is left it comes to this total
+abbrev pub IsPlaced : {C L N : Type 0} → Meaning → (C → Past → Type 0) → (C → CoreSeen) → (C → Type 0) → (L → Seen) → (L → List ℕ → Type 0) → (N → NetSeen) → Place → (prompt : Bool) → (turns ahead : List Turn) → L → N → (total left number : ℕ) → Conn L N → Seats C → Type 0
+IsPlaced M stands sees sound seen wrote sees_net to prompt turns ahead first first_net total left number conn pool =
+    Pays total left (IsAt M stands sees sound prompt turns ahead seen wrote first conn.client conn.server to (sees_net first_net) (sees_net conn.net) conn.ran (core_of number pool))

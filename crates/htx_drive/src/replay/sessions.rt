@@ -13,9 +13,10 @@ use crate::replay::cores::Cores;
 use crate::replay::laws::only_want_of_memory_gives_up;
 use crate::replay::links::{client_link, net_for};
 use crate::replay::outcome::report_of;
+use crate::replay::over_cores::OverCores;
 use crate::replay::record_net::RecordNet;
+use crate::replay::reports::reports_by;
 use crate::replay::streams::Streams;
-use crate::replay::turns::turns_of;
 use crate::weave::Conn;
 use crate::{
     Address, MOST_READ, Machine, OutOfMemory, Ran, Resources, SessionFault, Turn, run_session,
@@ -125,13 +126,6 @@ pub fn replay<C: Machine + Drop, K: Cores<C>>(
     requires ready { K.ready cores.now }
     ensures { IfOk result (λ reports. ReplaysAll (C.meaning (K.settings cores.now)) (C.stands (K.settings cores.now)) C.seen recorded.now.turns.items (visits recorded.now.conns.items) (map out_of reports.items)) }
 {
-    let mut reports = Vec::new(alloc);
-    let mut owner = 0u64;
-    for conn in &recorded.conns {
-        owner += 1;
-        let turns = turns_of(alloc, owner, &recorded.turns)?;
-        let report = replay_connection(alloc, cores, to, conn, turns)?;
-        reports.push(report)?;
-    }
-    Ok(reports)
+    let over = OverCores::new(cores, to);
+    reports_by(alloc, &over, recorded)
 }

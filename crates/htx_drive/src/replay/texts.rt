@@ -6,10 +6,12 @@ ghost use Rattle.htx_drive.specs.Replay.Written.{IsReplayOf, IsDrillOf};
 
 use crate::drill::{drill, write_lines};
 use crate::replay::cores::Cores;
-use crate::replay::sessions::{replay, replay_connection};
+use crate::replay::over_cores::OverCores;
+use crate::replay::reports::report_text;
+use crate::replay::sessions::replay_connection;
 use crate::{Address, Machine, OutOfMemory};
 use px_link::Bytes;
-use rec_format::{Record, write_reports};
+use rec_format::Record;
 use std::alloc::Global;
 
 /// The report of a record: its sessions are run one after another. Want of memory is the only error.
@@ -23,10 +25,8 @@ pub fn replay_text<C: Machine + Drop, K: Cores<C>>(
     requires reportable { Reportable recorded.now.version (vec_len recorded.now.conns) }
     ensures { IfOk result (IsReplayOf (C.meaning (K.settings cores.now)) (C.stands (K.settings cores.now)) C.seen (meaning_of recorded.now)) }
 {
-    let reports = replay(alloc, cores, to, recorded)?;
-    let text = write_reports(alloc, recorded.version, &reports);
-    drop(reports);
-    text
+    let over = OverCores::new(cores, to);
+    report_text(alloc, &over, recorded)
 }
 
 /// The lines of the generated session of a seed and a number of exchanges. Want of memory is the only error.

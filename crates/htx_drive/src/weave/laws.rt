@@ -1,10 +1,9 @@
 //! What follows for each connection of many.
-ghost use Rattle.std.specs.Prelude.{ℕ, Bool, ◌≡◌, ◌≤◌, ◌<◌, List, Option, Some, length, sum_by};
+ghost use Rattle.std.specs.Prelude.{ℕ, Bool, ◌≡◌, ◌<◌, List, Option, Some};
 ghost use Rattle.http_model.specs.declared.Ending.{Ending};
-ghost use Rattle.session_core.specs.MeaningLaws.Bound.{IsBounded};
 ghost use Rattle.px_link.specs.Net.{Coming, Kept, Place};
 ghost use Rattle.px_link.specs.declared.turns.Turn.{Turn};
-ghost use Rattle.htx_drive.specs.Budget.{HasRequests, coming_size, enough};
+ghost use Rattle.htx_drive.specs.Budget.{WithTexts};
 ghost use Rattle.htx_drive.specs.Headline.{IsSessionOf};
 ghost use Rattle.htx_drive.specs.declared.Ran.{Ran};
 ghost use Rattle.htx_drive.specs.Weave.Woven.{EndedSo, GivenUp};
@@ -26,10 +25,7 @@ pub fn ended_is_the_session<C: Machine, L: Link, N: Net<Link = L>>()
 /// A connection that ended paid less than is enough for its texts.
 pub fn ended_pays_less<C: Machine, L: Link, N: Net<Link = L>>()
     ensures { (cfg : C.Settings) (all ahead : List Turn) (first client : L) (to : Place) (first_net net : N) (ran : Ran) (count : ℕ) (bytes : List ℕ) (requests : ℕ) (answers : List (Option Coming)) (kept : List Kept)
-        → IsBounded (C.meaning cfg) → 1 ≤ (C.meaning cfg).limits.bufsize → HasRequests (C.meaning cfg) bytes requests
-        → (L.seen first).to_come ≡ Some bytes → (N.seen first_net).answers ≡ Some answers → (N.seen first_net).kept ≡ Some kept
-        → EndedSo (C.meaning cfg) (C.stands cfg) C.seen all ahead L.seen L.wrote first client to (N.seen first_net) (N.seen net) ran count
-        → count < enough (length bytes) (sum_by coming_size answers) requests (C.meaning cfg).limits.bufsize }
+        → WithTexts (C.meaning cfg) (L.seen first) (N.seen first_net) bytes requests answers kept (λ most. EndedSo (C.meaning cfg) (C.stands cfg) C.seen all ahead L.seen L.wrote first client to (N.seen first_net) (N.seen net) ran count → count < most) }
 {
     moved_is_bounded::<C, L, N>();
 }
@@ -37,10 +33,7 @@ pub fn ended_pays_less<C: Machine, L: Link, N: Net<Link = L>>()
 /// A connection that was given up paid less than is enough for its texts.
 pub fn given_up_pays_less<C: Machine, L: Link, N: Net<Link = L>>()
     ensures { (cfg : C.Settings) (all : List Turn) (first client : L) (failed : Bool) (to : Place) (first_net net : N) (count : ℕ) (bytes : List ℕ) (requests : ℕ) (answers : List (Option Coming)) (kept : List Kept)
-        → IsBounded (C.meaning cfg) → 1 ≤ (C.meaning cfg).limits.bufsize → HasRequests (C.meaning cfg) bytes requests
-        → (L.seen first).to_come ≡ Some bytes → (N.seen first_net).answers ≡ Some answers → (N.seen first_net).kept ≡ Some kept
-        → GivenUp (C.meaning cfg) (C.stands cfg) C.seen all L.seen L.wrote first client failed to (N.seen first_net) (N.seen net) count
-        → count < enough (length bytes) (sum_by coming_size answers) requests (C.meaning cfg).limits.bufsize }
+        → WithTexts (C.meaning cfg) (L.seen first) (N.seen first_net) bytes requests answers kept (λ most. GivenUp (C.meaning cfg) (C.stands cfg) C.seen all L.seen L.wrote first client failed to (N.seen first_net) (N.seen net) count → count < most) }
 {
     moved_is_bounded::<C, L, N>();
 }

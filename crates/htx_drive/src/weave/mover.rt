@@ -3,10 +3,8 @@ ghost use Rattle.std.specs.Prelude.{◌≡◌, ◌<◌, ◌≤◌, ℕ, List, No
 ghost use Rattle.session_core.specs.History.{Past};
 ghost use Rattle.px_link.specs.Net.{address_of};
 ghost use Rattle.px_link.specs.declared.turns.Turn.{Turn};
-ghost use Rattle.px_link.specs.Turns.{first_of, rest_of};
-ghost use Rattle.htx_drive.specs.Underway.{Stopped, LeftSo};
-ghost use Rattle.htx_drive.specs.Weave.Woven.{Pays, Going};
-ghost use Rattle.htx_drive.specs.Weave.Went.{GoesAs, OverSo, HoldsOn, SpentSo, LowersSo};
+ghost use Rattle.px_link.specs.Turns.{first_of};
+ghost use Rattle.htx_drive.specs.Weave.Went.{GoesOn, MovesOn, HoldsOn, SpentSo, LowersSo};
 
 use crate::resources::Resources;
 use crate::weave::conn::Conn;
@@ -38,11 +36,8 @@ pub(crate) fn goes<C: Machine, L: Link, N: Net<Link = L>>(
     requires sound { C.sound core.old }
     requires ran { conn.old.ran ≡ None }
     ensures sound { OnOk result (C.sound core.new) }
-    ensures goes { (cfg : C.Settings) (all ahead : List Turn) (total : ℕ) (first : L) (first_net : N) → turn ≡ first_of ahead → Pays total resources.old.left (Going (C.stands cfg) C.seen all ahead core.old L.seen L.wrote first conn.old.client conn.old.server (address_of to.now) (N.seen first_net) (N.seen conn.old.net))
-        → GoesAs result (Pays total resources.new.left (Going (C.stands cfg) C.seen all (rest_of ahead) core.new L.seen L.wrote first conn.new.client conn.new.server (address_of to.now) (N.seen first_net) (N.seen conn.new.net)))
-        ((Pays total resources.new.left (OverSo (C.meaning cfg) (C.stands cfg) C.seen all L.seen L.wrote first conn.new.client (address_of to.now) (N.seen first_net) (N.seen conn.new.net) conn.new.ran)) × ((past : Past) × C.stands cfg core.new past))
-        (Pays total resources.new.left (Going (C.stands cfg) C.seen all ahead core.new L.seen L.wrote first conn.new.client conn.new.server (address_of to.now) (N.seen first_net) (N.seen conn.new.net)))
-        (Pays total resources.new.left (λ count. (left : List Turn) × Stopped (LeftSo (C.meaning cfg) (C.stands cfg) C.seen all left count core.new false) L.seen L.wrote first conn.new.client false (address_of to.now) (N.seen first_net) (N.seen conn.new.net) count)) }
+    ensures goes { (cfg : C.Settings) (all ahead : List Turn) (total : ℕ) (first : L) (first_net : N) → turn ≡ first_of ahead → GoesOn (C.stands cfg) C.seen L.seen L.wrote N.seen (address_of to.now) all ahead first first_net total resources.old.left conn.old core.old
+        → MovesOn result (C.meaning cfg) (C.stands cfg) C.seen L.seen L.wrote N.seen (address_of to.now) all ahead first first_net total resources.new.left conn.new (λ P. P core.new) (λ P. P × ((past : Past) × C.stands cfg core.new past)) (λ P. P core.new) }
     ensures on { IfOk result (λ went. HoldsOn went (C.seen core.new).serving conn.new.server (N.seen conn.new.net).lent conn.new.ran) }
     ensures spent { IfOk result (λ went. SpentSo went resources.new.left) }
     ensures lowers { IfOk result (λ went. LowersSo turn went resources.old.left resources.new.left) }

@@ -4,8 +4,9 @@ ghost use Rattle.px_link.specs.Net.{address_of};
 ghost use Rattle.px_link.specs.declared.turns.Turn.{Turn};
 ghost use Rattle.px_link.specs.Turns.{first_of};
 ghost use Rattle.htx_drive.specs.Driven.{Ends, paid_by};
-ghost use Rattle.htx_drive.specs.Underway.{Stopped, LeftSo};
-ghost use Rattle.htx_drive.specs.Weave.Woven.{Pays, Going, ahead_behind, OverIs, SpentIs, Lowers};
+ghost use Rattle.htx_drive.specs.Weave.Woven.{Pays, ahead_behind, OverIs, SpentIs, Lowers};
+ghost use Rattle.htx_drive.specs.Weave.Single.{GivesUp};
+ghost use Rattle.htx_drive.specs.Weave.Went.{GoesOn};
 
 use crate::resources::Resources;
 use crate::weave::conn::Conn;
@@ -46,8 +47,9 @@ pub(crate) fn moves<C: Machine, L: Link, N: Net<Link = L>>(
     requires sound { C.sound core.old }
     ensures sound { OnOk result (C.sound core.new) }
     ensures kept { IsErrOf result SessionFault.ClientWrite → C.sound core.new }
-    ensures goes { (cfg : C.Settings) (all ahead : List Turn) (total : ℕ) (first : L) (first_net : N) → turn ≡ first_of ahead → Pays total resources.old.left (Going (C.stands cfg) C.seen all ahead core.old L.seen L.wrote first conn.old.client conn.old.server (address_of to.now) (N.seen first_net) (N.seen conn.old.net))
-        → Ends result (λ did. Pays total resources.new.left (Going (C.stands cfg) C.seen all (ahead_behind did ahead) core.new L.seen L.wrote first conn.new.client conn.new.server (address_of to.now) (N.seen first_net) (N.seen conn.new.net))) (λ failed. Pays total resources.new.left (λ count. (left : List Turn) × Stopped (LeftSo (C.meaning cfg) (C.stands cfg) C.seen all left count core.new failed) L.seen L.wrote first conn.new.client failed (address_of to.now) (N.seen first_net) (N.seen conn.new.net) count)) }
+    ensures goes { (cfg : C.Settings) (all ahead : List Turn) (total : ℕ) (first : L) (first_net : N) → turn ≡ first_of ahead → GoesOn (C.stands cfg) C.seen L.seen L.wrote N.seen (address_of to.now) all ahead first first_net total resources.old.left conn.old core.old
+        → Ends result (λ did. GoesOn (C.stands cfg) C.seen L.seen L.wrote N.seen (address_of to.now) all (ahead_behind did ahead) first first_net total resources.new.left conn.new core.new)
+        (λ failed. Pays total resources.new.left (λ count. GivesUp (C.meaning cfg) (C.stands cfg) C.seen all core.new L.seen L.wrote first conn.new.client (address_of to.now) (N.seen first_net) (N.seen conn.new.net) count failed)) }
     ensures over { IfOk result (λ did. OverIs did (C.seen core.new).wants) }
     ensures spent { IfOk result (λ did. SpentIs did resources.new.left) }
     ensures lowers { IfOk result (λ did. Lowers turn did resources.old.left resources.new.left) }

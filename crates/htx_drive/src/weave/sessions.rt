@@ -1,10 +1,9 @@
 //! Connections over shared cores, until each has ended, or all are given up behind a fault.
 ghost use Rattle.std.specs.Prelude.{◌≡◌, ◌<◌, ◌^◌, ℕ, List, [], length, OnOk, OnErr, IfErr, IsErrOf, Bool, ◌≤◌};
-ghost use Rattle.std.specs.List.{AllByRecursion};
 ghost use Rattle.px_link.specs.Net.{address_of};
 ghost use Rattle.px_pool.specs.Owners.{count_out};
 ghost use Rattle.px_pool.specs.Seats.{free_of, count_sets};
-ghost use Rattle.htx_drive.specs.Weave.State.{IsReady, IsFresh};
+ghost use Rattle.htx_drive.specs.Weave.State.{AllReady, AllFresh};
 ghost use Rattle.htx_drive.specs.Weave.Rounds.{unended};
 ghost use Rattle.htx_drive.specs.Weave.All.{AreWithin, MayGoOn, LeadsAll};
 ghost use Rattle.htx_drive.specs.Weave.Halted.{HaltsAll, AllLent};
@@ -63,19 +62,19 @@ pub fn weave<C: Resets, L: Link, N: Net<Link = L>, W: Weft>(
     requires new { AreNew conns.old }
     requires some { 0 < length (free_of pool.old) }
     requires unused { count_out pool.old.owners ≡ 0 }
-    requires ready { AllByRecursion (IsReady C.seen C.sound) (free_of pool.old) }
+    requires ready { AllReady C.seen C.sound pool.old }
     requires within { AreWithin (length conns.old) (W.left turns.old) }
     ensures length { length conns.new ≡ length conns.old }
     ensures sets { count_sets pool.new ≡ count_sets pool.old }
-    ensures ended { (cfg : C.Settings) → AllByRecursion (IsFresh (C.stands cfg)) (free_of pool.old)
+    ensures ended { (cfg : C.Settings) → AllFresh (C.stands cfg) pool.old
         → OnOk result (AllEnded (C.meaning cfg) (C.stands cfg) C.seen L.seen L.wrote N.seen (address_of to.now) (W.left turns.old) conns.old conns.new) }
-    ensures at_once { (cfg : C.Settings) → AllByRecursion (IsFresh (C.stands cfg)) (free_of pool.old) → length conns.old ≤ length (free_of pool.old)
+    ensures at_once { (cfg : C.Settings) → AllFresh (C.stands cfg) pool.old → length conns.old ≤ length (free_of pool.old)
         → OnOk result (AllEndedAtOnce (C.meaning cfg) (C.stands cfg) C.seen L.seen L.wrote N.seen (address_of to.now) (W.left turns.old) conns.old conns.new) }
-    ensures given_up { (cfg : C.Settings) → AllByRecursion (IsFresh (C.stands cfg)) (free_of pool.old)
+    ensures given_up { (cfg : C.Settings) → AllFresh (C.stands cfg) pool.old
         → IfErr result (λ fault. AllLeft (C.meaning cfg) (C.stands cfg) C.seen L.seen L.wrote N.seen (address_of to.now) (W.left turns.old) conns.old conns.new budget fault) }
     ensures out { OnOk result (count_out pool.new.owners ≡ 0) }
-    ensures ready { OnOk result (AllByRecursion (IsReady C.seen C.sound) (free_of pool.new)) }
-    ensures fresh { (cfg : C.Settings) → AllByRecursion (IsFresh (C.stands cfg)) (free_of pool.old) → OnOk result (AllByRecursion (IsFresh (C.stands cfg)) (free_of pool.new)) }
+    ensures ready { OnOk result (AllReady C.seen C.sound pool.new) }
+    ensures fresh { (cfg : C.Settings) → AllFresh (C.stands cfg) pool.old → OnOk result (AllFresh (C.stands cfg) pool.new) }
 {
     let mut resources = Resources {
         left: budget,

@@ -1,16 +1,14 @@
 //! Connections and the cores of a pool.
 ghost use Rattle.std.specs.Prelude.{◌≡◌, ◌≢◌, ◌<◌, ◌≤◌, ◌⊎◌, ℕ, List, Some, None, true, false, is_some, OnOk, OnErr, IfOk, IfSome, IsErrOf, Bool};
-ghost use Rattle.std.specs.List.{AllByRecursion};
 ghost use Rattle.session_core.specs.History.{Past, nothing_yet};
 ghost use Rattle.px_link.specs.Net.{address_of};
 ghost use Rattle.px_link.specs.declared.turns.Turn.{Turn};
 ghost use Rattle.px_link.specs.Turns.{first_of, rest_of};
 ghost use Rattle.px_pool.specs.Owners.{has_one, all_out, SameBeside};
-ghost use Rattle.px_pool.specs.Seats.{core_of, free_of, count_sets};
-ghost use Rattle.htx_drive.specs.Underway.{Stopped, LeftSo};
-ghost use Rattle.htx_drive.specs.Weave.Woven.{Pays, Going};
-ghost use Rattle.htx_drive.specs.Weave.Went.{GoesAs, OverSo, HoldsOn, SpentSo, LowersSo, OnEnded};
-ghost use Rattle.htx_drive.specs.Weave.State.{IsReady, IsFresh, Seated, SetSo, MayMove, HasRoom, IsAt};
+ghost use Rattle.px_pool.specs.Seats.{core_of, count_sets};
+ghost use Rattle.htx_drive.specs.Weave.Woven.{Pays};
+ghost use Rattle.htx_drive.specs.Weave.Went.{GoesOn, MovesOn, SpentSo, LowersSo, OnEnded};
+ghost use Rattle.htx_drive.specs.Weave.State.{AllReady, AllFresh, Seated, SetSo, MayMove, HasRoom, IsPlaced};
 ghost use Rattle.htx_drive.specs.Weave.Rounds.{MovedOn, Rested};
 ghost use Rattle.htx_drive.specs.Weave.Halted.{Halted, IsLent};
 
@@ -31,8 +29,8 @@ fn give<C: Resets>(pool: &mut Pool<C>, number: u32)
     ensures sets { count_sets pool.new ≡ count_sets pool.old }
     ensures beside { SameBeside number pool.old.owners pool.new.owners }
     ensures others { (other : ℕ) → other ≢ number → core_of other pool.new ≡ core_of other pool.old }
-    ensures ready { AllByRecursion (IsReady C.seen C.sound) (free_of pool.old) → AllByRecursion (IsReady C.seen C.sound) (free_of pool.new) }
-    ensures fresh { (cfg : C.Settings) → IfSome (core_of number pool.old) (λ core. (past : Past) × C.stands cfg core past) → AllByRecursion (IsFresh (C.stands cfg)) (free_of pool.old) → AllByRecursion (IsFresh (C.stands cfg)) (free_of pool.new) }
+    ensures ready { AllReady C.seen C.sound pool.old → AllReady C.seen C.sound pool.new }
+    ensures fresh { (cfg : C.Settings) → IfSome (core_of number pool.old) (λ core. (past : Past) × C.stands cfg core past) → AllFresh (C.stands cfg) pool.old → AllFresh (C.stands cfg) pool.new }
 {
     pool.core(number).reset();
     pool.release(number);
@@ -72,11 +70,8 @@ fn set_goes<C: Resets, L: Link, N: Net<Link = L>>(
     requires lent { is_some conn.old.server ≡ true → 0 < (N.seen conn.old.net).lent }
     requires ran { conn.old.ran ≡ None }
     ensures others { (other : ℕ) → other ≢ number → core_of other pool.new ≡ core_of other pool.old }
-    ensures goes { (cfg : C.Settings) (all ahead : List Turn) (total : ℕ) (first : L) (first_net : N) → turn ≡ first_of ahead → IfSome (core_of number pool.old) (λ core. Pays total resources.old.left (Going (C.stands cfg) C.seen all ahead core L.seen L.wrote first conn.old.client conn.old.server (address_of to.now) (N.seen first_net) (N.seen conn.old.net)))
-        → GoesAs result (IfSome (core_of number pool.new) (λ core. Pays total resources.new.left (Going (C.stands cfg) C.seen all (rest_of ahead) core L.seen L.wrote first conn.new.client conn.new.server (address_of to.now) (N.seen first_net) (N.seen conn.new.net))))
-        (Pays total resources.new.left (OverSo (C.meaning cfg) (C.stands cfg) C.seen all L.seen L.wrote first conn.new.client (address_of to.now) (N.seen first_net) (N.seen conn.new.net) conn.new.ran))
-        (IfSome (core_of number pool.new) (λ core. Pays total resources.new.left (Going (C.stands cfg) C.seen all ahead core L.seen L.wrote first conn.new.client conn.new.server (address_of to.now) (N.seen first_net) (N.seen conn.new.net))))
-        ((core : C) × Pays total resources.new.left (λ count. (left : List Turn) × Stopped (LeftSo (C.meaning cfg) (C.stands cfg) C.seen all left count core false) L.seen L.wrote first conn.new.client false (address_of to.now) (N.seen first_net) (N.seen conn.new.net) count)) }
+    ensures goes { (cfg : C.Settings) (all ahead : List Turn) (total : ℕ) (first : L) (first_net : N) → turn ≡ first_of ahead → IfSome (core_of number pool.old) (GoesOn (C.stands cfg) C.seen L.seen L.wrote N.seen (address_of to.now) all ahead first first_net total resources.old.left conn.old)
+        → MovesOn result (C.meaning cfg) (C.stands cfg) C.seen L.seen L.wrote N.seen (address_of to.now) all ahead first first_net total resources.new.left conn.new (λ P. IfSome (core_of number pool.new) P) (λ P. P) (λ P. (core : C) × P core) }
     ensures spent { IfOk result (λ went. SpentSo went resources.new.left) }
     ensures lowers { IfOk result (λ went. LowersSo turn went resources.old.left resources.new.left) }
     ensures no_more { resources.new.left ≤ resources.old.left }
@@ -84,9 +79,9 @@ fn set_goes<C: Resets, L: Link, N: Net<Link = L>>(
     ensures beside { SameBeside number pool.old.owners pool.new.owners }
     ensures gone { IfOk result (λ went. OnEnded went (has_one number pool.new.owners ≡ false)) }
     ensures keeps { IfOk result (λ went. SetSo went C.seen C.sound (core_of number pool.new) conn.new.server (N.seen conn.new.net).lent conn.new.ran) }
-    ensures ready { OnOk result (AllByRecursion (IsReady C.seen C.sound) (free_of pool.old) → AllByRecursion (IsReady C.seen C.sound) (free_of pool.new)) }
-    ensures fresh { (cfg : C.Settings) (all ahead : List Turn) (total : ℕ) (first : L) (first_net : N) → turn ≡ first_of ahead → IfSome (core_of number pool.old) (λ core. Pays total resources.old.left (Going (C.stands cfg) C.seen all ahead core L.seen L.wrote first conn.old.client conn.old.server (address_of to.now) (N.seen first_net) (N.seen conn.old.net)))
-        → AllByRecursion (IsFresh (C.stands cfg)) (free_of pool.old) → OnOk result (AllByRecursion (IsFresh (C.stands cfg)) (free_of pool.new)) }
+    ensures ready { OnOk result (AllReady C.seen C.sound pool.old → AllReady C.seen C.sound pool.new) }
+    ensures fresh { (cfg : C.Settings) (all ahead : List Turn) (total : ℕ) (first : L) (first_net : N) → turn ≡ first_of ahead → IfSome (core_of number pool.old) (GoesOn (C.stands cfg) C.seen L.seen L.wrote N.seen (address_of to.now) all ahead first first_net total resources.old.left conn.old)
+        → AllFresh (C.stands cfg) pool.old → OnOk result (AllFresh (C.stands cfg) pool.new) }
     ensures lost { OnErr result ((conn.new.server ≡ None) × (conn.new.ran ≡ None)) }
 {
     match goes(conn, pool.core(number), to, turn, resources) {
@@ -110,18 +105,18 @@ pub(crate) fn move_of<C: Resets, L: Link, N: Net<Link = L>>(
     resources: &mut Resources,
 ) -> Result<(), WeaveFault>
     requires may { MayMove C.seen C.sound conn.old.server (N.seen conn.old.net).lent conn.old.ran (core_of number pool.old) }
-    requires ready { AllByRecursion (IsReady C.seen C.sound) (free_of pool.old) }
+    requires ready { AllReady C.seen C.sound pool.old }
     ensures others { (other : ℕ) → other ≢ number → core_of other pool.new ≡ core_of other pool.old }
     ensures may { OnOk result (MayMove C.seen C.sound conn.new.server (N.seen conn.new.net).lent conn.new.ran (core_of number pool.new)) }
-    ensures ready { OnOk result (AllByRecursion (IsReady C.seen C.sound) (free_of pool.new)) }
-    ensures at { (cfg : C.Settings) (prompt : Bool) (turns ahead : List Turn) (total : ℕ) (first : L) (first_net : N) → turn ≡ first_of ahead → HasRoom prompt number pool.old.owners → AllByRecursion (IsFresh (C.stands cfg)) (free_of pool.old)
-        → Pays total resources.old.left (IsAt (C.meaning cfg) (C.stands cfg) C.seen C.sound prompt turns ahead L.seen L.wrote first conn.old.client conn.old.server (address_of to.now) (N.seen first_net) (N.seen conn.old.net) conn.old.ran (core_of number pool.old))
-        → OnOk result (Pays total resources.new.left (IsAt (C.meaning cfg) (C.stands cfg) C.seen C.sound prompt turns (rest_of ahead) L.seen L.wrote first conn.new.client conn.new.server (address_of to.now) (N.seen first_net) (N.seen conn.new.net) conn.new.ran (core_of number pool.new))) }
-    ensures fresh { (cfg : C.Settings) (prompt : Bool) (turns ahead : List Turn) (total : ℕ) (first : L) (first_net : N) → turn ≡ first_of ahead → AllByRecursion (IsFresh (C.stands cfg)) (free_of pool.old)
-        → Pays total resources.old.left (IsAt (C.meaning cfg) (C.stands cfg) C.seen C.sound prompt turns ahead L.seen L.wrote first conn.old.client conn.old.server (address_of to.now) (N.seen first_net) (N.seen conn.old.net) conn.old.ran (core_of number pool.old))
-        → OnOk result (AllByRecursion (IsFresh (C.stands cfg)) (free_of pool.new)) }
-    ensures halted { (cfg : C.Settings) (prompt : Bool) (turns ahead : List Turn) (total : ℕ) (first : L) (first_net : N) → turn ≡ first_of ahead → AllByRecursion (IsFresh (C.stands cfg)) (free_of pool.old)
-        → Pays total resources.old.left (IsAt (C.meaning cfg) (C.stands cfg) C.seen C.sound prompt turns ahead L.seen L.wrote first conn.old.client conn.old.server (address_of to.now) (N.seen first_net) (N.seen conn.old.net) conn.old.ran (core_of number pool.old))
+    ensures ready { OnOk result (AllReady C.seen C.sound pool.new) }
+    ensures at { (cfg : C.Settings) (prompt : Bool) (turns ahead : List Turn) (total : ℕ) (first : L) (first_net : N) → turn ≡ first_of ahead → HasRoom prompt number pool.old.owners → AllFresh (C.stands cfg) pool.old
+        → IsPlaced (C.meaning cfg) (C.stands cfg) C.seen C.sound L.seen L.wrote N.seen (address_of to.now) prompt turns ahead first first_net total resources.old.left number conn.old pool.old
+        → OnOk result (IsPlaced (C.meaning cfg) (C.stands cfg) C.seen C.sound L.seen L.wrote N.seen (address_of to.now) prompt turns (rest_of ahead) first first_net total resources.new.left number conn.new pool.new) }
+    ensures fresh { (cfg : C.Settings) (prompt : Bool) (turns ahead : List Turn) (total : ℕ) (first : L) (first_net : N) → turn ≡ first_of ahead → AllFresh (C.stands cfg) pool.old
+        → IsPlaced (C.meaning cfg) (C.stands cfg) C.seen C.sound L.seen L.wrote N.seen (address_of to.now) prompt turns ahead first first_net total resources.old.left number conn.old pool.old
+        → OnOk result (AllFresh (C.stands cfg) pool.new) }
+    ensures halted { (cfg : C.Settings) (prompt : Bool) (turns ahead : List Turn) (total : ℕ) (first : L) (first_net : N) → turn ≡ first_of ahead → AllFresh (C.stands cfg) pool.old
+        → IsPlaced (C.meaning cfg) (C.stands cfg) C.seen C.sound L.seen L.wrote N.seen (address_of to.now) prompt turns ahead first first_net total resources.old.left number conn.old pool.old
         → OnErr result (Pays total resources.new.left (Halted (C.meaning cfg) (C.stands cfg) C.seen turns L.seen L.wrote first conn.new.client conn.new.server (address_of to.now) (N.seen first_net) (N.seen conn.new.net) conn.new.ran)) }
     ensures spent { IsErrOf result WeaveFault.Spent → resources.new.left ≡ 0 }
     ensures lent { OnErr result (IsLent conn.new.server (N.seen conn.new.net).lent) }

@@ -3,9 +3,7 @@ ghost use Rattle.std.specs.Prelude.{◌≡◌, ◌<◌, ℕ, List, None, true, i
 ghost use Rattle.px_link.specs.Net.{address_of};
 ghost use Rattle.px_link.specs.declared.turns.Turn.{Turn};
 ghost use Rattle.px_link.specs.Turns.{first_of};
-ghost use Rattle.htx_drive.specs.Driven.{Ends};
-ghost use Rattle.htx_drive.specs.Turned.{StandsIn};
-ghost use Rattle.htx_drive.specs.Underway.{Runs, Stopped, LeftSo, ahead_of, paid_with, OverSays, MovesBehind};
+ghost use Rattle.htx_drive.specs.Underway.{OverSays, MovesBehind, Steps};
 
 use crate::resources::MOST_READ;
 use crate::weave::conn::Conn;
@@ -38,8 +36,7 @@ pub(crate) fn step<C: Machine, L: Link, N: Net<Link = L>>(
     requires sound { C.sound core.old }
     ensures sound { OnOk result (C.sound core.new) }
     ensures kept { IsErrOf result SessionFault.ClientWrite → C.sound core.new }
-    ensures goes { (cfg : C.Settings) (all ahead : List Turn) (count : ℕ) (first : L) (first_net : N) → turn ≡ first_of ahead → Runs (StandsIn (C.stands cfg) C.seen all ahead count 0 core.old) L.seen L.wrote first conn.old.client conn.old.server (address_of to.now) (N.seen first_net) (N.seen conn.old.net) count
-        → Ends result (λ did. Runs (StandsIn (C.stands cfg) C.seen all (ahead_of did ahead) (paid_with did count) 0 core.new) L.seen L.wrote first conn.new.client conn.new.server (address_of to.now) (N.seen first_net) (N.seen conn.new.net) (paid_with did count)) (λ failed. (left : List Turn) × Stopped (LeftSo (C.meaning cfg) (C.stands cfg) C.seen all left count core.new failed) L.seen L.wrote first conn.new.client failed (address_of to.now) (N.seen first_net) (N.seen conn.new.net) count) }
+    ensures goes { (cfg : C.Settings) (all ahead : List Turn) (count : ℕ) (first : L) (first_net : N) → turn ≡ first_of ahead → Steps result (λ did. did) (λ _. conn.new.server) (C.meaning cfg) (C.stands cfg) C.seen all ahead core.old core.new L.seen L.wrote first conn.old.client conn.new.client conn.old.server (address_of to.now) (N.seen first_net) (N.seen conn.old.net) (N.seen conn.new.net) count }
     ensures over { IfOk result (λ did. OverSays did (C.seen core.new).wants) }
     ensures serving { OnOk result ((C.seen core.new).serving ≡ is_some conn.new.server) }
     ensures lent { OnOk result (is_some conn.new.server ≡ true → 0 < (N.seen conn.new.net).lent) }

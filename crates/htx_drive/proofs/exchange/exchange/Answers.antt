@@ -1,4 +1,4 @@
-use Rattle.std.proofs.Common.{◌++◌, ◌∷◌, [], false, true, refl, arith}
+use Rattle.std.proofs.Common.{◌++◌, ◌∷◌, [], false, true, arith}
 use Rattle.session_core.specs.History.{connected}
 use Rattle.px_link.specs.Net.{address_of}
 use Rattle.std.proofs.lemmas.Bool.{false≢true}

@@ -3,7 +3,7 @@ ghost use Rattle.std.specs.Prelude.{◌≡◌, ◌<◌, length, IfOk};
 ghost use Rattle.std.specs.List.{AllByRecursion};
 ghost use Rattle.px_pool.specs.Owners.{count_out};
 ghost use Rattle.px_pool.specs.Seats.{free_of};
-ghost use Rattle.htx_drive.specs.Weave.State.{IsReady, IsFresh};
+ghost use Rattle.htx_drive.specs.Weave.State.{IsReady, IsFresh, AllReady, AllFresh};
 
 use crate::OutOfMemory;
 use crate::replay::Cores;
@@ -41,8 +41,8 @@ pub fn pool_of<C: Resets + Drop, K: Cores<C>>(
     ensures some { IfOk result (λ pool. 0 < length (free_of pool)) }
     ensures sets { IfOk result (λ pool. length (free_of pool) ≡ sets) }
     ensures unused { IfOk result (λ pool. count_out pool.owners ≡ 0) }
-    ensures ready { IfOk result (λ pool. AllByRecursion (IsReady C.seen C.sound) (free_of pool)) }
-    ensures fresh { IfOk result (λ pool. AllByRecursion (IsFresh (C.stands (K.settings cores.now))) (free_of pool)) }
+    ensures ready { IfOk result (λ pool. AllReady C.seen C.sound pool) }
+    ensures fresh { IfOk result (λ pool. AllFresh (C.stands (K.settings cores.now)) pool) }
 {
     let all = cores_for(alloc, cores, sets)?;
     let pool = Pool::new(alloc, all)?;

@@ -1,4 +1,4 @@
-use Rattle.std.proofs.Common.{◌≡◌, ◌+◌, ◌-◌, ◌<◌, ◌++◌, ◌∷◌, [], ◌%◌, List, ℕ, ap, ◌∙◌, arith}
+use Rattle.std.proofs.Common.{◌+◌, ◌-◌, ◌<◌, ◌++◌, List, ℕ, ap, ◌∙◌, arith}
 use Rattle.htx_drive.specs.Drill.Plan.{lengths_of}
 use Rattle.htx_drive.proofs.DrillLemmas.Plans.{lengths_more}
 use Rattle.htx_drive.proofs.drill.draws.lengths.Goals as goal

@@ -1,4 +1,4 @@
-use Rattle.std.proofs.Common.{◌≡◌, ◌++◌, ◌∷◌, [], List, ℕ, ap, ◌∙◌, length, decimal}
+use Rattle.std.proofs.Common.{◌++◌, ◌∷◌, [], List, ℕ, ap, ◌∙◌, length, decimal}
 use Rattle.std.specs.Prelude.{Option, codes}
 use Rattle.rec_format.specs.declared.report.Sent.{Sent}
 use Rattle.rec_format.specs.Report.{end_word}

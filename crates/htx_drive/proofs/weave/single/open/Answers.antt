@@ -1,4 +1,4 @@
-use Rattle.std.proofs.Common.{sym, Bool, None}
+use Rattle.std.proofs.Common.{sym, None}
 use Rattle.px_link.specs.Net.{address_of}
 use Rattle.htx_drive.specs.Underway.{LeftSo}
 use Rattle.htx_drive.specs.declared.SessionFault.TheVariants as faults
