@@ -22,7 +22,7 @@ use Rattle.cfg_expr.specs.declared.condition.written.AclLine.{AclLine}
 use Rattle.cfg_parse.specs.Reading.{◌>>=◌, argument, no_more, Leaves}
 use Rattle.cfg_parse.specs.Keywords.{timeout_of}
 use Rattle.cfg_parse.specs.Draft.{start, has_listen}
-use Rattle.cfg_parse.specs.Settings.{has_effect, section_line, bufsize_line, maxrewrite_line, mode_line, named, timeout_line, bind_line, server_line}
+use Rattle.cfg_parse.specs.Settings.{has_effect, section_line, bufsize_line, maxrewrite_line, mode_line, named, timeout_line, bind_options, bind_line, server_line}
 use Rattle.cfg_parse.specs.Rules.{tests_of, rules_in, has_room, with_rule, rule_added, with_forwarding}
 use Rattle.cfg_parse.specs.Sound.{IsSound}
 use Rattle.cfg_parse.specs.Whole.{bufsize_of, maxrewrite_of, limits_of, made_config, with_last, with_addresses, whole}
@@ -109,7 +109,7 @@ timeout_line-sound draft arguments s =
 bind_line-sound : (draft : Draft) (arguments : List (List ℕ)) → IsSound draft → Keeps (bind_line draft arguments)
 unfolding bind_line
 bind_line-sound draft arguments s =
-    keeps_unless (is_some draft.bind) Argument _ (keeps_bind (argument arguments) _ (λ word is. keeps_bind (address_of word.0) _ (λ address address-is. keeps_bind (no_more word.1) _ (λ ended ends.
+    keeps_unless (is_some draft.bind) Argument _ (keeps_bind (argument arguments) _ (λ word is. keeps_bind (address_of word.0) _ (λ address address-is. keeps_bind (bind_options word.1) _ (λ accepts accepts-is.
     record { bufsize = s.bufsize; bind = address_of-port word.0 address address-is; server = s.server; request = s.request; response = s.response; after = s.after; req_filters = s.req_filters; res_filters = s.res_filters; forwarding = s.forwarding }))))
 
 server_line-sound : (draft : Draft) (arguments : List (List ℕ)) → IsSound draft → Keeps (server_line draft arguments)

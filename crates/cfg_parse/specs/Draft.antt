@@ -23,6 +23,7 @@ start =
       maxrewrite = None;
       timeouts = default_timeouts;
       bind = None;
+      accept_proxy = false;
       server = None;
       acls = [];
       tests = 0;

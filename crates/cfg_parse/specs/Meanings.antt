@@ -1,7 +1,7 @@
 -- What is wrong where a line is refused, and what stands there instead, in a sentence for each kind.
 use Rattle.std.specs.Prelude.{ℕ, List, codes}
 use Rattle.cfg_parse.specs.declared.fault.CfgKind.{CfgKind}
-use Rattle.cfg_parse.specs.declared.fault.CfgKind.TheVariants.{Word, Section, Keyword, Argument, Expr, Acl, Pattern, FramingName, Limit, Missing}
+use Rattle.cfg_parse.specs.declared.fault.CfgKind.TheVariants.{Word, Section, Keyword, Argument, Expr, Acl, Pattern, FramingName, Limit, Missing, Mode}
 
 unfoldable pub word_meaning : List ℕ
 word_meaning = codes "A word is malformed. Quotes are closed, \\x has two hexadecimal digits behind it, $ in double quotes is \\$, no backslash ends the line, and there is no NUL."
@@ -33,6 +33,9 @@ limit_meaning = codes "A number, a length or a count is beyond its limit. A smal
 unfoldable pub missing_meaning : List ℕ
 missing_meaning = codes "The file has no listen, bind or server. It has one listen NAME, with bind HOST:PORT and server NAME HOST:PORT in it."
 
+unfoldable pub mode_meaning : List ℕ
+mode_meaning = codes "The command does not take a configuration with this option. For explain and weave, bind HOST:PORT stands without accept-proxy."
+
 -- the sentence of a kind
 abbrev pub meaning_of : CfgKind → List ℕ
 meaning_of Word = word_meaning
@@ -45,3 +48,4 @@ meaning_of Pattern = pattern_meaning
 meaning_of FramingName = framing_name_meaning
 meaning_of Limit = limit_meaning
 meaning_of Missing = missing_meaning
+meaning_of Mode = mode_meaning

@@ -1,5 +1,5 @@
 -- Lines that begin a section, and settings without rules (Configuration Manual, sections 2 to 4).
-use Rattle.std.specs.Prelude.{ℕ, List, Bool, not, ◌||◌, if◌then◌else◌, Option, Some, None, is_some, Result, Ok, Err, codes}
+use Rattle.std.specs.Prelude.{ℕ, List, [], ◌∷◌, Bool, true, false, not, ◌||◌, if◌then◌else◌, Option, Some, None, is_some, Result, Ok, Err, codes}
 use Rattle.std.specs.Str.{bytes_eq}
 use Rattle.http_model.specs.Sizes.{least_size, most_size}
 use Rattle.http_rules.specs.declared.config.Timeouts.{Timeouts}
@@ -90,11 +90,16 @@ timeout_line draft arguments = do
   ended ← no_more second.1
   Ok (record draft { timeouts = if has_effect draft then with_time draft.timeouts name time else draft.timeouts })
 
--- `bind HOST:PORT`, once
+-- what may stand behind the address of `bind`: nothing, or `accept-proxy` alone, which it tells
+unfoldable pub bind_options : List (List ℕ) → Result Bool CfgKind
+bind_options [] = Ok false
+bind_options (word ∷ others) = if bytes_eq word (codes "accept-proxy") then (no_more others >>= λ ended. Ok true) else Err Argument
+
+-- `bind HOST:PORT` or `bind HOST:PORT accept-proxy`, once
 unfoldable pub bind_line : Draft → List (List ℕ) → Result Draft CfgKind
 bind_line draft arguments =
     if is_some draft.bind then Err Argument
-    else (argument arguments >>= λ word. address_of word.0 >>= λ address. no_more word.1 >>= λ ended. Ok (record draft { bind = Some address }))
+    else (argument arguments >>= λ word. address_of word.0 >>= λ address. bind_options word.1 >>= λ accepts. Ok (record draft { bind = Some address; accept_proxy = accepts }))
 
 -- `server NAME HOST:PORT`, once
 unfoldable pub server_line : Draft → List (List ℕ) → Result Draft CfgKind

@@ -51,6 +51,7 @@ made_config draft rules bind server =
       limits = limits_of draft;
       timeouts = draft.timeouts;
       bind = bind;
+      accept_proxy = draft.accept_proxy;
       server = server;
       request = rules;
       response = draft.response;

@@ -29,6 +29,8 @@ pub struct Draft {
     pub maxrewrite: Option<u32>,
     pub timeouts: Timeouts,
     pub bind: Option<Address>,
+    /// The `bind` line has `accept-proxy`.
+    pub accept_proxy: bool,
     pub server: Option<Address>,
     /// The `acl` lines so far.
     pub acls: AclList,

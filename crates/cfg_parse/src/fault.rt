@@ -32,6 +32,8 @@ pub enum CfgKind {
     Limit = 9,
     /// No `listen`, `bind` or `server`.
     Missing = 10,
+    /// An option that the command doesn't take. No line is refused by it.
+    Mode = 12,
 }
 
 /// Why a text is no configuration.

@@ -5,7 +5,7 @@ ghost use Rattle.cfg_parse.specs.Meanings.{meaning_of};
 use crate::fault::CfgKind;
 
 /// A sentence or two on what is wrong where a line is refused with this kind, and on what stands there instead, in ASCII and in one line.
-#[tactic(auto, unfolding(crate::specs::Meanings::word_meaning, crate::specs::Meanings::section_meaning, crate::specs::Meanings::keyword_meaning, crate::specs::Meanings::argument_meaning, crate::specs::Meanings::expr_meaning, crate::specs::Meanings::acl_meaning, crate::specs::Meanings::pattern_meaning, crate::specs::Meanings::framing_name_meaning, crate::specs::Meanings::limit_meaning, crate::specs::Meanings::missing_meaning))]
+#[tactic(auto, unfolding(crate::specs::Meanings::word_meaning, crate::specs::Meanings::section_meaning, crate::specs::Meanings::keyword_meaning, crate::specs::Meanings::argument_meaning, crate::specs::Meanings::expr_meaning, crate::specs::Meanings::acl_meaning, crate::specs::Meanings::pattern_meaning, crate::specs::Meanings::framing_name_meaning, crate::specs::Meanings::limit_meaning, crate::specs::Meanings::missing_meaning, crate::specs::Meanings::mode_meaning))]
 pub fn meaning_of(kind: CfgKind) -> &'static str
     ensures { result.now ≡ meaning_of kind }
 {
@@ -30,5 +30,7 @@ pub fn meaning_of(kind: CfgKind) -> &'static str
             "A number, a length or a count is beyond its limit. A smaller one stands here, or fewer lines; tune.maxrewrite is at most tune.bufsize less 512.",
         CfgKind::Missing =>
             "The file has no listen, bind or server. It has one listen NAME, with bind HOST:PORT and server NAME HOST:PORT in it.",
+        CfgKind::Mode =>
+            "The command does not take a configuration with this option. For explain and weave, bind HOST:PORT stands without accept-proxy.",
     }
 }

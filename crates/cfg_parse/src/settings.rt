@@ -2,7 +2,7 @@
 
 ghost use Rattle.std.specs.Prelude.{◌≡◌, Some, OnOk, OnErr};
 ghost use Rattle.cfg_parse.specs.Reading.{Gives, Leaves, no_more};
-ghost use Rattle.cfg_parse.specs.Settings.{bufsize_line, maxrewrite_line, mode_line, with_time, has_effect, timeout_line, bind_line, server_line};
+ghost use Rattle.cfg_parse.specs.Settings.{bufsize_line, maxrewrite_line, mode_line, with_time, has_effect, timeout_line, bind_options, bind_line, server_line};
 
 use crate::address::{address_of, server_address_of};
 use crate::arguments::Arguments;
@@ -118,6 +118,21 @@ fn put_last(
     }
 }
 
+/// Whether `accept-proxy` stands behind the address of a `bind` line, where nothing else may.
+#[tactic(auto, unfolding(crate::specs::Settings::bind_options))]
+fn bind_options(mut options: Arguments<'_>) -> Result<bool, LineRefusal>
+    ensures { Gives (λ accepts. accepts) result (bind_options options.entry) }
+{
+    let Some(word) = options.next() else {
+        return Ok(false);
+    };
+    if !is_word(word, b"accept-proxy") {
+        return Err(LineRefusal::Refused(CfgKind::Argument));
+    }
+    options.no_more()?;
+    Ok(true)
+}
+
 #[tactic(auto, unfolding(crate::specs::Settings::bind_line))]
 pub fn set_bind(
     alloc: Global,
@@ -132,7 +147,10 @@ pub fn set_bind(
     }
     let (word, arguments) = arguments.argument()?;
     let address = address_of(alloc, word)?;
-    put_last(&mut draft.bind, address, arguments)
+    let accepts = bind_options(arguments)?;
+    drop(draft.bind.replace(address));
+    draft.accept_proxy = accepts;
+    Ok(())
 }
 
 #[tactic(auto, unfolding(crate::specs::Settings::server_line))]

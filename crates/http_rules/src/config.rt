@@ -32,6 +32,8 @@ pub struct Config {
     pub timeouts: Timeouts,
     /// Where clients connect to. An empty host or `*` is every address of the machine.
     pub bind: Address,
+    /// Each client's stream begins with a header of the PROXY protocol.
+    pub accept_proxy: bool,
     /// The one server.
     pub server: Address,
     /// The `http-request` rules, in their order, at most 1024.
@@ -54,6 +56,7 @@ impl Drop for Config {
             limits: _,
             timeouts: _,
             bind: _,
+            accept_proxy: _,
             server: _,
             request: _,
             response: _,
