@@ -1,10 +1,9 @@
 -- What the loop did with its net, act by act.
-use Rattle.std.proofs.Common.{◌≡◌, ℕ, ◌+◌, List, [], ◌∷◌, ◌++◌, Bool, true, false, cond, Option, Some, None, zero, suc, refl, sym, ap, subst, ◌∙◌, inl, inr}
+use Rattle.std.proofs.Common.{◌≡◌, ℕ, List, [], ◌∷◌, ◌++◌, Bool, true, false, cond, Option, Some, None, zero, suc, refl, sym, ap, subst, ◌∙◌, inl, inr}
 use Rattle.std.specs.Prelude.{◌==◌}
 use Rattle.std.proofs.lemmas.List.{append-nil, map-append}
 use Rattle.std.proofs.lemmas.Bool.{cases_eq, eq-eqb, ne_eqb}
 use Rattle.px_link.specs.Link.{Seen}
-use Rattle.px_peer.specs.declared.Peer.{Peer}
 use Rattle.px_link.specs.Net.{NetSeen, Keeps}
 use Rattle.px_run.specs.Lines.{Ended, said_of, ended_by}
 use Rattle.px_run.specs.History.{Visit, Act, Accepts, AcceptsNone, GivesBack, Does, AllDone, accepted_in, returned_in, new_visit, numbered, change_numbered, given_back, link_of, links_back, outcomes_of, Story}
@@ -56,14 +55,14 @@ module _ {L N : Type 0} (seen : L → Seen) (wrote : L → List ℕ → Type 0) 
         said = s.said;
       }
 
-  pub story_accepts : (old new : NetSeen) (visits : List (Visit L N)) (ended : List Ended) (link : L) (own : N) (peer : Option Peer) → Does seen wrote (Accepts link) old new → Story seen wrote begun old visits ended → Story seen wrote begun new (visits ++ new_visit link own peer ∷ []) ended
-  story_accepts old new visits ended link own peer d s =
+  pub story_accepts : (old new : NetSeen) (visits : List (Visit L N)) (ended : List Ended) (link : L) (own : N) → Does seen wrote (Accepts link) old new → Story seen wrote begun old visits ended → Story seen wrote begun new (visits ++ new_visit link own ∷ []) ended
+  story_accepts old new visits ended link own d s =
       record {
         acts = s.acts ++ Accepts link ∷ [];
         done = done_more seen wrote s.acts (Accepts link) begun old new s.done d;
-        accepted = accepted_then s.acts (Accepts link ∷ []) ∙ ap (λ l. l ++ link ∷ []) s.accepted ∙ sym (map-append (λ (visit : Visit L N). visit.first) visits (new_visit link own peer ∷ []));
-        returned = λ number. returned_then number s.acts (Accepts link ∷ []) ∙ append-nil (returned_in number s.acts) ∙ s.returned number ∙ sym (num_last_view (λ (o : Option (Visit L N)). links_back o) visits (new_visit link own peer) number refl);
-        said = λ number. s.said number ∙ sym (num_last_view (λ (o : Option (Visit L N)). outcomes_of o) visits (new_visit link own peer) number refl);
+        accepted = accepted_then s.acts (Accepts link ∷ []) ∙ ap (λ l. l ++ link ∷ []) s.accepted ∙ sym (map-append (λ (visit : Visit L N). visit.first) visits (new_visit link own ∷ []));
+        returned = λ number. returned_then number s.acts (Accepts link ∷ []) ∙ append-nil (returned_in number s.acts) ∙ s.returned number ∙ sym (num_last_view (λ (o : Option (Visit L N)). links_back o) visits (new_visit link own) number refl);
+        said = λ number. s.said number ∙ sym (num_last_view (λ (o : Option (Visit L N)). outcomes_of o) visits (new_visit link own) number refl);
       }
 
   pub story_ends : (now : NetSeen) (visits behind : List (Visit L N)) (ended : List Ended) (looked : Looked) → Advances looked visits behind → Story seen wrote begun now visits ended → Story seen wrote begun now behind (ended ++ ended_by looked)

@@ -11,7 +11,7 @@ use Rattle.px_run.proofs.Numbers.{some_same, here_set, here_at}
 
 module _ {C L N : Type 0} (seen : L → Seen) (wrote : L → List ℕ → Type 0) (sees_net : N → NetSeen) where
   pub asked_same : (c : Connection C L N) → IsAsked seen wrote sees_net c c
-  asked_same c = record { number = refl; peer = refl; client = same_link seen wrote c.conn.client; server = same_server seen wrote c.conn.server; net = refl; ran = refl; core = refl }
+  asked_same c = record { number = refl; caller = refl; client = same_link seen wrote c.conn.client; server = same_server seen wrote c.conn.server; net = refl; ran = refl; core = refl }
 
   pub asked_some : (old : Option (Connection C L N)) (c : Connection C L N) → IsAskedAt seen wrote sees_net old (Some c) → (b : Connection C L N) × (old ≡ Some b) × IsAsked seen wrote sees_net b c
   asked_some None c a = absurd a
@@ -53,7 +53,7 @@ module _ {C L N : Type 0} (seen : L → Seen) (wrote : L → List ℕ → Type 0
         client = same_then seen wrote a.conn.client b.conn.client c.conn.client s.client t.client;
         server = same_server_then seen wrote a.conn.server b.conn.server c.conn.server s.server t.server;
         net = t.net ∙ s.net;
-        peer = t.peer ∙ s.peer;
+        caller = t.caller ∙ s.caller;
         ran = t.ran ∙ s.ran;
         core = t.core ∙ s.core;
       }

@@ -4,6 +4,8 @@ mod Courses
 mod Sets
 mod Begins
 mod Looks
+mod Puts
+mod Callers
 mod Numbers
 mod Halls
 mod Texts
@@ -11,7 +13,6 @@ mod AskedAll
 mod AtPlace
 mod Stays
 mod Leaves
-mod Puts
 mod Tellings
 mod Acts
 mod Stories

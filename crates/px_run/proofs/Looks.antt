@@ -23,7 +23,7 @@ has_it P held core e h =
     subst P same h.2
 
 -- no server is open, where none was
-none_same : {L : Type 0} (seen : L → Seen) (wrote : L → List ℕ → Type 0) (was server : Option L) → IsSameServer seen wrote was server → was ≡ None → server ≡ None
+pub none_same : {L : Type 0} (seen : L → Seen) (wrote : L → List ℕ → Type 0) (was server : Option L) → IsSameServer seen wrote was server → was ≡ None → server ≡ None
 none_same seen wrote None None s e = refl
 none_same seen wrote None (Some link) s e = absurd s
 none_same seen wrote (Some was) server s e = cc

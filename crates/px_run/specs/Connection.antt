@@ -1,5 +1,6 @@
 -- Where a connection of many stands between two looks at it.
 use Rattle.std.specs.Prelude.{◌≡◌, ℕ, List, [], ◌∷◌, true, Option, Some, None, Result, is_some}
+use Rattle.std.specs.List.{AllByRecursion}
 use Rattle.session_model.specs.Meaning.{Meaning}
 use Rattle.session_core.specs.History.{Past}
 use Rattle.px_peer.specs.declared.Peer.{Peer}
@@ -12,12 +13,22 @@ use Rattle.htx_drive.specs.declared.SessionFault.{SessionFault}
 use Rattle.serve_run.specs.Lines.{answer_of}
 use Rattle.px_run.specs.Lines.{outcomes_in}
 use Rattle.px_run.specs.Course.{IsSame, GoesOn, CameTo, MayStep}
+use Rattle.px_run.specs.declared.connection.Connection.{Connection}
 use Rattle.px_run.specs.declared.connection.Looked.{Looked}
 use Rattle.px_run.specs.declared.connection.Looked.TheVariants as looks
+
+-- the one of what the other gives
+infixr 9 ◌∘◌
+abbrev pub ◌∘◌ {ℓ} : {A B : Type 0} {R : Type ℓ} → (B → R) → (A → B) → A → R
+g ∘ f = λ a. g (f a)
 
 -- nothing has happened to a core, whosever connection it is to serve
 abbrev pub IsFreshFor : {C : Type 0} → (stands : Option Peer → C → Past → Type 0) → C → Type 0
 IsFreshFor stands core = (peer : Option Peer) × IsFresh (stands peer) core
+
+-- nothing has happened to any of these cores, whosever connections they are to serve under this configuration
+abbrev pub AllFreshFor : {C S : Type 0} → (stands : S → C → Past → Type 0) → (for_peer : S → Option Peer → S) → (cfg : S) → List C → Type 0
+AllFreshFor stands for_peer cfg sets = AllByRecursion (IsFreshFor (stands ∘ for_peer cfg)) sets
 
 -- nothing of it was touched
 pub record IsWaiting {L : Type 0} (seen : L → Seen) (wrote : L → List ℕ → Type 0) (first client : L) (server : Option L) (first_net net : NetSeen) : Type 0 where
@@ -41,6 +52,10 @@ IsAt M stands sees sound seen wrote first client server to first_net net None No
 IsAt M stands sees sound seen wrote first client server to first_net net None (Some core) = IsServing stands sees sound seen wrote first client server to first_net net core
 IsAt M stands sees sound seen wrote first client server to first_net net (Some ran) None = IsOver M stands sees seen wrote first client server to first_net net ran
 IsAt M stands sees sound seen wrote first client server to first_net net (Some ran) (Some core) = ⊥
+
+-- this connection stands so under this configuration
+abbrev pub IsAtUnder : {C L N S : Type 0} → (meaning : S → Meaning) → (stands : S → C → Past → Type 0) → (cfg : S) → (sees : C → CoreSeen) → (sound : C → Type 0) → (seen : L → Seen) → (wrote : L → List ℕ → Type 0) → (sees_net : N → NetSeen) → (first : L) → Place → (first_net : N) → Connection C L N → Type 0
+IsAtUnder meaning stands cfg sees sound seen wrote sees_net first to first_net c = IsAt (meaning cfg) (stands cfg) sees sound seen wrote first c.conn.client c.conn.server to (sees_net first_net) (sees_net c.conn.net) c.conn.ran c.core
 
 -- What a look says: one that ends does so in this look, and its number and its outcome are told. One that was given up for want of memory has no outcome.
 abbrev pub LookedSo : Looked → (number : ℕ) → (was ran : Option (Result Ran SessionFault)) → Type 0

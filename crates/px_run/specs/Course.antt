@@ -7,6 +7,7 @@ use Rattle.px_link.specs.Link.{Seen}
 use Rattle.px_link.specs.Net.{Place, Kept, NetSeen}
 use Rattle.htx_drive.specs.Machine.{CoreSeen}
 use Rattle.htx_drive.specs.declared.Ran.{Ran}
+use Rattle.htx_drive.specs.declared.weave.conn.Conn.{Conn}
 use Rattle.htx_drive.specs.declared.SessionFault.{SessionFault}
 use Rattle.htx_drive.specs.Driven.{failed_by}
 use Rattle.htx_drive.specs.Weave.Woven.{Going, EndedSo, GivenUp}
@@ -48,6 +49,10 @@ GoesOn stands sees core seen wrote first client server to first_net net =
 abbrev pub WorksOn : {C L : Type 0} → (stands : C → Past → Type 0) → (sees : C → CoreSeen) → C → (seen : L → Seen) → (wrote : L → List ℕ → Type 0) → (first client : L) → (server : Option L) → Place → (first_net net : NetSeen) → Type 0
 WorksOn stands sees core seen wrote first client server to first_net net =
     (taken : List Turn) × ((ahead : List Turn) → (count : ℕ) × Working stands sees (taken ++ ahead) ahead core seen wrote first client server to first_net net count)
+
+-- this connection goes on, with this core
+abbrev pub IsUnderWay : {C L N : Type 0} → (stands : C → Past → Type 0) → (sees : C → CoreSeen) → C → (seen : L → Seen) → (wrote : L → List ℕ → Type 0) → (sees_net : N → NetSeen) → (first : L) → Place → (first_net : N) → Conn L N → Type 0
+IsUnderWay stands sees core seen wrote sees_net first to first_net conn = GoesOn stands sees core seen wrote first conn.client conn.server to (sees_net first_net) (sees_net conn.net)
 
 -- It has ended, and says how: some turns led to the session of its own links; or it was given up, since a write to its client failed or it found no
 -- memory, and what was written is a front.
@@ -95,6 +100,12 @@ OfCore steps.Lost P = ⊤
 pub record EndsWith (did : Stepped) (came : Type 0) (stands : Type 0) : Type 0 where
   pub so : came
   pub core : OfCore did stands
+
+-- by what a step of this connection came to: it goes on with this core, or has ended
+abbrev pub LeadsTo : {C L N S : Type 0} → Stepped → (meaning : S → Meaning) → (stands : S → C → Past → Type 0) → (cfg : S) → (sees : C → CoreSeen) → C → (seen : L → Seen) → (wrote : L → List ℕ → Type 0) → (sees_net : N → NetSeen) → (first : L) → Place → (first_net : N) → Conn L N → Type 0
+LeadsTo did meaning stands cfg sees core seen wrote sees_net first to first_net conn =
+    StepsTo did (IsUnderWay (stands cfg) sees core seen wrote sees_net first to first_net conn)
+    (EndsWith did (CameTo (meaning cfg) (stands cfg) sees seen wrote first conn.client to (sees_net first_net) (sees_net conn.net) conn.ran) (StandsSomehow (stands cfg) core))
 
 -- it has its core, and may go on
 pub record MayStep {C L : Type 0} (sees : C → CoreSeen) (sound : C → Type 0) (core : C) (server : Option L) (net : NetSeen) (ran : Option (Result Ran SessionFault)) : Type 0 where

@@ -1,5 +1,5 @@
 -- What a loop did since it began: with the net that listens, and with each connection.
-use Rattle.std.specs.Prelude.{◌≡◌, ℕ, zero, suc, ◌==◌, ◌⊎◌, if◌then◌else◌, List, [], ◌∷◌, map, slice_get, Option, Some, None, Result, IfSome, is_some, true}
+use Rattle.std.specs.Prelude.{◌≡◌, ℕ, Bool, zero, suc, ◌==◌, ◌⊎◌, if◌then◌else◌, List, [], ◌∷◌, map, slice_get, Option, Some, None, Result, IfSome, is_some, true}
 use Rattle.std.specs.List.{sum_by}
 use Rattle.session_model.specs.Meaning.{Meaning}
 use Rattle.session_core.specs.History.{Past}
@@ -10,22 +10,22 @@ use Rattle.htx_drive.specs.Machine.{CoreSeen}
 use Rattle.htx_drive.specs.declared.Ran.{Ran}
 use Rattle.htx_drive.specs.declared.SessionFault.{SessionFault}
 use Rattle.serve_run.specs.declared.outcome.Outcome.{Outcome}
-use Rattle.px_run.specs.Course.{IsNewNet, EndedOrLeft}
+use Rattle.px_run.specs.Course.{IsNewNet}
+use Rattle.px_run.specs.Callers.{CameBack}
 use Rattle.px_run.specs.Lines.{Ended, outcomes_in, said_of}
 
 -- ---- connections
 
--- A connection: its link as it was accepted, what that told of its peer, the net that was made for it, what it came to, and both as they were when the link was given back.
+-- A connection: its link as it was accepted, the net that was made for it, what it came to, and both as they were when the link was given back.
 pub record Visit (L N : Type 0) : Type 0 where
   pub first : L
-  pub peer : Option Peer
   pub own : N
   pub came : Option (Result Ran SessionFault)
   pub back : Option (L × N)
 
 -- one that was accepted
-abbrev pub new_visit : {L N : Type 0} → L → N → Option Peer → Visit L N
-new_visit link own peer = record { first = link; peer = peer; own = own; came = None; back = None }
+abbrev pub new_visit : {L N : Type 0} → L → N → Visit L N
+new_visit link own = record { first = link; own = own; came = None; back = None }
 
 -- the one of this number: they are numbered from 1
 abbrev pub numbered : {A : Type 0} → (number : ℕ) → List A → Option A
@@ -73,11 +73,10 @@ open_in (Some back) = 0
 abbrev pub count_open : {L N : Type 0} → List (Visit L N) → ℕ
 count_open {L} {N} visits = sum_by (λ (visit : Visit L N). open_in visit.back) visits
 
--- Its net is a new one. Where its link was given back, its session, which began with its peer, led there from the link that was accepted, or it was given up.
-pub record IsVisit {C L N : Type 0} (M : Option Peer → Meaning) (stands : Option Peer → C → Past → Type 0) (sees : C → CoreSeen) (seen : L → Seen) (wrote : L → List ℕ → Type 0) (tells : L → Option Peer → Type 0) (sees_net : N → NetSeen) (to : Place) (visit : Visit L N) : Type 0 where
+-- Its net is a new one. Where its link was given back, it was met as the link that was accepted tells, and the session of its caller led there, or it was turned away or given up.
+pub record IsVisit {C L N : Type 0} (M : Option Peer → Meaning) (stands : Option Peer → C → Past → Type 0) (sees : C → CoreSeen) (seen : L → Seen) (wrote : L → List ℕ → Type 0) (tells : L → Option Peer → Type 0) (accepts_header : Bool) (sees_net : N → NetSeen) (to : Place) (visit : Visit L N) : Type 0 where
   pub new_net : IsNewNet (sees_net visit.own)
-  pub told : tells visit.first visit.peer
-  pub back : IfSome visit.back (λ (back : L × N). EndedOrLeft (M visit.peer) (stands visit.peer) sees seen wrote visit.first back.0 to (sees_net visit.own) (sees_net back.1) visit.came)
+  pub back : IfSome visit.back (λ (back : L × N). CameBack M stands sees seen wrote tells accepts_header visit.first back.0 to (sees_net visit.own) (sees_net back.1) visit.came)
 
 -- It is given back only once it has come to something, and not for want of memory.
 pub record EndsByItself {L N : Type 0} (visit : Visit L N) : Type 0 where

@@ -3,6 +3,7 @@ pub mod Deadline
 pub mod Course
 pub mod Lines
 pub mod Connection
+pub mod Callers
 pub mod History
 pub mod Hall
 pub mod Served

@@ -1,13 +1,14 @@
 //! Links that are accepted, while places are free.
-ghost use Rattle.std.specs.Prelude.{◌≡◌, ◌<◌, ◌≤◌, ◌+◌, ◌-◌, ◌^◌, ◌++◌, ◌∷◌, [], ◌⊎◌, ℕ, List, Bool, true, false, Option, None, Some, IfSome, length, slice_index_or};
-ghost use Rattle.px_link.specs.Net.{NetSeen, Place};
+ghost use Rattle.std.specs.Prelude.{◌≡◌, ◌<◌, ◌≤◌, ◌+◌, ◌-◌, ◌^◌, ◌++◌, ◌∷◌, [], ◌⊎◌, List, true, false, Option, None, Some, IfSome, length, slice_index_or};
+ghost use Rattle.px_link.specs.Net.{Place};
 ghost use Rattle.px_run.specs.declared.connection.Connection.{Connection};
-ghost use Rattle.px_peer.specs.declared.Peer.{Peer};
 ghost use Rattle.px_run.specs.Course.{IsNewNet};
 ghost use Rattle.px_run.specs.History.{Visit, new_visit};
-ghost use Rattle.px_run.specs.Hall.{AllStand, Goes, count_taken, IsSameNet, IsBalanced};
+ghost use Rattle.px_run.specs.Connection.{◌∘◌};
+ghost use Rattle.px_run.specs.Hall.{AllStand, count_taken, IsSameNet, IsBalanced, KeepsAll};
 
 use crate::agenda::Agenda;
+use crate::caller::caller_of;
 use crate::connection::Connection;
 use crate::hall::Hall;
 use crate::{Nets, Plan, RunFault};
@@ -77,24 +78,25 @@ fn take_in<C: ResetsFor + Drop, L: Waits + HasPeer, N: WaitsNet<Link = L>, W: Wa
     link: L,
     own: N,
     wakes: &mut W,
+    accepts_header: bool,
 )
     requires within { place < length hall.old.places.items }
     requires none { (d : Option (Connection C L N)) → slice_index_or hall.old.places.items place d ≡ None }
     requires more { hall.old.accepted < 2 ^ 32 - 1 }
     requires own { IsNewNet (N.seen own) }
-    ensures stands { (cfg : C.Settings) (to : Place) (visits : List (Visit L N)) → hall.old.accepted ≡ length visits → AllStand (λ peer. C.meaning (C.for_peer cfg peer)) (λ peer. C.stands (C.for_peer cfg peer)) C.seen C.sound L.seen L.wrote L.tells N.seen to visits hall.old.places.items hall.old.sets.items
-        → (peer : Option Peer) × AllStand (λ peer. C.meaning (C.for_peer cfg peer)) (λ peer. C.stands (C.for_peer cfg peer)) C.seen C.sound L.seen L.wrote L.tells N.seen to (visits ++ new_visit link own peer ∷ []) hall.new.places.items hall.new.sets.items }
+    ensures stands { (cfg : C.Settings) (to : Place) (visits : List (Visit L N)) → hall.old.accepted ≡ length visits → AllStand (C.meaning ∘ C.for_peer cfg) (C.stands ∘ C.for_peer cfg) C.seen C.sound L.seen L.wrote L.tells accepts_header N.seen to visits hall.old.places.items hall.old.sets.items
+        → AllStand (C.meaning ∘ C.for_peer cfg) (C.stands ∘ C.for_peer cfg) C.seen C.sound L.seen L.wrote L.tells accepts_header N.seen to (visits ++ new_visit link own ∷ []) hall.new.places.items hall.new.sets.items }
     ensures accepted { hall.new.accepted ≡ hall.old.accepted + 1 }
     ensures output { hall.new.output ≡ hall.old.output }
     ensures taken { count_taken hall.new.places.items ≡ 1 + count_taken hall.old.places.items }
 {
-    let peer = link.peer();
+    let caller = caller_of(&link, accepts_header);
     let mut link = link;
     wakes.watch_client(place, &mut link);
     hall.accepted += 1;
     let connection = Connection {
         number: hall.accepted,
-        peer,
+        caller,
         conn: Conn::new(link, own),
         core: None,
     };
@@ -114,12 +116,12 @@ fn accept<
     net: &mut N,
     nets: &mut S,
     wakes: &mut W,
+    accepts_header: bool,
 ) -> Result<(), Fault>
     requires within { place < length hall.old.places.items }
     requires none { (d : Option (Connection C L N)) → slice_index_or hall.old.places.items place d ≡ None }
     requires more { hall.old.accepted < 2 ^ 32 - 1 }
-    ensures goes { (cfg : C.Settings) (to : Place) (begun : NetSeen) (writes writes_now : ℕ) (before after : Option (List ℕ)) → Goes (λ peer. C.meaning (C.for_peer cfg peer)) (λ peer. C.stands (C.for_peer cfg peer)) C.seen C.sound L.seen L.wrote L.tells N.seen to true true begun (N.seen net.old) writes writes_now before after hall.old
-        → Goes (λ peer. C.meaning (C.for_peer cfg peer)) (λ peer. C.stands (C.for_peer cfg peer)) C.seen C.sound L.seen L.wrote L.tells N.seen to true true begun (N.seen net.new) writes writes_now before after hall.new }
+    ensures goes { KeepsAll C.meaning C.stands C.for_peer C.seen C.sound L.seen L.wrote L.tells accepts_header N.seen net.old net.new hall.old hall.new }
     ensures accepted { hall.new.accepted ≤ hall.old.accepted + 1 }
     ensures balanced { IsBalanced (N.seen net.old) (N.seen net.new) hall.old.places.items hall.new.places.items }
     ensures net { IsSameNet (N.seen net.old) (N.seen net.new) }
@@ -130,7 +132,7 @@ fn accept<
     };
     match net.accept() {
         Ok(link) => {
-            take_in(hall, place, link, own, wakes);
+            take_in(hall, place, link, own, wakes, accepts_header);
             Ok(())
         }
         Err(Fault::Failed) => Err(Fault::Failed),
@@ -163,8 +165,7 @@ fn accept_next<
     wakes: &mut W,
     plan: &Plan,
 ) -> Result<bool, RunFault>
-    ensures goes { (cfg : C.Settings) (to : Place) (begun : NetSeen) (writes writes_now : ℕ) (before after : Option (List ℕ)) → Goes (λ peer. C.meaning (C.for_peer cfg peer)) (λ peer. C.stands (C.for_peer cfg peer)) C.seen C.sound L.seen L.wrote L.tells N.seen to true true begun (N.seen net.old) writes writes_now before after hall.old
-        → Goes (λ peer. C.meaning (C.for_peer cfg peer)) (λ peer. C.stands (C.for_peer cfg peer)) C.seen C.sound L.seen L.wrote L.tells N.seen to true true begun (N.seen net.new) writes writes_now before after hall.new }
+    ensures goes { KeepsAll C.meaning C.stands C.for_peer C.seen C.sound L.seen L.wrote L.tells plan.now.accepts_header N.seen net.old net.new hall.old hall.new }
     ensures within { IfSome plan.now.connections (λ count. hall.old.accepted ≤ count → hall.new.accepted ≤ count) }
     ensures balanced { IsBalanced (N.seen net.old) (N.seen net.new) hall.old.places.items hall.new.places.items }
     ensures net { IsSameNet (N.seen net.old) (N.seen net.new) }
@@ -185,7 +186,7 @@ fn accept_next<
     if !is_free(&hall.places, place) {
         return Ok(false);
     }
-    match accept(hall, place, net, nets, wakes) {
+    match accept(hall, place, net, nets, wakes, plan.accepts_header) {
         Ok(()) => match agenda.begin(place, hall.tools.now, &plan.times) {
             Ok(()) => Ok(true),
             Err(OutOfMemory) => Err(RunFault::OutOfMemory),
@@ -213,8 +214,7 @@ pub(crate) fn accepts<
     wakes: &mut W,
     plan: &Plan,
 ) -> Result<(), RunFault>
-    ensures goes { (cfg : C.Settings) (to : Place) (begun : NetSeen) (writes writes_now : ℕ) (before after : Option (List ℕ)) → Goes (λ peer. C.meaning (C.for_peer cfg peer)) (λ peer. C.stands (C.for_peer cfg peer)) C.seen C.sound L.seen L.wrote L.tells N.seen to true true begun (N.seen net.old) writes writes_now before after hall.old
-        → Goes (λ peer. C.meaning (C.for_peer cfg peer)) (λ peer. C.stands (C.for_peer cfg peer)) C.seen C.sound L.seen L.wrote L.tells N.seen to true true begun (N.seen net.new) writes writes_now before after hall.new }
+    ensures goes { KeepsAll C.meaning C.stands C.for_peer C.seen C.sound L.seen L.wrote L.tells plan.now.accepts_header N.seen net.old net.new hall.old hall.new }
     ensures within { IfSome plan.now.connections (λ count. hall.old.accepted ≤ count → hall.new.accepted ≤ count) }
     ensures balanced { IsBalanced (N.seen net.old) (N.seen net.new) hall.old.places.items hall.new.places.items }
     ensures net { IsSameNet (N.seen net.old) (N.seen net.new) }

@@ -4,11 +4,13 @@ ghost use Rattle.std.specs.List.{AllByRecursion};
 ghost use Rattle.px_link.specs.Net.{address_of, Place};
 ghost use Rattle.px_peer.specs.declared.Peer.{Peer};
 ghost use Rattle.htx_drive.specs.Weave.State.{IsReady, IsFresh};
-ghost use Rattle.px_run.specs.Course.{IsSame, GoesOn, CameTo, StandsSomehow, StepsTo, EndsWith, MayStep, HasCome, HasCore};
+ghost use Rattle.px_run.specs.Course.{IsSame, StandsSomehow, StepsTo, MayStep, HasCome, HasCore, LeadsTo, IsUnderWay};
 ghost use Rattle.htx_drive.specs.declared.Ran.{Ran};
 ghost use Rattle.htx_drive.specs.declared.SessionFault.{SessionFault};
-ghost use Rattle.px_run.specs.Connection.{IsAt, IsFreshFor, LookedSo, IsIdle};
+ghost use Rattle.px_run.specs.Connection.{LookedSo, IsIdle, AllFreshFor, IsAtUnder};
+ghost use Rattle.px_run.specs.Callers.{peer_of};
 
+use crate::caller::{Caller, peer_of};
 use crate::pace::Pace;
 use crate::step::{Stepped, Tools, step};
 use crate::watching::{watch_connect, watch_server};
@@ -20,13 +22,13 @@ use serve_run::{Outcome, Ran, SessionFault};
 /// How many steps one connection makes in a row, while others wait.
 const STEPS: usize = 16;
 
-/// One connection. It has no core before its client gives its first bytes, and none once it has ended.
+/// One connection. It has no core before it was met and its client gives its first bytes, and none once it has ended.
 #[derive(Drop)]
 pub(crate) struct Connection<C, L, N> {
     /// Its number in the order in which links were accepted, from 1.
     pub number: u32,
-    /// Who asks, where its link told that as it was accepted.
-    pub peer: Option<Peer>,
+    /// Who asks.
+    pub caller: Caller,
     pub conn: Conn<L, N>,
     pub core: Option<C>,
 }
@@ -58,9 +60,8 @@ fn watched_step<C: Resets, L: Waits, N: WaitsNet<Link = L>, W: Wakes<N>>(
     tools: &mut Tools,
 ) -> Stepped
     requires may { MayStep C.seen C.sound core.old conn.old.server (N.seen conn.old.net) conn.old.ran }
-    ensures goes { (cfg : C.Settings) (first : L) (first_net : N) → GoesOn (C.stands cfg) C.seen core.old L.seen L.wrote first conn.old.client conn.old.server (address_of to.now) (N.seen first_net) (N.seen conn.old.net)
-        → StepsTo result (GoesOn (C.stands cfg) C.seen core.new L.seen L.wrote first conn.new.client conn.new.server (address_of to.now) (N.seen first_net) (N.seen conn.new.net))
-        (EndsWith result (CameTo (C.meaning cfg) (C.stands cfg) C.seen L.seen L.wrote first conn.new.client (address_of to.now) (N.seen first_net) (N.seen conn.new.net) conn.new.ran) (StandsSomehow (C.stands cfg) core.new)) }
+    ensures goes { (cfg : C.Settings) (first : L) (first_net : N) → IsUnderWay (C.stands cfg) C.seen core.old L.seen L.wrote N.seen first (address_of to.now) first_net conn.old
+        → LeadsTo result C.meaning C.stands cfg C.seen core.new L.seen L.wrote N.seen first (address_of to.now) first_net conn.new }
     ensures may { StepsTo result (MayStep C.seen C.sound core.new conn.new.server (N.seen conn.new.net) conn.new.ran) (HasCome result (C.sound core.new) conn.new.server conn.new.ran) }
 {
     match step(conn, core, pace, to, tools) {
@@ -88,9 +89,8 @@ fn moves<C: Resets, L: Waits, N: WaitsNet<Link = L>, W: Wakes<N>>(
     tools: &mut Tools,
 ) -> Stepped
     requires may { MayStep C.seen C.sound core.old conn.old.server (N.seen conn.old.net) conn.old.ran }
-    ensures goes { (cfg : C.Settings) (first : L) (first_net : N) → GoesOn (C.stands cfg) C.seen core.old L.seen L.wrote first conn.old.client conn.old.server (address_of to.now) (N.seen first_net) (N.seen conn.old.net)
-        → StepsTo result (GoesOn (C.stands cfg) C.seen core.new L.seen L.wrote first conn.new.client conn.new.server (address_of to.now) (N.seen first_net) (N.seen conn.new.net))
-        (EndsWith result (CameTo (C.meaning cfg) (C.stands cfg) C.seen L.seen L.wrote first conn.new.client (address_of to.now) (N.seen first_net) (N.seen conn.new.net) conn.new.ran) (StandsSomehow (C.stands cfg) core.new)) }
+    ensures goes { (cfg : C.Settings) (first : L) (first_net : N) → IsUnderWay (C.stands cfg) C.seen core.old L.seen L.wrote N.seen first (address_of to.now) first_net conn.old
+        → LeadsTo result C.meaning C.stands cfg C.seen core.new L.seen L.wrote N.seen first (address_of to.now) first_net conn.new }
     ensures may { StepsTo result (MayStep C.seen C.sound core.new conn.new.server (N.seen conn.new.net) conn.new.ran) (HasCome result (C.sound core.new) conn.new.server conn.new.ran) }
 {
     for _taken in 0..STEPS {
@@ -110,7 +110,7 @@ fn give_set<C: ResetsFor + Drop>(set: C, sets: &mut Vec<C>)
     requires sound { C.sound set }
     requires ready { AllByRecursion (IsReady C.seen C.sound) sets.old.items }
     ensures ready { AllByRecursion (IsReady C.seen C.sound) sets.new.items }
-    ensures fresh { (cfg : C.Settings) (peer : Option Peer) → StandsSomehow (C.stands (C.for_peer cfg peer)) set → AllByRecursion (IsFreshFor (λ peer. C.stands (C.for_peer cfg peer))) sets.old.items → AllByRecursion (IsFreshFor (λ peer. C.stands (C.for_peer cfg peer))) sets.new.items }
+    ensures fresh { (cfg : C.Settings) (peer : Option Peer) → StandsSomehow (C.stands (C.for_peer cfg peer)) set → AllFreshFor C.stands C.for_peer cfg sets.old.items → AllFreshFor C.stands C.for_peer cfg sets.new.items }
 {
     let mut set = set;
     set.reset();
@@ -118,7 +118,7 @@ fn give_set<C: ResetsFor + Drop>(set: C, sets: &mut Vec<C>)
 }
 
 /// What is said of a connection that has ended so.
-fn told(number: u32, ran: &Option<Result<Ran, SessionFault>>) -> Looked
+pub(crate) fn told(number: u32, ran: &Option<Result<Ran, SessionFault>>) -> Looked
     requires ended { is_some ran.now ≡ true }
     ensures looked { LookedSo result number None ran.now }
 {
@@ -141,12 +141,11 @@ fn go<C: Resets, L: Waits, N: WaitsNet<Link = L>, W: Wakes<N>>(
 ) -> Stepped
     requires may { HasCore connection.old.core (λ core. MayStep C.seen C.sound core connection.old.conn.server (N.seen connection.old.conn.net) connection.old.conn.ran) }
     ensures goes { (cfg : C.Settings) (first : L) (first_net : N)
-        → HasCore connection.old.core (λ core. GoesOn (C.stands cfg) C.seen core L.seen L.wrote first connection.old.conn.client connection.old.conn.server (address_of to.now) (N.seen first_net) (N.seen connection.old.conn.net))
-        → HasCore connection.new.core (λ core. StepsTo result (GoesOn (C.stands cfg) C.seen core L.seen L.wrote first connection.new.conn.client connection.new.conn.server (address_of to.now) (N.seen first_net) (N.seen connection.new.conn.net))
-        (EndsWith result (CameTo (C.meaning cfg) (C.stands cfg) C.seen L.seen L.wrote first connection.new.conn.client (address_of to.now) (N.seen first_net) (N.seen connection.new.conn.net) connection.new.conn.ran) (StandsSomehow (C.stands cfg) core))) }
+        → HasCore connection.old.core (λ core. IsUnderWay (C.stands cfg) C.seen core L.seen L.wrote N.seen first (address_of to.now) first_net connection.old.conn)
+        → HasCore connection.new.core (λ core. LeadsTo result C.meaning C.stands cfg C.seen core L.seen L.wrote N.seen first (address_of to.now) first_net connection.new.conn) }
     ensures may { HasCore connection.new.core (λ core. StepsTo result (MayStep C.seen C.sound core connection.new.conn.server (N.seen connection.new.conn.net) connection.new.conn.ran) (HasCome result (C.sound core) connection.new.conn.server connection.new.conn.ran)) }
     ensures number { connection.new.number ≡ connection.old.number }
-    ensures peer { connection.new.peer ≡ connection.old.peer }
+    ensures caller { connection.new.caller ≡ connection.old.caller }
 {
     match &mut connection.core {
         Some(core) => moves(&mut connection.conn, core, pace, wakes, to, tools),
@@ -160,7 +159,7 @@ fn free<C: ResetsFor + Drop>(core: &mut Option<C>, sets: &mut Vec<C>)
     requires ready { AllByRecursion (IsReady C.seen C.sound) sets.old.items }
     ensures none { core.new ≡ None }
     ensures ready { AllByRecursion (IsReady C.seen C.sound) sets.new.items }
-    ensures fresh { (cfg : C.Settings) (peer : Option Peer) → HasCore core.old (StandsSomehow (C.stands (C.for_peer cfg peer))) → AllByRecursion (IsFreshFor (λ peer. C.stands (C.for_peer cfg peer))) sets.old.items → AllByRecursion (IsFreshFor (λ peer. C.stands (C.for_peer cfg peer))) sets.new.items }
+    ensures fresh { (cfg : C.Settings) (peer : Option Peer) → HasCore core.old (StandsSomehow (C.stands (C.for_peer cfg peer))) → AllFreshFor C.stands C.for_peer cfg sets.old.items → AllFreshFor C.stands C.for_peer cfg sets.new.items }
 {
     match core.take() {
         Some(set) => give_set(set, sets),
@@ -169,7 +168,7 @@ fn free<C: ResetsFor + Drop>(core: &mut Option<C>, sets: &mut Vec<C>)
 }
 
 /// Steps of a connection that has a core, which is free behind its end, but for one that found no memory.
-fn moved<C: ResetsFor + Drop, L: Waits, N: WaitsNet<Link = L>, W: Wakes<N>>(
+pub(crate) fn moved<C: ResetsFor + Drop, L: Waits, N: WaitsNet<Link = L>, W: Wakes<N>>(
     connection: &mut Connection<C, L, N>,
     sets: &mut Vec<C>,
     pace: &mut Pace,
@@ -180,13 +179,13 @@ fn moved<C: ResetsFor + Drop, L: Waits, N: WaitsNet<Link = L>, W: Wakes<N>>(
     requires may { HasCore connection.old.core (λ core. MayStep C.seen C.sound core connection.old.conn.server (N.seen connection.old.conn.net) connection.old.conn.ran) }
     requires ready { AllByRecursion (IsReady C.seen C.sound) sets.old.items }
     ensures ready { AllByRecursion (IsReady C.seen C.sound) sets.new.items }
-    ensures at { (cfg : C.Settings) (first : L) (first_net : N) → HasCore connection.old.core (λ core. GoesOn (C.stands cfg) C.seen core L.seen L.wrote first connection.old.conn.client connection.old.conn.server (address_of to.now) (N.seen first_net) (N.seen connection.old.conn.net))
-        → IsAt (C.meaning cfg) (C.stands cfg) C.seen C.sound L.seen L.wrote first connection.new.conn.client connection.new.conn.server (address_of to.now) (N.seen first_net) (N.seen connection.new.conn.net) connection.new.conn.ran connection.new.core }
-    ensures fresh { (cfg : C.Settings) (peer : Option Peer) (first : L) (first_net : N) → HasCore connection.old.core (λ core. GoesOn (C.stands (C.for_peer cfg peer)) C.seen core L.seen L.wrote first connection.old.conn.client connection.old.conn.server (address_of to.now) (N.seen first_net) (N.seen connection.old.conn.net))
-        → AllByRecursion (IsFreshFor (λ peer. C.stands (C.for_peer cfg peer))) sets.old.items → AllByRecursion (IsFreshFor (λ peer. C.stands (C.for_peer cfg peer))) sets.new.items }
+    ensures at { (cfg : C.Settings) (first : L) (first_net : N) → HasCore connection.old.core (λ core. IsUnderWay (C.stands cfg) C.seen core L.seen L.wrote N.seen first (address_of to.now) first_net connection.old.conn)
+        → IsAtUnder C.meaning C.stands cfg C.seen C.sound L.seen L.wrote N.seen first (address_of to.now) first_net connection.new }
+    ensures fresh { (cfg : C.Settings) (peer : Option Peer) (first : L) (first_net : N) → HasCore connection.old.core (λ core. IsUnderWay (C.stands (C.for_peer cfg peer)) C.seen core L.seen L.wrote N.seen first (address_of to.now) first_net connection.old.conn)
+        → AllFreshFor C.stands C.for_peer cfg sets.old.items → AllFreshFor C.stands C.for_peer cfg sets.new.items }
     ensures looked { LookedSo result connection.old.number None connection.new.conn.ran }
     ensures number { connection.new.number ≡ connection.old.number }
-    ensures peer { connection.new.peer ≡ connection.old.peer }
+    ensures caller { connection.new.caller ≡ connection.old.caller }
 {
     match go(connection, pace, wakes, to, tools) {
         Stepped::Moved => Looked::GoesOn,
@@ -215,8 +214,8 @@ fn take_set<C: ResetsFor + Drop>(
     requires none { core.old ≡ None }
     requires ready { AllByRecursion (IsReady C.seen C.sound) sets.old.items }
     ensures ready { AllByRecursion (IsReady C.seen C.sound) sets.new.items }
-    ensures fresh { (cfg : C.Settings) → AllByRecursion (IsFreshFor (λ peer. C.stands (C.for_peer cfg peer))) sets.old.items → AllByRecursion (IsFreshFor (λ peer. C.stands (C.for_peer cfg peer))) sets.new.items }
-    ensures took { result ≡ true → HasCore core.new (λ set. IsReady C.seen C.sound set × ((cfg : C.Settings) → AllByRecursion (IsFreshFor (λ peer. C.stands (C.for_peer cfg peer))) sets.old.items → IsFresh (C.stands (C.for_peer cfg peer)) set)) }
+    ensures fresh { (cfg : C.Settings) → AllFreshFor C.stands C.for_peer cfg sets.old.items → AllFreshFor C.stands C.for_peer cfg sets.new.items }
+    ensures took { result ≡ true → HasCore core.new (λ set. IsReady C.seen C.sound set × ((cfg : C.Settings) → AllFreshFor C.stands C.for_peer cfg sets.old.items → IsFresh (C.stands (C.for_peer cfg peer)) set)) }
     ensures none { result ≡ false → core.new ≡ None }
 {
     match sets.pop() {
@@ -242,8 +241,8 @@ fn sit_down<C: ResetsFor + Drop, L: Waits, N: WaitsNet<Link = L>>(
     requires none { connection.old.core ≡ None }
     requires ready { AllByRecursion (IsReady C.seen C.sound) sets.old.items }
     ensures ready { AllByRecursion (IsReady C.seen C.sound) sets.new.items }
-    ensures fresh { (cfg : C.Settings) → AllByRecursion (IsFreshFor (λ peer. C.stands (C.for_peer cfg peer))) sets.old.items → AllByRecursion (IsFreshFor (λ peer. C.stands (C.for_peer cfg peer))) sets.new.items }
-    ensures took { result ≡ None → HasCore connection.new.core (λ set. IsReady C.seen C.sound set × ((cfg : C.Settings) → AllByRecursion (IsFreshFor (λ peer. C.stands (C.for_peer cfg peer))) sets.old.items → IsFresh (C.stands (C.for_peer cfg connection.old.peer)) set)) }
+    ensures fresh { (cfg : C.Settings) → AllFreshFor C.stands C.for_peer cfg sets.old.items → AllFreshFor C.stands C.for_peer cfg sets.new.items }
+    ensures took { result ≡ None → HasCore connection.new.core (λ set. IsReady C.seen C.sound set × ((cfg : C.Settings) → AllFreshFor C.stands C.for_peer cfg sets.old.items → IsFresh (C.stands (C.for_peer cfg (peer_of connection.old.caller))) set)) }
     ensures none { is_some result ≡ true → connection.new.core ≡ None }
     ensures looked { IfSome result IsIdle }
     ensures client { IsSame L.seen L.wrote connection.old.conn.client connection.new.conn.client }
@@ -251,19 +250,24 @@ fn sit_down<C: ResetsFor + Drop, L: Waits, N: WaitsNet<Link = L>>(
     ensures net { connection.new.conn.net ≡ connection.old.conn.net }
     ensures ran { connection.new.conn.ran ≡ connection.old.conn.ran }
     ensures number { connection.new.number ≡ connection.old.number }
-    ensures peer { connection.new.peer ≡ connection.old.peer }
+    ensures caller { connection.new.caller ≡ connection.old.caller }
 {
     if !connection.conn.client.can_read() {
         return Some(Looked::Waits);
     }
-    if take_set(&mut connection.core, sets, connection.peer, pace) {
+    if take_set(
+        &mut connection.core,
+        sets,
+        peer_of(&connection.caller),
+        pace,
+    ) {
         return None;
     }
     Some(Looked::Hungry)
 }
 
 /// The same of one that may have a core already.
-fn seat<C: ResetsFor + Drop, L: Waits, N: WaitsNet<Link = L>>(
+pub(crate) fn seat<C: ResetsFor + Drop, L: Waits, N: WaitsNet<Link = L>>(
     connection: &mut Connection<C, L, N>,
     sets: &mut Vec<C>,
     pace: &mut Pace,
@@ -271,60 +275,17 @@ fn seat<C: ResetsFor + Drop, L: Waits, N: WaitsNet<Link = L>>(
     requires goes_on { connection.old.conn.ran ≡ None }
     requires ready { AllByRecursion (IsReady C.seen C.sound) sets.old.items }
     ensures ready { AllByRecursion (IsReady C.seen C.sound) sets.new.items }
-    ensures fresh { (cfg : C.Settings) → AllByRecursion (IsFreshFor (λ peer. C.stands (C.for_peer cfg peer))) sets.old.items → AllByRecursion (IsFreshFor (λ peer. C.stands (C.for_peer cfg peer))) sets.new.items }
-    ensures at { (cfg : C.Settings) (first : L) (to : Place) (first_net : N) → AllByRecursion (IsFreshFor (λ peer. C.stands (C.for_peer cfg peer))) sets.old.items → IsAt (C.meaning (C.for_peer cfg connection.old.peer)) (C.stands (C.for_peer cfg connection.old.peer)) C.seen C.sound L.seen L.wrote first connection.old.conn.client connection.old.conn.server to (N.seen first_net) (N.seen connection.old.conn.net) connection.old.conn.ran connection.old.core
-        → IsAt (C.meaning (C.for_peer cfg connection.old.peer)) (C.stands (C.for_peer cfg connection.old.peer)) C.seen C.sound L.seen L.wrote first connection.new.conn.client connection.new.conn.server to (N.seen first_net) (N.seen connection.new.conn.net) connection.new.conn.ran connection.new.core }
+    ensures fresh { (cfg : C.Settings) → AllFreshFor C.stands C.for_peer cfg sets.old.items → AllFreshFor C.stands C.for_peer cfg sets.new.items }
+    ensures at { (cfg : C.Settings) (first : L) (to : Place) (first_net : N) → AllFreshFor C.stands C.for_peer cfg sets.old.items → IsAtUnder C.meaning C.stands (C.for_peer cfg (peer_of connection.old.caller)) C.seen C.sound L.seen L.wrote N.seen first to first_net connection.old
+        → IsAtUnder C.meaning C.stands (C.for_peer cfg (peer_of connection.old.caller)) C.seen C.sound L.seen L.wrote N.seen first to first_net connection.new }
     ensures has { result ≡ None → is_some connection.new.core ≡ true }
     ensures looked { IfSome result IsIdle }
     ensures ran { connection.new.conn.ran ≡ None }
     ensures number { connection.new.number ≡ connection.old.number }
-    ensures peer { connection.new.peer ≡ connection.old.peer }
+    ensures caller { connection.new.caller ≡ connection.old.caller }
 {
     if connection.core.is_some() {
         return None;
     }
     sit_down(connection, sets, pace)
-}
-
-/// A look at a connection that has ended: whether its client's link can be given back.
-fn leaves<L: Waits>(client: &mut L, pace: &Pace) -> Looked
-    ensures client { IsSame L.seen L.wrote client.old client.new }
-    ensures looked { (number : ℕ) (ran : Option (Result Ran SessionFault)) → is_some ran ≡ true → LookedSo result number ran ran }
-{
-    if pace.expired {
-        return Looked::Leaves;
-    }
-    if client.can_keep() {
-        return Looked::Leaves;
-    }
-    Looked::Waits
-}
-
-/// A look at a connection: it gets a core, makes steps, ends or leaves.
-pub(crate) fn look<C: ResetsFor + Drop, L: Waits, N: WaitsNet<Link = L>, W: Wakes<N>>(
-    connection: &mut Connection<C, L, N>,
-    sets: &mut Vec<C>,
-    pace: &mut Pace,
-    wakes: &mut W,
-    to: &Address,
-    tools: &mut Tools,
-) -> Looked
-    requires at { (cfg : C.Settings) × (first : L) × (first_net : N) × AllByRecursion (IsFreshFor (λ peer. C.stands (C.for_peer cfg peer))) sets.old.items × IsAt (C.meaning (C.for_peer cfg connection.old.peer)) (C.stands (C.for_peer cfg connection.old.peer)) C.seen C.sound L.seen L.wrote first connection.old.conn.client connection.old.conn.server (address_of to.now) (N.seen first_net) (N.seen connection.old.conn.net) connection.old.conn.ran connection.old.core }
-    requires ready { AllByRecursion (IsReady C.seen C.sound) sets.old.items }
-    ensures ready { AllByRecursion (IsReady C.seen C.sound) sets.new.items }
-    ensures at { (cfg : C.Settings) (first : L) (first_net : N) → AllByRecursion (IsFreshFor (λ peer. C.stands (C.for_peer cfg peer))) sets.old.items → IsAt (C.meaning (C.for_peer cfg connection.old.peer)) (C.stands (C.for_peer cfg connection.old.peer)) C.seen C.sound L.seen L.wrote first connection.old.conn.client connection.old.conn.server (address_of to.now) (N.seen first_net) (N.seen connection.old.conn.net) connection.old.conn.ran connection.old.core
-        → IsAt (C.meaning (C.for_peer cfg connection.old.peer)) (C.stands (C.for_peer cfg connection.old.peer)) C.seen C.sound L.seen L.wrote first connection.new.conn.client connection.new.conn.server (address_of to.now) (N.seen first_net) (N.seen connection.new.conn.net) connection.new.conn.ran connection.new.core }
-    ensures fresh { (cfg : C.Settings) (first : L) (first_net : N) → AllByRecursion (IsFreshFor (λ peer. C.stands (C.for_peer cfg peer))) sets.old.items → IsAt (C.meaning (C.for_peer cfg connection.old.peer)) (C.stands (C.for_peer cfg connection.old.peer)) C.seen C.sound L.seen L.wrote first connection.old.conn.client connection.old.conn.server (address_of to.now) (N.seen first_net) (N.seen connection.old.conn.net) connection.old.conn.ran connection.old.core
-        → AllByRecursion (IsFreshFor (λ peer. C.stands (C.for_peer cfg peer))) sets.new.items }
-    ensures looked { LookedSo result connection.old.number connection.old.conn.ran connection.new.conn.ran }
-    ensures number { connection.new.number ≡ connection.old.number }
-    ensures peer { connection.new.peer ≡ connection.old.peer }
-{
-    if connection.conn.ran.is_some() {
-        return leaves(&mut connection.conn.client, pace);
-    }
-    if let Some(looked) = seat(connection, sets, pace) {
-        return looked;
-    }
-    moved(connection, sets, pace, wakes, to, tools)
 }

@@ -1,16 +1,17 @@
 //! All connections: their places, the cores that are free, and the lines of those that have ended.
-ghost use Rattle.std.specs.Prelude.{◌≡◌, ◌≤◌, ◌++◌, ℕ, List, Option, true, is_ok, IfOk, OnOk};
+ghost use Rattle.std.specs.Prelude.{◌≡◌, ◌≤◌, ◌++◌, ℕ, List, Option, Bool, true, is_ok, IfOk, OnOk};
 ghost use Rattle.std.specs.List.{AllByRecursion};
 ghost use Rattle.px_link.specs.Net.{address_of, NetSeen};
 ghost use Rattle.htx_drive.specs.Weave.State.{IsReady};
-ghost use Rattle.px_run.specs.Connection.{IsFreshFor};
+ghost use Rattle.px_run.specs.Connection.{◌∘◌, AllFreshFor};
 ghost use Rattle.px_run.specs.Course.{IsSame, IsSameServer};
 ghost use Rattle.px_run.specs.Lines.{Writes, ended_by, lines_of};
 ghost use Rattle.px_run.specs.History.{Visit};
-ghost use Rattle.px_run.specs.Hall.{IsPlaced, IsAskedAt, LookedAt, MayGiveBack, HasEnded, AllStand, Advances, Goes, advanced, taken_at, count_taken, IsSameNet, IsBalancedAt};
+ghost use Rattle.px_run.specs.Hall.{IsPlaced, IsAskedAt, LookedAt, MayGiveBack, HasEnded, AllStand, Advances, advanced, taken_at, count_taken, IsSameNet, IsBalancedAt, GoesFor};
 
-use crate::connection::{Connection, Looked, look};
+use crate::connection::{Connection, Looked};
 use crate::lines::{Output, write_line};
+use crate::looking::look;
 use crate::pace::Pace;
 use crate::step::Tools;
 use crate::{Call, Plan};
@@ -152,11 +153,11 @@ fn look_at<C: ResetsFor + Drop, L: Waits + HasPeer, N: WaitsNet<Link = L>, W: Wa
     to: &Address,
     tools: &mut Tools,
 ) -> Looked
-    requires at { (cfg : C.Settings) × (visits : List (Visit L N)) × AllByRecursion (IsFreshFor (λ peer. C.stands (C.for_peer cfg peer))) sets.old.items × IsPlaced (λ peer. C.meaning (C.for_peer cfg peer)) (λ peer. C.stands (C.for_peer cfg peer)) C.seen C.sound L.seen L.wrote L.tells N.seen (address_of to.now) visits at.old }
+    requires at { (cfg : C.Settings) × (accepts_header : Bool) × (visits : List (Visit L N)) × AllFreshFor C.stands C.for_peer cfg sets.old.items × IsPlaced (C.meaning ∘ C.for_peer cfg) (C.stands ∘ C.for_peer cfg) C.seen C.sound L.seen L.wrote L.tells accepts_header N.seen (address_of to.now) visits at.old }
     requires ready { AllByRecursion (IsReady C.seen C.sound) sets.old.items }
     ensures ready { AllByRecursion (IsReady C.seen C.sound) sets.new.items }
-    ensures placed { (cfg : C.Settings) (visits : List (Visit L N)) → AllByRecursion (IsFreshFor (λ peer. C.stands (C.for_peer cfg peer))) sets.old.items → IsPlaced (λ peer. C.meaning (C.for_peer cfg peer)) (λ peer. C.stands (C.for_peer cfg peer)) C.seen C.sound L.seen L.wrote L.tells N.seen (address_of to.now) visits at.old → IsPlaced (λ peer. C.meaning (C.for_peer cfg peer)) (λ peer. C.stands (C.for_peer cfg peer)) C.seen C.sound L.seen L.wrote L.tells N.seen (address_of to.now) (advanced at.new visits) at.new }
-    ensures fresh { (cfg : C.Settings) (visits : List (Visit L N)) → AllByRecursion (IsFreshFor (λ peer. C.stands (C.for_peer cfg peer))) sets.old.items → IsPlaced (λ peer. C.meaning (C.for_peer cfg peer)) (λ peer. C.stands (C.for_peer cfg peer)) C.seen C.sound L.seen L.wrote L.tells N.seen (address_of to.now) visits at.old → AllByRecursion (IsFreshFor (λ peer. C.stands (C.for_peer cfg peer))) sets.new.items }
+    ensures placed { (cfg : C.Settings) (accepts_header : Bool) (visits : List (Visit L N)) → AllFreshFor C.stands C.for_peer cfg sets.old.items → IsPlaced (C.meaning ∘ C.for_peer cfg) (C.stands ∘ C.for_peer cfg) C.seen C.sound L.seen L.wrote L.tells accepts_header N.seen (address_of to.now) visits at.old → IsPlaced (C.meaning ∘ C.for_peer cfg) (C.stands ∘ C.for_peer cfg) C.seen C.sound L.seen L.wrote L.tells accepts_header N.seen (address_of to.now) (advanced at.new visits) at.new }
+    ensures fresh { (cfg : C.Settings) (accepts_header : Bool) (visits : List (Visit L N)) → AllFreshFor C.stands C.for_peer cfg sets.old.items → IsPlaced (C.meaning ∘ C.for_peer cfg) (C.stands ∘ C.for_peer cfg) C.seen C.sound L.seen L.wrote L.tells accepts_header N.seen (address_of to.now) visits at.old → AllFreshFor C.stands C.for_peer cfg sets.new.items }
     ensures looked { LookedAt result at.old at.new }
 {
     match at {
@@ -172,9 +173,9 @@ fn look_here<C: ResetsFor + Drop, L: Waits + HasPeer, N: WaitsNet<Link = L>, W: 
     wakes: &mut W,
     to: &Address,
 ) -> Looked
-    requires stands { (cfg : C.Settings) × (visits : List (Visit L N)) × AllStand (λ peer. C.meaning (C.for_peer cfg peer)) (λ peer. C.stands (C.for_peer cfg peer)) C.seen C.sound L.seen L.wrote L.tells N.seen (address_of to.now) visits hall.old.places.items hall.old.sets.items }
-    ensures stands { (cfg : C.Settings) (visits : List (Visit L N)) → AllStand (λ peer. C.meaning (C.for_peer cfg peer)) (λ peer. C.stands (C.for_peer cfg peer)) C.seen C.sound L.seen L.wrote L.tells N.seen (address_of to.now) visits hall.old.places.items hall.old.sets.items
-        → (behind : List (Visit L N)) × Advances result visits behind × AllStand (λ peer. C.meaning (C.for_peer cfg peer)) (λ peer. C.stands (C.for_peer cfg peer)) C.seen C.sound L.seen L.wrote L.tells N.seen (address_of to.now) behind hall.new.places.items hall.new.sets.items }
+    requires stands { (cfg : C.Settings) × (accepts_header : Bool) × (visits : List (Visit L N)) × AllStand (C.meaning ∘ C.for_peer cfg) (C.stands ∘ C.for_peer cfg) C.seen C.sound L.seen L.wrote L.tells accepts_header N.seen (address_of to.now) visits hall.old.places.items hall.old.sets.items }
+    ensures stands { (cfg : C.Settings) (accepts_header : Bool) (visits : List (Visit L N)) → AllStand (C.meaning ∘ C.for_peer cfg) (C.stands ∘ C.for_peer cfg) C.seen C.sound L.seen L.wrote L.tells accepts_header N.seen (address_of to.now) visits hall.old.places.items hall.old.sets.items
+        → (behind : List (Visit L N)) × Advances result visits behind × AllStand (C.meaning ∘ C.for_peer cfg) (C.stands ∘ C.for_peer cfg) C.seen C.sound L.seen L.wrote L.tells accepts_header N.seen (address_of to.now) behind hall.new.places.items hall.new.sets.items }
     ensures taken { count_taken hall.new.places.items ≡ count_taken hall.old.places.items }
     ensures accepted { hall.new.accepted ≡ hall.old.accepted }
     ensures output { hall.new.output ≡ hall.old.output }
@@ -207,9 +208,9 @@ pub(crate) fn visit<
     out: &mut K,
     plan: &Plan,
 ) -> Result<Looked, OutOfMemory>
-    requires stands { (cfg : C.Settings) × (visits : List (Visit L N)) × AllStand (λ peer. C.meaning (C.for_peer cfg peer)) (λ peer. C.stands (C.for_peer cfg peer)) C.seen C.sound L.seen L.wrote L.tells N.seen (address_of plan.now.to.now) visits hall.old.places.items hall.old.sets.items }
-    ensures goes { (cfg : C.Settings) (begun now : NetSeen) (writes : ℕ) (before : Option (List ℕ)) → Goes (λ peer. C.meaning (C.for_peer cfg peer)) (λ peer. C.stands (C.for_peer cfg peer)) C.seen C.sound L.seen L.wrote L.tells N.seen (address_of plan.now.to.now) true true begun now writes (K.faults out.old) before (K.written out.old) hall.old
-        → Goes (λ peer. C.meaning (C.for_peer cfg peer)) (λ peer. C.stands (C.for_peer cfg peer)) C.seen C.sound L.seen L.wrote L.tells N.seen (address_of plan.now.to.now) (is_ok result) (is_ok result) begun now writes (K.faults out.new) before (K.written out.new) hall.new }
+    requires stands { (cfg : C.Settings) × (visits : List (Visit L N)) × AllStand (C.meaning ∘ C.for_peer cfg) (C.stands ∘ C.for_peer cfg) C.seen C.sound L.seen L.wrote L.tells plan.now.accepts_header N.seen (address_of plan.now.to.now) visits hall.old.places.items hall.old.sets.items }
+    ensures goes { (cfg : C.Settings) (begun now : NetSeen) (writes : ℕ) (before : Option (List ℕ)) → GoesFor C.meaning C.stands C.for_peer cfg C.seen C.sound L.seen L.wrote L.tells plan.now.accepts_header N.seen (address_of plan.now.to.now) true true begun now writes (K.faults out.old) before (K.written out.old) hall.old
+        → GoesFor C.meaning C.stands C.for_peer cfg C.seen C.sound L.seen L.wrote L.tells plan.now.accepts_header N.seen (address_of plan.now.to.now) (is_ok result) (is_ok result) begun now writes (K.faults out.new) before (K.written out.new) hall.new }
     ensures taken { count_taken hall.new.places.items ≡ count_taken hall.old.places.items }
     ensures accepted { hall.new.accepted ≡ hall.old.accepted }
 {
@@ -266,7 +267,10 @@ pub(crate) fn give_back<C: Resets + Drop, L: Waits + Drop, N: WaitsNet<Link = L>
         return;
     }
     match at.take() {
-        Some(connection) => net.keep(connection.conn.client),
+        Some(connection) => {
+            let conn = connection.conn;
+            net.keep(conn.client);
+        }
         None => {}
     }
 }

@@ -3,10 +3,12 @@
 
 mod accepts;
 mod agenda;
+mod caller;
 mod connection;
 mod deadline;
 mod hall;
 mod lines;
+mod looking;
 mod next;
 mod pace;
 mod plan;

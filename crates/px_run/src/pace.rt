@@ -7,7 +7,7 @@ use session_core::Wants;
 /// How long a client's link that was closed waits for the end of its peer, in milliseconds.
 const PATIENCE: u64 = 2000;
 
-/// What a connection wants that has no core yet: the first bytes of its client.
+/// What a connection wants that has no core yet: the first bytes of its client, or the header in front of them. All of these have the time of the first head.
 const WAITING: Wants = Wants {
     client_read: true,
     client_write: false,

@@ -16,6 +16,8 @@ pub struct Plan<'a> {
     pub times: Times,
     /// After how many connections it ends; with none it goes on.
     pub connections: Option<u32>,
+    /// Whether the stream of each client begins with a header of the PROXY protocol, which tells who asks.
+    pub accepts_header: bool,
 }
 
 /// What the loop asks of its caller, besides a net that listens, a wait and an output.

@@ -1,7 +1,7 @@
 //! A round of the loop: a wait, a look at each that may go on, deadlines.
 ghost use Rattle.std.specs.Prelude.{◌≡◌, ◌≤◌, ℕ, List, Option, true, is_ok};
 ghost use Rattle.px_link.specs.Net.{address_of, NetSeen};
-ghost use Rattle.px_run.specs.Hall.{AllAsked, Goes, count_taken, IsSameNet, IsBalanced};
+ghost use Rattle.px_run.specs.Hall.{AllAsked, count_taken, IsSameNet, IsBalanced, KeepsGoing, GoesFor};
 
 use crate::agenda::Agenda;
 use crate::connection::Looked;
@@ -112,10 +112,9 @@ fn visit_place<
     out: &mut K,
     plan: &Plan,
 ) -> Result<Looked, OutOfMemory>
-    requires goes { (cfg : C.Settings) × (begun : NetSeen) × (writes : ℕ) × (before : Option (List ℕ)) × Goes (λ peer. C.meaning (C.for_peer cfg peer)) (λ peer. C.stands (C.for_peer cfg peer)) C.seen C.sound L.seen L.wrote L.tells N.seen (address_of plan.now.to.now) true true begun (N.seen net.old) writes (K.faults out.old) before (K.written out.old) hall.old }
+    requires goes { (cfg : C.Settings) × (begun : NetSeen) × (writes : ℕ) × (before : Option (List ℕ)) × GoesFor C.meaning C.stands C.for_peer cfg C.seen C.sound L.seen L.wrote L.tells plan.now.accepts_header N.seen (address_of plan.now.to.now) true true begun (N.seen net.old) writes (K.faults out.old) before (K.written out.old) hall.old }
     requires lent { count_taken hall.old.places.items ≤ (N.seen net.old).lent }
-    ensures goes { (cfg : C.Settings) (begun : NetSeen) (writes : ℕ) (before : Option (List ℕ)) → Goes (λ peer. C.meaning (C.for_peer cfg peer)) (λ peer. C.stands (C.for_peer cfg peer)) C.seen C.sound L.seen L.wrote L.tells N.seen (address_of plan.now.to.now) true true begun (N.seen net.old) writes (K.faults out.old) before (K.written out.old) hall.old
-        → Goes (λ peer. C.meaning (C.for_peer cfg peer)) (λ peer. C.stands (C.for_peer cfg peer)) C.seen C.sound L.seen L.wrote L.tells N.seen (address_of plan.now.to.now) (is_ok result) (is_ok result) begun (N.seen net.new) writes (K.faults out.new) before (K.written out.new) hall.new }
+    ensures goes { KeepsGoing C.meaning C.stands C.for_peer C.seen C.sound L.seen L.wrote L.tells plan.now.accepts_header N.seen (address_of plan.now.to.now) K.faults K.written (is_ok result) net.old net.new out.old out.new hall.old hall.new }
     ensures accepted { hall.new.accepted ≡ hall.old.accepted }
     ensures balanced { IsBalanced (N.seen net.old) (N.seen net.new) hall.old.places.items hall.new.places.items }
     ensures net { IsSameNet (N.seen net.old) (N.seen net.new) }
@@ -148,10 +147,9 @@ fn visits<
     out: &mut K,
     plan: &Plan,
 ) -> Result<(), OutOfMemory>
-    requires goes { (cfg : C.Settings) × (begun : NetSeen) × (writes : ℕ) × (before : Option (List ℕ)) × Goes (λ peer. C.meaning (C.for_peer cfg peer)) (λ peer. C.stands (C.for_peer cfg peer)) C.seen C.sound L.seen L.wrote L.tells N.seen (address_of plan.now.to.now) true true begun (N.seen net.old) writes (K.faults out.old) before (K.written out.old) hall.old }
+    requires goes { (cfg : C.Settings) × (begun : NetSeen) × (writes : ℕ) × (before : Option (List ℕ)) × GoesFor C.meaning C.stands C.for_peer cfg C.seen C.sound L.seen L.wrote L.tells plan.now.accepts_header N.seen (address_of plan.now.to.now) true true begun (N.seen net.old) writes (K.faults out.old) before (K.written out.old) hall.old }
     requires lent { count_taken hall.old.places.items ≤ (N.seen net.old).lent }
-    ensures goes { (cfg : C.Settings) (begun : NetSeen) (writes : ℕ) (before : Option (List ℕ)) → Goes (λ peer. C.meaning (C.for_peer cfg peer)) (λ peer. C.stands (C.for_peer cfg peer)) C.seen C.sound L.seen L.wrote L.tells N.seen (address_of plan.now.to.now) true true begun (N.seen net.old) writes (K.faults out.old) before (K.written out.old) hall.old
-        → Goes (λ peer. C.meaning (C.for_peer cfg peer)) (λ peer. C.stands (C.for_peer cfg peer)) C.seen C.sound L.seen L.wrote L.tells N.seen (address_of plan.now.to.now) (is_ok result) (is_ok result) begun (N.seen net.new) writes (K.faults out.new) before (K.written out.new) hall.new }
+    ensures goes { KeepsGoing C.meaning C.stands C.for_peer C.seen C.sound L.seen L.wrote L.tells plan.now.accepts_header N.seen (address_of plan.now.to.now) K.faults K.written (is_ok result) net.old net.new out.old out.new hall.old hall.new }
     ensures accepted { hall.new.accepted ≡ hall.old.accepted }
     ensures balanced { IsBalanced (N.seen net.old) (N.seen net.new) hall.old.places.items hall.new.places.items }
     ensures net { IsSameNet (N.seen net.old) (N.seen net.new) }
@@ -248,10 +246,9 @@ pub(crate) fn looks<
     out: &mut K,
     plan: &Plan,
 ) -> Result<(), OutOfMemory>
-    requires goes { (cfg : C.Settings) × (begun : NetSeen) × (writes : ℕ) × (before : Option (List ℕ)) × Goes (λ peer. C.meaning (C.for_peer cfg peer)) (λ peer. C.stands (C.for_peer cfg peer)) C.seen C.sound L.seen L.wrote L.tells N.seen (address_of plan.now.to.now) true true begun (N.seen net.old) writes (K.faults out.old) before (K.written out.old) hall.old }
+    requires goes { (cfg : C.Settings) × (begun : NetSeen) × (writes : ℕ) × (before : Option (List ℕ)) × GoesFor C.meaning C.stands C.for_peer cfg C.seen C.sound L.seen L.wrote L.tells plan.now.accepts_header N.seen (address_of plan.now.to.now) true true begun (N.seen net.old) writes (K.faults out.old) before (K.written out.old) hall.old }
     requires lent { count_taken hall.old.places.items ≤ (N.seen net.old).lent }
-    ensures goes { (cfg : C.Settings) (begun : NetSeen) (writes : ℕ) (before : Option (List ℕ)) → Goes (λ peer. C.meaning (C.for_peer cfg peer)) (λ peer. C.stands (C.for_peer cfg peer)) C.seen C.sound L.seen L.wrote L.tells N.seen (address_of plan.now.to.now) true true begun (N.seen net.old) writes (K.faults out.old) before (K.written out.old) hall.old
-        → Goes (λ peer. C.meaning (C.for_peer cfg peer)) (λ peer. C.stands (C.for_peer cfg peer)) C.seen C.sound L.seen L.wrote L.tells N.seen (address_of plan.now.to.now) (is_ok result) (is_ok result) begun (N.seen net.new) writes (K.faults out.new) before (K.written out.new) hall.new }
+    ensures goes { KeepsGoing C.meaning C.stands C.for_peer C.seen C.sound L.seen L.wrote L.tells plan.now.accepts_header N.seen (address_of plan.now.to.now) K.faults K.written (is_ok result) net.old net.new out.old out.new hall.old hall.new }
     ensures accepted { hall.new.accepted ≡ hall.old.accepted }
     ensures balanced { IsBalanced (N.seen net.old) (N.seen net.new) hall.old.places.items hall.new.places.items }
     ensures net { IsSameNet (N.seen net.old) (N.seen net.new) }

@@ -4,22 +4,24 @@ ghost use Rattle.std.specs.List.{AllByRecursion};
 ghost use Rattle.px_link.specs.Net.{address_of, NetSeen, Place};
 ghost use Rattle.htx_drive.specs.Weave.State.{IsReady};
 ghost use Rattle.px_peer.specs.declared.Peer.{Peer};
-ghost use Rattle.px_run.specs.Course.{EndedOrLeft};
-ghost use Rattle.px_run.specs.Connection.{IsAt, IsFreshFor};
+ghost use Rattle.px_run.specs.Connection.{◌∘◌, IsFreshFor};
+ghost use Rattle.px_run.specs.Callers.{IsAtFor, CameBack};
 ghost use Rattle.px_run.specs.History.{Visit};
 ghost use Rattle.px_run.specs.Served.{had_memory, ServedMany};
-ghost use Rattle.px_run.specs.Hall.{IsPlaced, GaveUpAt, Goes, taken_at, count_taken, IsSameNet, IsBalanced};
+ghost use Rattle.px_run.specs.Hall.{IsPlaced, GaveUpAt, taken_at, count_taken, IsSameNet, IsBalanced, KeepsGoing, GoesFor};
 
 use crate::accepts::{accepts, still_accepts};
 use crate::agenda::Agenda;
+use crate::caller::{Caller, is_greeted};
 use crate::connection::Connection;
 use crate::hall::{Hall, is_empty, no_places};
 use crate::lines::Output;
 use crate::rounds::{looks, wait};
 use crate::step::Tools;
 use crate::{Nets, Plan, RunFault};
+use http_model::Close;
 use htx_drive::MOST_READ;
-use htx_drive::weave::{Conn, Resets, ResetsFor, abandon};
+use htx_drive::weave::{Conn, ResetsFor, abandon};
 use px_link::{OutOfMemory, Sink, Waits, WaitsNet, Wakes};
 use px_proxyproto::HasPeer;
 
@@ -42,10 +44,9 @@ fn rounds<
     out: &mut K,
     plan: &Plan,
 ) -> Result<(), RunFault>
-    requires goes { (cfg : C.Settings) × (begun : NetSeen) × (writes : ℕ) × (before : Option (List ℕ)) × Goes (λ peer. C.meaning (C.for_peer cfg peer)) (λ peer. C.stands (C.for_peer cfg peer)) C.seen C.sound L.seen L.wrote L.tells N.seen (address_of plan.now.to.now) true true begun (N.seen net.old) writes (K.faults out.old) before (K.written out.old) hall.old }
+    requires goes { (cfg : C.Settings) × (begun : NetSeen) × (writes : ℕ) × (before : Option (List ℕ)) × GoesFor C.meaning C.stands C.for_peer cfg C.seen C.sound L.seen L.wrote L.tells plan.now.accepts_header N.seen (address_of plan.now.to.now) true true begun (N.seen net.old) writes (K.faults out.old) before (K.written out.old) hall.old }
     requires lent { count_taken hall.old.places.items ≤ (N.seen net.old).lent }
-    ensures goes { (cfg : C.Settings) (begun : NetSeen) (writes : ℕ) (before : Option (List ℕ)) → Goes (λ peer. C.meaning (C.for_peer cfg peer)) (λ peer. C.stands (C.for_peer cfg peer)) C.seen C.sound L.seen L.wrote L.tells N.seen (address_of plan.now.to.now) true true begun (N.seen net.old) writes (K.faults out.old) before (K.written out.old) hall.old
-        → Goes (λ peer. C.meaning (C.for_peer cfg peer)) (λ peer. C.stands (C.for_peer cfg peer)) C.seen C.sound L.seen L.wrote L.tells N.seen (address_of plan.now.to.now) (had_memory result) (had_memory result) begun (N.seen net.new) writes (K.faults out.new) before (K.written out.new) hall.new }
+    ensures goes { KeepsGoing C.meaning C.stands C.for_peer C.seen C.sound L.seen L.wrote L.tells plan.now.accepts_header N.seen (address_of plan.now.to.now) K.faults K.written (had_memory result) net.old net.new out.old out.new hall.old hall.new }
     ensures within { IfSome plan.now.connections (λ count. hall.old.accepted ≤ count → hall.new.accepted ≤ count) }
     ensures balanced { IsBalanced (N.seen net.old) (N.seen net.new) hall.old.places.items hall.new.places.items }
     ensures net { IsSameNet (N.seen net.old) (N.seen net.new) }
@@ -77,12 +78,19 @@ fn rounds<
 }
 
 /// Gives up a connection that hasn't ended: each of its links that is still open is closed Failed, and its server's is kept.
-fn give_up<C: Resets, L: Waits, N: WaitsNet<Link = L>>(conn: &mut Conn<L, N>)
-    requires at { (cfg : C.Settings) × (to : Place) × (first : L) × (first_net : N) × (held : Option C) × IsAt (C.meaning cfg) (C.stands cfg) C.seen C.sound L.seen L.wrote first conn.old.client conn.old.server to (N.seen first_net) (N.seen conn.old.net) conn.old.ran held }
-    ensures left { (cfg : C.Settings) (to : Place) (first : L) (first_net : N) (held : Option C) → IsAt (C.meaning cfg) (C.stands cfg) C.seen C.sound L.seen L.wrote first conn.old.client conn.old.server to (N.seen first_net) (N.seen conn.old.net) conn.old.ran held
-        → EndedOrLeft (C.meaning cfg) (C.stands cfg) C.seen L.seen L.wrote first conn.new.client to (N.seen first_net) (N.seen conn.new.net) conn.old.ran }
+fn give_up<C: ResetsFor, L: Waits + HasPeer, N: WaitsNet<Link = L>>(
+    caller: &Caller,
+    conn: &mut Conn<L, N>,
+)
+    requires at { (cfg : C.Settings) × (accepts_header : Bool) × (to : Place) × (first : L) × (first_net : N) × (held : Option C) × IsAtFor (C.meaning ∘ C.for_peer cfg) (C.stands ∘ C.for_peer cfg) C.seen C.sound L.seen L.wrote L.tells accepts_header first caller.now conn.old.client conn.old.server to (N.seen first_net) (N.seen conn.old.net) conn.old.ran held }
+    ensures left { (cfg : C.Settings) (accepts_header : Bool) (to : Place) (first : L) (first_net : N) (held : Option C) → IsAtFor (C.meaning ∘ C.for_peer cfg) (C.stands ∘ C.for_peer cfg) C.seen C.sound L.seen L.wrote L.tells accepts_header first caller.now conn.old.client conn.old.server to (N.seen first_net) (N.seen conn.old.net) conn.old.ran held
+        → CameBack (C.meaning ∘ C.for_peer cfg) (C.stands ∘ C.for_peer cfg) C.seen L.seen L.wrote L.tells accepts_header first conn.new.client to (N.seen first_net) (N.seen conn.new.net) conn.old.ran }
 {
     if conn.ran.is_some() {
+        return;
+    }
+    if is_greeted(caller) {
+        conn.client.close(Close::Failed);
         return;
     }
     abandon::<C, L, N>(conn);
@@ -93,16 +101,16 @@ fn leave<C: ResetsFor + Drop, L: Waits + HasPeer + Drop, N: WaitsNet<Link = L> +
     at: Option<Connection<C, L, N>>,
     net: &mut N,
 )
-    requires placed { (cfg : C.Settings) × (to : Place) × (visits : List (Visit L N)) × IsPlaced (λ peer. C.meaning (C.for_peer cfg peer)) (λ peer. C.stands (C.for_peer cfg peer)) C.seen C.sound L.seen L.wrote L.tells N.seen to visits at }
+    requires placed { (cfg : C.Settings) × (accepts_header : Bool) × (to : Place) × (visits : List (Visit L N)) × IsPlaced (C.meaning ∘ C.for_peer cfg) (C.stands ∘ C.for_peer cfg) C.seen C.sound L.seen L.wrote L.tells accepts_header N.seen to visits at }
     requires lent { taken_at at ≤ (N.seen net.old).lent }
-    ensures gave_up { (cfg : C.Settings) (to : Place) → GaveUpAt (λ peer. C.meaning (C.for_peer cfg peer)) (λ peer. C.stands (C.for_peer cfg peer)) C.seen C.sound L.seen L.wrote L.tells N.seen to (N.seen net.old) (N.seen net.new) at }
+    ensures gave_up { (cfg : C.Settings) (accepts_header : Bool) (to : Place) → GaveUpAt (C.meaning ∘ C.for_peer cfg) (C.stands ∘ C.for_peer cfg) C.seen C.sound L.seen L.wrote L.tells accepts_header N.seen to (N.seen net.old) (N.seen net.new) at }
     ensures balanced { (N.seen net.new).lent + taken_at at ≡ (N.seen net.old).lent }
     ensures net { IsSameNet (N.seen net.old) (N.seen net.new) }
 {
     match at {
         Some(connection) => {
             let mut conn = connection.conn;
-            give_up::<C, L, N>(&mut conn);
+            give_up::<C, L, N>(&connection.caller, &mut conn);
             net.keep(conn.client);
         }
         None => {}
@@ -114,10 +122,10 @@ fn leave_all<C: ResetsFor + Drop, L: Waits + HasPeer + Drop, N: WaitsNet<Link = 
     hall: &mut Hall<C, L, N>,
     net: &mut N,
 )
-    requires goes { (cfg : C.Settings) × (to : Place) × (fair whole : Bool) × (begun : NetSeen) × (writes writes_now : ℕ) × (before after : Option (List ℕ)) × Goes (λ peer. C.meaning (C.for_peer cfg peer)) (λ peer. C.stands (C.for_peer cfg peer)) C.seen C.sound L.seen L.wrote L.tells N.seen to fair whole begun (N.seen net.old) writes writes_now before after hall.old }
+    requires goes { (cfg : C.Settings) × (accepts_header : Bool) × (to : Place) × (fair whole : Bool) × (begun : NetSeen) × (writes writes_now : ℕ) × (before after : Option (List ℕ)) × GoesFor C.meaning C.stands C.for_peer cfg C.seen C.sound L.seen L.wrote L.tells accepts_header N.seen to fair whole begun (N.seen net.old) writes writes_now before after hall.old }
     requires lent { count_taken hall.old.places.items ≤ (N.seen net.old).lent }
-    ensures goes { (cfg : C.Settings) (to : Place) (fair whole : Bool) (begun : NetSeen) (writes writes_now : ℕ) (before after : Option (List ℕ)) → Goes (λ peer. C.meaning (C.for_peer cfg peer)) (λ peer. C.stands (C.for_peer cfg peer)) C.seen C.sound L.seen L.wrote L.tells N.seen to fair whole begun (N.seen net.old) writes writes_now before after hall.old
-        → Goes (λ peer. C.meaning (C.for_peer cfg peer)) (λ peer. C.stands (C.for_peer cfg peer)) C.seen C.sound L.seen L.wrote L.tells N.seen to false whole begun (N.seen net.new) writes writes_now before after hall.new }
+    ensures goes { (cfg : C.Settings) (accepts_header : Bool) (to : Place) (fair whole : Bool) (begun : NetSeen) (writes writes_now : ℕ) (before after : Option (List ℕ)) → GoesFor C.meaning C.stands C.for_peer cfg C.seen C.sound L.seen L.wrote L.tells accepts_header N.seen to fair whole begun (N.seen net.old) writes writes_now before after hall.old
+        → GoesFor C.meaning C.stands C.for_peer cfg C.seen C.sound L.seen L.wrote L.tells accepts_header N.seen to false whole begun (N.seen net.new) writes writes_now before after hall.new }
     ensures accepted { hall.new.accepted ≡ hall.old.accepted }
     ensures none { count_taken hall.new.places.items ≡ 0 }
     ensures balanced { IsBalanced (N.seen net.old) (N.seen net.new) hall.old.places.items hall.new.places.items }
@@ -151,7 +159,7 @@ pub fn run<
     requires ready { AllByRecursion (IsReady C.seen C.sound) sets.items }
     requires fresh { (cfg : C.Settings) × AllByRecursion (IsFreshFor (λ peer. C.stands (C.for_peer cfg peer))) sets.items }
     // Each link that was accepted is that of a connection, which was served to its end or given up, and was given back; and the lines were written.
-    ensures served { (cfg : C.Settings) → AllByRecursion (IsFreshFor (λ peer. C.stands (C.for_peer cfg peer))) sets.items → ServedMany (λ peer. C.meaning (C.for_peer cfg peer)) (λ peer. C.stands (C.for_peer cfg peer)) C.seen L.seen L.wrote L.tells N.seen (address_of plan.now.to.now) plan.now.connections (S.accepts_none nets.new) (N.seen net.old) (N.seen net.new) (K.faults out.old) (K.faults out.new) (K.written out.old) (K.written out.new) result }
+    ensures served { (cfg : C.Settings) → AllByRecursion (IsFreshFor (λ peer. C.stands (C.for_peer cfg peer))) sets.items → ServedMany (λ peer. C.meaning (C.for_peer cfg peer)) (λ peer. C.stands (C.for_peer cfg peer)) C.seen L.seen L.wrote L.tells plan.now.accepts_header N.seen (address_of plan.now.to.now) plan.now.connections (S.accepts_none nets.new) (N.seen net.old) (N.seen net.new) (K.faults out.old) (K.faults out.new) (K.written out.old) (K.written out.new) result }
     ensures lent { (N.seen net.new).lent ≡ (N.seen net.old).lent }
     ensures bound { (N.seen net.new).bound ≡ (N.seen net.old).bound }
     ensures dialled { (N.seen net.new).dialled ≡ (N.seen net.old).dialled }

@@ -2,7 +2,7 @@
 ghost use Rattle.std.specs.Prelude.{◌≡◌, ◌<◌, None, true, is_some};
 ghost use Rattle.px_link.specs.Net.{address_of, Place};
 ghost use Rattle.htx_drive.specs.Acts.{TakesTurn};
-ghost use Rattle.px_run.specs.Course.{IsSame, IsSameServer, GoesOn, WorksOn, CameTo, StandsSomehow, StepsTo, EndsWith, MayStep, HasCome};
+ghost use Rattle.px_run.specs.Course.{IsSame, IsSameServer, WorksOn, StepsTo, MayStep, HasCome, LeadsTo, IsUnderWay};
 ghost use Rattle.px_run.specs.Next.{IsAllowed};
 ghost use Rattle.px_run.specs.declared.next.Ready.{Ready};
 
@@ -133,8 +133,7 @@ fn opens<C: Resets, L: Waits, N: WaitsNet<Link = L>>(
     requires wanted { (C.seen core.old).wants.server_open ≡ true }
     requires may { MayStep C.seen C.sound core.old conn.old.server (N.seen conn.old.net) conn.old.ran }
     ensures goes { (cfg : C.Settings) (first : L) (first_net : N) → WorksOn (C.stands cfg) C.seen core.old L.seen L.wrote first conn.old.client conn.old.server (address_of to.now) (N.seen first_net) (N.seen conn.old.net)
-        → StepsTo result (GoesOn (C.stands cfg) C.seen core.new L.seen L.wrote first conn.new.client conn.new.server (address_of to.now) (N.seen first_net) (N.seen conn.new.net))
-        (EndsWith result (CameTo (C.meaning cfg) (C.stands cfg) C.seen L.seen L.wrote first conn.new.client (address_of to.now) (N.seen first_net) (N.seen conn.new.net) conn.new.ran) (StandsSomehow (C.stands cfg) core.new)) }
+        → LeadsTo result C.meaning C.stands cfg C.seen core.new L.seen L.wrote N.seen first (address_of to.now) first_net conn.new }
     ensures may { StepsTo result (MayStep C.seen C.sound core.new conn.new.server (N.seen conn.new.net) conn.new.ran) (HasCome result (C.sound core.new) conn.new.server conn.new.ran) }
 {
     match open(conn, core, to) {
@@ -158,8 +157,7 @@ fn turns<C: Resets, L: Waits, N: WaitsNet<Link = L>>(
     requires takes { TakesTurn wants.now }
     requires may { MayStep C.seen C.sound core.old conn.old.server (N.seen conn.old.net) conn.old.ran }
     ensures goes { (cfg : C.Settings) (first : L) (to : Place) (first_net : N) → WorksOn (C.stands cfg) C.seen core.old L.seen L.wrote first conn.old.client conn.old.server to (N.seen first_net) (N.seen conn.old.net)
-        → StepsTo result (GoesOn (C.stands cfg) C.seen core.new L.seen L.wrote first conn.new.client conn.new.server to (N.seen first_net) (N.seen conn.new.net))
-        (EndsWith result (CameTo (C.meaning cfg) (C.stands cfg) C.seen L.seen L.wrote first conn.new.client to (N.seen first_net) (N.seen conn.new.net) conn.new.ran) (StandsSomehow (C.stands cfg) core.new)) }
+        → LeadsTo result C.meaning C.stands cfg C.seen core.new L.seen L.wrote N.seen first to first_net conn.new }
     ensures may { StepsTo result (MayStep C.seen C.sound core.new conn.new.server (N.seen conn.new.net) conn.new.ran) (HasCome result (C.sound core.new) conn.new.server conn.new.ran) }
 {
     match take_turn(conn, core, turn, buffer, wants) {
@@ -189,8 +187,7 @@ fn act<C: Resets, L: Waits, N: WaitsNet<Link = L>>(
     requires allowed { (ready : Ready) × IsAllowed wants.now ready next }
     requires may { MayStep C.seen C.sound core.old conn.old.server (N.seen conn.old.net) conn.old.ran }
     ensures goes { (cfg : C.Settings) (first : L) (first_net : N) → WorksOn (C.stands cfg) C.seen core.old L.seen L.wrote first conn.old.client conn.old.server (address_of to.now) (N.seen first_net) (N.seen conn.old.net)
-        → StepsTo result (GoesOn (C.stands cfg) C.seen core.new L.seen L.wrote first conn.new.client conn.new.server (address_of to.now) (N.seen first_net) (N.seen conn.new.net))
-        (EndsWith result (CameTo (C.meaning cfg) (C.stands cfg) C.seen L.seen L.wrote first conn.new.client (address_of to.now) (N.seen first_net) (N.seen conn.new.net) conn.new.ran) (StandsSomehow (C.stands cfg) core.new)) }
+        → LeadsTo result C.meaning C.stands cfg C.seen core.new L.seen L.wrote N.seen first (address_of to.now) first_net conn.new }
     ensures may { StepsTo result (MayStep C.seen C.sound core.new conn.new.server (N.seen conn.new.net) conn.new.ran) (HasCome result (C.sound core.new) conn.new.server conn.new.ran) }
 {
     match next {
@@ -217,9 +214,8 @@ pub(crate) fn step<C: Resets, L: Waits, N: WaitsNet<Link = L>>(
     tools: &mut Tools,
 ) -> Stepped
     requires may { MayStep C.seen C.sound core.old conn.old.server (N.seen conn.old.net) conn.old.ran }
-    ensures goes { (cfg : C.Settings) (first : L) (first_net : N) → GoesOn (C.stands cfg) C.seen core.old L.seen L.wrote first conn.old.client conn.old.server (address_of to.now) (N.seen first_net) (N.seen conn.old.net)
-        → StepsTo result (GoesOn (C.stands cfg) C.seen core.new L.seen L.wrote first conn.new.client conn.new.server (address_of to.now) (N.seen first_net) (N.seen conn.new.net))
-        (EndsWith result (CameTo (C.meaning cfg) (C.stands cfg) C.seen L.seen L.wrote first conn.new.client (address_of to.now) (N.seen first_net) (N.seen conn.new.net) conn.new.ran) (StandsSomehow (C.stands cfg) core.new)) }
+    ensures goes { (cfg : C.Settings) (first : L) (first_net : N) → IsUnderWay (C.stands cfg) C.seen core.old L.seen L.wrote N.seen first (address_of to.now) first_net conn.old
+        → LeadsTo result C.meaning C.stands cfg C.seen core.new L.seen L.wrote N.seen first (address_of to.now) first_net conn.new }
     ensures may { StepsTo result (MayStep C.seen C.sound core.new conn.new.server (N.seen conn.new.net) conn.new.ran) (HasCome result (C.sound core.new) conn.new.server conn.new.ran) }
 {
     let wants = match work(conn, core) {

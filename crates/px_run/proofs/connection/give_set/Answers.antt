@@ -1,5 +1,5 @@
 use Rattle.htx_drive.specs.Weave.State.{IsReady}
-use Rattle.px_run.specs.Connection.{IsFreshFor}
+use Rattle.px_run.specs.Connection.{◌∘◌, IsFreshFor}
 use Rattle.px_run.proofs.Sets.{all_pushed}
 use Rattle.px_run.proofs.connection.give_set.Goals as goal
 
@@ -9,4 +9,4 @@ returns-clause-ready g c =
 
 pub returns-clause-fresh : goal.returns-clause-fresh
 returns-clause-fresh g c = λ cfg peer s h.
-    all_pushed (IsFreshFor (λ peer. g.C.Machine.stands (g.C.ResetsFor.for_peer cfg peer))) _ c.args.sets.now.items c.push.new.self.items c.reset.new.self c.push.ensures.items h (peer, c.reset.ensures.stands (g.C.ResetsFor.for_peer cfg peer) s.0 s.1)
+    all_pushed (IsFreshFor (g.C.Machine.stands ∘ g.C.ResetsFor.for_peer cfg)) _ c.args.sets.now.items c.push.new.self.items c.reset.new.self c.push.ensures.items h (peer, c.reset.ensures.stands (g.C.ResetsFor.for_peer cfg peer) s.0 s.1)

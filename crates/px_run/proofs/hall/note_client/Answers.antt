@@ -8,7 +8,7 @@ returns-in-Some g c =
     let e : c.args.at.now ≡ Some c.in-Some.connection = search rules in
     record {
       asked = asked_at_some g.L.Link.seen g.L.Link.wrote g.N.Net.seen c.args.at.now c.in-Some.connection _ e
-          (record { number = refl; peer = refl; client = record { told = c.note.ensures.seen; written = c.note.ensures.wrote }; server = same_server g.L.Link.seen g.L.Link.wrote c.in-Some.connection.conn.server; net = refl; ran = refl; core = refl });
+          (record { number = refl; caller = refl; client = record { told = c.note.ensures.seen; written = c.note.ensures.wrote }; server = same_server g.L.Link.seen g.L.Link.wrote c.in-Some.connection.conn.server; net = refl; ran = refl; core = refl });
     }
 
 pub returns-in-None : goal.returns-in-None
