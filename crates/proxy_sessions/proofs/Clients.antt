@@ -11,7 +11,11 @@ use Rattle.htx_drive.specs.Ran.{RanSo}
 use Rattle.htx_drive.specs.Headline.{IsSessionOf}
 use Rattle.htx_drive.specs.declared.Ran.{Ran}
 use Rattle.htx_drive.specs.declared.SessionFault.{SessionFault}
+use Rattle.px_peer.specs.declared.Peer.{Peer}
+use Rattle.px_proxyproto.specs.declared.meeting.Met.{Met}
+use Rattle.px_proxyproto.specs.declared.meeting.Met.TheVariants as met
 use Rattle.serve_run.specs.Drove.{Drove}
+use Rattle.serve_run.specs.Met.{ServedAsMet}
 use Rattle.proxy_sessions.specs.Connections.{ServesWith}
 
 -- a session that ran is that of its links, where they tell
@@ -30,3 +34,11 @@ serves meaning stands core_seen seen wrote cfg to first client first_net net law
     let g = h.1 in
     inl (record { past = g.past; front = g.front; came = g.came; put = g.put; closed = g.closed; dials = g.dials; spent = g.spent; spent_in_turns = g.spent_in_turns; turned = h.2 })
 serves meaning stands core_seen seen wrote cfg to first client first_net net law (Err fault) (inr h) = inr h
+
+-- what follows for each caller follows for whoever was met
+pub as_met : {L : Type 0} (seen : L → Seen) (wrote : L → List ℕ → Type 0) (does makes : Option Peer → L → L → NetSeen → NetSeen → Result Ran SessionFault → Type 0) (how : Met) (begins client : L) (first_net net : NetSeen) (result : Result Ran SessionFault)
+    → ((peer : Option Peer) → does peer begins client first_net net result → makes peer begins client first_net net result)
+    → ServedAsMet seen wrote does how begins client first_net net result → ServedAsMet seen wrote makes how begins client first_net net result
+as_met seen wrote does makes (met.Caller peer) begins client first_net net result follows h = follows peer h
+as_met seen wrote does makes met.Refused begins client first_net net (Ok ran) follows h = h
+as_met seen wrote does makes met.Refused begins client first_net net (Err fault) follows h = absurd h

@@ -1,5 +1,5 @@
 -- What a configuration makes of a client that connects.
-use Rattle.std.specs.Prelude.{◌≡◌, ℕ, ◌⊎◌, ◌≤◌, List, [], Option, Some, Result, Ok, Err}
+use Rattle.std.specs.Prelude.{◌≡◌, ℕ, Bool, ◌⊎◌, ◌≤◌, List, [], Option, Some, Result, Ok, Err}
 use Rattle.http_model.specs.declared.Ending.{Ending}
 use Rattle.http_model.specs.declared.Close.TheVariants.{Failed}
 use Rattle.session_model.specs.Meaning.{Meaning}
@@ -20,6 +20,7 @@ use Rattle.htx_drive.specs.declared.Ran.{Ran}
 use Rattle.htx_drive.specs.declared.SessionFault.{SessionFault}
 use Rattle.htx_drive.specs.declared.SessionFault.TheVariants as faults
 use Rattle.serve_run.specs.Drove.{budget, NotBegun}
+use Rattle.serve_run.specs.Met.{MeetsAndServes}
 use Rattle.proxy_sessions.specs.Driven.{stands_for, seen_of}
 
 -- The session was given up: each link was written a front of what a session writes, and the client's is closed Failed. A write to the client
@@ -56,6 +57,12 @@ ServesWith {C} {L} M stands core_seen seen wrote to first client first_net net (
 abbrev pub ServesClient : {L : Type 0} (cfg : Config) (seen : L → Seen) (wrote : L → List ℕ → Type 0) (to : Place) (first client : L) (first_net net : NetSeen) → Result Ran SessionFault → Type 0
 ServesClient cfg = ServesWith (meaning_of cfg) (stands_for cfg) seen_of
 
--- the same by what its link may tell of its peer: where that is told, the session begins with it
+-- The same of a link that was accepted and met first: by the header in front of its stream where one is to stand there, else by what the link may tell of its
+-- peer. The session begins where that ends, and with that peer; one that isn't heard is turned away.
+abbrev pub ServesMet : {L : Type 0} (tells : L → Option Peer → Type 0) (accepts_header : Bool) (cfg : Config) (seen : L → Seen) (wrote : L → List ℕ → Type 0) (to : Place) (first client : L) (first_net net : NetSeen) → Result Ran SessionFault → Type 0
+ServesMet tells accepts_header cfg seen wrote to =
+    MeetsAndServes tells accepts_header seen wrote (λ peer. ServesClient (record cfg { peer = peer }) seen wrote to)
+
+-- as the configuration says
 abbrev pub ServesFor : {L : Type 0} (tells : L → Option Peer → Type 0) (cfg : Config) (seen : L → Seen) (wrote : L → List ℕ → Type 0) (to : Place) (first client : L) (first_net net : NetSeen) → Result Ran SessionFault → Type 0
-ServesFor tells cfg seen wrote to first client first_net net result = (peer : Option Peer) × tells first peer × ServesClient (record cfg { peer = peer }) seen wrote to first client first_net net result
+ServesFor tells cfg = ServesMet tells cfg.accept_proxy cfg

@@ -19,14 +19,14 @@ abbrev pub WroteListening : Place → (writes writes_now : ℕ) → (old new : O
 WroteListening at writes writes_now old new = ((writes_now ≡ writes) × Gains old new (listening_line at)) ⊎ (Rose writes writes_now × GainsFront old new (listening_line at))
 
 -- The net was bound where the configuration says, the line that says so was written, and then each link that was accepted was served by sessions of the configuration,
--- which begin with what the link tells of its peer.
+-- which begin with what the link tells of its peer, or behind the header in front of its stream and with what that names, where the configuration accepts one.
 pub record RanLoop {L N : Type 0} (seen : L → Seen) (wrote : L → List ℕ → Type 0) (tells : L → Option Peer → Type 0) (net_seen : N → NetSeen) (accepts_none : Type 0) (first now : N) (writes writes_now : ℕ) (old new : Option (List ℕ)) (cfg : Config) (options : RunOptions) (answer : Result (Unit {0}) RunFault) : Type 0 where
   pub bound : N
   pub listens : Bound (net_seen first) (net_seen bound) (address_of cfg.bind)
   pub writes_then : ℕ
   pub between : Option (List ℕ)
   pub line : WroteListening (address_of cfg.bind) writes writes_then old between
-  pub served : ServedMany (λ peer. meaning_of (record cfg { peer = peer })) (λ peer. stands_for (record cfg { peer = peer })) seen_of seen wrote tells net_seen (address_of cfg.server) options.connections accepts_none (net_seen bound) (net_seen now) writes_then writes_now between new answer
+  pub served : ServedMany (λ peer. meaning_of (record cfg { peer = peer })) (λ peer. stands_for (record cfg { peer = peer })) seen_of seen wrote tells cfg.accept_proxy net_seen (address_of cfg.server) options.connections accepts_none (net_seen bound) (net_seen now) writes_then writes_now between new answer
 
 -- The bind failed, and nothing was written; or memory ran out at the bind or behind it, and a front of the line was written. No link was accepted.
 abbrev pub NotBegun : (first now : NetSeen) → (old new : Option (List ℕ)) → Place → Result (Unit {0}) RunFault → Type 0

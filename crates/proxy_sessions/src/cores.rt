@@ -46,21 +46,25 @@ pub(crate) struct RecordCores<'c> {
     pub(crate) config: &'c Config,
     /// How many bytes an output window has.
     pub(crate) window: u32,
+    /// Whose connections they are, in the place of the configuration's.
+    pub(crate) peer: Option<Peer>,
 }
 
 impl<'c> Cores<ConfigCore<'c>> for RecordCores<'c> {
     ghost use Rattle.proxy_sessions.specs.Ready.{IsReady};
 
-    ghost settings = { λ cores. (cores.config.now, cores.window) };
+    ghost settings = { λ cores. (record cores.config.now { peer = cores.peer }, cores.window) };
 
-    ghost ready = { λ cores. IsReady cores.config.now cores.window };
+    ghost ready = { λ cores. IsReady (record cores.config.now { peer = cores.peer }) cores.window };
 
     fn bufsize(&self) -> u32 {
         self.config.limits.bufsize
     }
 
     fn core(&self, alloc: Global) -> Result<ConfigCore<'c>, OutOfMemory> {
-        open_core(alloc, self.config, self.window)
+        let mut core = open_core(alloc, self.config, self.window)?;
+        core.reset_for(self.peer);
+        Ok(core)
     }
 
     ghost some_room = { λ cores ready. ready.some_room };

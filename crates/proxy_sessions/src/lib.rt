@@ -4,6 +4,7 @@
 mod cores;
 mod lines;
 mod records;
+mod replaying;
 mod running;
 mod serving;
 

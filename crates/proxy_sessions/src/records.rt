@@ -7,16 +7,18 @@ ghost use Rattle.rec_format.specs.Read as read;
 ghost use Rattle.rec_format.specs.ReportParts.{out_of};
 ghost use Rattle.rec_format.specs.Reports.{Reportable};
 ghost use Rattle.htx_drive.specs.Replay.Replayed.{Replays};
-ghost use Rattle.htx_drive.specs.Replay.Written.{IsReplayOf, IsDrillOf};
+ghost use Rattle.htx_drive.specs.Replay.Written.{IsReportOf, IsReplayOf, IsDrillOf};
 ghost use Rattle.htx_drive.specs.Weave.Recorded.{IsWeaveOf};
 ghost use Rattle.proxy_sessions.specs.Driven.{stands_at, stands_for, seen_of};
+ghost use Rattle.proxy_sessions.specs.Recorded.{ReplaysFor};
 
 use crate::cores::RecordCores;
+use crate::replaying::ConfigReplays;
 use forward_core::bounds::bounded;
 use forward_core::request::laws::total;
 use http_model::OutOfMemory;
 use http_rules::Config;
-use htx_drive::replay::{drill_text, replay_connection, replay_text};
+use htx_drive::replay::{drill_text, replay_connection, report_text};
 use htx_drive::weave::weave_text;
 use px_link::{Bytes, Turn};
 use rec_format::{Connection, Record, Report};
@@ -31,15 +33,10 @@ pub fn replay_report(
 ) -> Result<Bytes, OutOfMemory>
     requires valid { IsValid config.now }
     requires reportable { Reportable recorded.now.version (vec_len recorded.now.conns) }
-    ensures { IfOk result (IsReplayOf (meaning_of config.now) (stands_for config.now) seen_of (read.meaning_of recorded.now)) }
+    ensures { IfOk result (IsReportOf (ReplaysFor config.now) (read.meaning_of recorded.now)) }
 {
-    bounded();
-    total();
-    let cores = RecordCores {
-        config,
-        window: config.limits.bufsize,
-    };
-    replay_text(alloc, &cores, &config.server, recorded)
+    let replays = ConfigReplays { config };
+    report_text(alloc, &replays, recorded)
 }
 
 /// The report of a record, always in the second format: its connections run over so many cores that they share, interleaved by the record's turns. With a core
@@ -61,6 +58,7 @@ pub fn weave_report(
     let cores = RecordCores {
         config,
         window: config.limits.bufsize,
+        peer: config.peer,
     };
     weave_text(alloc, &cores, &config.server, recorded, sets)
 }
@@ -79,7 +77,11 @@ pub fn session_report(
 {
     bounded();
     total();
-    let cores = RecordCores { config, window };
+    let cores = RecordCores {
+        config,
+        window,
+        peer: config.peer,
+    };
     replay_connection(alloc, &cores, &config.server, conn, turns)
 }
 
@@ -98,6 +100,7 @@ pub fn drill_lines(
     let cores = RecordCores {
         config,
         window: config.limits.bufsize,
+        peer: config.peer,
     };
     drill_text(alloc, &cores, &config.server, seed, exchanges)
 }

@@ -97,6 +97,7 @@ fn serve_here<
     let cores = RecordCores {
         config,
         window: config.limits.bufsize,
+        peer: config.peer,
     };
     let Ok(sets) = cores_for(alloc, &cores, options.sets.unwrap_or(SETS)) else {
         return Err(RunFault::OutOfMemory);
@@ -111,6 +112,7 @@ fn serve_here<
         to: &config.server,
         times: times_of(&config.timeouts),
         connections: options.connections,
+        accepts_header: config.accept_proxy,
     };
     run(
         &mut many.net,

@@ -25,16 +25,16 @@ struct ConfigSessions<'c> {
 
 impl<'c, H: Link + HasPeer, N: Net<Link = H>> Sessions<N> for ConfigSessions<'c> {
     ghost use Rattle.px_link.specs.Net.{address_of};
-    ghost use Rattle.proxy_sessions.specs.Connections.{ServesFor};
+    ghost use Rattle.proxy_sessions.specs.Connections.{ServesMet};
 
-    type Settings = (Config, Address);
+    type Settings = (Config, Address, bool);
 
-    ghost settings = { λ s. (s.driven.opener, s.driven.to.now) };
+    ghost settings = { λ s. (s.driven.opener, s.driven.to.now, s.driven.accepts_header) };
 
     ghost to = { λ settings. address_of settings.1 };
 
     ghost session = { λ settings first client first_net net result.
-        ServesFor H.tells settings.0 H.seen H.wrote (address_of settings.1) first client (N.seen first_net) (N.seen net) result };
+        ServesMet H.tells settings.2 settings.0 H.seen H.wrote (address_of settings.1) first client (N.seen first_net) (N.seen net) result };
 
     fn run(&mut self, client: &mut H, net: &mut N) -> Result<Ran, SessionFault> {
         ran_is_the_session::<ConfigCore<'c>, H, N>();
@@ -73,7 +73,11 @@ pub fn serve_clients<H: Link + HasPeer, N: Net<Link = H>, K: Sink>(
     ensures complete { (Rose (N.seen net.old).bind_faults (N.seen net.new).bind_faults → ⊥) → (Rose (K.faults out.old) (K.faults out.new) → ⊥) → IsOkUnless result ServeFault.OutOfMemory }
 {
     let mut sessions = ConfigSessions {
-        driven: Driven::new(ClientCores::new(alloc, config), &config.server),
+        driven: Driven::new(
+            ClientCores::new(alloc, config),
+            &config.server,
+            config.accept_proxy,
+        ),
     };
     let served = serve(alloc, &config.bind, count, &mut sessions, net, out);
     drop(sessions);

@@ -1,22 +1,41 @@
-use Rattle.std.specs.Prelude.{ℕ}
+use Rattle.std.specs.Prelude.{ℕ, Option}
 use Rattle.http_rules.specs.declared.config.Config.{Config}
 use Rattle.px_link.specs.Net.{address_of}
+use Rattle.px_peer.specs.declared.Peer.{Peer}
 use Rattle.htx_drive.specs.Cores.{core_seen}
+use Rattle.htx_drive.specs.Machine.{CoreSeen}
 use Rattle.forward_core.specs.Meaning.Product.{meaning_of}
+use Rattle.session_core.specs.History.{Past}
 use Rattle.session_core.specs.Leads.{Stands}
+use Rattle.session_core.specs.declared.machine.Core.{Core}
+use Rattle.session_model.specs.Meaning.{Meaning}
 use Rattle.forward_core.specs.Joined.Joined.{SessionStands, request_of, answer_of}
-use Rattle.proxy_sessions.proofs.Clients.{serves}
+use Rattle.forward_core.specs.declared.joined.directions.Directions.{Directions}
+use Rattle.serve_run.specs.Drove.{Drove}
+use Rattle.proxy_sessions.specs.Connections.{ServesClient}
+use Rattle.proxy_sessions.proofs.Clients.{serves, as_met}
 use Rattle.proxy_sessions.proofs.serving.ConfigSessionsSessions.run.Goals as goal
 
 pub returns-clause-session : goal.returns-clause-session
 returns-clause-session g c =
     let opener : Config = c.args.self.now.driven.opener in
-    let told = c.run.ensures.session in
-    let cfg : Config × ℕ = (record opener { peer = told.0 }, opener.limits.bufsize) in
-    let to = address_of c.args.self.now.driven.to.now in (
-      told.0,
-      told.1,
-      serves (λ (s : Config × ℕ). meaning_of s.0) (λ s core past. Stands (meaning_of s.0) request_of answer_of (SessionStands s) core.sides core.at past) (λ core. core_seen (request_of core.sides) (answer_of core.sides) core.at core.lost) g.H.Link.seen g.H.Link.wrote cfg to c.args.client.now c.run.new.client (g.N.Net.seen c.args.net.now) (g.N.Net.seen c.run.new.net)
-          (λ core ran own ending answers kept a b d e r. c.ran_is_the_session.ensures cfg core c.args.client.now c.run.new.client to c.args.net.now c.run.new.net ran own ending answers kept a b d e r)
-          c.run.result told.2,
-    )
+    let met = c.run.ensures.session in
+    let meaning : Config × ℕ → Meaning = λ s. meaning_of s.0 in
+    let stands : Config × ℕ → Core Directions → Past → Type 0 = λ s core past. Stands (meaning_of s.0) request_of answer_of (SessionStands s) core.sides core.at past in
+    let sees : Core Directions → CoreSeen = λ core. core_seen (request_of core.sides) (answer_of core.sides) core.at core.lost in
+    let cfg : Option Peer → Config × ℕ = λ peer. (record opener { peer = peer }, opener.limits.bufsize) in
+    let to = address_of c.args.self.now.driven.to.now in
+    let first_net = g.N.Net.seen c.args.net.now in
+    let net = g.N.Net.seen c.run.new.net in
+    record {
+      begins = met.begins;
+      how = met.how;
+      so = met.so;
+      served =
+          as_met g.H.Link.seen g.H.Link.wrote (λ peer. Drove meaning stands sees g.H.Link.seen g.H.Link.wrote (cfg peer) to) (λ peer. ServesClient (record opener { peer = peer }) g.H.Link.seen g.H.Link.wrote to)
+          met.how met.begins c.run.new.client first_net net c.run.result
+          (λ peer h. serves meaning stands sees g.H.Link.seen g.H.Link.wrote (cfg peer) to met.begins c.run.new.client first_net net
+          (λ core ran own ending answers kept a b d e r. c.ran_is_the_session.ensures (cfg peer) core met.begins c.run.new.client to c.args.net.now c.run.new.net ran own ending answers kept a b d e r)
+          c.run.result h)
+          met.served;
+    }
