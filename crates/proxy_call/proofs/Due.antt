@@ -1,5 +1,5 @@
 -- What words and files call for is one status, and what the call gives is that one, or a fault or want of memory is in the way.
-use Rattle.std.proofs.Common.{◌≡◌, ℕ, ◌<◌, List, [], ◌∷◌, length, ◌⊎◌, inl, inr, refl, subst, arith}
+use Rattle.std.proofs.Common.{◌≡◌, ℕ, ◌<◌, List, [], ◌∷◌, length, ◌⊎◌, inl, inr, true, false, refl, subst, arith}
 use Rattle.std.specs.Prelude.{Option, Some, None, Result, Ok, Err}
 use Rattle.px_link.specs.Told.{NamedBytes, Rose, content_of}
 use Rattle.http_rules.specs.declared.config.Config.{Config}
@@ -14,10 +14,11 @@ use Rattle.px_command.specs.declared.options.RunOptions.{RunOptions}
 use Rattle.proxy_commands.specs.Answers.{Checks, DecidesRecord, IsGood, IsRefused, IsRefusedBy}
 use Rattle.proxy_call.specs.Due.{IsDue}
 use Rattle.proxy_commands.specs.Files.{Builder, Configured, Holds, IfTold, RecordIs, RefusesAll}
+use Rattle.proxy_commands.specs.Modes.{RunsApart, Takes}
 use Rattle.proxy_commands.specs.declared.status.Status.{Status}
 use Rattle.proxy_commands.specs.declared.status.Status.TheVariants.{Good, Usage, FileFault, OutFault, NetFault, OutOfMemory}
 use Rattle.proxy_commands.specs.declared.status.Status.TheVariants as ended
-use Rattle.proxy_call.proofs.Words.{record_or_config, fileless_or_config, fileless_or_record, check_or_record, serve_or_record, run_or_check, run_or_serve, run_or_record, run_or_fileless, same_config_name, same_record_name}
+use Rattle.proxy_call.proofs.Words.{record_or_config, fileless_or_config, fileless_or_record, check_or_record, serve_or_record, run_or_check, run_or_serve, run_or_record, run_or_fileless, same_config_name, same_record_name, replay_or_apart}
 
 -- ---- a file has one content
 
@@ -48,9 +49,23 @@ record_or_refused files name other found refusal same ok err =
 abbrev NamesRecord : List (List ℕ) → List ℕ → Type 0
 NamesRecord words rec = IsCheckRecord words rec ⊎ ((cfg : List ℕ) × RunsRecord words cfg rec)
 
-record_named : (words : List (List ℕ)) (files : List NamedBytes) (rec : List ℕ) → IsCheckRecord words rec ⊎ ((cfg_name : List ℕ) × RunsRecord words cfg_name rec × (cfg : Config) × Configured files cfg_name (Ok cfg)) → NamesRecord words rec
+record_named : (words : List (List ℕ)) (files : List NamedBytes) (rec : List ℕ) → IsCheckRecord words rec ⊎ ((cfg_name : List ℕ) × RunsRecord words cfg_name rec × (cfg : Config) × Configured files cfg_name (Ok cfg) × Takes words cfg_name rec cfg) → NamesRecord words rec
 record_named words files rec (inl is) = inl is
-record_named words files rec (inr (cfg_name, is, cfg, ok)) = inr (cfg_name, is)
+record_named words files rec (inr (cfg_name, is, cfg, ok, takes)) = inr (cfg_name, is)
+
+-- a configuration that the command takes isn't one that it refuses as a whole
+same_config : (r : Result Config Refusal) (a b : Config) → r ≡ Ok a → r ≡ Ok b → a ≡ b
+same_config r a b p q = cc
+
+header_or_none : (a b : Config) → a ≡ b → a.accept_proxy ≡ false → b.accept_proxy ≡ true → ⊥
+header_or_none a b same none header = cc
+
+taken_or_mode : (words : List (List ℕ)) (files : List NamedBytes) (name rec other last : List ℕ) (cfg c : Config) → Takes words name rec cfg → RunsApart words other last → name ≡ other
+    → Configured files name (Ok cfg) → Configured files other (Ok c) → c.accept_proxy ≡ true → ⊥
+taken_or_mode words files name rec other last cfg c (inl replay) apart same ok accepted header = replay_or_apart words name rec other last replay apart
+taken_or_mode words files name rec other last cfg c (inr plain) apart same ok accepted header =
+    let both = both_hold files other (λ t. config_of t None ≡ Ok cfg) (λ t. config_of t None ≡ Ok c) (subst (λ (n : List ℕ). Configured files n (Ok cfg)) same ok) accepted in
+    header_or_none cfg c (same_config (config_of both.0 None) cfg c both.1 both.2) plain header
 
 config_named : (words : List (List ℕ)) (name : List ℕ) → Checks words name ⊎ ((connections : ℕ) × IsServe words name connections) → ReadsConfig words name
 config_named words name (inl (inl check)) = inl (inl check)
@@ -68,42 +83,52 @@ good_or_usage words files (inl (name, inl (inl check), cfg, ok)) usage = usage.c
 good_or_usage words files (inl (name, inl (inr all), cfg, ok)) usage = usage.check_all name all
 good_or_usage words files (inl (name, inr (count, serve), cfg, ok)) usage = usage.serve name count serve
 good_or_usage words files (inr (inl (rec, is, r, ok))) usage = usage.check_record rec is
-good_or_usage words files (inr (inr (inl (cfg, rec, is, c, r, say)))) usage = runs_or_usage words cfg rec is usage
+good_or_usage words files (inr (inr (inl (cfg, rec, is, c, r, say, takes)))) usage = runs_or_usage words cfg rec is usage
 good_or_usage words files (inr (inr (inr (inl (seed, exchanges, is))))) usage = usage.drill seed exchanges is
 good_or_usage words files (inr (inr (inr (inr asks)))) usage = usage.text asks
 
 config_or_usage : (words : List (List ℕ)) (files : List NamedBytes) → IsDue words files ended.Config → IsUsage words → ⊥
-config_or_usage words files (name, inl (inl check), line, kind, refused) usage = usage.check name check
-config_or_usage words files (name, inl (inr (inl (rec, is))), line, kind, refused) usage = runs_or_usage words name rec is usage
-config_or_usage words files (name, inl (inr (inr (inl (count, is)))), line, kind, refused) usage = usage.serve name count is
-config_or_usage words files (name, inl (inr (inr (inr (options, is)))), line, kind, refused) usage = usage.run name options is
-config_or_usage words files (name, inr all, line, kind, refused) usage = usage.check_all name all
+config_or_usage words files (inl (name, inl (inl check), line, kind, refused)) usage = usage.check name check
+config_or_usage words files (inl (name, inl (inr (inl (rec, is))), line, kind, refused)) usage = runs_or_usage words name rec is usage
+config_or_usage words files (inl (name, inl (inr (inr (inl (count, is)))), line, kind, refused)) usage = usage.serve name count is
+config_or_usage words files (inl (name, inl (inr (inr (inr (options, is)))), line, kind, refused)) usage = usage.run name options is
+config_or_usage words files (inl (name, inr all, line, kind, refused)) usage = usage.check_all name all
+config_or_usage words files (inr (name, rec, apart, cfg, ok, header)) usage = runs_or_usage words name rec (inr apart) usage
 
 record_or_usage : (words : List (List ℕ)) (files : List NamedBytes) → IsDue words files ended.Record → IsUsage words → ⊥
 record_or_usage words files (rec, place, kind, refused, inl is) usage = usage.check_record rec is
-record_or_usage words files (rec, place, kind, refused, inr (cfg, is, c, ok)) usage = runs_or_usage words cfg rec is usage
+record_or_usage words files (rec, place, kind, refused, inr (cfg, is, c, ok, takes)) usage = runs_or_usage words cfg rec is usage
 
 good_or_config : (words : List (List ℕ)) (files : List NamedBytes) → IsDue words files Good → IsDue words files ended.Config → ⊥
-good_or_config words files (inl (name, how, cfg, ok)) (other, named, line, kind, refused) =
+good_or_config words files (inl (name, how, cfg, ok)) (inl (other, named, line, kind, refused)) =
     accepted_or_refused files name other cfg (line, kind) (same_config_name words name other (config_named words name how) named) ok refused
-good_or_config words files (inr (inl (rec, is, r, ok))) (other, named, line, kind, refused) = record_or_config words rec other is named
-good_or_config words files (inr (inr (inl (name, rec, is, cfg, r, say)))) (other, named, line, kind, refused) =
+good_or_config words files (inr (inl (rec, is, r, ok))) (inl (other, named, line, kind, refused)) = record_or_config words rec other is named
+good_or_config words files (inr (inr (inl (name, rec, is, cfg, r, say, takes)))) (inl (other, named, line, kind, refused)) =
     accepted_or_refused files name other cfg (line, kind) (same_config_name words name other (inl (inr (inl (rec, is)))) named) say.configuration refused
-good_or_config words files (inr (inr (inr none))) (other, named, line, kind, refused) = fileless_or_config words other none named
+good_or_config words files (inr (inr (inr none))) (inl (other, named, line, kind, refused)) = fileless_or_config words other none named
+good_or_config words files (inl (name, inl check, cfg, ok)) (inr (other, rec, apart, c, accepted, header)) = check_or_record words name rec check (inr (other, inr apart))
+good_or_config words files (inl (name, inr (count, serve), cfg, ok)) (inr (other, rec, apart, c, accepted, header)) = serve_or_record words name rec count serve (inr (other, inr apart))
+good_or_config words files (inr (inl (name, is, r, ok))) (inr (other, rec, apart, c, accepted, header)) = record_or_config words name other is (inl (inr (inl (rec, inr apart))))
+good_or_config words files (inr (inr (inl (name, rec, is, cfg, r, say, takes)))) (inr (other, last, apart, c, accepted, header)) =
+    taken_or_mode words files name rec other last cfg c takes apart (same_config_name words name other (inl (inr (inl (rec, is)))) (inl (inr (inl (last, inr apart))))) say.configuration accepted header
+good_or_config words files (inr (inr (inr none))) (inr (other, rec, apart, c, accepted, header)) = fileless_or_config words other none (inl (inr (inl (rec, inr apart))))
 
 good_or_record : (words : List (List ℕ)) (files : List NamedBytes) → IsDue words files Good → IsDue words files ended.Record → ⊥
 good_or_record words files (inl (name, inl check, cfg, ok)) (rec, place, kind, refused, how) = check_or_record words name rec check (record_named words files rec how)
 good_or_record words files (inl (name, inr (count, serve), cfg, ok)) (rec, place, kind, refused, how) = serve_or_record words name rec count serve (record_named words files rec how)
 good_or_record words files (inr (inl (name, is, r, ok))) (rec, place, kind, refused, how) =
     record_or_refused files name rec r (record { place = place; kind = kind }) (same_record_name words name rec (inl is) (record_named words files rec how)) ok refused
-good_or_record words files (inr (inr (inl (cfg_name, name, is, cfg, r, say)))) (rec, place, kind, refused, how) =
+good_or_record words files (inr (inr (inl (cfg_name, name, is, cfg, r, say, takes)))) (rec, place, kind, refused, how) =
     record_or_refused files name rec r (record { place = place; kind = kind }) (same_record_name words name rec (inr (cfg_name, is)) (record_named words files rec how)) say.accepted refused
 good_or_record words files (inr (inr (inr none))) (rec, place, kind, refused, how) = fileless_or_record words rec none (record_named words files rec how)
 
 config_or_record : (words : List (List ℕ)) (files : List NamedBytes) → IsDue words files ended.Config → IsDue words files ended.Record → ⊥
-config_or_record words files (name, named, line, kind, refused) (rec, place, what, err, inl is) = record_or_config words rec name is named
-config_or_record words files (name, named, line, kind, refused) (rec, place, what, err, inr (cfg_name, is, cfg, ok)) =
+config_or_record words files (inl (name, named, line, kind, refused)) (rec, place, what, err, inl is) = record_or_config words rec name is named
+config_or_record words files (inl (name, named, line, kind, refused)) (rec, place, what, err, inr (cfg_name, is, cfg, ok, takes)) =
     accepted_or_refused files cfg_name name cfg (line, kind) (same_config_name words cfg_name name (inl (inr (inl (rec, is)))) named) ok refused
+config_or_record words files (inr (name, last, apart, c, accepted, header)) (rec, place, what, err, inl is) = record_or_config words rec name is (inl (inr (inl (last, inr apart))))
+config_or_record words files (inr (name, last, apart, c, accepted, header)) (rec, place, what, err, inr (cfg_name, is, cfg, ok, takes)) =
+    taken_or_mode words files cfg_name rec name last cfg c takes apart (same_config_name words cfg_name name (inl (inr (inl (rec, is)))) (inl (inr (inl (last, inr apart))))) ok accepted header
 
 pub due_once : (words : List (List ℕ)) (files : List NamedBytes) (a b : Status) → IsDue words files a → IsDue words files b → a ≡ b
 due_once words files Good Good p q = refl
@@ -149,11 +174,12 @@ pub run_not_due : (words : List (List ℕ)) (files : List NamedBytes) (name : Li
 run_not_due words files name options cfg Good is ok (inl (other, inl checks, c, other_ok)) = run_or_check words other (name, options, is) checks
 run_not_due words files name options cfg Good is ok (inl (other, inr (count, serve), c, other_ok)) = run_or_serve words (name, options, is) (other, count, serve)
 run_not_due words files name options cfg Good is ok (inr (inl (rec, record_is, r, other_ok))) = run_or_record words rec (name, options, is) (inl record_is)
-run_not_due words files name options cfg Good is ok (inr (inr (inl (other, rec, runs, c, r, say)))) = run_or_record words rec (name, options, is) (inr (other, runs))
+run_not_due words files name options cfg Good is ok (inr (inr (inl (other, rec, runs, c, r, say, takes)))) = run_or_record words rec (name, options, is) (inr (other, runs))
 run_not_due words files name options cfg Good is ok (inr (inr (inr none))) = run_or_fileless words (name, options, is) none
 run_not_due words files name options cfg Usage is ok usage = usage.run name options is
-run_not_due words files name options cfg ended.Config is ok (other, named, line, kind, refused) =
+run_not_due words files name options cfg ended.Config is ok (inl (other, named, line, kind, refused)) =
     accepted_or_refused files name other cfg (line, kind) (same_config_name words name other (inl (inr (inr (inr (options, is))))) named) ok refused
+run_not_due words files name options cfg ended.Config is ok (inr (other, rec, apart, c, accepted, header)) = run_or_record words rec (name, options, is) (inr (other, inr apart))
 run_not_due words files name options cfg ended.Record is ok (rec, place, kind, refused, how) = run_or_record words rec (name, options, is) (record_named words files rec how)
 run_not_due words files name options cfg FileFault is ok due = due
 run_not_due words files name options cfg OutFault is ok due = due
@@ -168,10 +194,10 @@ of_told files fs P is told = subst (λ (f : Option (List NamedBytes)). IfTold f 
 pub good_due : (words : List (List ℕ)) (files : Option (List NamedBytes)) (fs : List NamedBytes) (text : List ℕ) → files ≡ Some fs → IsGood words files text → IsDue words fs Good
 good_due words files fs text told (inl (name, is, (cfg, ok, line))) = inl (name, inl is, cfg, of_told files fs _ told ok)
 good_due words files fs text told (inr (inl (rec, is, (r, ok, wrote)))) = inr (inl (rec, is, r, of_told files fs _ told ok))
-good_due words files fs text told (inr (inr (inl (name, rec, is, (cfg, r, say, wrote))))) = inr (inr (inl (name, rec, inl is, cfg, r, of_told files fs _ told say)))
-good_due words files fs text told (inr (inr (inr (inl (name, rec, inl (is, (cfg, r, say, wrote))))))) = inr (inr (inl (name, rec, inr (inl (inl is)), cfg, r, of_told files fs _ told say)))
-good_due words files fs text told (inr (inr (inr (inl (name, rec, inr (is, (cfg, r, say, wrote))))))) = inr (inr (inl (name, rec, inr (inl (inr is)), cfg, r, of_told files fs _ told say)))
-good_due words files fs text told (inr (inr (inr (inr (inl (name, rec, cores, is, (cfg, r, say, wrote))))))) = inr (inr (inl (name, rec, inr (inr (cores, is)), cfg, r, of_told files fs _ told say)))
+good_due words files fs text told (inr (inr (inl (name, rec, is, (cfg, r, say, wrote))))) = inr (inr (inl (name, rec, inl is, cfg, r, of_told files fs _ told say, inl is)))
+good_due words files fs text told (inr (inr (inr (inl (name, rec, inl (is, (cfg, r, say, plain, wrote))))))) = inr (inr (inl (name, rec, inr (inl (inl is)), cfg, r, of_told files fs _ told say, inr plain)))
+good_due words files fs text told (inr (inr (inr (inl (name, rec, inr (is, (cfg, r, say, plain, wrote))))))) = inr (inr (inl (name, rec, inr (inl (inr is)), cfg, r, of_told files fs _ told say, inr plain)))
+good_due words files fs text told (inr (inr (inr (inr (inl (name, rec, cores, is, (cfg, r, say, plain, wrote))))))) = inr (inr (inl (name, rec, inr (inr (cores, is)), cfg, r, of_told files fs _ told say, inr plain)))
 good_due words files fs text told (inr (inr (inr (inr (inr (inl (seed, exchanges, is, wrote))))))) = inr (inr (inr (inl (seed, exchanges, is))))
 good_due words files fs text told (inr (inr (inr (inr (inr (inr texts)))))) = inr (inr (inr (inr texts.0)))
 
@@ -182,7 +208,7 @@ unbuilt fs builder name line kind never (Some number, (text, content, (refuses, 
 refused_due : (words : List (List ℕ)) (files : Option (List NamedBytes)) (fs : List NamedBytes) (builder : Builder) (name : List ℕ) (line : ℕ) (kind : CfgKind) → files ≡ Some fs → (Rose builder.before builder.now → ⊥)
     → NamesConfig words name → IsRefused files builder name line kind → IsDue words fs ended.Config
 refused_due words files fs builder name line kind told never named refused =
-    (name, inl named, line, kind, unbuilt fs builder name line kind never (subst (λ (f : Option (List NamedBytes)). IsRefused f builder name line kind) told refused))
+    inl (name, inl named, line, kind, unbuilt fs builder name line kind never (subst (λ (f : Option (List NamedBytes)). IsRefused f builder name line kind) told refused))
 
 -- the first of all refused lines is the one that a load names
 first_due : (text : List ℕ) (builder : Builder) (all : List RefusedLine) → (Rose builder.before builder.now → ⊥) → 0 < length all
@@ -199,18 +225,19 @@ all_due : (words : List (List ℕ)) (files : Option (List NamedBytes)) (fs : Lis
 all_due words files fs builder name all told never is refused =
     let held = of_told files fs (λ f. RefusesAll f builder name all) told refused in
     let first = first_due held.0 builder all never held.2.some held.2.first in
-    (name, inr is, first.0, first.1, (held.0, held.1, first.2))
+    inl (name, inr is, first.0, first.1, (held.0, held.1, first.2))
 
 pub refused_by_due : (words : List (List ℕ)) (files : Option (List NamedBytes)) (fs : List NamedBytes) (builder : Builder) (text : List ℕ) → files ≡ Some fs → (Rose builder.before builder.now → ⊥)
     → IsRefusedBy words files builder text → IsDue words fs ended.Config
 refused_by_due words files fs builder text told never (inl (name, named, (line, kind, refused, is))) = refused_due words files fs builder name line kind told never named refused
-refused_by_due words files fs builder text told never (inr (name, all, (lines, refused, is))) = all_due words files fs builder name lines told never all refused
+refused_by_due words files fs builder text told never (inr (inl (name, all, (lines, refused, is)))) = all_due words files fs builder name lines told never all refused
+refused_by_due words files fs builder text told never (inr (inr (line, kind, mode, is))) = inr (mode.cfg_name, mode.rec_name, mode.runs, mode.cfg, of_told files fs _ told mode.accepted, mode.header)
 
 decided : (words : List (List ℕ)) (files : Option (List NamedBytes)) (builder : Builder) (fs : List NamedBytes) (rec : List ℕ) → files ≡ Some fs → DecidesRecord words files builder rec
-    → IsCheckRecord words rec ⊎ ((cfg_name : List ℕ) × RunsRecord words cfg_name rec × (cfg : Config) × Configured fs cfg_name (Ok cfg))
+    → IsCheckRecord words rec ⊎ ((cfg_name : List ℕ) × RunsRecord words cfg_name rec × (cfg : Config) × Configured fs cfg_name (Ok cfg) × Takes words cfg_name rec cfg)
 decided words files builder fs rec told (inl is) = inl is
 decided words files builder fs rec told (inr (cfg_name, is, accepted, built)) =
-    let said = of_told files fs (λ f. (cfg : Config) × Configured f cfg_name (Ok cfg)) told accepted in inr (cfg_name, is, said.0, said.1)
+    let said = of_told files fs (λ f. (cfg : Config) × Configured f cfg_name (Ok cfg) × Takes words cfg_name rec cfg) told accepted in inr (cfg_name, is, said.0, said.1, said.2)
 
 pub record_due : (words : List (List ℕ)) (files : Option (List NamedBytes)) (builder : Builder) (fs : List NamedBytes) (rec : List ℕ) (refusal : records.Refusal) → files ≡ Some fs → DecidesRecord words files builder rec
     → IfTold files (λ f. RecordIs f rec (Err refusal)) → IsDue words fs ended.Record

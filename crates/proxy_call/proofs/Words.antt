@@ -5,6 +5,7 @@ use Rattle.px_bytes.specs.Numbers.{decimal_of}
 use Rattle.px_link.specs.Told.{NamedBytes}
 use Rattle.px_command.specs.Command.{IsCheck, IsCheckAll, IsCheckRecord, IsReplay, IsExplain, IsExplainBlocks, IsWeave, RunsRecord, IsServe, IsRun, IsDrill, AsksText, IsFileWord, NamesConfig, ReadsConfig}
 use Rattle.px_command.specs.declared.options.RunOptions.{RunOptions}
+use Rattle.proxy_commands.specs.Modes.{RunsApart}
 use Rattle.proxy_commands.specs.Answers.{Checks, IsGood, NamesServe}
 use Rattle.proxy_call.specs.Due.{AsksNoFile}
 use Rattle.proxy_commands.specs.Running.{NamesRun}
@@ -308,3 +309,17 @@ same_count words cfg other count n p q =
     let first : third words ≡ p.0 = ap third p.1 in
     let second_count : third words ≡ q.0 = ap third q.1 in
     same_number p.0 q.0 (third words) count n first second_count p.3.0 q.3.0
+
+-- ---- `replay`, or a command that runs sessions apart from clients, by the first letter
+
+abbrev letter : List (List ℕ) → ℕ
+letter [] = 0
+letter (first ∷ rest) = get_or first 0 0
+
+two_letters : (n : ℕ) (words : List (List ℕ)) → letter words ≡ 114 → letter words ≡ n → (114 ≡ n → ⊥) → ⊥
+two_letters n words p q differ = differ (sym p ∙ q)
+
+pub replay_or_apart : (words : List (List ℕ)) (cfg rec other last : List ℕ) → IsReplay words cfg rec → RunsApart words other last → ⊥
+replay_or_apart words cfg rec other last replay (inl (inl explain)) = two_letters 101 words (ap letter replay.0) (ap letter explain.0) (λ e. absurd cc)
+replay_or_apart words cfg rec other last replay (inl (inr blocks)) = two_letters 101 words (ap letter replay.0) (ap letter blocks.0) (λ e. absurd cc)
+replay_or_apart words cfg rec other last replay (inr (cores, weave)) = two_letters 119 words (ap letter replay.0) (ap letter weave.1) (λ e. absurd cc)

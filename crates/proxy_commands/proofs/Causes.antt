@@ -1,5 +1,5 @@
 -- What a step that stops says of the whole command.
-use Rattle.std.proofs.Common.{◌≡◌, ◌≤◌, ℕ, List, inl, inr, sym, subst, arith}
+use Rattle.std.proofs.Common.{◌≡◌, ◌≤◌, ◌⊎◌, Bool, true, false, ℕ, List, inl, inr, refl, sym, subst, arith}
 use Rattle.std.specs.Prelude.{Option, Result, Ok, Err, IfErr, IsErrAnd}
 use Rattle.px_link.specs.Told.{NamedBytes, Reads, Rose}
 use Rattle.http_rules.specs.declared.config.Config.{Config}
@@ -10,13 +10,17 @@ use Rattle.cfg_parse.specs.declared.refused.Verdict.{Verdict}
 use Rattle.cfg_parse.specs.declared.refused.Verdict.TheVariants.{Accepted, Refused}
 use Rattle.cfg_parse.specs.declared.fault.CfgFault.{CfgFault}
 use Rattle.cfg_parse.specs.declared.fault.CfgFault.TheVariants as configurations
+use Rattle.cfg_parse.specs.declared.fault.CfgKind.{CfgKind}
+use Rattle.cfg_parse.specs.declared.fault.CfgKind.TheVariants.{Mode}
 use Rattle.rec_format.specs.declared.record.RecFault.{RecFault}
 use Rattle.rec_format.specs.declared.record.RecFault.TheVariants as records
 use Rattle.rec_format.specs.Parts.{Refuses}
 use Rattle.rec_format.specs.Recorded.{record_of}
-use Rattle.px_command.specs.Command.{IsCheckAll, NamesConfig}
-use Rattle.proxy_commands.specs.Answers.{DecidesBy, DecidesRecord, IsAccepted}
-use Rattle.proxy_commands.specs.Files.{IfTold, Configured}
+use Rattle.px_command.specs.Command.{IsCheckAll, NamesConfig, RunsRecord}
+use Rattle.proxy_commands.specs.Answers.{DecidesBy, DecidesRecord, IsAccepted, IsRefusedBy}
+use Rattle.proxy_commands.specs.Lines.{refused_line}
+use Rattle.proxy_commands.specs.Files.{IfTold, Configured, IsBuilt}
+use Rattle.proxy_commands.specs.Modes.{RunsSo, Takes}
 use Rattle.proxy_commands.specs.Stops.{Input, Answers, ReadStops, SaysAll, SaysVerdict, StopsBy, stop_of_configuration, stop_of_record}
 use Rattle.proxy_commands.specs.declared.stop.Stop.{Stop}
 use Rattle.proxy_commands.specs.declared.stop.Stop.TheVariants as stops
@@ -54,7 +58,7 @@ read_stops input name before stops.OutOfMemory decides least reads = tt
 -- a configuration that is refused
 pub load_stops : (input : Input) (name bytes : List ℕ) (fault : CfgFault) → NamesConfig input.words name → Reads input.files name 1048577 bytes
     → Loads bytes input.builder.before input.builder.now input.builder.kept (Err fault) → StopsBy input (stop_of_configuration fault)
-load_stops input name bytes (configurations.Refused line kind) named read loads = (name, named, refused input.files input.builder name bytes line kind read loads)
+load_stops input name bytes (configurations.Refused line kind) named read loads = inl (name, named, refused input.files input.builder name bytes line kind read loads)
 load_stops input name bytes configurations.OutOfMemory named read loads = tt
 
 -- a record that is refused
@@ -64,9 +68,39 @@ record_stops input name bytes (records.Refused place kind) decides read refuses 
     (name, decides, recorded input.files name bytes (Err (record { place = place; kind = kind })) read refuses)
 record_stops input name bytes records.OutOfMemory decides read refuses = tt
 
--- a configuration that is accepted is one
-pub accepted : (files : Option (List NamedBytes)) (cfg_name : List ℕ) (cfg : Config) → IfTold files (λ fs. Configured fs cfg_name (Ok cfg)) → IsAccepted files cfg_name
-accepted files cfg_name cfg is = weaker files (λ fs. Configured fs cfg_name (Ok cfg)) (λ fs. (c : Config) × Configured fs cfg_name (Ok c)) (λ fs h. (cfg, h)) is
+-- a configuration that is accepted and taken is one
+pub accepted : (words : List (List ℕ)) (files : Option (List NamedBytes)) (cfg_name rec_name : List ℕ) (cfg : Config) → Takes words cfg_name rec_name cfg
+    → IfTold files (λ fs. Configured fs cfg_name (Ok cfg)) → IsAccepted words files cfg_name rec_name
+accepted words files cfg_name rec_name cfg takes is =
+    weaker files (λ fs. Configured fs cfg_name (Ok cfg)) (λ fs. (c : Config) × Configured fs cfg_name (Ok c) × Takes words cfg_name rec_name c) (λ fs h. (cfg, h, takes)) is
+
+-- ---- which configurations a command takes
+
+pub runs_record : (takes_header : Bool) (words : List (List ℕ)) (cfg_name rec_name : List ℕ) → RunsSo takes_header words cfg_name rec_name → RunsRecord words cfg_name rec_name
+runs_record true words cfg_name rec_name so = inl so
+runs_record false words cfg_name rec_name so = inr so
+
+pub takes : (takes_header : Bool) (words : List (List ℕ)) (cfg_name rec_name : List ℕ) (cfg : Config) → RunsSo takes_header words cfg_name rec_name → (takes_header ≡ true) ⊎ (cfg.accept_proxy ≡ false)
+    → Takes words cfg_name rec_name cfg
+takes true words cfg_name rec_name cfg so taken = inl so
+takes false words cfg_name rec_name cfg so (inl other) = absurd cc
+takes false words cfg_name rec_name cfg so (inr plain) = inr plain
+
+-- a command that takes no header takes none whose clients begin with one
+pub plain : (cfg : Config) → (false ≡ true) ⊎ (cfg.accept_proxy ≡ false) → cfg.accept_proxy ≡ false
+plain cfg (inl other) = absurd cc
+plain cfg (inr is) = is
+
+pub mode_stops : (input : Input) (takes_header : Bool) (cfg_name rec_name : List ℕ) (cfg : Config) → RunsSo takes_header input.words cfg_name rec_name
+    → IfTold input.files (λ fs. Configured fs cfg_name (Ok cfg)) → IsBuilt input.builder → (cfg.accept_proxy ≡ true) × (takes_header ≡ false) → StopsBy input (stops.Refused 0 Mode)
+mode_stops input true cfg_name rec_name cfg so accepts built refused = absurd cc
+mode_stops input false cfg_name rec_name cfg so accepts built refused =
+    inr (record { cfg_name = cfg_name; rec_name = rec_name; runs = so; cfg = cfg; accepted = accepts; header = refused.0; built = built; whole = refl; mode = refl })
+
+-- what is written of a configuration that is refused, or that the command doesn't take
+pub refused_by : (input : Input) (line : ℕ) (kind : CfgKind) (text : List ℕ) → StopsBy input (stops.Refused line kind) → text ≡ refused_line line kind → IsRefusedBy input.words input.files input.builder text
+refused_by input line kind text (inl (name, named, refused)) is = inl (name, named, (line, kind, refused, is))
+refused_by input line kind text (inr other) is = inr (inr (line, kind, other, is))
 
 -- ---- all refused lines
 

@@ -1,5 +1,5 @@
 -- What a command is answered: which text is written with which status, by the words and the files.
-use Rattle.std.specs.Prelude.{◌≡◌, ℕ, ◌+◌, ◌≤◌, List, ◌⊎◌, ⊤, length, Option, None, Ok, Err}
+use Rattle.std.specs.Prelude.{◌≡◌, ℕ, ◌+◌, ◌≤◌, List, ◌⊎◌, ⊤, length, false, Option, None, Ok, Err}
 use Rattle.px_link.specs.Told.{NamedBytes, GainsFront, Rose}
 use Rattle.http_rules.specs.declared.config.Config.{Config}
 use Rattle.cfg_parse.specs.Whole.{config_of}
@@ -12,20 +12,22 @@ use Rattle.px_command.specs.Texts.{EndsLine}
 use Rattle.rec_format.specs.declared.record.RecKind.{RecKind}
 use Rattle.rec_format.specs.Recorded.{Recorded}
 use Rattle.rec_format.specs.Written.{written}
-use Rattle.htx_drive.specs.Replay.Written.{IsReplayOf, IsDrillOf}
+use Rattle.htx_drive.specs.Replay.Written.{IsReportOf, IsReplayOf, IsDrillOf}
 use Rattle.htx_drive.specs.Weave.Recorded.{IsWeaveOf}
 use Rattle.proxy_sessions.specs.Driven.{stands_for, seen_of}
+use Rattle.proxy_sessions.specs.Recorded.{ReplaysFor}
 use Rattle.proxy_commands.specs.Explained.{IsExplanation, IsBlockExplanation}
 use Rattle.proxy_commands.specs.Lines.{accepted_line, refused_line, record_line, file_line}
+use Rattle.proxy_commands.specs.Modes.{IsOtherMode, Takes}
 use Rattle.proxy_commands.specs.Refusals.{refused_text}
 use Rattle.proxy_commands.specs.Files.{IfTold, Builder, Configured, IsBuilt, RecordIs, Refuses, RefusesAll, Say}
 use Rattle.proxy_commands.specs.declared.status.Status.{Status}
 use Rattle.proxy_commands.specs.declared.status.Status.TheVariants.{Good, Usage, FileFault, OutFault, NetFault, OutOfMemory}
 use Rattle.proxy_commands.specs.declared.status.Status.TheVariants as ended
 
--- the file's text is accepted as a configuration, where files are told
-abbrev pub IsAccepted : Option (List NamedBytes) → (cfg_name : List ℕ) → Type 0
-IsAccepted files cfg_name = IfTold files (λ fs. (cfg : Config) × Configured fs cfg_name (Ok cfg))
+-- the file's text is accepted as a configuration that the command takes, where files are told
+abbrev pub IsAccepted : List (List ℕ) → Option (List NamedBytes) → (cfg_name rec_name : List ℕ) → Type 0
+IsAccepted words files cfg_name rec_name = IfTold files (λ fs. (cfg : Config) × Configured fs cfg_name (Ok cfg) × Takes words cfg_name rec_name cfg)
 
 -- the text is the line of an accepted configuration
 abbrev pub IsCheckOf : Option (List NamedBytes) → (cfg_name text : List ℕ) → Type 0
@@ -45,11 +47,13 @@ IsRefusedOf files builder cfg_name text =
 abbrev pub IsAllRefusedOf : Option (List NamedBytes) → Builder → (cfg_name text : List ℕ) → Type 0
 IsAllRefusedOf files builder cfg_name text = (all : List RefusedLine) × IfTold files (λ fs. RefusesAll fs builder cfg_name all) × (text ≡ refused_text cfg_name all)
 
--- The text is what is written of a refused configuration: of `check --all` each refused line, of any other command the first.
+-- The text is what is written of a refused configuration: of `check --all` each refused line, of any other command the first; or the command takes none whose
+-- clients begin with a header, and that is written.
 abbrev pub IsRefusedBy : List (List ℕ) → Option (List NamedBytes) → Builder → (text : List ℕ) → Type 0
 IsRefusedBy words files builder text =
     ((cfg_name : List ℕ) × NamesConfig words cfg_name × IsRefusedOf files builder cfg_name text)
-    ⊎ ((cfg_name : List ℕ) × IsCheckAll words cfg_name × IsAllRefusedOf files builder cfg_name text)
+    ⊎ (((cfg_name : List ℕ) × IsCheckAll words cfg_name × IsAllRefusedOf files builder cfg_name text)
+    ⊎ ((line : ℕ) × (kind : CfgKind) × IsOtherMode words files builder line kind × (text ≡ refused_line line kind)))
 
 -- the text is the record of the file in the second format
 abbrev pub IsRewritten : Option (List NamedBytes) → (rec_name text : List ℕ) → Type 0
@@ -61,19 +65,19 @@ IsRecordRefusedOf files rec_name text =
     (place : ℕ) × (kind : RecKind) × IfTold files (λ fs. RecordIs fs rec_name (Err (record { place = place; kind = kind }))) × (text ≡ record_line place kind)
 
 -- the text is the report of the record in its format, by what the configuration makes of its connections, each by its own turns
-abbrev pub IsReportOf : Option (List NamedBytes) → (cfg_name rec_name text : List ℕ) → Type 0
-IsReportOf files cfg_name rec_name text =
-    (cfg : Config) × (rec : Recorded) × IfTold files (λ fs. Say fs cfg_name rec_name cfg rec) × IsReplayOf (meaning_of cfg) (stands_for cfg) seen_of rec text
+abbrev pub IsReplayed : Option (List NamedBytes) → (cfg_name rec_name text : List ℕ) → Type 0
+IsReplayed files cfg_name rec_name text =
+    (cfg : Config) × (rec : Recorded) × IfTold files (λ fs. Say fs cfg_name rec_name cfg rec) × IsReportOf (ReplaysFor cfg) rec text
 
 -- the text is what is told of the first exchange of the record's first connection, by what the configuration makes of it
 abbrev pub IsExplanationOf : Option (List NamedBytes) → (cfg_name rec_name text : List ℕ) → Type 0
 IsExplanationOf files cfg_name rec_name text =
-    (cfg : Config) × (rec : Recorded) × IfTold files (λ fs. Say fs cfg_name rec_name cfg rec) × IsExplanation cfg rec text
+    (cfg : Config) × (rec : Recorded) × IfTold files (λ fs. Say fs cfg_name rec_name cfg rec) × (cfg.accept_proxy ≡ false) × IsExplanation cfg rec text
 
 -- the text is that with the arrays that the rules left
 abbrev pub IsBlockExplanationOf : Option (List NamedBytes) → (cfg_name rec_name text : List ℕ) → Type 0
 IsBlockExplanationOf files cfg_name rec_name text =
-    (cfg : Config) × (rec : Recorded) × IfTold files (λ fs. Say fs cfg_name rec_name cfg rec) × IsBlockExplanation cfg rec text
+    (cfg : Config) × (rec : Recorded) × IfTold files (λ fs. Say fs cfg_name rec_name cfg rec) × (cfg.accept_proxy ≡ false) × IsBlockExplanation cfg rec text
 
 -- the text is what `explain` of these files tells, with the flag or without
 abbrev pub IsExplained : List (List ℕ) → Option (List NamedBytes) → (cfg_name rec_name text : List ℕ) → Type 0
@@ -90,17 +94,17 @@ pub record IsWoven (cfg : Config) (cores : ℕ) (rec : Recorded) (text : List �
 -- the text is such a report of the record, by what the configuration makes of its connections
 abbrev pub IsWovenReportOf : Option (List NamedBytes) → (cfg_name rec_name : List ℕ) → (cores : ℕ) → (text : List ℕ) → Type 0
 IsWovenReportOf files cfg_name rec_name cores text =
-    (cfg : Config) × (rec : Recorded) × IfTold files (λ fs. Say fs cfg_name rec_name cfg rec) × IsWoven cfg cores rec text
+    (cfg : Config) × (rec : Recorded) × IfTold files (λ fs. Say fs cfg_name rec_name cfg rec) × (cfg.accept_proxy ≡ false) × IsWoven cfg cores rec text
 
 -- the text is the lines of the generated session, by what its own configuration makes of it
 abbrev pub IsDrilled : (seed exchanges : ℕ) → (text : List ℕ) → Type 0
 IsDrilled seed exchanges text = (cfg : Config) × (config_of configuration None ≡ Ok cfg) × IsDrillOf (meaning_of cfg) (stands_for cfg) seen_of seed exchanges text
 
--- The name is that of the record: `check --record` reads it at once, and `replay`, `explain` and `weave` only where the configuration is accepted and
--- each of its patterns was built.
+-- The name is that of the record: `check --record` reads it at once, and `replay`, `explain` and `weave` only where the configuration is accepted, the command
+-- takes it, and each of its patterns was built.
 abbrev pub DecidesRecord : List (List ℕ) → Option (List NamedBytes) → Builder → (name : List ℕ) → Type 0
 DecidesRecord words files builder name =
-    IsCheckRecord words name ⊎ ((cfg_name : List ℕ) × RunsRecord words cfg_name name × IsAccepted files cfg_name × IsBuilt builder)
+    IsCheckRecord words name ⊎ ((cfg_name : List ℕ) × RunsRecord words cfg_name name × IsAccepted words files cfg_name name × IsBuilt builder)
 
 -- the name is that of a file whose read decides: the configuration's, which is read first, or the record's
 abbrev pub DecidesBy : List (List ℕ) → Option (List NamedBytes) → Builder → (name : List ℕ) → Type 0
@@ -120,7 +124,7 @@ abbrev pub IsGood : List (List ℕ) → Option (List NamedBytes) → (text : Lis
 IsGood words files text =
     ((cfg_name : List ℕ) × Checks words cfg_name × IsCheckOf files cfg_name text)
     ⊎ (((rec_name : List ℕ) × IsCheckRecord words rec_name × IsRewritten files rec_name text)
-    ⊎ (((cfg_name : List ℕ) × (rec_name : List ℕ) × IsReplay words cfg_name rec_name × IsReportOf files cfg_name rec_name text)
+    ⊎ (((cfg_name : List ℕ) × (rec_name : List ℕ) × IsReplay words cfg_name rec_name × IsReplayed files cfg_name rec_name text)
     ⊎ (((cfg_name : List ℕ) × (rec_name : List ℕ) × IsExplained words files cfg_name rec_name text)
     ⊎ (((cfg_name : List ℕ) × (rec_name : List ℕ) × (cores : ℕ) × IsWeave words cfg_name rec_name cores × IsWovenReportOf files cfg_name rec_name cores text)
     ⊎ (((seed : ℕ) × (exchanges : ℕ) × IsDrill words seed exchanges × IsDrilled seed exchanges text)

@@ -3,6 +3,7 @@ pub mod Ends
 pub mod Explained
 pub mod Files
 pub mod Lines
+pub mod Modes
 pub mod Refusals
 pub mod Serving
 pub mod Running

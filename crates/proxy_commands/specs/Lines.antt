@@ -1,7 +1,7 @@
 -- The lines that the program writes itself.
 use Rattle.std.specs.Prelude.{ℕ, List, ◌++◌, codes, decimal}
 use Rattle.cfg_parse.specs.declared.fault.CfgKind.{CfgKind}
-use Rattle.cfg_parse.specs.declared.fault.CfgKind.TheVariants.{Word, Section, Keyword, Argument, Expr, Acl, Pattern, FramingName, Limit, Missing}
+use Rattle.cfg_parse.specs.declared.fault.CfgKind.TheVariants.{Word, Section, Keyword, Argument, Expr, Acl, Pattern, FramingName, Limit, Missing, Mode}
 use Rattle.rec_format.specs.declared.record.RecKind.{RecKind}
 use Rattle.rec_format.specs.declared.record.RecKind.TheVariants as kinds
 
@@ -16,6 +16,7 @@ kind_name Pattern = codes "Pattern"
 kind_name FramingName = codes "FramingName"
 kind_name Limit = codes "Limit"
 kind_name Missing = codes "Missing"
+kind_name Mode = codes "Mode"
 
 -- what must stand where a record is refused
 abbrev pub record_kind_name : RecKind → List ℕ

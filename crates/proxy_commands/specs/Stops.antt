@@ -1,5 +1,5 @@
 -- Why a command stops, and what the steps of the program give.
-use Rattle.std.specs.Prelude.{◌≡◌, ℕ, ◌+◌, List, length, ⊤, Option, Result, Ok, Err}
+use Rattle.std.specs.Prelude.{◌≡◌, ℕ, ◌+◌, ◌⊎◌, List, length, ⊤, Option, Result, Ok, Err}
 use Rattle.px_link.specs.Told.{NamedBytes, Rose}
 use Rattle.px_link.specs.declared.fault.Fault.{Fault}
 use Rattle.px_link.specs.declared.fault.Fault.TheVariants as links
@@ -21,6 +21,7 @@ use Rattle.px_run.specs.declared.plan.RunFault.TheVariants as running
 use Rattle.proxy_commands.specs.Answers.{DecidesBy, DecidesRecord, IsAllRefusedOf, IsAnswer, IsGood, IsRefusal, IsRefused}
 use Rattle.proxy_commands.specs.Files.{IfTold, Builder, IsBuilt, RecordIs}
 use Rattle.proxy_commands.specs.Lines.{accepted_line}
+use Rattle.proxy_commands.specs.Modes.{IsOtherMode}
 use Rattle.proxy_commands.specs.Refusals.{refused_text}
 use Rattle.proxy_commands.specs.declared.status.Status.{Status}
 use Rattle.proxy_commands.specs.declared.status.Status.TheVariants as ended
@@ -88,7 +89,8 @@ given words files builder last reads reads_now = record {
 -- The words and the files make a command stop so, before anything is written.
 abbrev pub StopsBy : Input → Stop → Type 0
 StopsBy input (stops.Usage text) = IsUsage input.words × EndsLine text
-StopsBy input (stops.Refused line kind) = (cfg_name : List ℕ) × NamesConfig input.words cfg_name × IsRefused input.files input.builder cfg_name line kind
+StopsBy input (stops.Refused line kind) =
+    ((cfg_name : List ℕ) × NamesConfig input.words cfg_name × IsRefused input.files input.builder cfg_name line kind) ⊎ IsOtherMode input.words input.files input.builder line kind
 StopsBy input (stops.RefusedAll text) = (cfg_name : List ℕ) × IsCheckAll input.words cfg_name × IsAllRefusedOf input.files input.builder cfg_name text
 StopsBy input (stops.Record place kind) =
     (rec_name : List ℕ) × DecidesRecord input.words input.files input.builder rec_name × IfTold input.files (λ fs. RecordIs fs rec_name (Err (record { place = place; kind = kind })))

@@ -1,21 +1,22 @@
 //! The texts that commands make of their files. The first step that is refused decides: configuration file, configuration, record
 //! file, record, session.
-ghost use Rattle.std.specs.Prelude.{◌≡◌, ◌+◌, ◌<◌, ◌≤◌, length, vec_len, ℕ, List, Option, Ok, IfOk, IfErr, OnOk};
+ghost use Rattle.std.specs.Prelude.{◌≡◌, ◌+◌, ◌<◌, ◌≤◌, ◌⊎◌, length, vec_len, true, false, ℕ, List, Option, Ok, IfOk, IfErr, OnOk};
 ghost use Rattle.px_link.specs.Told.{NamedBytes, Reads};
 ghost use Rattle.http_rules.specs.Valid.{IsValid};
-ghost use Rattle.px_command.specs.Command.{IsCheck, IsCheckAll, IsCheckRecord, IsReplay, IsExplain, IsExplainBlocks, IsWeave, RunsRecord, IsDrill, NamesConfig};
+ghost use Rattle.px_command.specs.Command.{IsCheck, IsCheckAll, IsCheckRecord, IsReplay, IsExplain, IsExplainBlocks, IsWeave, IsDrill, NamesConfig};
 ghost use Rattle.rec_format.specs.Numbered.{IsNumbered};
 ghost use Rattle.rec_format.specs.Read.{meaning_of};
 ghost use Rattle.rec_format.specs.Reports.{Reportable};
 ghost use Rattle.proxy_commands.specs.Files.{IfTold, Builder, Configured, IsBuilt, Say, told_by};
 ghost use Rattle.proxy_commands.specs.Stops.{Answers, ReadStops, SaysVerdict, StopsBy, given};
 ghost use Rattle.proxy_commands.specs.Lines.{accepted_line};
+ghost use Rattle.proxy_commands.specs.Modes.{RunsSo};
 
 use crate::explaining::{block_explanation, explanation};
 use crate::lines::accepted_line;
 use crate::refusals::refused_text;
 use crate::stop::Stop;
-use cfg_parse::{Config, MAX_TEXT, Verdict, load, verdict_of};
+use cfg_parse::{CfgKind, Config, MAX_TEXT, Verdict, load, verdict_of};
 use http_model::OutOfMemory;
 use proxy_sessions::{drill_lines, replay_report, weave_report};
 use px_link::{Bytes, Fault, Files};
@@ -63,6 +64,42 @@ pub fn configuration<'a, F: Files, P: Patterns>(
 {
     let text = read(alloc, files, name, MAX_TEXT + 1)?;
     let cfg = load(alloc, text.as_slice(), pats)?;
+    Ok(cfg)
+}
+
+/// Whether a command refuses a configuration as a whole: one that takes no header, where clients' streams begin with one.
+fn refuses(config: &Config, takes_header: bool) -> bool
+    ensures refuses { result ≡ true → (config.now.accept_proxy ≡ true) × (takes_header ≡ false) }
+    ensures takes { result ≡ false → (takes_header ≡ true) ⊎ (config.now.accept_proxy ≡ false) }
+{
+    config.accept_proxy && !takes_header
+}
+
+/// The configuration that a file says, where the command takes it.
+fn taken_configuration<'a, F: Files, P: Patterns>(
+    alloc: Global,
+    files: &mut F,
+    name: &'a str,
+    takes_header: bool,
+    pats: &mut P,
+) -> Result<Config, Stop<'a>>
+    ensures accepted { IfOk result (λ cfg. IfTold (F.files files.old) (λ fs. Configured fs name.now (Ok cfg))) }
+    ensures taken { IfOk result (λ cfg. (takes_header ≡ true) ⊎ (cfg.accept_proxy ≡ false)) }
+    ensures valid { IfOk result IsValid }
+    ensures built { OnOk result (P.refusals pats.new ≡ P.refusals pats.old) }
+    ensures stop { (words : List (List ℕ)) (rec_name : List ℕ) → RunsSo takes_header words name.now rec_name
+        → IfErr result (StopsBy (given words (F.files files.old) (told_by (P.refusals pats.old) (P.refusals pats.new) (P.last_refused pats.new)) (F.last_failed files.new) (F.faults files.old) (F.faults files.new))) }
+    ensures grows { F.faults files.old ≤ F.faults files.new }
+    ensures files { F.files files.new ≡ F.files files.old }
+{
+    let cfg = configuration(alloc, files, name, pats)?;
+    if refuses(&cfg, takes_header) {
+        drop(cfg);
+        return Err(Stop::Refused {
+            line: 0,
+            kind: CfgKind::Mode,
+        });
+    }
     Ok(cfg)
 }
 
@@ -143,18 +180,20 @@ fn two_files<'a, F: Files, P: Patterns>(
     files: &mut F,
     cfg_name: &'a str,
     rec_name: &'a str,
+    takes_header: bool,
     pats: &mut P,
 ) -> Result<TwoFiles, Stop<'a>>
+    ensures taken { IfOk result (λ said. (takes_header ≡ true) ⊎ (said.config.accept_proxy ≡ false)) }
     ensures say { IfOk result (λ said. IfTold (F.files files.old) (λ fs. Say fs cfg_name.now rec_name.now said.config (meaning_of said.record))) }
     ensures valid { IfOk result (λ said. IsValid said.config) }
     ensures reportable { IfOk result (λ said. Reportable said.record.version (vec_len said.record.conns)) }
     ensures numbered { IfOk result (λ said. IsNumbered (meaning_of said.record)) }
     ensures some { IfOk result (λ said. 0 < vec_len said.record.conns) }
     ensures built { OnOk result (P.refusals pats.new ≡ P.refusals pats.old) }
-    ensures stop { (words : List (List ℕ)) → RunsRecord words cfg_name.now rec_name.now
+    ensures stop { (words : List (List ℕ)) → RunsSo takes_header words cfg_name.now rec_name.now
         → IfErr result (StopsBy (given words (F.files files.old) (told_by (P.refusals pats.old) (P.refusals pats.new) (P.last_refused pats.new)) (F.last_failed files.new) (F.faults files.old) (F.faults files.new))) }
 {
-    let config = configuration(alloc, files, cfg_name, pats)?;
+    let config = taken_configuration(alloc, files, cfg_name, takes_header, pats)?;
     let text = read(alloc, files, rec_name, MAX_RECORD + 1)?;
     let record = read_record(alloc, text.as_slice())?;
     reportable();
@@ -173,7 +212,7 @@ pub fn replay<'a, F: Files, P: Patterns>(
     ensures { (words : List (List ℕ)) → IsReplay words cfg_name.now rec_name.now
         → Answers (given words (F.files files.old) (told_by (P.refusals pats.old) (P.refusals pats.new) (P.last_refused pats.new)) (F.last_failed files.new) (F.faults files.old) (F.faults files.new)) result }
 {
-    let said = two_files(alloc, files, cfg_name, rec_name, pats)?;
+    let said = two_files(alloc, files, cfg_name, rec_name, true, pats)?;
     Ok(replay_report(alloc, &said.config, &said.record)?)
 }
 
@@ -188,7 +227,7 @@ pub fn explain<'a, F: Files, P: Patterns>(
     ensures { (words : List (List ℕ)) → IsExplain words cfg_name.now rec_name.now
         → Answers (given words (F.files files.old) (told_by (P.refusals pats.old) (P.refusals pats.new) (P.last_refused pats.new)) (F.last_failed files.new) (F.faults files.old) (F.faults files.new)) result }
 {
-    let said = two_files(alloc, files, cfg_name, rec_name, pats)?;
+    let said = two_files(alloc, files, cfg_name, rec_name, false, pats)?;
     Ok(explanation(alloc, &said.config, &said.record)?)
 }
 
@@ -203,7 +242,7 @@ pub fn explain_blocks<'a, F: Files, P: Patterns>(
     ensures { (words : List (List ℕ)) → IsExplainBlocks words cfg_name.now rec_name.now
         → Answers (given words (F.files files.old) (told_by (P.refusals pats.old) (P.refusals pats.new) (P.last_refused pats.new)) (F.last_failed files.new) (F.faults files.old) (F.faults files.new)) result }
 {
-    let said = two_files(alloc, files, cfg_name, rec_name, pats)?;
+    let said = two_files(alloc, files, cfg_name, rec_name, false, pats)?;
     Ok(block_explanation(alloc, &said.config, &said.record)?)
 }
 
@@ -220,7 +259,7 @@ pub fn weave<'a, F: Files, P: Patterns>(
     ensures { (words : List (List ℕ)) → IsWeave words cfg_name.now rec_name.now cores
         → Answers (given words (F.files files.old) (told_by (P.refusals pats.old) (P.refusals pats.new) (P.last_refused pats.new)) (F.last_failed files.new) (F.faults files.old) (F.faults files.new)) result }
 {
-    let said = two_files(alloc, files, cfg_name, rec_name, pats)?;
+    let said = two_files(alloc, files, cfg_name, rec_name, false, pats)?;
     Ok(weave_report(alloc, &said.config, &said.record, cores)?)
 }
 

@@ -22,6 +22,7 @@ pub fn kind_name(kind: CfgKind) -> &'static str
         CfgKind::FramingName => "FramingName",
         CfgKind::Limit => "Limit",
         CfgKind::Missing => "Missing",
+        CfgKind::Mode => "Mode",
     }
 }
 

@@ -10,7 +10,7 @@ returns-in_err-said g c =
     let builder : Builder = told_by (g.P.Patterns.refusals c.args.pats.now) (g.P.Patterns.refusals c.two_files.new.pats) (g.P.Patterns.last_refused c.two_files.new.pats) in
     λ words is.
     let input : Input = given words (g.F.Files.files c.args.files.now) builder (g.F.Files.last_failed c.two_files.new.files) (g.F.Files.faults c.args.files.now) (g.F.Files.faults c.two_files.new.files) in
-    answers_err input c.from_residual.result c.in_err-said.field-0.0 c.from_residual.ensures.1 (c.in_err-said.ensures.stop words (inl is))
+    answers_err input c.from_residual.result c.in_err-said.field-0.0 c.from_residual.ensures.1 (c.in_err-said.ensures.stop words is)
 
 pub returns : goal.returns
 returns g c = λ words is. (
