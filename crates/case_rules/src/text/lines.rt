@@ -38,7 +38,8 @@ fn say_counts(name: &[u8], first: u64, second: u64, answers: &mut Answers) {
 }
 
 /// Says what an accepted configuration has: `ok`, its two sizes and how many request rules; where there are any, how many
-/// rules of responses and behind them; and where there are filters, how many of each direction.
+/// rules of responses and behind them; where there are filters, how many of each direction; and whether a header of the PROXY
+/// protocol is awaited.
 fn say_config(config: &Config, answers: &mut Answers) {
     answers.say(b"ok ");
     answers.more_count(u64::from(config.limits.bufsize));
@@ -58,6 +59,9 @@ fn say_config(config: &Config, answers: &mut Answers) {
         config.res_filters.len() as u64,
         answers,
     );
+    if config.accept_proxy {
+        answers.say(b"accept-proxy");
+    }
 }
 
 /// What the text of a configuration comes to, by a builder of patterns.
