@@ -249,6 +249,20 @@ finish "a head by drips past timeout http-request, $(cat "$work/got")" "$(awk '$
 run; "${peers[@]}" kept_client "$front" /small 10 >"$work/got"
 finish "a kept connection past timeout http-keep-alive, $(cat "$work/got") seconds" "$(awk '$1 < 0.9 || $1 > 2 { print "at another time" }' "$work/got")"
 
+configure "$origin" "timeout http-request 2s"
+sed -i "s/^  bind .*/& accept-proxy/" "$work/proxy.cfg"
+run --sets 64
+behind "${peers[@]}" header_by_drips "$front" 20 >"$work/dripped"; dripping=$!; started+=("$dripping")
+behind "${peers[@]}" idle_clients "$front" 100 60 >"$work/idle"; idle=$!; started+=("$idle")
+for _ in $(seq 500); do grep -q idle "$work/idle" && break; sleep 0.02; done
+asking=()
+for number in $(seq 40); do behind "${fetch[@]}" --haproxy-protocol "$url/middle" -o "$work/got.$number"; asking+=($!); done
+wait "${asking[@]}"
+wrong="$(for number in $(seq 40); do cmp "$work/got.$number" "$work/www/middle" 2>&1; done)"
+wait "$dripping"; kill "$idle"; wait "$idle" 2>/dev/null
+finish "40 curls with headers of the PROXY protocol, beside silent ones and one that drips, $(cat "$work/dripped") seconds" \
+  "$wrong$(awk '$1 == "ever" || $1 > 8 { print "it was let" }' "$work/dripped")"
+
 configure "$origin"
 run --sets 2 --connections 3
 for _ in 1 2 3; do "${fetch[@]}" "$url/small" -o /dev/null; done

@@ -78,6 +78,7 @@ http {
       add_header x-kept \$request_body_file always;
       proxy_pass http://127.0.0.1:$sink/;
     }
+    location /who { return 200 "\$http_x_for"; }
   }
   server { listen 127.0.0.1:$sink; location / { return 200 "taken"; } }
 }
@@ -231,6 +232,52 @@ if [ -n "$six" ]; then
   "$program" serve "$work/proxy.cfg" 1 >"$work/lines" 2>"$work/said"; status=$?
   says "an IPv6 address that is taken" "$([ "$status" = 6 ] && [ "$(cat "$work/lines")" = net ] || echo "status $status, lines $(tr '\n' '/' <"$work/lines")")$(told "cannot listen at [::1]:$origin")"
 fi
+
+# ---- clients whose streams begin with a header of the PROXY protocol
+
+headed() { # LINE: nginx answers who asks, as the proxy's rule tells it
+  printf 'listen p\n  bind 127.0.0.1:%s accept-proxy\n  server s 127.0.0.1:%s\n  http-request set-header x-for %%[src],%%[src_port]\n' "$front" "$origin" >"$work/proxy.cfg"
+}
+ask() { # HEADER [PAUSE]: sends these bytes, given in hexadecimal digits, byte by byte where a pause is given, and then a request; prints what the answer ends with
+  python3 - "$front" "$@" <<'PY'
+import socket, sys, time
+header = bytes.fromhex(sys.argv[2])
+pause = float(sys.argv[3]) if len(sys.argv) > 3 else 0
+peer = socket.create_connection(("127.0.0.1", int(sys.argv[1])))
+peer.setsockopt(socket.IPPROTO_TCP, socket.TCP_NODELAY, 1)
+peer.settimeout(20)
+got = b""
+try:
+    for piece in [header[at:at + 1] for at in range(len(header))] if pause else [header]:
+        peer.sendall(piece)
+        time.sleep(pause)
+    peer.sendall(b"GET /who HTTP/1.1\r\nHost: h\r\nConnection: close\r\n\r\n")
+    while more := peer.recv(4096):
+        got += more
+except OSError:
+    pass
+print(got.split(b"\r\n\r\n", 1)[-1].decode("latin-1") if got else "nothing")
+PY
+}
+hex() { printf '%b' "$1" | od -An -v -tx1 | tr -d ' \n'; }
+asked() { # NAME WANTED HEADER [PAUSE]: who asks is told so
+  local got; serve 1; got="$(ask "${@:3}")"
+  finish "$1" "$([ "$got" = "$2" ] || echo "the answer is $got ")" 'end closed exchanges 1'
+}
+headed
+signature=0d0a0d0a000d0a515549540a
+
+serve 1; fetch --haproxy-protocol "$url/who" -w ' %{local_port}' >"$work/got"
+finish "curl --haproxy-protocol" "$(read -r who port <"$work/got"; [ "$who" = "127.0.0.1,$port" ] || echo "the answer is $(cat "$work/got") ")" 'end done exchanges 1'
+asked "a header in text" "1.2.3.4,1000" "$(hex 'PROXY TCP4 1.2.3.4 5.6.7.8 1000 80\r\n')"
+asked "a header in text of IPv6, byte by byte" "2001:db8:0:0:0:0:0:7,1000" "$(hex 'PROXY TCP6 2001:db8::7 ::1 1000 80\r\n')" 0.005
+asked "a header in bytes" "1.2.3.4,1000" "${signature}2111000c0102030405060708""03e80050"
+asked "a header in bytes with more behind the addresses, byte by byte" "1.2.3.4,1000" "${signature}211100130102030405060708""03e80050""04000461626364" 0.005
+asked "a header that tells nobody" "," "$(hex 'PROXY UNKNOWN\r\n')"
+serve 2; got="$(ask "$(hex 'PROXY TCP4 1.2.3.04 5.6.7.8 1000 80\r\n')")"; fetch --haproxy-protocol "$url/small" -o "$work/got"
+finish "a header that is none, and the next client" "$([ "$got" = nothing ] || echo "the answer is $got "; cmp "$work/got" "$work/www/small" 2>&1)" 'end closed exchanges 0' 'end done exchanges 1'
+serve 2; got="$(ask '')"; fetch --haproxy-protocol "$url/small" -o "$work/got"
+finish "no header, and the next client" "$([ "$got" = nothing ] || echo "the answer is $got "; cmp "$work/got" "$work/www/small" 2>&1)" 'end closed exchanges 0' 'end done exchanges 1'
 
 # wrk opens a connection that it closes at once, and then one that it keeps; how its last request ends is not said
 configure "$origin"

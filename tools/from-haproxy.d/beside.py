@@ -94,7 +94,8 @@ def asked(port, request):
 
 
 def at_ports(text, front, back):
-    text = re.sub(r"(?m)^(\s*bind) \S+", rf"\1 127.0.0.1:{front}", text)
+    # (its requests begin with no header)
+    text = re.sub(r"(?m)^(\s*bind) \S+( .*)?", lambda it: f"{it[1]} 127.0.0.1:{front}{(it[2] or '').replace(' accept-proxy', '')}", text)
     return re.sub(r"(?m)^(\s*server (?!none )\S+) \S+", rf"\1 127.0.0.1:{back}", text)
 
 

@@ -227,6 +227,7 @@ def config_of(text):
     size, spare, chains = 16384, None, {b"req": [], b"res": []}
     for line in text.split(b"\n"):
         words = line.split()
+        if words[:1] == [b"bind"] and words[2:]: raise Unsaid  # accept-proxy: a header stands in front of each client's text
         if not words or words[0] in (b"listen", b"bind", b"server", b"global", b"defaults", b"mode", b"timeout"): continue
         if re.search(rb"[\"'\\#]", line): raise Unsaid
         if words[0] == b"tune.bufsize": size = int(words[1])

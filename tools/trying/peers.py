@@ -104,6 +104,14 @@ def dripping_client(port, path, most):
     print("ever" if let_for is None else f"{let_for:.1f}", flush=True)
 
 
+def header_by_drips(port, most):
+    """Drips a header of the PROXY protocol that has no end; how long it is let."""
+    peer = socket.create_connection(("127.0.0.1", port))
+    peer.sendall(b"PROXY UNKNOWN ")
+    let_for = drip(peer, b"x", 0.5, most)
+    print("ever" if let_for is None else f"{let_for:.1f}", flush=True)
+
+
 def slow_head(port, most):
     """Drips a head without an end; how long it is let, and what comes."""
     peer = socket.create_connection(("127.0.0.1", port))
@@ -170,6 +178,6 @@ def echo_client(port, path, megabytes):
     print(status.decode(), "same" if came.digest() == sent.digest() else f"other, {total} bytes", flush=True)
 
 
-ROLES = {it.__name__: it for it in (silent_server, early_server, full_server, idle_clients, silent_reader, dripping_client, slow_head, kept_client, echo_client)}
+ROLES = {it.__name__: it for it in (silent_server, early_server, full_server, idle_clients, silent_reader, dripping_client, header_by_drips, slow_head, kept_client, echo_client)}
 words = [int(word) if word.lstrip("-").isdigit() else word for word in sys.argv[2:]]
 ROLES[sys.argv[1]](*words)
