@@ -1,9 +1,9 @@
 -- Why a call of a link in memory fails.
-use Rattle.std.proofs.Common.{◌≡◌, ℕ, Bool, true, false, ◌||◌, ◌&&◌, ◌==◌, ◌≤◌, ◌<◌, List, [], ◌∷◌, length, Option, Some, None, IfSome, if◌then◌else◌, refl, subst, rules, arith, min}
+use Rattle.std.proofs.Common.{◌≡◌, ℕ, true, false, ◌||◌, ◌&&◌, ◌==◌, ◌≤◌, ◌<◌, List, [], ◌∷◌, length, Option, Some, None, IfSome, if◌then◌else◌, refl, subst, rules, arith, min}
 use Rattle.http_model.specs.declared.Ending.{Ending}
 use Rattle.http_model.specs.declared.Ending.TheVariants.{Closed, Broke}
 use Rattle.px_link.specs.Calls.{is_listed, fails_none}
-use Rattle.px_link.specs.Link.{Takes, Untold, UpTo, All, MayRefuse}
+use Rattle.px_link.specs.Link.{Takes, Untold, All, MayRefuse}
 use Rattle.px_link.specs.MemLink.{limit_of, fitting, is_broken}
 
 -- a number that is listed stands in a list that names some call

@@ -1,5 +1,5 @@
 -- What contracts see of a link, and what its calls do.
-use Rattle.std.specs.Prelude.{◌≡◌, ℕ, Bool, true, false, ◌+◌, ◌≤◌, ◌<◌, List, [], ◌++◌, length, take, drop, ⊤, Option, Some, None, Result, Ok, Err, IfSome}
+use Rattle.std.specs.Prelude.{◌≡◌, ℕ, Bool, true, false, ◌+◌, ◌-◌, ◌≤◌, ◌<◌, List, [], ◌++◌, length, take, drop, ⊤, Option, Some, None, Result, Ok, Err, IfSome}
 use Rattle.http_model.specs.declared.Ending.{Ending}
 use Rattle.http_model.specs.declared.Ending.TheVariants.{Closed, Broke}
 use Rattle.http_model.specs.declared.Close.{Close}
@@ -15,14 +15,43 @@ pub data Takes : Type 0 where
   UpTo : ℕ → Takes
   All : Takes
 
+-- how what is written to a link is passed on: as it is, or behind a header that goes first
+pub data Manner : Type 0 where
+  AsItIs : Manner
+  Behind : (header : List ℕ) → Manner
+
+-- A text behind a header, of which so much is out: while some of it isn't, the text is empty.
+pub record IsBehind (header bytes text : List ℕ) : Type 0 where
+  pub sent : ℕ
+  pub within : sent ≤ length header
+  pub first : sent < length header → text ≡ []
+  pub whole : bytes ≡ take sent header ++ text
+
+-- these bytes are passed on where this text was written in this manner
+abbrev pub PassesOn : Manner → (bytes text : List ℕ) → Type 0
+PassesOn AsItIs bytes text = text ≡ bytes
+PassesOn (Behind header) bytes text = IsBehind header bytes text
+
+-- what is left for a text behind so many bytes
+abbrev pub takes_behind : ℕ → Takes → Takes
+takes_behind len Untold = Untold
+takes_behind len (UpTo n) = UpTo (n - len)
+takes_behind len All = All
+
+-- how much of a text a link takes that takes so many bytes
+abbrev pub takes_in : Manner → Takes → Takes
+takes_in AsItIs takes = takes
+takes_in (Behind header) takes = takes_behind (length header) takes
+
 -- the bytes still to come and their ending; whether and how it was closed; whether reads fail at an ending Broke alone;
--- how many bytes it takes; how many were given; how many reads, and how many writes, have failed
+-- how many bytes of a text it takes, and how it passes them on; how many were given; how many reads, and how many writes, have failed
 pub record Seen : Type 0 where
   pub to_come : Option (List ℕ)
   pub ending : Option Ending
   pub closed : Option (Option Close)
   pub plain : Bool
   pub takes : Takes
+  pub manner : Manner
   pub taken : Option ℕ
   pub read_faults : ℕ
   pub write_faults : ℕ
@@ -35,6 +64,7 @@ untold read_faults write_faults = record {
   closed = None;
   plain = false;
   takes = Untold;
+  manner = AsItIs;
   taken = None;
   read_faults = read_faults;
   write_faults = write_faults;
@@ -45,10 +75,12 @@ pub record SameKind (old new : Seen) : Type 0 where
   pub ending : new.ending ≡ old.ending
   pub plain : new.plain ≡ old.plain
   pub takes : new.takes ≡ old.takes
+  pub manner : new.manner ≡ old.manner
 
 -- A read gave so many bytes: the next that were to come, and none only at a closed end.
 pub record Gave (old new : Seen) (into : List ℕ) (n : ℕ) : Type 0 where
   pub within : n ≤ length into
+  pub untold : old.to_come ≡ None → new.to_come ≡ None
   pub gives : IfSome old.to_come (λ bytes. (n ≤ length bytes) × (take n into ≡ take n bytes) × (new.to_come ≡ Some (drop n bytes)))
   pub at_end : n ≡ 0 → IfSome old.to_come (λ bytes. bytes ≡ []) × IfSome old.ending (λ ending. ending ≡ Closed)
   pub taken : IfSome old.taken (λ k. new.taken ≡ Some (k + n))

@@ -1,10 +1,10 @@
 -- What contracts see of a link in memory.
-use Rattle.std.specs.Prelude.{ℕ, ◌-◌, Bool, true, false, ◌&&◌, ◌||◌, ◌==◌, min, List, [], length, Option, Some, None, if◌then◌else◌}
+use Rattle.std.specs.Prelude.{ℕ, ◌-◌, Bool, true, false, ◌&&◌, ◌||◌, ◌==◌, min, List, length, Option, Some, None, if◌then◌else◌}
 use Rattle.http_model.specs.declared.Ending.{Ending}
 use Rattle.http_model.specs.declared.Ending.TheVariants.{Closed, Broke}
 use Rattle.http_model.specs.declared.Close.{Close}
 use Rattle.px_link.specs.Calls.{next_call, is_listed, fails_none}
-use Rattle.px_link.specs.Link.{Seen, Takes, Untold, UpTo, All}
+use Rattle.px_link.specs.Link.{Seen, Takes, Untold, UpTo, All, AsItIs}
 
 -- the bytes still to come, their ending, how many were given; what was written, how much it takes, how it was closed; the
 -- numbers of the reads and of the writes that are to fail; how many reads and writes there were and how many of each
@@ -40,6 +40,7 @@ link_of seen = record {
   closed = Some seen.closed;
   plain = is_plain seen;
   takes = if is_plain seen then limit_of seen.takes else Untold;
+  manner = AsItIs;
   taken = Some seen.taken;
   read_faults = seen.read_faults;
   write_faults = seen.write_faults;

@@ -1,7 +1,8 @@
 -- What contracts see of a net in memory.
 use Rattle.std.specs.Prelude.{ℕ, ◌+◌, ◌-◌, ◌^◌, min, Bool, true, false, ◌||◌, ◌==◌, List, [], ◌∷◌, map, Option, Some, None, option_map}
 use Rattle.px_link.specs.Calls.{next_call, is_listed, fails_none}
-use Rattle.px_link.specs.Net.{Coming, Kept, NetSeen, Place}
+use Rattle.px_link.specs.Net.{Coming, Kept, NetSeen, Place, kept_link}
+use Rattle.px_link.specs.Link.{AsItIs}
 use Rattle.px_link.specs.MemLink.{MemLinkSeen, link_of, is_plain}
 
 -- the links still to be accepted, the servers of the coming connects (none for a refused one), the links that were kept; the
@@ -26,7 +27,7 @@ coming seen = record { bytes = seen.to_come; ending = seen.ending; plain = is_pl
 
 -- a link in memory as one that was kept
 abbrev pub keeping : MemLinkSeen → Kept
-keeping seen = record { wrote = seen.written; seen = link_of seen }
+keeping seen = kept_link (link_of seen) seen.written
 
 -- the net in the words of every net; it is plain while no call is to fail
 abbrev pub net_of : MemNetSeen → NetSeen
@@ -34,6 +35,7 @@ net_of seen = record {
   accepts = Some (map coming seen.accepts);
   answers = Some (map (option_map coming) seen.servers);
   kept = Some (map keeping seen.kept);
+  manner = AsItIs;
   plain = fails_none seen.failing;
   lent = seen.lent;
   bound = seen.bound;

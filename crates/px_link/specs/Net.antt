@@ -3,48 +3,65 @@ use Rattle.std.specs.Prelude.{◌≡◌, ℕ, ◌+◌, ◌<◌, ◌≤◌, ◌^�
 use Rattle.std.specs.List.{list_any}
 use Rattle.std.specs.Str.{bytes_eq}
 use Rattle.http_model.specs.declared.Ending.{Ending}
+use Rattle.http_model.specs.declared.Close.{Close}
 use Rattle.px_link.specs.declared.fault.Fault.{Fault}
 use Rattle.px_link.specs.declared.fault.Fault.TheVariants as faults
 use Rattle.px_link.specs.declared.address.Address.{Address}
 use Rattle.px_link.specs.Told.{Rose}
-use Rattle.px_link.specs.Link.{Seen, Takes}
+use Rattle.px_link.specs.Link.{Seen, Takes, Manner, AsItIs, PassesOn, takes_in}
 
--- a link that is still to come: its stream, whether it is plain, and how much it takes
+-- a link that is still to come: its stream, whether it is plain, and how many bytes it takes
 pub record Coming : Type 0 where
   pub bytes : List ℕ
   pub ending : Ending
   pub plain : Bool
   pub takes : Takes
 
--- the link with this stream, of which no byte was taken and no call failed
-abbrev pub new_link : Coming → Seen
-new_link coming = record {
+-- the link with this stream that passes on what is written to it in this manner, of which no byte was taken and no call failed
+abbrev pub new_link : Manner → Coming → Seen
+new_link manner coming = record {
   to_come = Some coming.bytes;
   ending = Some coming.ending;
   closed = Some None;
   plain = coming.plain;
-  takes = coming.takes;
+  takes = takes_in manner coming.takes;
+  manner = manner;
   taken = Some 0;
   read_faults = 0;
   write_faults = 0;
 }
 
--- a link that was kept: what was written to it, and what was seen of it
+-- a link that was kept: the bytes that it passed on, how many it gave, whether and how it was closed, how many reads, and how many writes, have failed
 pub record Kept : Type 0 where
   pub wrote : List ℕ
-  pub seen : Seen
+  pub taken : Option ℕ
+  pub closed : Option (Option Close)
+  pub read_faults : ℕ
+  pub write_faults : ℕ
+
+-- this link, as one that was kept, which passed on these bytes
+abbrev pub kept_link : Seen → (wrote : List ℕ) → Kept
+kept_link link wrote = record {
+  wrote = wrote;
+  taken = link.taken;
+  closed = link.closed;
+  read_faults = link.read_faults;
+  write_faults = link.write_faults;
+}
 
 -- an address: its host and its port
 abbrev pub Place : Type 0
 Place = List ℕ × ℕ
 
 -- the links still to be accepted, the answers of the coming connects (a link, or refused) and the links that were kept,
--- each where it is told; whether connects fail at a refused answer alone; how many links are lent; the addresses of all
--- binds, and the different ones of all connects; how many binds and accepts, and how many connects, have failed
+-- each where it is told; in which manner links pass on what is written to them that are connected next, accepted ones do it as it is; whether connects
+-- fail at a refused answer alone; how many links are lent; the addresses of all binds, and the different ones of all connects; how many binds and
+-- accepts, and how many connects, have failed
 pub record NetSeen : Type 0 where
   pub accepts : Option (List Coming)
   pub answers : Option (List (Option Coming))
   pub kept : Option (List Kept)
+  pub manner : Manner
   pub plain : Bool
   pub lent : ℕ
   pub bound : List Place
@@ -93,15 +110,16 @@ RefusesOnly (Some []) = ⊤
 RefusesOnly (Some (None ∷ later)) = ⊤
 RefusesOnly (Some (Some coming ∷ later)) = ⊥
 
--- a link that was handed out is the one of this stream, and nothing was done with it yet
-abbrev pub IsNew : Seen → Type 0 → Coming → Type 0
-IsNew link unwritten coming = (link ≡ new_link coming) × unwritten
+-- a link that was handed out is the one of this stream and in this manner, and nothing was done with it yet
+abbrev pub IsNew : Manner → Seen → Type 0 → Coming → Type 0
+IsNew manner link unwritten coming = (link ≡ new_link manner coming) × unwritten
 
 -- what a bind leaves, but for the addresses of binds and its count
 pub record SameBeside (old new : NetSeen) : Type 0 where
   pub accepts : new.accepts ≡ old.accepts
   pub answers : new.answers ≡ old.answers
   pub kept : new.kept ≡ old.kept
+  pub manner : new.manner ≡ old.manner
   pub plain : new.plain ≡ old.plain
   pub lent : new.lent ≡ old.lent
   pub dialled : new.dialled ≡ old.dialled
@@ -136,6 +154,7 @@ Binds old new at (Err faults.OutOfMemory) = BindUnroomed old new at
 pub record SameBehind (old new : NetSeen) : Type 0 where
   pub answers : new.answers ≡ old.answers
   pub kept : new.kept ≡ old.kept
+  pub manner : new.manner ≡ old.manner
   pub plain : new.plain ≡ old.plain
   pub bound : new.bound ≡ old.bound
   pub dialled : new.dialled ≡ old.dialled
@@ -143,7 +162,8 @@ pub record SameBehind (old new : NetSeen) : Type 0 where
 
 -- A link was accepted: the first of those that are to come.
 pub record Accepted (old new : NetSeen) (link : Seen) (unwritten : Type 0) : Type 0 where
-  pub first : IsNext old.accepts new.accepts (IsNew link unwritten)
+  pub first : IsNext old.accepts new.accepts (IsNew AsItIs link unwritten)
+  pub as_it_is : link.manner ≡ AsItIs
   pub lent : new.lent ≡ old.lent + 1
   pub below : new.lent < 2 ^ 64
   pub binds : new.bind_faults ≡ old.bind_faults
@@ -172,9 +192,11 @@ Accepts seen wrote old new (Err faults.OutOfMemory) = AcceptUnroomed old new
 
 -- A connect was answered by a link: the first answer, and the address counts as dialled.
 pub record Connected (old new : NetSeen) (to : Place) (link : Seen) (unwritten : Type 0) : Type 0 where
-  pub first : IsFirst old.answers new.answers (IsNew link unwritten)
+  pub first : IsFirst old.answers new.answers (IsNew old.manner link unwritten)
+  pub passes_on : link.manner ≡ old.manner
   pub accepts : new.accepts ≡ old.accepts
   pub kept : new.kept ≡ old.kept
+  pub manner : new.manner ≡ old.manner
   pub plain : new.plain ≡ old.plain
   pub lent : new.lent ≡ old.lent + 1
   pub below : new.lent < 2 ^ 64
@@ -189,6 +211,7 @@ pub record Refused (old new : NetSeen) (to : Place) : Type 0 where
   pub fails : old.plain ≡ true → old.lent + 1 < 2 ^ 64 → RefusesOnly old.answers
   pub accepts : new.accepts ≡ old.accepts
   pub kept : new.kept ≡ old.kept
+  pub manner : new.manner ≡ old.manner
   pub plain : new.plain ≡ old.plain
   pub lent : new.lent ≡ old.lent
   pub bound : new.bound ≡ old.bound
@@ -202,6 +225,7 @@ pub record NoMemory (old new : NetSeen) (to : Place) : Type 0 where
   pub answers : new.answers ≡ old.answers
   pub accepts : new.accepts ≡ old.accepts
   pub kept : new.kept ≡ old.kept
+  pub manner : new.manner ≡ old.manner
   pub plain : new.plain ≡ old.plain
   pub lent : new.lent ≡ old.lent
   pub bound : new.bound ≡ old.bound
@@ -215,17 +239,19 @@ Connects seen wrote old new to (Ok link) = Connected old new to (seen link) (wro
 Connects seen wrote old new to (Err faults.Failed) = Refused old new to
 Connects seen wrote old new to (Err faults.OutOfMemory) = NoMemory old new to
 
--- a link is kept behind the others, where these are told
-abbrev pub KeepsMore : Option (List Kept) → Option (List Kept) → Kept → Type 0
-KeepsMore None new link = new ≡ None
-KeepsMore (Some kept) new link = new ≡ Some (kept ++ link ∷ [])
+-- a link is kept behind the others, where these are told, by the bytes that were passed on of whatever counts as written to it
+abbrev pub KeepsMore : Option (List Kept) → Option (List Kept) → (wrote : List ℕ → Type 0) → (link : Seen) → Type 0
+KeepsMore None new wrote link = new ≡ None
+KeepsMore (Some kept) new wrote link =
+    (bytes : List ℕ) × (new ≡ Some (kept ++ kept_link link bytes ∷ [])) × ((text : List ℕ) → wrote text → PassesOn link.manner bytes text)
 
 -- a link was taken back
 pub record Keeps (wrote : List ℕ → Type 0) (old new : NetSeen) (link : Seen) : Type 0 where
-  pub kept : (bytes : List ℕ) → wrote bytes → KeepsMore old.kept new.kept (record { wrote = bytes; seen = link })
+  pub kept : KeepsMore old.kept new.kept wrote link
   pub lent : new.lent + 1 ≡ old.lent
   pub accepts : new.accepts ≡ old.accepts
   pub answers : new.answers ≡ old.answers
+  pub manner : new.manner ≡ old.manner
   pub plain : new.plain ≡ old.plain
   pub bound : new.bound ≡ old.bound
   pub dialled : new.dialled ≡ old.dialled
