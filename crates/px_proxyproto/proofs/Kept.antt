@@ -3,7 +3,7 @@ use Rattle.std.proofs.Common.{◌≡◌, ℕ, zero, suc, ◌+◌, ◌-◌, ◌�
 use Rattle.std.proofs.lemmas.List.{append-nil, take_all, length-take-le}
 use Rattle.std.proofs.lemmas.Bool.{cases_lt}
 
-take_over : (xs ys : List ℕ) (k n : ℕ) → k ≡ length xs + n → take k (xs ++ ys) ≡ xs ++ take n ys
+pub take_over : (xs ys : List ℕ) (k n : ℕ) → k ≡ length xs + n → take k (xs ++ ys) ≡ xs ++ take n ys
 take_over [] ys k n e = let same : k ≡ n = omega (arith, e) in ap (λ (m : ℕ). take m ys) same
 take_over (x ∷ xs) ys zero n e = absurd (omega (arith, e))
 take_over (x ∷ xs) ys (suc k) n e = ap (λ (t : List ℕ). x ∷ t) (take_over xs ys k n (omega (arith, e)))

@@ -41,7 +41,7 @@ pub both_taken : (s t u : Seen) (x y : List ℕ) → TakenFrom s t x → TakenFr
 both_taken s t u x y p q = record {
   next = next_both x y s.to_come t.to_come u.to_come p.next q.next;
   taken = taken_both x y s.taken t.taken u.taken p.taken q.taken;
-  kind = record { ending = q.kind.ending ∙ p.kind.ending; plain = q.kind.plain ∙ p.kind.plain; takes = q.kind.takes ∙ p.kind.takes };
+  kind = record { ending = q.kind.ending ∙ p.kind.ending; plain = q.kind.plain ∙ p.kind.plain; takes = q.kind.takes ∙ p.kind.takes; manner = q.kind.manner ∙ p.kind.manner };
   closed = q.closed ∙ p.closed;
   writes = q.writes ∙ p.writes;
 }
@@ -124,7 +124,7 @@ pub nothing_taken : (s : Seen) → TakenFrom s s []
 nothing_taken s = record {
   next = failed_next s.to_come s.to_come refl;
   taken = failed_taken s.taken s.taken refl;
-  kind = record { ending = refl; plain = refl; takes = refl };
+  kind = record { ending = refl; plain = refl; takes = refl; manner = refl };
   closed = refl;
   writes = refl;
 }

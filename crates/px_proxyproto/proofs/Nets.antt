@@ -1,150 +1,21 @@
--- Links that were kept, read without their headers.
-use Rattle.std.proofs.Common.{◌≡◌, ℕ, ◌≤◌, ◌<◌, inl, inr, true, false, cond, List, [], ◌∷◌, ◌++◌, length, take, drop, slice_get, zero, suc, refl, sym, ap, ap₂, subst, ◌∙◌, arith}
-use Rattle.std.specs.Prelude.{Option, Some, None, option_map, reverse}
-use Rattle.std.specs.Str.{bytes_eq}
-use Rattle.std.proofs.lemmas.Bool.{cases_Bool, cases_lt, cond-true, cond-false}
-use Rattle.std.proofs.lemmas.List.{append-nil, length-take, length-take-le, take_all, take-append-drop, reverse-append}
-use Rattle.std.proofs.lemmas.Slice.Eq.{bytes_eq-Decides}
-use Rattle.std.proofs.Math.Seq.{take-append_seam, drop-append_seam}
-use mathlib.Core.List.{reverse-cons}
-use Rattle.px_link.specs.Link.{Seen, Takes, Untold, UpTo, All}
-use Rattle.px_link.specs.Net.{Coming, Kept, NetSeen, IsNext, Accepted, Keeps, KeepsMore}
-use Rattle.px_proxyproto.specs.declared.note_list.Heading.{Heading}
-use Rattle.px_proxyproto.specs.Notes.{header_in}
-use Rattle.px_proxyproto.specs.Sending.{takes_behind, seen_behind, WroteFirst}
-use Rattle.px_proxyproto.specs.Nets.{answers_behind, text_behind, kept_behind, in_front, read_behind, all_behind, told_behind}
+-- A net's links behind a header, by what the net below does.
+use Rattle.std.proofs.Common.{◌≡◌, ℕ, ◌+◌, ◌≤◌, ◌<◌, ◌==◌, inl, inr, true, false, Bool, cond, List, [], ◌∷◌, ◌++◌, length, take, zero, suc, refl, sym, ap, subst, ◌∙◌, arith, append_assoc, length-append}
+use Rattle.std.specs.Prelude.{Option, Some, None, Err}
+use Rattle.std.proofs.lemmas.Bool.{cases_lt, cases_Bool}
+use Rattle.std.proofs.lemmas.List.{take_all, take-append-le}
+use Rattle.px_link.specs.declared.fault.Fault.{Fault}
+use Rattle.px_link.specs.declared.fault.Fault.TheVariants as faults
+use Rattle.px_link.specs.Link.{Seen, Takes, Untold, UpTo, All, Manner, AsItIs, Behind, IsBehind, PassesOn, takes_behind}
+use Rattle.px_link.specs.Net.{Coming, Kept, NetSeen, IsFirst, Connected, Connects, Refused, NoMemory, Keeps, KeepsMore, Place, new_link}
+use Rattle.px_peer.specs.declared.Pair.{Pair}
+use Rattle.px_proxyproto.specs.declared.heading.Heading.{Heading}
+use Rattle.px_proxyproto.specs.Nets.{manner_of, introduced}
+use Rattle.px_proxyproto.specs.Sending.{SendLinkSeen, manner_behind, seen_behind, link_behind, begun, WroteBehind, LinkWrote}
+use Rattle.px_proxyproto.specs.Texts.{header_of, text_of, binary_of, addresses_text, ports_text}
+use Rattle.px_proxyproto.specs.Lines.{family_word, line_end}
+use Rattle.px_proxyproto.proofs.Kept.{take_over}
 
--- ---- what stands behind a header
-
-same_bytes : (a b : List ℕ) → a ≡ b → bytes_eq a b ≡ true
-same_bytes a b e = let same = bytes_eq-Decides a b in same.1 e
-
-other_bytes : (a b : List ℕ) → (length a ≡ length b → ⊥) → bytes_eq a b ≡ false
-other_bytes a b differ =
-    elim (cases_Bool (bytes_eq a b)) [
-      | inl e ↦ let same = bytes_eq-Decides a b in absurd (differ (ap length (same.0 e)))
-      | inr e ↦ e
-    ]
-
-behind_all : (header bytes : List ℕ) → text_behind header (header ++ bytes) ≡ Some bytes
-behind_all header bytes =
-    let out : bytes_eq header (take (length header) (header ++ bytes)) ≡ true = same_bytes _ _ (sym (take-append_seam header bytes)) in
-    cond-true _ _ _ out ∙ ap (λ (text : List ℕ). Some text) (drop-append_seam header bytes)
-
-behind_some : (header : List ℕ) (sent : ℕ) → sent < length header → text_behind header (take sent header) ≡ Some []
-behind_some header sent more =
-    let len : length (take sent header) ≡ sent = length-take-le sent header (omega (arith, more)) in
-    let short : take (length header) (take sent header) ≡ take sent header = take_all (length header) (take sent header) (omega (arith, len, more)) in
-    let not_out : bytes_eq header (take (length header) (take sent header)) ≡ false = other_bytes _ _ (λ (e : length header ≡ length (take (length header) (take sent header))). omega (arith, e, ap length short, len, more)) in
-    let front : bytes_eq (take sent header) (take (length (take sent header)) header) ≡ true = same_bytes _ _ (ap (λ (n : ℕ). take n header) (sym len)) in
-    cond-false _ _ _ not_out ∙ cond-true _ _ _ front
-
-pub behind_front : (header : List ℕ) (sent : ℕ) (bytes : List ℕ) → sent ≤ length header → (sent < length header → bytes ≡ []) → text_behind header (take sent header ++ bytes) ≡ Some bytes
-behind_front header sent bytes le none =
-    elim (cases_lt sent (length header)) [
-      | inl more ↦
-          ap (λ (text : List ℕ). text_behind header (take sent header ++ text)) (none more)
-          ∙ ap (text_behind header) (append-nil (take sent header))
-          ∙ behind_some header sent more
-          ∙ ap (λ (text : List ℕ). Some text) (sym (none more))
-      | inr all ↦ ap (λ (front : List ℕ). text_behind header (front ++ bytes)) (take_all sent header all) ∙ behind_all header bytes
-    ]
-
--- ---- one more link that was kept
-
-in_front_more : (all : Option (List Kept)) (one : Kept) → KeepsMore (option_map reverse all) (option_map reverse (in_front (Some one) all)) one
-in_front_more None one = refl
-in_front_more (Some all) one = ap (λ (l : List Kept). Some l) (reverse-cons one all)
-
-more_behind : (heading : Option Heading) (notes : List (Option Heading)) (kept new : Option (List Kept)) (link one : Kept) → kept_behind (header_in heading) link ≡ Some one → KeepsMore kept new link
-    → KeepsMore (all_behind notes kept) (all_behind (heading ∷ notes) new) one
-more_behind heading notes None new link one is more = ap (all_behind (heading ∷ notes)) more
-more_behind heading notes (Some kept) new link one is more =
-    let last : all_behind (heading ∷ notes) new ≡ option_map reverse (in_front (Some one) (read_behind notes (reverse kept))) =
-    ap (all_behind (heading ∷ notes)) more
-    ∙ ap (λ (l : List Kept). option_map reverse (read_behind (heading ∷ notes) l)) (reverse-append kept (link ∷ []))
-    ∙ ap (λ (first : Option Kept). option_map reverse (in_front first (read_behind notes (reverse kept)))) is in
-    subst (λ (l : Option (List Kept)). KeepsMore (all_behind notes (Some kept)) l one) (sym last) (in_front_more (read_behind notes (reverse kept)) one)
-
-pub keeps_behind : (header : List ℕ) (heading : Option Heading) (notes : List (Option Heading)) (below wrote : List ℕ → Type 0) (old new : NetSeen) (link seen : Seen) → seen ≡ seen_behind (header_in heading) link
-    → ((bytes : List ℕ) → wrote bytes → WroteFirst (header_in heading) below bytes) → Keeps below old new link → Keeps wrote (told_behind header notes old) (told_behind header (heading ∷ notes) new) seen
-keeps_behind header heading notes below wrote old new link seen is first k = record {
-  kept = λ bytes h.
-      let so = first bytes h in
-      let text = ap (option_map (λ (text : List ℕ). let kept : Kept = record { wrote = text; seen = seen_behind (header_in heading) link } in kept)) (behind_front (header_in heading) so.0 bytes so.1 so.2.first) in
-      more_behind heading notes old.kept new.kept _ _ (text ∙ ap (λ (s : Seen). let kept : Kept = record { wrote = bytes; seen = s } in Some kept) (sym is)) (k.kept (take so.0 (header_in heading) ++ bytes) so.2.below);
-  lent = k.lent;
-  accepts = k.accepts;
-  answers = ap (answers_behind header) k.answers;
-  plain = k.plain;
-  bound = k.bound;
-  dialled = k.dialled;
-  binds = k.binds;
-  connects = k.connects;
-}
-
--- ---- what is told says what the link below was written
-
-some_same : {A : Type 0} (a b : A) → Some a ≡ Some b → a ≡ b
-some_same a b e = cc
-
-none_some : (text : List ℕ) → None ≡ Some text → ⊥
-none_some text e = cc
-
-within : (header bytes : List ℕ) → bytes ≡ take (length bytes) header → length bytes ≤ length header
-within header bytes e = omega (arith, ap length e, length-take (length bytes) header)
-
-in_header : (header bytes text : List ℕ) → cond (bytes_eq bytes (take (length bytes) header)) (Some []) None ≡ Some text → WroteFirst header (λ wrote. wrote ≡ bytes) text
-in_header header bytes text is =
-    elim (cases_Bool (bytes_eq bytes (take (length bytes) header))) [
-      | inl front ↦
-          let same = bytes_eq-Decides bytes (take (length bytes) header) in
-          let none : [] ≡ text = some_same _ _ (sym (cond-true _ _ _ front) ∙ is) in (
-            length bytes,
-            within header bytes (same.0 front),
-            record {
-              first = λ more. sym none;
-              below = ap (λ (t : List ℕ). take (length bytes) header ++ t) (sym none) ∙ append-nil (take (length bytes) header) ∙ sym (same.0 front);
-            },
-          )
-      | inr other ↦ absurd (none_some text (sym (cond-false _ _ _ other) ∙ is))
-    ]
-
-pub behind_told : (header bytes text : List ℕ) → text_behind header bytes ≡ Some text → WroteFirst header (λ wrote. wrote ≡ bytes) text
-behind_told header bytes text is =
-    elim (cases_Bool (bytes_eq header (take (length header) bytes))) [
-      | inl out ↦
-          let same = bytes_eq-Decides header (take (length header) bytes) in
-          let rest : drop (length header) bytes ≡ text = some_same _ _ (sym (cond-true _ _ _ out) ∙ is) in (
-            length header,
-            omega arith,
-            record {
-              first = λ more. absurd (omega (arith, more));
-              below = ap (λ (front : List ℕ). front ++ text) (take_all (length header) header (omega arith) ∙ same.0 out) ∙ ap (λ (t : List ℕ). take (length header) bytes ++ t) (sym rest) ∙ take-append-drop (length header) bytes;
-            },
-          )
-      | inr not_out ↦ in_header header bytes text (sym (cond-false _ _ _ not_out) ∙ is)
-    ]
-
--- an item in front of a list was told
-told_first : (first : Option Kept) (rest : Option (List Kept)) (told : List Kept) → in_front first rest ≡ Some told → (one : Kept) × (later : List Kept) × (first ≡ Some one) × (rest ≡ Some later) × (told ≡ one ∷ later)
-told_first None rest told e = absurd cc
-told_first (Some one) None told e = absurd cc
-told_first (Some one) (Some later) told e = (one, later, refl, refl, some_same _ _ (sym e))
-
-pub each_behind : (notes : List (Option Heading)) (links told : List Kept) (at : ℕ) (heading : Option Heading) (link one : Kept) → read_behind notes links ≡ Some told
-    → slice_get notes at ≡ Some heading → slice_get links at ≡ Some link → slice_get told at ≡ Some one → kept_behind (header_in heading) link ≡ Some one
-each_behind [] links told at heading link one is note its so = absurd cc
-each_behind (first ∷ notes) [] told at heading link one is note its so = absurd cc
-each_behind (first ∷ notes) (l ∷ links) told zero heading link one is note its so =
-    let p = told_first _ _ told is in
-    let here : Some p.0 ≡ Some one = ap (λ (t : List Kept). slice_get t 0) (sym p.4) ∙ so in
-    ap₂ (λ (h : Option Heading) (k : Kept). kept_behind (header_in h) k) (sym (some_same _ _ note)) (sym (some_same _ _ its)) ∙ p.2 ∙ here
-each_behind (first ∷ notes) (l ∷ links) told (suc at) heading link one is note its so =
-    let p = told_first _ _ told is in
-    each_behind notes links p.1 at heading link one p.3 note its (ap (λ (t : List Kept). slice_get t (suc at)) (sym p.4) ∙ so)
-
--- ---- an accepted link
+-- ---- a link that was handed out
 
 no_fewer : (takes : Takes) → takes_behind 0 takes ≡ takes
 no_fewer Untold = refl
@@ -154,24 +25,173 @@ no_fewer All = refl
 no_header : (seen : Seen) → seen_behind [] seen ≡ seen
 no_header seen = ap (λ (takes : Takes). let other : Seen = record seen { takes = takes } in other) (no_fewer seen.takes)
 
-next_weaker : (old new : Option (List Coming)) (P Q : Coming → Type 0) → ((coming : Coming) → P coming → Q coming) → IsNext old new P → IsNext old new Q
-next_weaker None new P Q f h = h
-next_weaker (Some []) new P Q f h = h
-next_weaker (Some (coming ∷ later)) new P Q f h = (h.0, f coming h.1)
+-- the bytes aren't none
+abbrev IsSome : List ℕ → Type 0
+IsSome bytes = (byte : ℕ) × (rest : List ℕ) × (bytes ≡ byte ∷ rest)
 
-pub accepted_behind : (header : List ℕ) (notes : List (Option Heading)) (old new : NetSeen) (link seen : Seen) (unwritten none : Type 0) → seen ≡ seen_behind [] link → (unwritten → none) → Accepted old new link unwritten
-    → Accepted (told_behind header notes old) (told_behind header notes new) seen none
-accepted_behind header notes old new link seen unwritten none is still a = record {
-  first = next_weaker old.accepts new.accepts _ _ (λ coming h. (is ∙ no_header link ∙ h.0, still h.1)) a.first;
+text_some : (pair : Option Pair) → IsSome (text_of pair)
+text_some None = (_, _, refl)
+text_some (Some pair) =
+    elim (cases_Bool pair.src.v6) [
+      | inl six ↦ subst (λ (v6 : Bool). IsSome ((family_word v6 ++ (addresses_text pair ++ ports_text pair)) ++ line_end)) (sym six) (_, _, refl)
+      | inr four ↦ subst (λ (v6 : Bool). IsSome ((family_word v6 ++ (addresses_text pair ++ ports_text pair)) ++ line_end)) (sym four) (_, _, refl)
+    ]
+
+binary_some : (pair : Option Pair) → IsSome (binary_of pair)
+binary_some None = (_, _, refl)
+binary_some (Some pair) = (_, _, refl)
+
+either_some : (b : Bool) (x y : List ℕ) → IsSome x → IsSome y → IsSome (cond b x y)
+either_some true x y h k = h
+either_some false x y h k = k
+
+header_some : (version : ℕ) (pair : Option Pair) → IsSome (header_of version pair)
+header_some version pair = either_some (version == 2) (binary_of pair) (text_of pair) (binary_some pair) (text_some pair)
+
+manner_some : (header : List ℕ) → IsSome header → manner_behind header AsItIs ≡ Behind header
+manner_some header h = subst (λ (l : List ℕ). manner_behind l AsItIs ≡ Behind l) (sym h.2) refl
+
+header_manner : (heading : Heading) → manner_behind (header_of heading.version heading.pair) AsItIs ≡ Behind (header_of heading.version heading.pair)
+header_manner heading = manner_some _ (header_some heading.version heading.pair)
+
+begun_manner : {L : Type 0} (seen : L → Seen) (inner : L) (heading : Option Heading) → (seen inner).manner ≡ AsItIs → (link_behind seen (begun inner heading)).manner ≡ manner_of heading
+begun_manner seen inner None e = e
+begun_manner seen inner (Some heading) e = ap (manner_behind (header_of heading.version heading.pair)) e ∙ header_manner heading
+
+begun_new : {L : Type 0} (seen : L → Seen) (inner : L) (heading : Option Heading) (coming : Coming) → seen inner ≡ new_link AsItIs coming → link_behind seen (begun inner heading) ≡ new_link (manner_of heading) coming
+begun_new seen inner None coming e = no_header (seen inner) ∙ e
+begun_new seen inner (Some heading) coming e =
+    let header = header_of heading.version heading.pair in
+    ap (seen_behind header) e
+    ∙ ap (λ (manner : Manner). let link : Seen = record (new_link (Behind header) coming) { manner = manner } in link) (header_manner heading)
+
+begun_unwritten : {L : Type 0} (wrote : L → List ℕ → Type 0) (inner : L) (heading : Option Heading) → wrote inner [] → LinkWrote wrote (begun inner heading) []
+begun_unwritten wrote inner None h = record { first = λ _. refl; below = h }
+begun_unwritten wrote inner (Some heading) h = record { first = λ _. refl; below = h }
+
+first_weaker : (old new : Option (List (Option Coming))) (P Q : Coming → Type 0) → ((coming : Coming) → P coming → Q coming) → IsFirst old new P → IsFirst old new Q
+first_weaker None new P Q f h = h
+first_weaker (Some []) new P Q f h = h
+first_weaker (Some (None ∷ later)) new P Q f h = h
+first_weaker (Some (Some coming ∷ later)) new P Q f h = (h.0, f coming h.1)
+
+pub connected_behind : {L : Type 0} (seen : L → Seen) (wrote : L → List ℕ → Type 0) (heading : Option Heading) (old new : NetSeen) (to : Place) (inner : L) → old.manner ≡ AsItIs
+    → Connected old new to (seen inner) (wrote inner [])
+    → Connected (introduced heading old) (introduced heading new) to (link_behind seen (begun inner heading)) (LinkWrote wrote (begun inner heading) [])
+connected_behind seen wrote heading old new to inner is a = record {
+  first = first_weaker old.answers new.answers _ _ (λ coming h. (
+    begun_new seen inner heading coming (h.0 ∙ ap (λ (manner : Manner). new_link manner coming) is),
+    begun_unwritten wrote inner heading h.1,
+  )) a.first;
+  passes_on = begun_manner seen inner heading (a.passes_on ∙ is);
+  accepts = a.accepts;
+  kept = a.kept;
+  manner = refl;
+  plain = a.plain;
   lent = a.lent;
   below = a.below;
+  bound = a.bound;
+  dialled = a.dialled;
   binds = a.binds;
-  behind = record {
-    answers = ap (answers_behind header) a.behind.answers;
-    kept = ap (all_behind notes) a.behind.kept;
-    plain = a.behind.plain;
-    bound = a.behind.bound;
-    dialled = a.behind.dialled;
-    connects = a.behind.connects;
-  };
+  connects = a.connects;
+}
+
+losing : (heading : Option Heading) (old new : NetSeen) (to : Place) → Refused old new to → Refused (introduced heading old) (introduced heading new) to
+losing heading old new to r = record {
+  answers = r.answers;
+  fails = r.fails;
+  accepts = r.accepts;
+  kept = r.kept;
+  manner = refl;
+  plain = r.plain;
+  lent = r.lent;
+  bound = r.bound;
+  dialled = r.dialled;
+  rose = r.rose;
+  never_falls = r.never_falls;
+  binds = r.binds;
+}
+
+unroomed : (heading : Option Heading) (old new : NetSeen) (to : Place) → NoMemory old new to → NoMemory (introduced heading old) (introduced heading new) to
+unroomed heading old new to r = record {
+  answers = r.answers;
+  accepts = r.accepts;
+  kept = r.kept;
+  manner = refl;
+  plain = r.plain;
+  lent = r.lent;
+  bound = r.bound;
+  dialled = r.dialled;
+  binds = r.binds;
+  connects = r.connects;
+}
+
+pub not_connected : (fault : Fault) {L : Type 0} (seen : L → Seen) (wrote : L → List ℕ → Type 0) (heading : Option Heading) (old new : NetSeen) (to : Place) → Connects seen wrote old new to (Err fault)
+    → Connects (link_behind seen) (LinkWrote wrote) (introduced heading old) (introduced heading new) to (Err fault)
+not_connected faults.Failed seen wrote heading old new to r = losing heading old new to r
+not_connected faults.OutOfMemory seen wrote heading old new to r = unroomed heading old new to r
+
+-- ---- a link that was kept
+
+no_front : (sent : ℕ) (text : List ℕ) → take sent [] ++ text ≡ text
+no_front zero text = refl
+no_front (suc sent) text = refl
+
+-- texts of which nothing is there together
+both_none : (xs ys : List ℕ) → xs ++ ys ≡ [] → ys ≡ []
+both_none [] ys e = e
+both_none (x ∷ xs) ys e = absurd cc
+
+-- a header that goes behind another is one with it
+behind_both : (first header bytes text : List ℕ) (sent : ℕ) → sent ≤ length header → (sent < length header → text ≡ []) → IsBehind first bytes (take sent header ++ text) → IsBehind (first ++ header) bytes text
+behind_both first header bytes text sent within none p =
+    elim (cases_lt p.sent (length first)) [
+      | inl more ↦
+          let empty : take sent header ++ text ≡ [] = p.first more in
+          let text_none : text ≡ [] = both_none (take sent header) text empty in
+          record {
+            sent = p.sent;
+            within = omega (arith, length-append first header, more);
+            first = λ _. text_none;
+            whole = p.whole
+                ∙ (ap (λ (t : List ℕ). take p.sent first ++ t) (empty ∙ sym text_none)
+                ∙ ap (λ (t : List ℕ). t ++ text) (sym (take-append-le p.sent first header p.within)));
+          }
+      | inr all ↦
+          let len : p.sent ≡ length first = omega (arith, all, p.within) in
+          record {
+            sent = length first + sent;
+            within = omega (arith, length-append first header, within);
+            first = λ more. none (omega (arith, length-append first header, more));
+            whole = p.whole
+                ∙ (ap (λ (t : List ℕ). t ++ (take sent header ++ text)) (take_all p.sent first all)
+                ∙ (sym (append_assoc first (take sent header) text)
+                ∙ ap (λ (t : List ℕ). t ++ text) (sym (take_over first header (length first + sent) sent refl))));
+          }
+    ]
+
+passes_behind : (header : List ℕ) (sent : ℕ) (manner : Manner) (wrote : List ℕ → Type 0) (bytes : List ℕ) → sent ≤ length header → ((text : List ℕ) → wrote text → PassesOn manner bytes text)
+    → (text : List ℕ) → WroteBehind header sent wrote text → PassesOn (manner_behind header manner) bytes text
+passes_behind [] sent manner wrote bytes within passes text h = subst (λ (t : List ℕ). PassesOn manner bytes t) (no_front sent text) (passes _ h.below)
+passes_behind (byte ∷ header) sent AsItIs wrote bytes within passes text h = record { sent = sent; within = within; first = h.first; whole = sym (passes _ h.below) }
+passes_behind (byte ∷ header) sent (Behind first) wrote bytes within passes text h = behind_both first (byte ∷ header) bytes text sent within h.first (passes _ h.below)
+
+more_behind : (header : List ℕ) (sent : ℕ) (wrote : List ℕ → Type 0) (link : Seen) (kept new : Option (List Kept)) → sent ≤ length header → KeepsMore kept new wrote link
+    → KeepsMore kept new (λ text. WroteBehind header sent wrote text) (seen_behind header link)
+more_behind header sent wrote link None new within k = k
+more_behind header sent wrote link (Some kept) new within k = (k.0, k.1, passes_behind header sent link.manner wrote k.0 within k.2)
+
+pub keeps_behind : {L : Type 0} (seen : L → Seen) (wrote : L → List ℕ → Type 0) (heading : Option Heading) (old new : NetSeen) (link : SendLinkSeen L) → link.sent ≤ length link.header
+    → Keeps (wrote link.inner) old new (seen link.inner) → Keeps (LinkWrote wrote link) (introduced heading old) (introduced heading new) (link_behind seen link)
+keeps_behind seen wrote heading old new link within k = record {
+  kept = more_behind link.header link.sent (wrote link.inner) (seen link.inner) old.kept new.kept within k.kept;
+  lent = k.lent;
+  accepts = k.accepts;
+  answers = k.answers;
+  manner = refl;
+  plain = k.plain;
+  bound = k.bound;
+  dialled = k.dialled;
+  binds = k.binds;
+  connects = k.connects;
 }

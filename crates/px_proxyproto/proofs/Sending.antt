@@ -1,11 +1,11 @@
 -- Writes of a link below, as writes behind a header.
 use Rattle.std.proofs.Common.{◌≡◌, ℕ, ◌+◌, ◌<◌, List, ◌++◌, length, take, drop, sym, ap, subst, ◌∙◌, take-add}
 use Rattle.std.proofs.lemmas.List.{append-nil}
-use Rattle.px_link.specs.Link.{Seen, SameKind, SameInput, Took, NoRoom}
-use Rattle.px_proxyproto.specs.Sending.{takes_behind, seen_behind, WroteBehind}
+use Rattle.px_link.specs.Link.{Seen, SameKind, SameInput, Took, NoRoom, takes_behind}
+use Rattle.px_proxyproto.specs.Sending.{manner_behind, seen_behind, WroteBehind}
 
 kind_behind : (header : List ℕ) (s t : Seen) → SameKind s t → SameKind (seen_behind header s) (seen_behind header t)
-kind_behind header s t k = record { ending = k.ending; plain = k.plain; takes = ap (takes_behind (length header)) k.takes }
+kind_behind header s t k = record { ending = k.ending; plain = k.plain; takes = ap (takes_behind (length header)) k.takes; manner = ap (manner_behind header) k.manner }
 
 input_behind : (header : List ℕ) (s t : Seen) → SameInput s t → SameInput (seen_behind header s) (seen_behind header t)
 input_behind header s t i = record { to_come = i.to_come; taken = i.taken; kind = kind_behind header s t i.kind; closed = i.closed; reads = i.reads }
@@ -14,7 +14,7 @@ input_both : (s t u : Seen) → SameInput s t → SameInput t u → SameInput s 
 input_both s t u p q = record {
   to_come = q.to_come ∙ p.to_come;
   taken = q.taken ∙ p.taken;
-  kind = record { ending = q.kind.ending ∙ p.kind.ending; plain = q.kind.plain ∙ p.kind.plain; takes = q.kind.takes ∙ p.kind.takes };
+  kind = record { ending = q.kind.ending ∙ p.kind.ending; plain = q.kind.plain ∙ p.kind.plain; takes = q.kind.takes ∙ p.kind.takes; manner = q.kind.manner ∙ p.kind.manner };
   closed = q.closed ∙ p.closed;
   reads = q.reads ∙ p.reads;
 }

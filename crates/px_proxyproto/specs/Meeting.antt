@@ -12,10 +12,14 @@ use Rattle.px_proxyproto.specs.Greeting.{Greets}
 abbrev pub source : Pair → Peer
 source pair = pair.src
 
--- Whom a link was met by, and what was read of it for that. Where its stream begins with a header, exactly a header was taken, and its source asks; or there
--- is none, for a reason. Else nothing was read, and the peer is one that the link may tell.
-abbrev pub Meets : {L : Type 0} → (tells : L → Option Peer → Type 0) → (accepts_header : Bool) → (link : L) → (old new : Seen) → Met → Type 0
-Meets tells true link old new (met.Caller peer) = (pair : Option Pair) × (peer ≡ option_map source pair) × Greets old new (greetings.Got pair)
+-- the end that asks, where a pair is told
+abbrev pub source_in : Option Pair → Option Peer
+source_in pair = option_map source pair
+
+-- Whom a link was met by, and what was read of it for that. Where its stream begins with a header, exactly a header with this pair was taken; or there
+-- is none, for a reason. Else nothing was read, and the pair is one that the link may tell.
+abbrev pub Meets : {L : Type 0} → (tells : L → Option Pair → Type 0) → (accepts_header : Bool) → (link : L) → (old new : Seen) → Met → Type 0
+Meets tells true link old new (met.Caller pair) = Greets old new (greetings.Got pair)
 Meets tells true link old new met.Refused = Greets old new greetings.Bad
-Meets tells false link old new (met.Caller peer) = tells link peer × (new ≡ old)
+Meets tells false link old new (met.Caller pair) = tells link pair × (new ≡ old)
 Meets tells false link old new met.Refused = ⊥

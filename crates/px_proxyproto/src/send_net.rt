@@ -1,81 +1,87 @@
 //! A net whose connected links write a header first.
-ghost use Rattle.std.specs.Prelude.{◌≡◌, [], None, slice_get};
+ghost use Rattle.std.specs.Prelude.{◌≡◌, None};
+ghost use Rattle.px_link.specs.Link.{AsItIs};
+ghost use Rattle.px_proxyproto.specs.Sending.{begun};
 
-use crate::note_list::{Heading, NoteRoom, Notes, note_at, put};
+use crate::heading::Heading;
+use crate::introduces::Introduces;
 use crate::send_link::SendLink;
-use px_link::{Address, Fault, Net};
-use px_peer::Pair;
-use std::alloc::Global;
+use px_link::{Address, Fault, Net, WaitsNet, Wakes};
 use std::marker::Model;
 
-/// A net over one that it borrows, whose connected links write a header before their first piece. Accepted links pass their bytes on unchanged.
-pub struct SendNet<'a, N> {
-    alloc: Global,
-    inner: &'a mut N,
-    version: u32,
-    pair: Option<Pair>,
-    notes: Notes,
+/// A net over one whose links pass on all as it is. Links that are connected write a header before their first piece, where it was told one; accepted
+/// ones pass on all as it is. Contracts see the net below, and the header with which the links begin that are connected next.
+#[derive(Drop)]
+pub struct SendNet<N: Net> {
+    inner: N,
+    heading: Option<Heading>,
 }
 
-impl<N: Drop> Drop for SendNet<'_, N> {
-    fn drop(self) {
-        let SendNet {
-            alloc: _,
-            inner: _,
-            version: _,
-            pair: _,
-            notes: _,
-        } = self;
-    }
-}
-
-impl<'a, N> Model for SendNet<'a, N> {
-    ghost use Rattle.px_proxyproto.specs.Notes.{noted};
+impl<N: Net> Model for SendNet<N> {
+    ghost use Rattle.std.specs.Prelude.{◌≡◌};
+    ghost use Rattle.px_link.specs.Link.{AsItIs};
     ghost use Rattle.px_proxyproto.specs.Nets.{SendNetSeen};
 
     ghost Value = { SendNetSeen N };
 
-    ghost view = { λ net. record { inner = net.inner.now; version = net.version; pair = net.pair; notes = noted net.notes } };
+    ghost view = { λ net. record { inner = net.inner; heading = net.heading } };
+
+    ghost invariant = { λ net. (N.seen net.inner).manner ≡ AsItIs };
 }
 
-impl<'a, N: Net> SendNet<'a, N> {
-    /// Links that are connected write a header of this version, 1 or 2, that tells no pair.
-    pub fn new(alloc: Global, inner: &'a mut N, version: u32) -> SendNet<'a, N>
-        ensures { result ≡ record { inner = inner.old; version = version; pair = None; notes = [] } }
+impl<N: Net> SendNet<N> {
+    /// Links that are connected pass on all as it is, until a header is told.
+    pub fn new(inner: N) -> SendNet<N>
+        requires { (N.seen inner).manner ≡ AsItIs }
+        ensures is { result ≡ record { inner = inner; heading = None } }
+        ensures seen { ⟦<SendNet<N> as Net>⟧.seen result ≡ N.seen inner }
     {
         SendNet {
-            alloc,
             inner,
-            version,
-            pair: None,
-            notes: Notes::End,
+            heading: None,
         }
-    }
-
-    /// The headers of the links that are connected from now on tell this pair.
-    pub fn set_pair(&mut self, pair: Option<Pair>)
-        ensures { self.new ≡ record self.old { pair = pair } }
-    {
-        self.pair = pair;
     }
 
     /// The net below.
     pub fn inner(&self) -> &N
         ensures { result.now ≡ self.now.inner }
     {
-        self.inner
+        &self.inner
     }
 
-    /// What is known of a link that was kept, and so many behind it: the heading of a connected one, none of an accepted one. It is None where so
-    /// many weren't kept.
-    pub fn kept_heading(&self, behind: u64) -> Option<Option<Heading>>
-        ensures { result ≡ slice_get self.now.notes behind }
+    /// Has this wait watch the listener of the net below.
+    pub(crate) fn watch_listener<W: Wakes<N>>(&mut self, wakes: &mut W)
+        ensures { ⟦<SendNet<N> as Net>⟧.seen self.new ≡ ⟦<SendNet<N> as Net>⟧.seen self.old }
     {
-        note_at(&self.notes, behind)
+        wakes.watch_listener(&mut self.inner);
+    }
+
+    /// Has this wait leave the listener of the net below.
+    pub(crate) fn leave_listener<W: Wakes<N>>(&mut self, wakes: &mut W)
+        ensures { ⟦<SendNet<N> as Net>⟧.seen self.new ≡ ⟦<SendNet<N> as Net>⟧.seen self.old }
+    {
+        wakes.leave_listener(&mut self.inner);
+    }
+
+    /// Has this wait watch the connect that the net below has begun.
+    pub(crate) fn watch_connect<W: Wakes<N>>(&mut self, wakes: &mut W, place: usize)
+        ensures { ⟦<SendNet<N> as Net>⟧.seen self.new ≡ ⟦<SendNet<N> as Net>⟧.seen self.old }
+    {
+        wakes.watch_connect(place, &mut self.inner);
     }
 }
 
-impl<'a, N: Net> Net for SendNet<'a, N> {
+/// This link, with this header in front or as it is.
+fn begun<L>(inner: L, heading: Option<Heading>) -> SendLink<L>
+    ensures { result ≡ begun inner heading }
+{
+    match heading {
+        Some(heading) => SendLink::headed(inner, heading),
+        None => SendLink::plain(inner),
+    }
+}
+
+impl<N: Net> Net for SendNet<N> {
     ghost use Rattle.px_proxyproto.specs.Nets.{net_behind};
 
     type Link = SendLink<N::Link>;
@@ -87,24 +93,36 @@ impl<'a, N: Net> Net for SendNet<'a, N> {
     }
 
     fn accept(&mut self) -> Result<SendLink<N::Link>, Fault> {
-        let room = NoteRoom::new(self.alloc)?;
-        let link = self.inner.accept()?;
-        Ok(SendLink::plain(link, room))
+        match self.inner.accept() {
+            Ok(link) => Ok(SendLink::plain(link)),
+            Err(fault) => Err(fault),
+        }
     }
 
     fn connect(&mut self, to: &Address) -> Result<SendLink<N::Link>, Fault> {
-        let room = NoteRoom::new(self.alloc)?;
-        let link = self.inner.connect(to)?;
-        let heading = Heading {
-            version: self.version,
-            pair: self.pair,
-        };
-        Ok(SendLink::headed(link, heading, room))
+        match self.inner.connect(to) {
+            Ok(link) => Ok(begun(link, self.heading)),
+            Err(fault) => Err(fault),
+        }
     }
 
     fn keep(&mut self, link: SendLink<N::Link>) {
-        let (inner, heading, room) = link.into_parts();
-        put(&mut self.notes, heading, room);
-        self.inner.keep(inner);
+        self.inner.keep(link.into_inner());
+    }
+}
+
+impl<N: Net> Introduces for SendNet<N> {
+    fn introduce(&mut self, heading: Option<Heading>) {
+        self.heading = heading;
+    }
+}
+
+impl<N: WaitsNet> WaitsNet for SendNet<N> {
+    fn can_accept(&mut self) -> bool {
+        self.inner.can_accept()
+    }
+
+    fn can_connect(&mut self, to: &Address) -> bool {
+        self.inner.can_connect(to)
     }
 }
