@@ -9,7 +9,7 @@ use Rattle.session_model.specs.Asking.{Asked, Nothing, Refused, Replied, Sends, 
 use Rattle.session_model.specs.Session.{Exchange, After, Over, Next, Serves, Goes, GoesOn, Follow, Out}
 use Rattle.http_model.specs.declared.End.{End}
 use Rattle.session_core.specs.History.{Past, Connect, broken_server, IsPrefix, IsFrontOf, Fronts, broken}
-use Rattle.px_link.specs.Link.{Seen}
+use Rattle.px_link.specs.Link.{Seen, Manner}
 use Rattle.px_link.specs.Net.{Coming, Kept, Place, NetSeen, LosesRefused}
 use Rattle.session_core.specs.Consequences.{IsFront}
 use Rattle.htx_drive.specs.Came.{Came}
@@ -121,15 +121,15 @@ moved_all (c ∷ cs) =
 
 -- ---- what came
 
-pub dial_size : (plain : Type 0) (d : Dial) (there : Bool) → d.connect.there ≡ there → IsDialBy d.connect.there plain d → stream_size d.connect + sum_by coming_size d.left ≤ sum_by coming_size d.answers
-dial_size plain d true e h =
-    let P : Bool → Type 0 = λ b. IsDialBy b plain d in
-    let k : IsServed d = subst P e h in
+pub dial_size : (manner : Manner) (plain : Type 0) (d : Dial) (there : Bool) → d.connect.there ≡ there → IsDialBy d.connect.there manner plain d → stream_size d.connect + sum_by coming_size d.left ≤ sum_by coming_size d.answers
+dial_size manner plain d true e h =
+    let P : Bool → Type 0 = λ b. IsDialBy b manner plain d in
+    let k : IsServed manner d = subst P e h in
     let o = k.so.came.bytes k.coming.bytes refl in
     let a = ap (λ l. sum_by coming_size l) k.first in
     omega (arith, ap length o.bytes, length-append d.connect.stream.bytes o.rest, sum_by-cons coming_size (Some k.coming) d.left)
-dial_size plain d false e h =
-    let P : Bool → Type 0 = λ b. IsDialBy b plain d in
+dial_size manner plain d false e h =
+    let P : Bool → Type 0 = λ b. IsDialBy b manner plain d in
     let k : IsRefused plain d = subst P e h in
     let z : stream_size d.connect ≡ 0 = ap stream_size k.so in
     let a = lost_size d.answers (Some d.left) d.left refl k.loses in
@@ -144,16 +144,16 @@ dial_size plain d false e h =
     lost_size (None ∷ xs) o left e (inr h) = keeps (None ∷ xs) left (sym e ∙ h)
     lost_size (Some x ∷ xs) o left e h = keeps (Some x ∷ xs) left (sym e ∙ h)
 
-dials_size : (plain : Type 0) (answers : List (Option Coming)) (ds : List Dial) (left : List (Option Coming)) → Chain answers ds left → AllByRecursion (IsDial plain) ds → sum_by stream_size (map (λ (d : Dial). d.connect) ds) ≤ sum_by coming_size answers
-dials_size plain answers [] left h all = omega arith
-dials_size plain answers (d ∷ ds) left h all =
-    let a = dial_size plain d d.connect.there refl all.0 in
-    let b = dials_size plain d.left ds left h.1 all.1 in
+dials_size : (manner : Manner) (plain : Type 0) (answers : List (Option Coming)) (ds : List Dial) (left : List (Option Coming)) → Chain answers ds left → AllByRecursion (IsDial manner plain) ds → sum_by stream_size (map (λ (d : Dial). d.connect) ds) ≤ sum_by coming_size answers
+dials_size manner plain answers [] left h all = omega arith
+dials_size manner plain answers (d ∷ ds) left h all =
+    let a = dial_size manner plain d d.connect.there refl all.0 in
+    let b = dials_size manner plain d.left ds left h.1 all.1 in
     let e = ap (λ l. sum_by coming_size l) h.0 in
     omega (arith, sum_by-cons stream_size d.connect (map (λ (d : Dial). d.connect) ds))
 
-told_size : (first now : NetSeen) (plain : Type 0) (answers : List (Option Coming)) (ds : List Dial) (left : List (Option Coming)) (cs : List Connect) → map (λ (d : Dial). d.connect) ds ≡ cs → Chain answers ds left → AllByRecursion (IsDial plain) ds → sum_by stream_size cs ≤ sum_by coming_size answers
-told_size first now plain answers ds left cs e h all = let a = dials_size plain answers ds left h all in omega (arith, ap (λ l. sum_by stream_size l) e)
+told_size : (first now : NetSeen) (manner : Manner) (plain : Type 0) (answers : List (Option Coming)) (ds : List Dial) (left : List (Option Coming)) (cs : List Connect) → map (λ (d : Dial). d.connect) ds ≡ cs → Chain answers ds left → AllByRecursion (IsDial manner plain) ds → sum_by stream_size cs ≤ sum_by coming_size answers
+told_size first now manner plain answers ds left cs e h all = let a = dials_size manner plain answers ds left h all in omega (arith, ap (λ l. sum_by stream_size l) e)
 
 -- ---- all together
 
@@ -199,7 +199,7 @@ pub moved_within : (M : Meaning) (first client : Seen) (to : Place) (first_net n
 moved_within M first client to first_net net xs m answers ks past b one requests told_xs told_answers told_kept front came dials =
     let o = came.bytes xs told_xs in
     let t = dials.told answers ks told_answers told_kept in
-    let s = told_size first_net net _ answers t.dials t.left past.connects t.connects t.chain t.each in
+    let s = told_size first_net net _ _ answers t.dials t.left past.connects t.connects t.chain t.each in
     less (moved past) (enough (length xs) (sum_by coming_size answers) m M.limits.bufsize)
     (λ spent. never_spent M past (enough (length xs) (sum_by coming_size answers) m M.limits.bufsize) m xs o.rest _ b one requests o.bytes s (omega arith) spent front.0 front.1)
   where

@@ -7,8 +7,8 @@ use Rattle.std.specs.Str.{bytes_eq}
 use Rattle.std.proofs.lemmas.Slice.Eq.{bytes_eq-Decides}
 use Rattle.std.specs.List.{flat_map, AllByRecursion, list_any}
 use Rattle.http_model.specs.declared.Close.{Close}
-use Rattle.px_link.specs.Link.{Seen, Takes, Untold, UpTo, All, WithinTakes, closed_by}
-use Rattle.px_link.specs.Net.{Place, NetSeen, Coming, Kept, new_link, KeepsMore, Keeps, IsFirst, LosesRefused, RefusesOnly, Connected, Refused, NoMemory, with_address, is_among, same_address}
+use Rattle.px_link.specs.Link.{Seen, Takes, Untold, UpTo, All, Manner, PassesOn, WithinTakes, closed_by}
+use Rattle.px_link.specs.Net.{Place, NetSeen, Coming, Kept, kept_link, new_link, KeepsMore, Keeps, IsFirst, LosesRefused, RefusesOnly, Connected, Refused, NoMemory, with_address, is_among, same_address}
 use Rattle.session_core.specs.History.{Past, Connect, connected, no_stream}
 use Rattle.session_core.specs.History as history
 use Rattle.htx_drive.specs.Came.{Came, Put, size_of}
@@ -25,7 +25,7 @@ use Rattle.htx_drive.proofs.Writing.{fails_same}
 pub came_fresh : (s : Seen) → Came s s no_stream
 came_fresh s =
     record {
-      kind = record { ending = refl; plain = refl; takes = refl };
+      kind = record { ending = refl; plain = refl; takes = refl; manner = refl };
       bytes = λ xs e. record { rest = xs; bytes = refl; to_come = e; closed = λ f. cc; broke = λ p f. cc };
       taken = λ k e. let z : k ≡ k + 0 = omega arith in e ∙ ap (λ n. Some n) z;
       ended = refl;
@@ -48,14 +48,15 @@ pub came_shut : (first s t : Seen) (x : Option (Option Close)) (came : history.C
 came_shut first s t x came e h =
     let P : Seen → Type 0 = λ t. Came first t came in
     subst P (sym e) (record {
-      kind = record { ending = h.kind.ending; plain = h.kind.plain; takes = h.kind.takes };
+      kind = record { ending = h.kind.ending; plain = h.kind.plain; takes = h.kind.takes; manner = h.kind.manner };
       bytes = λ xs k. let o = h.bytes xs k in record { rest = o.rest; bytes = o.bytes; to_come = o.to_come; closed = o.closed; broke = o.broke };
       taken = h.taken;
       ended = ends_same first s (record s { closed = x }) came.ending refl h.ended;
     })
 
-kept_more : (old new : Option (List Kept)) (ks : List Kept) (k : Kept) → old ≡ Some ks → KeepsMore old new k → new ≡ Some (ks ++ k ∷ [])
-kept_more old new ks k e h = let P : Option (List Kept) → Type 0 = λ o. KeepsMore o new k in subst P e h
+-- where kept links are told
+kept_more : (old new : Option (List Kept)) (wrote : List ℕ → Type 0) (link : Seen) (ks : List Kept) → old ≡ Some ks → KeepsMore old new wrote link → KeepsMore (Some ks) new wrote link
+kept_more old new wrote link ks e h = let P : Option (List Kept) → Type 0 = λ o. KeepsMore o new wrote link in subst P e h
 
 pub returned : {L : Type 0} (seen : L → Seen) (wrote : L → List ℕ → Type 0) (link last shut : L) (old new : NetSeen) (c : Connect) (how : Close) (closed : Option Close)
     → Linked seen wrote link last c → seen shut ≡ record (seen last) { closed = closed_by (seen last).closed how } → ((bs : List ℕ) → wrote last bs → wrote shut bs)
@@ -63,12 +64,16 @@ pub returned : {L : Type 0} (seen : L → Seen) (wrote : L → List ℕ → Type
 returned seen wrote link last shut old new c how closed h e w k is =
     record {
       kept = λ ks unwritten open_yet told.
-          let r : Kept = record { wrote = c.taken; seen = seen shut } in (
-            r,
-            kept_more old.kept new.kept ks r told (k.kept c.taken (w c.taken (h.put.wrote [] unwritten))),
+          let m = kept_more old.kept new.kept (wrote shut) (seen shut) ks told k.kept in
+          let came : Came (seen link) (seen shut) c.stream = came_shut (seen link) (seen last) (seen shut) _ c.stream e h.came in
+          let P : Manner → Type 0 = λ manner. PassesOn manner m.0 c.taken in (
+            kept_link (seen shut) m.0,
+            m.1,
             record {
-              came = came_shut (seen link) (seen last) (seen shut) _ c.stream e h.came;
-              wrote = refl;
+              last = seen shut;
+              is = refl;
+              came = came;
+              wrote = subst P came.kind.manner (m.2 c.taken (w c.taken (h.put.wrote [] unwritten)));
               limit = h.put.limit unwritten;
               full = h.put.full unwritten;
               fails = fails_same (seen link) (seen last) (seen shut) c.stopped (ap (λ (s : Seen). s.write_faults) e) h.put.fails;
@@ -77,6 +82,7 @@ returned seen wrote link last shut old new c how closed h e w k is =
           );
       lent = k.lent;
       answers = k.answers;
+      manner = k.manner;
       plain = k.plain;
       coming = record { accepts = k.accepts; bound = k.bound; binds = k.binds };
       dialled = k.dialled;
@@ -137,7 +143,7 @@ keeps_more ks ds d =
     ∙ ap (λ l. ks ++ l) (ap (λ l. flat_map (λ (d : Dial). d.kept) ds ++ l) (sym (append-nil d.kept)) ∙ sym (flat_map-append (λ (d : Dial). d.kept) ds (d ∷ [])))
 
 told_more : (first old new : NetSeen) (coming : List (Option Coming)) (ks : List Kept) (cs : List Connect) (t : Told first old coming ks cs) (d : Dial) → d.answers ≡ t.left → new.answers ≡ Some d.left
-    → new.kept ≡ Some ((ks ++ flat_map (λ (d : Dial). d.kept) t.dials) ++ d.kept) → IsDial (IsPlain first) d → Told first new coming ks (cs ++ d.connect ∷ [])
+    → new.kept ≡ Some ((ks ++ flat_map (λ (d : Dial). d.kept) t.dials) ++ d.kept) → IsDial first.manner (IsPlain first) d → Told first new coming ks (cs ++ d.connect ∷ [])
 told_more first old new coming ks cs t d a l k is =
     record {
       dials = t.dials ++ d ∷ [];
@@ -146,7 +152,7 @@ told_more first old new coming ks cs t d a l k is =
       chain = chain_more coming t.dials t.left d t.chain a;
       answers = l;
       kept = k ∙ ap (λ l. Some l) (keeps_more ks t.dials d);
-      each = all_more (IsDial (IsPlain first)) t.dials d t.each is;
+      each = all_more (IsDial first.manner (IsPlain first)) t.dials d t.each is;
     }
 
 -- ---- an open server
@@ -163,27 +169,29 @@ got [] new P h = absurd h
 got (None ∷ xs) new P h = absurd h
 got (Some x ∷ xs) new P h = record { coming = x; rest = xs; first = refl; answers = h.0; is = h.1 }
 
-is_served : (plain : Type 0) (d : Dial) → d.connect.there ≡ true → IsServed d → IsDial plain d
-is_served plain d e h = let P : Bool → Type 0 = λ b. IsDialBy b plain d in subst P (sym e) h
+is_served : (manner : Manner) (plain : Type 0) (d : Dial) → d.connect.there ≡ true → IsServed manner d → IsDial manner plain d
+is_served manner plain d e h = let P : Bool → Type 0 = λ b. IsDialBy b manner plain d in subst P (sym e) h
 
 pub dials_served : {L : Type 0} (seen : L → Seen) (wrote : L → List ℕ → Type 0) (link : L) (to : Place) (first old mid new : NetSeen) (cs : List Connect) (c : Connect)
     → Dials to first old cs → Connected old mid to (seen link) (wrote link []) → c.there ≡ true → Returned seen wrote link mid new c → Dials to first new (cs ++ c ∷ [])
 dials_served seen wrote link to first old mid new cs c d k is r =
     record {
       lent = omega arith;
+      manner = r.manner ∙ k.manner ∙ d.manner;
       plain = r.plain ∙ k.plain ∙ d.plain;
       coming = same_coming first old new d.coming (same_coming old mid new (record { accepts = k.accepts; bound = k.bound; binds = k.binds }) r.coming);
       dialled = dialled_on first.dialled old.dialled new.dialled to d.dialled (inr (r.dialled ∙ k.dialled));
       refused = counts_found cs c first.connect_faults old.connect_faults new.connect_faults d.refused is (r.connects ∙ k.connects);
       told = λ coming ks ea ek.
           let t = d.told coming ks ea ek in
-          let P : Option (List (Option Coming)) → Type 0 = λ o. IsFirst o mid.answers (λ x. (seen link ≡ new_link x) × wrote link []) in
-          let g = got t.left mid.answers (λ x. (seen link ≡ new_link x) × wrote link []) (subst P t.answers k.first) in
+          let M : Manner → Type 0 = λ manner. IsFirst old.answers mid.answers (λ x. (seen link ≡ new_link manner x) × wrote link []) in
+          let P : Option (List (Option Coming)) → Type 0 = λ o. IsFirst o mid.answers (λ x. (seen link ≡ new_link first.manner x) × wrote link []) in
+          let g = got t.left mid.answers (λ x. (seen link ≡ new_link first.manner x) × wrote link []) (subst P t.answers (subst M d.manner k.first)) in
           let q = r.kept _ g.is.1 (ap (λ (s : Seen). s.closed) g.is.0) (k.kept ∙ t.kept) in
           let Q : Seen → Type 0 = λ s. KeptSo s c q.0 in
           let dial : Dial = record { connect = c; answers = t.left; left = g.rest; kept = q.0 ∷ [] } in
-          let so : IsServed dial = record { coming = g.coming; link = q.0; first = g.first; keeps = refl; so = subst Q g.is.0 q.2 } in
-          told_more first old new coming ks cs t dial refl (r.answers ∙ g.answers) q.1 (is_served (IsPlain first) dial is so);
+          let so : IsServed first.manner dial = record { coming = g.coming; link = q.0; first = g.first; keeps = refl; so = subst Q g.is.0 q.2 } in
+          told_more first old new coming ks cs t dial refl (r.answers ∙ g.answers) q.1 (is_served first.manner (IsPlain first) dial is so);
     }
 
 -- ---- a refused one
@@ -202,6 +210,7 @@ pub dials_refused : (to : Place) (first old new : NetSeen) (cs : List Connect) �
 dials_refused to first old new cs d r =
     record {
       lent = r.lent ∙ d.lent;
+      manner = r.manner ∙ d.manner;
       plain = r.plain ∙ d.plain;
       coming = same_coming first old new d.coming (record { accepts = r.accepts; bound = r.bound; binds = r.binds });
       dialled = dialled_on first.dialled old.dialled new.dialled to d.dialled (inr r.dialled);
@@ -225,6 +234,7 @@ pub dials_memory : (to : Place) (first old new : NetSeen) (cs : List Connect) �
 dials_memory to first old new cs d r =
     record {
       lent = r.lent ∙ d.lent;
+      manner = r.manner ∙ d.manner;
       plain = r.plain ∙ d.plain;
       coming = same_coming first old new d.coming (record { accepts = r.accepts; bound = r.bound; binds = r.binds });
       dialled = dialled_on first.dialled old.dialled new.dialled to d.dialled r.dialled;

@@ -9,7 +9,7 @@ use Rattle.session_core.specs.History as history
 use Rattle.session_core.specs.History.{Past, Connect, Continues, ContinuesBy, ContinuesServer}
 use Rattle.session_core.specs.Consequences.{out_of_past}
 use Rattle.session_model.specs.Meaning.{Meaning}
-use Rattle.px_link.specs.Link.{Seen}
+use Rattle.px_link.specs.Link.{Seen, Manner}
 use Rattle.px_link.specs.Net.{Place, NetSeen, Kept}
 use Rattle.px_link.specs.Net as net
 use Rattle.htx_drive.specs.Came.{Came, EndsSo}
@@ -59,26 +59,26 @@ record FoundOne (d : Dial) : Type 0 where
   is : IsServerOf d server
   goes_on : ContinuesServer d.connect server
 
-found_one : (plain : Type 0) (d : Dial) (there : Bool) → d.connect.there ≡ there → IsDialBy d.connect.there plain d → FoundOne d
-found_one plain d true e h =
-    let P : Bool → Type 0 = λ b. IsDialBy b plain d in
-    let k : IsServed d = subst P e h in
+found_one : (manner : Manner) (plain : Type 0) (d : Dial) (there : Bool) → d.connect.there ≡ there → IsDialBy d.connect.there manner plain d → FoundOne d
+found_one manner plain d true e h =
+    let P : Bool → Type 0 = λ b. IsDialBy b manner plain d in
+    let k : IsServed manner d = subst P e h in
     record {
       server = Open (stream_of d.connect.stream k.coming.bytes k.coming.ending) d.connect.stopped;
       is = (e, refl, k.coming, k.first, refl);
-      goes_on = (e, refl, continues _ k.link.seen d.connect.stream k.coming.bytes k.coming.ending refl refl k.so.came);
+      goes_on = (e, refl, continues _ k.so.last d.connect.stream k.coming.bytes k.coming.ending refl refl k.so.came);
     }
-found_one plain d false e h = record { server = NotThere; is = e; goes_on = e }
+found_one manner plain d false e h = record { server = NotThere; is = e; goes_on = e }
 
-found_all : (plain : Type 0) (ds : List Dial) → AllByRecursion (IsDial plain) ds → Found ds (map (λ (d : Dial). d.connect) ds)
-found_all plain [] all = record { servers = []; found = tt; go_on = tt }
-found_all plain (d ∷ ds) all =
-    let a = found_one plain d d.connect.there refl all.0 in
-    let b = found_all plain ds all.1 in
+found_all : (manner : Manner) (plain : Type 0) (ds : List Dial) → AllByRecursion (IsDial manner plain) ds → Found ds (map (λ (d : Dial). d.connect) ds)
+found_all manner plain [] all = record { servers = []; found = tt; go_on = tt }
+found_all manner plain (d ∷ ds) all =
+    let a = found_one manner plain d d.connect.there refl all.0 in
+    let b = found_all manner plain ds all.1 in
     record { servers = a.server ∷ b.servers; found = (a.is, b.found); go_on = (a.goes_on, b.go_on) }
 
-pub found : (plain : Type 0) (ds : List Dial) (cs : List Connect) → map (λ (d : Dial). d.connect) ds ≡ cs → AllByRecursion (IsDial plain) ds → Found ds cs
-found plain ds cs e all = let P : List Connect → Type 0 = λ l. Found ds l in subst P e (found_all plain ds all)
+pub found : (manner : Manner) (plain : Type 0) (ds : List Dial) (cs : List Connect) → map (λ (d : Dial). d.connect) ds ≡ cs → AllByRecursion (IsDial manner plain) ds → Found ds cs
+found manner plain ds cs e all = let P : List Connect → Type 0 = λ l. Found ds l in subst P e (found_all manner plain ds all)
 
 -- ---- the session of a past
 
@@ -94,7 +94,7 @@ pub session_of_past : {L : Type 0} (M : Meaning) (stands : Past → Type 0) (see
     → (r : RanSo M stands seen wrote first client to first_net now ran) → SessionOfPast M seen wrote first client to first_net now ran own ending answers ks r.past
 session_of_past M stands seen wrote first client to first_net now ran own ending answers ks told_own told_ending told_answers told_kept r =
     let t = r.dials.told answers ks told_answers told_kept in
-    let f = found _ t.dials r.past.connects t.connects t.each in
+    let f = found _ _ t.dials r.past.connects t.connects t.each in
     let goes_on = continues (seen first) (seen client) r.past.client own ending told_own told_ending r.came in
     record {
       session = record {

@@ -16,7 +16,7 @@ no_end : (o : Option Ending) (how : Ending) → o ≡ None → o ≡ Some how �
 no_end o how e f = cc
 
 kind_on : (a b c : Seen) → SameKind a b → SameKind b c → SameKind a c
-kind_on a b c h k = record { ending = k.ending ∙ h.ending; plain = k.plain ∙ h.plain; takes = k.takes ∙ h.takes }
+kind_on a b c h k = record { ending = k.ending ∙ h.ending; plain = k.plain ∙ h.plain; takes = k.takes ∙ h.takes; manner = k.manner ∙ h.manner }
 
 pub ends_same : (first old new : Seen) (how : Option Ending) → new.read_faults ≡ old.read_faults → EndsSo first old how → EndsSo first new how
 ends_same first old new None e h = e ∙ h

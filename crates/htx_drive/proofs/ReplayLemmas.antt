@@ -1,5 +1,6 @@
 pub mod Dials
 pub mod Fresh
+pub mod Headed
 pub mod Lasts
 pub mod Reported
 pub mod Stops

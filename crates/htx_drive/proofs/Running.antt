@@ -74,6 +74,7 @@ pub dials_fresh : (to : Place) (net : NetSeen) → Dials to net net []
 dials_fresh to net =
     record {
       lent = refl;
+      manner = refl;
       plain = refl;
       coming = record { accepts = refl; bound = refl; binds = refl };
       dialled = inl refl;

@@ -4,9 +4,9 @@ use Rattle.std.specs.List.{flat_map, list_all, AllByRecursion}
 use Rattle.http_model.specs.declared.Close.{Close}
 use Rattle.http_model.specs.declared.Close.TheVariants.{Failed}
 use Rattle.session_core.specs.History.{Past, Connect, connected}
-use Rattle.px_link.specs.Link.{Seen, WithinTakes, MayRefuse}
+use Rattle.px_link.specs.Link.{Seen, Manner, PassesOn, WithinTakes, MayRefuse}
 use Rattle.px_link.specs.Told.{Rose}
-use Rattle.px_link.specs.Net.{Place, Coming, NetSeen, Kept, new_link, with_address, LosesRefused, RefusesOnly}
+use Rattle.px_link.specs.Net.{Place, Coming, NetSeen, Kept, kept_link, new_link, with_address, LosesRefused, RefusesOnly}
 use Rattle.htx_drive.specs.Came.{Came, FailsSo}
 use Rattle.htx_drive.specs.Driven.{Idle, moved}
 
@@ -22,23 +22,25 @@ abbrev pub closed_how : Option Close → Close
 closed_how None = Failed
 closed_how (Some how) = how
 
--- the link as it was kept: what came from it and what was written to it are those of the connect; it stopped where a write
--- failed, which it did only where it had all that it takes
+-- the link as it was kept: what came from it is that of the connect, and it passed on what was written to it, which is that of the connect; it
+-- stopped where a write failed, which it did only where it had all that it takes
 pub record KeptSo (first : Seen) (c : Connect) (k : Kept) : Type 0 where
-  pub came : Came first k.seen c.stream
-  pub wrote : k.wrote ≡ c.taken
+  pub last : Seen
+  pub is : k ≡ kept_link last k.wrote
+  pub came : Came first last c.stream
+  pub wrote : PassesOn first.manner k.wrote c.taken
   pub limit : WithinTakes first.takes (length c.taken)
   pub full : c.stopped ≡ true → MayRefuse first.takes (length c.taken)
-  pub fails : FailsSo first k.seen c.stopped
-  pub closed : k.seen.closed ≡ Some (Some (closed_how c.closed))
+  pub fails : FailsSo first last c.stopped
+  pub closed : last.closed ≡ Some (Some (closed_how c.closed))
 
--- the connect gave the first of the answers
-pub record IsServed (d : Dial) : Type 0 where
+-- the connect gave the first of the answers, as a link that passes on so what is written to it
+pub record IsServed (manner : Manner) (d : Dial) : Type 0 where
   pub coming : Coming
   pub link : Kept
   pub first : d.answers ≡ Some coming ∷ d.left
   pub keeps : d.kept ≡ link ∷ []
-  pub so : KeptSo (new_link coming) d.connect link
+  pub so : KeptSo (new_link manner coming) d.connect link
 
 -- the connect was refused
 pub record IsRefused (plain : Type 0) (d : Dial) : Type 0 where
@@ -47,12 +49,12 @@ pub record IsRefused (plain : Type 0) (d : Dial) : Type 0 where
   pub so : d.connect ≡ connected false
   pub keeps : d.kept ≡ []
 
-abbrev pub IsDialBy : (there : Bool) → (plain : Type 0) → Dial → Type 0
-IsDialBy true plain d = IsServed d
-IsDialBy false plain d = IsRefused plain d
+abbrev pub IsDialBy : (there : Bool) → Manner → (plain : Type 0) → Dial → Type 0
+IsDialBy true manner plain d = IsServed manner d
+IsDialBy false manner plain d = IsRefused plain d
 
-abbrev pub IsDial : (plain : Type 0) → Dial → Type 0
-IsDial plain d = IsDialBy d.connect.there plain d
+abbrev pub IsDial : Manner → (plain : Type 0) → Dial → Type 0
+IsDial manner plain d = IsDialBy d.connect.there manner plain d
 
 -- each takes its answer of what the one before has left
 abbrev pub Chain : List (Option Coming) → List Dial → List (Option Coming) → Type 0
@@ -70,7 +72,7 @@ pub record Told (first now : NetSeen) (coming : List (Option Coming)) (ks : List
   pub chain : Chain coming dials left
   pub answers : now.answers ≡ Some left
   pub kept : now.kept ≡ Some (ks ++ flat_map (λ d. d.kept) dials)
-  pub each : AllByRecursion (IsDial (IsPlain first)) dials
+  pub each : AllByRecursion (IsDial first.manner (IsPlain first)) dials
 
 abbrev pub Dialled : (first now : List Place) → Place → Type 0
 Dialled first now to = (now ≡ first) ⊎ (now ≡ with_address first to)
@@ -94,6 +96,7 @@ pub record CountsRefused (cs : List Connect) (before now : ℕ) : Type 0 where
 -- since the net was first seen these connects were made, all to one address
 pub record Dials (to : Place) (first now : NetSeen) (cs : List Connect) : Type 0 where
   pub lent : now.lent ≡ first.lent
+  pub manner : now.manner ≡ first.manner
   pub plain : now.plain ≡ first.plain
   pub coming : SameComing first now
   pub dialled : Dialled first.dialled now.dialled to
@@ -105,6 +108,7 @@ pub record Returned {L : Type 0} (seen : L → Seen) (wrote : L → List ℕ →
   pub kept : (ks : List Kept) → wrote link [] → (seen link).closed ≡ Some None → old.kept ≡ Some ks → (k : Kept) × (now.kept ≡ Some (ks ++ k ∷ [])) × KeptSo (seen link) c k
   pub lent : now.lent + 1 ≡ old.lent
   pub answers : now.answers ≡ old.answers
+  pub manner : now.manner ≡ old.manner
   pub plain : now.plain ≡ old.plain
   pub coming : SameComing old now
   pub dialled : now.dialled ≡ old.dialled

@@ -1,3 +1,4 @@
+pub mod Headed
 pub mod Memory
 pub mod Nets
 pub mod Outcome

@@ -2,7 +2,7 @@
 ghost use Rattle.std.specs.Prelude.{ℕ, ◌≡◌, ◌≤◌, ◌<◌, List, Option, Some, length};
 ghost use Rattle.session_core.specs.Consequences.{IsTotal};
 ghost use Rattle.session_core.specs.MeaningLaws.Bound.{IsBounded};
-ghost use Rattle.px_link.specs.Net.{Coming, Kept, Place};
+ghost use Rattle.px_link.specs.Net.{Coming, Kept, NetSeen, Place};
 ghost use Rattle.htx_drive.specs.Budget.{HasRequests, WithTexts};
 ghost use Rattle.htx_drive.specs.Came.{Came};
 ghost use Rattle.htx_drive.specs.Machine.{TookFront};
@@ -37,9 +37,9 @@ pub fn bytes_bound_requests<C: Machine>()
 
 /// Over a link and a net that are told, a session that ended is the session of the client's own stream, or where a read of the client
 /// failed of the bytes that were read before, broken off, and of the servers that the connects found.
-pub fn ran_is_the_session<C: Machine, L: Link, N: Net<Link = L>>()
-    ensures { (cfg : C.Settings) (core : C) (first client : L) (to : Place) (first_net net : N) (ran : Ran) (own : List ℕ) (ending : Ending) (answers : List (Option Coming)) (kept : List Kept)
-        → (L.seen first).to_come ≡ Some own → (L.seen first).ending ≡ Some ending → (N.seen first_net).answers ≡ Some answers → (N.seen first_net).kept ≡ Some kept
-        → RanSo (C.meaning cfg) (C.stands cfg core) L.seen L.wrote first client to (N.seen first_net) (N.seen net) ran
-        → IsSessionOf (C.meaning cfg) L.seen L.wrote first client to (N.seen first_net) (N.seen net) ran own ending answers kept }
+pub fn ran_is_the_session<C: Machine, L: Link>()
+    ensures { (cfg : C.Settings) (core : C) (first client : L) (to : Place) (first_net net : NetSeen) (ran : Ran) (own : List ℕ) (ending : Ending) (answers : List (Option Coming)) (kept : List Kept)
+        → (L.seen first).to_come ≡ Some own → (L.seen first).ending ≡ Some ending → first_net.answers ≡ Some answers → first_net.kept ≡ Some kept
+        → RanSo (C.meaning cfg) (C.stands cfg core) L.seen L.wrote first client to first_net net ran
+        → IsSessionOf (C.meaning cfg) L.seen L.wrote first client to first_net net ran own ending answers kept }
 {}

@@ -3,6 +3,7 @@
 
 pub(crate) mod budget;
 mod cores;
+mod headed;
 pub mod laws;
 pub(crate) mod links;
 pub(crate) mod outcome;
@@ -16,6 +17,7 @@ mod texts;
 mod turns;
 
 pub use cores::Cores;
+pub use headed::replay_headed;
 pub use replayer::Replayer;
 pub use reports::report_text;
 pub use sessions::{replay, replay_connection, replay_streams};

@@ -29,6 +29,7 @@ use Rattle.htx_drive.specs.Weave.All.{AreWithin}
 use Rattle.htx_drive.specs.Weave.Outcome.{AreNew, HasEnded, AllEnded, AllEndedAtOnce}
 use Rattle.htx_drive.specs.Weave.Memory.{MemConn, IsFreshConn, AreFreshConns, HasRun, ComesTo, sees_net}
 use Rattle.htx_drive.specs.Weave.Recorded.{Weaves, WeavesFrom, WeavesAll, IsWeaveOf}
+use Rattle.htx_drive.proofs.ReplayLemmas.Fresh.{untouched, untouched_net}
 use Rattle.htx_drive.proofs.ReplayLemmas.Turned.{by_turns}
 use Rattle.htx_drive.proofs.ReplayLemmas.Whole.{replays, never_refuses}
 use Rattle.htx_drive.proofs.RecordLemmas.Zips.{at_place, zip_at, each_of}
@@ -42,7 +43,7 @@ done_runs : {C : Type 0} (M : Meaning) (stands : C → Past → Type 0) (sees : 
     → Done M stands sees turns link_of wrote_by first.client conn.client conn.server to (sees_net first.net) (sees_net conn.net) ran count → HasRun conn
 done_runs M stands sees turns visit to first conn (Ok ran) count fresh is done = (ran, is)
 done_runs M stands sees turns visit to first conn (Err fault) count fresh is done =
-    let g = done.so.1 in absurd (never_refuses visit.client first.client (length g.past.taken) fresh.client (g.put.full (sym fresh.client.written) refl))
+    let g = done.so.1 in absurd (never_refuses link_of wrote_by visit.client first.client (length g.past.taken) (untouched visit.client first.client fresh.client) (g.put.full (sym fresh.client.written) refl))
 
 some_ran : (o : Option (Result Ran SessionFault)) (a b : Result Ran SessionFault) → o ≡ Some a → o ≡ Some b → a ≡ b
 some_ran o a b e f = cc
@@ -59,7 +60,7 @@ replays_behind M stands sees turns visit to first conn out fresh ended comes =
     let left = done.so.0 in
     let e = done.so.1 in
     let own = drop done.waited turns in
-    let by = by_turns M stands sees e.core visit to first.client conn.client first.net.net first.net.refused conn.net.net conn.net.refused own left ran fresh.client fresh.net e.so (worked_behind stands sees own e.worked left e.so.past e.turned) in
+    let by = by_turns M stands sees e.core visit link_of wrote_by first.client conn.client to (sees_net first.net) (sees_net conn.net) own left ran (untouched visit.client first.client fresh.client) (untouched_net visit.servers first.net.net first.net.refused fresh.net) e.so (worked_behind stands sees own e.worked left e.so.past e.turned) in
     replays M stands sees own left visit to first.client conn.client first.net.net first.net.refused conn.net.net conn.net.refused ran out fresh.client fresh.net by comes.2)
     ended.done
 

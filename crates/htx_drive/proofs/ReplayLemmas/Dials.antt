@@ -1,4 +1,4 @@
--- From the connects of a session to the entries of a record, and to what the net kept.
+-- From the connects of a session to the entries of a record, and to what the net kept, in whatever manner its links pass on what is written to them.
 use Rattle.std.proofs.Common.{◌≡◌, ℕ, zero, suc, inl, inr, List, [], ◌∷◌, ◌++◌, Bool, true, false, ◌&&◌, Option, Some, None, is_some, map, if◌then◌else◌, sym, ap, subst, ◌∙◌, refl, arith}
 use Rattle.std.specs.Prelude.{unwrap_or}
 use Rattle.std.specs.List.{flat_map, AllByRecursion, AllZip}
@@ -6,6 +6,7 @@ use Rattle.std.proofs.lemmas.Bool.{false≢true}
 use Rattle.http_model.specs.declared.Close.{Close}
 use Rattle.http_model.specs.declared.Close.TheVariants.{Failed}
 use Rattle.px_link.specs.Told.{Rose}
+use Rattle.px_link.specs.Link.{Seen, Manner, PassesOn}
 use Rattle.px_link.specs.Net.{Coming, Kept, RefusesOnly, new_link}
 use Rattle.px_link.specs.MemLink.{MemLinkSeen}
 use Rattle.px_link.specs.MemNet.{keeping}
@@ -17,6 +18,7 @@ use Rattle.htx_drive.specs.Headline.{IsServerOf, stream_of}
 use Rattle.rec_format.specs.Entries.{ServerEntry}
 use Rattle.htx_drive.specs.Replay.Memory.{coming_of, answer_of}
 use Rattle.htx_drive.specs.Replay.Outcome.{sent_on, refused_by}
+use Rattle.htx_drive.specs.Replay.Headed.{IsPassedOn, ArePassedOn, entry_for, entries_for}
 use Rattle.htx_drive.specs.Replay.Replayed.{ServesAs, IsFound, Finds}
 use Rattle.htx_drive.proofs.ReplayLemmas.Lasts.{OnlyLast}
 use Rattle.htx_drive.proofs.ReplayLemmas.Streams.{served_so}
@@ -43,11 +45,11 @@ only_more s sent others e h = let P : Option Sent → Type 0 = λ s. OnlyLast (s
 only_one : (s : Option Sent) (others : List (Option Sent)) → s ≡ None → OnlyLast (s ∷ others) → others ≡ []
 only_one s others e h = let P : Option Sent → Type 0 = λ s. OnlyLast (s ∷ others) in subst P e h
 
-served : (plain : Type 0) (d : Dial) → d.connect.there ≡ true → IsDial plain d → IsServed d
-served plain d e h = let P : Bool → Type 0 = λ b. IsDialBy b plain d in subst P e h
+served : (manner : Manner) (plain : Type 0) (d : Dial) → d.connect.there ≡ true → IsDial manner plain d → IsServed manner d
+served manner plain d e h = let P : Bool → Type 0 = λ b. IsDialBy b manner plain d in subst P e h
 
-refused : (plain : Type 0) (d : Dial) → d.connect.there ≡ false → IsDial plain d → IsRefused plain d
-refused plain d e h = let P : Bool → Type 0 = λ b. IsDialBy b plain d in subst P e h
+refused : (manner : Manner) (plain : Type 0) (d : Dial) → d.connect.there ≡ false → IsDial manner plain d → IsRefused plain d
+refused manner plain d e h = let P : Bool → Type 0 = λ b. IsDialBy b manner plain d in subst P e h
 
 -- ---- what was kept
 
@@ -56,7 +58,7 @@ close_in None = Failed
 close_in (Some closed) = unwrap_or closed Failed
 
 abbrev pub kept_sent : Kept → Option Sent
-kept_sent k = Some (record { bytes = k.wrote; close = close_in k.seen.closed })
+kept_sent k = Some (record { bytes = k.wrote; close = close_in k.closed })
 
 abbrev pub refused_if_not : Bool → List (Option Sent)
 refused_if_not true = []
@@ -66,16 +68,13 @@ same_close : (closed : Option Close) → is_some closed ≡ true → closed_how 
 same_close None e = absurd (false≢true e)
 same_close (Some how) e = refl
 
-abbrev sent_with : List ℕ → Close → Option Sent
-sent_with bytes close = Some (record { bytes = bytes; close = close })
-
-same_sent : (a b : List ℕ) (y z : Close) → a ≡ b → y ≡ z → sent_with a y ≡ sent_with b z
-same_sent a b y z p q = cc
-
-kept_is : (first : Kept → Type 0) (d : Dial) (k : Kept) (c : Connect) → c.there ≡ true → IsOver c → k.wrote ≡ c.taken → k.seen.closed ≡ Some (Some (closed_how c.closed)) → sent_of c ≡ kept_sent k
-kept_is first d k c there over wrote closed =
-    sent_there c there
-    ∙ same_sent c.taken k.wrote (closed_so c.closed) (close_in k.seen.closed) (sym wrote) (sym (ap close_in closed ∙ same_close c.closed (over there)))
+-- what a kept link passed on of what was sent
+kept_is : (manner : Manner) (first : Seen) (k : Kept) (c : Connect) → c.there ≡ true → IsOver c → first.manner ≡ manner → KeptSo first c k → IsPassedOn manner (sent_of c) (kept_sent k)
+kept_is manner first k c there over in_manner h =
+    let P : Option Sent → Type 0 = λ s. IsPassedOn manner s (kept_sent k) in
+    let Q : Manner → Type 0 = λ m. PassesOn m k.wrote c.taken in
+    let closed : k.closed ≡ Some (Some (closed_how c.closed)) = ap (λ (k : Kept). k.closed) h.is ∙ h.closed in
+    subst P (sym (sent_there c there)) (subst Q in_manner h.wrote, ap close_in closed ∙ same_close c.closed (over there))
 
 there_first : (c : Connect) (cs : List Connect) (b : Bool) → c.there ≡ b → all_there (c ∷ cs) ≡ (b && all_there cs)
 there_first c cs b e = ap (λ (x : Bool). x && all_there cs) e
@@ -83,41 +82,36 @@ there_first c cs b e = ap (λ (x : Bool). x && all_there cs) e
 abbrev kept_of : List Dial → List Kept
 kept_of ds = flat_map (λ (d : Dial). d.kept) ds
 
-abbrev Sends : List Dial → Type 0
-Sends ds = sents ds ≡ map kept_sent (kept_of ds) ++ refused_if_not (all_there (connects ds))
+abbrev Sends : Manner → List Dial → Type 0
+Sends manner ds = ArePassedOn manner (sents ds) (map kept_sent (kept_of ds) ++ refused_if_not (all_there (connects ds)))
 
-sends_served : (d : Dial) (ds : List Dial) (k : Kept) → d.connect.there ≡ true → d.kept ≡ k ∷ [] → sent_of d.connect ≡ kept_sent k → Sends ds → Sends (d ∷ ds)
-sends_served d ds k there kept is rest =
-    let a : kept_of (d ∷ ds) ≡ k ∷ kept_of ds = ap (λ (l : List Kept). l ++ kept_of ds) kept in
-    let b : all_there (connects (d ∷ ds)) ≡ all_there (connects ds) = there_first d.connect (connects ds) true there in
-    ap (λ (s : Option Sent). s ∷ sents ds) is
-    ∙ ap (λ (l : List (Option Sent)). kept_sent k ∷ l) rest
-    ∙ ap (λ (l : List Kept). map kept_sent l ++ refused_if_not (all_there (connects ds))) (sym a)
-    ∙ ap (λ (x : Bool). map kept_sent (kept_of (d ∷ ds)) ++ refused_if_not x) (sym b)
+sends_served : (manner : Manner) (d : Dial) (ds : List Dial) (k : Kept) → d.connect.there ≡ true → d.kept ≡ k ∷ [] → IsPassedOn manner (sent_of d.connect) (kept_sent k) → Sends manner ds → Sends manner (d ∷ ds)
+sends_served manner d ds k there kept is rest =
+    let K : List Kept → Type 0 = λ l. ArePassedOn manner (sents (d ∷ ds)) (map kept_sent (l ++ kept_of ds) ++ refused_if_not (all_there (connects ds))) in
+    let B : Bool → Type 0 = λ b. ArePassedOn manner (sents (d ∷ ds)) (map kept_sent (kept_of (d ∷ ds)) ++ refused_if_not b) in
+    subst B (sym (there_first d.connect (connects ds) true there)) (subst K (sym kept) (is, rest))
 
-sends_refused : (d : Dial) (ds : List Dial) → d.connect.there ≡ false → d.kept ≡ [] → ds ≡ [] → Sends (d ∷ ds)
-sends_refused d ds there kept none =
-    let P : List Dial → Type 0 = λ l. Sends (d ∷ l) in
-    let a : kept_of (d ∷ []) ≡ [] = ap (λ (l : List Kept). l ++ []) kept in
-    let b : all_there (connects (d ∷ [])) ≡ false = there_first d.connect [] false there in
-    let one : Sends (d ∷ []) = ap (λ (s : Option Sent). s ∷ []) (sent_refused d.connect there)
-    ∙ ap (λ (l : List Kept). map kept_sent l ++ refused_if_not false) (sym a)
-    ∙ ap (λ (x : Bool). map kept_sent (kept_of (d ∷ [])) ++ refused_if_not x) (sym b) in
-    subst P (sym none) one
+sends_refused : (manner : Manner) (d : Dial) (ds : List Dial) → d.connect.there ≡ false → d.kept ≡ [] → ds ≡ [] → Sends manner (d ∷ ds)
+sends_refused manner d ds there kept none =
+    let P : List Dial → Type 0 = λ l. Sends manner (d ∷ l) in
+    let K : List Kept → Type 0 = λ l. ArePassedOn manner (sents (d ∷ [])) (map kept_sent (l ++ []) ++ refused_if_not false) in
+    let B : Bool → Type 0 = λ b. ArePassedOn manner (sents (d ∷ [])) (map kept_sent (kept_of (d ∷ [])) ++ refused_if_not b) in
+    let S : Option Sent → Type 0 = λ s. IsPassedOn manner s None in
+    subst P (sym none) (subst B (sym (there_first d.connect [] false there)) (subst K (sym kept) (subst S (sym (sent_refused d.connect there)) tt, tt)))
 
-sends_more : (plain : Type 0) (d : Dial) (ds : List Dial) (there : Bool) → d.connect.there ≡ there → IsDial plain d → IsOver d.connect → OnlyLast (sents (d ∷ ds)) → (OnlyLast (sents ds) → Sends ds) → Sends (d ∷ ds)
-sends_more plain d ds true there is over last rest =
-    let s = served plain d there is in
-    sends_served d ds s.link there s.keeps (kept_is (λ k. Unit {0}) d s.link d.connect there over s.so.wrote s.so.closed)
+sends_more : (manner : Manner) (plain : Type 0) (d : Dial) (ds : List Dial) (there : Bool) → d.connect.there ≡ there → IsDial manner plain d → IsOver d.connect → OnlyLast (sents (d ∷ ds)) → (OnlyLast (sents ds) → Sends manner ds) → Sends manner (d ∷ ds)
+sends_more manner plain d ds true there is over last rest =
+    let s = served manner plain d there is in
+    sends_served manner d ds s.link there s.keeps (kept_is manner (new_link manner s.coming) s.link d.connect there over refl s.so)
     (rest (only_more (sent_of d.connect) _ (sents ds) (sent_there d.connect there) last))
-sends_more plain d ds false there is over last rest =
-    let r = refused plain d there is in
-    sends_refused d ds there r.keeps (no_sents ds (only_one (sent_of d.connect) (sents ds) (sent_refused d.connect there) last))
+sends_more manner plain d ds false there is over last rest =
+    let r = refused manner plain d there is in
+    sends_refused manner d ds there r.keeps (no_sents ds (only_one (sent_of d.connect) (sents ds) (sent_refused d.connect there) last))
 
--- what was sent to servers is what the kept links were written, with their closes, and behind them one that was refused, if any was
-pub sends : (plain : Type 0) (ds : List Dial) → AllByRecursion (IsDial plain) ds → AllByRecursion IsOver (connects ds) → OnlyLast (sents ds) → Sends ds
-sends plain [] all over last = refl
-sends plain (d ∷ ds) all over last = sends_more plain d ds d.connect.there refl all.0 over.0 last (λ l. sends plain ds all.1 over.1 l)
+-- what was sent to servers was passed on by the kept links, with their closes, and behind them one that was refused, if any was
+pub sends : (manner : Manner) (plain : Type 0) (ds : List Dial) → AllByRecursion (IsDial manner plain) ds → AllByRecursion IsOver (connects ds) → OnlyLast (sents ds) → Sends manner ds
+sends manner plain [] all over last = tt
+sends manner plain (d ∷ ds) all over last = sends_more manner plain d ds d.connect.there refl all.0 over.0 last (λ l. sends manner plain ds all.1 over.1 l)
 
 counts_by : (cs : List Connect) (n : ℕ) (all : Bool) → all_there cs ≡ all → CountsRefused cs 0 n → refused_by n ≡ refused_if_not all
 counts_by cs n true e h = ap refused_by (h.found e)
@@ -178,42 +172,42 @@ ends_there entries [] (server ∷ servers) none zip = absurd zip
 ends_there entries (d ∷ ds) servers none zip = absurd cc
 
 -- a refused connect is the last: past all entries, or at a refused one
-refused_last : (entries : List (Option ServerEntry)) (d : Dial) (ds : List Dial) (servers : List Server) → d.connect.there ≡ false → RefusesOnly (Some (map answer_of entries)) → ds ≡ [] → AllZip IsServerOf ds servers
-    → Finds entries (NotThere ∷ servers) (sents (d ∷ ds))
-refused_last [] d ds servers there only none zip = (none_found (sent_of d.connect) (sent_refused d.connect there), ends_there [] ds servers none zip)
-refused_last (None ∷ entries) d ds servers there only none zip = (none_found (sent_of d.connect) (sent_refused d.connect there), ends_there entries ds servers none zip)
-refused_last (Some entry ∷ entries) d ds servers there only none zip = absurd only
+refused_last : (manner : Manner) (entries : List (Option ServerEntry)) (d : Dial) (ds : List Dial) (servers : List Server) → d.connect.there ≡ false → RefusesOnly (Some (map answer_of entries)) → ds ≡ [] → AllZip IsServerOf ds servers
+    → Finds (entries_for manner entries) (NotThere ∷ servers) (sents (d ∷ ds))
+refused_last manner [] d ds servers there only none zip = (none_found (sent_of d.connect) (sent_refused d.connect there), ends_there [] ds servers none zip)
+refused_last manner (None ∷ entries) d ds servers there only none zip = (none_found (sent_of d.connect) (sent_refused d.connect there), ends_there (entries_for manner entries) ds servers none zip)
+refused_last manner (Some entry ∷ entries) d ds servers there only none zip = absurd only
 
-served_first : (entries : List (Option ServerEntry)) (d : Dial) (ds : List Dial) (servers : List Server) (stream : Stream) (stopped : Bool) → d.answers ≡ map answer_of entries → IsServerOf d (Open stream stopped) → IsServed d
-    → ((others : List (Option ServerEntry)) → d.left ≡ map answer_of others → Finds others servers (sents ds)) → Finds entries (Open stream stopped ∷ servers) (sents (d ∷ ds))
-served_first entries d ds servers stream stopped at is s rest =
+served_first : (manner : Manner) (entries : List (Option ServerEntry)) (d : Dial) (ds : List Dial) (servers : List Server) (stream : Stream) (stopped : Bool) → d.answers ≡ map answer_of entries → IsServerOf d (Open stream stopped) → IsServed manner d
+    → ((others : List (Option ServerEntry)) → d.left ≡ map answer_of others → Finds (entries_for manner others) servers (sents ds)) → Finds (entries_for manner entries) (Open stream stopped ∷ servers) (sents (d ∷ ds))
+served_first manner entries d ds servers stream stopped at is s rest =
     let found = entry_of entries s.coming d.left (sym at ∙ s.first) in
     let coming : is.2 ≡ s.coming = first_coming is.2 s.coming d.left d.left (sym is.3 ∙ s.first) in
     let own : stream ≡ stream_of d.connect.stream (coming_of found.entry).bytes (coming_of found.entry).ending =
     is.4 ∙ ap (λ (c : Coming). stream_of d.connect.stream c.bytes c.ending) (coming ∙ found.same) in
-    let K : Coming → Type 0 = λ c. KeptSo (new_link c) d.connect s.link in
-    let so = served_so found.entry d.connect s.link stream (subst K found.same s.so) own in
-    let S : Bool → Type 0 = λ b. ServesAs found.entry stream b d.connect.taken in
-    let P : List (Option ServerEntry) → Type 0 = λ l. Finds l (Open stream stopped ∷ servers) (sents (d ∷ ds)) in
+    let K : Coming → Type 0 = λ c. KeptSo (new_link manner c) d.connect s.link in
+    let so = served_so manner found.entry d.connect s.link stream (subst K found.same s.so) own in
+    let S : Bool → Type 0 = λ b. ServesAs (entry_for manner found.entry) stream b d.connect.taken in
+    let P : List (Option ServerEntry) → Type 0 = λ l. Finds (entries_for manner l) (Open stream stopped ∷ servers) (sents (d ∷ ds)) in
     subst P (sym found.first)
-    (found_sent found.entry stream stopped (sent_of d.connect) _ (sent_there d.connect is.0) (subst S (sym is.1) so), rest found.others found.rest)
+    (found_sent (entry_for manner found.entry) stream stopped (sent_of d.connect) _ (sent_there d.connect is.0) (subst S (sym is.1) so), rest found.others found.rest)
 
-finds_more : (plain : Type 0) → plain → (entries : List (Option ServerEntry)) (d : Dial) (ds : List Dial) (server : Server) (servers : List Server) → d.answers ≡ map answer_of entries → IsDial plain d → IsServerOf d server → OnlyLast (sents (d ∷ ds)) → AllZip IsServerOf ds servers
-    → ((others : List (Option ServerEntry)) → d.left ≡ map answer_of others → OnlyLast (sents ds) → Finds others servers (sents ds)) → Finds entries (server ∷ servers) (sents (d ∷ ds))
-finds_more plain proof entries d ds NotThere servers at is of last zip rest =
-    let r = refused plain d of is in
+finds_more : (manner : Manner) (plain : Type 0) → plain → (entries : List (Option ServerEntry)) (d : Dial) (ds : List Dial) (server : Server) (servers : List Server) → d.answers ≡ map answer_of entries → IsDial manner plain d → IsServerOf d server → OnlyLast (sents (d ∷ ds)) → AllZip IsServerOf ds servers
+    → ((others : List (Option ServerEntry)) → d.left ≡ map answer_of others → OnlyLast (sents ds) → Finds (entries_for manner others) servers (sents ds)) → Finds (entries_for manner entries) (server ∷ servers) (sents (d ∷ ds))
+finds_more manner plain proof entries d ds NotThere servers at is of last zip rest =
+    let r = refused manner plain d of is in
     let P : List (Option Coming) → Type 0 = λ l. RefusesOnly (Some l) in
-    refused_last entries d ds servers of (subst P at (r.only proof)) (no_sents ds (only_one (sent_of d.connect) (sents ds) (sent_refused d.connect of) last)) zip
-finds_more plain proof entries d ds (Open stream stopped) servers at is of last zip rest =
-    let s = served plain d of.0 is in
-    served_first entries d ds servers stream stopped at of s (λ others e. rest others e (only_more (sent_of d.connect) _ (sents ds) (sent_there d.connect of.0) last))
+    refused_last manner entries d ds servers of (subst P at (r.only proof)) (no_sents ds (only_one (sent_of d.connect) (sents ds) (sent_refused d.connect of) last)) zip
+finds_more manner plain proof entries d ds (Open stream stopped) servers at is of last zip rest =
+    let s = served manner plain d of.0 is in
+    served_first manner entries d ds servers stream stopped at of s (λ others e. rest others e (only_more (sent_of d.connect) _ (sents ds) (sent_there d.connect of.0) last))
 
 -- the connects found the entries in their order
-pub finds : (plain : Type 0) → plain → (entries : List (Option ServerEntry)) (answers left : List (Option Coming)) (ds : List Dial) (servers : List Server) → answers ≡ map answer_of entries → Chain answers ds left → AllByRecursion (IsDial plain) ds → OnlyLast (sents ds) → AllZip IsServerOf ds servers
-    → Finds entries servers (sents ds)
-finds plain proof entries answers left [] [] at chain all last zip = tt
-finds plain proof entries answers left [] (server ∷ servers) at chain all last zip = absurd zip
-finds plain proof entries answers left (d ∷ ds) [] at chain all last zip = absurd zip
-finds plain proof entries answers left (d ∷ ds) (server ∷ servers) at chain all last zip =
-    finds_more plain proof entries d ds server servers (chain.0 ∙ at) all.0 zip.0 last zip.1
-    (λ others e l. finds plain proof others d.left left ds servers e chain.1 all.1 l zip.1)
+pub finds : (manner : Manner) (plain : Type 0) → plain → (entries : List (Option ServerEntry)) (answers left : List (Option Coming)) (ds : List Dial) (servers : List Server) → answers ≡ map answer_of entries → Chain answers ds left → AllByRecursion (IsDial manner plain) ds → OnlyLast (sents ds) → AllZip IsServerOf ds servers
+    → Finds (entries_for manner entries) servers (sents ds)
+finds manner plain proof entries answers left [] [] at chain all last zip = tt
+finds manner plain proof entries answers left [] (server ∷ servers) at chain all last zip = absurd zip
+finds manner plain proof entries answers left (d ∷ ds) [] at chain all last zip = absurd zip
+finds manner plain proof entries answers left (d ∷ ds) (server ∷ servers) at chain all last zip =
+    finds_more manner plain proof entries d ds server servers (chain.0 ∙ at) all.0 zip.0 last zip.1
+    (λ others e l. finds manner plain proof others d.left left ds servers e chain.1 all.1 l zip.1)

@@ -1,15 +1,21 @@
--- A link in memory before its first call.
-use Rattle.std.proofs.Common.{◌≡◌, ℕ, List, [], Bool, true, false, ◌&&◌, ◌==◌, Option, Some, None, length, ◌∙◌, refl}
+-- Links and nets before their first call.
+use Rattle.std.proofs.Common.{◌≡◌, ℕ, ◌+◌, ◌<◌, List, [], Bool, true, false, ◌&&◌, ◌==◌, Option, Some, None, length, map, sym, ap, ◌∙◌, refl, arith}
 use Rattle.std.specs.Prelude.{Result, Ok, Err, IfOk}
 use Rattle.std.proofs.lemmas.Bool.{false≢true, eqb-true}
 use Rattle.std.proofs.lemmas.List.{nil_from_length}
 use Rattle.http_model.specs.declared.Close.{Close}
 use Rattle.http_model.specs.declared.Ending.{Ending}
-use Rattle.px_link.specs.Link.{Seen}
-use Rattle.px_link.specs.Net.{new_link}
+use Rattle.px_link.specs.Link.{Seen, AsItIs}
+use Rattle.px_link.specs.Net.{Coming, NetSeen, new_link}
+use Rattle.px_link.specs.Calls.{fails_none}
 use Rattle.px_link.specs.MemLink.{MemLinkSeen, link_of, limit_of, is_open, is_unused}
+use Rattle.px_link.specs.MemNet.{MemNetSeen, keeping}
+use Rattle.rec_format.specs.Entries.{ServerEntry}
 use Rattle.session_model.specs.Stream.{Stream}
-use Rattle.htx_drive.specs.Replay.Seen.{IsFresh}
+use Rattle.htx_drive.specs.Dialled.{IsPlain}
+use Rattle.htx_drive.specs.Replay.Memory.{answer_of}
+use Rattle.htx_drive.specs.Replay.Nets.{seen_by}
+use Rattle.htx_drive.specs.Replay.Seen.{IsFresh, IsFreshNet, IsUntouched, IsUntouchedNet, wrote_by}
 
 first_true : (a b : Bool) → (a && b) ≡ true → a ≡ true
 first_true true b e = refl
@@ -46,7 +52,7 @@ same_parts : (a x : List ℕ) (b y : Ending) (closed : Option Close) (reads writ
     → seen_with a b closed reads writes t taken read_faults write_faults ≡ seen_with x y None [] [] u 0 0 0
 same_parts a x b y closed reads writes t u taken read_faults write_faults p q r s v w z f g = cc
 
-seen_new : (x : List ℕ) (y : Ending) (u : Option ℕ) → seen_with x y None [] [] u 0 0 0 ≡ new_link (record { bytes = x; ending = y; plain = true; takes = limit_of u })
+seen_new : (x : List ℕ) (y : Ending) (u : Option ℕ) → seen_with x y None [] [] u 0 0 0 ≡ new_link AsItIs (record { bytes = x; ending = y; plain = true; takes = limit_of u })
 unfolding seen_with
 seen_new x y u = refl
 
@@ -91,3 +97,27 @@ pub fresh_made : {E : Type 0} (s : Stream) (takes : Option ℕ) (bytes : List �
     → IfOk r (λ (l : MemLinkSeen). l.takes ≡ takes) → IfOk r (λ (l : MemLinkSeen). (l.failing_reads ≡ []) × (l.failing_writes ≡ [])) → IfOk r (λ (l : MemLinkSeen). is_unused l ≡ true) → IfOk r (λ (l : MemLinkSeen). IsFresh s takes l)
 fresh_made s takes bytes (Ok l) own to_come ending limit failing unused = fresh s takes l (to_come ∙ own) ending limit failing unused
 fresh_made s takes bytes (Err e) own to_come ending limit failing unused = tt
+
+-- ---- what is told of them
+
+pub untouched : (s : Stream) (l : MemLinkSeen) → IsFresh s None l → IsUntouched link_of wrote_by s l
+untouched s l f = record { is = f.seen; unwritten = sym f.written }
+
+pub untouched_net : (entries : List (Option ServerEntry)) (net : MemNetSeen) (none : ℕ) → IsFreshNet entries net none → IsUntouchedNet entries (seen_by net none)
+untouched_net entries net none f =
+    record {
+      answers = ap (λ (l : List (Option Coming)). Some l) f.answers;
+      kept = ap (λ (l : List MemLinkSeen). Some (map keeping l)) f.kept;
+      plain = ap fails_none f.failing;
+      lent = f.lent;
+      none = f.none;
+    }
+
+pub told_bytes : {L : Type 0} (seen : L → Seen) (wrote : L → List ℕ → Type 0) (s : Stream) (l : L) → IsUntouched seen wrote s l → (seen l).to_come ≡ Some s.bytes
+told_bytes seen wrote s l f = ap (λ (s : Seen). s.to_come) f.is
+
+pub told_ending : {L : Type 0} (seen : L → Seen) (wrote : L → List ℕ → Type 0) (s : Stream) (l : L) → IsUntouched seen wrote s l → (seen l).ending ≡ Some s.ending
+told_ending seen wrote s l f = ap (λ (s : Seen). s.ending) f.is
+
+pub is_plain : (entries : List (Option ServerEntry)) (net : NetSeen) → IsUntouchedNet entries net → IsPlain net
+is_plain entries net f = let e : net.lent ≡ 0 = f.lent in (f.plain, omega arith)

@@ -1,9 +1,9 @@
--- What comes over a plain link is its own stream.
-use Rattle.std.proofs.Common.{◌≡◌, ℕ, List, [], ◌++◌, Bool, true, false, Option, Some, None, length, sym, ap, ◌∙◌, refl}
+-- What comes over a plain link is its own stream, and how it takes what it is sent.
+use Rattle.std.proofs.Common.{◌≡◌, ℕ, List, [], ◌++◌, Bool, true, false, Option, Some, None, length, sym, ap, subst, ◌∙◌, refl}
 use Rattle.std.proofs.lemmas.List.{append-nil}
 use Rattle.http_model.specs.declared.Ending.{Ending}
 use Rattle.http_model.specs.declared.Ending.TheVariants.{Closed, Broke}
-use Rattle.px_link.specs.Link.{Seen, WithinTakes, MayRefuse}
+use Rattle.px_link.specs.Link.{Seen, Manner, AsItIs, Behind, Takes, takes_in, WithinTakes, MayRefuse}
 use Rattle.px_link.specs.Net.{Kept, Coming, new_link}
 use Rattle.px_link.specs.MemLink.{limit_of}
 use Rattle.session_model.specs.Stream.{Stream}
@@ -14,6 +14,7 @@ use Rattle.htx_drive.specs.Dialled.{KeptSo}
 use Rattle.htx_drive.specs.Headline.{stream_by, stream_of}
 use Rattle.rec_format.specs.Entries.{ServerEntry}
 use Rattle.htx_drive.specs.Replay.Memory.{coming_of}
+use Rattle.htx_drive.specs.Replay.Headed.{takes_for, entry_for}
 use Rattle.htx_drive.specs.Replay.Replayed.{TakesSo, ServesAs}
 use Rattle.htx_drive.proofs.ReplayLemmas.Stops.{stops_so}
 
@@ -27,16 +28,16 @@ all_came : (came own rest : List ℕ) → own ≡ came ++ rest → rest ≡ [] �
 all_came came own rest e none = sym (e ∙ ap (λ (l : List ℕ). came ++ l) none ∙ append-nil came)
 
 -- over a plain link only a stream that broke off of itself ends by a read that failed
-plain_by : (coming : Coming) (now : Seen) (how : Option Ending) (came rest : List ℕ) → coming.plain ≡ true → coming.bytes ≡ came ++ rest → (how ≡ Some Broke → rest ≡ []) → EndsSo (new_link coming) now how
+plain_by : (manner : Manner) (coming : Coming) (now : Seen) (how : Option Ending) (came rest : List ℕ) → coming.plain ≡ true → coming.bytes ≡ came ++ rest → (how ≡ Some Broke → rest ≡ []) → EndsSo (new_link manner coming) now how
     → stream_by how came coming.bytes coming.ending ≡ stream_with coming.bytes coming.ending
-plain_by coming now None came rest plain e over ended = refl
-plain_by coming now (Some Closed) came rest plain e over ended = refl
-plain_by coming now (Some Broke) came rest plain e over ended =
+plain_by manner coming now None came rest plain e over ended = refl
+plain_by manner coming now (Some Closed) came rest plain e over ended = refl
+plain_by manner coming now (Some Broke) came rest plain e over ended =
     same_stream came coming.bytes Broke coming.ending (all_came came coming.bytes rest e (over refl)) (sym (ended.1 plain))
 
-own_stream : (coming : Coming) (now : Seen) (came : history.Coming) → coming.plain ≡ true → Came (new_link coming) now came → stream_of came coming.bytes coming.ending ≡ stream_with coming.bytes coming.ending
-own_stream coming now came plain h =
-    let of = h.bytes coming.bytes refl in plain_by coming now came.ending came.bytes of.rest plain of.bytes (of.broke plain) h.ended
+own_stream : (manner : Manner) (coming : Coming) (now : Seen) (came : history.Coming) → coming.plain ≡ true → Came (new_link manner coming) now came → stream_of came coming.bytes coming.ending ≡ stream_with coming.bytes coming.ending
+own_stream manner coming now came plain h =
+    let of = h.bytes coming.bytes refl in plain_by manner coming now came.ending came.bytes of.rest plain of.bytes (of.broke plain) h.ended
 
 takes_so : (takes : Option ℕ) (stopped : Bool) (taken : List ℕ) → WithinTakes (limit_of takes) (length taken) → (stopped ≡ true → MayRefuse (limit_of takes) (length taken)) → TakesSo takes stopped taken
 takes_so None true taken within full = absurd (full refl)
@@ -44,9 +45,17 @@ takes_so None false taken within full = refl
 takes_so (Some n) true taken within full = full refl
 takes_so (Some n) false taken within full = within
 
--- a server of a record that was connected gave its own stream, and took what it takes
-pub served_so : (entry : ServerEntry) (c : Connect) (k : Kept) (stream : Stream) → KeptSo (new_link (coming_of entry)) c k → stream ≡ stream_of c.stream entry.stream.bytes entry.stream.ending
-    → ServesAs entry stream c.stopped c.taken
-served_so entry c k stream h is =
-    let takes = takes_so entry.takes c.stopped c.taken h.limit h.full in
-    record { own = is ∙ own_stream (coming_of entry) k.seen c.stream refl h.came; takes = takes; stops = stops_so entry.takes c.stopped c.taken takes }
+limit_for : (manner : Manner) (takes : Option ℕ) → takes_in manner (limit_of takes) ≡ limit_of (takes_for manner takes)
+limit_for AsItIs takes = refl
+limit_for (Behind header) None = refl
+limit_for (Behind header) (Some n) = refl
+
+-- a server of a record that was connected gave its own stream, and took what it takes of a text
+pub served_so : (manner : Manner) (entry : ServerEntry) (c : Connect) (k : Kept) (stream : Stream) → KeptSo (new_link manner (coming_of entry)) c k → stream ≡ stream_of c.stream entry.stream.bytes entry.stream.ending
+    → ServesAs (entry_for manner entry) stream c.stopped c.taken
+served_so manner entry c k stream h is =
+    let limit = limit_for manner entry.takes in
+    let W : Takes → Type 0 = λ t. WithinTakes t (length c.taken) in
+    let F : Takes → Type 0 = λ t. c.stopped ≡ true → MayRefuse t (length c.taken) in
+    let takes = takes_so (takes_for manner entry.takes) c.stopped c.taken (subst W limit h.limit) (subst F limit h.full) in
+    record { own = is ∙ own_stream manner (coming_of entry) h.last c.stream refl h.came; takes = takes; stops = stops_so (takes_for manner entry.takes) c.stopped c.taken takes }

@@ -1,11 +1,11 @@
 //! The sessions of a record.
-ghost use Rattle.std.specs.Prelude.{◌≡◌, None, false, map, IfOk};
+ghost use Rattle.std.specs.Prelude.{◌≡◌, false, map, IfOk};
 ghost use Rattle.session_core.specs.History.{nothing_yet};
 ghost use Rattle.px_link.specs.Net.{address_of};
 ghost use Rattle.rec_format.specs.Read.{visit, visits};
 ghost use Rattle.rec_format.specs.ReportParts.{out_of};
 ghost use Rattle.htx_drive.specs.Replay.Replayed.{Replays, ReplaysAll};
-ghost use Rattle.htx_drive.specs.Replay.Seen.{IsFresh, IsFreshNet, RanByTurns};
+ghost use Rattle.htx_drive.specs.Replay.Seen.{IsUntouched, IsUntouchedNet, RanByTurns};
 ghost use Rattle.htx_drive.specs.Replay.Streams.{visit_in};
 
 use crate::replay::budget::budget_for;
@@ -14,18 +14,18 @@ use crate::replay::laws::only_want_of_memory_gives_up;
 use crate::replay::links::{client_link, net_for};
 use crate::replay::outcome::report_of;
 use crate::replay::over_cores::OverCores;
-use crate::replay::record_net::RecordNet;
 use crate::replay::reports::reports_by;
 use crate::replay::streams::Streams;
 use crate::weave::Conn;
 use crate::{
-    Address, MOST_READ, Machine, OutOfMemory, Ran, Resources, SessionFault, Turn, run_session,
+    Address, Link, MOST_READ, Machine, Net, OutOfMemory, Ran, Resources, SessionFault, Turn,
+    run_session,
 };
-use px_link::{ListTurns, MemLink};
+use px_link::ListTurns;
 use rec_format::{Connection, Record, Report};
 use std::alloc::Global;
 
-/// The one fault that a session over links in memory has: with a budget that is enough it is never spent, and no write to the client
+/// The one fault that a session over such links has: with a budget that is enough it is never spent, and no write to the client
 /// fails.
 fn only_memory(fault: SessionFault) -> OutOfMemory
     requires { fault ≡ SessionFault.OutOfMemory }
@@ -35,26 +35,26 @@ fn only_memory(fault: SessionFault) -> OutOfMemory
 }
 
 /// Runs the session of a connection over its link and its net.
-fn run_over<C: Machine, K: Cores<C>>(
+pub(crate) fn run_over<C: Machine, K: Cores<C>, L: Link, N: Net<Link = L>>(
     cores: &K,
     core: &mut C,
     to: &Address,
     streams: &Streams<'_>,
-    over: &mut Conn<MemLink, RecordNet>,
+    over: &mut Conn<L, N>,
     turns: &mut ListTurns,
 ) -> Result<Ran, OutOfMemory>
     requires ready { K.ready cores.now }
     requires stands { C.stands (K.settings cores.now) core.old nothing_yet }
     requires idle { (C.seen core.old).serving ≡ false }
     requires sound { C.sound core.old }
-    requires client { IsFresh (visit_in streams.now).client None over.old.client }
-    requires net { IsFreshNet (visit_in streams.now).servers over.old.net.net over.old.net.refused }
-    ensures { IfOk result (RanByTurns (C.meaning (K.settings cores.now)) (C.stands (K.settings cores.now)) C.seen turns.old turns.new (visit_in streams.now) (address_of to.now) over.old.client over.new.client over.old.net.net over.old.net.refused over.new.net.net over.new.net.refused) }
+    requires client { IsUntouched L.seen L.wrote (visit_in streams.now).client over.old.client }
+    requires net { IsUntouchedNet (visit_in streams.now).servers (N.seen over.old.net) }
+    ensures { IfOk result (RanByTurns (C.meaning (K.settings cores.now)) (C.stands (K.settings cores.now)) C.seen turns.old turns.new (visit_in streams.now) L.seen L.wrote over.old.client over.new.client (address_of to.now) (N.seen over.old.net) (N.seen over.new.net)) }
 {
     let Some(budget) = budget_for(streams, cores.bufsize()) else {
         return Err(OutOfMemory);
     };
-    only_want_of_memory_gives_up::<C, K>();
+    only_want_of_memory_gives_up::<C, K, L, N>();
     let mut resources = Resources {
         left: budget,
         buffer: [0; MOST_READ],

@@ -19,7 +19,7 @@ pub fn ended_is_the_session<C: Machine, L: Link, N: Net<Link = L>>()
         → EndedSo (C.meaning cfg) (C.stands cfg) C.seen all ahead L.seen L.wrote first client to (N.seen first_net) (N.seen net) ran count
         → IsSessionOf (C.meaning cfg) L.seen L.wrote first client to (N.seen first_net) (N.seen net) ran own ending answers kept }
 {
-    ran_is_the_session::<C, L, N>();
+    ran_is_the_session::<C, L>();
 }
 
 /// A connection that ended paid less than is enough for its texts.

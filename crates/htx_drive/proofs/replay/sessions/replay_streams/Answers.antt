@@ -6,8 +6,15 @@ use Rattle.session_model.specs.Session.{Out}
 use Rattle.htx_drive.specs.Replay.Replayed.{Replays}
 use Rattle.rec_format.specs.ReportParts.{out_of}
 use Rattle.htx_drive.specs.Replay.Streams.{visit_in}
+use Rattle.htx_drive.proofs.ReplayLemmas.Fresh.{untouched, untouched_net}
 use Rattle.htx_drive.proofs.ReplayLemmas.Whole.{replays}
 use Rattle.htx_drive.proofs.replay.sessions.replay_streams.Goals as goal
+
+pub run_over-requires-clause-client : goal.run_over-requires-clause-client
+run_over-requires-clause-client g c = untouched _ _ c.in_ok-client.ensures
+
+pub run_over-requires-clause-net : goal.run_over-requires-clause-net
+run_over-requires-clause-net g c = untouched_net _ _ _ c.in_ok-net.ensures
 
 pub returns : goal.returns
 returns g c =
