@@ -1,10 +1,14 @@
 -- What a session that the driver ran did.
-use Rattle.std.specs.Prelude.{◌≡◌, ℕ, ◌^◌, ◌≤◌, ◌⊎◌, List, [], Result, Ok, Err}
+use Rattle.std.specs.Prelude.{◌≡◌, ℕ, ◌^◌, ◌≤◌, ◌⊎◌, List, [], Option, Result, Ok, Err}
 use Rattle.http_model.specs.declared.Close.TheVariants.{Failed}
 use Rattle.session_model.specs.Meaning.{Meaning}
 use Rattle.session_core.specs.History.{Past}
 use Rattle.px_link.specs.Link.{Seen, with_close}
 use Rattle.px_link.specs.Net.{Place, NetSeen}
+use Rattle.px_peer.specs.declared.Pair.{Pair}
+use Rattle.px_peer.specs.declared.Peer.{Peer}
+use Rattle.px_proxyproto.specs.Meeting.{source_in}
+use Rattle.px_proxyproto.specs.Nets.{heading_for, introduced}
 use Rattle.htx_drive.specs.Machine.{CoreSeen}
 use Rattle.htx_drive.specs.Ran.{RanSo, GaveUp}
 use Rattle.htx_drive.specs.Turned.{UpToAFault, turns_up_to}
@@ -32,3 +36,10 @@ Drove {Settings} {C} {L} meaning stands core_seen seen wrote cfg to first client
     ((core : C) × (so : GaveUp (meaning cfg) (stands cfg) core (core_seen core).lost seen wrote first client to first_net net budget fault)
     × (turned : UpToAFault (stands cfg) core_seen [] [] so.past) × (fault ≡ faults.Spent → budget ≤ turns_up_to turned))
     ⊎ NotBegun seen wrote first client first_net net fault
+
+-- What the driver did for the caller of this pair: the links that the net connects next were first made to begin with its header, or with none; then the session ran
+-- over a core of the configuration for its source.
+abbrev pub DrivesFor : {Settings C L : Type 0} (meaning : Settings → Meaning) (stands : Settings → C → Past → Type 0) (core_seen : C → CoreSeen) (seen : L → Seen) (wrote : L → List ℕ → Type 0)
+    (cfg_for : Option Peer → Settings) (sends_header : Option ℕ) (to : Place) (pair : Option Pair) (begins client : L) (first_net net : NetSeen) → Result Ran SessionFault → Type 0
+DrivesFor meaning stands core_seen seen wrote cfg_for sends_header to pair begins client first_net net result =
+    Drove meaning stands core_seen seen wrote (cfg_for (source_in pair)) to begins client (introduced (heading_for sends_header pair) first_net) net result

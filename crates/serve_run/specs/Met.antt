@@ -4,7 +4,7 @@ use Rattle.http_model.specs.declared.Close.TheVariants.{Failed}
 use Rattle.http_model.specs.declared.End.TheVariants.{Closed}
 use Rattle.px_link.specs.Link.{Seen, with_close}
 use Rattle.px_link.specs.Net.{NetSeen}
-use Rattle.px_peer.specs.declared.Peer.{Peer}
+use Rattle.px_peer.specs.declared.Pair.{Pair}
 use Rattle.px_proxyproto.specs.Meeting.{Meets}
 use Rattle.px_proxyproto.specs.declared.meeting.Met.{Met}
 use Rattle.px_proxyproto.specs.declared.meeting.Met.TheVariants as met
@@ -12,7 +12,7 @@ use Rattle.htx_drive.specs.declared.Ran.{Ran}
 use Rattle.htx_drive.specs.declared.SessionFault.{SessionFault}
 
 -- A link was met so: what the meeting tells was read of it, and what was written to it stays. A session over it begins there.
-pub record MetSo {L : Type 0} (tells : L → Option Peer → Type 0) (accepts_header : Bool) (seen : L → Seen) (wrote : L → List ℕ → Type 0) (first begins : L) (how : Met) : Type 0 where
+pub record MetSo {L : Type 0} (tells : L → Option Pair → Type 0) (accepts_header : Bool) (seen : L → Seen) (wrote : L → List ℕ → Type 0) (first begins : L) (how : Met) : Type 0 where
   pub meets : Meets tells accepts_header first (seen first) (seen begins) how
   pub written : (bytes : List ℕ) → wrote first bytes → wrote begins bytes
 
@@ -28,13 +28,13 @@ pub record TurnedAway {L : Type 0} (seen : L → Seen) (wrote : L → List ℕ �
   pub untouched : net ≡ first_net
 
 -- by how it was met: a caller is served, and whoever isn't heard is turned away
-abbrev pub ServedAsMet : {L : Type 0} → (seen : L → Seen) → (wrote : L → List ℕ → Type 0) → (serves : Option Peer → L → L → NetSeen → NetSeen → Result Ran SessionFault → Type 0) → Met → (begins client : L) → (first_net net : NetSeen) → Result Ran SessionFault → Type 0
-ServedAsMet seen wrote serves (met.Caller peer) begins client first_net net result = serves peer begins client first_net net result
+abbrev pub ServedAsMet : {L : Type 0} → (seen : L → Seen) → (wrote : L → List ℕ → Type 0) → (serves : Option Pair → L → L → NetSeen → NetSeen → Result Ran SessionFault → Type 0) → Met → (begins client : L) → (first_net net : NetSeen) → Result Ran SessionFault → Type 0
+ServedAsMet seen wrote serves (met.Caller pair) begins client first_net net result = serves pair begins client first_net net result
 ServedAsMet seen wrote serves met.Refused begins client first_net net (Ok ran) = TurnedAway seen wrote begins client first_net net ran
 ServedAsMet seen wrote serves met.Refused begins client first_net net (Err fault) = ⊥
 
 -- A link that was accepted was met, and served so.
-pub record MeetsAndServes {L : Type 0} (tells : L → Option Peer → Type 0) (accepts_header : Bool) (seen : L → Seen) (wrote : L → List ℕ → Type 0) (serves : Option Peer → L → L → NetSeen → NetSeen → Result Ran SessionFault → Type 0) (first client : L) (first_net net : NetSeen) (result : Result Ran SessionFault) : Type 0 where
+pub record MeetsAndServes {L : Type 0} (tells : L → Option Pair → Type 0) (accepts_header : Bool) (seen : L → Seen) (wrote : L → List ℕ → Type 0) (serves : Option Pair → L → L → NetSeen → NetSeen → Result Ran SessionFault → Type 0) (first client : L) (first_net net : NetSeen) (result : Result Ran SessionFault) : Type 0 where
   pub begins : L
   pub how : Met
   pub so : MetSo tells accepts_header seen wrote first begins how

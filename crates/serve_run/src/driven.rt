@@ -1,10 +1,10 @@
-//! Sessions that the driver runs, each over a core of its own, once it is known who asks.
+//! Sessions that the driver runs, each over a core of its own, once it is known who asks. The net is introduced by that first.
 ghost use Rattle.std.specs.Prelude.{◌≡◌, ℕ, [], false, List, Option, IfOk, OnOk};
 ghost use Rattle.px_peer.specs.declared.Peer.{Peer};
 ghost use Rattle.session_core.specs.History.{Past, nothing_yet};
 ghost use Rattle.px_link.specs.Link.{with_close};
 ghost use Rattle.px_link.specs.Net.{address_of};
-ghost use Rattle.serve_run.specs.Drove.{Drove};
+ghost use Rattle.serve_run.specs.Drove.{DrivesFor, Drove};
 ghost use Rattle.serve_run.specs.Met.{MeetsAndServes, unheard};
 
 use crate::{Ran, SessionFault, Sessions};
@@ -12,7 +12,7 @@ use htx_drive::weave::ResetsFor;
 use htx_drive::{MOST_READ, Machine, Resources, run_session};
 use px_link::{Address, Close, End, Link, Net, OutOfMemory, Turn, Turns};
 use px_peer::Peer;
-use px_proxyproto::{HasPeer, Met, meet};
+use px_proxyproto::{HasPair, Introduces, Met, heading_for, meet, source_of};
 use std::marker::PhantomData;
 
 /// Makes a core for each connection, and takes it back where its session came to its end.
@@ -43,6 +43,8 @@ pub struct Driven<'a, C, O> {
     pub to: &'a Address,
     /// Whether each client's stream begins with a header of the PROXY protocol, which then says who asks.
     pub accepts_header: bool,
+    /// The version of the header of the PROXY protocol that each connected link begins with, where one is sent. It tells the client's pair.
+    pub sends_header: Option<u32>,
     /// What each session reads into, with a budget of its own.
     resources: Resources,
     core: PhantomData<C>,
@@ -50,15 +52,17 @@ pub struct Driven<'a, C, O> {
 
 impl<'a, C: ResetsFor, O: Opens<C>> Driven<'a, C, O> {
     /// Sessions over cores of this opener.
-    pub fn new(opener: O, to: &'a Address, accepts_header: bool) -> Self
+    pub fn new(opener: O, to: &'a Address, accepts_header: bool, sends_header: Option<u32>) -> Self
         ensures opener { result.opener ≡ opener }
         ensures to { result.to.now ≡ to.now }
         ensures accepts_header { result.accepts_header ≡ accepts_header }
+        ensures sends_header { result.sends_header ≡ sends_header }
     {
         Driven {
             opener,
             to,
             accepts_header,
+            sends_header,
             resources: Resources {
                 left: BUDGET,
                 buffer: [0; MOST_READ],
@@ -163,29 +167,37 @@ fn turn_away<L: Link>(client: &mut L) -> Ran
     }
 }
 
-impl<'a, L: Link + HasPeer, N: Net<Link = L>, C: ResetsFor + Drop, O: Opens<C>> Sessions<N>
-    for Driven<'a, C, O> {
-    type Settings = (C::Settings, Address, bool);
+impl<
+    'a,
+    L: Link + HasPair,
+    N: Net<Link = L> + Introduces,
+    C: ResetsFor + Drop,
+    O: Opens<C>,
+> Sessions<N> for Driven<'a, C, O> {
+    type Settings = (C::Settings, Address, bool, Option<u32>);
 
-    ghost settings = { λ sessions. (O.settings sessions.opener, sessions.to.now, sessions.accepts_header) };
+    ghost settings = { λ sessions. (O.settings sessions.opener, sessions.to.now, sessions.accepts_header, sessions.sends_header) };
 
     ghost to = { λ settings. address_of settings.1 };
 
     ghost session = { λ settings first client first_net net result.
         MeetsAndServes L.tells settings.2 L.seen L.wrote
-        (λ peer begins client first_net net result. Drove C.meaning C.stands C.seen L.seen L.wrote (C.for_peer settings.0 peer) (address_of settings.1) begins client first_net net result)
+        (DrivesFor C.meaning C.stands C.seen L.seen L.wrote (C.for_peer settings.0) settings.3 (address_of settings.1))
         first client (N.seen first_net) (N.seen net) result };
 
     fn run(&mut self, client: &mut L, net: &mut N) -> Result<Ran, SessionFault> {
         match meet(client, self.accepts_header) {
-            Met::Caller(peer) => serve_caller::<C, N, O>(
-                &mut self.opener,
-                self.to,
-                peer,
-                client,
-                net,
-                &mut self.resources,
-            ),
+            Met::Caller(pair) => {
+                net.introduce(heading_for(self.sends_header, pair));
+                serve_caller::<C, N, O>(
+                    &mut self.opener,
+                    self.to,
+                    source_of(pair),
+                    client,
+                    net,
+                    &mut self.resources,
+                )
+            }
             Met::Refused => Ok(turn_away(client)),
         }
     }
