@@ -4,7 +4,7 @@ use Rattle.std.specs.Prelude.{is_some}
 use Rattle.session_model.specs.Meaning.{Meaning}
 use Rattle.session_core.specs.History.{Past}
 use Rattle.px_link.specs.Link.{Seen}
-use Rattle.px_peer.specs.declared.Peer.{Peer}
+use Rattle.px_peer.specs.declared.Pair.{Pair}
 use Rattle.px_link.specs.Net.{Place, NetSeen}
 use Rattle.htx_drive.specs.Machine.{CoreSeen}
 use Rattle.px_run.specs.Connection.{LookedSo}
@@ -24,9 +24,9 @@ pub looked_at_none : {C L N : Type 0} (at : Option (Connection C L N)) → at �
 looked_at_none None e = λ number ran. refl
 looked_at_none (Some c) e = cc
 
-module _ {C L N : Type 0} (M : Option Peer → Meaning) (stands : Option Peer → C → Past → Type 0) (sees : C → CoreSeen) (sound : C → Type 0) (seen : L → Seen) (wrote : L → List ℕ → Type 0) (tells : L → Option Peer → Type 0) (accepts_header : Bool) (sees_net : N → NetSeen) (to : Place) where
-  pub gave_up_some : (old_net net : NetSeen) (at : Option (Connection C L N)) (c : Connection C L N) → at ≡ Some c → GaveUp M stands sees sound seen wrote tells accepts_header sees_net to old_net net c → GaveUpAt M stands sees sound seen wrote tells accepts_header sees_net to old_net net at
-  gave_up_some old_net net at c e h = subst (λ (o : Option (Connection C L N)). GaveUpAt M stands sees sound seen wrote tells accepts_header sees_net to old_net net o) (sym e) h
+module _ {C L N : Type 0} (M : Option Pair → Meaning) (stands : Option Pair → C → Past → Type 0) (sees : C → CoreSeen) (sound : C → Type 0) (seen : L → Seen) (wrote : L → List ℕ → Type 0) (tells : L → Option Pair → Type 0) (accepts_header : Bool) (sends_header : Option ℕ) (sees_net : N → NetSeen) (to : Place) where
+  pub gave_up_some : (old_net net : NetSeen) (at : Option (Connection C L N)) (c : Connection C L N) → at ≡ Some c → GaveUp M stands sees sound seen wrote tells accepts_header sends_header sees_net to old_net net c → GaveUpAt M stands sees sound seen wrote tells accepts_header sends_header sees_net to old_net net at
+  gave_up_some old_net net at c e h = subst (λ (o : Option (Connection C L N)). GaveUpAt M stands sees sound seen wrote tells accepts_header sends_header sees_net to old_net net o) (sym e) h
 
-  pub gave_up_none : (net : NetSeen) (at : Option (Connection C L N)) → at ≡ None → GaveUpAt M stands sees sound seen wrote tells accepts_header sees_net to net net at
-  gave_up_none net at e = subst (λ (o : Option (Connection C L N)). GaveUpAt M stands sees sound seen wrote tells accepts_header sees_net to net net o) (sym e) refl
+  pub gave_up_none : (net : NetSeen) (at : Option (Connection C L N)) → at ≡ None → GaveUpAt M stands sees sound seen wrote tells accepts_header sends_header sees_net to net net at
+  gave_up_none net at e = subst (λ (o : Option (Connection C L N)). GaveUpAt M stands sees sound seen wrote tells accepts_header sends_header sees_net to net net o) (sym e) refl

@@ -13,7 +13,7 @@ use Rattle.px_run.specs.Course.{GoesOn}
 came_fresh : (s : Seen) → Came s s no_stream
 came_fresh s =
     record {
-      kind = record { ending = refl; plain = refl; takes = refl };
+      kind = record { ending = refl; plain = refl; takes = refl; manner = refl };
       bytes = λ xs e. record { rest = xs; bytes = refl; to_come = e; closed = λ f. cc; broke = λ p f. cc };
       taken = λ k e. let z : k ≡ k + 0 = omega arith in e ∙ ap (λ n. Some n) z;
       ended = refl;
@@ -34,6 +34,7 @@ dials_fresh : (to : Place) (net : NetSeen) → Dials to net net []
 dials_fresh to net =
     record {
       lent = refl;
+      manner = refl;
       plain = refl;
       coming = record { accepts = refl; bound = refl; binds = refl };
       dialled = inl refl;

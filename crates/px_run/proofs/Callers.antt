@@ -7,9 +7,10 @@ use Rattle.session_core.specs.History.{Past}
 use Rattle.http_model.specs.declared.Close.TheVariants.{Failed}
 use Rattle.px_link.specs.Link.{Seen, with_close}
 use Rattle.px_link.specs.Net.{Place, NetSeen}
-use Rattle.px_peer.specs.declared.Peer.{Peer}
+use Rattle.px_peer.specs.declared.Pair.{Pair}
 use Rattle.px_proxyproto.specs.Greeting.{GreetsSoFar}
 use Rattle.px_proxyproto.specs.Meeting.{Meets}
+use Rattle.px_proxyproto.specs.Nets.{heading_for, introduced}
 use Rattle.px_proxyproto.specs.Reading.{Read}
 use Rattle.px_proxyproto.specs.declared.meeting.Met.{Met}
 use Rattle.px_proxyproto.specs.declared.meeting.Met.TheVariants as met
@@ -19,12 +20,11 @@ use Rattle.htx_drive.specs.declared.SessionFault.{SessionFault}
 use Rattle.serve_run.specs.Met.{TurnedAway, unheard}
 use Rattle.px_run.specs.Course.{IsSame, IsSameServer, EndedOrLeft}
 use Rattle.px_run.specs.Connection.{IsWaiting, IsAt}
-use Rattle.px_run.specs.Callers.{peer_of, is_greeted, is_refused, IsCallerOf, ReadSo, IsServed, IsAtFor, CameAsMet, CameBack}
+use Rattle.px_run.specs.Callers.{pair_of, is_greeted, is_refused, net_for, IsCallerOf, ReadSo, IsServed, IsAtFor, CameAsMet, CameBack}
 use Rattle.px_run.specs.declared.caller.Caller.{Caller}
 use Rattle.px_run.specs.declared.caller.Caller.TheVariants as callers
 use Rattle.px_run.proofs.Asked.{same_link}
 use Rattle.px_run.proofs.Looks.{none_same, asked_at}
-use Rattle.px_run.proofs.Puts.{ended_written}
 
 -- what a greeter has read of a link
 pub reads_from : (caller : Caller) (greeter : Read) (first now : Seen) → caller ≡ callers.Greets greeter → ReadSo caller first now → GreetsSoFar greeter first now
@@ -44,11 +44,11 @@ module _ {C L : Type 0} (M : Meaning) (stands : C → Past → Type 0) (sees : C
   at_over client server net (Some ran) None e h = h.came
   at_over client server net (Some ran) (Some core) e h = absurd h
 
-module _ {C L : Type 0} (M : Option Peer → Meaning) (stands : Option Peer → C → Past → Type 0) (sees : C → CoreSeen) (sound : C → Type 0) (seen : L → Seen) (wrote : L → List ℕ → Type 0) (tells : L → Option Peer → Type 0) (accepts_header : Bool) (first : L) (to : Place) (first_net : NetSeen) where
+module _ {C L N : Type 0} (M : Option Pair → Meaning) (stands : Option Pair → C → Past → Type 0) (sees : C → CoreSeen) (sound : C → Type 0) (seen : L → Seen) (wrote : L → List ℕ → Type 0) (tells : L → Option Pair → Type 0) (accepts_header : Bool) (sends_header : Option ℕ) (sees_net : N → NetSeen) (first : L) (to : Place) (first_net : NetSeen) where
   -- ---- it was asked
 
   pub for_asked : (caller : Caller) (was client : L) (before server : Option L) (old net : NetSeen) (ran : Option (Result Ran SessionFault)) (held : Option C) → IsSame seen wrote was client → IsSameServer seen wrote before server → net ≡ old
-      → IsAtFor M stands sees sound seen wrote tells accepts_header first caller was before to first_net old ran held → IsAtFor M stands sees sound seen wrote tells accepts_header first caller client server to first_net net ran held
+      → IsAtFor M stands sees sound seen wrote tells accepts_header sends_header sees_net first caller was before to first_net old ran held → IsAtFor M stands sees sound seen wrote tells accepts_header sends_header sees_net first caller client server to first_net net ran held
   for_asked (callers.Greets greeter) was client before server old net ran held s t e h =
       let g = h.greeted in
       let P : Seen → Type 0 = λ k. GreetsSoFar greeter (seen first) k in
@@ -59,8 +59,8 @@ module _ {C L : Type 0} (M : Option Peer → Meaning) (stands : Option Peer → 
         goes_on = h.goes_on;
         no_core = h.no_core;
       }
-  for_asked (callers.Known peer) was client before server old net ran held s t e h =
-      record { begins = h.begins; met = h.met; at = asked_at (M peer) (stands peer) sees sound seen wrote h.begins to first_net was client before server old net ran held s t e h.at }
+  for_asked (callers.Known pair) was client before server old net ran held s t e h =
+      record { begins = h.begins; met = h.met; own = h.own; introduces = h.introduces; at = asked_at (M pair) (stands pair) sees sound seen wrote h.begins to (sees_net h.own) was client before server old net ran held s t e h.at }
   for_asked callers.Refused was client before server old net ran held s t e h =
       let a = h.away in
       record {
@@ -75,58 +75,60 @@ module _ {C L : Type 0} (M : Option Peer → Meaning) (stands : Option Peer → 
   -- ---- it was met, and goes on
 
   pub served_of : (caller : Caller) (client : L) (server : Option L) (net : NetSeen) (ran : Option (Result Ran SessionFault)) (held : Option C) → ran ≡ None → is_greeted caller ≡ false
-      → IsAtFor M stands sees sound seen wrote tells accepts_header first caller client server to first_net net ran held → IsServed M stands sees sound seen wrote tells accepts_header first client server to first_net net ran held (peer_of caller)
+      → IsAtFor M stands sees sound seen wrote tells accepts_header sends_header sees_net first caller client server to first_net net ran held → IsServed M stands sees sound seen wrote tells accepts_header sends_header sees_net first client server to first_net net ran held (pair_of caller)
   served_of (callers.Greets greeter) client server net ran held r e h = absurd (true≢false e)
-  served_of (callers.Known peer) client server net ran held r e h = h
+  served_of (callers.Known pair) client server net ran held r e h = h
   served_of callers.Refused client server net ran held r e h = absurd (false≢true (ap is_some (sym r ∙ h.over)))
 
   served_by : (caller : Caller) (was client : L) (before server : Option L) (old net : NetSeen) (ran_before ran : Option (Result Ran SessionFault)) (held_before held : Option C) → ran_before ≡ None → is_greeted caller ≡ false
-      → ((begins : L) → IsAt (M (peer_of caller)) (stands (peer_of caller)) sees sound seen wrote begins was before to first_net old ran_before held_before → IsAt (M (peer_of caller)) (stands (peer_of caller)) sees sound seen wrote begins client server to first_net net ran held)
-      → IsAtFor M stands sees sound seen wrote tells accepts_header first caller was before to first_net old ran_before held_before → IsAtFor M stands sees sound seen wrote tells accepts_header first caller client server to first_net net ran held
+      → ((begins : L) (own : N) → IsAt (M (pair_of caller)) (stands (pair_of caller)) sees sound seen wrote begins was before to (sees_net own) old ran_before held_before → IsAt (M (pair_of caller)) (stands (pair_of caller)) sees sound seen wrote begins client server to (sees_net own) net ran held)
+      → IsAtFor M stands sees sound seen wrote tells accepts_header sends_header sees_net first caller was before to first_net old ran_before held_before → IsAtFor M stands sees sound seen wrote tells accepts_header sends_header sees_net first caller client server to first_net net ran held
   served_by (callers.Greets greeter) was client before server old net ran_before ran held_before held r e k h = absurd (true≢false e)
-  served_by (callers.Known peer) was client before server old net ran_before ran held_before held r e k h = record { begins = h.begins; met = h.met; at = k h.begins h.at }
+  served_by (callers.Known pair) was client before server old net ran_before ran held_before held r e k h = record { begins = h.begins; met = h.met; own = h.own; introduces = h.introduces; at = k h.begins h.own h.at }
   served_by callers.Refused was client before server old net ran_before ran held_before held r e k h = absurd (false≢true (ap is_some (sym r ∙ h.over)))
 
   -- behind what was done with its session
   pub served_on : (caller next : Caller) (was client : L) (before server : Option L) (old net : NetSeen) (ran_before ran : Option (Result Ran SessionFault)) (held_before held : Option C) → ran_before ≡ None → is_greeted caller ≡ false → next ≡ caller
-      → ((begins : L) → IsAt (M (peer_of caller)) (stands (peer_of caller)) sees sound seen wrote begins was before to first_net old ran_before held_before → IsAt (M (peer_of caller)) (stands (peer_of caller)) sees sound seen wrote begins client server to first_net net ran held)
-      → IsAtFor M stands sees sound seen wrote tells accepts_header first caller was before to first_net old ran_before held_before → IsAtFor M stands sees sound seen wrote tells accepts_header first next client server to first_net net ran held
+      → ((begins : L) (own : N) → IsAt (M (pair_of caller)) (stands (pair_of caller)) sees sound seen wrote begins was before to (sees_net own) old ran_before held_before → IsAt (M (pair_of caller)) (stands (pair_of caller)) sees sound seen wrote begins client server to (sees_net own) net ran held)
+      → IsAtFor M stands sees sound seen wrote tells accepts_header sends_header sees_net first caller was before to first_net old ran_before held_before → IsAtFor M stands sees sound seen wrote tells accepts_header sends_header sees_net first next client server to first_net net ran held
   served_on caller next was client before server old net ran_before ran held_before held r e same k h =
-      let P : Caller → Type 0 = λ o. IsAtFor M stands sees sound seen wrote tells accepts_header first o client server to first_net net ran held in
+      let P : Caller → Type 0 = λ o. IsAtFor M stands sees sound seen wrote tells accepts_header sends_header sees_net first o client server to first_net net ran held in
       subst P (sym same) (served_by caller was client before server old net ran_before ran held_before held r e k h)
 
   -- ---- a header was read
 
-  -- it goes on, or it was met
-  pub heard : (caller next : Caller) (was client : L) (server : Option L) (net : NetSeen) (ran : Option (Result Ran SessionFault)) (held : Option C) → is_greeted caller ≡ true → is_refused next ≡ false
-      → ((s : Seen) → ReadSo caller s (seen was) → ReadSo next s (seen client)) → ((bytes : List ℕ) → wrote was bytes → wrote client bytes)
-      → IsAtFor M stands sees sound seen wrote tells accepts_header first caller was server to first_net net ran held → IsAtFor M stands sees sound seen wrote tells accepts_header first next client server to first_net net ran held
-  heard (callers.Greets greeter) (callers.Greets behind) was client server net ran held e f reads more h =
+  -- it goes on, or it was met, and its net is to introduce it
+  pub heard : (caller next : Caller) (was client : L) (server : Option L) (old : NetSeen) (net : N) (ran : Option (Result Ran SessionFault)) (held : Option C) → is_greeted caller ≡ true → is_refused next ≡ false
+      → ((s : Seen) → ReadSo caller s (seen was) → ReadSo next s (seen client)) → ((bytes : List ℕ) → wrote was bytes → wrote client bytes) → sees_net net ≡ net_for sends_header next old
+      → IsAtFor M stands sees sound seen wrote tells accepts_header sends_header sees_net first caller was server to first_net old ran held → IsAtFor M stands sees sound seen wrote tells accepts_header sends_header sees_net first next client server to first_net (sees_net net) ran held
+  heard (callers.Greets greeter) (callers.Greets behind) was client server old net ran held e f reads more n h =
       let g = h.greeted in
       record {
         greeted = record { accepts = g.accepts; so_far = reads (seen first) g.so_far; written = λ bytes w. more bytes (g.written bytes w) };
         no_server = h.no_server;
-        same_net = h.same_net;
+        same_net = n ∙ h.same_net;
         goes_on = h.goes_on;
         no_core = h.no_core;
       }
-  heard (callers.Greets greeter) (callers.Known peer) was client server net ran held e f reads more h =
+  heard (callers.Greets greeter) (callers.Known pair) was client server old net ran held e f reads more n h =
       let g = h.greeted in
-      let P : Bool → Type 0 = λ b. Meets tells b first (seen first) (seen client) (met.Caller peer) in
+      let P : Bool → Type 0 = λ b. Meets tells b first (seen first) (seen client) (met.Caller pair) in
       record {
         begins = client;
         met = record { meets = subst P (sym g.accepts) (reads (seen first) g.so_far); written = λ bytes w. more bytes (g.written bytes w) };
-        at = waiting_at (M peer) (stands peer) sees sound seen wrote client to first_net client server net ran held h.goes_on h.no_core (record { same = same_link seen wrote client; no_server = h.no_server; same_net = h.same_net });
+        own = net;
+        introduces = n ∙ ap (λ k. introduced (heading_for sends_header pair) k) h.same_net;
+        at = waiting_at (M pair) (stands pair) sees sound seen wrote client to (sees_net net) client server (sees_net net) ran held h.goes_on h.no_core (record { same = same_link seen wrote client; no_server = h.no_server; same_net = refl });
       }
-  heard (callers.Greets greeter) callers.Refused was client server net ran held e f reads more h = absurd (true≢false f)
-  heard (callers.Known peer) next was client server net ran held e f reads more h = absurd (false≢true e)
-  heard callers.Refused next was client server net ran held e f reads more h = absurd (false≢true e)
+  heard (callers.Greets greeter) callers.Refused was client server old net ran held e f reads more n h = absurd (true≢false f)
+  heard (callers.Known pair) next was client server old net ran held e f reads more n h = absurd (false≢true e)
+  heard callers.Refused next was client server old net ran held e f reads more n h = absurd (false≢true e)
 
   -- there is none, and its client was turned away
   pub turned_away : (caller next : Caller) (was begins client : L) (before server : Option L) (old net : NetSeen) (ran_before ran : Option (Result Ran SessionFault)) (held : Option C) → is_greeted caller ≡ true → is_refused next ≡ true
       → ((s : Seen) → ReadSo caller s (seen was) → ReadSo next s (seen begins)) → ((bytes : List ℕ) → wrote was bytes → wrote begins bytes)
       → TurnedAway seen wrote begins client old net unheard → server ≡ before → ran ≡ Some (Ok unheard)
-      → IsAtFor M stands sees sound seen wrote tells accepts_header first caller was before to first_net old ran_before held → IsAtFor M stands sees sound seen wrote tells accepts_header first next client server to first_net net ran held
+      → IsAtFor M stands sees sound seen wrote tells accepts_header sends_header sees_net first caller was before to first_net old ran_before held → IsAtFor M stands sees sound seen wrote tells accepts_header sends_header sees_net first next client server to first_net net ran held
   turned_away (callers.Greets greeter) callers.Refused was begins client before server old net ran_before ran held e f reads more a t o h =
       let g = h.greeted in
       let P : Bool → Type 0 = λ b. Meets tells b first (seen first) (seen begins) met.Refused in
@@ -139,61 +141,58 @@ module _ {C L : Type 0} (M : Option Peer → Meaning) (stands : Option Peer → 
         no_core = h.no_core;
       }
   turned_away (callers.Greets greeter) (callers.Greets behind) was begins client before server old net ran_before ran held e f reads more a t o h = absurd (false≢true f)
-  turned_away (callers.Greets greeter) (callers.Known peer) was begins client before server old net ran_before ran held e f reads more a t o h = absurd (false≢true f)
-  turned_away (callers.Known peer) next was begins client before server old net ran_before ran held e f reads more a t o h = absurd (false≢true e)
+  turned_away (callers.Greets greeter) (callers.Known pair) was begins client before server old net ran_before ran held e f reads more a t o h = absurd (false≢true f)
+  turned_away (callers.Known pair) next was begins client before server old net ran_before ran held e f reads more a t o h = absurd (false≢true e)
   turned_away callers.Refused next was begins client before server old net ran_before ran held e f reads more a t o h = absurd (false≢true e)
 
   -- ---- what it came to
 
   -- it has ended
   pub came_back : (caller : Caller) (client : L) (server : Option L) (net : NetSeen) (ran : Option (Result Ran SessionFault)) (held : Option C) → is_some ran ≡ true
-      → IsAtFor M stands sees sound seen wrote tells accepts_header first caller client server to first_net net ran held → CameBack M stands sees seen wrote tells accepts_header first client to first_net net ran
+      → IsAtFor M stands sees sound seen wrote tells accepts_header sends_header sees_net first caller client server to first_net net ran held → CameBack M stands sees seen wrote tells accepts_header sends_header first client to first_net net ran
   came_back (callers.Greets greeter) client server net ran held e h = absurd (false≢true (ap is_some (sym h.goes_on) ∙ e))
-  came_back (callers.Known peer) client server net ran held e h =
-      inl (record { begins = h.begins; how = met.Caller peer; so = h.met; came = at_over (M peer) (stands peer) sees sound seen wrote h.begins to first_net client server net ran held e h.at })
+  came_back (callers.Known pair) client server net ran held e h =
+      let P : NetSeen → Type 0 = λ n. EndedOrLeft (M pair) (stands pair) sees seen wrote h.begins client to n net ran in
+      inl (record { begins = h.begins; how = met.Caller pair; so = h.met; came = subst P h.introduces (at_over (M pair) (stands pair) sees sound seen wrote h.begins to (sees_net h.own) client server net ran held e h.at) })
   came_back callers.Refused client server net ran held e h =
-      let P : Option (Result Ran SessionFault) → Type 0 = λ r. CameAsMet M stands sees seen wrote met.Refused h.begins client to first_net net r in
+      let P : Option (Result Ran SessionFault) → Type 0 = λ r. CameAsMet M stands sees seen wrote sends_header met.Refused h.begins client to first_net net r in
       inl (record { begins = h.begins; how = met.Refused; so = h.met; came = subst P (sym h.over) h.away })
 
   -- it was given up while a header was read
   pub left_greeted : (caller : Caller) (was client : L) (server : Option L) (net : NetSeen) (ran : Option (Result Ran SessionFault)) (held : Option C) → is_greeted caller ≡ true
       → seen client ≡ with_close (seen was) Failed → ((bytes : List ℕ) → wrote was bytes → wrote client bytes)
-      → IsAtFor M stands sees sound seen wrote tells accepts_header first caller was server to first_net net ran held → CameBack M stands sees seen wrote tells accepts_header first client to first_net net ran
+      → IsAtFor M stands sees sound seen wrote tells accepts_header sends_header sees_net first caller was server to first_net net ran held → CameBack M stands sees seen wrote tells accepts_header sends_header first client to first_net net ran
   left_greeted (callers.Greets greeter) was client server net ran held e closed written h =
       inr (record { begins = was; greeter = greeter; greeted = h.greeted; untouched = record { closed = closed; written = written; same_net = h.same_net; paid_none = refl }; none = h.goes_on })
-  left_greeted (callers.Known peer) was client server net ran held e closed written h = absurd (false≢true e)
+  left_greeted (callers.Known pair) was client server net ran held e closed written h = absurd (false≢true e)
   left_greeted callers.Refused was client server net ran held e closed written h = absurd (false≢true e)
 
   -- it was given up behind that
   pub left_served : (caller : Caller) (was client : L) (server : Option L) (old net : NetSeen) (ran : Option (Result Ran SessionFault)) (held : Option C) → ran ≡ None → is_greeted caller ≡ false
-      → ((begins : L) → IsAt (M (peer_of caller)) (stands (peer_of caller)) sees sound seen wrote begins was server to first_net old ran held → EndedOrLeft (M (peer_of caller)) (stands (peer_of caller)) sees seen wrote begins client to first_net net ran)
-      → IsAtFor M stands sees sound seen wrote tells accepts_header first caller was server to first_net old ran held → CameBack M stands sees seen wrote tells accepts_header first client to first_net net ran
+      → ((begins : L) (own : N) → IsAt (M (pair_of caller)) (stands (pair_of caller)) sees sound seen wrote begins was server to (sees_net own) old ran held → EndedOrLeft (M (pair_of caller)) (stands (pair_of caller)) sees seen wrote begins client to (sees_net own) net ran)
+      → IsAtFor M stands sees sound seen wrote tells accepts_header sends_header sees_net first caller was server to first_net old ran held → CameBack M stands sees seen wrote tells accepts_header sends_header first client to first_net net ran
   left_served caller was client server old net ran held r e k h =
       let s = served_of caller was server old ran held r e h in
-      inl (record { begins = s.begins; how = met.Caller (peer_of caller); so = s.met; came = k s.begins s.at })
-
-  -- something was written, behind what was there
-  as_met_written : (how : Met) (begins client : L) (net : NetSeen) (came : Option (Result Ran SessionFault)) → CameAsMet M stands sees seen wrote how begins client to first_net net came → wrote begins [] → (bytes : List ℕ) × wrote client bytes
-  as_met_written (met.Caller peer) begins client net came h w = ended_written (M peer) (stands peer) sees seen wrote begins client to first_net net came h w
-  as_met_written met.Refused begins client net None h w = absurd h
-  as_met_written met.Refused begins client net (Some (Ok ran)) h w = ([], h.written [] w)
-  as_met_written met.Refused begins client net (Some (Err fault)) h w = absurd h
-
-  pub back_written : (client : L) (net : NetSeen) (came : Option (Result Ran SessionFault)) → CameBack M stands sees seen wrote tells accepts_header first client to first_net net came → wrote first [] → (bytes : List ℕ) × wrote client bytes
-  back_written client net came (inl h) w = let so = h.so in as_met_written h.how h.begins client net came h.came (so.written [] w)
-  back_written client net came (inr h) w = let g = h.greeted in let u = h.untouched in ([], u.written [] (g.written [] w))
+      let P : NetSeen → Type 0 = λ n. EndedOrLeft (M (pair_of caller)) (stands (pair_of caller)) sees seen wrote s.begins client to n net ran in
+      inl (record { begins = s.begins; how = met.Caller (pair_of caller); so = s.met; came = subst P s.introduces (k s.begins s.own s.at) })
 
 -- ---- it was accepted
 
-module _ {C L : Type 0} (M : Option Peer → Meaning) (stands : Option Peer → C → Past → Type 0) (sees : C → CoreSeen) (sound : C → Type 0) (seen : L → Seen) (wrote : L → List ℕ → Type 0) (tells : L → Option Peer → Type 0) (first : L) (to : Place) (first_net : NetSeen) where
-  pub for_new : (accepts_header : Bool) (caller : Caller) (client : L) (server : Option L) (net : NetSeen) (ran : Option (Result Ran SessionFault)) (held : Option C) → IsCallerOf tells accepts_header first caller
-      → IsSame seen wrote first client → net ≡ first_net → server ≡ None → ran ≡ None → held ≡ None → IsAtFor M stands sees sound seen wrote tells accepts_header first caller client server to first_net net ran held
+module _ {C L N : Type 0} (M : Option Pair → Meaning) (stands : Option Pair → C → Past → Type 0) (sees : C → CoreSeen) (sound : C → Type 0) (seen : L → Seen) (wrote : L → List ℕ → Type 0) (tells : L → Option Pair → Type 0) (sends_header : Option ℕ) (sees_net : N → NetSeen) (first : L) (to : Place) (first_net : NetSeen) where
+  pub for_new : (accepts_header : Bool) (caller : Caller) (client : L) (server : Option L) (net : N) (ran : Option (Result Ran SessionFault)) (held : Option C) → IsCallerOf tells accepts_header first caller
+      → IsSame seen wrote first client → sees_net net ≡ net_for sends_header caller first_net → server ≡ None → ran ≡ None → held ≡ None → IsAtFor M stands sees sound seen wrote tells accepts_header sends_header sees_net first caller client server to first_net (sees_net net) ran held
   for_new true (callers.Greets greeter) client server net ran held k s e n r c =
       let P : Seen → Type 0 = λ t. GreetsSoFar greeter (seen first) t in
       record { greeted = record { accepts = refl; so_far = subst P (sym s.told) (k (seen first)); written = s.written }; no_server = n; same_net = e; goes_on = r; no_core = c }
-  for_new true (callers.Known peer) client server net ran held k s e n r c = absurd k
+  for_new true (callers.Known pair) client server net ran held k s e n r c = absurd k
   for_new true callers.Refused client server net ran held k s e n r c = absurd k
   for_new false (callers.Greets greeter) client server net ran held k s e n r c = absurd k
-  for_new false (callers.Known peer) client server net ran held k s e n r c =
-      record { begins = first; met = record { meets = (k, refl); written = λ bytes w. w }; at = waiting_at (M peer) (stands peer) sees sound seen wrote first to first_net client server net ran held r c (record { same = s; no_server = n; same_net = e }) }
+  for_new false (callers.Known pair) client server net ran held k s e n r c =
+      record {
+        begins = first;
+        met = record { meets = (k, refl); written = λ bytes w. w };
+        own = net;
+        introduces = e;
+        at = waiting_at (M pair) (stands pair) sees sound seen wrote first to (sees_net net) client server (sees_net net) ran held r c (record { same = s; no_server = n; same_net = refl });
+      }
   for_new false callers.Refused client server net ran held k s e n r c = absurd k

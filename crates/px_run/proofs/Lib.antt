@@ -4,8 +4,8 @@ mod Courses
 mod Sets
 mod Begins
 mod Looks
-mod Puts
 mod Callers
+mod Manners
 mod Numbers
 mod Halls
 mod Texts

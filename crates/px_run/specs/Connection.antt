@@ -4,6 +4,8 @@ use Rattle.std.specs.List.{AllByRecursion}
 use Rattle.session_model.specs.Meaning.{Meaning}
 use Rattle.session_core.specs.History.{Past}
 use Rattle.px_peer.specs.declared.Peer.{Peer}
+use Rattle.px_peer.specs.declared.Pair.{Pair}
+use Rattle.px_proxyproto.specs.Meeting.{source_in}
 use Rattle.htx_drive.specs.Weave.State.{IsFresh}
 use Rattle.px_link.specs.Link.{Seen}
 use Rattle.px_link.specs.Net.{Place, NetSeen}
@@ -23,12 +25,12 @@ abbrev pub ◌∘◌ {ℓ} : {A B : Type 0} {R : Type ℓ} → (B → R) → (A 
 g ∘ f = λ a. g (f a)
 
 -- nothing has happened to a core, whosever connection it is to serve
-abbrev pub IsFreshFor : {C : Type 0} → (stands : Option Peer → C → Past → Type 0) → C → Type 0
-IsFreshFor stands core = (peer : Option Peer) × IsFresh (stands peer) core
+abbrev pub IsFreshFor : {C : Type 0} → (stands : Option Pair → C → Past → Type 0) → C → Type 0
+IsFreshFor stands core = (pair : Option Pair) × IsFresh (stands pair) core
 
 -- nothing has happened to any of these cores, whosever connections they are to serve under this configuration
 abbrev pub AllFreshFor : {C S : Type 0} → (stands : S → C → Past → Type 0) → (for_peer : S → Option Peer → S) → (cfg : S) → List C → Type 0
-AllFreshFor stands for_peer cfg sets = AllByRecursion (IsFreshFor (stands ∘ for_peer cfg)) sets
+AllFreshFor stands for_peer cfg sets = AllByRecursion (IsFreshFor (stands ∘ for_peer cfg ∘ source_in)) sets
 
 -- nothing of it was touched
 pub record IsWaiting {L : Type 0} (seen : L → Seen) (wrote : L → List ℕ → Type 0) (first client : L) (server : Option L) (first_net net : NetSeen) : Type 0 where

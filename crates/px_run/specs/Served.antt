@@ -3,9 +3,9 @@ use Rattle.std.specs.Prelude.{◌≡◌, ℕ, ◌+◌, ◌==◌, ◌≤◌, ◌�
 use Rattle.std.specs.List.{AllByRecursion}
 use Rattle.session_model.specs.Meaning.{Meaning}
 use Rattle.session_core.specs.History.{Past}
-use Rattle.px_link.specs.Link.{Seen}
-use Rattle.px_peer.specs.declared.Peer.{Peer}
-use Rattle.px_link.specs.Net.{Place, Coming, Kept, NetSeen, new_link}
+use Rattle.px_link.specs.Link.{Seen, AsItIs, PassesOn}
+use Rattle.px_peer.specs.declared.Pair.{Pair}
+use Rattle.px_link.specs.Net.{Place, Coming, Kept, NetSeen, new_link, kept_link}
 use Rattle.px_link.specs.Told.{Rose, Gains, GainsFront}
 use Rattle.htx_drive.specs.Machine.{CoreSeen}
 use Rattle.serve_run.specs.declared.outcome.Outcome.{Outcome}
@@ -32,12 +32,13 @@ WritesLines false writes writes_now old new text = GainsFront old new text
 abbrev pub HasOutcome : {L N : Type 0} → Visit L N → Type 0
 HasOutcome visit = (outcome : Outcome) × (visit.came ≡ Some (answer_of outcome))
 
--- A link that was kept is that of the connection of its number, as it was given back, with all that was written to it.
+-- A link that was kept is that of the connection of its number, as it was given back: it passed on what was written to it, as it is.
 pub record IsKeptOf {L N : Type 0} (seen : L → Seen) (wrote : L → List ℕ → Type 0) (visits : List (Visit L N)) (one : ℕ × Kept) : Type 0 where
   pub link : L
-  pub is : links_back (numbered one.0 visits) ≡ link ∷ []
-  pub told : one.1.seen ≡ seen link
-  pub written : wrote link one.1.wrote
+  pub back : links_back (numbered one.0 visits) ≡ link ∷ []
+  pub is : one.1 ≡ kept_link (seen link) one.1.wrote
+  pub as_it_is : (seen link).manner ≡ AsItIs
+  pub written : (text : List ℕ) → wrote link text → PassesOn (seen link).manner one.1.wrote text
 
 -- how many of them are of this number
 abbrev pub times_in : (number : ℕ) → List (ℕ × Kept) → ℕ
@@ -51,7 +52,8 @@ pub record TellsMany {L N : Type 0} (seen : L → Seen) (wrote : L → List ℕ 
   pub later : List Coming
   pub front : coming ≡ accepted ++ later
   pub accepts : now.accepts ≡ Some later
-  pub firsts : map (λ (visit : Visit L N). seen visit.first) visits ≡ map new_link accepted
+  pub firsts : map (λ (visit : Visit L N). seen visit.first) visits ≡ map (new_link AsItIs) accepted
+  pub unwritten : AllByRecursion (λ (visit : Visit L N). wrote visit.first []) visits
   pub links : List (ℕ × Kept)
   pub kept : now.kept ≡ Some (before ++ map (λ (one : ℕ × Kept). one.1) links)
   pub each : AllByRecursion (IsKeptOf seen wrote visits) links
@@ -59,11 +61,11 @@ pub record TellsMany {L N : Type 0} (seen : L → Seen) (wrote : L → List ℕ 
 
 -- From the one net to the other these connections were accepted. Each was met and then served or turned away, or was given up, and was given back. The lines of those that came to an outcome
 -- were written, each once. Behind `Ok` each has an outcome, and they are as many as were asked for, unless the caller accepts no more.
-pub record ServedMany {C L N : Type 0} (M : Option Peer → Meaning) (stands : Option Peer → C → Past → Type 0) (sees : C → CoreSeen) (seen : L → Seen) (wrote : L → List ℕ → Type 0) (tells : L → Option Peer → Type 0) (accepts_header : Bool) (sees_net : N → NetSeen) (to : Place) (most : Option ℕ) (accepts_none : Type 0) (begun now : NetSeen) (writes writes_now : ℕ) (old new : Option (List ℕ)) (answer : Result (Unit {0}) RunFault) : Type 0 where
+pub record ServedMany {C L N : Type 0} (M : Option Pair → Meaning) (stands : Option Pair → C → Past → Type 0) (sees : C → CoreSeen) (seen : L → Seen) (wrote : L → List ℕ → Type 0) (tells : L → Option Pair → Type 0) (accepts_header : Bool) (sends_header : Option ℕ) (sees_net : N → NetSeen) (to : Place) (most : Option ℕ) (accepts_none : Type 0) (begun now : NetSeen) (writes writes_now : ℕ) (old new : Option (List ℕ)) (answer : Result (Unit {0}) RunFault) : Type 0 where
   pub visits : List (Visit L N)
   pub ended : List Ended
   pub story : Story seen wrote begun now visits ended
-  pub each : AllByRecursion (IsVisit M stands sees seen wrote tells accepts_header sees_net to) visits
+  pub each : AllByRecursion (IsVisit M stands sees seen wrote tells accepts_header sends_header sees_net to) visits
   pub all_back : AllByRecursion (λ (visit : Visit L N). is_some visit.back ≡ true) visits
   pub outcomes : OnOk answer (AllByRecursion HasOutcome visits)
   pub within : IfSome most (λ count. length visits ≤ count)

@@ -4,17 +4,18 @@ ghost use Rattle.px_link.specs.Net.{Place};
 ghost use Rattle.px_run.specs.declared.connection.Connection.{Connection};
 ghost use Rattle.px_run.specs.Course.{IsNewNet};
 ghost use Rattle.px_run.specs.History.{Visit, new_visit};
+ghost use Rattle.px_proxyproto.specs.Meeting.{source_in};
 ghost use Rattle.px_run.specs.Connection.{◌∘◌};
 ghost use Rattle.px_run.specs.Hall.{AllStand, count_taken, IsSameNet, IsBalanced, KeepsAll};
 
 use crate::agenda::Agenda;
-use crate::caller::caller_of;
+use crate::caller::{caller_of, introduce};
 use crate::connection::Connection;
 use crate::hall::Hall;
 use crate::{Nets, Plan, RunFault};
 use htx_drive::weave::{Conn, ResetsFor};
 use px_link::{Fault, OutOfMemory, Waits, WaitsNet, Wakes};
-use px_proxyproto::HasPeer;
+use px_proxyproto::{HasPair, Introduces};
 
 /// Whether as many links were accepted as are to be, or as the number of a connection counts.
 fn has_all(accepted: u32, connections: Option<u32>) -> bool
@@ -71,26 +72,26 @@ fn put<T>(at: &mut Option<T>, value: T)
     }
 }
 
-/// A connection over a link that was accepted, at a place at which none is.
-fn take_in<C: ResetsFor + Drop, L: Waits + HasPeer, N: WaitsNet<Link = L>, W: Wakes<N>>(
-    hall: &mut Hall<C, L, N>,
-    place: usize,
-    link: L,
-    own: N,
-    wakes: &mut W,
-    accepts_header: bool,
-)
+/// A connection over a link that was accepted, at a place at which none is. Its net is to introduce it already where it is known who asks.
+fn take_in<
+    C: ResetsFor + Drop,
+    L: Waits + HasPair,
+    N: WaitsNet<Link = L> + Introduces,
+    W: Wakes<N>,
+>(hall: &mut Hall<C, L, N>, place: usize, link: L, own: N, wakes: &mut W, plan: &Plan)
     requires within { place < length hall.old.places.items }
     requires none { (d : Option (Connection C L N)) → slice_index_or hall.old.places.items place d ≡ None }
     requires more { hall.old.accepted < 2 ^ 32 - 1 }
     requires own { IsNewNet (N.seen own) }
-    ensures stands { (cfg : C.Settings) (to : Place) (visits : List (Visit L N)) → hall.old.accepted ≡ length visits → AllStand (C.meaning ∘ C.for_peer cfg) (C.stands ∘ C.for_peer cfg) C.seen C.sound L.seen L.wrote L.tells accepts_header N.seen to visits hall.old.places.items hall.old.sets.items
-        → AllStand (C.meaning ∘ C.for_peer cfg) (C.stands ∘ C.for_peer cfg) C.seen C.sound L.seen L.wrote L.tells accepts_header N.seen to (visits ++ new_visit link own ∷ []) hall.new.places.items hall.new.sets.items }
+    ensures stands { (cfg : C.Settings) (to : Place) (visits : List (Visit L N)) → hall.old.accepted ≡ length visits → AllStand (C.meaning ∘ C.for_peer cfg ∘ source_in) (C.stands ∘ C.for_peer cfg ∘ source_in) C.seen C.sound L.seen L.wrote L.tells plan.now.accepts_header plan.now.sends_header N.seen to visits hall.old.places.items hall.old.sets.items
+        → AllStand (C.meaning ∘ C.for_peer cfg ∘ source_in) (C.stands ∘ C.for_peer cfg ∘ source_in) C.seen C.sound L.seen L.wrote L.tells plan.now.accepts_header plan.now.sends_header N.seen to (visits ++ new_visit link own ∷ []) hall.new.places.items hall.new.sets.items }
     ensures accepted { hall.new.accepted ≡ hall.old.accepted + 1 }
     ensures output { hall.new.output ≡ hall.old.output }
     ensures taken { count_taken hall.new.places.items ≡ 1 + count_taken hall.old.places.items }
 {
-    let caller = caller_of(&link, accepts_header);
+    let caller = caller_of(&link, plan.accepts_header);
+    let mut own = own;
+    introduce(&caller, &mut own, plan.sends_header);
     let mut link = link;
     wakes.watch_client(place, &mut link);
     hall.accepted += 1;
@@ -106,8 +107,8 @@ fn take_in<C: ResetsFor + Drop, L: Waits + HasPeer, N: WaitsNet<Link = L>, W: Wa
 /// Accepts a link at a place at which no connection is.
 fn accept<
     C: ResetsFor + Drop,
-    L: Waits + HasPeer,
-    N: WaitsNet<Link = L> + Drop,
+    L: Waits + HasPair,
+    N: WaitsNet<Link = L> + Introduces + Drop,
     S: Nets<N>,
     W: Wakes<N>,
 >(
@@ -116,12 +117,12 @@ fn accept<
     net: &mut N,
     nets: &mut S,
     wakes: &mut W,
-    accepts_header: bool,
+    plan: &Plan,
 ) -> Result<(), Fault>
     requires within { place < length hall.old.places.items }
     requires none { (d : Option (Connection C L N)) → slice_index_or hall.old.places.items place d ≡ None }
     requires more { hall.old.accepted < 2 ^ 32 - 1 }
-    ensures goes { KeepsAll C.meaning C.stands C.for_peer C.seen C.sound L.seen L.wrote L.tells accepts_header N.seen net.old net.new hall.old hall.new }
+    ensures goes { KeepsAll C.meaning C.stands C.for_peer C.seen C.sound L.seen L.wrote L.tells plan.now.accepts_header plan.now.sends_header N.seen net.old net.new hall.old hall.new }
     ensures accepted { hall.new.accepted ≤ hall.old.accepted + 1 }
     ensures balanced { IsBalanced (N.seen net.old) (N.seen net.new) hall.old.places.items hall.new.places.items }
     ensures net { IsSameNet (N.seen net.old) (N.seen net.new) }
@@ -132,7 +133,7 @@ fn accept<
     };
     match net.accept() {
         Ok(link) => {
-            take_in(hall, place, link, own, wakes, accepts_header);
+            take_in(hall, place, link, own, wakes, plan);
             Ok(())
         }
         Err(Fault::Failed) => Err(Fault::Failed),
@@ -153,8 +154,8 @@ fn is_free<C, L, N>(places: &[Option<Connection<C, L, N>>], place: usize) -> boo
 /// Accepts a link where one waits, and answers whether another may be accepted at once.
 fn accept_next<
     C: ResetsFor + Drop,
-    L: Waits + HasPeer,
-    N: WaitsNet<Link = L> + Drop,
+    L: Waits + HasPair,
+    N: WaitsNet<Link = L> + Introduces + Drop,
     S: Nets<N>,
     W: Wakes<N>,
 >(
@@ -165,7 +166,7 @@ fn accept_next<
     wakes: &mut W,
     plan: &Plan,
 ) -> Result<bool, RunFault>
-    ensures goes { KeepsAll C.meaning C.stands C.for_peer C.seen C.sound L.seen L.wrote L.tells plan.now.accepts_header N.seen net.old net.new hall.old hall.new }
+    ensures goes { KeepsAll C.meaning C.stands C.for_peer C.seen C.sound L.seen L.wrote L.tells plan.now.accepts_header plan.now.sends_header N.seen net.old net.new hall.old hall.new }
     ensures within { IfSome plan.now.connections (λ count. hall.old.accepted ≤ count → hall.new.accepted ≤ count) }
     ensures balanced { IsBalanced (N.seen net.old) (N.seen net.new) hall.old.places.items hall.new.places.items }
     ensures net { IsSameNet (N.seen net.old) (N.seen net.new) }
@@ -186,7 +187,7 @@ fn accept_next<
     if !is_free(&hall.places, place) {
         return Ok(false);
     }
-    match accept(hall, place, net, nets, wakes, plan.accepts_header) {
+    match accept(hall, place, net, nets, wakes, plan) {
         Ok(()) => match agenda.begin(place, hall.tools.now, &plan.times) {
             Ok(()) => Ok(true),
             Err(OutOfMemory) => Err(RunFault::OutOfMemory),
@@ -202,8 +203,8 @@ fn accept_next<
 /// Accepts the links that wait, while places are free.
 pub(crate) fn accepts<
     C: ResetsFor + Drop,
-    L: Waits + HasPeer,
-    N: WaitsNet<Link = L> + Drop,
+    L: Waits + HasPair,
+    N: WaitsNet<Link = L> + Introduces + Drop,
     S: Nets<N>,
     W: Wakes<N>,
 >(
@@ -214,7 +215,7 @@ pub(crate) fn accepts<
     wakes: &mut W,
     plan: &Plan,
 ) -> Result<(), RunFault>
-    ensures goes { KeepsAll C.meaning C.stands C.for_peer C.seen C.sound L.seen L.wrote L.tells plan.now.accepts_header N.seen net.old net.new hall.old hall.new }
+    ensures goes { KeepsAll C.meaning C.stands C.for_peer C.seen C.sound L.seen L.wrote L.tells plan.now.accepts_header plan.now.sends_header N.seen net.old net.new hall.old hall.new }
     ensures within { IfSome plan.now.connections (λ count. hall.old.accepted ≤ count → hall.new.accepted ≤ count) }
     ensures balanced { IsBalanced (N.seen net.old) (N.seen net.new) hall.old.places.items hall.new.places.items }
     ensures net { IsSameNet (N.seen net.old) (N.seen net.new) }

@@ -1,29 +1,29 @@
 //! Who asks over a connection: what its link tells, or the header of the PROXY protocol that its client's stream begins with, which is read piece by piece.
 ghost use Rattle.std.specs.Prelude.{◌≡◌, ℕ, List, true};
 ghost use Rattle.px_link.specs.Link.{Seen};
-ghost use Rattle.px_run.specs.Callers.{peer_of, is_greeted, is_refused, IsCallerOf, ReadSo};
+ghost use Rattle.px_run.specs.Callers.{pair_of, is_greeted, is_refused, net_for, IsCallerOf, ReadSo, ReadMore};
 
 use px_link::Link;
-use px_proxyproto::{Greeter, Greeting, HasPeer, Peer, source_of};
+use px_proxyproto::{Greeter, Greeting, HasPair, Introduces, Pair, heading_for};
 
 /// Who asks over a connection.
 #[derive(Drop)]
 pub(crate) enum Caller {
     /// It isn't told yet: the header is read that says it.
     Greets(Greeter),
-    /// This peer, where one is told.
-    Known(Option<Peer>),
+    /// Who asks, and where, where that is told.
+    Known(Option<Pair>),
     /// Nobody who is heard: no header stood in front of the stream.
     Refused,
 }
 
-/// The peer of a connection that was met.
-pub(crate) fn peer_of(caller: &Caller) -> Option<Peer>
-    ensures { result ≡ peer_of caller.now }
+/// Who asks over a connection that was met, and where.
+pub(crate) fn pair_of(caller: &Caller) -> Option<Pair>
+    ensures { result ≡ pair_of caller.now }
 {
     match caller {
         Caller::Greets(_) => None,
-        Caller::Known(peer) => *peer,
+        Caller::Known(pair) => *pair,
         Caller::Refused => None,
     }
 }
@@ -51,13 +51,13 @@ pub(crate) fn is_refused(caller: &Caller) -> bool
 }
 
 /// Who asks over a link that was accepted now. Where a header is to come only what it says counts.
-pub(crate) fn caller_of<L: Link + HasPeer>(link: &L, accepts_header: bool) -> Caller
+pub(crate) fn caller_of<L: Link + HasPair>(link: &L, accepts_header: bool) -> Caller
     ensures { IsCallerOf L.tells accepts_header link.now result }
 {
     if accepts_header {
         Caller::Greets(Greeter::new())
     } else {
-        Caller::Known(link.peer())
+        Caller::Known(link.pair())
     }
 }
 
@@ -65,6 +65,7 @@ pub(crate) fn caller_of<L: Link + HasPeer>(link: &L, accepts_header: bool) -> Ca
 pub(crate) fn greet_on<L: Link>(caller: &mut Caller, client: &mut L)
     requires greeted { is_greeted caller.old ≡ true }
     ensures reads { (first : Seen) → ReadSo caller.old first (L.seen client.old) → ReadSo caller.new first (L.seen client.new) }
+    ensures further { ReadMore caller.old caller.new }
     ensures wrote { (bytes : List ℕ) → L.wrote client.old bytes → L.wrote client.new bytes }
 {
     let Caller::Greets(greeter) = caller else {
@@ -72,7 +73,18 @@ pub(crate) fn greet_on<L: Link>(caller: &mut Caller, client: &mut L)
     };
     match greeter.read_on(client) {
         None => {}
-        Some(Greeting::Got(pair)) => *caller = Caller::Known(source_of(pair)),
+        Some(Greeting::Got(pair)) => *caller = Caller::Known(pair),
         Some(Greeting::Bad) => *caller = Caller::Refused,
+    }
+}
+
+/// Has the net of a connection introduce its caller to each server that it connects to, once it is known who asks.
+pub(crate) fn introduce<N: Introduces>(caller: &Caller, net: &mut N, sends_header: Option<u32>)
+    ensures { N.seen net.new ≡ net_for sends_header caller.now (N.seen net.old) }
+{
+    match caller {
+        Caller::Greets(_) => {}
+        Caller::Known(pair) => net.introduce(heading_for(sends_header, *pair)),
+        Caller::Refused => {}
     }
 }

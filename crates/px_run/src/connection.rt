@@ -2,21 +2,23 @@
 ghost use Rattle.std.specs.Prelude.{◌≡◌, ℕ, Option, Some, None, Result, true, false, is_some, IfSome};
 ghost use Rattle.std.specs.List.{AllByRecursion};
 ghost use Rattle.px_link.specs.Net.{address_of, Place};
-ghost use Rattle.px_peer.specs.declared.Peer.{Peer};
+ghost use Rattle.px_peer.specs.declared.Pair.{Pair};
+ghost use Rattle.px_proxyproto.specs.Meeting.{source_in};
 ghost use Rattle.htx_drive.specs.Weave.State.{IsReady, IsFresh};
 ghost use Rattle.px_run.specs.Course.{IsSame, StandsSomehow, StepsTo, MayStep, HasCome, HasCore, LeadsTo, IsUnderWay};
 ghost use Rattle.htx_drive.specs.declared.Ran.{Ran};
 ghost use Rattle.htx_drive.specs.declared.SessionFault.{SessionFault};
 ghost use Rattle.px_run.specs.Connection.{LookedSo, IsIdle, AllFreshFor, IsAtUnder};
-ghost use Rattle.px_run.specs.Callers.{peer_of};
+ghost use Rattle.px_run.specs.Callers.{pair_of};
 
-use crate::caller::{Caller, peer_of};
+use crate::caller::{Caller, pair_of};
 use crate::pace::Pace;
 use crate::step::{Stepped, Tools, step};
 use crate::watching::{watch_connect, watch_server};
 use htx_drive::weave::{Conn, Resets, ResetsFor};
 use px_link::{Address, Waits, WaitsNet, Wakes};
 use px_peer::Peer;
+use px_proxyproto::source_of;
 use serve_run::{Outcome, Ran, SessionFault};
 
 /// How many steps one connection makes in a row, while others wait.
@@ -110,7 +112,7 @@ fn give_set<C: ResetsFor + Drop>(set: C, sets: &mut Vec<C>)
     requires sound { C.sound set }
     requires ready { AllByRecursion (IsReady C.seen C.sound) sets.old.items }
     ensures ready { AllByRecursion (IsReady C.seen C.sound) sets.new.items }
-    ensures fresh { (cfg : C.Settings) (peer : Option Peer) → StandsSomehow (C.stands (C.for_peer cfg peer)) set → AllFreshFor C.stands C.for_peer cfg sets.old.items → AllFreshFor C.stands C.for_peer cfg sets.new.items }
+    ensures fresh { (cfg : C.Settings) (pair : Option Pair) → StandsSomehow (C.stands (C.for_peer cfg (source_in pair))) set → AllFreshFor C.stands C.for_peer cfg sets.old.items → AllFreshFor C.stands C.for_peer cfg sets.new.items }
 {
     let mut set = set;
     set.reset();
@@ -159,7 +161,7 @@ fn free<C: ResetsFor + Drop>(core: &mut Option<C>, sets: &mut Vec<C>)
     requires ready { AllByRecursion (IsReady C.seen C.sound) sets.old.items }
     ensures none { core.new ≡ None }
     ensures ready { AllByRecursion (IsReady C.seen C.sound) sets.new.items }
-    ensures fresh { (cfg : C.Settings) (peer : Option Peer) → HasCore core.old (StandsSomehow (C.stands (C.for_peer cfg peer))) → AllFreshFor C.stands C.for_peer cfg sets.old.items → AllFreshFor C.stands C.for_peer cfg sets.new.items }
+    ensures fresh { (cfg : C.Settings) (pair : Option Pair) → HasCore core.old (StandsSomehow (C.stands (C.for_peer cfg (source_in pair)))) → AllFreshFor C.stands C.for_peer cfg sets.old.items → AllFreshFor C.stands C.for_peer cfg sets.new.items }
 {
     match core.take() {
         Some(set) => give_set(set, sets),
@@ -181,7 +183,7 @@ pub(crate) fn moved<C: ResetsFor + Drop, L: Waits, N: WaitsNet<Link = L>, W: Wak
     ensures ready { AllByRecursion (IsReady C.seen C.sound) sets.new.items }
     ensures at { (cfg : C.Settings) (first : L) (first_net : N) → HasCore connection.old.core (λ core. IsUnderWay (C.stands cfg) C.seen core L.seen L.wrote N.seen first (address_of to.now) first_net connection.old.conn)
         → IsAtUnder C.meaning C.stands cfg C.seen C.sound L.seen L.wrote N.seen first (address_of to.now) first_net connection.new }
-    ensures fresh { (cfg : C.Settings) (peer : Option Peer) (first : L) (first_net : N) → HasCore connection.old.core (λ core. IsUnderWay (C.stands (C.for_peer cfg peer)) C.seen core L.seen L.wrote N.seen first (address_of to.now) first_net connection.old.conn)
+    ensures fresh { (cfg : C.Settings) (pair : Option Pair) (first : L) (first_net : N) → HasCore connection.old.core (λ core. IsUnderWay (C.stands (C.for_peer cfg (source_in pair))) C.seen core L.seen L.wrote N.seen first (address_of to.now) first_net connection.old.conn)
         → AllFreshFor C.stands C.for_peer cfg sets.old.items → AllFreshFor C.stands C.for_peer cfg sets.new.items }
     ensures looked { LookedSo result connection.old.number None connection.new.conn.ran }
     ensures number { connection.new.number ≡ connection.old.number }
@@ -242,7 +244,7 @@ fn sit_down<C: ResetsFor + Drop, L: Waits, N: WaitsNet<Link = L>>(
     requires ready { AllByRecursion (IsReady C.seen C.sound) sets.old.items }
     ensures ready { AllByRecursion (IsReady C.seen C.sound) sets.new.items }
     ensures fresh { (cfg : C.Settings) → AllFreshFor C.stands C.for_peer cfg sets.old.items → AllFreshFor C.stands C.for_peer cfg sets.new.items }
-    ensures took { result ≡ None → HasCore connection.new.core (λ set. IsReady C.seen C.sound set × ((cfg : C.Settings) → AllFreshFor C.stands C.for_peer cfg sets.old.items → IsFresh (C.stands (C.for_peer cfg (peer_of connection.old.caller))) set)) }
+    ensures took { result ≡ None → HasCore connection.new.core (λ set. IsReady C.seen C.sound set × ((cfg : C.Settings) → AllFreshFor C.stands C.for_peer cfg sets.old.items → IsFresh (C.stands (C.for_peer cfg (source_in (pair_of connection.old.caller)))) set)) }
     ensures none { is_some result ≡ true → connection.new.core ≡ None }
     ensures looked { IfSome result IsIdle }
     ensures client { IsSame L.seen L.wrote connection.old.conn.client connection.new.conn.client }
@@ -258,7 +260,7 @@ fn sit_down<C: ResetsFor + Drop, L: Waits, N: WaitsNet<Link = L>>(
     if take_set(
         &mut connection.core,
         sets,
-        peer_of(&connection.caller),
+        source_of(pair_of(&connection.caller)),
         pace,
     ) {
         return None;
@@ -276,8 +278,8 @@ pub(crate) fn seat<C: ResetsFor + Drop, L: Waits, N: WaitsNet<Link = L>>(
     requires ready { AllByRecursion (IsReady C.seen C.sound) sets.old.items }
     ensures ready { AllByRecursion (IsReady C.seen C.sound) sets.new.items }
     ensures fresh { (cfg : C.Settings) → AllFreshFor C.stands C.for_peer cfg sets.old.items → AllFreshFor C.stands C.for_peer cfg sets.new.items }
-    ensures at { (cfg : C.Settings) (first : L) (to : Place) (first_net : N) → AllFreshFor C.stands C.for_peer cfg sets.old.items → IsAtUnder C.meaning C.stands (C.for_peer cfg (peer_of connection.old.caller)) C.seen C.sound L.seen L.wrote N.seen first to first_net connection.old
-        → IsAtUnder C.meaning C.stands (C.for_peer cfg (peer_of connection.old.caller)) C.seen C.sound L.seen L.wrote N.seen first to first_net connection.new }
+    ensures at { (cfg : C.Settings) (first : L) (to : Place) (first_net : N) → AllFreshFor C.stands C.for_peer cfg sets.old.items → IsAtUnder C.meaning C.stands (C.for_peer cfg (source_in (pair_of connection.old.caller))) C.seen C.sound L.seen L.wrote N.seen first to first_net connection.old
+        → IsAtUnder C.meaning C.stands (C.for_peer cfg (source_in (pair_of connection.old.caller))) C.seen C.sound L.seen L.wrote N.seen first to first_net connection.new }
     ensures has { result ≡ None → is_some connection.new.core ≡ true }
     ensures looked { IfSome result IsIdle }
     ensures ran { connection.new.conn.ran ≡ None }

@@ -4,6 +4,7 @@ ghost use Rattle.std.specs.List.{AllByRecursion};
 ghost use Rattle.px_link.specs.Net.{address_of, NetSeen};
 ghost use Rattle.htx_drive.specs.Weave.State.{IsReady};
 ghost use Rattle.px_run.specs.Connection.{◌∘◌, AllFreshFor};
+ghost use Rattle.px_proxyproto.specs.Meeting.{source_in};
 ghost use Rattle.px_run.specs.Course.{IsSame, IsSameServer};
 ghost use Rattle.px_run.specs.Lines.{Writes, ended_by, lines_of};
 ghost use Rattle.px_run.specs.History.{Visit};
@@ -16,8 +17,8 @@ use crate::pace::Pace;
 use crate::step::Tools;
 use crate::{Call, Plan};
 use htx_drive::weave::{Conn, Resets, ResetsFor};
-use px_link::{Address, OutOfMemory, Readiness, Sink, Waits, WaitsNet, Wakes};
-use px_proxyproto::HasPeer;
+use px_link::{OutOfMemory, Readiness, Sink, Waits, WaitsNet, Wakes};
+use px_proxyproto::{HasPair, Introduces};
 use std::alloc::Global;
 
 /// All connections.
@@ -145,37 +146,42 @@ pub(crate) fn expire<C: Resets, L: Waits, N: WaitsNet<Link = L>>(
 }
 
 /// A look at the connection of a place.
-fn look_at<C: ResetsFor + Drop, L: Waits + HasPeer, N: WaitsNet<Link = L>, W: Wakes<N>>(
+fn look_at<
+    C: ResetsFor + Drop,
+    L: Waits + HasPair,
+    N: WaitsNet<Link = L> + Introduces,
+    W: Wakes<N>,
+>(
     at: &mut Option<Connection<C, L, N>>,
     sets: &mut Vec<C>,
     pace: &mut Pace,
     wakes: &mut W,
-    to: &Address,
+    plan: &Plan,
     tools: &mut Tools,
 ) -> Looked
-    requires at { (cfg : C.Settings) × (accepts_header : Bool) × (visits : List (Visit L N)) × AllFreshFor C.stands C.for_peer cfg sets.old.items × IsPlaced (C.meaning ∘ C.for_peer cfg) (C.stands ∘ C.for_peer cfg) C.seen C.sound L.seen L.wrote L.tells accepts_header N.seen (address_of to.now) visits at.old }
+    requires at { (cfg : C.Settings) × (visits : List (Visit L N)) × AllFreshFor C.stands C.for_peer cfg sets.old.items × IsPlaced (C.meaning ∘ C.for_peer cfg ∘ source_in) (C.stands ∘ C.for_peer cfg ∘ source_in) C.seen C.sound L.seen L.wrote L.tells plan.now.accepts_header plan.now.sends_header N.seen (address_of plan.now.to.now) visits at.old }
     requires ready { AllByRecursion (IsReady C.seen C.sound) sets.old.items }
     ensures ready { AllByRecursion (IsReady C.seen C.sound) sets.new.items }
-    ensures placed { (cfg : C.Settings) (accepts_header : Bool) (visits : List (Visit L N)) → AllFreshFor C.stands C.for_peer cfg sets.old.items → IsPlaced (C.meaning ∘ C.for_peer cfg) (C.stands ∘ C.for_peer cfg) C.seen C.sound L.seen L.wrote L.tells accepts_header N.seen (address_of to.now) visits at.old → IsPlaced (C.meaning ∘ C.for_peer cfg) (C.stands ∘ C.for_peer cfg) C.seen C.sound L.seen L.wrote L.tells accepts_header N.seen (address_of to.now) (advanced at.new visits) at.new }
-    ensures fresh { (cfg : C.Settings) (accepts_header : Bool) (visits : List (Visit L N)) → AllFreshFor C.stands C.for_peer cfg sets.old.items → IsPlaced (C.meaning ∘ C.for_peer cfg) (C.stands ∘ C.for_peer cfg) C.seen C.sound L.seen L.wrote L.tells accepts_header N.seen (address_of to.now) visits at.old → AllFreshFor C.stands C.for_peer cfg sets.new.items }
+    ensures placed { (cfg : C.Settings) (visits : List (Visit L N)) → AllFreshFor C.stands C.for_peer cfg sets.old.items → IsPlaced (C.meaning ∘ C.for_peer cfg ∘ source_in) (C.stands ∘ C.for_peer cfg ∘ source_in) C.seen C.sound L.seen L.wrote L.tells plan.now.accepts_header plan.now.sends_header N.seen (address_of plan.now.to.now) visits at.old → IsPlaced (C.meaning ∘ C.for_peer cfg ∘ source_in) (C.stands ∘ C.for_peer cfg ∘ source_in) C.seen C.sound L.seen L.wrote L.tells plan.now.accepts_header plan.now.sends_header N.seen (address_of plan.now.to.now) (advanced at.new visits) at.new }
+    ensures fresh { (cfg : C.Settings) (visits : List (Visit L N)) → AllFreshFor C.stands C.for_peer cfg sets.old.items → IsPlaced (C.meaning ∘ C.for_peer cfg ∘ source_in) (C.stands ∘ C.for_peer cfg ∘ source_in) C.seen C.sound L.seen L.wrote L.tells plan.now.accepts_header plan.now.sends_header N.seen (address_of plan.now.to.now) visits at.old → AllFreshFor C.stands C.for_peer cfg sets.new.items }
     ensures looked { LookedAt result at.old at.new }
 {
     match at {
-        Some(connection) => look(connection, sets, pace, wakes, to, tools),
+        Some(connection) => look(connection, sets, pace, wakes, plan, tools),
         None => Looked::Waits,
     }
 }
 
 /// A look at the connection of the place that this pace is of.
-fn look_here<C: ResetsFor + Drop, L: Waits + HasPeer, N: WaitsNet<Link = L>, W: Wakes<N>>(
-    hall: &mut Hall<C, L, N>,
-    pace: &mut Pace,
-    wakes: &mut W,
-    to: &Address,
-) -> Looked
-    requires stands { (cfg : C.Settings) × (accepts_header : Bool) × (visits : List (Visit L N)) × AllStand (C.meaning ∘ C.for_peer cfg) (C.stands ∘ C.for_peer cfg) C.seen C.sound L.seen L.wrote L.tells accepts_header N.seen (address_of to.now) visits hall.old.places.items hall.old.sets.items }
-    ensures stands { (cfg : C.Settings) (accepts_header : Bool) (visits : List (Visit L N)) → AllStand (C.meaning ∘ C.for_peer cfg) (C.stands ∘ C.for_peer cfg) C.seen C.sound L.seen L.wrote L.tells accepts_header N.seen (address_of to.now) visits hall.old.places.items hall.old.sets.items
-        → (behind : List (Visit L N)) × Advances result visits behind × AllStand (C.meaning ∘ C.for_peer cfg) (C.stands ∘ C.for_peer cfg) C.seen C.sound L.seen L.wrote L.tells accepts_header N.seen (address_of to.now) behind hall.new.places.items hall.new.sets.items }
+fn look_here<
+    C: ResetsFor + Drop,
+    L: Waits + HasPair,
+    N: WaitsNet<Link = L> + Introduces,
+    W: Wakes<N>,
+>(hall: &mut Hall<C, L, N>, pace: &mut Pace, wakes: &mut W, plan: &Plan) -> Looked
+    requires stands { (cfg : C.Settings) × (visits : List (Visit L N)) × AllStand (C.meaning ∘ C.for_peer cfg ∘ source_in) (C.stands ∘ C.for_peer cfg ∘ source_in) C.seen C.sound L.seen L.wrote L.tells plan.now.accepts_header plan.now.sends_header N.seen (address_of plan.now.to.now) visits hall.old.places.items hall.old.sets.items }
+    ensures stands { (cfg : C.Settings) (visits : List (Visit L N)) → AllStand (C.meaning ∘ C.for_peer cfg ∘ source_in) (C.stands ∘ C.for_peer cfg ∘ source_in) C.seen C.sound L.seen L.wrote L.tells plan.now.accepts_header plan.now.sends_header N.seen (address_of plan.now.to.now) visits hall.old.places.items hall.old.sets.items
+        → (behind : List (Visit L N)) × Advances result visits behind × AllStand (C.meaning ∘ C.for_peer cfg ∘ source_in) (C.stands ∘ C.for_peer cfg ∘ source_in) C.seen C.sound L.seen L.wrote L.tells plan.now.accepts_header plan.now.sends_header N.seen (address_of plan.now.to.now) behind hall.new.places.items hall.new.sets.items }
     ensures taken { count_taken hall.new.places.items ≡ count_taken hall.old.places.items }
     ensures accepted { hall.new.accepted ≡ hall.old.accepted }
     ensures output { hall.new.output ≡ hall.old.output }
@@ -189,7 +195,7 @@ fn look_here<C: ResetsFor + Drop, L: Waits + HasPeer, N: WaitsNet<Link = L>, W: 
         &mut hall.sets,
         pace,
         wakes,
-        to,
+        plan,
         &mut hall.tools,
     )
 }
@@ -197,8 +203,8 @@ fn look_here<C: ResetsFor + Drop, L: Waits + HasPeer, N: WaitsNet<Link = L>, W: 
 /// A look at the connection of a place, and its line where it has ended.
 pub(crate) fn visit<
     C: ResetsFor + Drop,
-    L: Waits + HasPeer,
-    N: WaitsNet<Link = L>,
+    L: Waits + HasPair,
+    N: WaitsNet<Link = L> + Introduces,
     W: Wakes<N>,
     K: Sink,
 >(
@@ -208,13 +214,13 @@ pub(crate) fn visit<
     out: &mut K,
     plan: &Plan,
 ) -> Result<Looked, OutOfMemory>
-    requires stands { (cfg : C.Settings) × (visits : List (Visit L N)) × AllStand (C.meaning ∘ C.for_peer cfg) (C.stands ∘ C.for_peer cfg) C.seen C.sound L.seen L.wrote L.tells plan.now.accepts_header N.seen (address_of plan.now.to.now) visits hall.old.places.items hall.old.sets.items }
-    ensures goes { (cfg : C.Settings) (begun now : NetSeen) (writes : ℕ) (before : Option (List ℕ)) → GoesFor C.meaning C.stands C.for_peer cfg C.seen C.sound L.seen L.wrote L.tells plan.now.accepts_header N.seen (address_of plan.now.to.now) true true begun now writes (K.faults out.old) before (K.written out.old) hall.old
-        → GoesFor C.meaning C.stands C.for_peer cfg C.seen C.sound L.seen L.wrote L.tells plan.now.accepts_header N.seen (address_of plan.now.to.now) (is_ok result) (is_ok result) begun now writes (K.faults out.new) before (K.written out.new) hall.new }
+    requires stands { (cfg : C.Settings) × (visits : List (Visit L N)) × AllStand (C.meaning ∘ C.for_peer cfg ∘ source_in) (C.stands ∘ C.for_peer cfg ∘ source_in) C.seen C.sound L.seen L.wrote L.tells plan.now.accepts_header plan.now.sends_header N.seen (address_of plan.now.to.now) visits hall.old.places.items hall.old.sets.items }
+    ensures goes { (cfg : C.Settings) (begun now : NetSeen) (writes : ℕ) (before : Option (List ℕ)) → GoesFor C.meaning C.stands C.for_peer cfg C.seen C.sound L.seen L.wrote L.tells plan.now.accepts_header plan.now.sends_header N.seen (address_of plan.now.to.now) true true begun now writes (K.faults out.old) before (K.written out.old) hall.old
+        → GoesFor C.meaning C.stands C.for_peer cfg C.seen C.sound L.seen L.wrote L.tells plan.now.accepts_header plan.now.sends_header N.seen (address_of plan.now.to.now) (is_ok result) (is_ok result) begun now writes (K.faults out.new) before (K.written out.new) hall.new }
     ensures taken { count_taken hall.new.places.items ≡ count_taken hall.old.places.items }
     ensures accepted { hall.new.accepted ≡ hall.old.accepted }
 {
-    let looked = look_here(hall, pace, wakes, plan.to);
+    let looked = look_here(hall, pace, wakes, plan);
     say(looked, plan.alloc, &mut hall.output, out)
 }
 

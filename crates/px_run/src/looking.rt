@@ -8,16 +8,18 @@ ghost use Rattle.htx_drive.specs.declared.SessionFault.{SessionFault};
 ghost use Rattle.serve_run.specs.Met.{TurnedAway, unheard};
 ghost use Rattle.px_run.specs.Course.{IsSame};
 ghost use Rattle.px_run.specs.Connection.{LookedSo, AllFreshFor, IsAtUnder};
-ghost use Rattle.px_run.specs.Callers.{peer_of, is_greeted, StandsFor};
+ghost use Rattle.px_proxyproto.specs.Meeting.{source_in};
+ghost use Rattle.px_run.specs.Callers.{pair_of, is_greeted, ReadMore, StandsFor};
 
-use crate::caller::{greet_on, is_greeted, is_refused};
+use crate::Plan;
+use crate::caller::{greet_on, introduce, is_greeted, is_refused};
 use crate::connection::{Connection, Looked, moved, seat, told};
 use crate::pace::Pace;
 use crate::step::Tools;
 use http_model::{Close, End};
 use htx_drive::weave::{Conn, ResetsFor};
 use px_link::{Address, Link, Net, Waits, WaitsNet, Wakes};
-use px_proxyproto::HasPeer;
+use px_proxyproto::{HasPair, Introduces};
 use serve_run::Ran;
 
 /// A look at a connection that has ended: whether its client's link can be given back.
@@ -48,17 +50,19 @@ fn turn_away<L: Link, N: Net<Link = L>>(conn: &mut Conn<L, N>)
     }));
 }
 
-/// A look at a connection of which a header is read: that goes on, or it was met, or its client isn't heard and it has ended.
-fn hear<C: ResetsFor, L: Waits + HasPeer, N: WaitsNet<Link = L>>(
+/// A look at a connection of which a header is read: that goes on, or it was met and its net is to introduce it, or its client isn't heard and it has ended.
+fn hear<C: ResetsFor, L: Waits + HasPair, N: WaitsNet<Link = L> + Introduces>(
     connection: &mut Connection<C, L, N>,
     pace: &mut Pace,
+    sends_header: Option<u32>,
     now: u64,
 ) -> Looked
     requires greeted { is_greeted connection.old.caller ≡ true }
     requires goes_on { connection.old.conn.ran ≡ None }
-    ensures at { (cfg : C.Settings) (accepts_header : Bool) (first : L) (to : Place) (first_net : N) → StandsFor C.meaning C.stands C.for_peer cfg C.seen C.sound L.seen L.wrote L.tells accepts_header N.seen first to first_net connection.old
-        → StandsFor C.meaning C.stands C.for_peer cfg C.seen C.sound L.seen L.wrote L.tells accepts_header N.seen first to first_net connection.new }
+    ensures at { (cfg : C.Settings) (accepts_header : Bool) (first : L) (to : Place) (first_net : N) → StandsFor C.meaning C.stands C.for_peer cfg C.seen C.sound L.seen L.wrote L.tells accepts_header sends_header N.seen first to first_net connection.old
+        → StandsFor C.meaning C.stands C.for_peer cfg C.seen C.sound L.seen L.wrote L.tells accepts_header sends_header N.seen first to first_net connection.new }
     ensures looked { LookedSo result connection.old.number None connection.new.conn.ran }
+    ensures further { result ≡ Looked.GoesOn → ReadMore connection.old.caller connection.new.caller }
     ensures number { connection.new.number ≡ connection.old.number }
 {
     if !connection.conn.client.can_read() {
@@ -66,6 +70,7 @@ fn hear<C: ResetsFor, L: Waits + HasPeer, N: WaitsNet<Link = L>>(
     }
     greet_on(&mut connection.caller, &mut connection.conn.client);
     if !is_refused(&connection.caller) {
+        introduce(&connection.caller, &mut connection.conn.net, sends_header);
         return Looked::GoesOn;
     }
     turn_away(&mut connection.conn);
@@ -83,12 +88,12 @@ fn serve<C: ResetsFor + Drop, L: Waits, N: WaitsNet<Link = L>, W: Wakes<N>>(
     tools: &mut Tools,
 ) -> Looked
     requires goes_on { connection.old.conn.ran ≡ None }
-    requires at { (cfg : C.Settings) × (first : L) × (first_net : N) × AllFreshFor C.stands C.for_peer cfg sets.old.items × IsAtUnder C.meaning C.stands (C.for_peer cfg (peer_of connection.old.caller)) C.seen C.sound L.seen L.wrote N.seen first (address_of to.now) first_net connection.old }
+    requires at { (cfg : C.Settings) × (first : L) × (first_net : N) × AllFreshFor C.stands C.for_peer cfg sets.old.items × IsAtUnder C.meaning C.stands (C.for_peer cfg (source_in (pair_of connection.old.caller))) C.seen C.sound L.seen L.wrote N.seen first (address_of to.now) first_net connection.old }
     requires ready { AllByRecursion (IsReady C.seen C.sound) sets.old.items }
     ensures ready { AllByRecursion (IsReady C.seen C.sound) sets.new.items }
-    ensures at { (cfg : C.Settings) (first : L) (first_net : N) → AllFreshFor C.stands C.for_peer cfg sets.old.items → IsAtUnder C.meaning C.stands (C.for_peer cfg (peer_of connection.old.caller)) C.seen C.sound L.seen L.wrote N.seen first (address_of to.now) first_net connection.old
-        → IsAtUnder C.meaning C.stands (C.for_peer cfg (peer_of connection.old.caller)) C.seen C.sound L.seen L.wrote N.seen first (address_of to.now) first_net connection.new }
-    ensures fresh { (cfg : C.Settings) (first : L) (first_net : N) → AllFreshFor C.stands C.for_peer cfg sets.old.items → IsAtUnder C.meaning C.stands (C.for_peer cfg (peer_of connection.old.caller)) C.seen C.sound L.seen L.wrote N.seen first (address_of to.now) first_net connection.old
+    ensures at { (cfg : C.Settings) (first : L) (first_net : N) → AllFreshFor C.stands C.for_peer cfg sets.old.items → IsAtUnder C.meaning C.stands (C.for_peer cfg (source_in (pair_of connection.old.caller))) C.seen C.sound L.seen L.wrote N.seen first (address_of to.now) first_net connection.old
+        → IsAtUnder C.meaning C.stands (C.for_peer cfg (source_in (pair_of connection.old.caller))) C.seen C.sound L.seen L.wrote N.seen first (address_of to.now) first_net connection.new }
+    ensures fresh { (cfg : C.Settings) (first : L) (first_net : N) → AllFreshFor C.stands C.for_peer cfg sets.old.items → IsAtUnder C.meaning C.stands (C.for_peer cfg (source_in (pair_of connection.old.caller))) C.seen C.sound L.seen L.wrote N.seen first (address_of to.now) first_net connection.old
         → AllFreshFor C.stands C.for_peer cfg sets.new.items }
     ensures looked { LookedSo result connection.old.number connection.old.conn.ran connection.new.conn.ran }
     ensures number { connection.new.number ≡ connection.old.number }
@@ -101,20 +106,25 @@ fn serve<C: ResetsFor + Drop, L: Waits, N: WaitsNet<Link = L>, W: Wakes<N>>(
 }
 
 /// A look at a connection: its header is read, it gets a core, makes steps, ends or leaves.
-pub(crate) fn look<C: ResetsFor + Drop, L: Waits + HasPeer, N: WaitsNet<Link = L>, W: Wakes<N>>(
+pub(crate) fn look<
+    C: ResetsFor + Drop,
+    L: Waits + HasPair,
+    N: WaitsNet<Link = L> + Introduces,
+    W: Wakes<N>,
+>(
     connection: &mut Connection<C, L, N>,
     sets: &mut Vec<C>,
     pace: &mut Pace,
     wakes: &mut W,
-    to: &Address,
+    plan: &Plan,
     tools: &mut Tools,
 ) -> Looked
-    requires at { (cfg : C.Settings) × (accepts_header : Bool) × (first : L) × (first_net : N) × AllFreshFor C.stands C.for_peer cfg sets.old.items × StandsFor C.meaning C.stands C.for_peer cfg C.seen C.sound L.seen L.wrote L.tells accepts_header N.seen first (address_of to.now) first_net connection.old }
+    requires at { (cfg : C.Settings) × (first : L) × (first_net : N) × AllFreshFor C.stands C.for_peer cfg sets.old.items × StandsFor C.meaning C.stands C.for_peer cfg C.seen C.sound L.seen L.wrote L.tells plan.now.accepts_header plan.now.sends_header N.seen first (address_of plan.now.to.now) first_net connection.old }
     requires ready { AllByRecursion (IsReady C.seen C.sound) sets.old.items }
     ensures ready { AllByRecursion (IsReady C.seen C.sound) sets.new.items }
-    ensures at { (cfg : C.Settings) (accepts_header : Bool) (first : L) (first_net : N) → AllFreshFor C.stands C.for_peer cfg sets.old.items → StandsFor C.meaning C.stands C.for_peer cfg C.seen C.sound L.seen L.wrote L.tells accepts_header N.seen first (address_of to.now) first_net connection.old
-        → StandsFor C.meaning C.stands C.for_peer cfg C.seen C.sound L.seen L.wrote L.tells accepts_header N.seen first (address_of to.now) first_net connection.new }
-    ensures fresh { (cfg : C.Settings) (accepts_header : Bool) (first : L) (first_net : N) → AllFreshFor C.stands C.for_peer cfg sets.old.items → StandsFor C.meaning C.stands C.for_peer cfg C.seen C.sound L.seen L.wrote L.tells accepts_header N.seen first (address_of to.now) first_net connection.old
+    ensures at { (cfg : C.Settings) (first : L) (first_net : N) → AllFreshFor C.stands C.for_peer cfg sets.old.items → StandsFor C.meaning C.stands C.for_peer cfg C.seen C.sound L.seen L.wrote L.tells plan.now.accepts_header plan.now.sends_header N.seen first (address_of plan.now.to.now) first_net connection.old
+        → StandsFor C.meaning C.stands C.for_peer cfg C.seen C.sound L.seen L.wrote L.tells plan.now.accepts_header plan.now.sends_header N.seen first (address_of plan.now.to.now) first_net connection.new }
+    ensures fresh { (cfg : C.Settings) (first : L) (first_net : N) → AllFreshFor C.stands C.for_peer cfg sets.old.items → StandsFor C.meaning C.stands C.for_peer cfg C.seen C.sound L.seen L.wrote L.tells plan.now.accepts_header plan.now.sends_header N.seen first (address_of plan.now.to.now) first_net connection.old
         → AllFreshFor C.stands C.for_peer cfg sets.new.items }
     ensures looked { LookedSo result connection.old.number connection.old.conn.ran connection.new.conn.ran }
     ensures number { connection.new.number ≡ connection.old.number }
@@ -123,7 +133,7 @@ pub(crate) fn look<C: ResetsFor + Drop, L: Waits + HasPeer, N: WaitsNet<Link = L
         return leaves(&mut connection.conn.client, pace);
     }
     if is_greeted(&connection.caller) {
-        return hear(connection, pace, tools.now);
+        return hear(connection, pace, plan.sends_header, tools.now);
     }
-    serve(connection, sets, pace, wakes, to, tools)
+    serve(connection, sets, pace, wakes, plan.to, tools)
 }

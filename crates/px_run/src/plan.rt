@@ -18,6 +18,8 @@ pub struct Plan<'a> {
     pub connections: Option<u32>,
     /// Whether the stream of each client begins with a header of the PROXY protocol, which tells who asks.
     pub accepts_header: bool,
+    /// Of which version the header of that protocol is that goes to each server first, and tells it who asks and where; with none there is no header.
+    pub sends_header: Option<u32>,
 }
 
 /// What the loop asks of its caller, besides a net that listens, a wait and an output.

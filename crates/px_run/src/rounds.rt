@@ -10,7 +10,7 @@ use crate::pace::Pace;
 use crate::{Call, Plan, RunFault};
 use htx_drive::weave::{Resets, ResetsFor};
 use px_link::{Fault, OutOfMemory, Sink, Waits, WaitsNet, Wake, Wakes, Watched};
-use px_proxyproto::HasPeer;
+use px_proxyproto::{HasPair, Introduces};
 
 /// Takes in what an event tells.
 fn note<C: Resets, L: Waits, N: WaitsNet<Link = L>>(
@@ -100,8 +100,8 @@ fn again(
 /// A look at the connection of a place, which leaves where it has ended and can.
 fn visit_place<
     C: ResetsFor + Drop,
-    L: Waits + HasPeer + Drop,
-    N: WaitsNet<Link = L> + Drop,
+    L: Waits + HasPair + Drop,
+    N: WaitsNet<Link = L> + Introduces + Drop,
     W: Wakes<N>,
     K: Sink,
 >(
@@ -112,9 +112,9 @@ fn visit_place<
     out: &mut K,
     plan: &Plan,
 ) -> Result<Looked, OutOfMemory>
-    requires goes { (cfg : C.Settings) × (begun : NetSeen) × (writes : ℕ) × (before : Option (List ℕ)) × GoesFor C.meaning C.stands C.for_peer cfg C.seen C.sound L.seen L.wrote L.tells plan.now.accepts_header N.seen (address_of plan.now.to.now) true true begun (N.seen net.old) writes (K.faults out.old) before (K.written out.old) hall.old }
+    requires goes { (cfg : C.Settings) × (begun : NetSeen) × (writes : ℕ) × (before : Option (List ℕ)) × GoesFor C.meaning C.stands C.for_peer cfg C.seen C.sound L.seen L.wrote L.tells plan.now.accepts_header plan.now.sends_header N.seen (address_of plan.now.to.now) true true begun (N.seen net.old) writes (K.faults out.old) before (K.written out.old) hall.old }
     requires lent { count_taken hall.old.places.items ≤ (N.seen net.old).lent }
-    ensures goes { KeepsGoing C.meaning C.stands C.for_peer C.seen C.sound L.seen L.wrote L.tells plan.now.accepts_header N.seen (address_of plan.now.to.now) K.faults K.written (is_ok result) net.old net.new out.old out.new hall.old hall.new }
+    ensures goes { KeepsGoing C.meaning C.stands C.for_peer C.seen C.sound L.seen L.wrote L.tells plan.now.accepts_header plan.now.sends_header N.seen (address_of plan.now.to.now) K.faults K.written (is_ok result) net.old net.new out.old out.new hall.old hall.new }
     ensures accepted { hall.new.accepted ≡ hall.old.accepted }
     ensures balanced { IsBalanced (N.seen net.old) (N.seen net.new) hall.old.places.items hall.new.places.items }
     ensures net { IsSameNet (N.seen net.old) (N.seen net.new) }
@@ -135,8 +135,8 @@ fn visit_place<
 /// A look at each that is due.
 fn visits<
     C: ResetsFor + Drop,
-    L: Waits + HasPeer + Drop,
-    N: WaitsNet<Link = L> + Drop,
+    L: Waits + HasPair + Drop,
+    N: WaitsNet<Link = L> + Introduces + Drop,
     W: Wakes<N>,
     K: Sink,
 >(
@@ -147,9 +147,9 @@ fn visits<
     out: &mut K,
     plan: &Plan,
 ) -> Result<(), OutOfMemory>
-    requires goes { (cfg : C.Settings) × (begun : NetSeen) × (writes : ℕ) × (before : Option (List ℕ)) × GoesFor C.meaning C.stands C.for_peer cfg C.seen C.sound L.seen L.wrote L.tells plan.now.accepts_header N.seen (address_of plan.now.to.now) true true begun (N.seen net.old) writes (K.faults out.old) before (K.written out.old) hall.old }
+    requires goes { (cfg : C.Settings) × (begun : NetSeen) × (writes : ℕ) × (before : Option (List ℕ)) × GoesFor C.meaning C.stands C.for_peer cfg C.seen C.sound L.seen L.wrote L.tells plan.now.accepts_header plan.now.sends_header N.seen (address_of plan.now.to.now) true true begun (N.seen net.old) writes (K.faults out.old) before (K.written out.old) hall.old }
     requires lent { count_taken hall.old.places.items ≤ (N.seen net.old).lent }
-    ensures goes { KeepsGoing C.meaning C.stands C.for_peer C.seen C.sound L.seen L.wrote L.tells plan.now.accepts_header N.seen (address_of plan.now.to.now) K.faults K.written (is_ok result) net.old net.new out.old out.new hall.old hall.new }
+    ensures goes { KeepsGoing C.meaning C.stands C.for_peer C.seen C.sound L.seen L.wrote L.tells plan.now.accepts_header plan.now.sends_header N.seen (address_of plan.now.to.now) K.faults K.written (is_ok result) net.old net.new out.old out.new hall.old hall.new }
     ensures accepted { hall.new.accepted ≡ hall.old.accepted }
     ensures balanced { IsBalanced (N.seen net.old) (N.seen net.new) hall.old.places.items hall.new.places.items }
     ensures net { IsSameNet (N.seen net.old) (N.seen net.new) }
@@ -234,8 +234,8 @@ fn free_one<C: Resets, L: Waits, N: WaitsNet<Link = L>>(
 /// A look at each that is due, and what follows of deadlines.
 pub(crate) fn looks<
     C: ResetsFor + Drop,
-    L: Waits + HasPeer + Drop,
-    N: WaitsNet<Link = L> + Drop,
+    L: Waits + HasPair + Drop,
+    N: WaitsNet<Link = L> + Introduces + Drop,
     W: Wakes<N>,
     K: Sink,
 >(
@@ -246,9 +246,9 @@ pub(crate) fn looks<
     out: &mut K,
     plan: &Plan,
 ) -> Result<(), OutOfMemory>
-    requires goes { (cfg : C.Settings) × (begun : NetSeen) × (writes : ℕ) × (before : Option (List ℕ)) × GoesFor C.meaning C.stands C.for_peer cfg C.seen C.sound L.seen L.wrote L.tells plan.now.accepts_header N.seen (address_of plan.now.to.now) true true begun (N.seen net.old) writes (K.faults out.old) before (K.written out.old) hall.old }
+    requires goes { (cfg : C.Settings) × (begun : NetSeen) × (writes : ℕ) × (before : Option (List ℕ)) × GoesFor C.meaning C.stands C.for_peer cfg C.seen C.sound L.seen L.wrote L.tells plan.now.accepts_header plan.now.sends_header N.seen (address_of plan.now.to.now) true true begun (N.seen net.old) writes (K.faults out.old) before (K.written out.old) hall.old }
     requires lent { count_taken hall.old.places.items ≤ (N.seen net.old).lent }
-    ensures goes { KeepsGoing C.meaning C.stands C.for_peer C.seen C.sound L.seen L.wrote L.tells plan.now.accepts_header N.seen (address_of plan.now.to.now) K.faults K.written (is_ok result) net.old net.new out.old out.new hall.old hall.new }
+    ensures goes { KeepsGoing C.meaning C.stands C.for_peer C.seen C.sound L.seen L.wrote L.tells plan.now.accepts_header plan.now.sends_header N.seen (address_of plan.now.to.now) K.faults K.written (is_ok result) net.old net.new out.old out.new hall.old hall.new }
     ensures accepted { hall.new.accepted ≡ hall.old.accepted }
     ensures balanced { IsBalanced (N.seen net.old) (N.seen net.new) hall.old.places.items hall.new.places.items }
     ensures net { IsSameNet (N.seen net.old) (N.seen net.new) }

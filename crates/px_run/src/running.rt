@@ -3,7 +3,7 @@ ghost use Rattle.std.specs.Prelude.{◌≡◌, ◌≤◌, ◌+◌, ◌⊎◌, �
 ghost use Rattle.std.specs.List.{AllByRecursion};
 ghost use Rattle.px_link.specs.Net.{address_of, NetSeen, Place};
 ghost use Rattle.htx_drive.specs.Weave.State.{IsReady};
-ghost use Rattle.px_peer.specs.declared.Peer.{Peer};
+ghost use Rattle.px_proxyproto.specs.Meeting.{source_in};
 ghost use Rattle.px_run.specs.Connection.{◌∘◌, IsFreshFor};
 ghost use Rattle.px_run.specs.Callers.{IsAtFor, CameBack};
 ghost use Rattle.px_run.specs.History.{Visit};
@@ -23,7 +23,7 @@ use http_model::Close;
 use htx_drive::MOST_READ;
 use htx_drive::weave::{Conn, ResetsFor, abandon};
 use px_link::{OutOfMemory, Sink, Waits, WaitsNet, Wakes};
-use px_proxyproto::HasPeer;
+use px_proxyproto::{HasPair, Introduces};
 
 /// How many connections may be open for each core: those that have none yet cost a link alone.
 const PLACES_A_SET: usize = 4;
@@ -31,8 +31,8 @@ const PLACES_A_SET: usize = 4;
 /// Rounds, until no connection is open and no further one is to be accepted.
 fn rounds<
     C: ResetsFor + Drop,
-    L: Waits + HasPeer + Drop,
-    N: WaitsNet<Link = L> + Drop,
+    L: Waits + HasPair + Drop,
+    N: WaitsNet<Link = L> + Introduces + Drop,
     S: Nets<N>,
     W: Wakes<N>,
     K: Sink,
@@ -44,9 +44,9 @@ fn rounds<
     out: &mut K,
     plan: &Plan,
 ) -> Result<(), RunFault>
-    requires goes { (cfg : C.Settings) × (begun : NetSeen) × (writes : ℕ) × (before : Option (List ℕ)) × GoesFor C.meaning C.stands C.for_peer cfg C.seen C.sound L.seen L.wrote L.tells plan.now.accepts_header N.seen (address_of plan.now.to.now) true true begun (N.seen net.old) writes (K.faults out.old) before (K.written out.old) hall.old }
+    requires goes { (cfg : C.Settings) × (begun : NetSeen) × (writes : ℕ) × (before : Option (List ℕ)) × GoesFor C.meaning C.stands C.for_peer cfg C.seen C.sound L.seen L.wrote L.tells plan.now.accepts_header plan.now.sends_header N.seen (address_of plan.now.to.now) true true begun (N.seen net.old) writes (K.faults out.old) before (K.written out.old) hall.old }
     requires lent { count_taken hall.old.places.items ≤ (N.seen net.old).lent }
-    ensures goes { KeepsGoing C.meaning C.stands C.for_peer C.seen C.sound L.seen L.wrote L.tells plan.now.accepts_header N.seen (address_of plan.now.to.now) K.faults K.written (had_memory result) net.old net.new out.old out.new hall.old hall.new }
+    ensures goes { KeepsGoing C.meaning C.stands C.for_peer C.seen C.sound L.seen L.wrote L.tells plan.now.accepts_header plan.now.sends_header N.seen (address_of plan.now.to.now) K.faults K.written (had_memory result) net.old net.new out.old out.new hall.old hall.new }
     ensures within { IfSome plan.now.connections (λ count. hall.old.accepted ≤ count → hall.new.accepted ≤ count) }
     ensures balanced { IsBalanced (N.seen net.old) (N.seen net.new) hall.old.places.items hall.new.places.items }
     ensures net { IsSameNet (N.seen net.old) (N.seen net.new) }
@@ -78,13 +78,13 @@ fn rounds<
 }
 
 /// Gives up a connection that hasn't ended: each of its links that is still open is closed Failed, and its server's is kept.
-fn give_up<C: ResetsFor, L: Waits + HasPeer, N: WaitsNet<Link = L>>(
+fn give_up<C: ResetsFor, L: Waits + HasPair, N: WaitsNet<Link = L>>(
     caller: &Caller,
     conn: &mut Conn<L, N>,
 )
-    requires at { (cfg : C.Settings) × (accepts_header : Bool) × (to : Place) × (first : L) × (first_net : N) × (held : Option C) × IsAtFor (C.meaning ∘ C.for_peer cfg) (C.stands ∘ C.for_peer cfg) C.seen C.sound L.seen L.wrote L.tells accepts_header first caller.now conn.old.client conn.old.server to (N.seen first_net) (N.seen conn.old.net) conn.old.ran held }
-    ensures left { (cfg : C.Settings) (accepts_header : Bool) (to : Place) (first : L) (first_net : N) (held : Option C) → IsAtFor (C.meaning ∘ C.for_peer cfg) (C.stands ∘ C.for_peer cfg) C.seen C.sound L.seen L.wrote L.tells accepts_header first caller.now conn.old.client conn.old.server to (N.seen first_net) (N.seen conn.old.net) conn.old.ran held
-        → CameBack (C.meaning ∘ C.for_peer cfg) (C.stands ∘ C.for_peer cfg) C.seen L.seen L.wrote L.tells accepts_header first conn.new.client to (N.seen first_net) (N.seen conn.new.net) conn.old.ran }
+    requires at { (cfg : C.Settings) × (accepts_header : Bool) × (sends_header : Option ℕ) × (to : Place) × (first : L) × (first_net : N) × (held : Option C) × IsAtFor (C.meaning ∘ C.for_peer cfg ∘ source_in) (C.stands ∘ C.for_peer cfg ∘ source_in) C.seen C.sound L.seen L.wrote L.tells accepts_header sends_header N.seen first caller.now conn.old.client conn.old.server to (N.seen first_net) (N.seen conn.old.net) conn.old.ran held }
+    ensures left { (cfg : C.Settings) (accepts_header : Bool) (sends_header : Option ℕ) (to : Place) (first : L) (first_net : N) (held : Option C) → IsAtFor (C.meaning ∘ C.for_peer cfg ∘ source_in) (C.stands ∘ C.for_peer cfg ∘ source_in) C.seen C.sound L.seen L.wrote L.tells accepts_header sends_header N.seen first caller.now conn.old.client conn.old.server to (N.seen first_net) (N.seen conn.old.net) conn.old.ran held
+        → CameBack (C.meaning ∘ C.for_peer cfg ∘ source_in) (C.stands ∘ C.for_peer cfg ∘ source_in) C.seen L.seen L.wrote L.tells accepts_header sends_header first conn.new.client to (N.seen first_net) (N.seen conn.new.net) conn.old.ran }
 {
     if conn.ran.is_some() {
         return;
@@ -97,13 +97,13 @@ fn give_up<C: ResetsFor, L: Waits + HasPeer, N: WaitsNet<Link = L>>(
 }
 
 /// Gives up the connection of a place: each of its links that is still open is closed Failed, and all are given back.
-fn leave<C: ResetsFor + Drop, L: Waits + HasPeer + Drop, N: WaitsNet<Link = L> + Drop>(
+fn leave<C: ResetsFor + Drop, L: Waits + HasPair + Drop, N: WaitsNet<Link = L> + Drop>(
     at: Option<Connection<C, L, N>>,
     net: &mut N,
 )
-    requires placed { (cfg : C.Settings) × (accepts_header : Bool) × (to : Place) × (visits : List (Visit L N)) × IsPlaced (C.meaning ∘ C.for_peer cfg) (C.stands ∘ C.for_peer cfg) C.seen C.sound L.seen L.wrote L.tells accepts_header N.seen to visits at }
+    requires placed { (cfg : C.Settings) × (accepts_header : Bool) × (sends_header : Option ℕ) × (to : Place) × (visits : List (Visit L N)) × IsPlaced (C.meaning ∘ C.for_peer cfg ∘ source_in) (C.stands ∘ C.for_peer cfg ∘ source_in) C.seen C.sound L.seen L.wrote L.tells accepts_header sends_header N.seen to visits at }
     requires lent { taken_at at ≤ (N.seen net.old).lent }
-    ensures gave_up { (cfg : C.Settings) (accepts_header : Bool) (to : Place) → GaveUpAt (C.meaning ∘ C.for_peer cfg) (C.stands ∘ C.for_peer cfg) C.seen C.sound L.seen L.wrote L.tells accepts_header N.seen to (N.seen net.old) (N.seen net.new) at }
+    ensures gave_up { (cfg : C.Settings) (accepts_header : Bool) (sends_header : Option ℕ) (to : Place) → GaveUpAt (C.meaning ∘ C.for_peer cfg ∘ source_in) (C.stands ∘ C.for_peer cfg ∘ source_in) C.seen C.sound L.seen L.wrote L.tells accepts_header sends_header N.seen to (N.seen net.old) (N.seen net.new) at }
     ensures balanced { (N.seen net.new).lent + taken_at at ≡ (N.seen net.old).lent }
     ensures net { IsSameNet (N.seen net.old) (N.seen net.new) }
 {
@@ -118,14 +118,14 @@ fn leave<C: ResetsFor + Drop, L: Waits + HasPeer + Drop, N: WaitsNet<Link = L> +
 }
 
 /// Gives up the connection at each place.
-fn leave_all<C: ResetsFor + Drop, L: Waits + HasPeer + Drop, N: WaitsNet<Link = L> + Drop>(
+fn leave_all<C: ResetsFor + Drop, L: Waits + HasPair + Drop, N: WaitsNet<Link = L> + Drop>(
     hall: &mut Hall<C, L, N>,
     net: &mut N,
 )
-    requires goes { (cfg : C.Settings) × (accepts_header : Bool) × (to : Place) × (fair whole : Bool) × (begun : NetSeen) × (writes writes_now : ℕ) × (before after : Option (List ℕ)) × GoesFor C.meaning C.stands C.for_peer cfg C.seen C.sound L.seen L.wrote L.tells accepts_header N.seen to fair whole begun (N.seen net.old) writes writes_now before after hall.old }
+    requires goes { (cfg : C.Settings) × (accepts_header : Bool) × (sends_header : Option ℕ) × (to : Place) × (fair whole : Bool) × (begun : NetSeen) × (writes writes_now : ℕ) × (before after : Option (List ℕ)) × GoesFor C.meaning C.stands C.for_peer cfg C.seen C.sound L.seen L.wrote L.tells accepts_header sends_header N.seen to fair whole begun (N.seen net.old) writes writes_now before after hall.old }
     requires lent { count_taken hall.old.places.items ≤ (N.seen net.old).lent }
-    ensures goes { (cfg : C.Settings) (accepts_header : Bool) (to : Place) (fair whole : Bool) (begun : NetSeen) (writes writes_now : ℕ) (before after : Option (List ℕ)) → GoesFor C.meaning C.stands C.for_peer cfg C.seen C.sound L.seen L.wrote L.tells accepts_header N.seen to fair whole begun (N.seen net.old) writes writes_now before after hall.old
-        → GoesFor C.meaning C.stands C.for_peer cfg C.seen C.sound L.seen L.wrote L.tells accepts_header N.seen to false whole begun (N.seen net.new) writes writes_now before after hall.new }
+    ensures goes { (cfg : C.Settings) (accepts_header : Bool) (sends_header : Option ℕ) (to : Place) (fair whole : Bool) (begun : NetSeen) (writes writes_now : ℕ) (before after : Option (List ℕ)) → GoesFor C.meaning C.stands C.for_peer cfg C.seen C.sound L.seen L.wrote L.tells accepts_header sends_header N.seen to fair whole begun (N.seen net.old) writes writes_now before after hall.old
+        → GoesFor C.meaning C.stands C.for_peer cfg C.seen C.sound L.seen L.wrote L.tells accepts_header sends_header N.seen to false whole begun (N.seen net.new) writes writes_now before after hall.new }
     ensures accepted { hall.new.accepted ≡ hall.old.accepted }
     ensures none { count_taken hall.new.places.items ≡ 0 }
     ensures balanced { IsBalanced (N.seen net.old) (N.seen net.new) hall.old.places.items hall.new.places.items }
@@ -143,8 +143,8 @@ fn leave_all<C: ResetsFor + Drop, L: Waits + HasPeer + Drop, N: WaitsNet<Link = 
 /// and none is open. The net is bound already. `sets` are the cores that connections take in turn.
 pub fn run<
     C: ResetsFor + Drop,
-    L: Waits + HasPeer + Drop,
-    N: WaitsNet<Link = L> + Drop,
+    L: Waits + HasPair + Drop,
+    N: WaitsNet<Link = L> + Introduces + Drop,
     S: Nets<N>,
     W: Wakes<N>,
     K: Sink,
@@ -157,9 +157,9 @@ pub fn run<
     plan: &Plan,
 ) -> Result<(), RunFault>
     requires ready { AllByRecursion (IsReady C.seen C.sound) sets.items }
-    requires fresh { (cfg : C.Settings) × AllByRecursion (IsFreshFor (λ peer. C.stands (C.for_peer cfg peer))) sets.items }
+    requires fresh { (cfg : C.Settings) × AllByRecursion (IsFreshFor (λ pair. C.stands (C.for_peer cfg (source_in pair)))) sets.items }
     // Each link that was accepted is that of a connection, which was served to its end or given up, and was given back; and the lines were written.
-    ensures served { (cfg : C.Settings) → AllByRecursion (IsFreshFor (λ peer. C.stands (C.for_peer cfg peer))) sets.items → ServedMany (λ peer. C.meaning (C.for_peer cfg peer)) (λ peer. C.stands (C.for_peer cfg peer)) C.seen L.seen L.wrote L.tells plan.now.accepts_header N.seen (address_of plan.now.to.now) plan.now.connections (S.accepts_none nets.new) (N.seen net.old) (N.seen net.new) (K.faults out.old) (K.faults out.new) (K.written out.old) (K.written out.new) result }
+    ensures served { (cfg : C.Settings) → AllByRecursion (IsFreshFor (λ pair. C.stands (C.for_peer cfg (source_in pair)))) sets.items → ServedMany (λ pair. C.meaning (C.for_peer cfg (source_in pair))) (λ pair. C.stands (C.for_peer cfg (source_in pair))) C.seen L.seen L.wrote L.tells plan.now.accepts_header plan.now.sends_header N.seen (address_of plan.now.to.now) plan.now.connections (S.accepts_none nets.new) (N.seen net.old) (N.seen net.new) (K.faults out.old) (K.faults out.new) (K.written out.old) (K.written out.new) result }
     ensures lent { (N.seen net.new).lent ≡ (N.seen net.old).lent }
     ensures bound { (N.seen net.new).bound ≡ (N.seen net.old).bound }
     ensures dialled { (N.seen net.new).dialled ≡ (N.seen net.old).dialled }

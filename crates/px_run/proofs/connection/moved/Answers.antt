@@ -1,5 +1,6 @@
 use Rattle.std.proofs.Common.{rules, ◌≡◌, None}
 use Rattle.px_link.specs.Net.{address_of}
+use Rattle.px_proxyproto.specs.Meeting.{source_in}
 use Rattle.px_run.proofs.Looks.{serving_at, over_at}
 use Rattle.px_run.proofs.connection.moved.Goals as goal
 
@@ -43,6 +44,6 @@ returns-in-Lost-clause-at g c = λ cfg first first_net h.
     over_at (g.C.Machine.meaning cfg) (g.C.Machine.stands cfg) g.C.Machine.seen g.C.Machine.sound g.L.Link.seen g.L.Link.wrote first (address_of c.args.to.now) (g.N.Net.seen first_net) _ _ _ _ _ n c.in-Lost.ensures.may.2.no_server (c.in-Lost.ensures.goes cfg first first_net h).2.so
 
 pub returns-in-Ended-clause-fresh : goal.returns-in-Ended-clause-fresh
-returns-in-Ended-clause-fresh g c = λ cfg peer first first_net h f.
-    let e = c.in-Ended.ensures.goes (g.C.ResetsFor.for_peer cfg peer) first first_net h in
-    c.free.ensures.fresh cfg peer (e.0, e.1, e.2.core) f
+returns-in-Ended-clause-fresh g c = λ cfg pair first first_net h f.
+    let e = c.in-Ended.ensures.goes (g.C.ResetsFor.for_peer cfg (source_in pair)) first first_net h in
+    c.free.ensures.fresh cfg pair (e.0, e.1, e.2.core) f

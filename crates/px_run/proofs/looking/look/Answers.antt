@@ -1,5 +1,6 @@
 use Rattle.std.proofs.Common.{rules, ◌≡◌, None, false, refl}
 use Rattle.px_link.specs.Net.{address_of}
+use Rattle.px_proxyproto.specs.Meeting.{source_in}
 use Rattle.px_run.specs.Callers.{is_greeted}
 use Rattle.px_run.proofs.Asked.{same_server}
 use Rattle.px_run.proofs.Callers.{for_asked, served_of, served_on}
@@ -11,25 +12,25 @@ serve-requires-clause-at g c =
     let q = c.requires.at in
     let none : c.args.connection.now.conn.ran ≡ None = search rules in
     let met : is_greeted c.args.connection.now.caller ≡ false = search rules in
-    let s = served_of (g.C.Machine.meaning ∘ g.C.ResetsFor.for_peer q.0) (g.C.Machine.stands ∘ g.C.ResetsFor.for_peer q.0) g.C.Machine.seen g.C.Machine.sound g.L.Link.seen g.L.Link.wrote g.L.HasPeer.tells q.1 q.2 (address_of c.args.to.now) (g.N.Net.seen q.3) c.args.connection.now.caller c.args.connection.now.conn.client c.args.connection.now.conn.server (g.N.Net.seen c.args.connection.now.conn.net) c.args.connection.now.conn.ran c.args.connection.now.core none met q.5 in
-    (q.0, s.begins, q.3, q.4, s.at)
+    let s = served_of (g.C.Machine.meaning ∘ g.C.ResetsFor.for_peer q.0 ∘ source_in) (g.C.Machine.stands ∘ g.C.ResetsFor.for_peer q.0 ∘ source_in) g.C.Machine.seen g.C.Machine.sound g.L.Link.seen g.L.Link.wrote g.L.HasPair.tells c.args.plan.now.accepts_header c.args.plan.now.sends_header g.N.Net.seen q.1 (address_of c.args.plan.now.to.now) (g.N.Net.seen q.2) c.args.connection.now.caller c.args.connection.now.conn.client c.args.connection.now.conn.server (g.N.Net.seen c.args.connection.now.conn.net) c.args.connection.now.conn.ran c.args.connection.now.core none met q.4 in
+    (q.0, s.begins, s.own, q.3, s.at)
 
 pub returns-clause-at : goal.returns-clause-at
-returns-clause-at g c = λ cfg accepts_header first first_net f h.
+returns-clause-at g c = λ cfg first first_net f h.
     let none : c.args.connection.now.conn.ran ≡ None = search rules in
     let met : is_greeted c.args.connection.now.caller ≡ false = search rules in
-    served_on (g.C.Machine.meaning ∘ g.C.ResetsFor.for_peer cfg) (g.C.Machine.stands ∘ g.C.ResetsFor.for_peer cfg) g.C.Machine.seen g.C.Machine.sound g.L.Link.seen g.L.Link.wrote g.L.HasPeer.tells accepts_header first (address_of c.args.to.now) (g.N.Net.seen first_net) c.args.connection.now.caller _ _ _ _ _ _ _ _ _ _ _ none met c.serve.ensures.caller (λ begins at. c.serve.ensures.at cfg begins first_net f at) h
+    served_on (g.C.Machine.meaning ∘ g.C.ResetsFor.for_peer cfg ∘ source_in) (g.C.Machine.stands ∘ g.C.ResetsFor.for_peer cfg ∘ source_in) g.C.Machine.seen g.C.Machine.sound g.L.Link.seen g.L.Link.wrote g.L.HasPair.tells c.args.plan.now.accepts_header c.args.plan.now.sends_header g.N.Net.seen first (address_of c.args.plan.now.to.now) (g.N.Net.seen first_net) c.args.connection.now.caller _ _ _ _ _ _ _ _ _ _ _ none met c.serve.ensures.caller (λ begins own at. c.serve.ensures.at cfg begins own f at) h
 
 pub returns-clause-fresh : goal.returns-clause-fresh
-returns-clause-fresh g c = λ cfg accepts_header first first_net f h.
+returns-clause-fresh g c = λ cfg first first_net f h.
     let none : c.args.connection.now.conn.ran ≡ None = search rules in
     let met : is_greeted c.args.connection.now.caller ≡ false = search rules in
-    let s = served_of (g.C.Machine.meaning ∘ g.C.ResetsFor.for_peer cfg) (g.C.Machine.stands ∘ g.C.ResetsFor.for_peer cfg) g.C.Machine.seen g.C.Machine.sound g.L.Link.seen g.L.Link.wrote g.L.HasPeer.tells accepts_header first (address_of c.args.to.now) (g.N.Net.seen first_net) c.args.connection.now.caller c.args.connection.now.conn.client c.args.connection.now.conn.server (g.N.Net.seen c.args.connection.now.conn.net) c.args.connection.now.conn.ran c.args.connection.now.core none met h in
-    c.serve.ensures.fresh cfg s.begins first_net f s.at
+    let s = served_of (g.C.Machine.meaning ∘ g.C.ResetsFor.for_peer cfg ∘ source_in) (g.C.Machine.stands ∘ g.C.ResetsFor.for_peer cfg ∘ source_in) g.C.Machine.seen g.C.Machine.sound g.L.Link.seen g.L.Link.wrote g.L.HasPair.tells c.args.plan.now.accepts_header c.args.plan.now.sends_header g.N.Net.seen first (address_of c.args.plan.now.to.now) (g.N.Net.seen first_net) c.args.connection.now.caller c.args.connection.now.conn.client c.args.connection.now.conn.server (g.N.Net.seen c.args.connection.now.conn.net) c.args.connection.now.conn.ran c.args.connection.now.core none met h in
+    c.serve.ensures.fresh cfg s.begins s.own f s.at
 
 pub returns-then-is_greeted-clause-at : goal.returns-then-is_greeted-clause-at
-returns-then-is_greeted-clause-at g c = λ cfg accepts_header first first_net f h. c.hear.ensures.at cfg accepts_header first (address_of c.args.to.now) first_net h
+returns-then-is_greeted-clause-at g c = λ cfg first first_net f h. c.hear.ensures.at cfg c.args.plan.now.accepts_header first (address_of c.args.plan.now.to.now) first_net h
 
 pub returns-then-is_some-clause-at : goal.returns-then-is_some-clause-at
-returns-then-is_some-clause-at g c = λ cfg accepts_header first first_net f h.
-    for_asked (g.C.Machine.meaning ∘ g.C.ResetsFor.for_peer cfg) (g.C.Machine.stands ∘ g.C.ResetsFor.for_peer cfg) g.C.Machine.seen g.C.Machine.sound g.L.Link.seen g.L.Link.wrote g.L.HasPeer.tells accepts_header first (address_of c.args.to.now) (g.N.Net.seen first_net) c.args.connection.now.caller _ _ _ _ _ _ _ _ c.leaves.ensures.client (same_server g.L.Link.seen g.L.Link.wrote c.args.connection.now.conn.server) refl h
+returns-then-is_some-clause-at g c = λ cfg first first_net f h.
+    for_asked (g.C.Machine.meaning ∘ g.C.ResetsFor.for_peer cfg ∘ source_in) (g.C.Machine.stands ∘ g.C.ResetsFor.for_peer cfg ∘ source_in) g.C.Machine.seen g.C.Machine.sound g.L.Link.seen g.L.Link.wrote g.L.HasPair.tells c.args.plan.now.accepts_header c.args.plan.now.sends_header g.N.Net.seen first (address_of c.args.plan.now.to.now) (g.N.Net.seen first_net) c.args.connection.now.caller _ _ _ _ _ _ _ _ c.leaves.ensures.client (same_server g.L.Link.seen g.L.Link.wrote c.args.connection.now.conn.server) refl h
