@@ -1,6 +1,6 @@
 -- Each line keeps the configuration so far sound, and a sound one is valid in the end.
-use Rattle.std.proofs.Common.{◌≡◌, ℕ, ◌+◌, ◌-◌, ◌≤◌, ◌<◌, Bool, true, false, cond, ltb, leb, eqb, List, [], ◌∷◌, ◌++◌, length, take, drop, Option, Some, None, Result, Ok, Err, refl, sym, ap, subst, ◌∙◌, arith, length-append}
-use Rattle.std.specs.Prelude.{◌&&◌, ◌||◌, ◌⊎◌, OnOk, IfSome, is_some, unwrap_or, codes}
+use Rattle.std.proofs.Common.{◌≡◌, ℕ, ◌+◌, ◌-◌, ◌≤◌, ◌<◌, ◌⊎◌, inl, inr, Bool, true, false, cond, ltb, leb, eqb, List, [], ◌∷◌, ◌++◌, length, take, drop, Option, Some, None, Result, Ok, Err, refl, sym, ap, subst, ◌∙◌, arith, length-append}
+use Rattle.std.specs.Prelude.{◌&&◌, ◌||◌, OnOk, IfSome, is_some, unwrap_or, codes}
 use Rattle.std.specs.List.{AllByRecursion}
 use Rattle.std.specs.Str.{bytes_eq}
 use Rattle.std.specs.Str.Lines.{lines}
@@ -9,7 +9,7 @@ use Rattle.std.proofs.lemmas.Bool.{ltb-false}
 use Rattle.http_model.specs.Sizes.{most_size}
 use Rattle.px_link.specs.declared.address.Address.{Address}
 use Rattle.http_rules.specs.declared.config.Config.{Config}
-use Rattle.http_rules.specs.Valid.{AreLimits, HasPort, HasHost, IsValid}
+use Rattle.http_rules.specs.Valid.{AreLimits, HasPort, HasHost, IsVersion, IsValid}
 use Rattle.cfg_parse.specs.declared.fault.CfgKind.{CfgKind}
 use Rattle.cfg_parse.specs.declared.fault.CfgKind.TheVariants.{Argument, Section, Limit, Missing}
 use Rattle.cfg_parse.specs.declared.draft.Draft.{Draft}
@@ -20,9 +20,9 @@ use Rattle.http_rules.specs.declared.rule.action.Direction.TheVariants as lists
 use Rattle.http_rules.specs.Rule.Valid.{AreRules, IsGoodRule}
 use Rattle.cfg_expr.specs.declared.condition.written.AclLine.{AclLine}
 use Rattle.cfg_parse.specs.Reading.{◌>>=◌, argument, no_more, Leaves}
-use Rattle.cfg_parse.specs.Keywords.{timeout_of}
+use Rattle.cfg_parse.specs.Keywords.{header_version, timeout_of}
 use Rattle.cfg_parse.specs.Draft.{start, has_listen}
-use Rattle.cfg_parse.specs.Settings.{has_effect, section_line, bufsize_line, maxrewrite_line, mode_line, named, timeout_line, bind_options, bind_line, server_line}
+use Rattle.cfg_parse.specs.Settings.{has_effect, section_line, bufsize_line, maxrewrite_line, mode_line, named, timeout_line, bind_options, bind_line, server_options, server_line}
 use Rattle.cfg_parse.specs.Rules.{tests_of, rules_in, has_room, with_rule, rule_added, with_forwarding}
 use Rattle.cfg_parse.specs.Sound.{IsSound}
 use Rattle.cfg_parse.specs.Whole.{bufsize_of, maxrewrite_of, limits_of, made_config, with_last, with_addresses, whole}
@@ -52,6 +52,27 @@ size_of-within least most word n e =
     let most-le : read.0 ≤ most = ltb-false _ _ tests.1 in
     (omega arith, omega arith)
 
+-- ---- options of `server`
+
+either_version : (first second : Bool) → IfSome (cond first (Some 1) (cond second (Some 2) None)) IsVersion
+either_version true second = inl refl
+either_version false true = inr refl
+either_version false false = tt
+
+header_version-good : (word : List ℕ) → IfSome (header_version word) IsVersion
+unfolding header_version
+header_version-good word = either_version (bytes_eq word (codes "send-proxy")) (bytes_eq word (codes "send-proxy-v2"))
+
+option_alone : (asked : Option ℕ) (others : List (List ℕ)) (version : Option ℕ) → IfSome asked IsVersion → (named asked >>= λ v. no_more others >>= λ ended. Ok (Some v)) ≡ Ok version → IfSome version IsVersion
+option_alone None others version good e = absurd cc
+option_alone (Some v) [] version good e = subst (λ (o : Option ℕ). IfSome o IsVersion) (ok_is (Some v) version e) good
+option_alone (Some v) (word ∷ others) version good e = absurd cc
+
+server_options-good : (words : List (List ℕ)) (version : Option ℕ) → server_options words ≡ Ok version → IfSome version IsVersion
+unfolding server_options
+server_options-good [] version e = subst (λ (o : Option ℕ). IfSome o IsVersion) (ok_is None version e) tt
+server_options-good (word ∷ others) version e = option_alone (header_version word) others version (header_version-good word) e
+
 -- ---- the configuration so far
 
 -- what follows is sound, if it is not refused
@@ -77,23 +98,23 @@ begun_good false rule good = tt
 
 section_line-sound : (draft : Draft) (word : SectionWord) (arguments : List (List ℕ)) → IsSound draft → Keeps (section_line draft word arguments)
 unfolding section_line
-section_line-sound draft Global arguments s = keeps_bind (no_more arguments) _ (λ ended is. record { bufsize = s.bufsize; bind = s.bind; server = s.server; request = s.request; response = s.response; after = s.after; req_filters = s.req_filters; res_filters = s.res_filters; forwarding = s.forwarding })
-section_line-sound draft Defaults arguments s = keeps_bind (no_more arguments) _ (λ ended is. record { bufsize = s.bufsize; bind = s.bind; server = s.server; request = s.request; response = s.response; after = s.after; req_filters = s.req_filters; res_filters = s.res_filters; forwarding = begun_good (has_listen draft.listen) draft.forwarding s.forwarding })
+section_line-sound draft Global arguments s = keeps_bind (no_more arguments) _ (λ ended is. record { bufsize = s.bufsize; bind = s.bind; server = s.server; send_proxy = s.send_proxy; request = s.request; response = s.response; after = s.after; req_filters = s.req_filters; res_filters = s.res_filters; forwarding = s.forwarding })
+section_line-sound draft Defaults arguments s = keeps_bind (no_more arguments) _ (λ ended is. record { bufsize = s.bufsize; bind = s.bind; server = s.server; send_proxy = s.send_proxy; request = s.request; response = s.response; after = s.after; req_filters = s.req_filters; res_filters = s.res_filters; forwarding = begun_good (has_listen draft.listen) draft.forwarding s.forwarding })
 section_line-sound draft Listen arguments s =
-    keeps_unless (has_listen draft.listen) Section _ (keeps_bind (argument arguments) _ (λ name is. keeps_bind (no_more name.1) _ (λ ended ends. record { bufsize = s.bufsize; bind = s.bind; server = s.server; request = s.request; response = s.response; after = s.after; req_filters = s.req_filters; res_filters = s.res_filters; forwarding = s.forwarding })))
+    keeps_unless (has_listen draft.listen) Section _ (keeps_bind (argument arguments) _ (λ name is. keeps_bind (no_more name.1) _ (λ ended ends. record { bufsize = s.bufsize; bind = s.bind; server = s.server; send_proxy = s.send_proxy; request = s.request; response = s.response; after = s.after; req_filters = s.req_filters; res_filters = s.res_filters; forwarding = s.forwarding })))
 section_line-sound draft Other arguments s = tt
 
 bufsize_line-sound : (draft : Draft) (arguments : List (List ℕ)) → IsSound draft → Keeps (bufsize_line draft arguments)
 unfolding bufsize_line
 bufsize_line-sound draft arguments s =
     keeps_bind (argument arguments) _ (λ word is. keeps_bind (size_of 1024 262144 word.0) _ (λ size size-is. keeps_bind (no_more word.1) _ (λ ended ends.
-    record { bufsize = size_of-within 1024 262144 word.0 size size-is; bind = s.bind; server = s.server; request = s.request; response = s.response; after = s.after; req_filters = s.req_filters; res_filters = s.res_filters; forwarding = s.forwarding })))
+    record { bufsize = size_of-within 1024 262144 word.0 size size-is; bind = s.bind; server = s.server; send_proxy = s.send_proxy; request = s.request; response = s.response; after = s.after; req_filters = s.req_filters; res_filters = s.res_filters; forwarding = s.forwarding })))
 
 maxrewrite_line-sound : (draft : Draft) (arguments : List (List ℕ)) → IsSound draft → Keeps (maxrewrite_line draft arguments)
 unfolding maxrewrite_line
 maxrewrite_line-sound draft arguments s =
     keeps_bind (argument arguments) _ (λ word is. keeps_bind (number_up_to most_size word.0) _ (λ size size-is. keeps_bind (no_more word.1) _ (λ ended ends.
-    record { bufsize = s.bufsize; bind = s.bind; server = s.server; request = s.request; response = s.response; after = s.after; req_filters = s.req_filters; res_filters = s.res_filters; forwarding = s.forwarding })))
+    record { bufsize = s.bufsize; bind = s.bind; server = s.server; send_proxy = s.send_proxy; request = s.request; response = s.response; after = s.after; req_filters = s.req_filters; res_filters = s.res_filters; forwarding = s.forwarding })))
 
 mode_line-sound : (draft : Draft) (arguments : List (List ℕ)) → IsSound draft → Keeps (mode_line draft arguments)
 unfolding mode_line
@@ -104,19 +125,19 @@ timeout_line-sound : (draft : Draft) (arguments : List (List ℕ)) → IsSound d
 unfolding timeout_line
 timeout_line-sound draft arguments s =
     keeps_bind (argument arguments) _ (λ word is. keeps_bind (named (timeout_of word.0)) _ (λ name name-is. keeps_bind (argument word.1) _ (λ second second-is. keeps_bind (time_of second.0) _ (λ time time-is. keeps_bind (no_more second.1) _ (λ ended ends.
-    record { bufsize = s.bufsize; bind = s.bind; server = s.server; request = s.request; response = s.response; after = s.after; req_filters = s.req_filters; res_filters = s.res_filters; forwarding = s.forwarding })))))
+    record { bufsize = s.bufsize; bind = s.bind; server = s.server; send_proxy = s.send_proxy; request = s.request; response = s.response; after = s.after; req_filters = s.req_filters; res_filters = s.res_filters; forwarding = s.forwarding })))))
 
 bind_line-sound : (draft : Draft) (arguments : List (List ℕ)) → IsSound draft → Keeps (bind_line draft arguments)
 unfolding bind_line
 bind_line-sound draft arguments s =
     keeps_unless (is_some draft.bind) Argument _ (keeps_bind (argument arguments) _ (λ word is. keeps_bind (address_of word.0) _ (λ address address-is. keeps_bind (bind_options word.1) _ (λ accepts accepts-is.
-    record { bufsize = s.bufsize; bind = address_of-port word.0 address address-is; server = s.server; request = s.request; response = s.response; after = s.after; req_filters = s.req_filters; res_filters = s.res_filters; forwarding = s.forwarding }))))
+    record { bufsize = s.bufsize; bind = address_of-port word.0 address address-is; server = s.server; send_proxy = s.send_proxy; request = s.request; response = s.response; after = s.after; req_filters = s.req_filters; res_filters = s.res_filters; forwarding = s.forwarding }))))
 
 server_line-sound : (draft : Draft) (arguments : List (List ℕ)) → IsSound draft → Keeps (server_line draft arguments)
 unfolding server_line
 server_line-sound draft arguments s =
-    keeps_unless (is_some draft.server) Argument _ (keeps_bind (argument arguments) _ (λ name name-is. keeps_bind (argument name.1) _ (λ word is. keeps_bind (server_address_of word.0) _ (λ address address-is. keeps_bind (no_more word.1) _ (λ ended ends.
-    record { bufsize = s.bufsize; bind = s.bind; server = server_address_of-good word.0 address address-is; request = s.request; response = s.response; after = s.after; req_filters = s.req_filters; res_filters = s.res_filters; forwarding = s.forwarding })))))
+    keeps_unless (is_some draft.server) Argument _ (keeps_bind (argument arguments) _ (λ name name-is. keeps_bind (argument name.1) _ (λ word is. keeps_bind (server_address_of word.0) _ (λ address address-is. keeps_bind (server_options word.1) _ (λ version version-is.
+    record { bufsize = s.bufsize; bind = s.bind; server = server_address_of-good word.0 address address-is; send_proxy = server_options-good word.1 version version-is; request = s.request; response = s.response; after = s.after; req_filters = s.req_filters; res_filters = s.res_filters; forwarding = s.forwarding })))))
 
 rules_push : (P : Rule → Type 0) (rules : List Rule) (rule : Rule) → AllByRecursion P rules → P rule → AllByRecursion P (rules ++ rule ∷ [])
 rules_push P [] rule all good = (good, tt)
@@ -138,11 +159,11 @@ one_more direction rules rule all good room =
 with_rule-sound : (draft : Draft) (direction : Rules) (rule : Rule) → IsSound draft → IsGoodRule direction rule → length (rules_in draft direction) + 1 ≤ 1024
     → IsSound (with_rule draft direction rule)
 with_rule-sound draft lists.Request rule s good room =
-    record { bufsize = s.bufsize; bind = s.bind; server = s.server; request = one_more lists.Request draft.request rule s.request good room; response = s.response; after = s.after; req_filters = s.req_filters; res_filters = s.res_filters; forwarding = s.forwarding }
+    record { bufsize = s.bufsize; bind = s.bind; server = s.server; send_proxy = s.send_proxy; request = one_more lists.Request draft.request rule s.request good room; response = s.response; after = s.after; req_filters = s.req_filters; res_filters = s.res_filters; forwarding = s.forwarding }
 with_rule-sound draft lists.Response rule s good room =
-    record { bufsize = s.bufsize; bind = s.bind; server = s.server; request = s.request; response = one_more lists.Response draft.response rule s.response good room; after = s.after; req_filters = s.req_filters; res_filters = s.res_filters; forwarding = s.forwarding }
+    record { bufsize = s.bufsize; bind = s.bind; server = s.server; send_proxy = s.send_proxy; request = s.request; response = one_more lists.Response draft.response rule s.response good room; after = s.after; req_filters = s.req_filters; res_filters = s.res_filters; forwarding = s.forwarding }
 with_rule-sound draft lists.After rule s good room =
-    record { bufsize = s.bufsize; bind = s.bind; server = s.server; request = s.request; response = s.response; after = one_more lists.After draft.after rule s.after good room; req_filters = s.req_filters; res_filters = s.res_filters; forwarding = s.forwarding }
+    record { bufsize = s.bufsize; bind = s.bind; server = s.server; send_proxy = s.send_proxy; request = s.request; response = s.response; after = one_more lists.After draft.after rule s.after good room; req_filters = s.req_filters; res_filters = s.res_filters; forwarding = s.forwarding }
 
 rule_added-sound : (draft : Draft) (direction : Rules) (rule : Rule) → IsSound draft → IsGoodRule direction rule → Keeps (rule_added draft direction rule)
 unfolding rule_added
@@ -153,10 +174,10 @@ rule_added-sound draft direction rule s good =
 filter_added-sound : (draft : Draft) (direction : Side) (filter : FilterSpec) → IsSound draft → IsFilter filter → Keeps (filter_added draft direction filter)
 filter_added-sound draft Request filter s good =
     keeps_bind (with_filter draft.req_filters filter) _ (λ filters is.
-    record { bufsize = s.bufsize; bind = s.bind; server = s.server; request = s.request; response = s.response; after = s.after; req_filters = chain_more draft.req_filters filter filters s.req_filters good is; res_filters = s.res_filters; forwarding = s.forwarding })
+    record { bufsize = s.bufsize; bind = s.bind; server = s.server; send_proxy = s.send_proxy; request = s.request; response = s.response; after = s.after; req_filters = chain_more draft.req_filters filter filters s.req_filters good is; res_filters = s.res_filters; forwarding = s.forwarding })
 filter_added-sound draft Response filter s good =
     keeps_bind (with_filter draft.res_filters filter) _ (λ filters is.
-    record { bufsize = s.bufsize; bind = s.bind; server = s.server; request = s.request; response = s.response; after = s.after; req_filters = s.req_filters; res_filters = chain_more draft.res_filters filter filters s.res_filters good is; forwarding = s.forwarding })
+    record { bufsize = s.bufsize; bind = s.bind; server = s.server; send_proxy = s.send_proxy; request = s.request; response = s.response; after = s.after; req_filters = s.req_filters; res_filters = chain_more draft.res_filters filter filters s.res_filters good is; forwarding = s.forwarding })
 
 filter_setting-sound : (draft : Draft) (arguments : List (List ℕ)) → IsSound draft → Keeps (filter_setting draft arguments)
 unfolding filter_setting
@@ -203,11 +224,11 @@ forwarding_left draft left rule is good s = by (has_effect draft) refl
   where
     by : (effect : Bool) → has_effect draft ≡ effect → IsSound left
     by true e = subst IsSound (sym (is ∙ ap (λ (b : Bool). cond b (record draft { forwarding = Some rule }) draft) e))
-        (record { bufsize = s.bufsize; bind = s.bind; server = s.server; request = s.request; response = s.response; after = s.after; req_filters = s.req_filters; res_filters = s.res_filters; forwarding = good })
+        (record { bufsize = s.bufsize; bind = s.bind; server = s.server; send_proxy = s.send_proxy; request = s.request; response = s.response; after = s.after; req_filters = s.req_filters; res_filters = s.res_filters; forwarding = good })
     by false e = subst IsSound (sym (is ∙ ap (λ (b : Bool). cond b (record draft { forwarding = Some rule }) draft) e)) s
 
 pub acls_left : (draft : Draft) (lines : List AclLine) → IsSound draft → IsSound (record draft { acls = lines })
-acls_left draft lines s = record { bufsize = s.bufsize; bind = s.bind; server = s.server; request = s.request; response = s.response; after = s.after; req_filters = s.req_filters; res_filters = s.res_filters; forwarding = s.forwarding }
+acls_left draft lines s = record { bufsize = s.bufsize; bind = s.bind; server = s.server; send_proxy = s.send_proxy; request = s.request; response = s.response; after = s.after; req_filters = s.req_filters; res_filters = s.res_filters; forwarding = s.forwarding }
 
 -- ---- all lines
 
@@ -215,7 +236,7 @@ no_rules : (direction : Rules) → AreRules direction []
 no_rules direction = record { each = tt; few = omega arith }
 
 pub start-sound : IsSound start
-start-sound = record { bufsize = tt; bind = tt; server = tt; request = no_rules lists.Request; response = no_rules lists.Response; after = no_rules lists.After; req_filters = none_chain; res_filters = none_chain; forwarding = tt }
+start-sound = record { bufsize = tt; bind = tt; server = tt; send_proxy = tt; request = no_rules lists.Request; response = no_rules lists.Response; after = no_rules lists.After; req_filters = none_chain; res_filters = none_chain; forwarding = tt }
 
 -- the size of the buffer of a sound draft
 bufsize-within : (bufsize : Option ℕ) → IfSome bufsize (λ n. (1024 ≤ n) × (n ≤ 262144)) → (1024 ≤ unwrap_or bufsize 16384) × (unwrap_or bufsize 16384 ≤ 262144)
@@ -231,7 +252,7 @@ with_addresses-valid draft rules (Some bind) (Some server) config s are suits b 
     let test = passed (has_listen draft.listen) Missing (Ok made) config e in
     let within = bufsize-within draft.bufsize s.bufsize in
     let limits : AreLimits (limits_of draft) = record { least = within.0; most = within.1; leaves = omega (arith, within.0, suits) } in
-    subst IsValid (ok_is made config test.1) (record { limits = limits; bind_port = b; server_port = v.0; server_host = v.1; request = are; response = s.response; after = s.after; req_filters = s.req_filters; res_filters = s.res_filters })
+    subst IsValid (ok_is made config test.1) (record { limits = limits; bind_port = b; server_port = v.0; server_host = v.1; send_proxy = s.send_proxy; request = are; response = s.response; after = s.after; req_filters = s.req_filters; res_filters = s.res_filters })
 
 with_last-good : (rules : List Rule) (last : Option Rule) → AreRules lists.Request rules → IfSome last (IsGoodRule lists.Request) → (all : List Rule) → with_last rules last ≡ Ok all → AreRules lists.Request all
 with_last-good rules None are good all is = subst (AreRules lists.Request) (ok_is rules all is) are

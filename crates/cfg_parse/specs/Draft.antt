@@ -25,6 +25,7 @@ start =
       bind = None;
       accept_proxy = false;
       server = None;
+      send_proxy = None;
       acls = [];
       tests = 0;
       request = [];

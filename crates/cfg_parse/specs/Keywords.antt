@@ -60,6 +60,13 @@ abbrev pub first_word_of : List ℕ → FirstWord
 first_word_of word =
     as_section (section_word word) (as_setting (general_setting word) (as_listen_setting (listen_setting word)))
 
+-- the options of `server`, each by the version of the header of the PROXY protocol that it asks for
+unfoldable pub header_version : List ℕ → Option ℕ
+header_version word =
+    if bytes_eq word (codes "send-proxy") then Some 1
+    else (if bytes_eq word (codes "send-proxy-v2") then Some 2
+    else None)
+
 -- the timeouts that have an effect, by name
 unfoldable pub timed_wait : List ℕ → Option TimeoutName
 timed_wait word =

@@ -34,7 +34,7 @@ unfoldable pub missing_meaning : List ℕ
 missing_meaning = codes "The file has no listen, bind or server. It has one listen NAME, with bind HOST:PORT and server NAME HOST:PORT in it."
 
 unfoldable pub mode_meaning : List ℕ
-mode_meaning = codes "The command does not take a configuration with this option. For explain and weave, bind HOST:PORT stands without accept-proxy."
+mode_meaning = codes "The command does not take a configuration with this option. For explain and weave, bind HOST:PORT stands without accept-proxy; for weave, server NAME HOST:PORT without send-proxy or send-proxy-v2."
 
 -- the sentence of a kind
 abbrev pub meaning_of : CfgKind → List ℕ

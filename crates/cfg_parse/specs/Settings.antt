@@ -14,7 +14,7 @@ use Rattle.cfg_parse.specs.declared.draft.Listen.TheVariants as listens
 use Rattle.cfg_parse.specs.Reading.{◌>>=◌, argument, no_more}
 use Rattle.cfg_parse.specs.declared.keywords.TimeoutName.{TimeoutName}
 use Rattle.cfg_parse.specs.declared.keywords.TimeoutName.TheVariants as names
-use Rattle.cfg_parse.specs.Keywords.{timeout_of}
+use Rattle.cfg_parse.specs.Keywords.{header_version, timeout_of}
 use Rattle.cfg_parse.specs.Numbers.{number_up_to, size_of, time_of}
 use Rattle.cfg_parse.specs.Addresses.{address_of, server_address_of}
 use Rattle.cfg_parse.specs.Draft.{has_listen, is_listen, default_timeouts}
@@ -76,7 +76,7 @@ with_time times names.Idle time = times
 abbrev pub has_effect : Draft → Bool
 has_effect draft = is_listen draft.section || not (has_listen draft.listen)
 
-abbrev pub named : Option TimeoutName → Result TimeoutName CfgKind
+abbrev pub named : {A : Type 0} → Option A → Result A CfgKind
 named (Some name) = Ok name
 named None = Err Argument
 
@@ -101,8 +101,13 @@ bind_line draft arguments =
     if is_some draft.bind then Err Argument
     else (argument arguments >>= λ word. address_of word.0 >>= λ address. bind_options word.1 >>= λ accepts. Ok (record draft { bind = Some address; accept_proxy = accepts }))
 
--- `server NAME HOST:PORT`, once
+-- what may stand behind the address of `server`: nothing, or one option, of which it tells the version
+unfoldable pub server_options : List (List ℕ) → Result (Option ℕ) CfgKind
+server_options [] = Ok None
+server_options (word ∷ others) = named (header_version word) >>= λ version. no_more others >>= λ ended. Ok (Some version)
+
+-- `server NAME HOST:PORT` with `send-proxy`, `send-proxy-v2` or nothing behind it, once
 unfoldable pub server_line : Draft → List (List ℕ) → Result Draft CfgKind
 server_line draft arguments =
     if is_some draft.server then Err Argument
-    else (argument arguments >>= λ name. argument name.1 >>= λ word. server_address_of word.0 >>= λ address. no_more word.1 >>= λ ended. Ok (record draft { server = Some address }))
+    else (argument arguments >>= λ name. argument name.1 >>= λ word. server_address_of word.0 >>= λ address. server_options word.1 >>= λ version. Ok (record draft { server = Some address; send_proxy = version }))

@@ -53,6 +53,7 @@ made_config draft rules bind server =
       bind = bind;
       accept_proxy = draft.accept_proxy;
       server = server;
+      send_proxy = draft.send_proxy;
       request = rules;
       response = draft.response;
       after = draft.after;

@@ -32,6 +32,8 @@ pub struct Draft {
     /// The `bind` line has `accept-proxy`.
     pub accept_proxy: bool,
     pub server: Option<Address>,
+    /// The version of the header that an option of the `server` line asks for.
+    pub send_proxy: Option<u32>,
     /// The `acl` lines so far.
     pub acls: AclList,
     /// How many tests the conditions so far have.

@@ -1,7 +1,7 @@
 //! The words that a configuration knows by name.
 
 ghost use Rattle.std.specs.Prelude.{◌≡◌};
-ghost use Rattle.cfg_parse.specs.Keywords.{section_word, general_setting, listen_setting, first_word_of, timed_wait, is_idle_timeout, timeout_of};
+ghost use Rattle.cfg_parse.specs.Keywords.{section_word, general_setting, listen_setting, first_word_of, header_version, timed_wait, is_idle_timeout, timeout_of};
 
 use cfg_expr::is_word;
 
@@ -136,6 +136,20 @@ pub fn first_word_of(word: &[u8]) -> FirstWord
     match listen_setting(word) {
         Some(setting) => FirstWord::Sets(setting, Places::InListen),
         None => FirstWord::Unknown,
+    }
+}
+
+/// The options of `server`, each by the version of the header of the PROXY protocol that it asks for.
+#[tactic(auto, unfolding(crate::specs::Keywords::header_version))]
+pub fn header_version(word: &[u8]) -> Option<u32>
+    ensures { result ≡ header_version word.now }
+{
+    if is_word(word, b"send-proxy") {
+        Some(1)
+    } else if is_word(word, b"send-proxy-v2") {
+        Some(2)
+    } else {
+        None
     }
 }
 

@@ -31,6 +31,6 @@ pub fn meaning_of(kind: CfgKind) -> &'static str
         CfgKind::Missing =>
             "The file has no listen, bind or server. It has one listen NAME, with bind HOST:PORT and server NAME HOST:PORT in it.",
         CfgKind::Mode =>
-            "The command does not take a configuration with this option. For explain and weave, bind HOST:PORT stands without accept-proxy.",
+            "The command does not take a configuration with this option. For explain and weave, bind HOST:PORT stands without accept-proxy; for weave, server NAME HOST:PORT without send-proxy or send-proxy-v2.",
     }
 }

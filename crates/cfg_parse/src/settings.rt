@@ -1,20 +1,19 @@
 //! The lines of a section, but for rules and filters.
 
-ghost use Rattle.std.specs.Prelude.{◌≡◌, Some, OnOk, OnErr};
-ghost use Rattle.cfg_parse.specs.Reading.{Gives, Leaves, no_more};
-ghost use Rattle.cfg_parse.specs.Settings.{bufsize_line, maxrewrite_line, mode_line, with_time, has_effect, timeout_line, bind_options, bind_line, server_line};
+ghost use Rattle.std.specs.Prelude.{◌≡◌, OnErr};
+ghost use Rattle.cfg_parse.specs.Reading.{Gives, Leaves};
+ghost use Rattle.cfg_parse.specs.Settings.{bufsize_line, maxrewrite_line, mode_line, with_time, has_effect, timeout_line, bind_options, bind_line, server_options, server_line};
 
 use crate::address::{address_of, server_address_of};
 use crate::arguments::Arguments;
 use crate::draft::{Draft, Listen, Section};
 use crate::fault::{CfgKind, LineRefusal};
-use crate::keywords::{TimeoutName, timeout_of};
+use crate::keywords::{TimeoutName, header_version, timeout_of};
 use crate::sizes::{number_up_to, size_of};
 use crate::times::time_of;
 use cfg_expr::is_word;
 use http_model::{MAX_BUFSIZE, MIN_BUFSIZE};
 use http_rules::Timeouts;
-use px_link::Address;
 use std::alloc::Global;
 
 #[tactic(auto, unfolding(crate::specs::Settings::bufsize_line))]
@@ -96,28 +95,6 @@ pub fn set_timeout(draft: &mut Draft, arguments: Arguments<'_>) -> Result<(), Li
     Ok(())
 }
 
-/// The address that a line ends with.
-fn put_last(
-    place: &mut Option<Address>,
-    address: Address,
-    behind: Arguments<'_>,
-) -> Result<(), LineRefusal>
-    ensures last { Gives (λ nothing. nothing) result (no_more behind.entry) }
-    ensures put { OnOk result (place.new ≡ Some address) }
-    ensures unchanged { OnErr result (place.new ≡ place.old) }
-{
-    match behind.no_more() {
-        Ok(()) => {
-            drop(place.replace(address));
-            Ok(())
-        }
-        Err(refusal) => {
-            drop(address);
-            Err(refusal)
-        }
-    }
-}
-
 /// Whether `accept-proxy` stands behind the address of a `bind` line, where nothing else may.
 #[tactic(auto, unfolding(crate::specs::Settings::bind_options))]
 fn bind_options(mut options: Arguments<'_>) -> Result<bool, LineRefusal>
@@ -153,6 +130,21 @@ pub fn set_bind(
     Ok(())
 }
 
+/// The version of the header that one option behind the address of a `server` line asks for, where one stands there; nothing else may.
+#[tactic(auto, unfolding(crate::specs::Settings::server_options))]
+fn server_options(mut words: Arguments<'_>) -> Result<Option<u32>, LineRefusal>
+    ensures { Gives (λ version. version) result (server_options words.entry) }
+{
+    let Some(option) = words.next() else {
+        return Ok(None);
+    };
+    let Some(version) = header_version(option) else {
+        return Err(LineRefusal::Refused(CfgKind::Argument));
+    };
+    words.no_more()?;
+    Ok(Some(version))
+}
+
 #[tactic(auto, unfolding(crate::specs::Settings::server_line))]
 pub fn set_server(
     alloc: Global,
@@ -168,5 +160,8 @@ pub fn set_server(
     let (_name, arguments) = arguments.argument()?;
     let (word, arguments) = arguments.argument()?;
     let address = server_address_of(alloc, word)?;
-    put_last(&mut draft.server, address, arguments)
+    let version = server_options(arguments)?;
+    drop(draft.server.replace(address));
+    draft.send_proxy = version;
+    Ok(())
 }

@@ -1,5 +1,5 @@
 -- Which configurations are valid: those that loading gives, and that the layers above take.
-use Rattle.std.specs.Prelude.{◌≡◌, ◌+◌, ◌≤◌, List, length, count_by, Bool, true, false, codes}
+use Rattle.std.specs.Prelude.{◌≡◌, ◌+◌, ◌≤◌, ◌⊎◌, ℕ, List, length, count_by, Bool, true, false, IfSome, codes}
 use Rattle.std.specs.Str.{bytes_eq}
 use Rattle.http_model.specs.declared.Limits.{Limits}
 use Rattle.http_model.specs.Sizes.{least_size, most_size, least_head}
@@ -27,6 +27,10 @@ pub record HasHost (address : Address) : Type 0 where
   pub some : 1 ≤ length address.host
   pub one : bytes_eq address.host (codes "*") ≡ false
 
+-- a version of the headers of the PROXY protocol
+abbrev pub IsVersion : ℕ → Type 0
+IsVersion version = (version ≡ 1) ⊎ (version ≡ 2)
+
 -- a filter that changes the length of a body
 abbrev pub is_replace : FilterSpec → Bool
 is_replace (Limit most) = false
@@ -44,6 +48,7 @@ pub record IsValid (config : Config) : Type 0 where
   pub bind_port : HasPort config.bind
   pub server_port : HasPort config.server
   pub server_host : HasHost config.server
+  pub send_proxy : IfSome config.send_proxy IsVersion
   pub request : AreRules directions.Request config.request
   pub response : AreRules directions.Response config.response
   pub after : AreRules directions.After config.after

@@ -36,6 +36,8 @@ pub struct Config {
     pub accept_proxy: bool,
     /// The one server.
     pub server: Address,
+    /// The version, 1 or 2, of the header of the PROXY protocol that each server is sent in front of its requests.
+    pub send_proxy: Option<u32>,
     /// The `http-request` rules, in their order, at most 1024.
     pub request: Rules,
     /// The `http-response` rules, as many at most.
@@ -58,6 +60,7 @@ impl Drop for Config {
             bind: _,
             accept_proxy: _,
             server: _,
+            send_proxy: _,
             request: _,
             response: _,
             after: _,

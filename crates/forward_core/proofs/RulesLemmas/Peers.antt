@@ -13,6 +13,7 @@ valid_for cfg peer v =
       bind_port = v.bind_port;
       server_port = v.server_port;
       server_host = v.server_host;
+      send_proxy = v.send_proxy;
       request = v.request;
       response = v.response;
       after = v.after;
