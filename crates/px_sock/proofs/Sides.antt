@@ -1,7 +1,6 @@
 -- The number of a place is its own.
 use Rattle.std.proofs.Common.{◌≡◌, ℕ, ◌+◌, ◌*◌, ◌-◌, ◌/◌, ◌%◌, ◌^◌, ◌<◌, ◌==◌, min, cond, ap, ◌∙◌, arith}
 use Rattle.std.proofs.lemmas.Bool.{eq-eqb, ne_eqb}
-use Rattle.px_link.specs.declared.wakes.Watched.{Watched}
 use Rattle.px_link.specs.declared.wakes.Watched.TheVariants.{Listener, Client, Server}
 use Rattle.px_sock.specs.Tokens.{watched_of}
 

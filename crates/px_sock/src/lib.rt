@@ -9,7 +9,7 @@ mod handover;
 mod input_end;
 mod linger;
 mod numeric;
-mod peers;
+mod pairs;
 mod ready;
 mod ready_link;
 mod ready_net;

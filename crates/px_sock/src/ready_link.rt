@@ -1,17 +1,17 @@
 //! A link over a stream of the system that doesn't block.
-ghost use Rattle.std.specs.Prelude.{◌≡◌, ℕ, ◌<◌, List, length, true, false, IsErr, ⊤};
+ghost use Rattle.std.specs.Prelude.{◌≡◌, ℕ, ◌<◌, List, length, true, false, IsErr};
 ghost use Rattle.px_link.specs.Link.{Reads, Writes, with_close};
 ghost use Rattle.px_sock.specs.Ready.{link_of};
 
 use crate::faults::{count, counted};
 use crate::linger::{Lingering, linger_now};
-use crate::peers::peer_of;
+use crate::pairs::pair_of;
 use crate::ready::{Ready, after, ready_if};
 use crate::stream_calls::{sends_apart, sends_end};
 use crate::stream_waits::{read_in_time, reads_now, write_in_time, writes_now};
 use px_link::{Close, Failed, Fault, Link, Readiness, Waits};
-use px_peer::Peer;
-use px_proxyproto::HasPeer;
+use px_peer::Pair;
+use px_proxyproto::HasPair;
 use std::io::{Read, Write};
 use std::marker::Model;
 use std::net::OpenStream;
@@ -275,11 +275,14 @@ impl<S: Read + Write + OpenStream + AsRawFd + Drop> Waits for ReadyLink<S> {
     }
 }
 
-/// The system tells the other end, of which no contract says more.
-impl<S: OpenStream> HasPeer for ReadyLink<S> {
-    ghost tells = { λ _ _. ⊤ };
+/// The system tells both ends. No contract says which; but their numbers fit, and both are of one family.
+impl<S: OpenStream> HasPair for ReadyLink<S> {
+    ghost use Rattle.std.specs.Prelude.{IfSome};
+    ghost use Rattle.px_proxyproto.specs.Addresses.{IsPair};
 
-    fn peer(&self) -> Option<Peer> {
-        peer_of(&self.stream)
+    ghost tells = { λ _ pair. IfSome pair IsPair };
+
+    fn pair(&self) -> Option<Pair> {
+        pair_of(&self.stream)
     }
 }

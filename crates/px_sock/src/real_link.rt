@@ -1,14 +1,14 @@
 //! A link over a stream of the system.
-ghost use Rattle.std.specs.Prelude.{◌≡◌, ⊤};
+ghost use Rattle.std.specs.Prelude.{◌≡◌};
 ghost use Rattle.px_link.specs.Link.{untold};
 
 use crate::faults::{count, counted};
 use crate::linger::linger;
-use crate::peers::peer_of;
+use crate::pairs::pair_of;
 use crate::stream_calls::{read_open, sends_end, write_open};
 use px_link::{Close, Failed, Fault, Link};
-use px_peer::Peer;
-use px_proxyproto::HasPeer;
+use px_peer::Pair;
+use px_proxyproto::HasPair;
 use std::io::{Read, Write};
 use std::marker::Model;
 use std::net::OpenStream;
@@ -110,11 +110,14 @@ impl<S: Read + Write + OpenStream + Drop> Link for RealLink<S> {
     }
 }
 
-/// The system tells the other end, of which no contract says more.
-impl<S: OpenStream> HasPeer for RealLink<S> {
-    ghost tells = { λ _ _. ⊤ };
+/// The system tells both ends. No contract says which; but their numbers fit, and both are of one family.
+impl<S: OpenStream> HasPair for RealLink<S> {
+    ghost use Rattle.std.specs.Prelude.{IfSome};
+    ghost use Rattle.px_proxyproto.specs.Addresses.{IsPair};
 
-    fn peer(&self) -> Option<Peer> {
-        peer_of(&self.stream)
+    ghost tells = { λ _ pair. IfSome pair IsPair };
+
+    fn pair(&self) -> Option<Pair> {
+        pair_of(&self.stream)
     }
 }
