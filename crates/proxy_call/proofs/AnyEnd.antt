@@ -3,7 +3,7 @@ use Rattle.std.proofs.Common.{◌≡◌, ℕ, List, ◌⊎◌, inl, inr, refl, s
 use Rattle.std.specs.Prelude.{Option, Some, Result, Ok, Err}
 use Rattle.px_link.specs.Told.{NamedBytes, Gains, Rose}
 use Rattle.px_link.specs.Link.{Seen}
-use Rattle.px_peer.specs.declared.Peer.{Peer}
+use Rattle.px_peer.specs.declared.Pair.{Pair}
 use Rattle.px_link.specs.Net.{Coming, Kept, NetSeen, address_of, with_address}
 use Rattle.http_rules.specs.declared.config.Config.{Config}
 use Rattle.px_command.specs.Command.{IsServe, IsUsage}
@@ -102,7 +102,7 @@ or_ran (inl a) = inl a
 or_ran (inr b) = inr (inl b)
 
 -- ---- clauses
-module _ {L N : Type 0} (seen : L → Seen) (wrote : L → List ℕ → Type 0) (tells : L → Option Peer → Type 0) (net_seen : N → NetSeen) (first now : N) (idle : Type 0) (Runs : Config → RunOptions → Result (Unit {0}) RunFault → Type 0)
+module _ {L N : Type 0} (seen : L → Seen) (wrote : L → List ℕ → Type 0) (tells : L → Option Pair → Type 0) (net_seen : N → NetSeen) (first now : N) (idle : Type 0) (Runs : Config → RunOptions → Result (Unit {0}) RunFault → Type 0)
     (input : Input) (output : Output) where
   abbrev pub End : Status → Type 0
   End status = EndedAny input output (now ≡ first) idle (Serves seen wrote tells net_seen first now output.writes output.writes_now output.old output.new) Runs status

@@ -1,5 +1,6 @@
 -- What words and files call for is one status, and what the call gives is that one, or a fault or want of memory is in the way.
-use Rattle.std.proofs.Common.{◌≡◌, ℕ, ◌<◌, List, [], ◌∷◌, length, ◌⊎◌, inl, inr, true, false, refl, subst, arith}
+use Rattle.std.proofs.lemmas.Bool.{true≢false}
+use Rattle.std.proofs.Common.{◌≡◌, ℕ, ◌<◌, List, [], ◌∷◌, length, ◌⊎◌, inl, inr, true, false, refl, sym, ◌∙◌, subst, arith}
 use Rattle.std.specs.Prelude.{Option, Some, None, Result, Ok, Err}
 use Rattle.px_link.specs.Told.{NamedBytes, Rose, content_of}
 use Rattle.http_rules.specs.declared.config.Config.{Config}
@@ -14,11 +15,13 @@ use Rattle.px_command.specs.declared.options.RunOptions.{RunOptions}
 use Rattle.proxy_commands.specs.Answers.{Checks, DecidesRecord, IsGood, IsRefused, IsRefusedBy}
 use Rattle.proxy_call.specs.Due.{IsDue}
 use Rattle.proxy_commands.specs.Files.{Builder, Configured, Holds, IfTold, RecordIs, RefusesAll}
-use Rattle.proxy_commands.specs.Modes.{RunsApart, Takes}
+use Rattle.proxy_commands.specs.Modes.{RunsSo, Refuses, Takes, refuses}
+use Rattle.proxy_commands.specs.declared.record_command.RecordCommand.{RecordCommand}
+use Rattle.proxy_commands.specs.declared.record_command.RecordCommand.TheVariants.{Replay, Explain, Weave}
 use Rattle.proxy_commands.specs.declared.status.Status.{Status}
 use Rattle.proxy_commands.specs.declared.status.Status.TheVariants.{Good, Usage, FileFault, OutFault, NetFault, OutOfMemory}
 use Rattle.proxy_commands.specs.declared.status.Status.TheVariants as ended
-use Rattle.proxy_call.proofs.Words.{record_or_config, fileless_or_config, fileless_or_record, check_or_record, serve_or_record, run_or_check, run_or_serve, run_or_record, run_or_fileless, same_config_name, same_record_name, replay_or_apart}
+use Rattle.proxy_call.proofs.Words.{record_or_config, fileless_or_config, fileless_or_record, check_or_record, serve_or_record, run_or_check, run_or_serve, run_or_record, run_or_fileless, same_config_name, same_record_name, same_command, runs_record}
 
 -- ---- a file has one content
 
@@ -57,15 +60,17 @@ record_named words files rec (inr (cfg_name, is, cfg, ok, takes)) = inr (cfg_nam
 same_config : (r : Result Config Refusal) (a b : Config) → r ≡ Ok a → r ≡ Ok b → a ≡ b
 same_config r a b p q = cc
 
-header_or_none : (a b : Config) → a ≡ b → a.accept_proxy ≡ false → b.accept_proxy ≡ true → ⊥
-header_or_none a b same none header = cc
+refused_or_not : (command other : RecordCommand) (a b : Config) → command ≡ other → a ≡ b → refuses command a ≡ false → refuses other b ≡ true → ⊥
+refused_or_not command other a b same one taken refused =
+    let P : RecordCommand → Config → Type 0 = λ c cfg. refuses c cfg ≡ false in
+    let not_so : refuses other b ≡ false = subst (λ (cfg : Config). P other cfg) one (subst (λ (c : RecordCommand). P c a) same taken) in
+    absurd (true≢false (sym refused ∙ not_so))
 
-taken_or_mode : (words : List (List ℕ)) (files : List NamedBytes) (name rec other last : List ℕ) (cfg c : Config) → Takes words name rec cfg → RunsApart words other last → name ≡ other
-    → Configured files name (Ok cfg) → Configured files other (Ok c) → c.accept_proxy ≡ true → ⊥
-taken_or_mode words files name rec other last cfg c (inl replay) apart same ok accepted header = replay_or_apart words name rec other last replay apart
-taken_or_mode words files name rec other last cfg c (inr plain) apart same ok accepted header =
+taken_or_mode : (words : List (List ℕ)) (files : List NamedBytes) (name rec other last : List ℕ) (cfg c : Config) → Takes words name rec cfg → Refuses words other last c → name ≡ other
+    → Configured files name (Ok cfg) → Configured files other (Ok c) → ⊥
+taken_or_mode words files name rec other last cfg c takes refused same ok accepted =
     let both = both_hold files other (λ t. config_of t None ≡ Ok cfg) (λ t. config_of t None ≡ Ok c) (subst (λ (n : List ℕ). Configured files n (Ok cfg)) same ok) accepted in
-    header_or_none cfg c (same_config (config_of both.0 None) cfg c both.1 both.2) plain header
+    refused_or_not takes.0 refused.0 cfg c (same_command takes.0 refused.0 words name rec other last takes.1 refused.1) (same_config (config_of both.0 None) cfg c both.1 both.2) takes.2 refused.2
 
 config_named : (words : List (List ℕ)) (name : List ℕ) → Checks words name ⊎ ((connections : ℕ) × IsServe words name connections) → ReadsConfig words name
 config_named words name (inl (inl check)) = inl (inl check)
@@ -93,7 +98,7 @@ config_or_usage words files (inl (name, inl (inr (inl (rec, is))), line, kind, r
 config_or_usage words files (inl (name, inl (inr (inr (inl (count, is)))), line, kind, refused)) usage = usage.serve name count is
 config_or_usage words files (inl (name, inl (inr (inr (inr (options, is)))), line, kind, refused)) usage = usage.run name options is
 config_or_usage words files (inl (name, inr all, line, kind, refused)) usage = usage.check_all name all
-config_or_usage words files (inr (name, rec, apart, cfg, ok, header)) usage = runs_or_usage words name rec (inr apart) usage
+config_or_usage words files (inr (name, rec, cfg, ok, (command, so, refused))) usage = runs_or_usage words name rec (runs_record command words name rec so) usage
 
 record_or_usage : (words : List (List ℕ)) (files : List NamedBytes) → IsDue words files ended.Record → IsUsage words → ⊥
 record_or_usage words files (rec, place, kind, refused, inl is) usage = usage.check_record rec is
@@ -106,12 +111,12 @@ good_or_config words files (inr (inl (rec, is, r, ok))) (inl (other, named, line
 good_or_config words files (inr (inr (inl (name, rec, is, cfg, r, say, takes)))) (inl (other, named, line, kind, refused)) =
     accepted_or_refused files name other cfg (line, kind) (same_config_name words name other (inl (inr (inl (rec, is)))) named) say.configuration refused
 good_or_config words files (inr (inr (inr none))) (inl (other, named, line, kind, refused)) = fileless_or_config words other none named
-good_or_config words files (inl (name, inl check, cfg, ok)) (inr (other, rec, apart, c, accepted, header)) = check_or_record words name rec check (inr (other, inr apart))
-good_or_config words files (inl (name, inr (count, serve), cfg, ok)) (inr (other, rec, apart, c, accepted, header)) = serve_or_record words name rec count serve (inr (other, inr apart))
-good_or_config words files (inr (inl (name, is, r, ok))) (inr (other, rec, apart, c, accepted, header)) = record_or_config words name other is (inl (inr (inl (rec, inr apart))))
-good_or_config words files (inr (inr (inl (name, rec, is, cfg, r, say, takes)))) (inr (other, last, apart, c, accepted, header)) =
-    taken_or_mode words files name rec other last cfg c takes apart (same_config_name words name other (inl (inr (inl (rec, is)))) (inl (inr (inl (last, inr apart))))) say.configuration accepted header
-good_or_config words files (inr (inr (inr none))) (inr (other, rec, apart, c, accepted, header)) = fileless_or_config words other none (inl (inr (inl (rec, inr apart))))
+good_or_config words files (inl (name, inl check, cfg, ok)) (inr (other, rec, c, accepted, (command, so, refused))) = check_or_record words name rec check (inr (other, runs_record command words other rec so))
+good_or_config words files (inl (name, inr (count, serve), cfg, ok)) (inr (other, rec, c, accepted, (command, so, refused))) = serve_or_record words name rec count serve (inr (other, runs_record command words other rec so))
+good_or_config words files (inr (inl (name, is, r, ok))) (inr (other, rec, c, accepted, (command, so, refused))) = record_or_config words name other is (inl (inr (inl (rec, runs_record command words other rec so))))
+good_or_config words files (inr (inr (inl (name, rec, is, cfg, r, say, takes)))) (inr (other, last, c, accepted, (command, so, refused))) =
+    taken_or_mode words files name rec other last cfg c takes (command, so, refused) (same_config_name words name other (inl (inr (inl (rec, is)))) (inl (inr (inl (last, runs_record command words other last so))))) say.configuration accepted
+good_or_config words files (inr (inr (inr none))) (inr (other, rec, c, accepted, (command, so, refused))) = fileless_or_config words other none (inl (inr (inl (rec, runs_record command words other rec so))))
 
 good_or_record : (words : List (List ℕ)) (files : List NamedBytes) → IsDue words files Good → IsDue words files ended.Record → ⊥
 good_or_record words files (inl (name, inl check, cfg, ok)) (rec, place, kind, refused, how) = check_or_record words name rec check (record_named words files rec how)
@@ -126,9 +131,9 @@ config_or_record : (words : List (List ℕ)) (files : List NamedBytes) → IsDue
 config_or_record words files (inl (name, named, line, kind, refused)) (rec, place, what, err, inl is) = record_or_config words rec name is named
 config_or_record words files (inl (name, named, line, kind, refused)) (rec, place, what, err, inr (cfg_name, is, cfg, ok, takes)) =
     accepted_or_refused files cfg_name name cfg (line, kind) (same_config_name words cfg_name name (inl (inr (inl (rec, is)))) named) ok refused
-config_or_record words files (inr (name, last, apart, c, accepted, header)) (rec, place, what, err, inl is) = record_or_config words rec name is (inl (inr (inl (last, inr apart))))
-config_or_record words files (inr (name, last, apart, c, accepted, header)) (rec, place, what, err, inr (cfg_name, is, cfg, ok, takes)) =
-    taken_or_mode words files cfg_name rec name last cfg c takes apart (same_config_name words cfg_name name (inl (inr (inl (rec, is)))) (inl (inr (inl (last, inr apart))))) ok accepted header
+config_or_record words files (inr (name, last, c, accepted, (command, so, refused))) (rec, place, what, err, inl is) = record_or_config words rec name is (inl (inr (inl (last, runs_record command words name last so))))
+config_or_record words files (inr (name, last, c, accepted, (command, so, refused))) (rec, place, what, err, inr (cfg_name, is, cfg, ok, takes)) =
+    taken_or_mode words files cfg_name rec name last cfg c takes (command, so, refused) (same_config_name words cfg_name name (inl (inr (inl (rec, is)))) (inl (inr (inl (last, runs_record command words name last so))))) ok accepted
 
 pub due_once : (words : List (List ℕ)) (files : List NamedBytes) (a b : Status) → IsDue words files a → IsDue words files b → a ≡ b
 due_once words files Good Good p q = refl
@@ -179,7 +184,7 @@ run_not_due words files name options cfg Good is ok (inr (inr (inr none))) = run
 run_not_due words files name options cfg Usage is ok usage = usage.run name options is
 run_not_due words files name options cfg ended.Config is ok (inl (other, named, line, kind, refused)) =
     accepted_or_refused files name other cfg (line, kind) (same_config_name words name other (inl (inr (inr (inr (options, is))))) named) ok refused
-run_not_due words files name options cfg ended.Config is ok (inr (other, rec, apart, c, accepted, header)) = run_or_record words rec (name, options, is) (inr (other, inr apart))
+run_not_due words files name options cfg ended.Config is ok (inr (other, rec, c, accepted, (command, so, refused))) = run_or_record words rec (name, options, is) (inr (other, runs_record command words other rec so))
 run_not_due words files name options cfg ended.Record is ok (rec, place, kind, refused, how) = run_or_record words rec (name, options, is) (record_named words files rec how)
 run_not_due words files name options cfg FileFault is ok due = due
 run_not_due words files name options cfg OutFault is ok due = due
@@ -194,10 +199,10 @@ of_told files fs P is told = subst (λ (f : Option (List NamedBytes)). IfTold f 
 pub good_due : (words : List (List ℕ)) (files : Option (List NamedBytes)) (fs : List NamedBytes) (text : List ℕ) → files ≡ Some fs → IsGood words files text → IsDue words fs Good
 good_due words files fs text told (inl (name, is, (cfg, ok, line))) = inl (name, inl is, cfg, of_told files fs _ told ok)
 good_due words files fs text told (inr (inl (rec, is, (r, ok, wrote)))) = inr (inl (rec, is, r, of_told files fs _ told ok))
-good_due words files fs text told (inr (inr (inl (name, rec, is, (cfg, r, say, wrote))))) = inr (inr (inl (name, rec, inl is, cfg, r, of_told files fs _ told say, inl is)))
-good_due words files fs text told (inr (inr (inr (inl (name, rec, inl (is, (cfg, r, say, plain, wrote))))))) = inr (inr (inl (name, rec, inr (inl (inl is)), cfg, r, of_told files fs _ told say, inr plain)))
-good_due words files fs text told (inr (inr (inr (inl (name, rec, inr (is, (cfg, r, say, plain, wrote))))))) = inr (inr (inl (name, rec, inr (inl (inr is)), cfg, r, of_told files fs _ told say, inr plain)))
-good_due words files fs text told (inr (inr (inr (inr (inl (name, rec, cores, is, (cfg, r, say, plain, wrote))))))) = inr (inr (inl (name, rec, inr (inr (cores, is)), cfg, r, of_told files fs _ told say, inr plain)))
+good_due words files fs text told (inr (inr (inl (name, rec, is, (cfg, r, say, wrote))))) = inr (inr (inl (name, rec, inl is, cfg, r, of_told files fs _ told say, (Replay, is, refl))))
+good_due words files fs text told (inr (inr (inr (inl (name, rec, inl (is, (cfg, r, say, plain, wrote))))))) = inr (inr (inl (name, rec, inr (inl (inl is)), cfg, r, of_told files fs _ told say, (Explain, inl is, plain))))
+good_due words files fs text told (inr (inr (inr (inl (name, rec, inr (is, (cfg, r, say, plain, wrote))))))) = inr (inr (inl (name, rec, inr (inl (inr is)), cfg, r, of_told files fs _ told say, (Explain, inr is, plain))))
+good_due words files fs text told (inr (inr (inr (inr (inl (name, rec, cores, is, (cfg, r, say, plain, wrote))))))) = inr (inr (inl (name, rec, inr (inr (cores, is)), cfg, r, of_told files fs _ told say, (Weave, (cores, is), plain))))
 good_due words files fs text told (inr (inr (inr (inr (inr (inl (seed, exchanges, is, wrote))))))) = inr (inr (inr (inl (seed, exchanges, is))))
 good_due words files fs text told (inr (inr (inr (inr (inr (inr texts)))))) = inr (inr (inr (inr texts.0)))
 
@@ -231,7 +236,7 @@ pub refused_by_due : (words : List (List ℕ)) (files : Option (List NamedBytes)
     → IsRefusedBy words files builder text → IsDue words fs ended.Config
 refused_by_due words files fs builder text told never (inl (name, named, (line, kind, refused, is))) = refused_due words files fs builder name line kind told never named refused
 refused_by_due words files fs builder text told never (inr (inl (name, all, (lines, refused, is)))) = all_due words files fs builder name lines told never all refused
-refused_by_due words files fs builder text told never (inr (inr (line, kind, mode, is))) = inr (mode.cfg_name, mode.rec_name, mode.runs, mode.cfg, of_told files fs _ told mode.accepted, mode.header)
+refused_by_due words files fs builder text told never (inr (inr (line, kind, mode, is))) = inr (mode.cfg_name, mode.rec_name, mode.cfg, of_told files fs _ told mode.accepted, mode.refuses)
 
 decided : (words : List (List ℕ)) (files : Option (List NamedBytes)) (builder : Builder) (fs : List NamedBytes) (rec : List ℕ) → files ≡ Some fs → DecidesRecord words files builder rec
     → IsCheckRecord words rec ⊎ ((cfg_name : List ℕ) × RunsRecord words cfg_name rec × (cfg : Config) × Configured fs cfg_name (Ok cfg) × Takes words cfg_name rec cfg)

@@ -3,7 +3,7 @@ use Rattle.std.proofs.Common.{◌≡◌, ℕ, List, ◌⊎◌, inl, inr, refl, s
 use Rattle.std.specs.Prelude.{Option, Some, Result, Ok, Err}
 use Rattle.px_link.specs.Told.{NamedBytes, Gains, Rose}
 use Rattle.px_link.specs.Link.{Seen}
-use Rattle.px_peer.specs.declared.Peer.{Peer}
+use Rattle.px_peer.specs.declared.Pair.{Pair}
 use Rattle.px_link.specs.Net.{Coming, Kept, NetSeen, address_of, with_address}
 use Rattle.px_command.specs.Command.{IsServe, IsUsage}
 use Rattle.px_command.specs.Texts.{EndsLine}
@@ -27,7 +27,7 @@ use Rattle.proxy_call.proofs.Due.{due_once, good_due, of_told, record_due, refus
 use Rattle.proxy_call.proofs.Words.{good_or_serve, same_count}
 
 -- how a call ended whose net went from one state to another
-abbrev pub EndedBy : {L N : Type 0} (seen : L → Seen) (wrote : L → List ℕ → Type 0) (tells : L → Option Peer → Type 0) (net_seen : N → NetSeen) (first now : N) → Input → Output → Status → Type 0
+abbrev pub EndedBy : {L N : Type 0} (seen : L → Seen) (wrote : L → List ℕ → Type 0) (tells : L → Option Pair → Type 0) (net_seen : N → NetSeen) (first now : N) → Input → Output → Status → Type 0
 EndedBy seen wrote tells net_seen first now input output status =
     Ended input output (now ≡ first) (Serves seen wrote tells net_seen first now output.writes output.writes_now output.old output.new) status
 
@@ -43,7 +43,7 @@ not_serving : (answer : Result (Unit {0}) ServeFault) (status : Status) → IsRe
 not_serving answer status refusal is = after_serving answer (subst IsRefusal is refusal)
 
 -- ---- clauses
-module _ {L N : Type 0} (seen : L → Seen) (wrote : L → List ℕ → Type 0) (tells : L → Option Peer → Type 0) (net_seen : N → NetSeen) (first now : N) (input : Input) (output : Output) where
+module _ {L N : Type 0} (seen : L → Seen) (wrote : L → List ℕ → Type 0) (tells : L → Option Pair → Type 0) (net_seen : N → NetSeen) (first now : N) (input : Input) (output : Output) where
   only_told : (status : Status) → IsRefusal status → EndedBy seen wrote tells net_seen first now input output status → Tells input output status
   only_told status refusal (inl (told, quiet)) = told
   only_told status refusal (inr (built, (name, count, is, cfg, accepted, (answer, serves, same)))) = absurd (not_serving answer status refusal same)

@@ -1,11 +1,13 @@
 -- Lists of words are told apart, and say the names of their files.
-use Rattle.std.proofs.Common.{◌≡◌, ℕ, ◌+◌, ◌*◌, ◌==◌, ◌||◌, ◌&&◌, Bool, true, false, List, [], ◌∷◌, ◌⊎◌, inl, inr, refl, ap, sym, ◌∙◌, subst, codes, length, get_or}
+use Rattle.std.proofs.Common.{◌≡◌, ℕ, ◌+◌, ◌*◌, ◌==◌, ◌||◌, ◌&&◌, Bool, true, false, List, [], ◌∷◌, ◌⊎◌, inl, inr, refl, ap, sym, ◌∙◌, subst, arith, codes, length, get_or}
 use Rattle.std.specs.Prelude.{Option, Some, if◌then◌else◌}
 use Rattle.px_bytes.specs.Numbers.{decimal_of}
 use Rattle.px_link.specs.Told.{NamedBytes}
 use Rattle.px_command.specs.Command.{IsCheck, IsCheckAll, IsCheckRecord, IsReplay, IsExplain, IsExplainBlocks, IsWeave, RunsRecord, IsServe, IsRun, IsDrill, AsksText, IsFileWord, NamesConfig, ReadsConfig}
 use Rattle.px_command.specs.declared.options.RunOptions.{RunOptions}
-use Rattle.proxy_commands.specs.Modes.{RunsApart}
+use Rattle.proxy_commands.specs.Modes.{RunsSo}
+use Rattle.proxy_commands.specs.declared.record_command.RecordCommand.{RecordCommand}
+use Rattle.proxy_commands.specs.declared.record_command.RecordCommand.TheVariants.{Replay, Explain, Weave}
 use Rattle.proxy_commands.specs.Answers.{Checks, IsGood, NamesServe}
 use Rattle.proxy_call.specs.Due.{AsksNoFile}
 use Rattle.proxy_commands.specs.Running.{NamesRun}
@@ -310,16 +312,40 @@ same_count words cfg other count n p q =
     let second_count : third words ≡ q.0 = ap third q.1 in
     same_number p.0 q.0 (third words) count n first second_count p.3.0 q.3.0
 
--- ---- `replay`, or a command that runs sessions apart from clients, by the first letter
+-- ---- commands that run a record, by the first letter
 
 abbrev letter : List (List ℕ) → ℕ
 letter [] = 0
 letter (first ∷ rest) = get_or first 0 0
 
-two_letters : (n : ℕ) (words : List (List ℕ)) → letter words ≡ 114 → letter words ≡ n → (114 ≡ n → ⊥) → ⊥
-two_letters n words p q differ = differ (sym p ∙ q)
+abbrev letter_of : RecordCommand → ℕ
+letter_of Replay = 114
+letter_of Explain = 101
+letter_of Weave = 119
 
-pub replay_or_apart : (words : List (List ℕ)) (cfg rec other last : List ℕ) → IsReplay words cfg rec → RunsApart words other last → ⊥
-replay_or_apart words cfg rec other last replay (inl (inl explain)) = two_letters 101 words (ap letter replay.0) (ap letter explain.0) (λ e. absurd cc)
-replay_or_apart words cfg rec other last replay (inl (inr blocks)) = two_letters 101 words (ap letter replay.0) (ap letter blocks.0) (λ e. absurd cc)
-replay_or_apart words cfg rec other last replay (inr (cores, weave)) = two_letters 119 words (ap letter replay.0) (ap letter weave.1) (λ e. absurd cc)
+begins_so : (command : RecordCommand) (words : List (List ℕ)) (cfg rec : List ℕ) → RunsSo command words cfg rec → letter words ≡ letter_of command
+begins_so Replay words cfg rec replay = ap letter replay.0
+begins_so Explain words cfg rec (inl explain) = ap letter explain.0
+begins_so Explain words cfg rec (inr blocks) = ap letter blocks.0
+begins_so Weave words cfg rec (cores, weave) = ap letter weave.1
+
+by_letter : (a b : RecordCommand) → letter_of a ≡ letter_of b → a ≡ b
+by_letter Replay Replay e = refl
+by_letter Replay Explain e = let differ : 114 ≡ 101 = e in absurd (omega (arith, differ))
+by_letter Replay Weave e = let differ : 114 ≡ 119 = e in absurd (omega (arith, differ))
+by_letter Explain Replay e = let differ : 101 ≡ 114 = e in absurd (omega (arith, differ))
+by_letter Explain Explain e = refl
+by_letter Explain Weave e = let differ : 101 ≡ 119 = e in absurd (omega (arith, differ))
+by_letter Weave Replay e = let differ : 119 ≡ 114 = e in absurd (omega (arith, differ))
+by_letter Weave Explain e = let differ : 119 ≡ 101 = e in absurd (omega (arith, differ))
+by_letter Weave Weave e = refl
+
+-- words are of one command
+pub same_command : (a b : RecordCommand) (words : List (List ℕ)) (cfg rec other last : List ℕ) → RunsSo a words cfg rec → RunsSo b words other last → a ≡ b
+same_command a b words cfg rec other last p q = by_letter a b (sym (begins_so a words cfg rec p) ∙ begins_so b words other last q)
+
+-- they are words of a command that runs a record
+pub runs_record : (command : RecordCommand) (words : List (List ℕ)) (cfg rec : List ℕ) → RunsSo command words cfg rec → RunsRecord words cfg rec
+runs_record Replay words cfg rec replay = inl replay
+runs_record Explain words cfg rec explain = inr (inl explain)
+runs_record Weave words cfg rec weave = inr (inr weave)

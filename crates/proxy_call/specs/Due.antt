@@ -1,5 +1,5 @@
 -- The status that words and files call for.
-use Rattle.std.specs.Prelude.{◌≡◌, ℕ, List, ◌⊎◌, true, Ok, Err}
+use Rattle.std.specs.Prelude.{◌≡◌, ℕ, List, ◌⊎◌, Ok, Err}
 use Rattle.px_link.specs.Told.{NamedBytes}
 use Rattle.http_rules.specs.declared.config.Config.{Config}
 use Rattle.cfg_parse.specs.declared.fault.CfgKind.{CfgKind}
@@ -8,7 +8,7 @@ use Rattle.rec_format.specs.declared.record.RecKind.{RecKind}
 use Rattle.rec_format.specs.Recorded.{Recorded}
 use Rattle.proxy_commands.specs.Answers.{Checks}
 use Rattle.proxy_commands.specs.Files.{Configured, RecordIs, Say}
-use Rattle.proxy_commands.specs.Modes.{RunsApart, Takes}
+use Rattle.proxy_commands.specs.Modes.{Refuses, Takes}
 use Rattle.proxy_commands.specs.declared.status.Status.{Status}
 use Rattle.proxy_commands.specs.declared.status.Status.TheVariants.{Good, Usage, FileFault, OutFault, NetFault, OutOfMemory}
 use Rattle.proxy_commands.specs.declared.status.Status.TheVariants as ended
@@ -27,7 +27,7 @@ IsDue words files Good =
 IsDue words files Usage = IsUsage words
 IsDue words files ended.Config =
     ((cfg_name : List ℕ) × ReadsConfig words cfg_name × (line : ℕ) × (kind : CfgKind) × Configured files cfg_name (Err (line, kind)))
-    ⊎ ((cfg_name : List ℕ) × (rec_name : List ℕ) × RunsApart words cfg_name rec_name × (cfg : Config) × Configured files cfg_name (Ok cfg) × (cfg.accept_proxy ≡ true))
+    ⊎ ((cfg_name : List ℕ) × (rec_name : List ℕ) × (cfg : Config) × Configured files cfg_name (Ok cfg) × Refuses words cfg_name rec_name cfg)
 IsDue words files ended.Record =
     (rec_name : List ℕ) × (place : ℕ) × (kind : RecKind) × RecordIs files rec_name (Err (record { place = place; kind = kind }))
     × (IsCheckRecord words rec_name ⊎ ((cfg_name : List ℕ) × RunsRecord words cfg_name rec_name × (cfg : Config) × Configured files cfg_name (Ok cfg) × Takes words cfg_name rec_name cfg))

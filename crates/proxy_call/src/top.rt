@@ -21,7 +21,7 @@ use proxy_commands::{Networks, Status, end, run};
 use proxy_sessions::{Switch, Workers};
 use px_link::{Files, Link, Net, Sink, Waits, WaitsNet, Wakes};
 use px_pattern::Patterns;
-use px_proxyproto::HasPeer;
+use px_proxyproto::{HasPair, Introduces};
 use px_run::Nets;
 use std::alloc::Global;
 
@@ -29,10 +29,10 @@ use std::alloc::Global;
 /// a use for its own. `pats` builds the patterns of a configuration.
 pub fn htx_proxy<
     F: Files,
-    H: Link + HasPeer,
-    N: Net<Link = H>,
-    L: Waits + HasPeer + Drop,
-    M: WaitsNet<Link = L> + Drop,
+    H: Link + HasPair,
+    N: Net<Link = H> + Introduces,
+    L: Waits + HasPair + Drop,
+    M: WaitsNet<Link = L> + Introduces + Drop,
     S: Nets<M> + Switch + Workers<M>,
     W: Wakes<M>,
     K: Sink,

@@ -1,5 +1,5 @@
 -- What a step that stops says of the whole command.
-use Rattle.std.proofs.Common.{◌≡◌, ◌≤◌, ◌⊎◌, Bool, true, false, ℕ, List, inl, inr, refl, sym, subst, arith}
+use Rattle.std.proofs.Common.{◌≡◌, ◌≤◌, true, ℕ, List, inl, inr, refl, sym, subst, arith}
 use Rattle.std.specs.Prelude.{Option, Result, Ok, Err, IfErr, IsErrAnd}
 use Rattle.px_link.specs.Told.{NamedBytes, Reads, Rose}
 use Rattle.http_rules.specs.declared.config.Config.{Config}
@@ -20,7 +20,9 @@ use Rattle.px_command.specs.Command.{IsCheckAll, NamesConfig, RunsRecord}
 use Rattle.proxy_commands.specs.Answers.{DecidesBy, DecidesRecord, IsAccepted, IsRefusedBy}
 use Rattle.proxy_commands.specs.Lines.{refused_line}
 use Rattle.proxy_commands.specs.Files.{IfTold, Configured, IsBuilt}
-use Rattle.proxy_commands.specs.Modes.{RunsSo, Takes}
+use Rattle.proxy_commands.specs.Modes.{RunsSo, Takes, refuses}
+use Rattle.proxy_commands.specs.declared.record_command.RecordCommand.{RecordCommand}
+use Rattle.proxy_commands.specs.declared.record_command.RecordCommand.TheVariants.{Replay, Explain, Weave}
 use Rattle.proxy_commands.specs.Stops.{Input, Answers, ReadStops, SaysAll, SaysVerdict, StopsBy, stop_of_configuration, stop_of_record}
 use Rattle.proxy_commands.specs.declared.stop.Stop.{Stop}
 use Rattle.proxy_commands.specs.declared.stop.Stop.TheVariants as stops
@@ -76,26 +78,15 @@ accepted words files cfg_name rec_name cfg takes is =
 
 -- ---- which configurations a command takes
 
-pub runs_record : (takes_header : Bool) (words : List (List ℕ)) (cfg_name rec_name : List ℕ) → RunsSo takes_header words cfg_name rec_name → RunsRecord words cfg_name rec_name
-runs_record true words cfg_name rec_name so = inl so
-runs_record false words cfg_name rec_name so = inr so
+pub runs_record : (command : RecordCommand) (words : List (List ℕ)) (cfg_name rec_name : List ℕ) → RunsSo command words cfg_name rec_name → RunsRecord words cfg_name rec_name
+runs_record Replay words cfg_name rec_name so = inl so
+runs_record Explain words cfg_name rec_name so = inr (inl so)
+runs_record Weave words cfg_name rec_name so = inr (inr so)
 
-pub takes : (takes_header : Bool) (words : List (List ℕ)) (cfg_name rec_name : List ℕ) (cfg : Config) → RunsSo takes_header words cfg_name rec_name → (takes_header ≡ true) ⊎ (cfg.accept_proxy ≡ false)
-    → Takes words cfg_name rec_name cfg
-takes true words cfg_name rec_name cfg so taken = inl so
-takes false words cfg_name rec_name cfg so (inl other) = absurd cc
-takes false words cfg_name rec_name cfg so (inr plain) = inr plain
-
--- a command that takes no header takes none whose clients begin with one
-pub plain : (cfg : Config) → (false ≡ true) ⊎ (cfg.accept_proxy ≡ false) → cfg.accept_proxy ≡ false
-plain cfg (inl other) = absurd cc
-plain cfg (inr is) = is
-
-pub mode_stops : (input : Input) (takes_header : Bool) (cfg_name rec_name : List ℕ) (cfg : Config) → RunsSo takes_header input.words cfg_name rec_name
-    → IfTold input.files (λ fs. Configured fs cfg_name (Ok cfg)) → IsBuilt input.builder → (cfg.accept_proxy ≡ true) × (takes_header ≡ false) → StopsBy input (stops.Refused 0 Mode)
-mode_stops input true cfg_name rec_name cfg so accepts built refused = absurd cc
-mode_stops input false cfg_name rec_name cfg so accepts built refused =
-    inr (record { cfg_name = cfg_name; rec_name = rec_name; runs = so; cfg = cfg; accepted = accepts; header = refused.0; built = built; whole = refl; mode = refl })
+pub mode_stops : (input : Input) (command : RecordCommand) (cfg_name rec_name : List ℕ) (cfg : Config) → RunsSo command input.words cfg_name rec_name
+    → IfTold input.files (λ fs. Configured fs cfg_name (Ok cfg)) → IsBuilt input.builder → refuses command cfg ≡ true → StopsBy input (stops.Refused 0 Mode)
+mode_stops input command cfg_name rec_name cfg so accepts built refused =
+    inr (record { cfg_name = cfg_name; rec_name = rec_name; cfg = cfg; refuses = (command, so, refused); accepted = accepts; built = built; whole = refl; mode = refl })
 
 -- what is written of a configuration that is refused, or that the command doesn't take
 pub refused_by : (input : Input) (line : ℕ) (kind : CfgKind) (text : List ℕ) → StopsBy input (stops.Refused line kind) → text ≡ refused_line line kind → IsRefusedBy input.words input.files input.builder text

@@ -41,7 +41,7 @@ gives_one (Err refusal) = false
 reads : asks_none (read_whole configuration).asks && gives_one (read_whole configuration).gives ≡ true
 unfolding configuration read_whole lines_from whole lines.line_of lines.words_line lines.known_line lines.setting_line
     keywords.section_word keywords.general_setting keywords.listen_setting items.item_at items.plain verdict words_of
-    settings.section_line settings.bind_line settings.bind_options settings.server_line
+    settings.section_line settings.bind_line settings.bind_options settings.server_line settings.server_options
     addresses.address_of addresses.server_address_of addresses.named addresses.with_port addresses.port_of
     rules.rule_line rules.rule_added rules.has_room rule_of field_action rule_end format_at is_token_byte
     actions.action_parts actions.field_at actions.name_and_format actions.field_deleted arguments.made_name_at arguments.made_name arguments.is_framing

@@ -18,7 +18,8 @@ use Rattle.proxy_sessions.specs.Driven.{stands_for, seen_of}
 use Rattle.proxy_sessions.specs.Recorded.{ReplaysFor}
 use Rattle.proxy_commands.specs.Explained.{IsExplanation, IsBlockExplanation}
 use Rattle.proxy_commands.specs.Lines.{accepted_line, refused_line, record_line, file_line}
-use Rattle.proxy_commands.specs.Modes.{IsOtherMode, Takes}
+use Rattle.proxy_commands.specs.Modes.{IsOtherMode, Takes, refuses}
+use Rattle.proxy_commands.specs.declared.record_command.RecordCommand.TheVariants.{Explain, Weave}
 use Rattle.proxy_commands.specs.Refusals.{refused_text}
 use Rattle.proxy_commands.specs.Files.{IfTold, Builder, Configured, IsBuilt, RecordIs, Refuses, RefusesAll, Say}
 use Rattle.proxy_commands.specs.declared.status.Status.{Status}
@@ -72,12 +73,12 @@ IsReplayed files cfg_name rec_name text =
 -- the text is what is told of the first exchange of the record's first connection, by what the configuration makes of it
 abbrev pub IsExplanationOf : Option (List NamedBytes) → (cfg_name rec_name text : List ℕ) → Type 0
 IsExplanationOf files cfg_name rec_name text =
-    (cfg : Config) × (rec : Recorded) × IfTold files (λ fs. Say fs cfg_name rec_name cfg rec) × (cfg.accept_proxy ≡ false) × IsExplanation cfg rec text
+    (cfg : Config) × (rec : Recorded) × IfTold files (λ fs. Say fs cfg_name rec_name cfg rec) × (refuses Explain cfg ≡ false) × IsExplanation cfg rec text
 
 -- the text is that with the arrays that the rules left
 abbrev pub IsBlockExplanationOf : Option (List NamedBytes) → (cfg_name rec_name text : List ℕ) → Type 0
 IsBlockExplanationOf files cfg_name rec_name text =
-    (cfg : Config) × (rec : Recorded) × IfTold files (λ fs. Say fs cfg_name rec_name cfg rec) × (cfg.accept_proxy ≡ false) × IsBlockExplanation cfg rec text
+    (cfg : Config) × (rec : Recorded) × IfTold files (λ fs. Say fs cfg_name rec_name cfg rec) × (refuses Explain cfg ≡ false) × IsBlockExplanation cfg rec text
 
 -- the text is what `explain` of these files tells, with the flag or without
 abbrev pub IsExplained : List (List ℕ) → Option (List NamedBytes) → (cfg_name rec_name text : List ℕ) → Type 0
@@ -94,7 +95,7 @@ pub record IsWoven (cfg : Config) (cores : ℕ) (rec : Recorded) (text : List �
 -- the text is such a report of the record, by what the configuration makes of its connections
 abbrev pub IsWovenReportOf : Option (List NamedBytes) → (cfg_name rec_name : List ℕ) → (cores : ℕ) → (text : List ℕ) → Type 0
 IsWovenReportOf files cfg_name rec_name cores text =
-    (cfg : Config) × (rec : Recorded) × IfTold files (λ fs. Say fs cfg_name rec_name cfg rec) × (cfg.accept_proxy ≡ false) × IsWoven cfg cores rec text
+    (cfg : Config) × (rec : Recorded) × IfTold files (λ fs. Say fs cfg_name rec_name cfg rec) × (refuses Weave cfg ≡ false) × IsWoven cfg cores rec text
 
 -- the text is the lines of the generated session, by what its own configuration makes of it
 abbrev pub IsDrilled : (seed exchanges : ℕ) → (text : List ℕ) → Type 0

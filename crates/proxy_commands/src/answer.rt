@@ -10,10 +10,11 @@ ghost use Rattle.rec_format.specs.Reports.{Reportable};
 ghost use Rattle.proxy_commands.specs.Files.{IfTold, Builder, Configured, IsBuilt, Say, told_by};
 ghost use Rattle.proxy_commands.specs.Stops.{Answers, ReadStops, SaysVerdict, StopsBy, given};
 ghost use Rattle.proxy_commands.specs.Lines.{accepted_line};
-ghost use Rattle.proxy_commands.specs.Modes.{RunsSo};
+ghost use Rattle.proxy_commands.specs.Modes.{RunsSo, refuses};
 
 use crate::explaining::{block_explanation, explanation};
 use crate::lines::accepted_line;
+use crate::record_command::{RecordCommand, refuses};
 use crate::refusals::refused_text;
 use crate::stop::Stop;
 use cfg_parse::{CfgKind, Config, MAX_TEXT, Verdict, load, verdict_of};
@@ -67,33 +68,25 @@ pub fn configuration<'a, F: Files, P: Patterns>(
     Ok(cfg)
 }
 
-/// Whether a command refuses a configuration as a whole: one that takes no header, where clients' streams begin with one.
-fn refuses(config: &Config, takes_header: bool) -> bool
-    ensures refuses { result ≡ true → (config.now.accept_proxy ≡ true) × (takes_header ≡ false) }
-    ensures takes { result ≡ false → (takes_header ≡ true) ⊎ (config.now.accept_proxy ≡ false) }
-{
-    config.accept_proxy && !takes_header
-}
-
 /// The configuration that a file says, where the command takes it.
 fn taken_configuration<'a, F: Files, P: Patterns>(
     alloc: Global,
     files: &mut F,
     name: &'a str,
-    takes_header: bool,
+    command: RecordCommand,
     pats: &mut P,
 ) -> Result<Config, Stop<'a>>
     ensures accepted { IfOk result (λ cfg. IfTold (F.files files.old) (λ fs. Configured fs name.now (Ok cfg))) }
-    ensures taken { IfOk result (λ cfg. (takes_header ≡ true) ⊎ (cfg.accept_proxy ≡ false)) }
+    ensures taken { IfOk result (λ cfg. refuses command cfg ≡ false) }
     ensures valid { IfOk result IsValid }
     ensures built { OnOk result (P.refusals pats.new ≡ P.refusals pats.old) }
-    ensures stop { (words : List (List ℕ)) (rec_name : List ℕ) → RunsSo takes_header words name.now rec_name
+    ensures stop { (words : List (List ℕ)) (rec_name : List ℕ) → RunsSo command words name.now rec_name
         → IfErr result (StopsBy (given words (F.files files.old) (told_by (P.refusals pats.old) (P.refusals pats.new) (P.last_refused pats.new)) (F.last_failed files.new) (F.faults files.old) (F.faults files.new))) }
     ensures grows { F.faults files.old ≤ F.faults files.new }
     ensures files { F.files files.new ≡ F.files files.old }
 {
     let cfg = configuration(alloc, files, name, pats)?;
-    if refuses(&cfg, takes_header) {
+    if refuses(command, &cfg) {
         drop(cfg);
         return Err(Stop::Refused {
             line: 0,
@@ -180,20 +173,20 @@ fn two_files<'a, F: Files, P: Patterns>(
     files: &mut F,
     cfg_name: &'a str,
     rec_name: &'a str,
-    takes_header: bool,
+    command: RecordCommand,
     pats: &mut P,
 ) -> Result<TwoFiles, Stop<'a>>
-    ensures taken { IfOk result (λ said. (takes_header ≡ true) ⊎ (said.config.accept_proxy ≡ false)) }
+    ensures taken { IfOk result (λ said. refuses command said.config ≡ false) }
     ensures say { IfOk result (λ said. IfTold (F.files files.old) (λ fs. Say fs cfg_name.now rec_name.now said.config (meaning_of said.record))) }
     ensures valid { IfOk result (λ said. IsValid said.config) }
     ensures reportable { IfOk result (λ said. Reportable said.record.version (vec_len said.record.conns)) }
     ensures numbered { IfOk result (λ said. IsNumbered (meaning_of said.record)) }
     ensures some { IfOk result (λ said. 0 < vec_len said.record.conns) }
     ensures built { OnOk result (P.refusals pats.new ≡ P.refusals pats.old) }
-    ensures stop { (words : List (List ℕ)) → RunsSo takes_header words cfg_name.now rec_name.now
+    ensures stop { (words : List (List ℕ)) → RunsSo command words cfg_name.now rec_name.now
         → IfErr result (StopsBy (given words (F.files files.old) (told_by (P.refusals pats.old) (P.refusals pats.new) (P.last_refused pats.new)) (F.last_failed files.new) (F.faults files.old) (F.faults files.new))) }
 {
-    let config = taken_configuration(alloc, files, cfg_name, takes_header, pats)?;
+    let config = taken_configuration(alloc, files, cfg_name, command, pats)?;
     let text = read(alloc, files, rec_name, MAX_RECORD + 1)?;
     let record = read_record(alloc, text.as_slice())?;
     reportable();
@@ -212,7 +205,14 @@ pub fn replay<'a, F: Files, P: Patterns>(
     ensures { (words : List (List ℕ)) → IsReplay words cfg_name.now rec_name.now
         → Answers (given words (F.files files.old) (told_by (P.refusals pats.old) (P.refusals pats.new) (P.last_refused pats.new)) (F.last_failed files.new) (F.faults files.old) (F.faults files.new)) result }
 {
-    let said = two_files(alloc, files, cfg_name, rec_name, true, pats)?;
+    let said = two_files(
+        alloc,
+        files,
+        cfg_name,
+        rec_name,
+        RecordCommand::Replay,
+        pats,
+    )?;
     Ok(replay_report(alloc, &said.config, &said.record)?)
 }
 
@@ -227,7 +227,14 @@ pub fn explain<'a, F: Files, P: Patterns>(
     ensures { (words : List (List ℕ)) → IsExplain words cfg_name.now rec_name.now
         → Answers (given words (F.files files.old) (told_by (P.refusals pats.old) (P.refusals pats.new) (P.last_refused pats.new)) (F.last_failed files.new) (F.faults files.old) (F.faults files.new)) result }
 {
-    let said = two_files(alloc, files, cfg_name, rec_name, false, pats)?;
+    let said = two_files(
+        alloc,
+        files,
+        cfg_name,
+        rec_name,
+        RecordCommand::Explain,
+        pats,
+    )?;
     Ok(explanation(alloc, &said.config, &said.record)?)
 }
 
@@ -242,7 +249,14 @@ pub fn explain_blocks<'a, F: Files, P: Patterns>(
     ensures { (words : List (List ℕ)) → IsExplainBlocks words cfg_name.now rec_name.now
         → Answers (given words (F.files files.old) (told_by (P.refusals pats.old) (P.refusals pats.new) (P.last_refused pats.new)) (F.last_failed files.new) (F.faults files.old) (F.faults files.new)) result }
 {
-    let said = two_files(alloc, files, cfg_name, rec_name, false, pats)?;
+    let said = two_files(
+        alloc,
+        files,
+        cfg_name,
+        rec_name,
+        RecordCommand::Explain,
+        pats,
+    )?;
     Ok(block_explanation(alloc, &said.config, &said.record)?)
 }
 
@@ -259,7 +273,7 @@ pub fn weave<'a, F: Files, P: Patterns>(
     ensures { (words : List (List ℕ)) → IsWeave words cfg_name.now rec_name.now cores
         → Answers (given words (F.files files.old) (told_by (P.refusals pats.old) (P.refusals pats.new) (P.last_refused pats.new)) (F.last_failed files.new) (F.faults files.old) (F.faults files.new)) result }
 {
-    let said = two_files(alloc, files, cfg_name, rec_name, false, pats)?;
+    let said = two_files(alloc, files, cfg_name, rec_name, RecordCommand::Weave, pats)?;
     Ok(weave_report(alloc, &said.config, &said.record, cores)?)
 }
 

@@ -17,7 +17,7 @@ use proxy_sessions::{Switch, Workers};
 use px_command::{Asked, asked_by, help_of_text, help_text, version_text};
 use px_link::{Bytes, Files, Link, Net, Sink, Waits, WaitsNet, Wakes};
 use px_pattern::Patterns;
-use px_proxyproto::HasPeer;
+use px_proxyproto::{HasPair, Introduces};
 use px_run::Nets;
 use std::alloc::Global;
 
@@ -34,10 +34,10 @@ fn write<'a, K: Sink>(made: Result<Bytes, Stop<'a>>, out: &mut K) -> Result<(), 
 pub fn run<
     'a,
     F: Files,
-    H: Link + HasPeer,
-    N: Net<Link = H>,
-    L: Waits + HasPeer + Drop,
-    M: WaitsNet<Link = L> + Drop,
+    H: Link + HasPair,
+    N: Net<Link = H> + Introduces,
+    L: Waits + HasPair + Drop,
+    M: WaitsNet<Link = L> + Introduces + Drop,
     S: Nets<M> + Switch + Workers<M>,
     W: Wakes<M>,
     K: Sink,

@@ -6,6 +6,7 @@ mod command;
 mod explaining;
 mod lines;
 mod networks;
+mod record_command;
 mod refusals;
 mod reply;
 mod running;
@@ -15,6 +16,7 @@ mod stop;
 
 pub use command::run;
 pub use networks::Networks;
+pub use record_command::RecordCommand;
 pub use reply::end;
 pub use status::Status;
 pub use stop::Stop;

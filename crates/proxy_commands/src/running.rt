@@ -12,7 +12,7 @@ use proxy_sessions::{Many, Switch, Workers, run_clients};
 use px_command::RunOptions;
 use px_link::{Files, Sink, Waits, WaitsNet, Wakes};
 use px_pattern::Patterns;
-use px_proxyproto::HasPeer;
+use px_proxyproto::{HasPair, Introduces};
 use px_run::Nets;
 use std::alloc::Global;
 
@@ -28,8 +28,8 @@ pub struct RunCommand<'a> {
 pub fn run_many<
     'a,
     F: Files,
-    L: Waits + HasPeer + Drop,
-    N: WaitsNet<Link = L> + Drop,
+    L: Waits + HasPair + Drop,
+    N: WaitsNet<Link = L> + Introduces + Drop,
     S: Nets<N> + Switch + Workers<N>,
     W: Wakes<N>,
     K: Sink,

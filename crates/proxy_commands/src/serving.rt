@@ -11,7 +11,7 @@ use crate::stop::Stop;
 use proxy_sessions::serve_clients;
 use px_link::{Files, Link, Net, Sink};
 use px_pattern::Patterns;
-use px_proxyproto::HasPeer;
+use px_proxyproto::{HasPair, Introduces};
 use std::alloc::Global;
 
 /// What the words of `serve` say.
@@ -23,7 +23,7 @@ pub struct ServeCommand<'a> {
 }
 
 /// Serves so many connections by the configuration in a file, and writes their lines.
-pub fn serve<'a, F: Files, H: Link + HasPeer, N: Net<Link = H>, K: Sink, P: Patterns>(
+pub fn serve<'a, F: Files, H: Link + HasPair, N: Net<Link = H> + Introduces, K: Sink, P: Patterns>(
     alloc: Global,
     files: &mut F,
     asked: &ServeCommand<'a>,

@@ -11,7 +11,7 @@ use Rattle.htx_drive.specs.Ran.{RanSo}
 use Rattle.htx_drive.specs.Headline.{IsSessionOf}
 use Rattle.htx_drive.specs.declared.Ran.{Ran}
 use Rattle.htx_drive.specs.declared.SessionFault.{SessionFault}
-use Rattle.px_peer.specs.declared.Peer.{Peer}
+use Rattle.px_peer.specs.declared.Pair.{Pair}
 use Rattle.px_proxyproto.specs.declared.meeting.Met.{Met}
 use Rattle.px_proxyproto.specs.declared.meeting.Met.TheVariants as met
 use Rattle.serve_run.specs.Drove.{Drove}
@@ -36,9 +36,9 @@ serves meaning stands core_seen seen wrote cfg to first client first_net net law
 serves meaning stands core_seen seen wrote cfg to first client first_net net law (Err fault) (inr h) = inr h
 
 -- what follows for each caller follows for whoever was met
-pub as_met : {L : Type 0} (seen : L → Seen) (wrote : L → List ℕ → Type 0) (does makes : Option Peer → L → L → NetSeen → NetSeen → Result Ran SessionFault → Type 0) (how : Met) (begins client : L) (first_net net : NetSeen) (result : Result Ran SessionFault)
-    → ((peer : Option Peer) → does peer begins client first_net net result → makes peer begins client first_net net result)
+pub as_met : {L : Type 0} (seen : L → Seen) (wrote : L → List ℕ → Type 0) (does makes : Option Pair → L → L → NetSeen → NetSeen → Result Ran SessionFault → Type 0) (how : Met) (begins client : L) (first_net net : NetSeen) (result : Result Ran SessionFault)
+    → ((pair : Option Pair) → does pair begins client first_net net result → makes pair begins client first_net net result)
     → ServedAsMet seen wrote does how begins client first_net net result → ServedAsMet seen wrote makes how begins client first_net net result
-as_met seen wrote does makes (met.Caller peer) begins client first_net net result follows h = follows peer h
+as_met seen wrote does makes (met.Caller pair) begins client first_net net result follows h = follows pair h
 as_met seen wrote does makes met.Refused begins client first_net net (Ok ran) follows h = h
 as_met seen wrote does makes met.Refused begins client first_net net (Err fault) follows h = absurd h

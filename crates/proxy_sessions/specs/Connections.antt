@@ -5,7 +5,9 @@ use Rattle.http_model.specs.declared.Close.TheVariants.{Failed}
 use Rattle.session_model.specs.Meaning.{Meaning}
 use Rattle.session_core.specs.History.{Past}
 use Rattle.px_link.specs.Link.{Seen, closed_by}
-use Rattle.px_peer.specs.declared.Peer.{Peer}
+use Rattle.px_peer.specs.declared.Pair.{Pair}
+use Rattle.px_proxyproto.specs.Meeting.{source_in}
+use Rattle.px_proxyproto.specs.Nets.{heading_for, introduced}
 use Rattle.px_link.specs.Net.{Place, Coming, Kept, NetSeen}
 use Rattle.http_rules.specs.declared.config.Config.{Config}
 use Rattle.forward_core.specs.Meaning.Product.{meaning_of}
@@ -57,12 +59,14 @@ ServesWith {C} {L} M stands core_seen seen wrote to first client first_net net (
 abbrev pub ServesClient : {L : Type 0} (cfg : Config) (seen : L → Seen) (wrote : L → List ℕ → Type 0) (to : Place) (first client : L) (first_net net : NetSeen) → Result Ran SessionFault → Type 0
 ServesClient cfg = ServesWith (meaning_of cfg) (stands_for cfg) seen_of
 
--- The same of a link that was accepted and met first: by the header in front of its stream where one is to stand there, else by what the link may tell of its
--- peer. The session begins where that ends, and with that peer; one that isn't heard is turned away.
-abbrev pub ServesMet : {L : Type 0} (tells : L → Option Peer → Type 0) (accepts_header : Bool) (cfg : Config) (seen : L → Seen) (wrote : L → List ℕ → Type 0) (to : Place) (first client : L) (first_net net : NetSeen) → Result Ran SessionFault → Type 0
-ServesMet tells accepts_header cfg seen wrote to =
-    MeetsAndServes tells accepts_header seen wrote (λ peer. ServesClient (record cfg { peer = peer }) seen wrote to)
+-- The same of a link that was accepted and met first: by the header in front of its stream where one is to stand there, else by what the link may tell of
+-- its two ends. The session begins where that ends, its peer is the end that asks, and where headers of a version are sent each link to a server passes on
+-- one of these ends first; one that isn't heard is turned away.
+abbrev pub ServesMet : {L : Type 0} (tells : L → Option Pair → Type 0) (accepts_header : Bool) (sends_header : Option ℕ) (cfg : Config) (seen : L → Seen) (wrote : L → List ℕ → Type 0) (to : Place) (first client : L) (first_net net : NetSeen) → Result Ran SessionFault → Type 0
+ServesMet tells accepts_header sends_header cfg seen wrote to =
+    MeetsAndServes tells accepts_header seen wrote
+    (λ pair begins client first_net net result. ServesClient (record cfg { peer = source_in pair }) seen wrote to begins client (introduced (heading_for sends_header pair) first_net) net result)
 
 -- as the configuration says
-abbrev pub ServesFor : {L : Type 0} (tells : L → Option Peer → Type 0) (cfg : Config) (seen : L → Seen) (wrote : L → List ℕ → Type 0) (to : Place) (first client : L) (first_net net : NetSeen) → Result Ran SessionFault → Type 0
-ServesFor tells cfg = ServesMet tells cfg.accept_proxy cfg
+abbrev pub ServesFor : {L : Type 0} (tells : L → Option Pair → Type 0) (cfg : Config) (seen : L → Seen) (wrote : L → List ℕ → Type 0) (to : Place) (first client : L) (first_net net : NetSeen) → Result Ran SessionFault → Type 0
+ServesFor tells cfg = ServesMet tells cfg.accept_proxy cfg.send_proxy cfg

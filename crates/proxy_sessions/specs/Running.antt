@@ -1,12 +1,13 @@
 -- What running by a configuration does with what it is handed.
 use Rattle.std.specs.Prelude.{◌≡◌, ℕ, ◌⊎◌, List, Option, Some, None, Result, Err, OnOk}
 use Rattle.px_link.specs.Link.{Seen}
-use Rattle.px_peer.specs.declared.Peer.{Peer}
+use Rattle.px_peer.specs.declared.Pair.{Pair}
 use Rattle.px_link.specs.Net.{Place, NetSeen, SameBeside, Bound, BindFailed, BindUnroomed, address_of}
 use Rattle.px_link.specs.Told.{Gains, GainsFront, Rose}
 use Rattle.forward_core.specs.Meaning.Product.{meaning_of}
 use Rattle.http_rules.specs.declared.config.Config.{Config}
 use Rattle.px_command.specs.declared.options.RunOptions.{RunOptions}
+use Rattle.px_proxyproto.specs.Meeting.{source_in}
 use Rattle.px_run.specs.Served.{ServedMany}
 use Rattle.px_run.specs.declared.plan.RunFault.{RunFault}
 use Rattle.px_run.specs.declared.plan.RunFault.TheVariants as faults
@@ -19,14 +20,15 @@ abbrev pub WroteListening : Place → (writes writes_now : ℕ) → (old new : O
 WroteListening at writes writes_now old new = ((writes_now ≡ writes) × Gains old new (listening_line at)) ⊎ (Rose writes writes_now × GainsFront old new (listening_line at))
 
 -- The net was bound where the configuration says, the line that says so was written, and then each link that was accepted was served by sessions of the configuration,
--- which begin with what the link tells of its peer, or behind the header in front of its stream and with what that names, where the configuration accepts one.
-pub record RanLoop {L N : Type 0} (seen : L → Seen) (wrote : L → List ℕ → Type 0) (tells : L → Option Peer → Type 0) (net_seen : N → NetSeen) (accepts_none : Type 0) (first now : N) (writes writes_now : ℕ) (old new : Option (List ℕ)) (cfg : Config) (options : RunOptions) (answer : Result (Unit {0}) RunFault) : Type 0 where
+-- which begin with what the link tells of its two ends, or behind the header in front of its stream and with what that names, where the configuration accepts
+-- one. Where it sends headers each link to a server passes on one of these ends first.
+pub record RanLoop {L N : Type 0} (seen : L → Seen) (wrote : L → List ℕ → Type 0) (tells : L → Option Pair → Type 0) (net_seen : N → NetSeen) (accepts_none : Type 0) (first now : N) (writes writes_now : ℕ) (old new : Option (List ℕ)) (cfg : Config) (options : RunOptions) (answer : Result (Unit {0}) RunFault) : Type 0 where
   pub bound : N
   pub listens : Bound (net_seen first) (net_seen bound) (address_of cfg.bind)
   pub writes_then : ℕ
   pub between : Option (List ℕ)
   pub line : WroteListening (address_of cfg.bind) writes writes_then old between
-  pub served : ServedMany (λ peer. meaning_of (record cfg { peer = peer })) (λ peer. stands_for (record cfg { peer = peer })) seen_of seen wrote tells cfg.accept_proxy net_seen (address_of cfg.server) options.connections accepts_none (net_seen bound) (net_seen now) writes_then writes_now between new answer
+  pub served : ServedMany (λ pair. meaning_of (record cfg { peer = source_in pair })) (λ pair. stands_for (record cfg { peer = source_in pair })) seen_of seen wrote tells cfg.accept_proxy cfg.send_proxy net_seen (address_of cfg.server) options.connections accepts_none (net_seen bound) (net_seen now) writes_then writes_now between new answer
 
 -- The bind failed, and nothing was written; or memory ran out at the bind or behind it, and a front of the line was written. No link was accepted.
 abbrev pub NotBegun : (first now : NetSeen) → (old new : Option (List ℕ)) → Place → Result (Unit {0}) RunFault → Type 0
@@ -35,7 +37,7 @@ NotBegun first now old new at answer =
     ⊎ ((Bound first now at ⊎ BindUnroomed first now at) × GainsFront old new (listening_line at) × (answer ≡ Err faults.OutOfMemory))
 
 -- What running by a configuration did with the net that listens, its connections and its output, by its answer.
-pub record Runs {L N : Type 0} (seen : L → Seen) (wrote : L → List ℕ → Type 0) (tells : L → Option Peer → Type 0) (net_seen : N → NetSeen) (accepts_none : Type 0) (first now : N) (writes writes_now : ℕ) (old new : Option (List ℕ)) (cfg : Config) (options : RunOptions) (answer : Result (Unit {0}) RunFault) : Type 0 where
+pub record Runs {L N : Type 0} (seen : L → Seen) (wrote : L → List ℕ → Type 0) (tells : L → Option Pair → Type 0) (net_seen : N → NetSeen) (accepts_none : Type 0) (first now : N) (writes writes_now : ℕ) (old new : Option (List ℕ)) (cfg : Config) (options : RunOptions) (answer : Result (Unit {0}) RunFault) : Type 0 where
   -- where no other process serves: each link that was accepted was served here, and the lines were written
   pub did : options.workers ≡ None → RanLoop seen wrote tells net_seen accepts_none first now writes writes_now old new cfg options answer ⊎ NotBegun (net_seen first) (net_seen now) old new (address_of cfg.bind) answer
   -- the net was bound where the configuration says, and once at most

@@ -1,43 +1,66 @@
 //! The connections of a record by a configuration, each over a core of its own. Where each client's stream begins with a header, the session is that of
-//! its source, over the stream behind the header; a client without one isn't heard.
+//! its source, over the stream behind the header; a client without one isn't heard. Where servers are sent a header, it is that of the client's pair.
 ghost use Rattle.std.specs.Prelude.{◌≡◌, ◌≤◌, length, drop, true, false, IfOk};
 ghost use Rattle.http_rules.specs.Valid.{IsValid};
 ghost use Rattle.rec_format.specs.Read.{visit};
 ghost use Rattle.rec_format.specs.ReportParts.{out_of};
 ghost use Rattle.htx_drive.specs.Replay.Streams.{visit_in};
-ghost use Rattle.proxy_sessions.specs.Recorded.{ReplaysWith, ReplaysBy, visit_behind, unheard_out};
+ghost use Rattle.px_proxyproto.specs.Meeting.{source_in};
+ghost use Rattle.px_proxyproto.specs.Nets.{heading_for};
+ghost use Rattle.proxy_sessions.specs.Recorded.{ReplaysSending, ReplaysBy, visit_behind, unheard_out};
 
 use crate::cores::RecordCores;
 use forward_core::bounds::bounded;
 use forward_core::request::laws::total;
 use http_model::{Close, End, OutOfMemory};
 use http_rules::Config;
-use htx_drive::replay::{Replayer, Streams, replay_streams};
+use htx_drive::replay::{Replayer, Streams, replay_headed, replay_streams};
 use px_link::{Bytes, Turn};
-use px_peer::Peer;
-use px_proxyproto::{Front, front_of, source_of};
+use px_peer::{Pair, Peer};
+use px_proxyproto::{Front, Heading, front_of, heading_for, source_of};
 use rec_format::{Connection, Report, Sent, Stream};
 use std::alloc::Global;
 
-/// Runs the session of these streams, for a client of this peer.
+/// Whose session it is, and what its servers are sent first.
+#[derive(Clone, Copy)]
+struct Asked {
+    peer: Option<Peer>,
+    heading: Option<Heading>,
+}
+
+/// The session of a client of these two ends by a configuration.
+fn asked_by(config: &Config, pair: Option<Pair>) -> Asked
+    ensures peer { result.peer ≡ source_in pair }
+    ensures heading { result.heading ≡ heading_for config.now.send_proxy pair }
+{
+    Asked {
+        peer: source_of(pair),
+        heading: heading_for(config.send_proxy, pair),
+    }
+}
+
+/// Runs the session of these streams.
 fn replay_for(
     alloc: Global,
     config: &Config,
-    peer: Option<Peer>,
+    asked: Asked,
     streams: Streams<'_>,
     turns: Vec<Turn>,
 ) -> Result<Report, OutOfMemory>
     requires valid { IsValid config.now }
-    ensures { IfOk result (λ report. ReplaysWith (record config.now { peer = peer }) turns.items (visit_in streams.entry) (out_of report)) }
+    ensures { IfOk result (λ report. ReplaysSending asked.heading (record config.now { peer = asked.peer }) turns.items (visit_in streams.entry) (out_of report)) }
 {
     bounded();
     total();
     let cores = RecordCores {
         config,
         window: config.limits.bufsize,
-        peer,
+        peer: asked.peer,
     };
-    replay_streams(alloc, &cores, &config.server, streams, turns)
+    match asked.heading {
+        None => replay_streams(alloc, &cores, &config.server, streams, turns),
+        Some(heading) => replay_headed(alloc, &cores, &config.server, streams, turns, heading),
+    }
 }
 
 /// The bytes behind so many.
@@ -65,21 +88,21 @@ fn stream_behind(alloc: Global, stream: &Stream, len: usize) -> Result<Stream, O
 fn replay_behind(
     alloc: Global,
     config: &Config,
-    peer: Option<Peer>,
+    asked: Asked,
     conn: &Connection,
     len: usize,
     turns: Vec<Turn>,
 ) -> Result<Report, OutOfMemory>
     requires valid { IsValid config.now }
     requires within { len ≤ length conn.now.client.bytes }
-    ensures { IfOk result (λ report. ReplaysWith (record config.now { peer = peer }) turns.items (visit_behind len (visit conn.now)) (out_of report)) }
+    ensures { IfOk result (λ report. ReplaysSending asked.heading (record config.now { peer = asked.peer }) turns.items (visit_behind len (visit conn.now)) (out_of report)) }
 {
     let client = stream_behind(alloc, &conn.client, len)?;
     let streams = Streams {
         client: &client,
         servers: &conn.servers,
     };
-    let replayed = replay_for(alloc, config, peer, streams, turns);
+    let replayed = replay_for(alloc, config, asked, streams, turns);
     drop(client);
     replayed
 }
@@ -112,7 +135,7 @@ fn replay_greeted(
 {
     match front_of(conn.client.bytes.as_slice()) {
         Front::Header(len, pair) => {
-            replay_behind(alloc, config, source_of(pair), conn, len, turns)
+            replay_behind(alloc, config, asked_by(config, pair), conn, len, turns)
         }
         Front::Other => Ok(unheard(alloc)),
         Front::Part => Ok(unheard(alloc)),
@@ -133,7 +156,11 @@ fn replay_whole(
         client: &conn.client,
         servers: &conn.servers,
     };
-    replay_for(alloc, config, config.peer, streams, turns)
+    let asked = Asked {
+        peer: config.peer,
+        heading: heading_for(config.send_proxy, None),
+    };
+    replay_for(alloc, config, asked, streams, turns)
 }
 
 /// Runs the connections of a record by a configuration.

@@ -14,7 +14,7 @@ use http_rules::{Config, Timeouts};
 use htx_drive::weave::cores_for;
 use px_command::RunOptions;
 use px_link::{Fault, OutOfMemory, Sink, Waits, WaitsNet, Wakes};
-use px_proxyproto::HasPeer;
+use px_proxyproto::{HasPair, Introduces};
 use px_run::{Nets, Plan, RunFault, Times, run};
 use std::alloc::Global;
 
@@ -73,8 +73,8 @@ fn write_listening<K: Sink>(alloc: Global, config: &Config, out: &mut K) -> Resu
 
 /// Serves many clients at once with cores of this process. The net is bound already.
 fn serve_here<
-    L: Waits + HasPeer + Drop,
-    N: WaitsNet<Link = L> + Drop,
+    L: Waits + HasPair + Drop,
+    N: WaitsNet<Link = L> + Introduces + Drop,
     S: Nets<N> + Switch,
     W: Wakes<N>,
     K: Sink,
@@ -113,6 +113,7 @@ fn serve_here<
         times: times_of(&config.timeouts),
         connections: options.connections,
         accepts_header: config.accept_proxy,
+        sends_header: config.send_proxy,
     };
     run(
         &mut many.net,
@@ -156,8 +157,8 @@ fn serve_by_workers<N, S: Workers<N>, W, K: Sink>(
 
 /// Listens where the configuration says, and serves many clients at once.
 pub fn run_clients<
-    L: Waits + HasPeer + Drop,
-    N: WaitsNet<Link = L> + Drop,
+    L: Waits + HasPair + Drop,
+    N: WaitsNet<Link = L> + Introduces + Drop,
     S: Nets<N> + Switch + Workers<N>,
     W: Wakes<N>,
     K: Sink,

@@ -13,7 +13,7 @@ use crate::cores::{ClientCores, ConfigCore};
 use http_rules::Config;
 use htx_drive::laws::ran_is_the_session;
 use px_link::{Address, Link, Net, Sink};
-use px_proxyproto::HasPeer;
+use px_proxyproto::{HasPair, Introduces};
 use serve_run::{Driven, Ran, ServeFault, SessionFault, Sessions, serve};
 use std::alloc::Global;
 
@@ -23,27 +23,27 @@ struct ConfigSessions<'c> {
     driven: Driven<'c, ConfigCore<'c>, ClientCores<'c>>,
 }
 
-impl<'c, H: Link + HasPeer, N: Net<Link = H>> Sessions<N> for ConfigSessions<'c> {
+impl<'c, H: Link + HasPair, N: Net<Link = H> + Introduces> Sessions<N> for ConfigSessions<'c> {
     ghost use Rattle.px_link.specs.Net.{address_of};
     ghost use Rattle.proxy_sessions.specs.Connections.{ServesMet};
 
-    type Settings = (Config, Address, bool);
+    type Settings = (Config, Address, bool, Option<u32>);
 
-    ghost settings = { λ s. (s.driven.opener, s.driven.to.now, s.driven.accepts_header) };
+    ghost settings = { λ s. (s.driven.opener, s.driven.to.now, s.driven.accepts_header, s.driven.sends_header) };
 
     ghost to = { λ settings. address_of settings.1 };
 
     ghost session = { λ settings first client first_net net result.
-        ServesMet H.tells settings.2 settings.0 H.seen H.wrote (address_of settings.1) first client (N.seen first_net) (N.seen net) result };
+        ServesMet H.tells settings.2 settings.3 settings.0 H.seen H.wrote (address_of settings.1) first client (N.seen first_net) (N.seen net) result };
 
     fn run(&mut self, client: &mut H, net: &mut N) -> Result<Ran, SessionFault> {
-        ran_is_the_session::<ConfigCore<'c>, H, N>();
+        ran_is_the_session::<ConfigCore<'c>, H>();
         self.driven.run(client, net)
     }
 }
 
 /// Listens where the configuration says, serves so many clients one after another, and writes a line for each once its session is over.
-pub fn serve_clients<H: Link + HasPeer, N: Net<Link = H>, K: Sink>(
+pub fn serve_clients<H: Link + HasPair, N: Net<Link = H> + Introduces, K: Sink>(
     alloc: Global,
     config: &Config,
     count: u32,
@@ -77,6 +77,7 @@ pub fn serve_clients<H: Link + HasPeer, N: Net<Link = H>, K: Sink>(
             ClientCores::new(alloc, config),
             &config.server,
             config.accept_proxy,
+            config.send_proxy,
         ),
     };
     let served = serve(alloc, &config.bind, count, &mut sessions, net, out);

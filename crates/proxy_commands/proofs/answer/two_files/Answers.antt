@@ -9,7 +9,7 @@ use Rattle.proxy_commands.specs.Files.{Builder, told_by}
 use Rattle.proxy_commands.specs.Stops.{Input, StopsBy, given, stop_of_record}
 use Rattle.proxy_commands.specs.Answers.{IsAccepted}
 use Rattle.proxy_commands.specs.Modes.{RunsSo}
-use Rattle.proxy_commands.proofs.Causes.{accepted, passed_on, read_stops, record_stops, runs_record, takes}
+use Rattle.proxy_commands.proofs.Causes.{accepted, passed_on, read_stops, record_stops, runs_record}
 use Rattle.proxy_commands.proofs.Told.{said}
 use Rattle.proxy_commands.proofs.Connections.{some_connection}
 use Rattle.proxy_commands.proofs.answer.two_files.Goals as goal
@@ -25,14 +25,14 @@ pub returns-in_err-text-clause-stop : goal.returns-in_err-text-clause-stop
 returns-in_err-text-clause-stop g c =
     let told : Option (List NamedBytes) = g.F.Files.files c.args.files.now in
     let builder : Builder = told_by (g.P.Patterns.refusals c.args.pats.now) (g.P.Patterns.refusals c.taken_configuration.new.pats) (g.P.Patterns.last_refused c.taken_configuration.new.pats) in
-    let taken : (words : List (List ℕ)) → RunsSo c.args.takes_header words c.args.cfg_name.now c.args.rec_name.now → IsAccepted words told c.args.cfg_name.now c.args.rec_name.now =
+    let taken : (words : List (List ℕ)) → RunsSo c.args.command words c.args.cfg_name.now c.args.rec_name.now → IsAccepted words told c.args.cfg_name.now c.args.rec_name.now =
     λ words so. accepted words told c.args.cfg_name.now c.args.rec_name.now c.in_ok-config.config
-    (takes c.args.takes_header words c.args.cfg_name.now c.args.rec_name.now c.in_ok-config.config so c.in_ok-config.ensures.taken) c.in_ok-config.ensures.accepted in
+    (c.args.command, so, c.in_ok-config.ensures.taken) c.in_ok-config.ensures.accepted in
     λ words so.
     let input : Input = given words told builder (g.F.Files.last_failed c.read.new.files) (g.F.Files.faults c.args.files.now) (g.F.Files.faults c.read.new.files) in
     passed_on c.from_residual-in_err-text.result c.in_err-text.field-0.0 (StopsBy input) c.from_residual-in_err-text.ensures.1
     (read_stops input c.args.rec_name.now (g.F.Files.faults c.taken_configuration.new.files) c.in_err-text.field-0.0
-    (inr (inr (c.args.cfg_name.now, runs_record c.args.takes_header words c.args.cfg_name.now c.args.rec_name.now so, taken words so, c.in_ok-config.ensures.built))) c.in_ok-config.ensures.grows c.in_err-text.ensures.stop)
+    (inr (inr (c.args.cfg_name.now, runs_record c.args.command words c.args.cfg_name.now c.args.rec_name.now so, taken words so, c.in_ok-config.ensures.built))) c.in_ok-config.ensures.grows c.in_err-text.ensures.stop)
 
 pub returns-in_err-record-clause-stop : goal.returns-in_err-record-clause-stop
 returns-in_err-record-clause-stop g c =
@@ -43,13 +43,13 @@ returns-in_err-record-clause-stop g c =
     (subst (λ (t : List ℕ). Reads (g.F.Files.files c.taken_configuration.new.files) c.args.rec_name.now 67108865 t) (sym c.as_slice.ensures) c.in_ok-text.ensures.bytes) in
     let builder : Builder = told_by (g.P.Patterns.refusals c.args.pats.now) (g.P.Patterns.refusals c.taken_configuration.new.pats) (g.P.Patterns.last_refused c.taken_configuration.new.pats) in
     let fault : RecFault = c.in_err-record.field-0.0 in
-    let taken : (words : List (List ℕ)) → RunsSo c.args.takes_header words c.args.cfg_name.now c.args.rec_name.now → IsAccepted words told c.args.cfg_name.now c.args.rec_name.now =
+    let taken : (words : List (List ℕ)) → RunsSo c.args.command words c.args.cfg_name.now c.args.rec_name.now → IsAccepted words told c.args.cfg_name.now c.args.rec_name.now =
     λ words so. accepted words told c.args.cfg_name.now c.args.rec_name.now c.in_ok-config.config
-    (takes c.args.takes_header words c.args.cfg_name.now c.args.rec_name.now c.in_ok-config.config so c.in_ok-config.ensures.taken) c.in_ok-config.ensures.accepted in
+    (c.args.command, so, c.in_ok-config.ensures.taken) c.in_ok-config.ensures.accepted in
     λ words so.
     let input : Input = given words told builder (g.F.Files.last_failed c.read.new.files) (g.F.Files.faults c.args.files.now) (g.F.Files.faults c.read.new.files) in
     passed_on c.from_residual-in_err-record.result (stop_of_record fault) (StopsBy input) c.from_residual-in_err-record.ensures.1
-    (record_stops input c.args.rec_name.now text fault (inr (c.args.cfg_name.now, runs_record c.args.takes_header words c.args.cfg_name.now c.args.rec_name.now so, taken words so, c.in_ok-config.ensures.built)) read c.in_err-record.ensures.refused)
+    (record_stops input c.args.rec_name.now text fault (inr (c.args.cfg_name.now, runs_record c.args.command words c.args.cfg_name.now c.args.rec_name.now so, taken words so, c.in_ok-config.ensures.built)) read c.in_err-record.ensures.refused)
 
 pub returns-clause-say : goal.returns-clause-say
 returns-clause-say g c =

@@ -86,8 +86,8 @@ returns-in-Run g c =
     let now : ℕ = g.K.Sink.faults c.run_many.new.out in
     let old : Option (List ℕ) = g.K.Sink.written c.args.out.now in
     let new : Option (List ℕ) = g.K.Sink.written c.run_many.new.out in
-    let Does : Config → ℕ → Result (Unit {0}) ServeFault → Type 0 = Serves g.H.Link.seen g.H.Link.wrote g.H.HasPeer.tells g.N.Net.seen c.args.nets.now.serve c.args.nets.now.serve before now old new in
-    let Ran : Config → RunOptions → Result (Unit {0}) RunFault → Type 0 = Runs g.L.Link.seen g.L.Link.wrote g.L.HasPeer.tells g.M.Net.seen (g.S.Nets.accepts_none c.run_many.new.many.nets) c.args.nets.now.run.net c.run_many.new.many.net before now old new in
+    let Does : Config → ℕ → Result (Unit {0}) ServeFault → Type 0 = Serves g.H.Link.seen g.H.Link.wrote g.H.HasPair.tells g.N.Net.seen c.args.nets.now.serve c.args.nets.now.serve before now old new in
+    let Ran : Config → RunOptions → Result (Unit {0}) RunFault → Type 0 = Runs g.L.Link.seen g.L.Link.wrote g.L.HasPair.tells g.M.Net.seen (g.S.Nets.accepts_none c.run_many.new.many.nets) c.args.nets.now.run.net c.run_many.new.many.net before now old new in
     any_of_run input (put before now old new) (c.args.nets.now.serve ≡ c.args.nets.now.serve) (c.run_many.new.many ≡ c.args.nets.now.run) Does Ran c.run_many.result refl (c.run_many.ensures words is)
 
 pub returns-in-Drill : goal.returns-in-Drill

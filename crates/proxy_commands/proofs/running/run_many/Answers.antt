@@ -17,7 +17,7 @@ returns-in_err-cfg g c =
     λ words run.
     let input : Input = given words (g.F.Files.files c.args.files.now) builder (g.F.Files.last_failed c.configuration.new.files) (g.F.Files.faults c.args.files.now) (g.F.Files.faults c.configuration.new.files) in
     let output : Output = put before before (g.K.Sink.written c.args.out.now) (g.K.Sink.written c.args.out.now) in
-    let Does : Config → RunOptions → Result (Unit {0}) RunFault → Type 0 = Runs g.L.Link.seen g.L.Link.wrote g.L.HasPeer.tells g.N.Net.seen (g.S.Nets.accepts_none c.args.many.now.nets) c.args.many.now.net c.args.many.now.net before before output.old output.new in
+    let Does : Config → RunOptions → Result (Unit {0}) RunFault → Type 0 = Runs g.L.Link.seen g.L.Link.wrote g.L.HasPair.tells g.N.Net.seen (g.S.Nets.accepts_none c.args.many.now.nets) c.args.many.now.net c.args.many.now.net before before output.old output.new in
     run_err input output (c.args.many.now ≡ c.args.many.now) Does c.from_residual.result c.in_err-cfg.field-0.0 c.from_residual.ensures.1
     (inl (stops_early input before output.old c.in_err-cfg.field-0.0 (c.in_err-cfg.ensures.stop words (inr (inr (inr (c.args.asked.now.options, run))))), refl))
 
@@ -28,7 +28,7 @@ returns-in_err-run_clients g c =
     let now : ℕ = g.K.Sink.faults c.run_clients.new.out in
     let output : Output = put before now (g.K.Sink.written c.args.out.now) (g.K.Sink.written c.run_clients.new.out) in
     let fault : RunFault = c.in_err-run_clients.field-0.0 in
-    let Does : Config → RunOptions → Result (Unit {0}) RunFault → Type 0 = Runs g.L.Link.seen g.L.Link.wrote g.L.HasPeer.tells g.N.Net.seen (g.S.Nets.accepts_none c.run_clients.new.many.nets) c.args.many.now.net c.run_clients.new.many.net before now output.old output.new in
+    let Does : Config → RunOptions → Result (Unit {0}) RunFault → Type 0 = Runs g.L.Link.seen g.L.Link.wrote g.L.HasPair.tells g.N.Net.seen (g.S.Nets.accepts_none c.run_clients.new.many.nets) c.args.many.now.net c.run_clients.new.many.net before now output.old output.new in
     λ words run.
     let input : Input = given words (g.F.Files.files c.args.files.now) builder (g.F.Files.last_failed c.configuration.new.files) (g.F.Files.faults c.args.files.now) (g.F.Files.faults c.configuration.new.files) in
     run_err input output (c.run_clients.new.many ≡ c.args.many.now) Does c.from_residual-in_err-run_clients.result (stop_of_running fault) c.from_residual-in_err-run_clients.ensures.1

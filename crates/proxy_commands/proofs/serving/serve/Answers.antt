@@ -16,7 +16,7 @@ returns-in_err-cfg g c =
     λ words serve.
     let input : Input = given words (g.F.Files.files c.args.files.now) builder (g.F.Files.last_failed c.configuration.new.files) (g.F.Files.faults c.args.files.now) (g.F.Files.faults c.configuration.new.files) in
     let output : Output = put before before (g.K.Sink.written c.args.out.now) (g.K.Sink.written c.args.out.now) in
-    let Does : Config → ℕ → Result (Unit {0}) ServeFault → Type 0 = Serves g.H.Link.seen g.H.Link.wrote g.H.HasPeer.tells g.N.Net.seen c.args.net.now c.args.net.now before before output.old output.new in
+    let Does : Config → ℕ → Result (Unit {0}) ServeFault → Type 0 = Serves g.H.Link.seen g.H.Link.wrote g.H.HasPair.tells g.N.Net.seen c.args.net.now c.args.net.now before before output.old output.new in
     ran_err input output (c.args.net.now ≡ c.args.net.now) Does c.from_residual.result c.in_err-cfg.field-0.0 c.from_residual.ensures.1
     (inl (stops_early input before output.old c.in_err-cfg.field-0.0 (c.in_err-cfg.ensures.stop words (inr (inr (inl (c.args.asked.now.connections, serve))))), refl))
 
@@ -27,7 +27,7 @@ returns-in_err-serve_clients g c =
     let now : ℕ = g.K.Sink.faults c.serve_clients.new.out in
     let output : Output = put before now (g.K.Sink.written c.args.out.now) (g.K.Sink.written c.serve_clients.new.out) in
     let fault : ServeFault = c.in_err-serve_clients.field-0.0 in
-    let Does : Config → ℕ → Result (Unit {0}) ServeFault → Type 0 = Serves g.H.Link.seen g.H.Link.wrote g.H.HasPeer.tells g.N.Net.seen c.args.net.now c.serve_clients.new.net before now output.old output.new in
+    let Does : Config → ℕ → Result (Unit {0}) ServeFault → Type 0 = Serves g.H.Link.seen g.H.Link.wrote g.H.HasPair.tells g.N.Net.seen c.args.net.now c.serve_clients.new.net before now output.old output.new in
     let does : Does c.in_ok-cfg.cfg c.args.asked.now.connections (Err fault) = record {
       good = c.in_err-serve_clients.ensures.good;
       told = c.in_err-serve_clients.ensures.told;
@@ -49,7 +49,7 @@ returns g c =
     let before : ℕ = g.K.Sink.faults c.args.out.now in
     let now : ℕ = g.K.Sink.faults c.serve_clients.new.out in
     let output : Output = put before now (g.K.Sink.written c.args.out.now) (g.K.Sink.written c.serve_clients.new.out) in
-    let Does : Config → ℕ → Result (Unit {0}) ServeFault → Type 0 = Serves g.H.Link.seen g.H.Link.wrote g.H.HasPeer.tells g.N.Net.seen c.args.net.now c.serve_clients.new.net before now output.old output.new in
+    let Does : Config → ℕ → Result (Unit {0}) ServeFault → Type 0 = Serves g.H.Link.seen g.H.Link.wrote g.H.HasPair.tells g.N.Net.seen c.args.net.now c.serve_clients.new.net before now output.old output.new in
     let does : Does c.in_ok-cfg.cfg c.args.asked.now.connections (Ok tt) = record {
       good = c.in_ok-serve_clients.ensures.good;
       told = c.in_ok-serve_clients.ensures.told;

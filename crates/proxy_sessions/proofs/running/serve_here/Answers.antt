@@ -1,16 +1,40 @@
-use Rattle.std.proofs.Common.{List, [], ◌∷◌, inl}
+use Rattle.std.proofs.Common.{List, [], ◌∷◌, inl, ℕ, Option, Some, None}
 use Rattle.std.specs.List.{AllByRecursion}
+use Rattle.px_peer.specs.declared.Peer.{Peer}
+use Rattle.px_proxyproto.specs.Meeting.{source_in}
+use Rattle.session_core.specs.History.{Past}
+use Rattle.session_core.specs.Leads.{Stands}
+use Rattle.session_core.specs.declared.machine.Core.{Core}
+use Rattle.http_rules.specs.declared.config.Config.{Config}
+use Rattle.forward_core.specs.Meaning.Product.{meaning_of}
+use Rattle.forward_core.specs.Joined.Joined.{SessionStands, request_of, answer_of}
+use Rattle.forward_core.specs.declared.joined.directions.Directions.{Directions}
+use Rattle.htx_drive.specs.Weave.State.{IsFresh}
+use Rattle.px_run.specs.Connection.{IsFreshFor}
 use Rattle.proxy_sessions.proofs.running.serve_here.Goals as goal
 
 all_as : {A : Type 0} (P Q : A → Type 0) → ((x : A) → P x → Q x) → (xs : List A) → AllByRecursion P xs → AllByRecursion Q xs
 all_as P Q follows [] h = tt
 all_as P Q follows (x ∷ xs) h = (follows x h.0, all_as P Q follows xs h.1)
 
+-- a core that is fresh for a peer is so for two ends of which this one asks
+fresh_for : {C : Type 0} (stands : Option Peer → C → Past → Type 0) (peer : Option Peer) (core : C) → IsFresh (stands peer) core → IsFreshFor (λ pair. stands (source_in pair)) core
+fresh_for stands None core h = (None, h)
+fresh_for stands (Some peer) core h = (Some (record { src = peer; dst = peer }), h)
+
+-- cores of this configuration stand so, each for its peer
+abbrev stands_under : Config → Option Peer → Core Directions → Past → Type 0
+stands_under cfg peer core past =
+    Stands (meaning_of (record cfg { peer = peer })) request_of answer_of (SessionStands (record cfg { peer = peer }, cfg.limits.bufsize)) core.sides core.at past
+
 pub run-requires-clause-fresh : goal.run-requires-clause-fresh
-run-requires-clause-fresh g c = ((c.args.config.now, c.args.config.now.limits.bufsize), all_as _ _ (λ core h. (c.args.config.now.peer, h)) _ c.in-Ok.ensures.fresh)
+run-requires-clause-fresh g c =
+    let cfg = c.args.config.now in
+    ((cfg, cfg.limits.bufsize), all_as _ _ (λ core h. fresh_for (stands_under cfg) cfg.peer core h) _ c.in-Ok.ensures.fresh)
 
 pub returns-clause-did : goal.returns-clause-did
 returns-clause-did g c =
+    let cfg = c.args.config.now in
     λ first h.
     inl (record {
       bound = c.args.many.now.net;
@@ -18,5 +42,5 @@ returns-clause-did g c =
       writes_then = g.K.Sink.faults c.write_listening.new.out;
       between = g.K.Sink.written c.write_listening.new.out;
       line = c.in-Ok-write_listening.ensures.wrote;
-      served = c.run.ensures.served (c.args.config.now, c.args.config.now.limits.bufsize) (all_as _ _ (λ core h. (c.args.config.now.peer, h)) _ c.in-Ok.ensures.fresh);
+      served = c.run.ensures.served (cfg, cfg.limits.bufsize) (all_as _ _ (λ core h. fresh_for (stands_under cfg) cfg.peer core h) _ c.in-Ok.ensures.fresh);
     })

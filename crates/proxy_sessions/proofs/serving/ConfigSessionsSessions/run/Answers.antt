@@ -1,4 +1,8 @@
 use Rattle.std.specs.Prelude.{ℕ, Option}
+use Rattle.px_peer.specs.declared.Pair.{Pair}
+use Rattle.px_link.specs.Net.{NetSeen}
+use Rattle.px_proxyproto.specs.Meeting.{source_in}
+use Rattle.px_proxyproto.specs.Nets.{heading_for, introduced}
 use Rattle.http_rules.specs.declared.config.Config.{Config}
 use Rattle.px_link.specs.Net.{address_of}
 use Rattle.px_peer.specs.declared.Peer.{Peer}
@@ -11,7 +15,7 @@ use Rattle.session_core.specs.declared.machine.Core.{Core}
 use Rattle.session_model.specs.Meaning.{Meaning}
 use Rattle.forward_core.specs.Joined.Joined.{SessionStands, request_of, answer_of}
 use Rattle.forward_core.specs.declared.joined.directions.Directions.{Directions}
-use Rattle.serve_run.specs.Drove.{Drove}
+use Rattle.serve_run.specs.Drove.{DrivesFor}
 use Rattle.proxy_sessions.specs.Connections.{ServesClient}
 use Rattle.proxy_sessions.proofs.Clients.{serves, as_met}
 use Rattle.proxy_sessions.proofs.serving.ConfigSessionsSessions.run.Goals as goal
@@ -25,17 +29,20 @@ returns-clause-session g c =
     let sees : Core Directions → CoreSeen = λ core. core_seen (request_of core.sides) (answer_of core.sides) core.at core.lost in
     let cfg : Option Peer → Config × ℕ = λ peer. (record opener { peer = peer }, opener.limits.bufsize) in
     let to = address_of c.args.self.now.driven.to.now in
+    let sends : Option ℕ = c.args.self.now.driven.sends_header in
     let first_net = g.N.Net.seen c.args.net.now in
     let net = g.N.Net.seen c.run.new.net in
+    let begun : Option Pair → NetSeen = λ pair. introduced (heading_for sends pair) first_net in
     record {
       begins = met.begins;
       how = met.how;
       so = met.so;
       served =
-          as_met g.H.Link.seen g.H.Link.wrote (λ peer. Drove meaning stands sees g.H.Link.seen g.H.Link.wrote (cfg peer) to) (λ peer. ServesClient (record opener { peer = peer }) g.H.Link.seen g.H.Link.wrote to)
+          as_met g.H.Link.seen g.H.Link.wrote (DrivesFor meaning stands sees g.H.Link.seen g.H.Link.wrote cfg sends to)
+          (λ pair begins client first_net net result. ServesClient (record opener { peer = source_in pair }) g.H.Link.seen g.H.Link.wrote to begins client (introduced (heading_for sends pair) first_net) net result)
           met.how met.begins c.run.new.client first_net net c.run.result
-          (λ peer h. serves meaning stands sees g.H.Link.seen g.H.Link.wrote (cfg peer) to met.begins c.run.new.client first_net net
-          (λ core ran own ending answers kept a b d e r. c.ran_is_the_session.ensures (cfg peer) core met.begins c.run.new.client to c.args.net.now c.run.new.net ran own ending answers kept a b d e r)
+          (λ pair h. serves meaning stands sees g.H.Link.seen g.H.Link.wrote (cfg (source_in pair)) to met.begins c.run.new.client (begun pair) net
+          (λ core ran own ending answers kept a b d e r. c.ran_is_the_session.ensures (cfg (source_in pair)) core met.begins c.run.new.client to (begun pair) net ran own ending answers kept a b d e r)
           c.run.result h)
           met.served;
     }
