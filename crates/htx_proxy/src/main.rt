@@ -9,6 +9,7 @@ mod worker;
 use nets::RealNets;
 use proxy_call::{Many, Networks, Status, htx_proxy};
 use px_pattern::RealPatterns;
+use px_proxyproto::{SendNet, SendWakes};
 use px_sock::{ReadyNet, ReadyPoll, RealFiles, RealNet, RealSink};
 use std::alloc::AllocError;
 use std::env::Env;
@@ -21,9 +22,9 @@ const NO_TEXT: &str = "\u{fffd}";
 
 /// What `run` is handed.
 type RealMany<'a> = Many<
-    ReadyNet<'a, HostRuntime>,
+    SendNet<ReadyNet<'a, HostRuntime>>,
     RealNets<'a, HostRuntime>,
-    ReadyPoll<'a, HostRuntime>,
+    SendWakes<ReadyPoll<'a, HostRuntime>>,
 >;
 
 /// The words of the command line, without the program's name.
@@ -57,9 +58,9 @@ fn first_many<'a>(rt: &'a HostRuntime) -> io::Result<RealMany<'a>> {
     let mut wakes = ReadyPoll::new(rt.alloc(), rt)?;
     wakes.watch_input();
     Ok(Many {
-        net: ReadyNet::telling(rt.alloc(), rt),
+        net: SendNet::new(ReadyNet::telling(rt.alloc(), rt)),
         nets: RealNets::new(rt),
-        wakes,
+        wakes: SendWakes::new(wakes),
     })
 }
 
@@ -69,9 +70,9 @@ fn worker_many<'a>(rt: &'a HostRuntime) -> io::Result<RealMany<'a>> {
     wakes.watch_output();
     let listener = rt.stdin().as_fd().try_clone_to_owned()?;
     Ok(Many {
-        net: ReadyNet::handed(rt.alloc(), rt, listener),
+        net: SendNet::new(ReadyNet::handed(rt.alloc(), rt, listener)),
         nets: RealNets::of_worker(rt),
-        wakes,
+        wakes: SendWakes::new(wakes),
     })
 }
 
@@ -86,7 +87,7 @@ fn status_of(rt: &HostRuntime, words: &[String], is_worker: bool) -> Status {
         return Status::NetFault;
     };
     let mut nets = Networks {
-        serve: RealNet::telling(rt.alloc(), rt),
+        serve: SendNet::new(RealNet::telling(rt.alloc(), rt)),
         run,
     };
     let mut files = RealFiles::new(rt.alloc(), rt);

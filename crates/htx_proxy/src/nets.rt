@@ -2,6 +2,7 @@
 use crate::crew::Crew;
 use proxy_call::{Switch, Workers};
 use px_link::{Fault, OutOfMemory, Sink};
+use px_proxyproto::SendNet;
 use px_run::Nets;
 use px_sock::{InputEnd, ReadyNet, end_listener, is_output_gone};
 use std::alloc::Global;
@@ -20,7 +21,7 @@ enum Off {
     Ended,
 }
 
-/// Makes nets over the system's sockets.
+/// Makes nets over the system's sockets, which may write a header of the PROXY protocol to each server first.
 #[derive(Drop)]
 pub struct RealNets<'a, R> {
     alloc: Global,
@@ -60,9 +61,9 @@ impl<'a, R> Switch for RealNets<'a, R> {
     }
 }
 
-impl<'a, R: net::Net + Eprint> Nets<ReadyNet<'a, R>> for RealNets<'a, R> {
-    fn net(&mut self) -> Result<ReadyNet<'a, R>, OutOfMemory> {
-        Ok(ReadyNet::telling(self.alloc, self.rt))
+impl<'a, R: net::Net + Eprint> Nets<SendNet<ReadyNet<'a, R>>> for RealNets<'a, R> {
+    fn net(&mut self) -> Result<SendNet<ReadyNet<'a, R>>, OutOfMemory> {
+        Ok(SendNet::new(ReadyNet::telling(self.alloc, self.rt)))
     }
 
     fn accepts_more(&mut self) -> bool {
@@ -80,16 +81,16 @@ impl<'a, R: net::Net + Eprint> Nets<ReadyNet<'a, R>> for RealNets<'a, R> {
     }
 }
 
-impl<'a> Workers<ReadyNet<'a, HostRuntime>> for RealNets<'a, HostRuntime> {
-    fn start(&mut self, net: &ReadyNet<'a, HostRuntime>, count: u32) -> Result<(), Fault> {
-        self.crew.start(net, count)
+impl<'a> Workers<SendNet<ReadyNet<'a, HostRuntime>>> for RealNets<'a, HostRuntime> {
+    fn start(&mut self, net: &SendNet<ReadyNet<'a, HostRuntime>>, count: u32) -> Result<(), Fault> {
+        self.crew.start(net.inner(), count)
     }
 
     fn pass_on<K: Sink>(
         &mut self,
-        net: &ReadyNet<'a, HostRuntime>,
+        net: &SendNet<ReadyNet<'a, HostRuntime>>,
         out: &mut K,
     ) -> Result<(), Fault> {
-        self.crew.pass_on(net, out)
+        self.crew.pass_on(net.inner(), out)
     }
 }
