@@ -5,6 +5,7 @@ use px_link::{MemFiles, OutOfMemory};
 use px_loop::RULES;
 use px_loop::visit::{Ports, SERVE};
 use px_pattern::RealPatterns;
+use px_proxyproto::SendNet;
 use px_sock::{RealNet, RealSink};
 use std::alloc::Global;
 use std::io::Eprint;
@@ -51,7 +52,7 @@ pub fn serve<R: Net + Clock + Print + Eprint + AllocGlobal>(rt: &R, ports: Ports
         return ExitCode::from(Status::OutOfMemory.number());
     };
     let mut nets = Networks {
-        serve: RealNet::new(alloc, rt),
+        serve: SendNet::new(RealNet::new(alloc, rt)),
         run: many_of(alloc, unused, &[]),
     };
     let mut out = RealSink::new(rt);

@@ -38,8 +38,8 @@ fn say_counts(name: &[u8], first: u64, second: u64, answers: &mut Answers) {
 }
 
 /// Says what an accepted configuration has: `ok`, its two sizes and how many request rules; where there are any, how many
-/// rules of responses and behind them; where there are filters, how many of each direction; and whether a header of the PROXY
-/// protocol is awaited.
+/// rules of responses and behind them; where there are filters, how many of each direction; whether a header of the PROXY
+/// protocol is awaited; and of what version one is sent to each server, where one is.
 fn say_config(config: &Config, answers: &mut Answers) {
     answers.say(b"ok ");
     answers.more_count(u64::from(config.limits.bufsize));
@@ -61,6 +61,10 @@ fn say_config(config: &Config, answers: &mut Answers) {
     );
     if config.accept_proxy {
         answers.say(b"accept-proxy");
+    }
+    if let Some(version) = config.send_proxy {
+        answers.say(b"send-proxy ");
+        answers.more_count(u64::from(version));
     }
 }
 

@@ -1,23 +1,27 @@
 //! What `run` is handed in memory: a net on which the clients of a record come, a net for each connection with its servers, and a wait that names all. Each
 //! call can be made at once.
 ghost use Rattle.std.specs.Prelude.{◌≡◌, [], IfOk};
+ghost use Rattle.px_link.specs.MemNet.{net_of};
 
 use crate::served::links::put_servers;
 use case_rows::{Call, Fault};
 use proxy_commands::Networks;
 use proxy_sessions::{Many, Switch, Workers};
-use px_link::{Fault as Failure, MemNet, MemWakes, OutOfMemory, Script, ScriptedNet, Sink};
+use px_link::{Fault as Failure, MemNet, MemWakes, Net, OutOfMemory, Script, ScriptedNet, Sink};
+use px_proxyproto::SendNet;
 use px_run::Nets;
 use rec_format::Connection;
 use std::alloc::Global;
 
-/// A net that says yes to each question.
-fn ready(alloc: Global, net: MemNet) -> ScriptedNet<MemNet>
-    ensures { result ≡ net }
+/// A net that says yes to each question, whose servers may be sent headers first.
+pub type ReadyNet = SendNet<ScriptedNet<MemNet>>;
+
+fn ready(alloc: Global, net: MemNet) -> ReadyNet
+    ensures { ⟦<SendNet<ScriptedNet<MemNet>> as Net>⟧.seen result ≡ net_of net }
 {
     let accepts = Script::new(Vec::new(alloc));
     let connects = Script::new(Vec::new(alloc));
-    ScriptedNet::new(alloc, net, accepts, connects, Vec::new(alloc))
+    SendNet::new(ScriptedNet::new(alloc, net, accepts, connects, Vec::new(alloc)))
 }
 
 /// The nets of the connections of a record, in their order, and behind them nets without a server.
@@ -34,16 +38,12 @@ impl<'r> Switch for RecordNets<'r> {
 }
 
 /// Its workers are none, and say nothing.
-impl<'r> Workers<ScriptedNet<MemNet>> for RecordNets<'r> {
-    fn start(&mut self, _net: &ScriptedNet<MemNet>, _count: u32) -> Result<(), Failure> {
+impl<'r> Workers<ReadyNet> for RecordNets<'r> {
+    fn start(&mut self, _net: &ReadyNet, _count: u32) -> Result<(), Failure> {
         Ok(())
     }
 
-    fn pass_on<K: Sink>(
-        &mut self,
-        _net: &ScriptedNet<MemNet>,
-        _out: &mut K,
-    ) -> Result<(), Failure> {
+    fn pass_on<K: Sink>(&mut self, _net: &ReadyNet, _out: &mut K) -> Result<(), Failure> {
         Ok(())
     }
 }
@@ -60,9 +60,9 @@ fn net_with(alloc: Global, conn: &Connection) -> Result<MemNet, Fault>
     Ok(MemNet::new(alloc, Vec::new(alloc), servers)?)
 }
 
-impl<'r> Nets<ScriptedNet<MemNet>> for RecordNets<'r> {
+impl<'r> Nets<ReadyNet> for RecordNets<'r> {
     #[tactic(auto, using(crate::proofs::NewNets::new_net))]
-    fn net(&mut self) -> Result<ScriptedNet<MemNet>, OutOfMemory> {
+    fn net(&mut self) -> Result<ReadyNet, OutOfMemory> {
         let asked = self.asked;
         self.asked = asked.saturating_add(1);
         let net = match self.conns.get(asked) {
@@ -81,10 +81,10 @@ impl<'r> Nets<ScriptedNet<MemNet>> for RecordNets<'r> {
 }
 
 /// What `run` is handed in memory.
-pub type MemMany<'r> = Many<ScriptedNet<MemNet>, RecordNets<'r>, MemWakes>;
+pub type MemMany<'r> = Many<ReadyNet, RecordNets<'r>, MemWakes>;
 
 /// What the program is handed in memory.
-pub type MemNetworks<'r> = Networks<MemNet, ScriptedNet<MemNet>, RecordNets<'r>, MemWakes>;
+pub type MemNetworks<'r> = Networks<SendNet<MemNet>, ReadyNet, RecordNets<'r>, MemWakes>;
 
 /// What `run` is handed, with the clients on this net, and the servers of these connections. Its clock stands still.
 pub fn many_of<'r>(alloc: Global, net: MemNet, conns: &'r [Connection]) -> MemMany<'r> {

@@ -8,6 +8,7 @@ use case_rows::{Answers, Call, Fault, Row, decoded, words_of};
 use proxy_commands::{Networks, Status};
 use px_link::{MemFiles, MemNet, MemSink};
 use px_pattern::RealPatterns;
+use px_proxyproto::SendNet;
 use std::alloc::Global;
 
 /// The file `c`.
@@ -47,13 +48,13 @@ fn served<P: Program>(alloc: Global, row: Row<'_>) -> Result<Vec<u8>, Fault> {
     let record = record_in(alloc, &decoded(alloc, row.field(4).as_bytes())?)?;
     let mut files = files_of(alloc, &cfg, &failing)?;
     let mut nets = Networks {
-        serve: net_of(alloc, &record, &failing)?,
+        serve: SendNet::new(net_of(alloc, &record, &failing)?),
         run: many_of(alloc, no_net(alloc)?, &[]),
     };
     let mut out = output_of(alloc, &failing)?;
     let mut pats = RealPatterns::new();
     let status = P::call(alloc, &words, &mut files, &mut nets, &mut out, &mut pats);
-    tell(alloc, status, &out, &nets.serve)
+    tell(alloc, status, &out, nets.serve.inner())
 }
 
 /// A net to which no client comes.
@@ -69,13 +70,13 @@ fn ran<P: Program>(alloc: Global, row: Row<'_>) -> Result<Vec<u8>, Fault> {
     let record = record_in(alloc, &decoded(alloc, row.field(4).as_bytes())?)?;
     let mut files = files_of(alloc, &cfg, &failing)?;
     let mut nets = Networks {
-        serve: no_net(alloc)?,
+        serve: SendNet::new(no_net(alloc)?),
         run: many_of(alloc, net_of(alloc, &record, &failing)?, &record.conns),
     };
     let mut out = output_of(alloc, &failing)?;
     let mut pats = RealPatterns::new();
     let status = P::call(alloc, &words, &mut files, &mut nets, &mut out, &mut pats);
-    tell(alloc, status, &out, nets.run.net.net())
+    tell(alloc, status, &out, nets.run.net.inner().net())
 }
 
 /// What a row of `served` or `ran` comes to; none of another kind.

@@ -7,6 +7,7 @@ use case_rows::{Answers, Call, Fault, Row, decoded, words_of};
 use proxy_commands::{Networks, Status};
 use px_link::{MemFiles, MemSink};
 use px_pattern::RealPatterns;
+use px_proxyproto::SendNet;
 use std::alloc::Global;
 
 /// How the program ended, and what it wrote.
@@ -33,7 +34,7 @@ pub(crate) fn reply_to<P: Program>(
     out.fail_at(failing);
     let mut pats = RealPatterns::new();
     let mut nets = Networks {
-        serve: no_net(alloc)?,
+        serve: SendNet::new(no_net(alloc)?),
         run: many_of(alloc, no_net(alloc)?, &[]),
     };
     let status = P::call(alloc, &words, &mut files, &mut nets, &mut out, &mut pats);
