@@ -32,10 +32,11 @@ import glob, os, re, subprocess, sys, tempfile
 here, program = sys.argv[1:3]
 PAGE, ROWS = "docs/CONFIGURATION.md", "crates/htx_cases/data/configurations/reference.txt"
 BASE = "listen p\n  bind 127.0.0.1:8080\n  server s 127.0.0.1:8081\n"
+OPTIONS = {"send-proxy": 1, "send-proxy-v2": 2}
 UNTRIED = ("", "text", "sh", "console", "rust")
 HEAD = f"""# Examples of {PAGE}, made of the page by `tools/try-docs.sh --rows`: NAME | a text | ok with bufsize, maxrewrite and the number of
 # rules; where there are any, the rules of responses and behind them, and the filters of requests and of responses; `accept-proxy` where each client's
-# stream begins with a header; or the refused line and its kind
+# stream begins with a header; `send-proxy` and its version where each server is sent one; or the refused line and its kind
 """
 
 
@@ -109,6 +110,7 @@ class Counts:
         self.request += any(words[:2] == ["option", "forwardfor"] for words in lines)  # one rule on requests, behind all others
         self.req, self.res = (sum(words[0] == "filter" and words[2] == side for words in lines) for side in ("req", "res"))
         self.accepts = any(words[0] == "bind" and words[2:3] == ["accept-proxy"] for words in lines)
+        self.sends = next((OPTIONS.get(words[3]) for words in lines if words[0] == "server" and words[3:]), None)
         sizes = {words[0]: int(words[1]) for words in lines if words[0].startswith("tune.")}
         self.bufsize = sizes.get("tune.bufsize", 16384)
         self.maxrewrite = sizes.get("tune.maxrewrite", min(1024, self.bufsize // 2))
@@ -120,7 +122,8 @@ class Counts:
         answers = f"; answers {self.response} {self.after}" if self.response or self.after else ""
         filters = f"; filters {self.req} {self.res}" if self.req or self.res else ""
         accepts = "; accept-proxy" if self.accepts else ""
-        return f"ok {self.bufsize} {self.maxrewrite} {self.request}{answers}{filters}{accepts}"
+        sends = f"; send-proxy {self.sends}" if self.sends else ""
+        return f"ok {self.bufsize} {self.maxrewrite} {self.request}{answers}{filters}{accepts}{sends}"
 
 
 def rows():

@@ -1,5 +1,5 @@
 #!/usr/bin/env bash
-# try-run.sh [PROGRAM]: real clients and servers through `run`, over loopback: curl, wrk, ab and raw sockets in front, nginx, php, node, python and servers that
+# try-run.sh [PROGRAM]: real clients and servers through `run`, over loopback: curl, wrk, ab and raw sockets in front, nginx, HAProxy, php, node, python and servers that
 # misbehave behind. It prints a line for each check, `ok NAME` or `FAILED NAME: WHY`, and ends with 0 where all are ok. PROGRAM is a built program; without it
 # the checks are of what ./htx-proxy starts, which is the proved program where one stands, and else an unproved build. SECONDS_OF_WRK (10) is how long wrk runs, and
 # REQUESTS (100000) is how many requests ab makes, and MEGABYTES (100) how large the large bodies are. What isn't there is installed from Debian, which wants root. It is no part of the gate.
@@ -13,13 +13,13 @@ PATH="$PATH:/usr/sbin"
 
 # ---- what it needs
 
-declare -A packages=([curl]=curl [wrk]=wrk [ab]=apache2-utils [nginx]=nginx-light [php]=php-cli [node]=nodejs [python3]=python3)
+declare -A packages=([curl]=curl [wrk]=wrk [ab]=apache2-utils [nginx]=nginx-light [haproxy]=haproxy [php]=php-cli [node]=nodejs [python3]=python3)
 missing=()
 for tool in "${!packages[@]}"; do command -v "$tool" >/dev/null || missing+=("${packages[$tool]}"); done
 if [ "${#missing[@]}" -gt 0 ]; then
   [ "$(id -u)" = 0 ] || { echo "try-run: not there: ${missing[*]}; as root this script installs them" >&2; exit 70; }
   export DEBIAN_FRONTEND=noninteractive
-  # nginx is not to be started as a service here
+  # nginx and haproxy are not to be started as services here
   printf '#!/bin/sh\nexit 101\n' >/tmp/try-run-policy.$$ && chmod +x /tmp/try-run-policy.$$
   [ -e /usr/sbin/policy-rc.d ] || { mv /tmp/try-run-policy.$$ /usr/sbin/policy-rc.d && policy=/usr/sbin/policy-rc.d; }
   { apt-get update && apt-get install -y --no-install-recommends "${missing[@]}"; } >/tmp/try-run-apt.log 2>&1
@@ -57,6 +57,8 @@ peers=(python3 "$here/tools/trying/peers.py")
 
 free_port; front=$port; free_port; origin=$port; free_port; sink=$port; free_port; silent=$port
 free_port; early=$port; free_port; full=$port; free_port; php=$port; free_port; python=$port; free_port; node=$port
+free_port; headed=$port; free_port; haproxy=$port
+six=; [ -r /proc/net/if_inet6 ] && grep -q '^0*1 .* lo$' /proc/net/if_inet6 && six=yes # a loopback of IPv6
 mkdir -p "$work/www" "$work/temp"
 echo "hello" >"$work/www/small"
 head -c 204800 /dev/urandom >"$work/www/middle"
@@ -75,7 +77,25 @@ http {
   client_body_temp_path $work/temp; proxy_temp_path $work/temp; fastcgi_temp_path $work/temp; uwsgi_temp_path $work/temp; scgi_temp_path $work/temp;
   server { listen 127.0.0.1:$origin backlog=4096; root $work/www; location /upload { proxy_pass http://127.0.0.1:$sink/; } }
   server { listen 127.0.0.1:$sink; location / { return 200 "taken"; } }
+  server { # its connections begin with a header of the PROXY protocol
+    listen 127.0.0.1:$headed proxy_protocol backlog=4096;
+    ${six:+listen [::1]:$headed proxy_protocol;}
+    root $work/www;
+    location /small { }
+    location / { return 200 "\$proxy_protocol_addr \$proxy_protocol_port \$proxy_protocol_server_addr \$proxy_protocol_server_port"; }
+  }
 }
+CONF
+cat >"$work/haproxy.cfg" <<CONF
+defaults
+  mode http
+  timeout client 20s
+  timeout server 20s
+  timeout connect 5s
+frontend f
+  bind 127.0.0.1:$haproxy accept-proxy
+  ${six:+bind [::1]:$haproxy accept-proxy}
+  http-request return status 200 content-type text/plain lf-string "%[src] %[src_port] %[dst] %[dst_port]"
 CONF
 echo '<?php echo strlen(file_get_contents("php://input"));' >"$work/www/length.php"
 cat >"$work/echo.js" <<'JS'
@@ -95,14 +115,15 @@ class Handler(BaseHTTPRequestHandler):
 ThreadingHTTPServer(("127.0.0.1", int(sys.argv[1])), Handler).serve_forever()
 PY
 nginx -c "$work/nginx.conf" -p "$work" 2>"$work/nginx-said" & started+=($!)
+haproxy -db -f "$work/haproxy.cfg" >"$work/haproxy-said" 2>&1 & started+=($!)
 php -S "127.0.0.1:$php" -t "$work/www" >/dev/null 2>&1 & started+=($!)
 node "$work/echo.js" "$node" & started+=($!)
 python3 "$work/length.py" "$python" & started+=($!)
 "${peers[@]}" silent_server "$silent" & started+=($!)
 "${peers[@]}" early_server "$early" & started+=($!)
 "${peers[@]}" full_server "$full" >/dev/null & started+=($!)
-for at in "$origin" "$php" "$node" "$python" "$silent" "$early" "$full"; do
-  await_listener "$at" || { echo "try-run: a server does not listen: $(cat "$work/nginx-said")" >&2; exit 70; }
+for at in "$origin" "$haproxy" "$php" "$node" "$python" "$silent" "$early" "$full"; do
+  await_listener "$at" || { echo "try-run: a server does not listen: $(cat "$work/nginx-said" "$work/haproxy-said")" >&2; exit 70; }
 done
 
 # ---- the program
@@ -135,7 +156,7 @@ finish() { # NAME WRONG: switches it off, and ends a check in which WRONG was se
   ended
   local wrong="$2"
   [ "$status" = 0 ] || wrong="$wrong status $status, $(head -c 300 "$work/said")"
-  [ "$(head -1 "$work/lines")" = "listening 127.0.0.1:$front" ] || wrong="$wrong the first line is $(head -1 "$work/lines")"
+  [ "$(head -1 "$work/lines")" = "listening ${host:-127.0.0.1}:$front" ] || wrong="$wrong the first line is $(head -1 "$work/lines")"
   says "$1" "$wrong"
 }
 fetch=(curl -sS --noproxy '*' --max-time 60)
@@ -263,6 +284,44 @@ wait "$dripping"; kill "$idle"; wait "$idle" 2>/dev/null
 finish "40 curls with headers of the PROXY protocol, beside silent ones and one that drips, $(cat "$work/dripped") seconds" \
   "$wrong$(awk '$1 == "ever" || $1 > 8 { print "it was let" }' "$work/dripped")"
 
+# servers that are told who asks, by a header of the PROXY protocol in front of each connection
+
+sends() { # OPTION SERVER-ADDRESS BIND..
+  printf 'listen p\n  bind %s\n  server s %s %s\n' "${*:3}" "$2" "$1" >"$work/proxy.cfg"
+}
+all_ends() { # CLIENTS COUNT URL CURL-WORDS..: so many clients at once, each with so many exchanges on one connection; what is wrong with the ends that the server has seen in its headers
+  local number urls=() asking=()
+  for number in $(seq "$2"); do urls+=("$3"); done
+  for number in $(seq "$1"); do
+    behind "${fetch[@]}" -g "${@:4}" -w '\n%{local_ip} %{local_port} %{remote_ip} %{remote_port}\n' "${urls[@]}" >"$work/ends.$number"; asking+=($!)
+  done
+  wait "${asking[@]}"
+  for number in $(seq "$1"); do echo "$work/ends.$number"; done | xargs python3 "$here/tools/trying/ends.py" "$2"
+}
+for option in send-proxy send-proxy-v2; do
+  for server in "nginx:$headed" "HAProxy:$haproxy"; do
+    of="$option to ${server%:*}" port="${server#*:}"
+    sends "$option" "127.0.0.1:$port" "127.0.0.1:$front"
+    run --sets 64
+    finish "$of, of 40 clients at once with 10 exchanges each" "$(all_ends 40 10 "$url/ends")"
+    sends "$option" "127.0.0.1:$port" "127.0.0.1:$front accept-proxy"
+    run --sets 64
+    finish "$of, of 40 clients behind headers" "$(all_ends 40 10 "$url/ends" --haproxy-protocol)"
+    [ -n "$six" ] || continue
+    sends "$option" "[::1]:$port" "[::1]:$front"
+    host=::1
+    run --sets 64
+    finish "$of, IPv6 on both sides" "$(all_ends 10 5 "http://[::1]:$front/ends")"
+    host=
+  done
+done
+
+sends send-proxy-v2 "127.0.0.1:$headed" "127.0.0.1:$front"
+run --sets 64
+ab -q -k -c 64 -n "$((requests / 5))" "$url/small" >"$work/got" 2>&1
+finish "$((requests / 5)) requests of ab on 64 kept connections with send-proxy-v2, $(sed -n 's/^Requests per second: *\([0-9.]*\).*/\1/p' "$work/got") a second" \
+  "$(wrong_in "$work/got"; grep -q "^Complete requests: *$((requests / 5))$" "$work/got" || tail -2 "$work/got")"
+
 configure "$origin"
 run --sets 2 --connections 3
 for _ in 1 2 3; do "${fetch[@]}" "$url/small" -o /dev/null; done
@@ -328,6 +387,14 @@ wait "$slow"
 for _ in $(seq 300); do kill -0 "${workers[@]}" 2>/dev/null || break; sleep 0.02; done
 says "the end of the first process: workers finish what is in hand" "$wrong$(cmp "$work/got" "$work/www/large" 2>&1
   for pid in "${workers[@]}"; do kill -0 "$pid" 2>/dev/null && echo 'a worker goes on '; done)"
+
+sends send-proxy-v2 "127.0.0.1:$headed" "127.0.0.1:$front"
+: >"$work/lines"
+"$program" run "$work/proxy.cfg" --sets 32 --workers 3 </dev/null >"$work/lines" 2>"$work/said" & running=$!
+started+=("$running")
+for _ in $(seq 3000); do grep -q '^listening ' "$work/lines" && break; sleep 0.02; done
+says "three workers with send-proxy-v2" "$(all_ends 40 5 "$url/ends")"
+kill -TERM "$running"; wait "$running" 2>/dev/null
 
 echo "$good ok, $bad failed"
 [ "$bad" = 0 ]

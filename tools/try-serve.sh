@@ -1,7 +1,7 @@
 #!/usr/bin/env bash
-# try-serve.sh [PROGRAM]: real clients and servers through `serve`, over loopback, that of IPv6 too where there is one: curl, wrk and raw sockets in front, nginx and a server that
-# breaks off behind. It prints a line for each check, `ok NAME` or `FAILED NAME: WHY`, and ends with 0 where all are ok. PROGRAM is the built
-# program, as `rt ci` leaves it. Where curl, nginx or wrk is missing it is installed from Debian, which wants root. It is no part of the gate.
+# try-serve.sh [PROGRAM]: real clients and servers through `serve`, over loopback, that of IPv6 too where there is one: curl, wrk and raw sockets in front, nginx, HAProxy and a server
+# that breaks off behind. It prints a line for each check, `ok NAME` or `FAILED NAME: WHY`, and ends with 0 where all are ok. PROGRAM is the built
+# program, as `rt ci` leaves it. Where curl, nginx, haproxy or wrk is missing it is installed from Debian, which wants root. It is no part of the gate.
 set -u
 here="$(cd "$(dirname "$0")/.." && pwd)"
 program="$(realpath "${1:-$here/crates/htx_proxy/out/htx_proxy}")"
@@ -10,13 +10,13 @@ program="$(realpath "${1:-$here/crates/htx_proxy/out/htx_proxy}")"
 # ---- what it needs
 
 missing=()
-for tool in curl nginx wrk; do
+for tool in curl nginx haproxy wrk; do
   PATH="$PATH:/usr/sbin" command -v "$tool" >/dev/null || missing+=("$tool")
 done
 if [ "${#missing[@]}" -gt 0 ]; then
   [ "$(id -u)" = 0 ] || { echo "try-serve: not there: ${missing[*]}; as root this script installs them" >&2; exit 70; }
   export DEBIAN_FRONTEND=noninteractive
-  # nginx is not to be started as a service here
+  # nginx and haproxy are not to be started as services here
   printf '#!/bin/sh\nexit 101\n' >/tmp/try-serve-policy.$$ && chmod +x /tmp/try-serve-policy.$$
   [ -e /usr/sbin/policy-rc.d ] || { mv /tmp/try-serve-policy.$$ /usr/sbin/policy-rc.d && policy=/usr/sbin/policy-rc.d; }
   { apt-get update && apt-get install -y --no-install-recommends "${missing[@]}"; } >/tmp/try-serve-apt.log 2>&1
@@ -49,7 +49,7 @@ await_listener() { # PORT: true once somebody listens there; no connection is ma
   return 1
 }
 six=; [ -r /proc/net/if_inet6 ] && grep -q '^0*1 .* lo$' /proc/net/if_inet6 && six=yes # a loopback of IPv6
-front="$(free_port)"; origin="$(free_port)"; sink="$(free_port)"; breaking="$(free_port)"
+front="$(free_port)"; origin="$(free_port)"; sink="$(free_port)"; breaking="$(free_port)"; headed="$(free_port)"; behind="$(free_port)"
 
 # ---- nginx as the origin
 
@@ -80,11 +80,38 @@ http {
     }
     location /who { return 200 "\$http_x_for"; }
   }
+  server { # its connections begin with a header of the PROXY protocol
+    listen 127.0.0.1:$headed proxy_protocol;
+    ${six:+listen [::1]:$headed proxy_protocol;}
+    root $work/www;
+    location /upload {
+      client_body_in_file_only on;
+      add_header x-kept \$request_body_file always;
+      proxy_pass http://127.0.0.1:$sink/;
+    }
+    location /large { }
+    location / { return 200 "\$proxy_protocol_addr \$proxy_protocol_port \$proxy_protocol_server_addr \$proxy_protocol_server_port"; }
+  }
   server { listen 127.0.0.1:$sink; location / { return 200 "taken"; } }
 }
 CONF
 nginx -c "$work/nginx.conf" -p "$work" 2>"$work/nginx-said" & started+=($!)
 await_listener "$origin" || { echo "try-serve: nginx does not listen: $(cat "$work/nginx-said")" >&2; exit 70; }
+
+# HAProxy as a server whose connections begin with such a header too
+cat >"$work/haproxy.cfg" <<CONF
+defaults
+  mode http
+  timeout client 20s
+  timeout server 20s
+  timeout connect 5s
+frontend f
+  bind 127.0.0.1:$behind accept-proxy
+  ${six:+bind [::1]:$behind accept-proxy}
+  http-request return status 200 content-type text/plain lf-string "%[src] %[src_port] %[dst] %[dst_port]"
+CONF
+haproxy -db -f "$work/haproxy.cfg" >"$work/haproxy-said" 2>&1 & started+=($!)
+await_listener "$behind" || { echo "try-serve: HAProxy does not listen: $(cat "$work/haproxy-said")" >&2; exit 70; }
 
 # a server that breaks off in the middle of each body
 python3 - "$breaking" <<'PY' & started+=($!)
@@ -278,6 +305,54 @@ serve 2; got="$(ask "$(hex 'PROXY TCP4 1.2.3.04 5.6.7.8 1000 80\r\n')")"; fetch 
 finish "a header that is none, and the next client" "$([ "$got" = nothing ] || echo "the answer is $got "; cmp "$work/got" "$work/www/small" 2>&1)" 'end closed exchanges 0' 'end done exchanges 1'
 serve 2; got="$(ask '')"; fetch --haproxy-protocol "$url/small" -o "$work/got"
 finish "no header, and the next client" "$([ "$got" = nothing ] || echo "the answer is $got "; cmp "$work/got" "$work/www/small" 2>&1)" 'end closed exchanges 0' 'end done exchanges 1'
+
+# ---- servers that are told who asks, by a header of the PROXY protocol in front of each connection
+
+sends() { # OPTION SERVER BIND..
+  printf 'listen p\n  bind %s\n  server s %s %s\n' "${*:3}" "$2" "$1" >"$work/proxy.cfg"
+}
+ends=(-w '\n%{local_ip} %{local_port} %{remote_ip} %{remote_port}\n') # behind each answer, both ends of curl's connection as curl sees them
+apart() { python3 "$here/tools/trying/ends.py" "$1" "$work/got"; } # COUNT: what is wrong with so many answers in $work/got
+says_ends() { # NAME WANTED HEADER: behind this header in front of the client's stream these ends are told
+  serve 1; { ask "$3"; echo "$2"; } >"$work/got"
+  finish "$1" "$(apart 1)" 'end closed exchanges 1'
+}
+for option in send-proxy send-proxy-v2; do
+  for server in "nginx:$headed" "HAProxy:$behind"; do
+    of="$option to ${server%:*}" port="${server#*:}"
+    sends "$option" "127.0.0.1:$port" "127.0.0.1:$front"
+    serve 1; fetch "$url/ends" "${ends[@]}" >"$work/got"
+    one "$of" "$(apart 1)"
+    serve 2; fetch "$url/ends?[1-20]" "${ends[@]}" >"$work/got"; fetch "$url/ends" "${ends[@]}" >>"$work/got"
+    finish "$of, 20 exchanges on one connection, and another" "$(apart 21)" 'end done exchanges 20' 'end done exchanges 1'
+
+    sends "$option" "127.0.0.1:$port" "127.0.0.1:$front accept-proxy"
+    serve 1; fetch --haproxy-protocol "$url/ends?[1-5]" "${ends[@]}" >"$work/got"
+    finish "$of, of curl --haproxy-protocol" "$(apart 5)" 'end done exchanges 5'
+    says_ends "$of, of a client behind a header" '1.2.3.4 1000 5.6.7.8 80' "$(hex 'PROXY TCP4 1.2.3.4 5.6.7.8 1000 80\r\n')"
+    says_ends "$of, of a client of IPv6 behind a header" '2001:db8::7 1000 ::1 80' \
+      "${signature}21210024""20010db8000000000000000000000007""00000000000000000000000000000001""03e80050"
+    # nginx tells nobody then, and HAProxy the ends of the proxy's own connection
+    serve 1; got="$(ask "$(hex 'PROXY UNKNOWN\r\n')")"
+    finish "$of, of a client of whom nothing is told" "$([[ "$got" =~ ^$([ "$port" = "$headed" ] && echo ' *' || echo "127\.0\.0\.1 [0-9]+ 127\.0\.0\.1 $port")$ ]] || echo "the answer is $got ")" 'end closed exchanges 1'
+
+    [ -n "$six" ] || continue
+    sends "$option" "[::1]:$port" "[::1]:$front"
+    serve 1; fetch -g "http://[::1]:$front/ends" "${ends[@]}" >"$work/got"
+    one "$of, IPv6 on both sides" "$(apart 1)"
+    sends "$option" "127.0.0.1:$port" "[::]:$front"
+    serve 1; fetch "$url/ends" "${ends[@]}" >"$work/got"
+    one "$of, a client of IPv4 where IPv6 is listened at" "$(apart 1)"
+  done
+  sends "$option" "127.0.0.1:$headed" "127.0.0.1:$front"
+  serve 1; upload -H 'Expect:'
+  one "$option, POST of 1 MB" "$(kept "$work/heads")"
+  serve 1; fetch "$url/large" -o "$work/got"
+  one "$option, download of 1 MB" "$(cmp "$work/got" "$work/www/large" 2>&1)"
+  sends "$option" 127.0.0.1:1 "127.0.0.1:$front"
+  serve 1; fetch "$url/any" -o /dev/null -w '%{http_code}' >"$work/got"
+  finish "$option, a server that isn't there" "$([ "$(cat "$work/got")" = 503 ] || echo "the answer is $(cat "$work/got") ")" 'end closed exchanges 1'
+done
 
 # wrk opens a connection that it closes at once, and then one that it keeps; how its last request ends is not said
 configure "$origin"

@@ -1,11 +1,12 @@
 """beside.py PROGRAM HAPROXY: the same requests through HAProxy, under the configurations of this folder without their lost lines, and through PROGRAM, under what
 tools/from-haproxy makes of them. The origin answers with the request that it got. Statuses, fields and bodies have to agree, but for what docs/HAPROXY.md
-names: the text of a refusal, framing, and the fields connection, content-length and cache-control. It prints each answer that differs, and how many were asked for."""
+names: the text of a refusal, framing, the fields connection, content-length and cache-control, and the ports in a header of the PROXY protocol, which are others. It prints each answer that differs, and how many were asked for."""
 import os, re, socket, subprocess, sys, tempfile, threading, time
 
 PROGRAM, HAPROXY = sys.argv[1:3]
 HERE = os.path.dirname(os.path.abspath(__file__))
 CLOSE = "Host: h\nConnection: close\n"
+SIGNATURE = b"\r\n\r\n\0\r\nQUIT\n"
 
 
 def gets(*paths):
@@ -39,6 +40,8 @@ REQUESTS = {
     "denials": gets("/none", "/gone", "/echo", "/"),
     "formats": gets("/aab?x=1", "/xaby", "/B"),
     "redirector": gets("/", "/.well-known/a"),
+    "headers": gets("/a", "/b"),
+    "second_version": gets("/a", "/b"),
 }
 
 
@@ -47,21 +50,33 @@ def free_port():
         return it.getsockname()[1]
 
 
+def without_header(came):
+    """A header of the PROXY protocol in front, as a line without its ports, and what stands behind it."""
+    if came.startswith(b"PROXY TCP4 "):
+        line, _, behind = came.partition(b"\r\n")
+        return [b" ".join(line.split(b" ")[:4])], behind
+    if came.startswith(SIGNATURE):
+        end = 16 + int.from_bytes(came[14:16], "big")
+        return [came[12 : end - 4].hex().encode()], came[end:]
+    return [], came
+
+
 def answer(client):
-    """Answers with the request: its line, its fields in an order of their own, its body."""
+    """Answers with the request: the header in front of it, its line, its fields in an order of their own, its body."""
     with client:
         came = b""
-        while b"\r\n\r\n" not in came:
+        while b"\r\n\r\n" not in without_header(came)[1]:
             piece = client.recv(65536)
             if not piece:
                 return
             came += piece
+        header, came = without_header(came)
         head, _, body = came.partition(b"\r\n\r\n")
         length = re.search(rb"(?i)\r\ncontent-length: *(\d+)", head)
         while length and len(body) < int(length[1]):
             body += client.recv(65536)
         line, *fields = head.split(b"\r\n")
-        text = b"\n".join([line, *fields_of(fields), body])
+        text = b"\n".join([*header, line, *fields_of(fields), body])
         client.sendall(b"HTTP/1.1 200 OK\r\nContent-Type: text/plain\r\nServer: o\r\nContent-Length: %d\r\nConnection: close\r\n\r\n" % len(text) + text)
 
 

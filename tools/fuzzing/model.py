@@ -228,6 +228,7 @@ def config_of(text):
     for line in text.split(b"\n"):
         words = line.split()
         if words[:1] == [b"bind"] and words[2:]: raise Unsaid  # accept-proxy: a header stands in front of each client's text
+        if words[:1] == [b"server"] and words[3:]: raise Unsaid  # send-proxy: one stands in front of each server's text
         if not words or words[0] in (b"listen", b"bind", b"server", b"global", b"defaults", b"mode", b"timeout"): continue
         if re.search(rb"[\"'\\#]", line): raise Unsaid
         if words[0] == b"tune.bufsize": size = int(words[1])
