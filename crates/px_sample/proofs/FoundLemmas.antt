@@ -1,19 +1,18 @@
 -- What a search for a name says, and what is left where the variable is taken out.
-use Rattle.std.proofs.Common.{◌≡◌, ℕ, ◌+◌, ◌-◌, ◌<◌, ◌≤◌, true, false, List, [], ◌∷◌, ◌++◌, length, get_or, take, drop, refl, ap, ◌∙◌, arith, length-append, sum_by, Option, Some, None}
+use Rattle.std.proofs.Common.{◌≡◌, ℕ, ◌+◌, ◌<◌, ◌≤◌, true, false, List, ◌∷◌, length, get_or, take, drop, refl, ap, ◌∙◌, arith, sum_by, Option, Some, None}
 use Rattle.std.specs.Prelude.{remove}
 use Rattle.std.specs.Str.{bytes_eq}
 use Rattle.std.proofs.lemmas.Slice.Eq.{bytes_eq-Decides}
 use Rattle.std.proofs.lemmas.Option.{MatchOption-at_some, MatchOption-at_none}
 use Rattle.std.proofs.lemmas.List.{drop_more, drop-drop, length-drop}
-use Rattle.std.proofs.lemmas.List.Sums.{sum_by-remove, sum_by_push}
-use Rattle.px_sample.specs.Sample.{Value}
-use Rattle.px_sample.specs.Entry.{Entry, load, weight, lookup, without, with_variable, assigned, are_distinct}
+use Rattle.std.proofs.lemmas.List.Sums.{sum_by-remove}
+use Rattle.px_sample.specs.Entry.{load, weight, lookup, without, are_distinct}
 use Rattle.px_sample.specs.Shape.{IsShape}
 use Rattle.px_sample.specs.declared.form.Form.{Form}
 use Rattle.px_sample.specs.declared.slot.Slot.{Slot}
 use Rattle.px_sample.specs.declared.spot.Spot.{Spot}
 use Rattle.px_sample.specs.Slot.{len_of, value_of, entry_of, entries_of, FoundAt, IsFound, freed_by}
-use Rattle.px_sample.proofs.EntryLemmas.{lookup-named, lookup-other, without-absent, without-found, lookup-without, distinct-without, distinct-push, distinct_few, assigned_small, assigned_large}
+use Rattle.px_sample.proofs.EntryLemmas.{lookup-named, lookup-other, without-absent, without-found}
 use Rattle.px_sample.proofs.SlotLemmas.{length-entries_of, load-entries_of, get_or-entries_of, found_named, weight-entry_of, within_found, size-value_of}
 
 abbrev total : List Slot → ℕ
@@ -67,26 +66,6 @@ without_spot ss bytes name found spot h is distinct =
 pub without_none : (ss : List Slot) (bytes name : List ℕ) (found : Option Spot) → IsFound ss bytes name found → found ≡ None → without name (entries_of ss bytes) ≡ entries_of ss bytes
 without_none ss bytes name found h is = without-absent name (entries_of ss bytes) (MatchOption-at_none _ _ is h)
 
--- there is room for one more slot wherever there is room for its bytes
-pub few_without : (ss rs : List Slot) (bytes kept name : List ℕ) (v : Value) → are_distinct (entries_of ss bytes) ≡ true → entries_of rs kept ≡ without name (entries_of ss bytes) → total rs ≤ length kept →
-    total rs + weight (name, v) ≤ 4096 → length rs + 1 ≤ 4097
-few_without ss rs bytes kept name v distinct left inside short =
-    let once = distinct-without name (entries_of ss bytes) distinct in
-    let absent = lookup-without name (entries_of ss bytes) in
-    let pushed = distinct-push name v (without name (entries_of ss bytes)) once absent in
-    let few = distinct_few (without name (entries_of ss bytes) ++ (name, v) ∷ []) pushed in
-    let long = length-append (without name (entries_of ss bytes)) ((name, v) ∷ []) in
-    let sum = sum_by_push weight (without name (entries_of ss bytes)) (name, v) in
-    let count = length-entries_of rs kept in
-    let counted = load-entries_of rs kept inside in
-    let lengths = ap length left in
-    let loads = ap load left in
-    omega arith
-
--- with it, no name is there twice
-pub distinct_with : (name : List ℕ) (v : Value) (es : List Entry) → are_distinct es ≡ true → are_distinct (with_variable name v es) ≡ true
-distinct_with name v es distinct = distinct-push name v (without name es) (distinct-without name es distinct) (lookup-without name es)
-
 -- what the others count
 pub load_without : (ss : List Slot) (bytes name : List ℕ) (found : Option Spot) → IsFound ss bytes name found → are_distinct (entries_of ss bytes) ≡ true → total ss ≤ length bytes →
     load (without name (entries_of ss bytes)) + freed_by found ≡ total ss
@@ -103,27 +82,6 @@ load_without ss bytes name (Some spot) h distinct inside =
     let weighs = ap weight here in
     let counts = weight-entry_of spot.slot (drop (total (take spot.index ss)) bytes) (simp length-drop (omega (arith, within_found ss bytes name spot.index spot.at spot.slot h inside))) in
     omega (arith, sum_by-remove weight (entries_of ss bytes) spot.index d at_most)
-
--- a set that fits
-pub set_small : (rs : List Slot) (kept name : List ℕ) (v : Value) (es view : List Entry) → entries_of rs kept ≡ with_variable name v es → es ≡ view → total rs ≡ length kept → length kept ≤ 4096 →
-    entries_of rs kept ≡ assigned name v view
-set_small rs kept name v es view put same gapless small =
-    let all = load-entries_of rs kept (omega arith) in
-    let loads = ap load put in
-    let fits : load (with_variable name v es) ≤ 4096 = omega arith in
-    let whole = assigned_small name v es fits in
-    cc
-
--- a set that doesn't
-pub set_large : (ss : List Slot) (bytes name value : List ℕ) (found : Option Spot) (form : Form) (view : List Entry) → IsFound ss bytes name found → are_distinct (entries_of ss bytes) ≡ true → total ss ≡ length bytes → entries_of ss bytes ≡ view →
-    IsShape form (length value) → 4096 < length bytes - freed_by found + length name + length value → view ≡ assigned name (value_of form value) view
-set_large ss bytes name value found form view h distinct gapless same shaped large =
-    let others = load_without ss bytes name found h distinct (omega arith) in
-    let size = size-value_of form value shaped in
-    let sum = sum_by_push weight (without name (entries_of ss bytes)) (name, value_of form value) in
-    let passes : 4096 < load (with_variable name (value_of form value) (entries_of ss bytes)) = omega arith in
-    let none = assigned_large name (value_of form value) (entries_of ss bytes) passes in
-    cc
 
 -- what a variable of this form counts
 pub weight_of_form : (name value : List ℕ) (form : Form) → IsShape form (length value) → weight (name, value_of form value) ≡ length name + length value

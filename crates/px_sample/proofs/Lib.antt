@@ -1,5 +1,8 @@
 mod EntryLemmas
 mod SlotLemmas
 mod FoundLemmas
+mod PartLemmas
+mod HeldLemmas
+mod SetLemmas
 mod CastLemmas
 mod FetchedLemmas

@@ -1,8 +1,8 @@
 -- Variables that lie one after another: what an edit of slots and bytes does to the list of them.
-use Rattle.std.proofs.Common.{◌≡◌, ℕ, zero, suc, ◌+◌, ◌<◌, ◌≤◌, List, [], ◌∷◌, ◌++◌, length, get_or, take, drop, refl, ap, sym, add-one, arith, length-drop, sum_by, true}
-use Rattle.std.specs.Prelude.{remove}
+use Rattle.std.proofs.Common.{◌≡◌, ℕ, zero, suc, ◌+◌, ◌<◌, ◌≤◌, List, [], ◌∷◌, ◌++◌, length, get_or, take, drop, refl, ap, sym, add-one, arith, length-append, length-drop, sum_by, ◌∙◌, true}
+use Rattle.std.specs.Prelude.{remove, insert}
 use Rattle.std.proofs.lemmas.List.{take-append-drop, append_assoc, drop-drop, take_at, drop_at, take_all, take-append-le, drop-append-le, length-take-le}
-use Rattle.std.proofs.lemmas.List.Sums.{sum_by-cons, sum_by-take-le, sum_by_more, sum_by_more_le, sum_by_push, sum_by-remove}
+use Rattle.std.proofs.lemmas.List.Sums.{sum_by-cons, sum_by-take-le, sum_by_more, sum_by_more_le, sum_by-insert, sum_by-remove}
 use Rattle.px_sample.specs.Entry.{Entry, load, weight, size_of, is_named}
 use Rattle.px_sample.specs.Shape.{IsShape}
 use Rattle.std.proofs.lemmas.Slice.Eq.{bytes_eq-Decides}
@@ -49,12 +49,12 @@ entries_of-front (s ∷ ss) xs ys h =
     let rest = entries_of-front ss (drop (len_of s) xs) ys (simp length-drop (omega arith)) in
     cc
 
-take-entries_of : (i : ℕ) (ss : List Slot) (bytes : List ℕ) → take i (entries_of ss bytes) ≡ entries_of (take i ss) bytes
+pub take-entries_of : (i : ℕ) (ss : List Slot) (bytes : List ℕ) → take i (entries_of ss bytes) ≡ entries_of (take i ss) bytes
 take-entries_of zero ss bytes = refl
 take-entries_of (suc i) [] bytes = refl
 take-entries_of (suc i) (s ∷ ss) bytes = ap (λ es. entry_of s bytes ∷ es) (take-entries_of i ss (drop (len_of s) bytes))
 
-drop-entries_of : (i : ℕ) (ss : List Slot) (bytes : List ℕ) → drop i (entries_of ss bytes) ≡ entries_of (drop i ss) (drop (total (take i ss)) bytes)
+pub drop-entries_of : (i : ℕ) (ss : List Slot) (bytes : List ℕ) → drop i (entries_of ss bytes) ≡ entries_of (drop i ss) (drop (total (take i ss)) bytes)
 drop-entries_of zero ss bytes = refl
 drop-entries_of (suc i) [] bytes = refl
 drop-entries_of (suc i) (s ∷ ss) bytes =
@@ -63,21 +63,28 @@ drop-entries_of (suc i) (s ∷ ss) bytes =
     let sum = sum_by-cons len_of s (take i ss) in
     cc
 
+-- what lies between two indices is taken out
+pub entries_of-cut : (ss : List Slot) (bytes : List ℕ) (a c : ℕ) → total ss ≤ length bytes →
+    entries_of (take a ss ++ drop c ss) (take (total (take a ss)) bytes ++ drop (total (take c ss)) bytes) ≡ take a (entries_of ss bytes) ++ drop c (entries_of ss bytes)
+entries_of-cut ss bytes a c h =
+    let p = total (take a ss) in
+    let below : p ≤ total ss = sum_by-take-le len_of ss a in
+    let front_len : length (take p bytes) ≡ p = length-take-le p bytes (omega arith) in
+    let rest = drop (total (take c ss)) bytes in
+    let split = entries_of-append (take a ss) (drop c ss) (take p bytes ++ rest) in
+    let front = entries_of-front (take a ss) (take p bytes) rest (omega arith) in
+    let front_old = entries_of-front (take a ss) (take p bytes) (drop p bytes) (omega arith) in
+    let whole = take-append-drop p bytes in
+    let back = drop_at (take p bytes) rest p front_len in
+    let taken = take-entries_of a ss bytes in
+    let dropped = drop-entries_of c ss bytes in
+    cc
+
 -- a variable is taken out
 pub entries_of-remove : (ss : List Slot) (bytes : List ℕ) (i : ℕ) (s : Slot) → total ss ≤ length bytes → i < length ss → s ≡ get_or ss i s →
     entries_of (remove ss i) (take (total (take i ss)) bytes ++ drop (total (take i ss) + len_of s) bytes) ≡ remove (entries_of ss bytes) i
 entries_of-remove ss bytes i s h within e =
-    let p = total (take i ss) in
-    let below : p ≤ total ss = sum_by-take-le len_of ss i in
-    let front_len : length (take p bytes) ≡ p = length-take-le p bytes (omega arith) in
-    let back_bytes = drop (p + len_of s) bytes in
-    let split = entries_of-append (take i ss) (drop (suc i) ss) (take p bytes ++ back_bytes) in
-    let front = entries_of-front (take i ss) (take p bytes) back_bytes (omega arith) in
-    let front_old = entries_of-front (take i ss) (take p bytes) (drop p bytes) (omega arith) in
-    let whole = take-append-drop p bytes in
-    let back = drop_at (take p bytes) back_bytes p front_len in
-    let taken = take-entries_of i ss bytes in
-    let dropped = drop-entries_of (suc i) ss bytes in
+    let cut = entries_of-cut ss bytes i (suc i) h in
     let more = sum_by_more len_of ss i s within in
     let one = add-one i in
     cc
@@ -89,15 +96,27 @@ entry_of-parts s name value hn hv =
     let second = take_all s.value value (omega arith) in
     rw (first, after, second) refl
 
--- a variable is put behind the others
-pub entries_of-push : (ss : List Slot) (bytes name value : List ℕ) (s : Slot) → total ss ≡ length bytes → s.name ≡ length name → s.value ≡ length value →
-    entries_of (ss ++ s ∷ []) (bytes ++ name ++ value) ≡ entries_of ss bytes ++ (name, value_of s.form value) ∷ []
-entries_of-push ss bytes name value s h hn hv =
-    let regrouped = append_assoc bytes name value in
-    let split = entries_of-append ss (s ∷ []) (bytes ++ (name ++ value)) in
-    let front = entries_of-front ss bytes (name ++ value) (omega arith) in
-    let back = drop_at bytes (name ++ value) (total ss) (sym h) in
-    let here = entry_of-parts s name value hn hv in
+-- a variable is put before the one at an index, or behind the last
+pub entries_of-insert : (ss : List Slot) (bytes name value : List ℕ) (i : ℕ) (s : Slot) → total ss ≤ length bytes → i ≤ length ss → s.name ≡ length name → s.value ≡ length value →
+    entries_of (insert ss i s) (take (total (take i ss)) bytes ++ name ++ value ++ drop (total (take i ss)) bytes) ≡ insert (entries_of ss bytes) i (name, value_of s.form value)
+entries_of-insert ss bytes name value i s h within hn hv =
+    let p = total (take i ss) in
+    let below : p ≤ total ss = sum_by-take-le len_of ss i in
+    let front_len : length (take p bytes) ≡ p = length-take-le p bytes (omega arith) in
+    let rest = name ++ value ++ drop p bytes in
+    let grouped : take p bytes ++ name ++ value ++ drop p bytes ≡ take p bytes ++ rest =
+    ap (λ xs. xs ++ drop p bytes) (append_assoc (take p bytes) name value) ∙ append_assoc (take p bytes) (name ++ value) (drop p bytes) in
+    let split = entries_of-append (take i ss) (s ∷ drop i ss) (take p bytes ++ rest) in
+    let front = entries_of-front (take i ss) (take p bytes) rest (omega arith) in
+    let front_old = entries_of-front (take i ss) (take p bytes) (drop p bytes) (omega arith) in
+    let whole = take-append-drop p bytes in
+    let back = drop_at (take p bytes) rest p front_len in
+    let long : length (name ++ value) ≡ len_of s = omega (arith, length-append name value) in
+    let here = entry_of-front s (name ++ value) (drop p bytes) (omega arith) in
+    let is = entry_of-parts s name value hn hv in
+    let after = drop_at (name ++ value) (drop p bytes) (len_of s) long in
+    let taken = take-entries_of i ss bytes in
+    let dropped = drop-entries_of i ss bytes in
     cc
 
 -- ---- what they count
@@ -158,4 +177,4 @@ within_found ss bytes name i at s h inside =
     let len = ap len_of is in
     omega arith
 
-pub ruleset laid = (length-entries_of, entries_of-remove, entries_of-push, sum_by-take-le, sum_by_more_le, sum_by_push, sum_by-remove)
+pub ruleset laid = (length-entries_of, entries_of-remove, entries_of-insert, sum_by-take-le, sum_by_more_le, sum_by-insert, sum_by-remove)

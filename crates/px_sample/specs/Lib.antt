@@ -5,7 +5,8 @@ pub mod Cast
 pub mod Entry
 pub mod Shape
 pub mod Slot
-pub mod Held
 pub mod Variables
+pub mod Shares
+pub mod Held
 pub mod Fetched
 pub mod Laws

@@ -6,7 +6,7 @@ ghost use Rattle.px_sample.specs.Slot.{value_of};
 ghost use Rattle.px_sample.specs.Variables.{no_variables, variable, set_variable, unset_variable, clear_scope};
 
 use crate::form::Form;
-use crate::shelf::Shelf;
+use crate::kept::{self, Kept};
 use crate::{Buf, Sample, Scope};
 use htx_model::OutOfMemory;
 use std::alloc::Global;
@@ -15,29 +15,24 @@ use std::marker::Model;
 /// The variables of four scopes, in memory that is taken once. A scope holds names and values of at most 4096
 /// bytes together; a number counts 8, a truth value 1.
 pub struct Vars {
-    sess: Shelf,
-    txn: Shelf,
-    req: Shelf,
-    res: Shelf,
+    kept: Kept,
 }
 
 impl Drop for Vars {
     fn drop(self) {
-        let Vars {
-            sess: _,
-            txn: _,
-            req: _,
-            res: _,
-        } = self;
+        let Vars { kept: _ } = self;
     }
 }
 
 impl Model for Vars {
     ghost use Rattle.px_sample.specs.Variables.{Variables};
+    ghost use Rattle.px_sample.specs.Held.{variables_of, IsHeld};
 
     ghost Value = { Variables };
 
-    ghost view = { λ vars. record { sess = vars.sess; txn = vars.txn; req = vars.req; res = vars.res } };
+    ghost view = { λ vars. variables_of vars.kept };
+
+    ghost invariant = { λ vars. IsHeld vars.kept };
 }
 
 impl Vars {
@@ -46,10 +41,7 @@ impl Vars {
         ensures { IfOk result (λ vars. vars ≡ no_variables) }
     {
         Ok(Vars {
-            sess: Shelf::new(alloc)?,
-            txn: Shelf::new(alloc)?,
-            req: Shelf::new(alloc)?,
-            res: Shelf::new(alloc)?,
+            kept: kept::empty(alloc)?,
         })
     }
 
@@ -70,24 +62,14 @@ impl Vars {
         requires { IsShape form (length value.now) }
         ensures { self.new ≡ set_variable self.old scope name.now (Some (value_of form value.now)) }
     {
-        match scope {
-            Scope::Sess => self.sess.set(name, form, value),
-            Scope::Txn => self.txn.set(name, form, value),
-            Scope::Req => self.req.set(name, form, value),
-            Scope::Res => self.res.set(name, form, value),
-        }
+        kept::set(&mut self.kept, scope, name, form, value);
     }
 
     /// Takes a variable out, if it is set.
     pub fn unset(&mut self, scope: Scope, name: &[u8])
         ensures { self.new ≡ unset_variable self.old scope name.now }
     {
-        match scope {
-            Scope::Sess => self.sess.unset(name),
-            Scope::Txn => self.txn.unset(name),
-            Scope::Req => self.req.unset(name),
-            Scope::Res => self.res.unset(name),
-        }
+        kept::unset(&mut self.kept, scope, name);
     }
 
     /// The value of a variable; bytes are written over what the buffer holds, and any other answer leaves it as it
@@ -97,23 +79,13 @@ impl Vars {
         ensures unchanged { result ≢ Sample.InBuf → into.new ≡ into.old }
         ensures cap { into.new.cap ≡ into.old.cap }
     {
-        match scope {
-            Scope::Sess => self.sess.get(name, into),
-            Scope::Txn => self.txn.get(name, into),
-            Scope::Req => self.req.get(name, into),
-            Scope::Res => self.res.get(name, into),
-        }
+        kept::get(&self.kept, scope, name, into)
     }
 
     /// Takes out all variables of a scope, where its life begins or ends.
     pub fn clear(&mut self, scope: Scope)
         ensures { self.new ≡ clear_scope self.old scope }
     {
-        match scope {
-            Scope::Sess => self.sess.clear(),
-            Scope::Txn => self.txn.clear(),
-            Scope::Req => self.req.clear(),
-            Scope::Res => self.res.clear(),
-        }
+        kept::clear(&mut self.kept, scope);
     }
 }
