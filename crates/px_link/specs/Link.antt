@@ -1,8 +1,10 @@
 -- What contracts see of a link, and what its calls do.
-use Rattle.std.specs.Prelude.{◌≡◌, ℕ, Bool, true, false, ◌+◌, ◌-◌, ◌≤◌, ◌<◌, List, [], ◌++◌, length, take, drop, ⊤, Option, Some, None, Result, Ok, Err, IfSome}
+use Rattle.std.specs.Prelude.{◌≡◌, ℕ, Bool, true, false, ◌+◌, ◌-◌, ◌≤◌, ◌<◌, ◌^◌, min, List, [], ◌++◌, length, take, drop, ⊤, Option, Some, None, Result, Ok, Err, IfSome}
 use Rattle.http_model.specs.declared.Ending.{Ending}
 use Rattle.http_model.specs.declared.Ending.TheVariants.{Closed, Broke}
 use Rattle.http_model.specs.declared.Close.{Close}
+use Rattle.fcgi_model.specs.Application.{Application}
+use Rattle.fcgi_model.specs.Flow.{asked_of, IsSent}
 use Rattle.px_link.specs.declared.fault.Failed.{Failed}
 use Rattle.px_link.specs.declared.fault.Fault.{Fault}
 use Rattle.px_link.specs.declared.fault.Fault.TheVariants as faults
@@ -15,22 +17,35 @@ pub data Takes : Type 0 where
   UpTo : ℕ → Takes
   All : Takes
 
--- how what is written to a link is passed on: as it is, or behind a header that goes first
+-- how what is written to a link is passed on: as it is; behind a header that goes first; or as the records that ask an application
 pub data Manner : Type 0 where
   AsItIs : Manner
-  Behind : (header : List ℕ) → Manner
+  Behind : (header : List ℕ) → Manner → Manner
+  Asks : Application → Manner
 
--- A text behind a header, of which so much is out: while some of it isn't, the text is empty.
-pub record IsBehind (header bytes text : List ℕ) : Type 0 where
+-- A text behind a header, of which so much is out: while some of it isn't, the text is empty. Both are passed on so.
+pub record IsBehind (header : List ℕ) (passed : List ℕ → Type 0) (text : List ℕ) : Type 0 where
   pub sent : ℕ
   pub within : sent ≤ length header
   pub first : sent < length header → text ≡ []
-  pub whole : bytes ≡ take sent header ++ text
+  pub whole : passed (take sent header ++ text)
 
--- these bytes are passed on where this text was written in this manner
-abbrev pub PassesOn : Manner → (bytes text : List ℕ) → Type 0
-PassesOn AsItIs bytes text = text ≡ bytes
-PassesOn (Behind header) bytes text = IsBehind header bytes text
+-- These records are a front of those that ask what this text and some more do.
+pub record AsksFront (application : Application) (bytes text : List ℕ) : Type 0 where
+  pub more : List ℕ
+  pub rest : List ℕ
+  pub sent : IsSent (asked_of application (text ++ more)) (bytes ++ rest)
+
+-- These records ask what this text does; of a link that has failed, a front of them.
+abbrev pub AsksBy : Application → (failed : Bool) → (bytes text : List ℕ) → Type 0
+AsksBy application false bytes text = IsSent (asked_of application text) bytes
+AsksBy application true bytes text = AsksFront application bytes text
+
+-- these bytes are passed on where this text was written in this manner, to a link of which a write has failed or none
+abbrev pub PassesOn : Manner → (failed : Bool) → (bytes text : List ℕ) → Type 0
+PassesOn AsItIs failed bytes text = text ≡ bytes
+PassesOn (Behind header manner) failed bytes text = IsBehind header (PassesOn manner failed bytes) text
+PassesOn (Asks application) failed bytes text = AsksBy application failed bytes text
 
 -- what is left for a text behind so many bytes
 abbrev pub takes_behind : ℕ → Takes → Takes
@@ -41,10 +56,15 @@ takes_behind len All = All
 -- how much of a text a link takes that takes so many bytes
 abbrev pub takes_in : Manner → Takes → Takes
 takes_in AsItIs takes = takes
-takes_in (Behind header) takes = takes_behind (length header) takes
+takes_in (Behind header manner) takes = takes_behind (length header) (takes_in manner takes)
+takes_in (Asks application) takes = Untold
+
+-- so many bytes and so many more, as far as a number of 64 bits counts
+abbrev pub counted : ℕ → ℕ → ℕ
+counted k n = k + min n (2 ^ 64 - 1 - k)
 
 -- the bytes still to come and their ending; whether and how it was closed; whether reads fail at an ending Broke alone;
--- how many bytes of a text it takes, and how it passes them on; how many were given; how many reads, and how many writes, have failed
+-- how many bytes of a text it takes, and how it passes them on; how many were given, as far as that is counted; how many reads, and how many writes, have failed
 pub record Seen : Type 0 where
   pub to_come : Option (List ℕ)
   pub ending : Option Ending
@@ -83,7 +103,7 @@ pub record Gave (old new : Seen) (into : List ℕ) (n : ℕ) : Type 0 where
   pub untold : old.to_come ≡ None → new.to_come ≡ None
   pub gives : IfSome old.to_come (λ bytes. (n ≤ length bytes) × (take n into ≡ take n bytes) × (new.to_come ≡ Some (drop n bytes)))
   pub at_end : n ≡ 0 → IfSome old.to_come (λ bytes. bytes ≡ []) × IfSome old.ending (λ ending. ending ≡ Closed)
-  pub taken : IfSome old.taken (λ k. new.taken ≡ Some (k + n))
+  pub taken : IfSome old.taken (λ k. new.taken ≡ Some (counted k n))
   pub kind : SameKind old new
   pub closed : new.closed ≡ old.closed
   pub reads : new.read_faults ≡ old.read_faults

@@ -1,5 +1,5 @@
 -- What contracts see of a net, and what its calls do.
-use Rattle.std.specs.Prelude.{◌≡◌, ℕ, ◌+◌, ◌<◌, ◌≤◌, ◌^◌, Bool, true, ◌&&◌, ◌==◌, ◌⊎◌, List, [], ◌∷◌, ◌++◌, Option, Some, None, Result, Ok, Err, if◌then◌else◌, ⊤}
+use Rattle.std.specs.Prelude.{◌≡◌, ℕ, ◌+◌, ◌<◌, ◌≤◌, ◌^◌, Bool, true, not, ◌&&◌, ◌==◌, ◌⊎◌, List, [], ◌∷◌, ◌++◌, Option, Some, None, Result, Ok, Err, if◌then◌else◌, ⊤}
 use Rattle.std.specs.List.{list_any}
 use Rattle.std.specs.Str.{bytes_eq}
 use Rattle.http_model.specs.declared.Ending.{Ending}
@@ -48,6 +48,10 @@ kept_link link wrote = record {
   read_faults = link.read_faults;
   write_faults = link.write_faults;
 }
+
+-- a write of it has failed
+abbrev pub has_failed : Seen → Bool
+has_failed link = not (link.write_faults == 0)
 
 -- an address: its host and its port
 abbrev pub Place : Type 0
@@ -243,7 +247,7 @@ Connects seen wrote old new to (Err faults.OutOfMemory) = NoMemory old new to
 abbrev pub KeepsMore : Option (List Kept) → Option (List Kept) → (wrote : List ℕ → Type 0) → (link : Seen) → Type 0
 KeepsMore None new wrote link = new ≡ None
 KeepsMore (Some kept) new wrote link =
-    (bytes : List ℕ) × (new ≡ Some (kept ++ kept_link link bytes ∷ [])) × ((text : List ℕ) → wrote text → PassesOn link.manner bytes text)
+    (bytes : List ℕ) × (new ≡ Some (kept ++ kept_link link bytes ∷ [])) × ((text : List ℕ) → wrote text → PassesOn link.manner (has_failed link) bytes text)
 
 -- a link was taken back
 pub record Keeps (wrote : List ℕ → Type 0) (old new : NetSeen) (link : Seen) : Type 0 where

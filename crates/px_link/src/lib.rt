@@ -3,6 +3,7 @@
 #![tactic(auto)]
 
 mod address;
+mod application;
 mod bytes;
 mod calls;
 mod fault;
@@ -27,6 +28,7 @@ mod waits_net;
 mod wakes;
 
 pub use address::Address;
+pub use application::Application;
 pub use bytes::Bytes;
 pub use fault::{Failed, Fault};
 pub use files::Files;

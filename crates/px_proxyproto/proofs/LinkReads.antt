@@ -1,10 +1,10 @@
 -- Reads of a link, one after another.
-use Rattle.std.proofs.Common.{◌≡◌, ℕ, ◌+◌, ◌≤◌, List, [], ◌++◌, length, take, drop, refl, sym, ap, subst, ◌∙◌, arith, append_assoc, length-append, take-append-drop}
+use Rattle.std.proofs.Common.{◌≡◌, ℕ, ◌≤◌, List, [], ◌++◌, length, take, drop, refl, sym, ap, subst, ◌∙◌, arith, append_assoc, length-append, take-append-drop}
 use Rattle.std.specs.Prelude.{Option, Some, None, IfSome}
 use Rattle.std.proofs.lemmas.List.{append-nil, length-take-le}
 use Rattle.http_model.specs.declared.Ending.{Ending}
 use Rattle.http_model.specs.declared.Ending.TheVariants.{Closed, Broke}
-use Rattle.px_link.specs.Link.{Seen, Gave, ReadFailed}
+use Rattle.px_link.specs.Link.{Seen, Gave, ReadFailed, counted}
 use Rattle.px_link.specs.Calls.{fault_after}
 use Rattle.px_proxyproto.specs.declared.state.ProxyState.{ProxyState}
 use Rattle.px_proxyproto.specs.declared.state.ProxyState.TheVariants.{More, Got, Bad}
@@ -18,11 +18,11 @@ abbrev Next : List ℕ → Option (List ℕ) → Option (List ℕ) → Type 0
 Next bytes old new = IfSome old (λ all. (rest : List ℕ) × (all ≡ bytes ++ rest) × (new ≡ Some rest))
 
 abbrev Taken : ℕ → Option ℕ → Option ℕ → Type 0
-Taken n old new = IfSome old (λ k. new ≡ Some (k + n))
+Taken n old new = IfSome old (λ k. new ≡ Some (counted k n))
 
 taken_none : (o : Option ℕ) → Taken 0 o o
 taken_none None = tt
-taken_none (Some k) = let e : k ≡ k + 0 = omega arith in ap Some e
+taken_none (Some k) = let e : k ≡ counted k 0 = omega arith in ap Some e
 
 next_both : (x y : List ℕ) (a b c : Option (List ℕ)) → Next x a b → Next y b c → Next (x ++ y) a c
 next_both x y None b c p q = tt
@@ -33,8 +33,8 @@ next_both x y (Some all) b c p q =
 taken_both : (x y : List ℕ) (a b c : Option ℕ) → Taken (length x) a b → Taken (length y) b c → Taken (length (x ++ y)) a c
 taken_both x y None b c p q = tt
 taken_both x y (Some k) b c p q =
-    let r : Taken (length y) (Some (k + length x)) c = subst (λ (o : Option ℕ). Taken (length y) o c) p q in
-    let e : k + length x + length y ≡ k + length (x ++ y) = omega (arith, length-append x y) in
+    let r : Taken (length y) (Some (counted k (length x))) c = subst (λ (o : Option ℕ). Taken (length y) o c) p q in
+    let e : counted (counted k (length x)) (length y) ≡ counted k (length (x ++ y)) = omega (arith, length-append x y) in
     r ∙ ap Some e
 
 pub both_taken : (s t u : Seen) (x y : List ℕ) → TakenFrom s t x → TakenFrom t u y → TakenFrom s u (x ++ y)
@@ -57,7 +57,7 @@ gives_next into n (Some bytes) new g = (drop n bytes, sym (take-append-drop n by
 
 gives_taken : (n m : ℕ) (old new : Option ℕ) → n ≡ m → Taken n old new → Taken m old new
 gives_taken n m None new e g = tt
-gives_taken n m (Some k) new e g = g ∙ ap (λ (x : ℕ). Some (k + x)) e
+gives_taken n m (Some k) new e g = g ∙ ap (λ (x : ℕ). Some (counted k x)) e
 
 pub gave_taken : (s t : Seen) (into : List ℕ) (n : ℕ) → Gave s t into n → TakenFrom s t (take n into)
 gave_taken s t into n g = record {

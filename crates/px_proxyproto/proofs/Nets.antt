@@ -1,19 +1,17 @@
 -- A net's links behind a header, by what the net below does.
-use Rattle.std.proofs.Common.{◌≡◌, ℕ, ◌+◌, ◌≤◌, ◌<◌, ◌==◌, inl, inr, true, false, Bool, cond, List, [], ◌∷◌, ◌++◌, length, take, zero, suc, refl, sym, ap, subst, ◌∙◌, arith, append_assoc, length-append}
+use Rattle.std.proofs.Common.{◌≡◌, ℕ, ◌≤◌, ◌==◌, inl, inr, true, false, Bool, cond, List, [], ◌∷◌, ◌++◌, length, take, zero, suc, refl, sym, ap, subst, ◌∙◌, arith}
 use Rattle.std.specs.Prelude.{Option, Some, None, Err}
-use Rattle.std.proofs.lemmas.Bool.{cases_lt, cases_Bool}
-use Rattle.std.proofs.lemmas.List.{take_all, take-append-le}
+use Rattle.std.proofs.lemmas.Bool.{cases_Bool}
 use Rattle.px_link.specs.declared.fault.Fault.{Fault}
 use Rattle.px_link.specs.declared.fault.Fault.TheVariants as faults
-use Rattle.px_link.specs.Link.{Seen, Takes, Untold, UpTo, All, Manner, AsItIs, Behind, IsBehind, PassesOn, takes_behind}
-use Rattle.px_link.specs.Net.{Coming, Kept, NetSeen, IsFirst, Connected, Connects, Refused, NoMemory, Keeps, KeepsMore, Place, new_link}
+use Rattle.px_link.specs.Link.{Seen, Takes, Untold, UpTo, All, Manner, AsItIs, Behind, PassesOn, takes_behind}
+use Rattle.px_link.specs.Net.{Coming, Kept, NetSeen, IsFirst, Connected, Connects, Refused, NoMemory, Keeps, KeepsMore, Place, new_link, has_failed}
 use Rattle.px_peer.specs.declared.Pair.{Pair}
 use Rattle.px_proxyproto.specs.declared.heading.Heading.{Heading}
-use Rattle.px_proxyproto.specs.Nets.{manner_of, introduced}
+use Rattle.px_proxyproto.specs.Nets.{manner_of, headed}
 use Rattle.px_proxyproto.specs.Sending.{SendLinkSeen, manner_behind, seen_behind, link_behind, begun, WroteBehind, LinkWrote}
 use Rattle.px_proxyproto.specs.Texts.{header_of, text_of, binary_of, addresses_text, ports_text}
 use Rattle.px_proxyproto.specs.Lines.{family_word, line_end}
-use Rattle.px_proxyproto.proofs.Kept.{take_over}
 
 -- ---- a link that was handed out
 
@@ -48,10 +46,10 @@ either_some false x y h k = k
 header_some : (version : ℕ) (pair : Option Pair) → IsSome (header_of version pair)
 header_some version pair = either_some (version == 2) (binary_of pair) (text_of pair) (binary_some pair) (text_some pair)
 
-manner_some : (header : List ℕ) → IsSome header → manner_behind header AsItIs ≡ Behind header
-manner_some header h = subst (λ (l : List ℕ). manner_behind l AsItIs ≡ Behind l) (sym h.2) refl
+manner_some : (header : List ℕ) → IsSome header → manner_behind header AsItIs ≡ Behind header AsItIs
+manner_some header h = subst (λ (l : List ℕ). manner_behind l AsItIs ≡ Behind l AsItIs) (sym h.2) refl
 
-header_manner : (heading : Heading) → manner_behind (header_of heading.version heading.pair) AsItIs ≡ Behind (header_of heading.version heading.pair)
+header_manner : (heading : Heading) → manner_behind (header_of heading.version heading.pair) AsItIs ≡ Behind (header_of heading.version heading.pair) AsItIs
 header_manner heading = manner_some _ (header_some heading.version heading.pair)
 
 begun_manner : {L : Type 0} (seen : L → Seen) (inner : L) (heading : Option Heading) → (seen inner).manner ≡ AsItIs → (link_behind seen (begun inner heading)).manner ≡ manner_of heading
@@ -63,7 +61,7 @@ begun_new seen inner None coming e = no_header (seen inner) ∙ e
 begun_new seen inner (Some heading) coming e =
     let header = header_of heading.version heading.pair in
     ap (seen_behind header) e
-    ∙ ap (λ (manner : Manner). let link : Seen = record (new_link (Behind header) coming) { manner = manner } in link) (header_manner heading)
+    ∙ ap (λ (manner : Manner). let link : Seen = record (new_link (Behind header AsItIs) coming) { manner = manner } in link) (header_manner heading)
 
 begun_unwritten : {L : Type 0} (wrote : L → List ℕ → Type 0) (inner : L) (heading : Option Heading) → wrote inner [] → LinkWrote wrote (begun inner heading) []
 begun_unwritten wrote inner None h = record { first = λ _. refl; below = h }
@@ -77,7 +75,7 @@ first_weaker (Some (Some coming ∷ later)) new P Q f h = (h.0, f coming h.1)
 
 pub connected_behind : {L : Type 0} (seen : L → Seen) (wrote : L → List ℕ → Type 0) (heading : Option Heading) (old new : NetSeen) (to : Place) (inner : L) → old.manner ≡ AsItIs
     → Connected old new to (seen inner) (wrote inner [])
-    → Connected (introduced heading old) (introduced heading new) to (link_behind seen (begun inner heading)) (LinkWrote wrote (begun inner heading) [])
+    → Connected (headed heading old) (headed heading new) to (link_behind seen (begun inner heading)) (LinkWrote wrote (begun inner heading) [])
 connected_behind seen wrote heading old new to inner is a = record {
   first = first_weaker old.answers new.answers _ _ (λ coming h. (
     begun_new seen inner heading coming (h.0 ∙ ap (λ (manner : Manner). new_link manner coming) is),
@@ -96,7 +94,7 @@ connected_behind seen wrote heading old new to inner is a = record {
   connects = a.connects;
 }
 
-losing : (heading : Option Heading) (old new : NetSeen) (to : Place) → Refused old new to → Refused (introduced heading old) (introduced heading new) to
+losing : (heading : Option Heading) (old new : NetSeen) (to : Place) → Refused old new to → Refused (headed heading old) (headed heading new) to
 losing heading old new to r = record {
   answers = r.answers;
   fails = r.fails;
@@ -112,7 +110,7 @@ losing heading old new to r = record {
   binds = r.binds;
 }
 
-unroomed : (heading : Option Heading) (old new : NetSeen) (to : Place) → NoMemory old new to → NoMemory (introduced heading old) (introduced heading new) to
+unroomed : (heading : Option Heading) (old new : NetSeen) (to : Place) → NoMemory old new to → NoMemory (headed heading old) (headed heading new) to
 unroomed heading old new to r = record {
   answers = r.answers;
   accepts = r.accepts;
@@ -127,7 +125,7 @@ unroomed heading old new to r = record {
 }
 
 pub not_connected : (fault : Fault) {L : Type 0} (seen : L → Seen) (wrote : L → List ℕ → Type 0) (heading : Option Heading) (old new : NetSeen) (to : Place) → Connects seen wrote old new to (Err fault)
-    → Connects (link_behind seen) (LinkWrote wrote) (introduced heading old) (introduced heading new) to (Err fault)
+    → Connects (link_behind seen) (LinkWrote wrote) (headed heading old) (headed heading new) to (Err fault)
 not_connected faults.Failed seen wrote heading old new to r = losing heading old new to r
 not_connected faults.OutOfMemory seen wrote heading old new to r = unroomed heading old new to r
 
@@ -137,52 +135,18 @@ no_front : (sent : ℕ) (text : List ℕ) → take sent [] ++ text ≡ text
 no_front zero text = refl
 no_front (suc sent) text = refl
 
--- texts of which nothing is there together
-both_none : (xs ys : List ℕ) → xs ++ ys ≡ [] → ys ≡ []
-both_none [] ys e = e
-both_none (x ∷ xs) ys e = absurd cc
-
--- a header that goes behind another is one with it
-behind_both : (first header bytes text : List ℕ) (sent : ℕ) → sent ≤ length header → (sent < length header → text ≡ []) → IsBehind first bytes (take sent header ++ text) → IsBehind (first ++ header) bytes text
-behind_both first header bytes text sent within none p =
-    elim (cases_lt p.sent (length first)) [
-      | inl more ↦
-          let empty : take sent header ++ text ≡ [] = p.first more in
-          let text_none : text ≡ [] = both_none (take sent header) text empty in
-          record {
-            sent = p.sent;
-            within = omega (arith, length-append first header, more);
-            first = λ _. text_none;
-            whole = p.whole
-                ∙ (ap (λ (t : List ℕ). take p.sent first ++ t) (empty ∙ sym text_none)
-                ∙ ap (λ (t : List ℕ). t ++ text) (sym (take-append-le p.sent first header p.within)));
-          }
-      | inr all ↦
-          let len : p.sent ≡ length first = omega (arith, all, p.within) in
-          record {
-            sent = length first + sent;
-            within = omega (arith, length-append first header, within);
-            first = λ more. none (omega (arith, length-append first header, more));
-            whole = p.whole
-                ∙ (ap (λ (t : List ℕ). t ++ (take sent header ++ text)) (take_all p.sent first all)
-                ∙ (sym (append_assoc first (take sent header) text)
-                ∙ ap (λ (t : List ℕ). t ++ text) (sym (take_over first header (length first + sent) sent refl))));
-          }
-    ]
-
-passes_behind : (header : List ℕ) (sent : ℕ) (manner : Manner) (wrote : List ℕ → Type 0) (bytes : List ℕ) → sent ≤ length header → ((text : List ℕ) → wrote text → PassesOn manner bytes text)
-    → (text : List ℕ) → WroteBehind header sent wrote text → PassesOn (manner_behind header manner) bytes text
-passes_behind [] sent manner wrote bytes within passes text h = subst (λ (t : List ℕ). PassesOn manner bytes t) (no_front sent text) (passes _ h.below)
-passes_behind (byte ∷ header) sent AsItIs wrote bytes within passes text h = record { sent = sent; within = within; first = h.first; whole = sym (passes _ h.below) }
-passes_behind (byte ∷ header) sent (Behind first) wrote bytes within passes text h = behind_both first (byte ∷ header) bytes text sent within h.first (passes _ h.below)
+passes_behind : (header : List ℕ) (sent : ℕ) (manner : Manner) (failed : Bool) (wrote : List ℕ → Type 0) (bytes : List ℕ) → sent ≤ length header → ((text : List ℕ) → wrote text → PassesOn manner failed bytes text)
+    → (text : List ℕ) → WroteBehind header sent wrote text → PassesOn (manner_behind header manner) failed bytes text
+passes_behind [] sent manner failed wrote bytes within passes text h = subst (λ (t : List ℕ). PassesOn manner failed bytes t) (no_front sent text) (passes _ h.below)
+passes_behind (byte ∷ header) sent manner failed wrote bytes within passes text h = record { sent = sent; within = within; first = h.first; whole = passes _ h.below }
 
 more_behind : (header : List ℕ) (sent : ℕ) (wrote : List ℕ → Type 0) (link : Seen) (kept new : Option (List Kept)) → sent ≤ length header → KeepsMore kept new wrote link
     → KeepsMore kept new (λ text. WroteBehind header sent wrote text) (seen_behind header link)
 more_behind header sent wrote link None new within k = k
-more_behind header sent wrote link (Some kept) new within k = (k.0, k.1, passes_behind header sent link.manner wrote k.0 within k.2)
+more_behind header sent wrote link (Some kept) new within k = (k.0, k.1, passes_behind header sent link.manner (has_failed link) wrote k.0 within k.2)
 
 pub keeps_behind : {L : Type 0} (seen : L → Seen) (wrote : L → List ℕ → Type 0) (heading : Option Heading) (old new : NetSeen) (link : SendLinkSeen L) → link.sent ≤ length link.header
-    → Keeps (wrote link.inner) old new (seen link.inner) → Keeps (LinkWrote wrote link) (introduced heading old) (introduced heading new) (link_behind seen link)
+    → Keeps (wrote link.inner) old new (seen link.inner) → Keeps (LinkWrote wrote link) (headed heading old) (headed heading new) (link_behind seen link)
 keeps_behind seen wrote heading old new link within k = record {
   kept = more_behind link.header link.sent (wrote link.inner) (seen link.inner) old.kept new.kept within k.kept;
   lent = k.lent;

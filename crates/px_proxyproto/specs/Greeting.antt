@@ -1,8 +1,8 @@
 -- What a greeting does to the link that it reads.
-use Rattle.std.specs.Prelude.{◌≡◌, ℕ, ◌+◌, true, List, [], ◌++◌, length, Option, None, Some, IfSome}
+use Rattle.std.specs.Prelude.{◌≡◌, ℕ, true, List, [], ◌++◌, length, Option, None, Some, IfSome}
 use Rattle.http_model.specs.declared.Ending.{Ending}
 use Rattle.http_model.specs.declared.Ending.TheVariants.{Closed, Broke}
-use Rattle.px_link.specs.Link.{Seen, SameKind}
+use Rattle.px_link.specs.Link.{Seen, SameKind, counted}
 use Rattle.px_link.specs.Calls.{fault_after}
 use Rattle.px_proxyproto.specs.declared.state.ProxyState.{ProxyState}
 use Rattle.px_proxyproto.specs.declared.state.ProxyState.TheVariants.{More, Got, Bad}
@@ -14,7 +14,7 @@ use Rattle.px_proxyproto.specs.Reading.{Read, HasRead}
 -- These bytes were taken from the link: the next that were to come, and no others. Nothing else of it changed but the count of reads.
 pub record TakenFrom (old new : Seen) (bytes : List ℕ) : Type 0 where
   pub next : IfSome old.to_come (λ all. (rest : List ℕ) × (all ≡ bytes ++ rest) × (new.to_come ≡ Some rest))
-  pub taken : IfSome old.taken (λ k. new.taken ≡ Some (k + length bytes))
+  pub taken : IfSome old.taken (λ k. new.taken ≡ Some (counted k (length bytes)))
   pub kind : SameKind old new
   pub closed : new.closed ≡ old.closed
   pub writes : new.write_faults ≡ old.write_faults

@@ -2,7 +2,7 @@
 use Rattle.std.specs.Prelude.{◌≡◌, ℕ, ◌<◌, List, [], ◌∷◌, ◌++◌, length, take, Option, Some, None, Result, Ok, Err}
 use Rattle.px_link.specs.declared.fault.Fault.{Fault}
 use Rattle.px_link.specs.declared.fault.Fault.TheVariants as faults
-use Rattle.px_link.specs.Link.{Seen, Manner, AsItIs, Behind, takes_behind, NoRoom, WriteFailed}
+use Rattle.px_link.specs.Link.{Seen, Manner, Behind, takes_behind, NoRoom, WriteFailed}
 use Rattle.px_proxyproto.specs.declared.heading.Heading.{Heading}
 use Rattle.px_proxyproto.specs.Texts.{header_of}
 
@@ -15,8 +15,7 @@ pub record SendLinkSeen (L : Type 0) : Type 0 where
 -- how bytes are passed on that go to a link of this manner behind a header
 abbrev pub manner_behind : (header : List ℕ) → Manner → Manner
 manner_behind [] manner = manner
-manner_behind (byte ∷ header) AsItIs = Behind (byte ∷ header)
-manner_behind (byte ∷ header) (Behind first) = Behind (first ++ byte ∷ header)
+manner_behind (byte ∷ header) manner = Behind (byte ∷ header) manner
 
 -- the link below, with less to take and a header in front: nothing else is changed
 abbrev pub seen_behind : (header : List ℕ) → Seen → Seen

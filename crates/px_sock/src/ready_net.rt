@@ -1,6 +1,6 @@
 //! A net over sockets that don't block.
 ghost use Rattle.std.specs.Prelude.{◌≡◌, ◌<◌, []};
-ghost use Rattle.px_sock.specs.Untold.{untold_net};
+ghost use Rattle.px_sock.specs.Untold.{net_of, untold_net};
 
 use crate::addresses::Addresses;
 use crate::dialling::Dialling;
@@ -60,18 +60,23 @@ impl<R: net::Net> Drop for ReadyNet<'_, R> {
 }
 
 impl<'a, R: net::Net> Model for ReadyNet<'a, R> {
-    ghost use Rattle.px_link.specs.Net.{NetSeen};
-    ghost use Rattle.px_sock.specs.Untold.{untold_net};
+    ghost use Rattle.px_sock.specs.Untold.{SocketNet};
 
-    ghost Value = { NetSeen };
+    ghost Value = { SocketNet };
 
-    ghost view = { λ n. untold_net n.bound n.dialled n.lent n.bind_faults n.connect_faults };
+    ghost view = { λ n. record {
+      bound = n.bound;
+      dialled = n.dialled;
+      lent = n.lent;
+      bind_faults = n.bind_faults;
+      connect_faults = n.connect_faults;
+    } };
 }
 
 impl<'a, R: net::Net> ReadyNet<'a, R> {
     /// A net on which no call was made yet.
     fn start(alloc: Global, rt: &'a R, telling: Telling, handed: Option<TcpListener>) -> Self
-        ensures { result ≡ untold_net [] [] 0 0 0 }
+        ensures { net_of result ≡ untold_net [] [] 0 0 0 }
     {
         ReadyNet {
             rt,
@@ -92,21 +97,21 @@ impl<'a, R: net::Net> ReadyNet<'a, R> {
 
     /// A net on which no call was made yet. It tells no failure.
     pub fn new(alloc: Global, rt: &'a R) -> Self
-        ensures { result ≡ untold_net [] [] 0 0 0 }
+        ensures { net_of result ≡ untold_net [] [] 0 0 0 }
     {
         ReadyNet::start(alloc, rt, Telling::Nothing, None)
     }
 
     /// A net on which no call was made yet. It tells each bind and each connect that fails on standard error, with its address and the reason.
     pub fn telling(alloc: Global, rt: &'a R) -> Self
-        ensures { result ≡ untold_net [] [] 0 0 0 }
+        ensures { net_of result ≡ untold_net [] [] 0 0 0 }
     {
         ReadyNet::start(alloc, rt, Telling::Failures, None)
     }
 
     /// The same, but its first bind takes this listener, which another process bound.
     pub fn handed(alloc: Global, rt: &'a R, listener: OwnedFd) -> Self
-        ensures { result ≡ untold_net [] [] 0 0 0 }
+        ensures { net_of result ≡ untold_net [] [] 0 0 0 }
     {
         let handed = Some(TcpListener::from(listener));
         ReadyNet::start(alloc, rt, Telling::Failures, handed)
@@ -223,7 +228,7 @@ fn next_answer(
 impl<'a, R: net::Net + Eprint> Net for ReadyNet<'a, R> {
     type Link = ReadyLink<TcpStream>;
 
-    ghost seen = { λ n. n };
+    ghost seen = { net_of };
 
     fn bind(&mut self, at: &Address) -> Result<(), Fault> {
         self.bound.push(at)?;

@@ -1,6 +1,7 @@
 //! A link over a stream of the system.
 ghost use Rattle.std.specs.Prelude.{◌≡◌};
 ghost use Rattle.px_link.specs.Link.{untold};
+ghost use Rattle.px_sock.specs.Untold.{socket_of};
 
 use crate::faults::{count, counted};
 use crate::linger::linger;
@@ -39,18 +40,18 @@ impl<S: Drop> Drop for RealLink<S> {
 }
 
 impl<S> Model for RealLink<S> {
-    ghost use Rattle.px_link.specs.Link.{Seen, untold};
+    ghost use Rattle.px_sock.specs.Untold.{SocketLink};
 
-    ghost Value = { Seen };
+    ghost Value = { SocketLink };
 
-    ghost view = { λ l. untold l.read_faults l.write_faults };
+    ghost view = { λ l. record { read_faults = l.read_faults; write_faults = l.write_faults } };
 }
 
 impl<S: OpenStream + Drop> RealLink<S> {
     /// A link over this stream, of which each piece is sent at once. One that lingers is closed so that its peer loses nothing, where
     /// `wait_for_end` comes behind the close.
     pub fn new(stream: S, lingers: bool) -> Self
-        ensures { result ≡ untold 0 0 }
+        ensures { socket_of result ≡ untold 0 0 }
     {
         let _ = stream.set_nodelay(true);
         RealLink {
@@ -75,7 +76,7 @@ impl<S: Read + OpenStream + Drop> RealLink<S> {
 }
 
 impl<S: Read + Write + OpenStream + Drop> Link for RealLink<S> {
-    ghost seen = { λ l. l };
+    ghost seen = { socket_of };
 
     /// A reset, and every other error, is a broken stream.
     fn read(&mut self, into: &mut [u8]) -> Result<usize, Failed> {

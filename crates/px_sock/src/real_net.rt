@@ -1,6 +1,6 @@
 //! A net over the sockets of the system.
 ghost use Rattle.std.specs.Prelude.{◌≡◌, ◌<◌, []};
-ghost use Rattle.px_sock.specs.Untold.{untold_net};
+ghost use Rattle.px_sock.specs.Untold.{net_of, untold_net};
 
 use crate::addresses::Addresses;
 use crate::faults::{count, counted};
@@ -49,18 +49,23 @@ impl<R: net::Net> Drop for RealNet<'_, R> {
 }
 
 impl<'a, R: net::Net> Model for RealNet<'a, R> {
-    ghost use Rattle.px_link.specs.Net.{NetSeen};
-    ghost use Rattle.px_sock.specs.Untold.{untold_net};
+    ghost use Rattle.px_sock.specs.Untold.{SocketNet};
 
-    ghost Value = { NetSeen };
+    ghost Value = { SocketNet };
 
-    ghost view = { λ n. untold_net n.bound n.dialled n.lent n.bind_faults n.connect_faults };
+    ghost view = { λ n. record {
+      bound = n.bound;
+      dialled = n.dialled;
+      lent = n.lent;
+      bind_faults = n.bind_faults;
+      connect_faults = n.connect_faults;
+    } };
 }
 
 impl<'a, R: net::Net> RealNet<'a, R> {
     /// A net on which no call was made yet.
     fn start(alloc: Global, rt: &'a R, telling: Telling) -> Self
-        ensures { result ≡ untold_net [] [] 0 0 0 }
+        ensures { net_of result ≡ untold_net [] [] 0 0 0 }
     {
         RealNet {
             rt,
@@ -78,14 +83,14 @@ impl<'a, R: net::Net> RealNet<'a, R> {
 
     /// A net on which no call was made yet. It tells no failure.
     pub fn new(alloc: Global, rt: &'a R) -> Self
-        ensures { result ≡ untold_net [] [] 0 0 0 }
+        ensures { net_of result ≡ untold_net [] [] 0 0 0 }
     {
         RealNet::start(alloc, rt, Telling::Nothing)
     }
 
     /// A net on which no call was made yet. It tells each call that fails on standard error, with its address and the reason.
     pub fn telling(alloc: Global, rt: &'a R) -> Self
-        ensures { result ≡ untold_net [] [] 0 0 0 }
+        ensures { net_of result ≡ untold_net [] [] 0 0 0 }
     {
         RealNet::start(alloc, rt, Telling::Failures)
     }
@@ -143,7 +148,7 @@ fn accept_from<L: OpenListener>(listener: &Option<L>) -> io::Result<L::Stream> {
 impl<'a, R: net::Net + Clock + Eprint> Net for RealNet<'a, R> {
     type Link = RealLink<R::Stream>;
 
-    ghost seen = { λ n. n };
+    ghost seen = { net_of };
 
     fn bind(&mut self, at: &Address) -> Result<(), Fault> {
         self.bound.push(at)?;
