@@ -5,5 +5,7 @@ pub mod Section
 pub mod Head
 pub mod Cgi
 pub mod Stands
+pub mod Room
+pub mod Work
 pub mod Found
 pub mod Progress

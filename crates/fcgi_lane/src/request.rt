@@ -9,12 +9,13 @@ pub mod laws;
 mod opening;
 mod packing;
 mod pairs;
+mod param_pairs;
 mod records;
-mod refusal;
+mod script;
 mod state;
 mod translator;
 mod variables;
 
-pub use refusal::Refusal;
+pub use fcgi_model::Refusal;
 pub use state::RequestState;
 pub use translator::Translator;

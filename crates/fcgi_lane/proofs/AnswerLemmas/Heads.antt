@@ -1,6 +1,6 @@
 -- What a look at a text tells of its head.
 use Rattle.std.proofs.Common.{◌≡◌, ℕ, ◌+◌, ◌-◌, ◌<◌, ◌≤◌, Bool, nat_le, ◌&&◌, List, ◌++◌, Option, Some, None, true, false, refl, sym, ap, ◌∙◌, arith, length, take, drop, cond, subst, inl, inr}
-use Rattle.std.specs.Prelude.{map, Result, Ok, Err, IfOk}
+use Rattle.std.specs.Prelude.{map}
 use Rattle.std.proofs.lemmas.Bool.{le-leb, lt-leb, cases_lt}
 use Rattle.std.proofs.lemmas.List.{length-append, length-map, take-append-drop, take-append-le}
 use Rattle.std.proofs.Math.Seq.{take-append_seam}
@@ -177,20 +177,15 @@ found_whole limit text headers used count head h short few whole =
 
 -- ---- what the call that makes the head tells
 
-tells_one : (limit : ℕ) (text : List ℕ) (headers : List HeaderSpan) (used count : ℕ) (read : HeadRead) → IsSectionOf text 0 headers (used, count) → used ≤ limit
-    → length (take count headers) ≤ 256 → TellsWhole (map (header_bytes text) (take count headers)) (drop used text) read → TellsHead limit text read
-tells_one limit text headers used count HeadRead.More h short few tells = absurd tells
-tells_one limit text headers used count (HeadRead.Whole http) h short few tells = (tells.0, found_whole limit text headers used count tells.0 h short few tells.1, tells.2)
-tells_one limit text headers used count HeadRead.Bad h short few tells = found_bad limit text headers used count h short few tells
+tells_one : (limit : ℕ) (text http : List ℕ) (headers : List HeaderSpan) (used count : ℕ) (read : HeadRead) → IsSectionOf text 0 headers (used, count) → used ≤ limit
+    → length (take count headers) ≤ 256 → TellsWhole (map (header_bytes text) (take count headers)) (drop used text) http read → TellsHead limit text http read
+tells_one limit text http headers used count HeadRead.More h short few tells = absurd tells
+tells_one limit text http headers used count HeadRead.Whole h short few tells = (tells.0, found_whole limit text headers used count tells.0 h short few tells.1, tells.2)
+tells_one limit text http headers used count HeadRead.Bad h short few tells = found_bad limit text headers used count h short few tells
 
-tells_each : {E : Type 0} (limit : ℕ) (text : List ℕ) (headers : List HeaderSpan) (used count : ℕ) (result : Result HeadRead E) → IsSectionOf text 0 headers (used, count) → used ≤ limit
-    → length (take count headers) ≤ 256 → IfOk result (TellsWhole (map (header_bytes text) (take count headers)) (drop used text)) → IfOk result (TellsHead limit text)
-tells_each limit text headers used count (Ok read) h short few tells = tells_one limit text headers used count read h short few tells
-tells_each limit text headers used count (Err fault) h short few tells = tt
-
-pub tells_by : {E : Type 0} (limit : ℕ) (text rest : List ℕ) (headers : List HeaderSpan) (used count : ℕ) (result : Result HeadRead E) → IsSectionOf text 0 headers (used, count)
+pub tells_by : (limit : ℕ) (text rest http : List ℕ) (headers : List HeaderSpan) (used count : ℕ) (read : HeadRead) → IsSectionOf text 0 headers (used, count)
     → used ≤ limit → length (take count headers) ≤ 256 → rest ≡ drop used text
-    → IfOk result (TellsWhole (map (header_bytes text) (take count headers)) rest) → IfOk result (TellsHead limit text)
-tells_by limit text rest headers used count result h short few same tells =
-    tells_each limit text headers used count result h short few
-    (subst (λ (r : List ℕ). IfOk result (TellsWhole (map (header_bytes text) (take count headers)) r)) same tells)
+    → TellsWhole (map (header_bytes text) (take count headers)) rest http read → TellsHead limit text http read
+tells_by limit text rest http headers used count read h short few same tells =
+    tells_one limit text http headers used count read h short few
+    (subst (λ (r : List ℕ). TellsWhole (map (header_bytes text) (take count headers)) r http read) same tells)

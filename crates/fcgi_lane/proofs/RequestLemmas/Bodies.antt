@@ -5,9 +5,9 @@ use Rattle.std.proofs.lemmas.List.{append-nil, length-take-le, take_rest}
 use Rattle.std.proofs.lemmas.Grind.{flat_map-append}
 use Rattle.std.proofs.lemmas.List.Elements.{All-nil, All-cons, All-append}
 use Rattle.fcgi_record.specs.declared.record_kind.RecordKind.TheVariants.{Stdin}
-use Rattle.fcgi_lane.specs.Request.Records.{record_bytes, IsContent, CarriesBody}
-use Rattle.fcgi_lane.specs.Request.Body.{Place, Goes, is_whole, InLength, InSize, BehindSize, InChunk, BehindChunk, BehindReturn, AtTrailer, InTrailer, BehindTrailer, AtLast, Whole, Broken}
-use Rattle.fcgi_lane.specs.Request.Flow.{body_end}
+use Rattle.fcgi_model.specs.Records.{record_bytes, IsContent, CarriesBody}
+use Rattle.fcgi_model.specs.Body.{Place, Goes, is_whole, InLength, InSize, BehindSize, InChunk, BehindChunk, BehindReturn, AtTrailer, InTrailer, BehindTrailer, AtLast, Whole, Broken}
+use Rattle.fcgi_model.specs.Flow.{body_end}
 use Rattle.fcgi_lane.specs.Request.Sending.{Sends, Continues}
 use Rattle.fcgi_lane.proofs.RequestLemmas.Places.{goes_on, goes_nowhere}
 

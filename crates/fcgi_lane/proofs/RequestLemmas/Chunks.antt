@@ -9,7 +9,7 @@ use Rattle.std.proofs.lemmas.List.{append-nil, take_all}
 use Rattle.http_model.specs.Head.{Field}
 use Rattle.http_model.specs.Spelling.{line_end, field_text, fields_text, chunk_line, chunk_text, chunks_end}
 use Rattle.px_bytes.specs.Numbers.{hex_of}
-use Rattle.fcgi_lane.specs.Request.Body.{Place, Goes, leads, if_byte, body_in, behind_size, length_left, chunk_left, most_size, InSize, BehindSize, InChunk, BehindChunk, AtTrailer, InTrailer, BehindTrailer, AtLast, Whole, Broken}
+use Rattle.fcgi_model.specs.Body.{Place, Goes, leads, if_byte, body_in, behind_size, length_left, chunk_left, most_size, InSize, BehindSize, InChunk, BehindChunk, AtTrailer, InTrailer, BehindTrailer, AtLast, Whole, Broken}
 use Rattle.fcgi_lane.specs.Request.Spelled.{IsPlain, IsPlainField, IsChunk}
 use Rattle.fcgi_lane.proofs.RequestLemmas.Places.{goes_on, goes_nowhere, counted, length_counts, chunk_run, some_left}
 use Rattle.fcgi_lane.proofs.RequestLemmas.Spelling.{field_line, field_plain, field_some}

@@ -3,10 +3,11 @@ use Rattle.std.proofs.Common.{◌≡◌, ℕ, ◌+◌, ◌-◌, ◌<◌, ◌≤�
 use Rattle.std.specs.List.{fold}
 use Rattle.std.proofs.lemmas.List.{append-nil, length-append, length-take-le, take_at, drop_at, take-append-le, take-append-drop}
 use Rattle.std.proofs.lemmas.Grind.{fold-append}
-use Rattle.fcgi_lane.specs.declared.request.refusal.Refusal.{Refusal}
-use Rattle.fcgi_lane.specs.Request.Head.{ends_head, NoEnd}
-use Rattle.fcgi_lane.specs.Request.Body.{Place, Goes, leads, adds, body_in}
-use Rattle.fcgi_lane.specs.Request.Flow.{Asked, InHead, Behind, Refused, next, asked_behind, body_end, IsSent}
+use Rattle.fcgi_model.specs.Application.{Application}
+use Rattle.fcgi_model.specs.declared.refusal.Refusal.{Refusal}
+use Rattle.fcgi_model.specs.Head.{ends_head, NoEnd}
+use Rattle.fcgi_model.specs.Body.{Place, Goes, leads, adds, body_in}
+use Rattle.fcgi_model.specs.Flow.{Asked, InHead, Behind, Refused, next, asked_behind, body_end, IsSent}
 use Rattle.fcgi_lane.specs.Request.Stages.{place_of}
 use Rattle.fcgi_lane.specs.Request.Sending.{Continues}
 use Rattle.fcgi_lane.specs.Request.Opening.{IsOpened, IsHeadFed}
@@ -17,59 +18,59 @@ use Rattle.fcgi_lane.proofs.RequestLemmas.Bodies.{carries_both}
 
 -- ---- behind the head
 
-pub refused_stays : (root : List ℕ) (why : Refusal) (bytes : List ℕ) → fold (next root) (Refused why) bytes ≡ Refused why
-refused_stays root why [] = refl
-refused_stays root why (b ∷ bytes) = refused_stays root why bytes
+pub refused_stays : (application : Application) (why : Refusal) (bytes : List ℕ) → fold (next application) (Refused why) bytes ≡ Refused why
+refused_stays application why [] = refl
+refused_stays application why (b ∷ bytes) = refused_stays application why bytes
 
-body_grows : (root front body : List ℕ) (at : Place) (bytes : List ℕ) → fold (next root) (Behind front body at) bytes ≡ Behind front (body ++ body_in at bytes) (fold leads at bytes)
-body_grows root front body at [] = ap (λ (t : List ℕ). Behind front t at) (sym (append-nil body))
-body_grows root front body at (b ∷ bytes) =
+body_grows : (application : Application) (front body : List ℕ) (at : Place) (bytes : List ℕ) → fold (next application) (Behind front body at) bytes ≡ Behind front (body ++ body_in at bytes) (fold leads at bytes)
+body_grows application front body at [] = ap (λ (t : List ℕ). Behind front t at) (sym (append-nil body))
+body_grows application front body at (b ∷ bytes) =
     let one : List ℕ = cond (adds at) (b ∷ []) [] in
-    body_grows root front (body ++ one) (leads at b) bytes
+    body_grows application front (body ++ one) (leads at b) bytes
     ∙ ap (λ (t : List ℕ). Behind front t (fold leads (leads at b) bytes)) (append_assoc body one (body_in (leads at b) bytes))
 
-pub body_goes : (root front body : List ℕ) (at to : Place) (bytes found : List ℕ) → Goes at bytes to found → fold (next root) (Behind front body at) bytes ≡ Behind front (body ++ found) to
-body_goes root front body at to bytes found g =
-    body_grows root front body at bytes
+pub body_goes : (application : Application) (front body : List ℕ) (at to : Place) (bytes found : List ℕ) → Goes at bytes to found → fold (next application) (Behind front body at) bytes ≡ Behind front (body ++ found) to
+body_goes application front body at to bytes found g =
+    body_grows application front body at bytes
     ∙ ap (λ (t : List ℕ). Behind front (body ++ t) (fold leads at bytes)) g.found
     ∙ ap (Behind front (body ++ found)) g.place
 
 -- ---- in the head
 
 -- one byte more of a head
-one_byte : (root text : List ℕ) (b : ℕ) (bytes : List ℕ) (to : ℕ) → NoEnd (length text) to (text ++ b ∷ bytes) → length text + 1 < to → next root (InHead text) b ≡ InHead (text ++ b ∷ [])
-one_byte root text b bytes to none fits =
+one_byte : (application : Application) (text : List ℕ) (b : ℕ) (bytes : List ℕ) (to : ℕ) → NoEnd (length text) to (text ++ b ∷ bytes) → length text + 1 < to → next application (InHead text) b ≡ InHead (text ++ b ∷ [])
+one_byte application text b bytes to none fits =
     let size : length (text ++ b ∷ []) ≡ length text + 1 = length-append text (b ∷ []) in
     let same : take (length text + 1) (text ++ b ∷ bytes) ≡ text ++ b ∷ [] =
     ap (take (length text + 1)) (sym (append_assoc text (b ∷ []) bytes)) ∙ take_at (text ++ b ∷ []) bytes (length text + 1) size in
     let off : ends_head (text ++ b ∷ []) ≡ false = ap ends_head (sym same) ∙ none (length text + 1) (omega arith) fits in
-    ap (λ (t : Bool). cond t (asked_behind root (text ++ b ∷ [])) (InHead (text ++ b ∷ []))) off
+    ap (λ (t : Bool). cond t (asked_behind application (text ++ b ∷ [])) (InHead (text ++ b ∷ []))) off
 
 -- the same of the bytes behind it
 none_behind : (text : List ℕ) (b : ℕ) (bytes : List ℕ) (to : ℕ) → NoEnd (length text) to (text ++ b ∷ bytes) → NoEnd (length (text ++ b ∷ [])) to ((text ++ b ∷ []) ++ bytes)
 none_behind text b bytes to none k more less =
     ap (λ (t : List ℕ). ends_head (take k t)) (append_assoc text (b ∷ []) bytes) ∙ none k (omega (arith, more, length-append text (b ∷ []))) less
 
-pub head_grows : (root text bytes : List ℕ) → NoEnd (length text) (length (text ++ bytes) + 1) (text ++ bytes) → fold (next root) (InHead text) bytes ≡ InHead (text ++ bytes)
-head_grows root text [] none = ap InHead (sym (append-nil text))
-head_grows root text (b ∷ bytes) none =
+pub head_grows : (application : Application) (text bytes : List ℕ) → NoEnd (length text) (length (text ++ bytes) + 1) (text ++ bytes) → fold (next application) (InHead text) bytes ≡ InHead (text ++ bytes)
+head_grows application text [] none = ap InHead (sym (append-nil text))
+head_grows application text (b ∷ bytes) none =
     let size : length (text ++ b ∷ bytes) ≡ length text + length (b ∷ bytes) = length-append text (b ∷ bytes) in
     let same : (text ++ b ∷ []) ++ bytes ≡ text ++ b ∷ bytes = append_assoc text (b ∷ []) bytes in
-    ap (λ (a : Asked). fold (next root) a bytes) (one_byte root text b bytes (length (text ++ b ∷ bytes) + 1) none (omega (arith, size)))
-    ∙ head_grows root (text ++ b ∷ []) bytes (subst (λ (n : ℕ). NoEnd (length (text ++ b ∷ [])) (n + 1) ((text ++ b ∷ []) ++ bytes)) (sym (ap length same)) (none_behind text b bytes (length (text ++ b ∷ bytes) + 1) none))
+    ap (λ (a : Asked). fold (next application) a bytes) (one_byte application text b bytes (length (text ++ b ∷ bytes) + 1) none (omega (arith, size)))
+    ∙ head_grows application (text ++ b ∷ []) bytes (subst (λ (n : ℕ). NoEnd (length (text ++ b ∷ [])) (n + 1) ((text ++ b ∷ []) ++ bytes)) (sym (ap length same)) (none_behind text b bytes (length (text ++ b ∷ bytes) + 1) none))
     ∙ ap InHead same
 
-pub head_ends : (root text : List ℕ) (b : ℕ) (bytes : List ℕ) → NoEnd (length text) (length (text ++ b ∷ bytes)) (text ++ b ∷ bytes) → ends_head (text ++ b ∷ bytes) ≡ true
-    → fold (next root) (InHead text) (b ∷ bytes) ≡ asked_behind root (text ++ b ∷ bytes)
-head_ends root text b [] none ends = ap (λ (t : Bool). cond t (asked_behind root (text ++ b ∷ [])) (InHead (text ++ b ∷ []))) ends
-head_ends root text b (c ∷ bytes) none ends =
+pub head_ends : (application : Application) (text : List ℕ) (b : ℕ) (bytes : List ℕ) → NoEnd (length text) (length (text ++ b ∷ bytes)) (text ++ b ∷ bytes) → ends_head (text ++ b ∷ bytes) ≡ true
+    → fold (next application) (InHead text) (b ∷ bytes) ≡ asked_behind application (text ++ b ∷ bytes)
+head_ends application text b [] none ends = ap (λ (t : Bool). cond t (asked_behind application (text ++ b ∷ [])) (InHead (text ++ b ∷ []))) ends
+head_ends application text b (c ∷ bytes) none ends =
     let size : length (text ++ b ∷ c ∷ bytes) ≡ length text + length (b ∷ c ∷ bytes) = length-append text (b ∷ c ∷ bytes) in
     let same : (text ++ b ∷ []) ++ c ∷ bytes ≡ text ++ b ∷ c ∷ bytes = append_assoc text (b ∷ []) (c ∷ bytes) in
-    ap (λ (a : Asked). fold (next root) a (c ∷ bytes)) (one_byte root text b (c ∷ bytes) (length (text ++ b ∷ c ∷ bytes)) none (omega (arith, size)))
-    ∙ head_ends root (text ++ b ∷ []) c bytes
+    ap (λ (a : Asked). fold (next application) a (c ∷ bytes)) (one_byte application text b (c ∷ bytes) (length (text ++ b ∷ c ∷ bytes)) none (omega (arith, size)))
+    ∙ head_ends application (text ++ b ∷ []) c bytes
     (subst (λ (n : ℕ). NoEnd (length (text ++ b ∷ [])) n ((text ++ b ∷ []) ++ c ∷ bytes)) (sym (ap length same)) (none_behind text b (c ∷ bytes) (length (text ++ b ∷ c ∷ bytes)) none))
     (ap ends_head same ∙ ends)
-    ∙ ap (asked_behind root) same
+    ∙ ap (asked_behind application) same
 
 -- ---- records of what is asked
 
@@ -84,33 +85,33 @@ body_place : (front body : List ℕ) (at place : Place) → reading_of (Behind f
 body_place front body at place e = cc
 
 -- records of more of a body stand behind those so far
-pub body_sent : (root : List ℕ) (asked : Asked) (place to : Place) (bytes made sent : List ℕ) → Continues place bytes to made → reading_of asked ≡ AtBody place → IsSent asked sent
-    → IsNow (fold (next root) asked bytes) (AtBody to) (sent ++ made)
-body_sent root (InHead text) place to bytes made sent c at s = absurd cc
-body_sent root (Refused why) place to bytes made sent c at s = absurd cc
-body_sent root (Behind front body from) place to bytes made sent c at s =
+pub body_sent : (application : Application) (asked : Asked) (place to : Place) (bytes made sent : List ℕ) → Continues place bytes to made → reading_of asked ≡ AtBody place → IsSent asked sent
+    → IsNow (fold (next application) asked bytes) (AtBody to) (sent ++ made)
+body_sent application (InHead text) place to bytes made sent c at s = absurd cc
+body_sent application (Refused why) place to bytes made sent c at s = absurd cc
+body_sent application (Behind front body from) place to bytes made sent c at s =
     let same : from ≡ place = body_place front body from place at in
     let going : Goes from bytes to c.found = subst (λ (p : Place). Goes p bytes to c.found) (sym same) c.goes in
     let ends : body_end from ++ made ≡ c.text ++ body_end to = ap (λ (p : Place). body_end p ++ made) same ∙ c.is in
-    subst (λ (a : Asked). IsNow a (AtBody to) (sent ++ made)) (sym (body_goes root front body from to bytes c.found going))
+    subst (λ (a : Asked). IsNow a (AtBody to) (sent ++ made)) (sym (body_goes application front body from to bytes c.found going))
     (refl, (s.0 ++ c.text, carries_both body c.found s.0 c.text s.1 c.carries, sent_grows front s.0 c.text sent made from to s.2 ends))
 
 -- ---- a head that is whole
 
-cut_text : (root old xs ys : List ℕ) (n : ℕ) → 0 < length xs → n ≡ length (old ++ xs) → ends_head (old ++ xs) ≡ true → NoEnd (length old) n (old ++ (xs ++ ys))
-    → fold (next root) (InHead old) (xs ++ ys) ≡ fold (next root) (asked_behind root (old ++ xs)) ys
-cut_text root old [] ys n some size ends none = absurd (omega (arith, some))
-cut_text root old (x ∷ xs) ys n some size ends none =
+cut_text : (application : Application) (old xs ys : List ℕ) (n : ℕ) → 0 < length xs → n ≡ length (old ++ xs) → ends_head (old ++ xs) ≡ true → NoEnd (length old) n (old ++ (xs ++ ys))
+    → fold (next application) (InHead old) (xs ++ ys) ≡ fold (next application) (asked_behind application (old ++ xs)) ys
+cut_text application old [] ys n some size ends none = absurd (omega (arith, some))
+cut_text application old (x ∷ xs) ys n some size ends none =
     let front : NoEnd (length old) (length (old ++ x ∷ xs)) (old ++ x ∷ xs) = λ k more less.
     let same : take k (old ++ ((x ∷ xs) ++ ys)) ≡ take k (old ++ x ∷ xs) =
     ap (take k) (sym (append_assoc old (x ∷ xs) ys)) ∙ take-append-le k (old ++ x ∷ xs) ys (omega (arith, less)) in
     ap ends_head (sym same) ∙ none k more (omega (arith, less, size)) in
-    fold-append (next root) (InHead old) (x ∷ xs) ys
-    ∙ ap (λ (a : Asked). fold (next root) a ys) (head_ends root old x xs front ends)
+    fold-append (next application) (InHead old) (x ∷ xs) ys
+    ∙ ap (λ (a : Asked). fold (next application) a ys) (head_ends application old x xs front ends)
 
-pub head_cut : (root old bytes : List ℕ) (end : ℕ) → length old < end → end ≤ length (old ++ bytes) → ends_head (take end (old ++ bytes)) ≡ true → NoEnd (length old) end (old ++ bytes)
-    → fold (next root) (InHead old) bytes ≡ fold (next root) (asked_behind root (take end (old ++ bytes))) (drop end (old ++ bytes))
-head_cut root old bytes end past fits ends none =
+pub head_cut : (application : Application) (old bytes : List ℕ) (end : ℕ) → length old < end → end ≤ length (old ++ bytes) → ends_head (take end (old ++ bytes)) ≡ true → NoEnd (length old) end (old ++ bytes)
+    → fold (next application) (InHead old) bytes ≡ fold (next application) (asked_behind application (take end (old ++ bytes))) (drop end (old ++ bytes))
+head_cut application old bytes end past fits ends none =
     let m : ℕ = end - length old in
     let sum : length old + m ≡ end = omega (arith, past) in
     let xs : List ℕ = take m bytes in
@@ -122,19 +123,19 @@ head_cut root old bytes end past fits ends none =
     let text : old ++ bytes ≡ (old ++ xs) ++ ys = ap (λ (t : List ℕ). old ++ t) (sym all) ∙ sym (append_assoc old xs ys) in
     let front : take end (old ++ bytes) ≡ old ++ xs = ap (take end) text ∙ take_at (old ++ xs) ys end count in
     let rest : drop end (old ++ bytes) ≡ ys = ap (drop end) text ∙ drop_at (old ++ xs) ys end count in
-    ap (fold (next root) (InHead old)) (sym all)
-    ∙ cut_text root old xs ys end (omega (arith, size, past)) (sym count) (ap ends_head (sym front) ∙ ends)
+    ap (fold (next application) (InHead old)) (sym all)
+    ∙ cut_text application old xs ys end (omega (arith, size, past)) (sym count) (ap ends_head (sym front) ∙ ends)
     (subst (λ (t : List ℕ). NoEnd (length old) end (old ++ t)) (sym all) none)
-    ∙ ap (λ (t : List ℕ). fold (next root) (asked_behind root t) ys) (sym front)
-    ∙ ap (fold (next root) (asked_behind root (take end (old ++ bytes)))) (sym rest)
+    ∙ ap (λ (t : List ℕ). fold (next application) (asked_behind application t) ys) (sym front)
+    ∙ ap (fold (next application) (asked_behind application (take end (old ++ bytes)))) (sym rest)
 
 -- what is open, or refused, is what is asked behind the head and the bytes that follow it
-pub opened_fed : (root text rest head : List ℕ) (o : Opened) → IsOpened root text rest o → IsHeadFed (fold (next root) (asked_behind root text) rest) head (Some o)
-opened_fed root text rest head (opened.Body stage left) (front, from, is, stands, opens) =
+pub opened_fed : (application : Application) (text rest head : List ℕ) (o : Opened) → IsOpened application text rest o → IsHeadFed (fold (next application) (asked_behind application text) rest) head (Some o)
+opened_fed application text rest head (opened.Body stage left) (front, from, is, stands, opens) =
     let to : Place = place_of stage in
-    let end : fold (next root) (asked_behind root text) rest ≡ Behind front opens.found to =
-    ap (λ (a : Asked). fold (next root) a rest) is ∙ body_goes root front [] from to rest opens.found opens.goes in
+    let end : fold (next application) (asked_behind application text) rest ≡ Behind front opens.found to =
+    ap (λ (a : Asked). fold (next application) a rest) is ∙ body_goes application front [] from to rest opens.found opens.goes in
     (stands, subst (λ (a : Asked). IsNow a (AtBody to) left.items) (sym end) (refl, (opens.text, opens.carries, opens.is)))
-opened_fed root text rest head (opened.Refused why) is =
-    let end : fold (next root) (asked_behind root text) rest ≡ Refused why = ap (λ (a : Asked). fold (next root) a rest) is ∙ refused_stays root why rest in
+opened_fed application text rest head (opened.Refused why) is =
+    let end : fold (next application) (asked_behind application text) rest ≡ Refused why = ap (λ (a : Asked). fold (next application) a rest) is ∙ refused_stays application why rest in
     subst (λ (a : Asked). IsNow a (Stopped why) []) (sym end) (refl, refl)

@@ -3,11 +3,12 @@ use Rattle.std.proofs.Common.{◌≡◌, ◌≢◌, ℕ, Bool, true, false, cond
 use Rattle.std.specs.List.{fold}
 use Rattle.std.proofs.lemmas.List.{append-nil}
 use Rattle.fcgi_record.specs.declared.record_kind.RecordKind.TheVariants.{Stdin}
+use Rattle.fcgi_model.specs.Application.{Application}
 use Rattle.fcgi_lane.specs.declared.request.state.RequestState.{RequestState}
 use Rattle.fcgi_lane.specs.declared.request.state.RequestState.TheVariants as state
-use Rattle.fcgi_lane.specs.Request.Records.{record_bytes, CarriesBody}
-use Rattle.fcgi_lane.specs.Request.Body.{Place, Goes, leads, body_in, is_going, is_whole, InLength, InSize, BehindSize, InChunk, BehindChunk, BehindReturn, AtTrailer, InTrailer, BehindTrailer, AtLast, Whole, Broken}
-use Rattle.fcgi_lane.specs.Request.Flow.{Asked, InHead, Behind, Refused, next, asked_of, body_end, IsSent}
+use Rattle.fcgi_model.specs.Records.{record_bytes, CarriesBody}
+use Rattle.fcgi_model.specs.Body.{Place, Goes, leads, body_in, is_going, is_whole, InLength, InSize, BehindSize, InChunk, BehindChunk, BehindReturn, AtTrailer, InTrailer, BehindTrailer, AtLast, Whole, Broken}
+use Rattle.fcgi_model.specs.Flow.{Asked, InHead, Behind, Refused, next, asked_of, body_end, IsSent}
 use Rattle.fcgi_lane.specs.Request.Sending.{Continues}
 use Rattle.fcgi_lane.specs.Request.Stands.{state_at, reading_of}
 use Rattle.fcgi_lane.proofs.RequestLemmas.Bodies.{carries_none, carries_one, carries_both, continues_whole}
@@ -42,15 +43,15 @@ not_going : (going : Bool) (other : RequestState) → cond going state.Going oth
 not_going true other h = absurd (h refl)
 not_going false other h = refl
 
-asked_stays : (root : List ℕ) (asked : Asked) (more : List ℕ) → state_at (reading_of asked) ≢ state.Going → fold (next root) asked more ≡ asked
-asked_stays root (InHead text) more h = absurd (h refl)
-asked_stays root (Refused why) more h = refused_stays root why more
-asked_stays root (Behind front body place) more h =
+asked_stays : (application : Application) (asked : Asked) (more : List ℕ) → state_at (reading_of asked) ≢ state.Going → fold (next application) asked more ≡ asked
+asked_stays application (InHead text) more h = absurd (h refl)
+asked_stays application (Refused why) more h = refused_stays application why more
+asked_stays application (Behind front body place) more h =
     let off : is_going place ≡ false = not_going (is_going place) (cond (is_whole place) state.Whole state.Broken) h in
-    body_goes root front body place place more [] (ended_stays place more off) ∙ ap (λ (t : List ℕ). Behind front t place) (append-nil body)
+    body_goes application front body place place more [] (ended_stays place more off) ∙ ap (λ (t : List ℕ). Behind front t place) (append-nil body)
 
-pub what_follows : (root bytes more : List ℕ) → state_at (reading_of (asked_of root bytes)) ≢ state.Going → asked_of root (bytes ++ more) ≡ asked_of root bytes
-what_follows root bytes more h = asked_more root bytes more ∙ asked_stays root (asked_of root bytes) more h
+pub what_follows : (application : Application) (bytes more : List ℕ) → state_at (reading_of (asked_of application bytes)) ≢ state.Going → asked_of application (bytes ++ more) ≡ asked_of application bytes
+what_follows application bytes more h = asked_more application bytes more ∙ asked_stays application (asked_of application bytes) more h
 
 -- ---- there are records
 
@@ -96,17 +97,17 @@ added_by place more false is =
       },
     )
 
-sent_more : (root : List ℕ) (asked : Asked) (more sent : List ℕ) → IsSent asked sent → (rest : List ℕ) × IsSent (fold (next root) asked more) (sent ++ rest)
-sent_more root (InHead text) more sent none =
-    let first = first_records (fold (next root) (InHead text) more) in
-    (first.0, subst (λ (s : List ℕ). IsSent (fold (next root) (InHead text) more) (s ++ first.0)) (sym none) first.1)
-sent_more root (Refused why) more sent none =
-    ([], subst (λ (a : Asked). IsSent a (sent ++ [])) (sym (refused_stays root why more)) (append-nil sent ∙ none))
-sent_more root (Behind front body place) more sent s =
+sent_more : (application : Application) (asked : Asked) (more sent : List ℕ) → IsSent asked sent → (rest : List ℕ) × IsSent (fold (next application) asked more) (sent ++ rest)
+sent_more application (InHead text) more sent none =
+    let first = first_records (fold (next application) (InHead text) more) in
+    (first.0, subst (λ (s : List ℕ). IsSent (fold (next application) (InHead text) more) (s ++ first.0)) (sym none) first.1)
+sent_more application (Refused why) more sent none =
+    ([], subst (λ (a : Asked). IsSent a (sent ++ [])) (sym (refused_stays application why more)) (append-nil sent ∙ none))
+sent_more application (Behind front body place) more sent s =
     let add = added_by place more (is_whole place) refl in
-    (add.1, (body_sent root (Behind front body place) place add.0 more add.1 sent add.2 refl s).1)
+    (add.1, (body_sent application (Behind front body place) place add.0 more add.1 sent add.2 refl s).1)
 
-pub records_go_on : (root bytes more sent : List ℕ) → IsSent (asked_of root bytes) sent → (rest : List ℕ) × IsSent (asked_of root (bytes ++ more)) (sent ++ rest)
-records_go_on root bytes more sent s =
-    let go = sent_more root (asked_of root bytes) more sent s in
-    (go.0, subst (λ (a : Asked). IsSent a (sent ++ go.0)) (sym (asked_more root bytes more)) go.1)
+pub records_go_on : (application : Application) (bytes more sent : List ℕ) → IsSent (asked_of application bytes) sent → (rest : List ℕ) × IsSent (asked_of application (bytes ++ more)) (sent ++ rest)
+records_go_on application bytes more sent s =
+    let go = sent_more application (asked_of application bytes) more sent s in
+    (go.0, subst (λ (a : Asked). IsSent a (sent ++ go.0)) (sym (asked_more application bytes more)) go.1)

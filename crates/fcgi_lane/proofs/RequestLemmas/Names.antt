@@ -10,9 +10,10 @@ use Rattle.http_model.specs.Fields.{same_name, is_named, is_named_among, has_fie
 use Rattle.http_model.specs.declared.Framing.{Framing}
 use Rattle.http_model.specs.declared.Framing.TheVariants.{Absent, Length, Chunked, ToClose}
 use Rattle.uri_parts.specs.Target.{TargetParts, target_parts}
-use Rattle.fcgi_lane.specs.Answer.Head.{first_value}
-use Rattle.fcgi_lane.specs.Request.Head.{RequestHead}
-use Rattle.fcgi_lane.specs.Request.Pairs.{Pair, call_pairs, script_pairs, length_pairs, type_pairs, kept_back, has_underscore, is_handed, variable_byte, variable_name, later_values, field_pair, field_pairs, rest_pairs, pairs_of}
+use Rattle.fcgi_model.specs.Application.{Application, param_field}
+use Rattle.fcgi_model.specs.Head.{first_value}
+use Rattle.fcgi_model.specs.Head.{RequestHead}
+use Rattle.fcgi_model.specs.Pairs.{Pair, call_pairs, script_pairs, length_pairs, type_pairs, kept_back, has_underscore, is_handed, variable_byte, variable_name, later_values, field_pair, field_pairs, rest_pairs, param_pair, param_pairs, pairs_of}
 
 abbrev proxy_variable : List ℕ
 proxy_variable = codes "HTTP_PROXY"
@@ -103,8 +104,8 @@ call_other : (method target : List ℕ) → AllByRecursion IsOther (call_pairs m
 call_other method target =
     (other_name (codes "GATEWAY_INTERFACE") refl, (other_name (codes "REQUEST_METHOD") refl, (other_name (codes "SERVER_PROTOCOL") refl, (other_name (codes "REQUEST_URI") refl, tt))))
 
-script_other : (root : List ℕ) (parts : TargetParts) → AllByRecursion IsOther (script_pairs root parts)
-script_other root parts =
+script_other : (application : Application) (parts : TargetParts) → AllByRecursion IsOther (script_pairs application parts)
+script_other application parts =
     (other_name (codes "SCRIPT_NAME") refl, (other_name (codes "SCRIPT_FILENAME") refl, (other_name (codes "DOCUMENT_ROOT") refl, (other_name (codes "QUERY_STRING") refl, tt))))
 
 length_other : (framing : Framing) → AllByRecursion IsOther (length_pairs framing)
@@ -117,11 +118,26 @@ type_other : (kind : Option (List ℕ)) → AllByRecursion IsOther (type_pairs k
 type_other None = tt
 type_other (Some kind) = (other_name (codes "CONTENT_TYPE") refl, tt)
 
-pub no_proxy : (root : List ℕ) (head : RequestHead) (framing : Framing) → AllByRecursion IsOther (pairs_of root head framing)
-no_proxy root head framing =
+param_other : (name : List ℕ) (value : Option (List ℕ)) → name ≢ proxy_variable → AllByRecursion IsOther (param_pair name value)
+param_other name None other = tt
+param_other name (Some value) other = (other, tt)
+
+params_other : (names : List (List ℕ)) (fields : List Field) → AllByRecursion (λ name. name ≢ proxy_variable) names → AllByRecursion IsOther (param_pairs names fields)
+params_other [] fields other = tt
+params_other (name ∷ names) fields other =
+    all_pairs (param_pair name (first_value (param_field name) fields)) (param_pairs names fields) (param_other name (first_value (param_field name) fields) other.0) (params_other names fields other.1)
+
+pub no_proxy : (application : Application) (head : RequestHead) (framing : Framing) → AllByRecursion (λ name. name ≢ proxy_variable) application.params
+    → AllByRecursion IsOther (pairs_of application head framing)
+no_proxy application head framing other =
+    let script : List Pair = script_pairs application (target_parts head.target) in
+    let rest : List Pair = rest_pairs head.fields framing in
     let typed : List Pair = type_pairs (first_value (codes "content-type") head.fields) in
     let named : List Pair = field_pairs [] head.fields in
-    all_pairs (call_pairs head.method head.target) (script_pairs root (target_parts head.target) ++ rest_pairs head.fields framing) (call_other head.method head.target)
-    (all_pairs (script_pairs root (target_parts head.target)) (rest_pairs head.fields framing) (script_other root (target_parts head.target))
+    let params : List Pair = param_pairs application.params head.fields in
+    all_pairs (call_pairs head.method head.target) (script ++ (rest ++ params)) (call_other head.method head.target)
+    (all_pairs script (rest ++ params) (script_other application (target_parts head.target))
+    (all_pairs rest params
     (all_pairs (length_pairs framing) (typed ++ named) (length_other framing)
-    (all_pairs typed named (type_other (first_value (codes "content-type") head.fields)) (fields_other [] head.fields))))
+    (all_pairs typed named (type_other (first_value (codes "content-type") head.fields)) (fields_other [] head.fields)))
+    (params_other application.params head.fields other)))

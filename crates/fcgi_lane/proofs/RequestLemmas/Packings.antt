@@ -8,8 +8,8 @@ use Rattle.std.proofs.lemmas.Bool.{leb-true, ltb-false}
 use Rattle.std.proofs.lemmas.List.Elements.{All-nil, All-push}
 use Rattle.fcgi_record.specs.Pairs.{length_bytes, pair_bytes}
 use Rattle.fcgi_record.specs.declared.record_kind.RecordKind.TheVariants.{Params}
-use Rattle.fcgi_lane.specs.Request.Pairs.{Pair}
-use Rattle.fcgi_lane.specs.Request.Records.{Packing, nothing, pair_text, pairs_text, pairs_record, record_bytes, closed, refused, with_room, joined, put, put_all, params_of, most_content, most_alone, IsGroup, HoldsWhole}
+use Rattle.fcgi_model.specs.Pairs.{Pair}
+use Rattle.fcgi_model.specs.Records.{Packing, nothing, pair_text, pairs_text, pairs_record, record_bytes, closed, refused, with_room, joined, put, put_all, params_of, most_content, most_alone, IsGroup, HoldsWhole}
 
 pub pair_length : (name value : List ℕ) → length (pair_bytes name value) ≡ length (length_bytes (length name)) + length (length_bytes (length value)) + (length name + length value)
 pair_length name value =

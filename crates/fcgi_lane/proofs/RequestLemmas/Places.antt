@@ -3,7 +3,7 @@ use Rattle.std.proofs.Common.{◌≡◌, ℕ, zero, suc, ◌-◌, ◌<◌, ◌�
 use Rattle.std.specs.List.{fold}
 use Rattle.std.proofs.lemmas.Grind.{fold-append}
 use Rattle.std.proofs.lemmas.Bool.{ne_eqb}
-use Rattle.fcgi_lane.specs.Request.Body.{Place, Goes, leads, adds, body_in, length_left, chunk_left, InLength, InChunk}
+use Rattle.fcgi_model.specs.Body.{Place, Goes, leads, adds, body_in, length_left, chunk_left, InLength, InChunk}
 
 -- ---- places
 

@@ -5,7 +5,7 @@ use Rattle.std.specs.Str.{bytes_eq}
 use Rattle.std.proofs.lemmas.Bool.{eqb-true}
 use Rattle.std.proofs.lemmas.List.{append-nil}
 use Rattle.http_model.specs.Head.{Field}
-use Rattle.fcgi_lane.specs.Request.Head.{is_word_byte, target_at, line_at, field_of, fields_within, fields_from, more_fields, in_front}
+use Rattle.fcgi_model.specs.Head.{is_word_byte, target_at, line_at, field_of, fields_within, fields_from, more_fields, in_front}
 
 -- fields that were read in front of others
 abbrev pub prepended : List Field → Option (List Field) → Option (List Field)

@@ -2,9 +2,10 @@
 use Rattle.std.proofs.Common.{◌≡◌, ℕ, List, [], ◌∷◌, length, take, drop, refl, codes, Some}
 use Rattle.std.specs.List.{flat_map}
 use Rattle.http_model.specs.declared.Framing.TheVariants.{Absent}
-use Rattle.fcgi_lane.specs.Request.Head.{head_of, RequestHead}
-use Rattle.fcgi_lane.specs.Request.Pairs.{pairs_of, field_pairs}
-use Rattle.fcgi_lane.specs.Request.Records.{pair_text}
+use Rattle.fcgi_model.specs.Application.{below}
+use Rattle.fcgi_model.specs.Head.{head_of, RequestHead}
+use Rattle.fcgi_model.specs.Pairs.{pairs_of, field_pairs}
+use Rattle.fcgi_model.specs.Records.{pair_text}
 
 abbrev first : RequestHead
 first = record {
@@ -17,7 +18,7 @@ read : head_of (codes "GET /a HTTP/1.1\r\nhost: h\r\nx-a: 1\r\nconnection: close
 read = refl
 
 abbrev text : List ℕ
-text = flat_map pair_text (pairs_of (codes "/srv") first Absent)
+text = flat_map pair_text (pairs_of (below (codes "/srv")) first Absent)
 
 counted : length text ≡ 179
 counted = refl

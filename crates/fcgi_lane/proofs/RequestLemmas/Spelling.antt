@@ -6,7 +6,7 @@ use Rattle.std.proofs.lemmas.List.{length-append, take_at, drop_at}
 use Rattle.std.proofs.lemmas.Bool.{ne_eqb, eq-eqb}
 use Rattle.http_model.specs.Head.{Field}
 use Rattle.http_model.specs.Spelling.{line_end, field_text, fields_text}
-use Rattle.fcgi_lane.specs.Request.Head.{RequestHead, is_line_byte, is_word_byte, is_name_byte, line_at, ended_line, request_line, target_at, field_of, value_behind, fields_within, fields_from, more_fields, in_front, head_of, head_from, with_line, with_fields}
+use Rattle.fcgi_model.specs.Head.{RequestHead, is_line_byte, is_word_byte, is_name_byte, line_at, ended_line, request_line, target_at, field_of, value_behind, fields_within, fields_from, more_fields, in_front, head_of, head_from, with_line, with_fields}
 use Rattle.fcgi_lane.specs.Request.Spelled.{IsPlain, IsPlainBut, IsPlainField, IsPlainHead, spelling}
 use Rattle.fcgi_lane.proofs.RequestLemmas.Reading.{full_line}
 

@@ -2,10 +2,11 @@
 use Rattle.std.specs.Prelude.{ℕ, ◌-◌, Bool, not, ◌&&◌, if◌then◌else◌, ◌==◌, nat_le, nat_lt, List, [], ◌∷◌, length, take, drop, map, filter, Option, Some, None, codes}
 use Rattle.std.specs.Str.{str_to_ascii_lowercase}
 use Rattle.http_model.specs.Head.{Field, StatusLine}
-use Rattle.http_model.specs.Fields.{is_named, is_named_among}
+use Rattle.http_model.specs.Fields.{is_named_among}
 use Rattle.http_model.specs.Refusal.{reason_of}
 use Rattle.http_model.specs.Spelling.{head_text}
 use Rattle.px_bytes.specs.Numbers.{decimal_of}
+use Rattle.fcgi_model.specs.Head.{first_value}
 use Rattle.fcgi_lane.specs.Answer.Section.{section_at}
 
 -- ---- the status
@@ -13,11 +14,6 @@ use Rattle.fcgi_lane.specs.Answer.Section.{section_at}
 -- three digits and a reason
 abbrev pub Status : Type 0
 Status = List ℕ × List ℕ
-
--- the value of the first field of this name
-abbrev pub first_value : List ℕ → List Field → Option (List ℕ)
-first_value name [] = None
-first_value name (field ∷ fields) = if is_named name field then Some field.1 else first_value name fields
 
 -- the table's reason in place of an empty one
 abbrev pub reason_or : (code : ℕ) → List ℕ → List ℕ

@@ -4,7 +4,7 @@ use Rattle.fcgi_lane.specs.Answer.Cgi.{HeadAt, InHead, Behind, NoHead}
 use Rattle.fcgi_lane.specs.declared.answer.translator.Progress.{Progress}
 use Rattle.fcgi_lane.specs.declared.answer.translator.Progress.TheVariants as progress
 
-abbrev pub head_of : Progress → (text : List ℕ) → HeadAt
-head_of progress.Head text = InHead text
-head_of progress.Behind text = Behind text
-head_of progress.NoHead text = NoHead
+abbrev pub head_of : Progress → (text left : List ℕ) → HeadAt
+head_of progress.Head text left = InHead text
+head_of progress.Behind text left = Behind left
+head_of progress.NoHead text left = NoHead

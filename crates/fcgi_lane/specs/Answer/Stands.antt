@@ -1,5 +1,5 @@
 -- What a translator stands for.
-use Rattle.std.specs.Prelude.{◌≡◌, ℕ, true, List, [], ◌++◌, None, ⊤}
+use Rattle.std.specs.Prelude.{◌≡◌, ◌≤◌, ℕ, true, length, List, [], ◌++◌, None, ⊤}
 use Rattle.fcgi_lane.specs.Answer.Flow.{Flow, Place, fresh, is_going}
 use Rattle.fcgi_lane.specs.Answer.Head.{head_at}
 use Rattle.fcgi_lane.specs.Answer.Cgi.{HttpStream, HeadAt, InHead, Behind, NoHead, left_of, cgi_of}
@@ -32,9 +32,9 @@ ready_in NoHead = []
 abbrev pub starting : (limit : ℕ) → Translating
 starting limit = record { limit = limit; head = InHead []; flow = fresh }
 
--- The head was looked for: where it isn't whole, the text has none yet, and the request goes on.
+-- The head was looked for: where it isn't whole, the text has none yet, it may still come, and the request goes on.
 abbrev pub IsDecidedAt : (limit : ℕ) → HeadAt → Place → Type 0
-IsDecidedAt limit (InHead text) place = (head_at limit text ≡ None) × (is_going place ≡ true)
+IsDecidedAt limit (InHead text) place = (head_at limit text ≡ None) × (length text ≤ limit) × (is_going place ≡ true)
 IsDecidedAt limit (Behind left) place = ⊤
 IsDecidedAt limit NoHead place = ⊤
 

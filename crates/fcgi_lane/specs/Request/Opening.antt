@@ -4,9 +4,10 @@ use Rattle.fcgi_lane.specs.declared.request.opening.Opened.{Opened}
 use Rattle.fcgi_lane.specs.declared.request.opening.Opened.TheVariants as opened
 use Rattle.fcgi_lane.specs.declared.request.translator.Progress.{Progress}
 use Rattle.fcgi_lane.specs.declared.request.translator.Progress.TheVariants as progress
-use Rattle.fcgi_lane.specs.Request.Records.{begin_record, CarriesBody}
-use Rattle.fcgi_lane.specs.Request.Body.{Place, Goes}
-use Rattle.fcgi_lane.specs.Request.Flow.{Asked, Behind, Refused, asked_behind, body_end}
+use Rattle.fcgi_model.specs.Application.{Application}
+use Rattle.fcgi_model.specs.Records.{begin_record, CarriesBody}
+use Rattle.fcgi_model.specs.Body.{Place, Goes}
+use Rattle.fcgi_model.specs.Flow.{Asked, Behind, Refused, asked_behind, body_end}
 use Rattle.fcgi_lane.specs.Request.Stages.{place_of, IsStage}
 use Rattle.fcgi_lane.specs.Request.Stands.{Reading, AtHead, AtBody, Stopped, IsNow}
 
@@ -24,10 +25,10 @@ IsBodyOpened from params rest (opened.Body stage left) = IsStage stage × Opens 
 IsBodyOpened from params rest (opened.Refused why) = ⊥
 
 -- what is asked behind the text of a head and these bytes is open, or refused
-abbrev pub IsOpened : (root text rest : List ℕ) → Opened → Type 0
-IsOpened root text rest (opened.Body stage left) =
-    (front : List ℕ) × (from : Place) × (asked_behind root text ≡ Behind front [] from) × IsStage stage × Opens front from rest (place_of stage) left.items
-IsOpened root text rest (opened.Refused why) = asked_behind root text ≡ Refused why
+abbrev pub IsOpened : Application → (text rest : List ℕ) → Opened → Type 0
+IsOpened application text rest (opened.Body stage left) =
+    (front : List ℕ) × (from : Place) × (asked_behind application text ≡ Behind front [] from) × IsStage stage × Opens front from rest (place_of stage) left.items
+IsOpened application text rest (opened.Refused why) = asked_behind application text ≡ Refused why
 
 -- what a head becomes: it isn't whole, or what it asks is open, or refused
 abbrev pub IsHeadFed : Asked → (head : List ℕ) → Option Opened → Type 0

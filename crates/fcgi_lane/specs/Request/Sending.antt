@@ -1,8 +1,8 @@
 -- The records that bytes of a body add.
 use Rattle.std.specs.Prelude.{◌≡◌, ℕ, List, ◌++◌}
-use Rattle.fcgi_lane.specs.Request.Records.{CarriesBody}
-use Rattle.fcgi_lane.specs.Request.Flow.{body_end}
-use Rattle.fcgi_lane.specs.Request.Body.{Place, Goes}
+use Rattle.fcgi_model.specs.Records.{CarriesBody}
+use Rattle.fcgi_model.specs.Flow.{body_end}
+use Rattle.fcgi_model.specs.Body.{Place, Goes}
 
 -- the bytes lead from one place to another, and the records of the body among them are put behind a text
 pub record Sends (from : Place) (bytes : List ℕ) (to : Place) (old new : List ℕ) : Type 0 where

@@ -3,7 +3,7 @@ use Rattle.std.specs.Prelude.{◌≢◌, ℕ, ◌<◌, ◌^◌, List, length, co
 use Rattle.std.specs.List.{AllByRecursion}
 use Rattle.http_model.specs.Head.{Field, RequestLine}
 use Rattle.http_model.specs.Spelling.{head_text}
-use Rattle.fcgi_lane.specs.Request.Head.{RequestHead}
+use Rattle.fcgi_model.specs.Head.{RequestHead}
 
 -- no end of a line
 abbrev pub IsPlain : ℕ → Type 0

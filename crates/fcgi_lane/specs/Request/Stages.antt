@@ -4,7 +4,7 @@ use Rattle.fcgi_lane.specs.declared.request.body_stages.BodyStage.{BodyStage}
 use Rattle.fcgi_lane.specs.declared.request.body_stages.BodyStage.TheVariants as stage
 use Rattle.fcgi_lane.specs.declared.request.body_stages.BodyRun.{BodyRun}
 use Rattle.fcgi_lane.specs.declared.request.body_stages.BodyRun.TheVariants as run
-use Rattle.fcgi_lane.specs.Request.Body.{Place, InLength, InSize, BehindSize, InChunk, BehindChunk, BehindReturn, AtTrailer, InTrailer, BehindTrailer, AtLast, Whole, Broken}
+use Rattle.fcgi_model.specs.Body.{Place, InLength, InSize, BehindSize, InChunk, BehindChunk, BehindReturn, AtTrailer, InTrailer, BehindTrailer, AtLast, Whole, Broken}
 
 abbrev pub place_of : BodyStage → Place
 place_of (stage.Length left) = InLength left

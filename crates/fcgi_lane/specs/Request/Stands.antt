@@ -2,9 +2,10 @@
 use Rattle.std.specs.Prelude.{◌≡◌, ℕ, List, [], ◌++◌, if◌then◌else◌}
 use Rattle.fcgi_lane.specs.declared.request.state.RequestState.{RequestState}
 use Rattle.fcgi_lane.specs.declared.request.state.RequestState.TheVariants as state
-use Rattle.fcgi_lane.specs.Request.Body.{Place, is_going, is_whole}
-use Rattle.fcgi_lane.specs.declared.request.refusal.Refusal.{Refusal}
-use Rattle.fcgi_lane.specs.Request.Flow.{Asked, InHead, Behind, Refused, asked_of, IsSent}
+use Rattle.fcgi_model.specs.Application.{Application}
+use Rattle.fcgi_model.specs.Body.{Place, is_going, is_whole}
+use Rattle.fcgi_model.specs.declared.refusal.Refusal.{Refusal}
+use Rattle.fcgi_model.specs.Flow.{Asked, InHead, Behind, Refused, asked_of, IsSent}
 
 -- how far a translator has come with a request
 pub data Reading : Type 0 where
@@ -23,19 +24,19 @@ reading_of (Refused why) = Stopped why
 abbrev pub IsNow : Asked → (at : Reading) → (sent : List ℕ) → Type 0
 IsNow asked at sent = (reading_of asked ≡ at) × IsSent asked sent
 
--- the root, how far it has come, and what is left to give
+-- the application, how far it has come, and what is left to give
 pub record Translating : Type 0 where
-  pub root : List ℕ
+  pub application : Application
   pub at : Reading
   pub left : List ℕ
 
 -- It stands for these bytes of a request, of which so much was given: what was given and what is left to give are records of what these bytes ask.
 pub record Stands (t : Translating) (given bytes : List ℕ) : Type 0 where
-  pub now : IsNow (asked_of t.root bytes) t.at (given ++ t.left)
+  pub now : IsNow (asked_of t.application bytes) t.at (given ++ t.left)
 
 -- one that was fed nothing
-abbrev pub starting : (root : List ℕ) → Translating
-starting root = record { root = root; at = AtHead []; left = [] }
+abbrev pub starting : Application → Translating
+starting application = record { application = application; at = AtHead []; left = [] }
 
 -- ---- what may come
 

@@ -2,7 +2,7 @@
 use denote.Ref.{Bor}
 use Rattle.std.specs.Prelude.{ℕ, List, map}
 use Rattle.http_model.specs.Head.{Field}
-use Rattle.fcgi_lane.specs.Request.Head.{RequestHead}
+use Rattle.fcgi_model.specs.Head.{RequestHead}
 use Rattle.fcgi_lane.specs.declared.request.field_texts.FieldText.{FieldText}
 use Rattle.fcgi_lane.specs.declared.request.head_reading.HeadText.{HeadText}
 

@@ -1,7 +1,8 @@
 //! Fields of a section, found by their names.
 ghost use Rattle.std.specs.Prelude.{◌≡◌, length, map, All, Some, None, IfSome, IsNone};
 ghost use Rattle.httparse.specs.Spans.{IsHeaderWithin, header_bytes};
-ghost use Rattle.fcgi_lane.specs.Answer.Head.{first_value, is_passed};
+ghost use Rattle.fcgi_lane.specs.Answer.Head.{is_passed};
+ghost use Rattle.fcgi_model.specs.Head.{first_value};
 
 use httparse::spans::HeaderSpan;
 use px_bytes::eq_fold;

@@ -1,5 +1,5 @@
 //! What a translator stands for and what is left of an answer, over any cut. No code runs here: each law is the contract of an empty function.
-ghost use Rattle.std.specs.Prelude.{◌≡◌, ℕ, List, [], ◌++◌, map, Some, None, true, false};
+ghost use Rattle.std.specs.Prelude.{◌≡◌, ◌≤◌, ◌+◌, ℕ, List, [], ◌++◌, length, map, Some, None, true, false};
 ghost use Rattle.httparse.specs.Grammar as grammar;
 ghost use Rattle.httparse.specs.Grammar.{LineEnd, ReadsSection};
 ghost use Rattle.httparse.specs.Spans.{name_and_value};
@@ -8,7 +8,8 @@ ghost use Rattle.http_model.specs.declared.Ending.TheVariants.{Broke};
 ghost use Rattle.fcgi_lane.specs.Answer.Flow.{Flow, Passes, fresh, is_going};
 ghost use Rattle.fcgi_lane.specs.Answer.Section.{section_at};
 ghost use Rattle.fcgi_lane.specs.Answer.Head.{Headed, head_at};
-ghost use Rattle.fcgi_lane.specs.Answer.Cgi.{InHead, Behind, NoHead, left_of, ending_at, no_stream};
+ghost use Rattle.fcgi_lane.specs.Answer.Cgi.{InHead, Behind, NoHead, left_of, ending_at, no_stream, cgi_of};
+ghost use Rattle.fcgi_lane.specs.Answer.Room.{most_more};
 ghost use Rattle.fcgi_lane.specs.Answer.Stands.{Stands};
 
 /// The fields that are read byte by byte are the sections of `httparse`'s grammar, with their values between blanks, and no other.
@@ -46,4 +47,9 @@ pub fn what_is_left()
     ensures stopped { (limit : ℕ) (left rest : List ℕ) (flow : Flow) → is_going flow.place ≡ false → left_of limit (Behind left) flow rest ≡ record { bytes = left; ending = ending_at flow.place } }
     ensures cut { (limit : ℕ) (left : List ℕ) (flow : Flow) → is_going flow.place ≡ true → left_of limit (Behind left) flow [] ≡ record { bytes = left; ending = Broke } }
     ensures unheaded { (limit : ℕ) (text : List ℕ) (flow : Flow) → head_at limit text ≡ None → left_of limit (InHead text) flow [] ≡ no_stream }
+{}
+
+/// An HTTP stream has at most so many bytes more than the application's own: its head may be longer.
+pub fn stream_is_short()
+    ensures { (limit : ℕ) (bytes : List ℕ) → length (cgi_of limit bytes).bytes ≤ length bytes + most_more }
 {}

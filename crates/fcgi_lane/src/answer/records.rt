@@ -223,6 +223,7 @@ impl RecordReader {
         ensures within { used_by result ≤ length bytes.now }
         ensures goes { Goes self.old (take (used_by result) bytes.now) self.new (output_by result bytes.now) }
         ensures idle { (n : ℕ) → result ≡ Run.Quiet n → self.new.idle ≡ self.old.idle + n }
+        ensures patient { is_going self.new.place ≡ true → self.new.idle < patience }
     {
         match self.stage {
             Stage::Output { left, pad } => {

@@ -2,7 +2,7 @@
 ghost use Rattle.std.specs.Prelude.{◌≡◌, ◌<◌, ◌≤◌, ◌+◌, ◌-◌, ◌++◌, length, take, drop, true, List, ℕ};
 ghost use Rattle.fcgi_lane.specs.Answer.Flow.{Goes};
 ghost use Rattle.fcgi_lane.specs.Answer.Flow.{Passes};
-ghost use Rattle.fcgi_lane.specs.Answer.Flow.{is_going};
+ghost use Rattle.fcgi_lane.specs.Answer.Flow.{is_going, patience};
 
 use crate::answer::records::{RecordReader, Run};
 
@@ -33,6 +33,7 @@ fn squeeze_run(
     ensures behind { drop result.1 bytes.new ≡ drop result.1 bytes.old }
     ensures goes { (out : List ℕ) × Goes records.old (take (result.1 - used) (drop used bytes.old)) records.new out × (take result.0 bytes.new ≡ take found bytes.old ++ out) }
     ensures idle { result.0 ≡ found → records.new.idle ≡ records.old.idle + (result.1 - used) }
+    ensures patient { is_going records.new.place ≡ true → records.new.idle < patience }
 {
     match records.feed(&bytes[used..]) {
         Run::Output(count) => {
@@ -50,6 +51,7 @@ pub fn squeeze(records: &mut RecordReader, bytes: &mut [u8]) -> usize
     ensures len { length bytes.new ≡ length bytes.old }
     ensures passes { Passes records.old bytes.old records.new (take result bytes.new) }
     ensures idle { result ≡ 0 → is_going records.new.place ≡ true → records.new.idle ≡ records.old.idle + length bytes.old }
+    ensures patient { 0 < length bytes.old → is_going records.new.place ≡ true → records.new.idle < patience }
 {
     let (mut found, mut used) = (0, 0);
     while used < bytes.len() {

@@ -1,24 +1,28 @@
 //! The translator of an application's bytes to the HTTP stream that they are, over any cut. What it stands for is told by `Stands`: the bytes that it was fed,
-//! of which so much was given as HTTP. It takes memory for the head, and for what was fed and isn't given; a call that finds none leaves it as it was.
-ghost use Rattle.std.specs.Prelude.{◌≡◌, ◌≤◌, ◌++◌, ℕ, List, true, false, length, take, drop, OnOk, OnErr};
+//! of which so much was given as HTTP. It takes all its memory at once: as long as what is fed fits, no call wants more.
+ghost use Rattle.std.specs.Prelude.{◌≡◌, ◌≤◌, ◌<◌, ◌++◌, [], ℕ, List, true, false, length, take, drop, IfOk};
 ghost use Rattle.http_model.specs.declared.Ending.TheVariants.{Closed, Broke};
-ghost use Rattle.fcgi_lane.specs.Answer.Flow.{Passes, is_going, is_over};
+ghost use Rattle.fcgi_lane.specs.Answer.Flow.{is_going, is_over};
 ghost use Rattle.fcgi_lane.specs.Answer.Stands.{Stands, left_in, ready_in, IsDecided, IsOpen, starting};
+ghost use Rattle.fcgi_lane.specs.Answer.Room.{room_in};
+ghost use Rattle.fcgi_lane.specs.Answer.Work.{work_left};
 
+use crate::answer::fixed_text::FixedText;
 use crate::answer::head_reading::{HeadRead, read_head};
 use crate::answer::records::RecordReader;
-use crate::answer::squeezing::squeeze;
-use crate::fronts::drop_front;
 use http_model::OutOfMemory;
 use std::alloc::Global;
 use std::marker::Model;
 
+/// How many bytes an HTTP head may have beside those of the application's.
+const MOST_MORE: usize = 1024;
+
 /// How far a translator has come with the head.
 #[derive(Clone, Copy, Debug)]
 pub(crate) enum Progress {
-    /// It isn't whole; the text is the output so far.
+    /// It isn't whole.
     Head,
-    /// It was made; the text is what is left to give.
+    /// It was made.
     Behind,
     /// There is none.
     NoHead,
@@ -36,86 +40,99 @@ pub enum AnswerState {
 }
 
 /// A translator of the answer of one request.
-#[derive(Drop)]
 pub struct Translator {
     limit: u32,
     records: RecordReader,
     progress: Progress,
-    text: Vec<u8>,
+    /// The output so far, while the head isn't whole.
+    head: FixedText,
+    /// What is left to give, once it was made.
+    left: FixedText,
+}
+
+impl Drop for Translator {
+    fn drop(self) {
+        let Translator {
+            limit: _,
+            records: _,
+            progress: _,
+            head: _,
+            left: _,
+        } = self;
+    }
 }
 
 impl Model for Translator {
+    ghost use Rattle.std.specs.Prelude.{◌≡◌};
     ghost use Rattle.fcgi_lane.specs.Answer.Stands.{Translating};
     ghost use Rattle.fcgi_lane.specs.Answer.Progress.{head_of};
+    ghost use Rattle.fcgi_lane.specs.Answer.Room.{head_room, left_room};
 
     ghost Value = { Translating };
 
-    ghost view = { λ t. record { limit = t.limit; head = head_of t.progress t.text.items; flow = t.records } };
-}
+    ghost view = { λ t. record { limit = t.limit; head = head_of t.progress t.head.bytes t.left.bytes; flow = t.records } };
 
-/// Reads bytes of the application, and puts the output among them behind a text.
-fn take_output(
-    records: &mut RecordReader,
-    text: &mut Vec<u8>,
-    bytes: &[u8],
-) -> Result<(), OutOfMemory>
-    ensures fed { OnOk result ((out : List ℕ) × Passes records.old bytes.now records.new out × (text.new.items ≡ text.old.items ++ out)) }
-    ensures records { OnErr result (records.new ≡ records.old) }
-    ensures text { OnErr result (text.new.items ≡ text.old.items) }
-{
-    let before = text.len();
-    text.extend_from_slice(bytes)?;
-    let found = squeeze(records, &mut text[before..]);
-    text.truncate(before + found);
-    Ok(())
+    ghost invariant = { λ t. (t.head.cap ≡ head_room t.limit) × (t.left.cap ≡ left_room t.limit) };
 }
 
 impl Translator {
-    /// A translator that was fed nothing, of an answer whose head may have so many bytes.
-    pub fn new(alloc: Global, limit: u32) -> Translator
-        ensures { result ≡ starting limit }
+    /// A translator that was fed nothing, of an answer whose head may have so many bytes. This call alone takes memory.
+    pub fn new(alloc: Global, limit: u32) -> Result<Translator, OutOfMemory>
+        ensures starts { IfOk result (λ translator. translator ≡ starting limit) }
+        ensures decided { IfOk result (λ translator. IsDecided translator) }
     {
-        Translator {
+        let most = limit as usize + 1;
+        Ok(Translator {
             limit,
             records: RecordReader::new(),
             progress: Progress::Head,
-            text: Vec::new(alloc),
+            head: FixedText::new(alloc, most)?,
+            left: FixedText::new(alloc, most + MOST_MORE)?,
+        })
+    }
+
+    /// How many bytes it takes at once, before others are given.
+    pub fn room(&self) -> usize
+        ensures { result ≡ room_in self.now }
+    {
+        match self.progress {
+            Progress::Head => self.head.room(),
+            Progress::Behind => self.left.room(),
+            Progress::NoHead => 0,
         }
     }
 
-    /// Takes bytes of the application, in whatever pieces they come.
-    pub fn feed(&mut self, bytes: &[u8]) -> Result<(), OutOfMemory>
-        ensures fed { OnOk result ((given taken : List ℕ) → Stands self.old given taken → Stands self.new given (taken ++ bytes.now)) }
-        ensures unfed { OnErr result (self.new ≡ self.old) }
+    /// Takes bytes of the application, in whatever pieces they come. Where none are ready and more may come, at least one brings it closer to that.
+    pub fn feed(&mut self, bytes: &[u8])
+        requires { length bytes.now ≤ room_in self.old }
+        ensures fed { (given taken : List ℕ) → Stands self.old given taken → Stands self.new given (taken ++ bytes.now) }
+        ensures limit { self.new.limit ≡ self.old.limit }
+        ensures works { 0 < length bytes.now → IsDecided self.old → IsOpen self.old → ready_in self.old.head ≡ [] → work_left self.new < work_left self.old }
     {
-        take_output(&mut self.records, &mut self.text, bytes)
+        match self.progress {
+            Progress::Head => self.head.push_output(&mut self.records, bytes),
+            Progress::Behind => self.left.push_output(&mut self.records, bytes),
+            Progress::NoHead => {}
+        }
     }
 
     /// Makes the HTTP head, once the application's is whole.
-    pub fn begin(&mut self, alloc: Global) -> Result<(), OutOfMemory>
+    pub fn begin(&mut self)
         ensures stands { (given taken : List ℕ) → Stands self.old given taken → Stands self.new given taken }
-        ensures decided { OnOk result (IsDecided self.new) }
-        ensures unmade { OnErr result (self.new ≡ self.old) }
+        ensures decided { IsDecided self.new }
+        ensures limit { self.new.limit ≡ self.old.limit }
+        ensures works { work_left self.new ≤ work_left self.old }
     {
         let Progress::Head = self.progress else {
-            return Ok(());
+            return;
         };
-        match read_head(alloc, self.limit, &self.text)? {
-            HeadRead::Whole(http) => {
-                self.text = http;
-                self.progress = Progress::Behind;
-                Ok(())
-            }
-            HeadRead::Bad => {
-                self.progress = Progress::NoHead;
-                Ok(())
-            }
+        match read_head(self.limit, self.head.as_slice(), &mut self.left) {
+            HeadRead::Whole => self.progress = Progress::Behind,
+            HeadRead::Bad => self.progress = Progress::NoHead,
             HeadRead::More => {
-                if self.records.is_going() {
-                    return Ok(());
+                if !self.records.is_going() {
+                    self.progress = Progress::NoHead;
                 }
-                self.progress = Progress::NoHead;
-                Ok(())
             }
         }
     }
@@ -125,7 +142,7 @@ impl Translator {
         ensures { result.now ≡ ready_in self.now.head }
     {
         match self.progress {
-            Progress::Behind => &self.text,
+            Progress::Behind => self.left.as_slice(),
             Progress::Head | Progress::NoHead => &[],
         }
     }
@@ -136,16 +153,18 @@ impl Translator {
         ensures given { (given taken : List ℕ) → Stands self.old given taken → Stands self.new (given ++ take count (ready_in self.old.head)) taken }
         ensures left { ready_in self.new.head ≡ drop count (ready_in self.old.head) }
         ensures decided { IsDecided self.old → IsDecided self.new }
+        ensures limit { self.new.limit ≡ self.old.limit }
     {
         let Progress::Behind = self.progress else {
             return;
         };
-        drop_front(&mut self.text, count);
+        self.left.drop_front(count);
     }
 
-    /// What may come behind the bytes that are ready.
+    /// What may come behind the bytes that are ready. Where more may come and nothing is ready, there is room for it.
     pub fn state(&self) -> AnswerState
         ensures going { result ≡ AnswerState.Going → IsOpen self.now }
+        ensures room { result ≡ AnswerState.Going → IsDecided self.now → ready_in self.now.head ≡ [] → 0 < room_in self.now }
         ensures over { result ≡ AnswerState.Over → (rest : List ℕ) → left_in self.now rest ≡ record { bytes = ready_in self.now.head; ending = Closed } }
         ensures broken { result ≡ AnswerState.Broken → (rest : List ℕ) → left_in self.now rest ≡ record { bytes = ready_in self.now.head; ending = Broke } }
     {

@@ -1,6 +1,6 @@
 //! The records of the body of a request.
 ghost use Rattle.std.specs.Prelude.{◌≡◌, ◌<◌, ◌≤◌, ◌++◌, length, take, IfOk, OnOk};
-ghost use Rattle.fcgi_lane.specs.Request.Flow.{body_end};
+ghost use Rattle.fcgi_model.specs.Flow.{body_end};
 ghost use Rattle.fcgi_lane.specs.Request.Stages.{place_of, IsStage};
 ghost use Rattle.fcgi_lane.specs.Request.Sending.{Sends, Continues};
 

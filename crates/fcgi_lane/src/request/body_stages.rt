@@ -1,7 +1,7 @@
 //! Where the body of a request stands, read as the proxy spells it (RFC 9112 sections 6 and 7.1). It takes no memory.
 ghost use Rattle.std.specs.Prelude.{◌≡◌, ◌<◌, ◌≤◌, length, take, false};
-ghost use Rattle.fcgi_lane.specs.Request.Body as body;
-ghost use Rattle.fcgi_lane.specs.Request.Body.{Goes, leads, size_by, if_byte, body_at, is_whole, is_going};
+ghost use Rattle.fcgi_model.specs.Body as body;
+ghost use Rattle.fcgi_model.specs.Body.{Goes, leads, size_by, if_byte, body_at, is_whole, is_going};
 ghost use Rattle.fcgi_lane.specs.Request.Stages.{place_of, IsStage, used_by, found_by};
 
 use crate::request::records::MOST_CONTENT;

@@ -1,8 +1,8 @@
 //! The pairs of fields.
 ghost use Rattle.std.specs.Prelude.{◌≡◌, OnOk, []};
 ghost use Rattle.fcgi_lane.specs.Request.Texts.{shown_field, shown_fields};
-ghost use Rattle.fcgi_lane.specs.Request.Pairs.{field_pair, field_pairs};
-ghost use Rattle.fcgi_lane.specs.Request.Records.{put_all};
+ghost use Rattle.fcgi_model.specs.Pairs.{field_pair, field_pairs};
+ghost use Rattle.fcgi_model.specs.Records.{put_all};
 
 use crate::request::field_texts::{FieldText, has_field};
 use crate::request::packing::PairWriter;

@@ -1,7 +1,7 @@
 //! Fields of a head, lent from its text, and found by their names.
 ghost use Rattle.std.specs.Prelude.{◌≡◌, Some, None, IfSome, IsNone};
 ghost use Rattle.http_model.specs.Fields.{has_field};
-ghost use Rattle.fcgi_lane.specs.Answer.Head.{first_value};
+ghost use Rattle.fcgi_model.specs.Head.{first_value};
 ghost use Rattle.fcgi_lane.specs.Request.Texts.{shown_field, shown_fields};
 
 use px_bytes::eq_fold;

@@ -1,7 +1,7 @@
 //! The head of a request, read as the proxy spells it (RFC 9112 sections 2.1, 3 and 5).
 ghost use Rattle.std.specs.Prelude.{◌≡◌, ◌≤◌, ◌==◌, not, length, IfOk, option_map};
 ghost use Rattle.std.specs.List.{prefix_len};
-ghost use Rattle.fcgi_lane.specs.Request.Head as head;
+ghost use Rattle.fcgi_model.specs.Head as head;
 ghost use Rattle.fcgi_lane.specs.Request.Texts.{shown_field, shown_fields, shown_head, shown_pair};
 
 use crate::request::field_texts::{FieldText, first_value};

@@ -3,12 +3,13 @@ ghost use Rattle.std.specs.Prelude.{◌≡◌, ◌≢◌, ◌≤◌, ◌-◌, �
 ghost use Rattle.std.specs.List.{flat_map, AllByRecursion};
 ghost use Rattle.http_model.specs.Head.{Field};
 ghost use Rattle.http_model.specs.Spelling.{chunk_text, chunks_end};
-ghost use Rattle.fcgi_lane.specs.Request.Head.{RequestHead, head_of, framing_of};
-ghost use Rattle.fcgi_lane.specs.Request.Pairs.{Pair, pairs_of};
-ghost use Rattle.fcgi_lane.specs.Request.Body.{Place, Goes, Whole, body_at, length_left};
+ghost use Rattle.fcgi_model.specs.Application.{Application};
+ghost use Rattle.fcgi_model.specs.Head.{RequestHead, head_of, framing_of};
+ghost use Rattle.fcgi_model.specs.Pairs.{Pair, pairs_of};
+ghost use Rattle.fcgi_model.specs.Body.{Place, Goes, Whole, body_at, length_left};
 ghost use Rattle.fcgi_lane.specs.Request.Spelled.{IsPlainHead, IsPlainField, IsChunk, spelling};
-ghost use Rattle.fcgi_lane.specs.Request.Records.{begin_record, params_of, HoldsWhole};
-ghost use Rattle.fcgi_lane.specs.Request.Flow.{Behind, asked_of, asked_headed, IsSent};
+ghost use Rattle.fcgi_model.specs.Records.{begin_record, params_of, HoldsWhole};
+ghost use Rattle.fcgi_model.specs.Flow.{Behind, asked_of, asked_headed, IsSent};
 ghost use Rattle.fcgi_lane.specs.Request.Stands.{Stands, reading_of, state_at, starting};
 
 use crate::request::state::RequestState;
@@ -20,30 +21,31 @@ pub fn pairs_stay_whole()
     ensures { (pairs : List Pair) (text : List ℕ) → params_of pairs ≡ Some text → HoldsWhole pairs text }
 {}
 
-/// No pair is named `HTTP_PROXY`, whatever the fields are: an application would take it for the proxy that it is to use.
+/// No pair is named `HTTP_PROXY`, whatever the fields are, unless a field is asked for under this name: an application would take it for the proxy that it is to use.
 pub fn no_proxy()
-    ensures { (root : List ℕ) (head : RequestHead) (framing : Framing) → AllByRecursion (λ pair. pair.0 ≢ codes "HTTP_PROXY") (pairs_of root head framing) }
+    ensures { (application : Application) (head : RequestHead) (framing : Framing) → AllByRecursion (λ name. name ≢ codes "HTTP_PROXY") application.params
+        → AllByRecursion (λ pair. pair.0 ≢ codes "HTTP_PROXY") (pairs_of application head framing) }
 {}
 
 /// Records of the bytes so far are the front of records of all bytes that may come.
 pub fn records_go_on()
-    ensures { (root bytes more sent : List ℕ) → IsSent (asked_of root bytes) sent → (rest : List ℕ) × IsSent (asked_of root (bytes ++ more)) (sent ++ rest) }
+    ensures { (application : Application) (bytes more sent : List ℕ) → IsSent (asked_of application bytes) sent → (rest : List ℕ) × IsSent (asked_of application (bytes ++ more)) (sent ++ rest) }
 {}
 
 /// Once a request is whole, broken or refused, what follows changes nothing.
 pub fn what_follows()
-    ensures { (root bytes more : List ℕ) → state_at (reading_of (asked_of root bytes)) ≢ RequestState.Going → asked_of root (bytes ++ more) ≡ asked_of root bytes }
+    ensures { (application : Application) (bytes more : List ℕ) → state_at (reading_of (asked_of application bytes)) ≢ RequestState.Going → asked_of application (bytes ++ more) ≡ asked_of application bytes }
 {}
 
 /// A translator that was fed nothing stands for nothing.
 pub fn at_the_start()
-    ensures { (root : List ℕ) → Stands (starting root) [] [] }
+    ensures { (application : Application) → Stands (starting application) [] [] }
 {}
 
 /// The head that is spelled as the proxy does is the one that is read, and ends the head of a request behind its last byte.
 pub fn heads_are_read()
     ensures read { (head : RequestHead) → IsPlainHead head → head_of (spelling head) ≡ Some head }
-    ensures asked { (root : List ℕ) (head : RequestHead) → IsPlainHead head → asked_of root (spelling head) ≡ asked_headed root (Some head) }
+    ensures asked { (application : Application) (head : RequestHead) → IsPlainHead head → asked_of application (spelling head) ≡ asked_headed application (Some head) }
 {}
 
 /// A body of known length is its bytes. A body in chunks that are spelled as the proxy does is their bytes, and is whole behind the last chunk and the
@@ -59,6 +61,6 @@ pub fn bodies_are_read()
 
 /// A request whose head is spelled so asks, by the records of its own pairs, what its body is.
 pub fn requests_are_read()
-    ensures { (root : List ℕ) (head : RequestHead) (framing : Framing) (params text body : List ℕ) (to : Place) → IsPlainHead head → framing_of head.fields ≡ Some framing
-        → params_of (pairs_of root head framing) ≡ Some params → Goes (body_at framing) text to body → asked_of root (spelling head ++ text) ≡ Behind (begin_record ++ params) body to }
+    ensures { (application : Application) (head : RequestHead) (framing : Framing) (params text body : List ℕ) (to : Place) → IsPlainHead head → framing_of head.fields ≡ Some framing
+        → params_of (pairs_of application head framing) ≡ Some params → Goes (body_at framing) text to body → asked_of application (spelling head ++ text) ≡ Behind (begin_record ++ params) body to }
 {}

@@ -1,7 +1,7 @@
 //! The end of a request's head, and the records in front of its body.
 ghost use Rattle.std.specs.Prelude.{◌≡◌, ◌<◌, ◌≤◌, ◌+◌, ◌++◌, length, take, true, IfSome, IsNone, IfOk, OnOk};
-ghost use Rattle.fcgi_lane.specs.Request.Head.{ends_head, NoEnd};
-ghost use Rattle.fcgi_lane.specs.Request.Records.{begin_record};
+ghost use Rattle.fcgi_model.specs.Head.{ends_head, NoEnd};
+ghost use Rattle.fcgi_model.specs.Records.{begin_record};
 ghost use Rattle.fcgi_lane.specs.Request.Stages.{place_of, IsStage};
 ghost use Rattle.fcgi_lane.specs.Request.Opening.{IsOpened, IsBodyOpened};
 
@@ -10,9 +10,10 @@ use crate::request::body_stages::{BodyStage, body_at};
 use crate::request::head_reading::{framing_of, head_of};
 use crate::request::pairs::params;
 use crate::request::records::push_record;
-use crate::request::refusal::Refusal;
+use fcgi_model::Refusal;
 use fcgi_record::RecordKind;
 use http_model::OutOfMemory;
+use px_link::Application;
 use std::alloc::Global;
 
 /// What a whole head becomes.
@@ -70,11 +71,11 @@ fn open_body(
 /// What the text of a head becomes, with these bytes behind it.
 pub(crate) fn open_request(
     alloc: Global,
-    root: &[u8],
+    application: &Application,
     text: &[u8],
     rest: &[u8],
 ) -> Result<Opened, OutOfMemory>
-    ensures { IfOk result (λ opened. IsOpened root.now text.now rest.now opened) }
+    ensures { IfOk result (λ opened. IsOpened application.now text.now rest.now opened) }
 {
     let Some(head) = head_of(alloc, text)? else {
         return Ok(Opened::Refused(Refusal::BadHead));
@@ -82,7 +83,7 @@ pub(crate) fn open_request(
     let Some(framing) = framing_of(&head.fields) else {
         return Ok(Opened::Refused(Refusal::BadHead));
     };
-    let Some(params) = params(alloc, root, &head, framing)? else {
+    let Some(params) = params(alloc, application, &head, framing)? else {
         return Ok(Opened::Refused(Refusal::LongPair));
     };
     let opened = open_body(alloc, body_at(framing), &params, rest)?;

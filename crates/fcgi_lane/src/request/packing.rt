@@ -1,7 +1,7 @@
 //! Pairs in records, none of which a record cuts. A call that finds no memory leaves a writer that is of no more use.
 ghost use Rattle.std.specs.Prelude.{◌≡◌, ◌<◌, ◌≤◌, ◌+◌, ◌++◌, length, OnOk, IfSome, IsNone, IfOk, option_map};
 ghost use Rattle.fcgi_record.specs.Pairs.{length_bytes, pair_bytes};
-ghost use Rattle.fcgi_lane.specs.Request.Records.{most_alone, nothing, closed, with_room, put, finished};
+ghost use Rattle.fcgi_model.specs.Records.{most_alone, nothing, closed, with_room, put, finished};
 
 use crate::request::records::{MOST_ALONE, MOST_CONTENT, push_record};
 use fcgi_record::{RecordKind, put_lengths};
@@ -56,7 +56,7 @@ pub(crate) struct PairWriter {
 
 impl Model for PairWriter {
     ghost use Rattle.std.specs.Prelude.{◌≤◌, length};
-    ghost use Rattle.fcgi_lane.specs.Request.Records.{Packing, most_alone};
+    ghost use Rattle.fcgi_model.specs.Records.{Packing, most_alone};
 
     ghost Value = { Packing };
 
@@ -102,7 +102,7 @@ impl PairWriter {
     }
 
     /// Puts a pair behind the others, whole in one record. One that is longer than a record can be is refused: there are no records then.
-    #[tactic(auto, unfolding(crate::specs::Request::Records::put))]
+    #[tactic(auto, unfolding(fcgi_model::specs::Records::put))]
     pub fn put(&mut self, name: &[u8], value: &[u8]) -> Result<(), OutOfMemory>
         ensures { OnOk result (self.new ≡ put self.old (name.now, value.now)) }
     {

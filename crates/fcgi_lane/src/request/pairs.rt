@@ -3,15 +3,18 @@ ghost use Rattle.std.specs.Prelude.{◌≡◌, ◌++◌, OnOk, IfOk, codes, opti
 ghost use Rattle.uri_parts.specs.Lent.{shown};
 ghost use Rattle.uri_parts.specs.Target.{target_parts};
 ghost use Rattle.fcgi_lane.specs.Request.Texts.{shown_fields, shown_head};
-ghost use Rattle.fcgi_lane.specs.Request.Pairs as pairs;
-ghost use Rattle.fcgi_lane.specs.Request.Records.{put_all, params_of};
+ghost use Rattle.fcgi_model.specs.Pairs as pairs;
+ghost use Rattle.fcgi_model.specs.Records.{put_all, params_of};
 
 use crate::request::field_pairs::put_fields;
 use crate::request::field_texts::{FieldText, first_value};
 use crate::request::head_reading::HeadText;
 use crate::request::packing::PairWriter;
+use crate::request::param_pairs::put_params;
+use crate::request::script::script_file;
 use http_model::{Framing, OutOfMemory};
 use px_bytes::write_decimal;
+use px_link::Application;
 use std::alloc::Global;
 use uri_parts::{Parts, cut_target};
 
@@ -47,35 +50,20 @@ fn query_of<'t>(parts: &Parts<'t>) -> &'t [u8]
     }
 }
 
-/// Puts the pair of the file that a path names below the root.
-fn put_file(
-    alloc: Global,
-    writer: &mut PairWriter,
-    root: &[u8],
-    path: &[u8],
-) -> Result<(), OutOfMemory>
-    ensures { OnOk result (writer.new ≡ put_all writer.old ((codes "SCRIPT_FILENAME", root.now ++ path.now) ∷ [])) }
-{
-    let mut file = Vec::new(alloc);
-    file.extend_from_slice(root)?;
-    file.extend_from_slice(path)?;
-    writer.put(b"SCRIPT_FILENAME", &file)?;
-    Ok(())
-}
-
 /// Puts the pairs of the script that a target names.
 fn put_script(
     alloc: Global,
     writer: &mut PairWriter,
-    root: &[u8],
+    application: &Application,
     target: &[u8],
 ) -> Result<(), OutOfMemory>
-    ensures { OnOk result (writer.new ≡ put_all writer.old (pairs.script_pairs root.now (target_parts target.now))) }
+    ensures { OnOk result (writer.new ≡ put_all writer.old (pairs.script_pairs application.now (target_parts target.now))) }
 {
     let parts = cut_target(target);
-    let path = script_name(parts.path);
-    writer.put(b"SCRIPT_NAME", path)?;
-    put_file(alloc, writer, root, path)?;
+    let root = application.root.as_slice();
+    let file = script_file(alloc, application, script_name(parts.path))?;
+    writer.put(b"SCRIPT_NAME", &file[root.len()..])?;
+    writer.put(b"SCRIPT_FILENAME", &file)?;
     writer.put(b"DOCUMENT_ROOT", root)?;
     writer.put(b"QUERY_STRING", query_of(&parts))?;
     Ok(())
@@ -126,15 +114,16 @@ fn put_rest(
 /// The records of the pairs of a request, with the empty one behind them; none where a pair is longer than a record can be.
 pub(crate) fn params(
     alloc: Global,
-    root: &[u8],
+    application: &Application,
     head: &HeadText<'_>,
     framing: Framing,
 ) -> Result<Option<Vec<u8>>, OutOfMemory>
-    ensures { IfOk result (λ text. params_of (pairs.pairs_of root.now (shown_head head.now) framing) ≡ option_map (λ t. t.items) text) }
+    ensures { IfOk result (λ text. params_of (pairs.pairs_of application.now (shown_head head.now) framing) ≡ option_map (λ t. t.items) text) }
 {
     let mut writer = PairWriter::new(alloc);
     put_call(&mut writer, head.method, head.target)?;
-    put_script(alloc, &mut writer, root, head.target)?;
+    put_script(alloc, &mut writer, application, head.target)?;
     put_rest(alloc, &mut writer, &head.fields, framing)?;
+    put_params(alloc, &mut writer, &application.params, &head.fields)?;
     writer.finish()
 }

@@ -1,6 +1,6 @@
 //! Records of the one request (FastCGI 1.0 section 3.3).
 ghost use Rattle.std.specs.Prelude.{◌≡◌, ◌≤◌, ◌++◌, length, OnOk};
-ghost use Rattle.fcgi_lane.specs.Request.Records.{record_bytes, most_alone};
+ghost use Rattle.fcgi_model.specs.Records.{record_bytes, most_alone};
 
 use fcgi_record::{RecordHead, RecordKind, put_head};
 use http_model::OutOfMemory;

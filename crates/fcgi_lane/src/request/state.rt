@@ -1,6 +1,6 @@
 //! What may come from a translator of requests.
 
-use crate::request::refusal::Refusal;
+use fcgi_model::Refusal;
 
 /// What may come behind the bytes that are ready.
 #[derive(Clone, Copy, Debug, PartialEq, Eq)]

@@ -2,7 +2,7 @@
 //! that it was fed, of which so much was given as records. It takes memory for the head and for what isn't given; a call that finds none leaves it as it was.
 ghost use Rattle.std.specs.Prelude.{◌≡◌, ◌≤◌, ◌++◌, ℕ, List, length, take, drop, OnOk, OnErr, IfOk};
 ghost use Rattle.std.specs.List.{fold};
-ghost use Rattle.fcgi_lane.specs.Request.Flow.{InHead, next};
+ghost use Rattle.fcgi_model.specs.Flow.{InHead, next};
 ghost use Rattle.fcgi_lane.specs.Request.Stages.{place_of};
 ghost use Rattle.fcgi_lane.specs.Request.Opening.{IsHeadFed};
 ghost use Rattle.fcgi_lane.specs.Request.Stands.{Stands, starting, state_in, state_at};
@@ -11,9 +11,10 @@ use crate::fronts::drop_front;
 use crate::request::body::continue_body;
 use crate::request::body_stages::{BodyStage, is_going, is_whole};
 use crate::request::opening::{Opened, head_end, open_request};
-use crate::request::refusal::Refusal;
 use crate::request::state::RequestState;
+use fcgi_model::Refusal;
 use http_model::OutOfMemory;
+use px_link::Application;
 use std::alloc::Global;
 use std::marker::Model;
 
@@ -29,22 +30,33 @@ pub(crate) enum Progress {
 }
 
 /// A translator of one request.
-#[derive(Drop)]
-pub struct Translator<'r> {
+pub struct Translator {
     alloc: Global,
-    root: &'r [u8],
+    application: Application,
     head: Vec<u8>,
     progress: Progress,
     left: Vec<u8>,
 }
 
-impl<'r> Model for Translator<'r> {
+impl Drop for Translator {
+    fn drop(self) {
+        let Translator {
+            alloc: _,
+            application: _,
+            head: _,
+            progress: _,
+            left: _,
+        } = self;
+    }
+}
+
+impl Model for Translator {
     ghost use Rattle.fcgi_lane.specs.Request.Stands.{Translating};
     ghost use Rattle.fcgi_lane.specs.Request.Opening.{reading_at, IsProgress};
 
     ghost Value = { Translating };
 
-    ghost view = { λ t. record { root = t.root.now; at = reading_at t.progress t.head.items; left = t.left.items } };
+    ghost view = { λ t. record { application = t.application; at = reading_at t.progress t.head.items; left = t.left.items } };
 
     ghost invariant = { λ t. IsProgress t.progress };
 }
@@ -52,11 +64,11 @@ impl<'r> Model for Translator<'r> {
 /// What a head becomes by more bytes: nothing yet, or what it asks once it is whole.
 fn feed_head(
     alloc: Global,
-    root: &[u8],
+    application: &Application,
     head: &mut Vec<u8>,
     bytes: &[u8],
 ) -> Result<Option<Opened>, OutOfMemory>
-    ensures fed { IfOk result (λ opened. IsHeadFed (fold (next root.now) (InHead head.old.items) bytes.now) head.new.items opened) }
+    ensures fed { IfOk result (λ opened. IsHeadFed (fold (next application.now) (InHead head.old.items) bytes.now) head.new.items opened) }
     ensures unfed { OnErr result (head.new.items ≡ head.old.items) }
 {
     let before = head.len();
@@ -65,7 +77,7 @@ fn feed_head(
     let Some(end) = head_end(text, before) else {
         return Ok(None);
     };
-    match open_request(alloc, root, &text[..end], &text[end..]) {
+    match open_request(alloc, application, &text[..end], &text[end..]) {
         Ok(opened) => Ok(Some(opened)),
         Err(fault) => {
             head.truncate(before);
@@ -74,14 +86,14 @@ fn feed_head(
     }
 }
 
-impl<'r> Translator<'r> {
-    /// A translator that was fed nothing, for an application whose files lie below this root.
-    pub fn new(alloc: Global, root: &'r [u8]) -> Translator<'r>
-        ensures { result ≡ starting root.now }
+impl Translator {
+    /// A translator that was fed nothing, for this application.
+    pub fn new(alloc: Global, application: Application) -> Translator
+        ensures { result ≡ starting application }
     {
         Translator {
             alloc,
-            root,
+            application,
             head: Vec::new(alloc),
             progress: Progress::Head,
             left: Vec::new(alloc),
@@ -92,9 +104,15 @@ impl<'r> Translator<'r> {
     pub fn feed(&mut self, bytes: &[u8]) -> Result<(), OutOfMemory>
         ensures fed { OnOk result ((given taken : List ℕ) → Stands self.old given taken → Stands self.new given (taken ++ bytes.now)) }
         ensures unfed { OnErr result (self.new ≡ self.old) }
+        ensures application { self.new.application ≡ self.old.application }
     {
         match self.progress {
-            Progress::Head => match feed_head(self.alloc, self.root, &mut self.head, bytes)? {
+            Progress::Head => match feed_head(
+                self.alloc,
+                &self.application,
+                &mut self.head,
+                bytes,
+            )? {
                 None => Ok(()),
                 Some(Opened::Body { stage, left }) => {
                     self.progress = Progress::Body(stage);
@@ -129,6 +147,7 @@ impl<'r> Translator<'r> {
         ensures given { (given taken : List ℕ) → Stands self.old given taken → Stands self.new (given ++ take count self.old.left) taken }
         ensures left { self.new.left ≡ drop count self.old.left }
         ensures at { self.new.at ≡ self.old.at }
+        ensures application { self.new.application ≡ self.old.application }
     {
         drop_front(&mut self.left, count);
     }

@@ -2,8 +2,8 @@
 ghost use Rattle.std.specs.Prelude.{◌≡◌, ◌++◌, map, OnOk, IfOk, ℕ, List};
 ghost use Rattle.http_model.specs.Fields.{is_named_among};
 ghost use Rattle.fcgi_lane.specs.Request.Texts.{shown_field, shown_fields};
-ghost use Rattle.fcgi_lane.specs.Request.Pairs as pairs;
-ghost use Rattle.fcgi_lane.specs.Request.Pairs.{kept_back};
+ghost use Rattle.fcgi_model.specs.Pairs as pairs;
+ghost use Rattle.fcgi_model.specs.Pairs.{kept_back};
 
 use crate::request::field_texts::FieldText;
 use http_model::OutOfMemory;

@@ -1,7 +1,7 @@
 use Rattle.std.proofs.Common.{◌≡◌, drop}
 use Rattle.std.specs.Prelude.{map}
 use Rattle.httparse.specs.Spans.{header_bytes}
-use Rattle.fcgi_lane.specs.Answer.Head.{first_value}
+use Rattle.fcgi_model.specs.Head.{first_value}
 use Rattle.fcgi_lane.proofs.answer.fields.first_value.Given as goal
 
 abbrev pub invariant-loop-field : goal.invariant-loop-field

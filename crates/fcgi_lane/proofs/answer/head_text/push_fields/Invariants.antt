@@ -6,6 +6,8 @@ use Rattle.fcgi_lane.specs.Answer.Head.{passed}
 use Rattle.fcgi_lane.proofs.answer.head_text.push_fields.Given as goal
 
 abbrev pub invariant-loop-field : goal.invariant-loop-field
-invariant-loop-field l =
-    l.http.items ++ fields_text (passed (map (header_bytes l.text) (drop l.field-index l.fields)))
-    ≡ l.fn.http.items ++ fields_text (passed (map (header_bytes l.text) l.fields))
+invariant-loop-field l = record {
+  bytes : l.http.bytes ++ fields_text (passed (map (header_bytes l.text) (drop l.field-index l.fields)))
+      ≡ l.fn.http.bytes ++ fields_text (passed (map (header_bytes l.text) l.fields));
+  cap : l.http.cap ≡ l.fn.http.cap;
+}

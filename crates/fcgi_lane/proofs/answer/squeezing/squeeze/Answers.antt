@@ -22,6 +22,7 @@ loop-used-preserved c =
       used = omega (arith, run.ensures.used.1, l.invariant.len);
       len = run.ensures.len ∙ l.invariant.len;
       behind = still_behind all l.bytes run.new.bytes l.used run.result.1 le l.invariant.behind run.ensures.behind;
+      patient = λ _. run.ensures.patient;
       idle = λ none. run.ensures.idle (omega (arith, none, run.ensures.found.0)) ∙ omega (arith, l.invariant.idle (omega (arith, none, run.ensures.found.0)), le);
       passes = passes_more c.args.records.now l.records run.new.records all l.bytes (take l.found l.bytes) (take run.result.0 run.new.bytes) run.ensures.goes.0 l.used run.result.1 le l.invariant.behind
           l.invariant.passes run.ensures.goes.1 run.ensures.goes.2;

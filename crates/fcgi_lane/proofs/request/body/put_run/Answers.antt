@@ -1,6 +1,6 @@
 use Rattle.std.proofs.Common.{◌<◌, ◌≤◌, ℕ, List, length, take, subst}
 use Rattle.fcgi_lane.specs.declared.request.body_stages.BodyRun.{BodyRun}
-use Rattle.fcgi_lane.specs.Request.Body.{Goes}
+use Rattle.fcgi_model.specs.Body.{Goes}
 use Rattle.fcgi_lane.specs.Request.Stages.{place_of, used_by, found_by}
 use Rattle.fcgi_lane.proofs.RequestLemmas.Bodies.{sends_run}
 use Rattle.fcgi_lane.proofs.request.body.put_run.Goals as goal

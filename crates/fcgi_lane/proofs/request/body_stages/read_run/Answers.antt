@@ -1,5 +1,5 @@
 use Rattle.std.proofs.Common.{◌≡◌, ℕ, ◌<◌, ◌≤◌, List, length, take, sym, ap, subst, arith}
-use Rattle.fcgi_lane.specs.Request.Body.{Place, Goes, InLength, InChunk}
+use Rattle.fcgi_model.specs.Body.{Place, Goes, InLength, InChunk}
 use Rattle.fcgi_lane.specs.Request.Stages.{place_of, IsStage}
 use Rattle.fcgi_lane.proofs.RequestLemmas.Places.{length_run, chunk_run}
 use Rattle.fcgi_lane.proofs.request.body_stages.read_run.Goals as goal

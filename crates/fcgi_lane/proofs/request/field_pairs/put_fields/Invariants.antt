@@ -1,7 +1,7 @@
 use Rattle.std.proofs.Common.{◌≡◌, [], take, drop}
 use Rattle.fcgi_lane.specs.Request.Texts.{shown_fields}
-use Rattle.fcgi_lane.specs.Request.Pairs.{field_pairs}
-use Rattle.fcgi_lane.specs.Request.Records.{put_all}
+use Rattle.fcgi_model.specs.Pairs.{field_pairs}
+use Rattle.fcgi_model.specs.Records.{put_all}
 use Rattle.fcgi_lane.proofs.request.field_pairs.put_fields.Given as goal
 
 abbrev pub invariant-loop-i : goal.invariant-loop-i

@@ -1,5 +1,5 @@
 use Rattle.std.proofs.Common.{◌≡◌, drop}
-use Rattle.fcgi_lane.specs.Answer.Head.{first_value}
+use Rattle.fcgi_model.specs.Head.{first_value}
 use Rattle.fcgi_lane.specs.Request.Texts.{shown_fields}
 use Rattle.fcgi_lane.proofs.request.field_texts.first_value.Given as goal
 

@@ -1,7 +1,7 @@
 use Rattle.std.proofs.Common.{rules, ◌≡◌, ◌<◌, ◌+◌, ◌-◌, ℕ, List, ◌∷◌, [], ◌++◌, length, Some, None, sym, ap, ◌∙◌, arith, option_map}
 use Rattle.std.proofs.lemmas.List.{map_push}
 use Rattle.http_model.specs.Head.{Field}
-use Rattle.fcgi_lane.specs.Request.Head.{line_at, field_of, fields_within}
+use Rattle.fcgi_model.specs.Head.{line_at, field_of, fields_within}
 use Rattle.fcgi_lane.specs.Request.Texts.{shown_field, shown_fields, shown_pair}
 use Rattle.fcgi_lane.proofs.RequestLemmas.Reading.{prepended, ends_without, ends_whole, ends_bad, goes_on}
 use Rattle.fcgi_lane.proofs.request.head_reading.fields_of.Goals as goal

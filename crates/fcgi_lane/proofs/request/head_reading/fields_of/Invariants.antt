@@ -1,5 +1,5 @@
 use Rattle.std.proofs.Common.{◌≡◌, ◌-◌, length}
-use Rattle.fcgi_lane.specs.Request.Head.{fields_within}
+use Rattle.fcgi_model.specs.Head.{fields_within}
 use Rattle.fcgi_lane.specs.Request.Texts.{shown_fields}
 use Rattle.fcgi_lane.proofs.RequestLemmas.Reading.{prepended}
 use Rattle.fcgi_lane.proofs.request.head_reading.fields_of.Given as goal

@@ -2,7 +2,7 @@ use Rattle.std.proofs.Common.{rules, ◌≡◌, ◌≤◌, ℕ, List, ◌-◌, l
 use Rattle.std.specs.List.{prefix_len}
 use Rattle.std.proofs.lemmas.List.{take_rest}
 use Rattle.std.specs.Str.{bytes_eq}
-use Rattle.fcgi_lane.specs.Request.Head.{is_word_byte}
+use Rattle.fcgi_model.specs.Head.{is_word_byte}
 use Rattle.fcgi_lane.proofs.RequestLemmas.Reading.{target_none}
 use Rattle.fcgi_lane.proofs.request.head_reading.target_at.Goals as goal
 

@@ -1,5 +1,5 @@
 use Rattle.std.proofs.Common.{◌+◌}
-use Rattle.fcgi_lane.specs.Request.Head.{NoEnd}
+use Rattle.fcgi_model.specs.Head.{NoEnd}
 use Rattle.fcgi_lane.proofs.request.opening.head_end.Given as goal
 
 abbrev pub invariant-loop-end : goal.invariant-loop-end

@@ -1,5 +1,5 @@
 use Rattle.std.proofs.Common.{ap, ◌∙◌, codes}
-use Rattle.fcgi_lane.specs.Request.Records.{Packing, put}
+use Rattle.fcgi_model.specs.Records.{Packing, put}
 use Rattle.fcgi_lane.proofs.request.pairs.put_call.Goals as goal
 
 pub returns : goal.returns

@@ -1,7 +1,7 @@
 use Rattle.std.proofs.Common.{ℕ, List, ap, sym, ◌∙◌, codes}
 use Rattle.http_model.specs.declared.Framing.{Framing}
-use Rattle.fcgi_lane.specs.Request.Pairs.{length_pairs}
-use Rattle.fcgi_lane.specs.Request.Records.{put, put_all}
+use Rattle.fcgi_model.specs.Pairs.{length_pairs}
+use Rattle.fcgi_model.specs.Records.{put, put_all}
 use Rattle.fcgi_lane.proofs.request.pairs.put_length.Goals as goal
 
 pub returns-in_ok-put-in-Length : goal.returns-in_ok-put-in-Length

@@ -1,5 +1,5 @@
 use Rattle.std.proofs.Common.{Bool, not, ◌||◌, sym, ap, ◌∙◌}
-use Rattle.fcgi_lane.specs.Request.Pairs.{has_underscore}
+use Rattle.fcgi_model.specs.Pairs.{has_underscore}
 use Rattle.fcgi_lane.proofs.request.variables.is_handed.Goals as goal
 
 pub returns-then-is_kept_back : goal.returns-then-is_kept_back

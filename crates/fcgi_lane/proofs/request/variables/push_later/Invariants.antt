@@ -1,6 +1,6 @@
 use Rattle.std.proofs.Common.{◌≡◌, ◌++◌, drop}
 use Rattle.fcgi_lane.specs.Request.Texts.{shown_fields}
-use Rattle.fcgi_lane.specs.Request.Pairs.{later_values}
+use Rattle.fcgi_model.specs.Pairs.{later_values}
 use Rattle.fcgi_lane.proofs.request.variables.push_later.Given as goal
 
 abbrev pub invariant-loop-field : goal.invariant-loop-field

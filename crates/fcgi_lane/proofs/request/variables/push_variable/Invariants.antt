@@ -1,5 +1,5 @@
 use Rattle.std.proofs.Common.{◌≡◌, ◌++◌, drop, map}
-use Rattle.fcgi_lane.specs.Request.Pairs.{variable_byte}
+use Rattle.fcgi_model.specs.Pairs.{variable_byte}
 use Rattle.fcgi_lane.proofs.request.variables.push_variable.Given as goal
 
 abbrev pub invariant-loop-byte : goal.invariant-loop-byte
