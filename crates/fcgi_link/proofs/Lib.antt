@@ -1,0 +1,4 @@
+mod Streams
+mod Answering
+mod Asking
+mod Nets

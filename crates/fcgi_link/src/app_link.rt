@@ -1,0 +1,149 @@
+//! A link over which an application is asked.
+ghost use Rattle.std.specs.Prelude.{◌≡◌, ◌<◌, ℕ, List, None, Some, length};
+ghost use Rattle.px_link.specs.Link.{Reads, Writes, AsItIs, with_close};
+ghost use Rattle.fcgi_link.specs.Exchange.{seen_over, WroteOver, IsOver, note_of};
+
+use crate::exchange::Exchange;
+use crate::note::Note;
+use px_link::{Close, Failed, Fault, Link};
+use px_peer::Pair;
+use px_proxyproto::HasPair;
+use std::marker::Model;
+
+/// A link that asks an application over the link below, or passes on all as it is. What is written to it is a request, of which the link below is written the
+/// records; what is read is the HTTP stream that the records are which come from there. Contracts see the link below, and the request and the answer.
+#[derive(Drop)]
+pub struct AppLink<L: Link> {
+    inner: L,
+    exchange: Option<Exchange>,
+}
+
+impl<L: Link> Model for AppLink<L> {
+    ghost use Rattle.fcgi_link.specs.Exchange.{AppLinkSeen, IsOver};
+
+    ghost Value = { AppLinkSeen L };
+
+    ghost view = { λ link. record { inner = link.inner; exchange = link.exchange } };
+
+    ghost invariant = { λ link. IsOver link.exchange (L.seen link.inner).manner };
+}
+
+impl<L: Link> AppLink<L> {
+    /// A link that passes on all as it is.
+    pub fn plain(inner: L) -> AppLink<L>
+        ensures { result ≡ record { inner = inner; exchange = None } }
+    {
+        AppLink {
+            inner,
+            exchange: None,
+        }
+    }
+
+    /// A link over which this is asked, where there is something. The link below passes on all as it is then.
+    pub(crate) fn over(inner: L, exchange: Option<Exchange>) -> AppLink<L>
+        requires { IsOver exchange (L.seen inner).manner }
+        ensures { result ≡ record { inner = inner; exchange = exchange } }
+    {
+        AppLink { inner, exchange }
+    }
+
+    /// The link below.
+    pub fn inner(&self) -> &L
+        ensures { result.now ≡ self.now.inner }
+    {
+        &self.inner
+    }
+
+    /// What is noted of it once it is kept.
+    pub(crate) fn note(&self) -> Option<Note>
+        ensures { result ≡ note_of self.now.exchange }
+    {
+        note_over(&self.exchange)
+    }
+
+    /// The link below, without what was asked over it.
+    pub(crate) fn into_inner(self) -> L
+        ensures is { result ≡ self.inner }
+        ensures over { IsOver self.exchange (L.seen self.inner).manner }
+    {
+        self.inner
+    }
+}
+
+/// What is noted of a link over which this was asked.
+fn note_over(exchange: &Option<Exchange>) -> Option<Note>
+    ensures { result ≡ note_of exchange.now }
+{
+    match exchange {
+        None => None,
+        Some(one) => Some(Note {
+            given: one.answers.given(),
+            read_faults: one.answers.faults(),
+            write_faults: one.asks.faults(),
+        }),
+    }
+}
+
+/// Reads the link below, or what an application answers over it.
+fn read_over<L: Link>(
+    inner: &mut L,
+    exchange: &mut Option<Exchange>,
+    into: &mut [u8],
+) -> Result<usize, Failed>
+    requires some { 0 < length into.old }
+    requires over { IsOver exchange.old (L.seen inner.old).manner }
+    ensures over { IsOver exchange.new (L.seen inner.new).manner }
+    ensures reads { Reads (seen_over exchange.old (L.seen inner.old)) (seen_over exchange.new (L.seen inner.new)) into.new result }
+    ensures wrote { (bytes : List ℕ) → WroteOver exchange.old (L.wrote inner.old) bytes → WroteOver exchange.new (L.wrote inner.new) bytes }
+{
+    match exchange {
+        None => inner.read(into),
+        Some(one) => one.answers.read(inner, into),
+    }
+}
+
+/// Writes the link below, or the records of a request to it.
+fn write_over<L: Link>(
+    inner: &mut L,
+    exchange: &mut Option<Exchange>,
+    piece: &[u8],
+) -> Result<usize, Fault>
+    requires some { 0 < length piece.now }
+    requires over { IsOver exchange.old (L.seen inner.old).manner }
+    ensures over { IsOver exchange.new (L.seen inner.new).manner }
+    ensures writes { Writes (WroteOver exchange.old (L.wrote inner.old)) (WroteOver exchange.new (L.wrote inner.new)) (seen_over exchange.old (L.seen inner.old)) (seen_over exchange.new (L.seen inner.new)) piece.now result }
+{
+    match exchange {
+        None => inner.write(piece),
+        Some(one) => one.asks.write(inner, piece),
+    }
+}
+
+impl<L: Link> Link for AppLink<L> {
+    ghost use Rattle.fcgi_link.specs.Exchange.{link_over, LinkWrote};
+
+    ghost seen = { λ link. link_over L.seen link };
+
+    ghost wrote = { λ link bytes. LinkWrote L.wrote link bytes };
+
+    fn read(&mut self, into: &mut [u8]) -> Result<usize, Failed> {
+        read_over(&mut self.inner, &mut self.exchange, into)
+    }
+
+    fn write(&mut self, piece: &[u8]) -> Result<usize, Fault> {
+        write_over(&mut self.inner, &mut self.exchange, piece)
+    }
+
+    fn close(&mut self, how: Close) {
+        self.inner.close(how);
+    }
+}
+
+/// What the link below tells.
+impl<L: Link + HasPair> HasPair for AppLink<L> {
+    ghost tells = { λ link pair. L.tells link.inner pair };
+
+    fn pair(&self) -> Option<Pair> {
+        self.inner.pair()
+    }
+}
