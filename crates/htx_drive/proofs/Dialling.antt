@@ -7,8 +7,8 @@ use Rattle.std.specs.Str.{bytes_eq}
 use Rattle.std.proofs.lemmas.Slice.Eq.{bytes_eq-Decides}
 use Rattle.std.specs.List.{flat_map, AllByRecursion, list_any}
 use Rattle.http_model.specs.declared.Close.{Close}
-use Rattle.px_link.specs.Link.{Seen, Takes, Untold, UpTo, All, Manner, PassesOn, WithinTakes, closed_by}
-use Rattle.px_link.specs.Net.{Place, NetSeen, Coming, Kept, kept_link, new_link, KeepsMore, Keeps, IsFirst, LosesRefused, RefusesOnly, Connected, Refused, NoMemory, with_address, is_among, same_address}
+use Rattle.px_link.specs.Link.{Seen, Takes, Untold, UpTo, All, Manner, PassesOn, WithinTakes, closed_by, counted}
+use Rattle.px_link.specs.Net.{Place, NetSeen, Coming, Kept, kept_link, has_failed, new_link, KeepsMore, Keeps, IsFirst, LosesRefused, RefusesOnly, Connected, Refused, NoMemory, with_address, is_among, same_address}
 use Rattle.session_core.specs.History.{Past, Connect, connected, no_stream}
 use Rattle.session_core.specs.History as history
 use Rattle.htx_drive.specs.Came.{Came, Put, size_of}
@@ -27,7 +27,7 @@ came_fresh s =
     record {
       kind = record { ending = refl; plain = refl; takes = refl; manner = refl };
       bytes = λ xs e. record { rest = xs; bytes = refl; to_come = e; closed = λ f. cc; broke = λ p f. cc };
-      taken = λ k e. let z : k ≡ k + 0 = omega arith in e ∙ ap (λ n. Some n) z;
+      taken = λ k e. let z : k ≡ counted k 0 = omega arith in e ∙ ap (λ n. Some n) z;
       ended = refl;
     }
 
@@ -66,7 +66,7 @@ returned seen wrote link last shut old new c how closed h e w k is =
       kept = λ ks unwritten open_yet told.
           let m = kept_more old.kept new.kept (wrote shut) (seen shut) ks told k.kept in
           let came : Came (seen link) (seen shut) c.stream = came_shut (seen link) (seen last) (seen shut) _ c.stream e h.came in
-          let P : Manner → Type 0 = λ manner. PassesOn manner m.0 c.taken in (
+          let P : Manner → Type 0 = λ manner. PassesOn manner (has_failed (seen shut)) m.0 c.taken in (
             kept_link (seen shut) m.0,
             m.1,
             record {

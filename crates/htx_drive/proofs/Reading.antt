@@ -3,7 +3,7 @@ use Rattle.std.proofs.Common.{◌≡◌, ℕ, ◌+◌, ◌<◌, ◌≤◌, List,
 use Rattle.std.proofs.lemmas.List.{length-take-le, take-append-drop, take-append-le}
 use Rattle.http_model.specs.declared.Ending.{Ending}
 use Rattle.http_model.specs.declared.Ending.TheVariants.{Closed, Broke}
-use Rattle.px_link.specs.Link.{Seen, SameKind, Gave, ReadFailed, SameInput}
+use Rattle.px_link.specs.Link.{Seen, SameKind, Gave, ReadFailed, SameInput, counted}
 use Rattle.px_link.specs.Calls.{fault_after}
 use Rattle.session_core.specs.History.{Coming, gains, ends}
 use Rattle.htx_drive.specs.Came.{EndsSo, Came, size_of}
@@ -44,8 +44,8 @@ came_gains first old new came buf bytes n is e h r =
             broke = λ p f. absurd (no_end came.ending Broke is f);
           };
       taken = λ k t.
-          let u = at_some old.taken (k + length came.bytes) (λ j. new.taken ≡ Some (j + n)) (h.taken k t) r.taken in
-          let v : k + length came.bytes + n ≡ k + length (came.bytes ++ bytes) = omega (arith, length-append came.bytes bytes, long) in
+          let u = at_some old.taken (counted k (length came.bytes)) (λ j. new.taken ≡ Some (counted j n)) (h.taken k t) r.taken in
+          let v : counted (counted k (length came.bytes)) n ≡ counted k (length (came.bytes ++ bytes)) = omega (arith, length-append came.bytes bytes, long) in
           u ∙ ap (λ j. Some j) v;
       ended = ends_same first old new came.ending r.reads h.ended;
     }
@@ -69,8 +69,8 @@ came_closes first old new came buf n zero is h r =
             broke = λ p f. refl;
           };
       taken = λ k t.
-          let u = at_some old.taken (k + length came.bytes) (λ j. new.taken ≡ Some (j + n)) (h.taken k t) r.taken in
-          let v : k + length came.bytes + n ≡ k + length came.bytes = omega arith in
+          let u = at_some old.taken (counted k (length came.bytes)) (λ j. new.taken ≡ Some (counted j n)) (h.taken k t) r.taken in
+          let v : counted (counted k (length came.bytes)) n ≡ counted k (length came.bytes) = omega (arith, zero) in
           u ∙ ap (λ j. Some j) v;
       ended =
           let P : Option Ending → Type 0 = λ o. IfSome o (λ e. e ≡ Closed) in

@@ -1,3 +1,4 @@
+pub mod Asked
 pub mod Dials
 pub mod Fresh
 pub mod Headed

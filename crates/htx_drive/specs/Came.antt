@@ -2,7 +2,7 @@
 use Rattle.std.specs.Prelude.{◌≡◌, ℕ, ◌+◌, List, [], ◌++◌, length, Bool, true, false, Option, Some, None, IfSome, if◌then◌else◌, is_some}
 use Rattle.http_model.specs.declared.Ending.{Ending}
 use Rattle.http_model.specs.declared.Ending.TheVariants.{Closed, Broke}
-use Rattle.px_link.specs.Link.{Seen, SameKind, WithinTakes, MayRefuse}
+use Rattle.px_link.specs.Link.{Seen, SameKind, WithinTakes, MayRefuse, counted}
 use Rattle.px_link.specs.Calls.{fault_after}
 use Rattle.px_link.specs.Told.{Rose}
 use Rattle.session_core.specs.History.{Coming}
@@ -25,7 +25,7 @@ EndsSo first now (Some Broke) = (now.read_faults ≡ fault_after first.read_faul
 pub record Came (first now : Seen) (came : Coming) : Type 0 where
   pub kind : SameKind first now
   pub bytes : (xs : List ℕ) → first.to_come ≡ Some xs → CameOf now xs came first.plain
-  pub taken : (k : ℕ) → first.taken ≡ Some k → now.taken ≡ Some (k + length came.bytes)
+  pub taken : (k : ℕ) → first.taken ≡ Some k → now.taken ≡ Some (counted k (length came.bytes))
   pub ended : EndsSo first now came.ending
 
 -- a write failed, or none did

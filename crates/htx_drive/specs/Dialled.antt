@@ -6,7 +6,7 @@ use Rattle.http_model.specs.declared.Close.TheVariants.{Failed}
 use Rattle.session_core.specs.History.{Past, Connect, connected}
 use Rattle.px_link.specs.Link.{Seen, Manner, PassesOn, WithinTakes, MayRefuse}
 use Rattle.px_link.specs.Told.{Rose}
-use Rattle.px_link.specs.Net.{Place, Coming, NetSeen, Kept, kept_link, new_link, with_address, LosesRefused, RefusesOnly}
+use Rattle.px_link.specs.Net.{Place, Coming, NetSeen, Kept, kept_link, has_failed, new_link, with_address, LosesRefused, RefusesOnly}
 use Rattle.htx_drive.specs.Came.{Came, FailsSo}
 use Rattle.htx_drive.specs.Driven.{Idle, moved}
 
@@ -28,7 +28,7 @@ pub record KeptSo (first : Seen) (c : Connect) (k : Kept) : Type 0 where
   pub last : Seen
   pub is : k ≡ kept_link last k.wrote
   pub came : Came first last c.stream
-  pub wrote : PassesOn first.manner k.wrote c.taken
+  pub wrote : PassesOn first.manner (has_failed last) k.wrote c.taken
   pub limit : WithinTakes first.takes (length c.taken)
   pub full : c.stopped ≡ true → MayRefuse first.takes (length c.taken)
   pub fails : FailsSo first last c.stopped

@@ -1,3 +1,4 @@
+pub mod Asked
 pub mod Headed
 pub mod Memory
 pub mod Nets

@@ -1,6 +1,7 @@
 //! Runs the sessions of a record: each connection over links and a net in memory, with a core and turns of its own.
 //! What makes the cores is handed in; it knows no rule.
 
+mod asked;
 pub(crate) mod budget;
 mod cores;
 mod headed;
@@ -16,6 +17,7 @@ pub(crate) mod streams;
 mod texts;
 mod turns;
 
+pub use asked::{Asked, replay_asking};
 pub use cores::Cores;
 pub use headed::replay_headed;
 pub use replayer::Replayer;

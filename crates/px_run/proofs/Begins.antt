@@ -2,7 +2,7 @@
 use Rattle.std.proofs.Common.{◌≡◌, ℕ, ◌+◌, List, [], false, Some, None, refl, sym, ap, subst, ◌∙◌, inl, arith}
 use Rattle.std.proofs.lemmas.List.{append-nil}
 use Rattle.session_core.specs.History.{Past, nothing_yet, no_stream}
-use Rattle.px_link.specs.Link.{Seen, Takes, Untold, UpTo, All, WithinTakes}
+use Rattle.px_link.specs.Link.{Seen, Takes, Untold, UpTo, All, WithinTakes, counted}
 use Rattle.px_link.specs.Net.{Place, NetSeen}
 use Rattle.htx_drive.specs.Machine.{CoreSeen}
 use Rattle.htx_drive.specs.Came.{Came, Put}
@@ -15,7 +15,7 @@ came_fresh s =
     record {
       kind = record { ending = refl; plain = refl; takes = refl; manner = refl };
       bytes = λ xs e. record { rest = xs; bytes = refl; to_come = e; closed = λ f. cc; broke = λ p f. cc };
-      taken = λ k e. let z : k ≡ k + 0 = omega arith in e ∙ ap (λ n. Some n) z;
+      taken = λ k e. let z : k ≡ counted k 0 = omega arith in e ∙ ap (λ n. Some n) z;
       ended = refl;
     }
 

@@ -5,7 +5,7 @@ use Rattle.std.specs.List.{AllByRecursion}
 use Rattle.std.proofs.lemmas.List.{append-nil}
 use Rattle.std.proofs.lemmas.Bool.{eq-eqb}
 use Rattle.px_link.specs.Link.{Seen, AsItIs, PassesOn}
-use Rattle.px_link.specs.Net.{Coming, Kept, NetSeen, IsNext, IsNew, KeepsMore, new_link, kept_link}
+use Rattle.px_link.specs.Net.{Coming, Kept, NetSeen, IsNext, IsNew, KeepsMore, new_link, kept_link, has_failed}
 use Rattle.px_run.specs.History.{Visit, Act, Accepts, AcceptsNone, GivesBack, Does, AllDone, accepted_in, returned_in, numbered, link_of, links_back, Story}
 use Rattle.px_run.specs.Lines.{Ended}
 use Rattle.px_run.specs.Served.{IsKeptOf, times_in, TellsMany}
@@ -63,7 +63,7 @@ module _ {L : Type 0} (seen : L → Seen) (wrote : L → List ℕ → Type 0) wh
 
   -- each is one that was given back, as it was then
   abbrev IsReturned : List (Act L) → ℕ × Kept → Type 0
-  IsReturned acts one = (link : L) × (before : List L) × (after : List L) × (returned_in one.0 acts ≡ before ++ link ∷ after) × (one.1 ≡ kept_link (seen link) one.1.wrote) × ((text : List ℕ) → wrote link text → PassesOn (seen link).manner one.1.wrote text)
+  IsReturned acts one = (link : L) × (before : List L) × (after : List L) × (returned_in one.0 acts ≡ before ++ link ∷ after) × (one.1 ≡ kept_link (seen link) one.1.wrote) × ((text : List ℕ) → wrote link text → PassesOn (seen link).manner (has_failed (seen link)) one.1.wrote text)
 
   pub record Keeps (acts : List (Act L)) (new : NetSeen) (before : List Kept) : Type 0 where
     pub links : List (ℕ × Kept)

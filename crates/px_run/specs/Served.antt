@@ -5,7 +5,7 @@ use Rattle.session_model.specs.Meaning.{Meaning}
 use Rattle.session_core.specs.History.{Past}
 use Rattle.px_link.specs.Link.{Seen, AsItIs, PassesOn}
 use Rattle.px_peer.specs.declared.Pair.{Pair}
-use Rattle.px_link.specs.Net.{Place, Coming, Kept, NetSeen, new_link, kept_link}
+use Rattle.px_link.specs.Net.{Place, Coming, Kept, NetSeen, new_link, kept_link, has_failed}
 use Rattle.px_link.specs.Told.{Rose, Gains, GainsFront}
 use Rattle.htx_drive.specs.Machine.{CoreSeen}
 use Rattle.serve_run.specs.declared.outcome.Outcome.{Outcome}
@@ -38,7 +38,7 @@ pub record IsKeptOf {L N : Type 0} (seen : L → Seen) (wrote : L → List ℕ �
   pub back : links_back (numbered one.0 visits) ≡ link ∷ []
   pub is : one.1 ≡ kept_link (seen link) one.1.wrote
   pub as_it_is : (seen link).manner ≡ AsItIs
-  pub written : (text : List ℕ) → wrote link text → PassesOn (seen link).manner one.1.wrote text
+  pub written : (text : List ℕ) → wrote link text → PassesOn (seen link).manner (has_failed (seen link)) one.1.wrote text
 
 -- how many of them are of this number
 abbrev pub times_in : (number : ℕ) → List (ℕ × Kept) → ℕ

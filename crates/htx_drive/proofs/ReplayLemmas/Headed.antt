@@ -1,5 +1,5 @@
 -- Links in memory behind a header.
-use Rattle.std.proofs.Common.{◌≡◌, ℕ, List, [], ◌∷◌, ◌++◌, Option, Some, None, take, sym, ap, subst, ◌∙◌, refl}
+use Rattle.std.proofs.Common.{◌≡◌, ℕ, List, [], ◌∷◌, ◌++◌, Option, Some, None, take, sym, ap, subst, ◌∙◌, refl, map}
 use Rattle.std.proofs.Math.Seq.{take-nil}
 use Rattle.session_model.specs.Meaning.{Meaning}
 use Rattle.session_model.specs.Stream.{Stream}
@@ -9,6 +9,7 @@ use Rattle.session_core.specs.History as history
 use Rattle.px_link.specs.Link.{Seen, AsItIs}
 use Rattle.px_link.specs.Net.{Place, NetSeen}
 use Rattle.px_link.specs.MemLink.{MemLinkSeen, link_of}
+use Rattle.px_link.specs.MemNet.{keeping}
 use Rattle.px_link.specs.declared.turns.Turn.{Turn}
 use Rattle.px_proxyproto.specs.Nets.{SendNetSeen, net_behind, introduced, manner_of}
 use Rattle.px_proxyproto.specs.Sending.{SendLinkSeen, LinkWrote, link_behind, manner_behind, seen_behind}
@@ -20,11 +21,13 @@ use Rattle.htx_drive.specs.Machine.{CoreSeen}
 use Rattle.htx_drive.specs.declared.Ran.{Ran}
 use Rattle.htx_drive.specs.declared.replay.record_net.RecordNet.{RecordNet}
 use Rattle.htx_drive.specs.Weave.Memory.{sees_net}
-use Rattle.htx_drive.specs.Replay.Headed.{ReplaysIn}
+use Rattle.htx_drive.specs.Replay.Headed.{ReplaysIn, ServesIn, TellsTakes}
 use Rattle.htx_drive.specs.Replay.Outcome.{outcome}
 use Rattle.htx_drive.specs.Replay.Seen.{IsFresh, IsFreshNet, IsUntouched, IsUntouchedNet, RanByTurns, wrote_by}
+use Rattle.htx_drive.proofs.ReplayLemmas.Dials.{kept_links}
 use Rattle.htx_drive.proofs.ReplayLemmas.Fresh.{untouched_net}
-use Rattle.htx_drive.proofs.ReplayLemmas.Whole.{IsBelow, replays_in}
+use Rattle.htx_drive.proofs.ReplayLemmas.Streams.{served_so}
+use Rattle.htx_drive.proofs.ReplayLemmas.Whole.{IsBelow, passes_by}
 
 abbrev pub SendMem : Type 0
 SendMem = SendLinkSeen MemLinkSeen
@@ -61,9 +64,15 @@ below s first client net came f h =
     record {
       written = λ text w. ap (λ (l : List ℕ). l ++ text) (sym (none_out client.sent client.header header)) ∙ w.below;
       closed = refl;
+      keeps = map keeping net.inner.net.kept;
       kept = refl;
+      sent = kept_links net.inner.net.kept;
       refusals = refl;
     }
+
+headed_tells : (heading : Option Heading) → TellsTakes (manner_of heading)
+headed_tells None = tt
+headed_tells (Some heading) = tt
 
 pub headed : {C : Type 0} (M : Meaning) (stands : C → Past → Type 0) (sees : C → CoreSeen) (turns left : List Turn) (visit : Visit) (heading : Option Heading) (first client : SendMem) (to : Place) (first_net : NetSeen) (net : SendNetSeen RecordNet) (ran : Ran) (link : MemLinkSeen) (found : RecordNet) (out : Out)
     → first_net.manner ≡ manner_of heading → IsUntouched (link_behind link_of) (LinkWrote wrote_by) visit.client first → IsUntouchedNet visit.servers first_net
@@ -72,5 +81,5 @@ pub headed : {C : Type 0} (M : Meaning) (stands : C → Past → Type 0) (sees :
 headed M stands sees turns left visit heading first client to first_net net ran link found out in_manner f g r at_link at_net is =
     let same : out ≡ outcome ran client.inner net.inner.net net.inner.refused =
     is ∙ ap (λ (l : MemLinkSeen). outcome ran l found.net found.refused) at_link ∙ ap (λ (n : RecordNet). outcome ran client.inner n.net n.refused) at_net in
-    replays_in (manner_of heading) M stands sees turns left visit (link_behind link_of) (LinkWrote wrote_by) first client to first_net (net_behind sees_net net) ran client.inner net.inner.net net.inner.refused out in_manner f g
+    passes_by (manner_of heading) (ServesIn (manner_of heading)) M stands sees turns left visit (link_behind link_of) (LinkWrote wrote_by) first client to first_net (net_behind sees_net net) ran client.inner net.inner.net net.inner.refused out in_manner (served_so (manner_of heading) (headed_tells heading)) f g
     (below visit.client first client net r.session.came f r.session.read_client) r same

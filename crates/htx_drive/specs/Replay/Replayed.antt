@@ -33,22 +33,37 @@ pub record ServesAs (entry : ServerEntry) (stream : Stream) (stopped : Bool) (ta
   pub takes : TakesSo entry.takes stopped taken
   pub stops : StopsSo entry.takes stopped taken
 
--- what a connect found, and what it was sent, is this entry of a record: a refused one, or a server with its own stream
-abbrev pub IsFound : Option ServerEntry → Server → Option Sent → Type 0
-IsFound None NotThere None = ⊤
-IsFound (Some entry) (Open stream stopped) (Some sent) = ServesAs entry stream stopped sent.bytes
-IsFound None NotThere (Some sent) = ⊥
-IsFound None (Open stream stopped) sent = ⊥
-IsFound (Some entry) NotThere sent = ⊥
-IsFound (Some entry) (Open stream stopped) None = ⊥
+-- how a server of a record serves: its entry, its stream, whether it stopped, and what it took
+abbrev pub Serving : Type 1
+Serving = ServerEntry → Stream → (stopped : Bool) → (taken : List ℕ) → Type 0
+
+-- it gave its own stream: how many bytes it takes says nothing of a text
+abbrev pub GivesOwn : Serving
+GivesOwn entry stream stopped taken = stream ≡ entry.stream
+
+-- What a connect found, and what it was sent, is this entry of a record: a refused one, or a server that serves so.
+abbrev pub IsFoundBy : Serving → Option ServerEntry → Server → Option Sent → Type 0
+IsFoundBy serves None NotThere None = ⊤
+IsFoundBy serves (Some entry) (Open stream stopped) (Some sent) = serves entry stream stopped sent.bytes
+IsFoundBy serves None NotThere (Some sent) = ⊥
+IsFoundBy serves None (Open stream stopped) sent = ⊥
+IsFoundBy serves (Some entry) NotThere sent = ⊥
+IsFoundBy serves (Some entry) (Open stream stopped) None = ⊥
 
 -- The connects found the entries of a record in their order, as far as there were connects; one past the last entry was refused.
+abbrev pub FindsBy : Serving → List (Option ServerEntry) → List Server → List (Option Sent) → Type 0
+FindsBy serves entries [] [] = ⊤
+FindsBy serves [] (server ∷ servers) (sent ∷ others) = IsFoundBy serves None server sent × FindsBy serves [] servers others
+FindsBy serves (entry ∷ entries) (server ∷ servers) (sent ∷ others) = IsFoundBy serves entry server sent × FindsBy serves entries servers others
+FindsBy serves entries [] (sent ∷ others) = ⊥
+FindsBy serves entries (server ∷ servers) [] = ⊥
+
+-- the same of servers with their own streams, which take what the record says
+abbrev pub IsFound : Option ServerEntry → Server → Option Sent → Type 0
+IsFound = IsFoundBy ServesAs
+
 abbrev pub Finds : List (Option ServerEntry) → List Server → List (Option Sent) → Type 0
-Finds entries [] [] = ⊤
-Finds [] (server ∷ servers) (sent ∷ others) = IsFound None server sent × Finds [] servers others
-Finds (entry ∷ entries) (server ∷ servers) (sent ∷ others) = IsFound entry server sent × Finds entries servers others
-Finds entries [] (sent ∷ others) = ⊥
-Finds entries (server ∷ servers) [] = ⊥
+Finds = FindsBy ServesAs
 
 -- These turns led to the outcome: to a history of this client's stream and of these servers, in which was sent just what the outcome says. They were
 -- taken as `InTurns` says, by the wants of cores that stand for the history so far; `left` is what is left of them.
@@ -61,11 +76,15 @@ pub record LedTo {C : Type 0} (stands : C → Past → Type 0) (seen : C → Cor
   pub came_to : out ≡ out_of_past past past.taken out.exchanges out.how
 
 -- The outcome is that of a session of the connection's client with the servers that its connects found, and these turns led to it.
-pub record Replays {C : Type 0} (M : Meaning) (stands : C → Past → Type 0) (seen : C → CoreSeen) (turns : List Turn) (visit : Visit) (out : Out) : Type 0 where
+pub record ReplaysServing {C : Type 0} (serves : Serving) (M : Meaning) (stands : C → Past → Type 0) (seen : C → CoreSeen) (turns : List Turn) (visit : Visit) (out : Out) : Type 0 where
   pub servers : List Server
-  pub found : Finds visit.servers servers out.servers
+  pub found : FindsBy serves visit.servers servers out.servers
   pub session : Session M visit.client servers out
   pub led : LedTo stands seen turns visit.client servers out
+
+-- the same, where the servers have their own streams and take what the record says
+abbrev pub Replays : {C : Type 0} → Meaning → (C → Past → Type 0) → (C → CoreSeen) → List Turn → Visit → Out → Type 0
+Replays M = ReplaysServing ServesAs M
 
 -- each connection from the one of this number on comes to such an outcome, in their order, by just the turns of its own number
 abbrev pub EachFrom : (one : List Turn → Visit → Out → Type 0) → List (ℕ × Turn) → (owner : ℕ) → List Visit → List Out → Type 0

@@ -16,7 +16,7 @@ use Rattle.htx_drive.specs.Headline.{IsSessionOf, stream_of}
 use Rattle.htx_drive.specs.Machine.{CoreSeen}
 use Rattle.htx_drive.specs.Turned.{InTurns}
 use Rattle.htx_drive.specs.declared.Ran.{Ran}
-use Rattle.htx_drive.specs.Replay.Memory.{answer_of}
+use Rattle.htx_drive.specs.Replay.Memory.{answer_of, IsEnough}
 
 -- ---- before
 
@@ -50,6 +50,13 @@ pub record IsUntouchedNet (entries : List (Option ServerEntry)) (net : NetSeen) 
   pub plain : net.plain ≡ true
   pub lent : net.lent ≡ 0
   pub none : net.connect_faults ≡ 0
+
+-- A budget is enough for a connection that gives its client's link and its net, with buffers of this size, and nothing was done yet with either.
+pub record IsPaid {L : Type 0} (seen : L → Seen) (wrote : L → List ℕ → Type 0) (link : L) (net : NetSeen) (bufsize budget : ℕ) : Type 0 where
+  pub visit : Visit
+  pub client : IsUntouched seen wrote visit.client link
+  pub servers : IsUntouchedNet visit.servers net
+  pub enough : IsEnough visit bufsize budget
 
 -- ---- behind
 

@@ -1,11 +1,13 @@
 //! How many turns the session of a connection may take.
-ghost use Rattle.std.specs.Prelude.{◌≡◌, IfSome, sum_by};
+ghost use Rattle.std.specs.Prelude.{◌≡◌, ℕ, IfSome, sum_by};
 ghost use Rattle.htx_drive.specs.Budget.{enough};
 ghost use Rattle.rec_format.specs.Read.{visit, servers};
-ghost use Rattle.htx_drive.specs.Replay.Memory.{size_of, needed_by};
+ghost use Rattle.htx_drive.specs.Replay.Memory.{size_of, needed_by, IsEnough};
+ghost use Rattle.htx_drive.specs.Replay.Asked.{visit_asked};
 ghost use Rattle.htx_drive.specs.Replay.Streams.{visit_in};
 
 use crate::replay::streams::Streams;
+use fcgi_lane::answer::laws::stream_is_short;
 use rec_format::{Connection, ServerSpec};
 
 /// How many bytes servers give together; none where it is more than a number can say.
@@ -48,6 +50,20 @@ pub(crate) fn budget_for(streams: &Streams<'_>, bufsize: u32) -> Option<u64>
     turns_for(
         streams.client.bytes.as_slice().len() as u64,
         servers,
+        bufsize,
+    )
+}
+
+/// The same for the session of these streams, whose servers are applications: the HTTP stream of each may be longer than its own.
+pub(crate) fn budget_asking(streams: &Streams<'_>, bufsize: u32) -> Option<u64>
+    ensures { IfSome result (λ budget. (limit : ℕ) → IsEnough (visit_asked limit (visit_in streams.now)) bufsize budget) }
+{
+    stream_is_short();
+    let own = servers_size(streams.servers)?;
+    let more = (streams.servers.len() as u64).checked_mul(1024)?;
+    turns_for(
+        streams.client.bytes.as_slice().len() as u64,
+        own.checked_add(more)?,
         bufsize,
     )
 }

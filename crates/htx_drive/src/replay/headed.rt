@@ -5,6 +5,7 @@ ghost use Rattle.rec_format.specs.ReportParts.{out_of};
 ghost use Rattle.htx_drive.specs.Replay.Headed.{ReplaysIn};
 ghost use Rattle.htx_drive.specs.Replay.Streams.{visit_in};
 
+use crate::replay::budget::budget_for;
 use crate::replay::cores::Cores;
 use crate::replay::links::{client_link, net_for};
 use crate::replay::outcome::report_of;
@@ -30,6 +31,9 @@ pub fn replay_headed<C: Machine + Drop, K: Cores<C>>(
     requires ready { K.ready cores.now }
     ensures { IfOk result (λ report. ReplaysIn (manner_of (Some heading)) (C.meaning (K.settings cores.now)) (C.stands (K.settings cores.now)) C.seen turns.items (visit_in streams.entry) (out_of report)) }
 {
+    let Some(budget) = budget_for(&streams, cores.bufsize()) else {
+        return Err(OutOfMemory);
+    };
     let client = client_link(alloc, streams.client)?;
     let found = net_for(alloc, streams.servers)?;
     let mut net = SendNet::new(found);
@@ -42,6 +46,6 @@ pub fn replay_headed<C: Machine + Drop, K: Cores<C>>(
     };
     let mut turns = ListTurns::new(turns);
     let mut core = cores.core(alloc)?;
-    let ran = run_over(cores, &mut core, to, &streams, &mut over, &mut turns)?;
+    let ran = run_over(cores, &mut core, to, budget, &mut over, &mut turns)?;
     report_of(alloc, ran, over.client.inner(), over.net.inner())
 }

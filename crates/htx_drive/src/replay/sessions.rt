@@ -2,10 +2,11 @@
 ghost use Rattle.std.specs.Prelude.{◌≡◌, false, map, IfOk};
 ghost use Rattle.session_core.specs.History.{nothing_yet};
 ghost use Rattle.px_link.specs.Net.{address_of};
+ghost use Rattle.rec_format.specs.Recorded.{Visit};
 ghost use Rattle.rec_format.specs.Read.{visit, visits};
 ghost use Rattle.rec_format.specs.ReportParts.{out_of};
 ghost use Rattle.htx_drive.specs.Replay.Replayed.{Replays, ReplaysAll};
-ghost use Rattle.htx_drive.specs.Replay.Seen.{IsUntouched, IsUntouchedNet, RanByTurns};
+ghost use Rattle.htx_drive.specs.Replay.Seen.{IsPaid, IsUntouched, IsUntouchedNet, RanByTurns};
 ghost use Rattle.htx_drive.specs.Replay.Streams.{visit_in};
 
 use crate::replay::budget::budget_for;
@@ -34,12 +35,12 @@ fn only_memory(fault: SessionFault) -> OutOfMemory
     OutOfMemory
 }
 
-/// Runs the session of a connection over its link and its net.
+/// Runs the session of a connection over its link and its net, of which this budget is enough.
 pub(crate) fn run_over<C: Machine, K: Cores<C>, L: Link, N: Net<Link = L>>(
     cores: &K,
     core: &mut C,
     to: &Address,
-    streams: &Streams<'_>,
+    budget: u64,
     over: &mut Conn<L, N>,
     turns: &mut ListTurns,
 ) -> Result<Ran, OutOfMemory>
@@ -47,13 +48,10 @@ pub(crate) fn run_over<C: Machine, K: Cores<C>, L: Link, N: Net<Link = L>>(
     requires stands { C.stands (K.settings cores.now) core.old nothing_yet }
     requires idle { (C.seen core.old).serving ≡ false }
     requires sound { C.sound core.old }
-    requires client { IsUntouched L.seen L.wrote (visit_in streams.now).client over.old.client }
-    requires net { IsUntouchedNet (visit_in streams.now).servers (N.seen over.old.net) }
-    ensures { IfOk result (RanByTurns (C.meaning (K.settings cores.now)) (C.stands (K.settings cores.now)) C.seen turns.old turns.new (visit_in streams.now) L.seen L.wrote over.old.client over.new.client (address_of to.now) (N.seen over.old.net) (N.seen over.new.net)) }
+    requires paid { IsPaid L.seen L.wrote over.old.client (N.seen over.old.net) (C.meaning (K.settings cores.now)).limits.bufsize budget }
+    ensures { IfOk result (λ ran. (visit : Visit) → IsUntouched L.seen L.wrote visit.client over.old.client → IsUntouchedNet visit.servers (N.seen over.old.net)
+        → RanByTurns (C.meaning (K.settings cores.now)) (C.stands (K.settings cores.now)) C.seen turns.old turns.new visit L.seen L.wrote over.old.client over.new.client (address_of to.now) (N.seen over.old.net) (N.seen over.new.net) ran) }
 {
-    let Some(budget) = budget_for(streams, cores.bufsize()) else {
-        return Err(OutOfMemory);
-    };
     only_want_of_memory_gives_up::<C, K, L, N>();
     let mut resources = Resources {
         left: budget,
@@ -83,6 +81,9 @@ pub fn replay_streams<C: Machine + Drop, K: Cores<C>>(
     requires ready { K.ready cores.now }
     ensures { IfOk result (λ report. Replays (C.meaning (K.settings cores.now)) (C.stands (K.settings cores.now)) C.seen turns.items (visit_in streams.entry) (out_of report)) }
 {
+    let Some(budget) = budget_for(&streams, cores.bufsize()) else {
+        return Err(OutOfMemory);
+    };
     let client = client_link(alloc, streams.client)?;
     let net = net_for(alloc, streams.servers)?;
     let mut over = Conn {
@@ -93,7 +94,7 @@ pub fn replay_streams<C: Machine + Drop, K: Cores<C>>(
     };
     let mut turns = ListTurns::new(turns);
     let mut core = cores.core(alloc)?;
-    let ran = run_over(cores, &mut core, to, &streams, &mut over, &mut turns)?;
+    let ran = run_over(cores, &mut core, to, budget, &mut over, &mut turns)?;
     report_of(alloc, ran, &over.client, &over.net)
 }
 

@@ -1,7 +1,7 @@
 //! What follows for each connection of many.
 ghost use Rattle.std.specs.Prelude.{ℕ, Bool, ◌≡◌, ◌<◌, List, Option, Some};
 ghost use Rattle.http_model.specs.declared.Ending.{Ending};
-ghost use Rattle.px_link.specs.Net.{Coming, Kept, Place};
+ghost use Rattle.px_link.specs.Net.{Coming, Kept, NetSeen, Place};
 ghost use Rattle.px_link.specs.declared.turns.Turn.{Turn};
 ghost use Rattle.htx_drive.specs.Budget.{WithTexts};
 ghost use Rattle.htx_drive.specs.Headline.{IsSessionOf};
@@ -13,11 +13,11 @@ use crate::{Link, Machine, Net};
 
 /// Over a link and a net that are told, a connection that ended is the session of its own client's stream and of the servers that its own connects
 /// found: nothing of another connection enters it.
-pub fn ended_is_the_session<C: Machine, L: Link, N: Net<Link = L>>()
-    ensures { (cfg : C.Settings) (all ahead : List Turn) (first client : L) (to : Place) (first_net net : N) (ran : Ran) (count : ℕ) (own : List ℕ) (ending : Ending) (answers : List (Option Coming)) (kept : List Kept)
-        → (L.seen first).to_come ≡ Some own → (L.seen first).ending ≡ Some ending → (N.seen first_net).answers ≡ Some answers → (N.seen first_net).kept ≡ Some kept
-        → EndedSo (C.meaning cfg) (C.stands cfg) C.seen all ahead L.seen L.wrote first client to (N.seen first_net) (N.seen net) ran count
-        → IsSessionOf (C.meaning cfg) L.seen L.wrote first client to (N.seen first_net) (N.seen net) ran own ending answers kept }
+pub fn ended_is_the_session<C: Machine, L: Link>()
+    ensures { (cfg : C.Settings) (all ahead : List Turn) (first client : L) (to : Place) (first_net net : NetSeen) (ran : Ran) (count : ℕ) (own : List ℕ) (ending : Ending) (answers : List (Option Coming)) (kept : List Kept)
+        → (L.seen first).to_come ≡ Some own → (L.seen first).ending ≡ Some ending → first_net.answers ≡ Some answers → first_net.kept ≡ Some kept
+        → EndedSo (C.meaning cfg) (C.stands cfg) C.seen all ahead L.seen L.wrote first client to first_net net ran count
+        → IsSessionOf (C.meaning cfg) L.seen L.wrote first client to first_net net ran own ending answers kept }
 {
     ran_is_the_session::<C, L>();
 }
