@@ -9,6 +9,7 @@ use Rattle.px_link.specs.Told.{Rose}
 use Rattle.px_peer.specs.declared.Pair.{Pair}
 use Rattle.px_proxyproto.specs.Meeting.{Meets}
 use Rattle.px_proxyproto.specs.Nets.{heading_for, introduced}
+use Rattle.fcgi_link.specs.Asked.{Responder, asked_for}
 use Rattle.px_proxyproto.specs.declared.meeting.Met.{Met}
 use Rattle.px_proxyproto.specs.declared.meeting.Met.TheVariants as met
 use Rattle.htx_drive.specs.Headline.{IsSessionOf}
@@ -54,13 +55,13 @@ own_of tells true link old new pair all h e =
     (next.0, record { header = h.0; whole = next.1; is = h.3 }, next.2)
 own_of tells false link old new pair all h e = (all, (refl, h.0), ap (λ (s : Seen). s.to_come) h.1 ∙ e)
 
-pub served_as_told : {L : Type 0} (M : Option Pair → Meaning) (tells : L → Option Pair → Type 0) (accepts_header : Bool) (sends_header : Option ℕ) (seen : L → Seen) (wrote : L → List ℕ → Type 0)
+pub served_as_told : {L : Type 0} (M : Option Pair → Meaning) (tells : L → Option Pair → Type 0) (accepts_header : Bool) (sends_header : Option ℕ) (responder : Option Responder) (seen : L → Seen) (wrote : L → List ℕ → Type 0)
     (serves : Option Pair → L → L → NetSeen → NetSeen → Result Ran SessionFault → Type 0) (to : Place) (first begins client : L) (first_net net : NetSeen) (link : Coming) (answers : List (Option Coming)) (kept : List Kept) (ran : Ran) (how : Met)
     → ((pair : Option Pair) (own : List ℕ) → (seen begins).to_come ≡ Some own → serves pair begins client first_net net (Ok ran)
-    → IsSessionOf (M pair) seen wrote begins client to (introduced (heading_for sends_header pair) first_net) net ran own link.ending answers kept)
+    → IsSessionOf (M pair) seen wrote begins client to (introduced (heading_for sends_header pair) (asked_for responder first_net)) net ran own link.ending answers kept)
     → (seen first).to_come ≡ Some link.bytes → MetSo tells accepts_header seen wrote first begins how → ServedAsMet seen wrote serves how begins client first_net net (Ok ran)
-    → ServedAsTold M (tells first) accepts_header sends_header seen wrote to begins client first_net net link answers kept ran how
-served_as_told M tells accepts_header sends_header seen wrote serves to first begins client first_net net link answers kept ran (met.Caller pair) law e so s =
+    → ServedAsTold M (tells first) accepts_header sends_header responder seen wrote to begins client first_net net link answers kept ran how
+served_as_told M tells accepts_header sends_header responder seen wrote serves to first begins client first_net net link answers kept ran (met.Caller pair) law e so s =
     let o = own_of tells accepts_header first (seen first) (seen begins) pair link.bytes so.meets e in
     record { own = o.0; is_own = o.1; to_come = o.2; session = law pair o.0 o.2 s }
-served_as_told M tells accepts_header sends_header seen wrote serves to first begins client first_net net link answers kept ran met.Refused law e so t = t
+served_as_told M tells accepts_header sends_header responder seen wrote serves to first begins client first_net net link answers kept ran met.Refused law e so t = t

@@ -12,7 +12,8 @@ use Rattle.serve_run.specs.Lines.{answer_of, lines_from, net_line}
 use Rattle.serve_run.specs.Visits.{Visits, Puts}
 
 -- A link was accepted, a session ran over it with this answer, and then it was kept: behind the links of its servers, which the session
--- gave back. Where the answer is that a write to the client failed, the link has counted that.
+-- gave back. It passes on what is written to it as it did when it was accepted: as it is. Where the answer is that a write to the client failed, the link has
+-- counted that.
 pub record Connection {L N : Type 0} (seen : L → Seen) (wrote : L → List ℕ → Type 0) (net_seen : N → NetSeen) (does : L → L → N → N → Result Ran SessionFault → Type 0) (to : Place) (before after : N) (result : Result Ran SessionFault) : Type 0 where
   pub first : L
   pub client : L
@@ -22,6 +23,7 @@ pub record Connection {L N : Type 0} (seen : L → Seen) (wrote : L → List ℕ
   pub session : does first client lent_net given_net result
   pub visits : Visits to (net_seen lent_net) (net_seen given_net)
   pub puts : Puts (wrote first) (wrote client)
+  pub manner : (seen client).manner ≡ (seen first).manner
   pub fault : result ≡ Err session_faults.ClientWrite → Rose (seen first).write_faults (seen client).write_faults
   pub kept : Keeps (wrote client) (net_seen given_net) (net_seen after) (seen client)
 

@@ -7,6 +7,7 @@ mod driven;
 pub mod laws;
 mod line;
 mod outcome;
+mod responder;
 mod serving;
 mod sessions;
 
@@ -15,5 +16,6 @@ pub use htx_drive::{Ran, SessionFault};
 pub use line::line_of;
 pub use outcome::{Outcome, ServeFault};
 pub use px_link::{Address, Close, End, Fault, Link, Net, OutOfMemory, Sink};
+pub use responder::Responder;
 pub use serving::serve;
 pub use sessions::Sessions;

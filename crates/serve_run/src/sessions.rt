@@ -29,5 +29,6 @@ pub trait Sessions<N: Net> {
         ensures settings { settings self.new ≡ settings self.old }
         ensures visits { Visits (to (settings self.old)) (N.seen net.old) (N.seen net.new) }
         ensures puts { Puts (N.Link.wrote client.old) (N.Link.wrote client.new) }
+        ensures manner { (N.Link.seen client.new).manner ≡ (N.Link.seen client.old).manner }
         ensures fault { IsErrOf result faults.ClientWrite → Rose (N.Link.seen client.old).write_faults (N.Link.seen client.new).write_faults };
 }

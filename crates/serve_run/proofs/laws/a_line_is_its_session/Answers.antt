@@ -1,16 +1,18 @@
-use Rattle.std.proofs.Common.{◌∷◌, [], Option, ap, ◌∙◌}
+use Rattle.std.proofs.Common.{◌∷◌, [], Option, Ok, ap, ◌∙◌}
 use Rattle.px_link.specs.Link.{Seen, AsItIs}
 use Rattle.px_link.specs.Net.{IsNew}
 use Rattle.px_peer.specs.declared.Pair.{Pair}
 use Rattle.px_proxyproto.specs.Meeting.{source_in}
 use Rattle.px_proxyproto.specs.Nets.{heading_for, introduced}
-use Rattle.serve_run.specs.Drove.{DrivesFor}
+use Rattle.fcgi_link.specs.Asked.{asked_for}
+use Rattle.serve_run.specs.Drove.{Drove, DrivesFor}
 use Rattle.serve_run.proofs.Chain.{next_as}
+use Rattle.serve_run.proofs.Drives.{asks_ran, asked_alike, asked_kept}
 use Rattle.serve_run.proofs.Meetings.{meets_ending, served_as_told}
 use Rattle.serve_run.proofs.laws.a_line_is_its_session.Goals as goal
 
 pub returns : goal.returns
-returns g c = λ cfg accepts_header sends_header to before after ran link later answers kept one a b k.
+returns g c = λ cfg accepts_header sends_header responder to before after ran link later answers kept one a b k.
     let seen = g.L.Link.seen in
     let wrote = g.L.Link.wrote in
     let tells = g.L.HasPair.tells in
@@ -30,11 +32,17 @@ returns g c = λ cfg accepts_header sends_header to before after ran link later 
       unwritten = first.1.1;
       so = told.so;
       served =
-          served_as_told (λ (pair : Option Pair). g.C.Machine.meaning (cfg_for (source_in pair))) tells accepts_header sends_header seen wrote
-          (DrivesFor g.C.Machine.meaning g.C.Machine.stands g.C.Machine.seen seen wrote cfg_for sends_header to)
+          served_as_told (λ (pair : Option Pair). g.C.Machine.meaning (cfg_for (source_in pair))) tells accepts_header sends_header responder seen wrote
+          (DrivesFor g.C.Machine.meaning g.C.Machine.stands g.C.Machine.seen seen wrote cfg_for sends_header responder to)
           to one.first told.begins one.client (net_seen one.lent_net) (net_seen one.given_net) link answers kept ran told.how
-          (λ pair own e so. c.ran_is_the_session.ensures (cfg_for (source_in pair)) so.0 told.begins one.client to (introduced (heading_for sends_header pair) (net_seen one.lent_net)) (net_seen one.given_net) ran own link.ending answers kept e ending
-          (one.accepted.behind.answers ∙ b) (one.accepted.behind.kept ∙ k) so.1)
+          (λ pair own e did.
+          let asked = asked_for responder (net_seen one.lent_net) in
+          let so =
+          asks_ran responder seen wrote told.begins one.client (net_seen one.lent_net) (net_seen one.given_net)
+          (λ n. Drove g.C.Machine.meaning g.C.Machine.stands g.C.Machine.seen seen wrote (cfg_for (source_in pair)) to told.begins one.client (introduced (heading_for sends_header pair) n) (net_seen one.given_net) (Ok ran)) ran did in
+          c.ran_is_the_session.ensures (cfg_for (source_in pair)) so.0 told.begins one.client to (introduced (heading_for sends_header pair) asked) (net_seen one.given_net) ran own link.ending answers kept e ending
+          (asked_alike responder (net_seen before) (net_seen one.lent_net) one.accepted.behind.answers one.accepted.behind.manner ∙ b)
+          (asked_kept responder (net_seen one.lent_net) ∙ one.accepted.behind.kept ∙ k) so.1)
           (ap (λ (s : Seen). s.to_come) first.1.0) told.so told.served;
       keeps = one.kept;
     }
