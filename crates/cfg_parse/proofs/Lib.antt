@@ -5,7 +5,9 @@ mod TextLemmas
 mod JudgedLemmas
 mod JudgingLemmas
 mod AddressLemmas
+mod ApplicationLemmas
 mod SoundLemmas
+mod WholeLemmas
 mod LineReadings
 mod StepLemmas
 mod FilterLemmas

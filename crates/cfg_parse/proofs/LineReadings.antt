@@ -23,8 +23,10 @@ use Rattle.cfg_parse.specs.declared.fault.LineRefusal.TheVariants as refusals
 use Rattle.cfg_parse.specs.Reading.{Leaves}
 use Rattle.cfg_parse.specs.Asking.{of_text, of_rule, kind_of_text, kind_of_rule, refusal_of_text, refusal_of_rule, cause_of, LineReading, ReadsLine}
 use Rattle.cfg_parse.specs.Rules.{rule_added, rule_line, acl_setting, with_forwarding, forwarding_line}
+use Rattle.cfg_parse.specs.Pairs.{param_added, param_line}
+use Rattle.cfg_parse.specs.Action.Params.{param_rule}
 use Rattle.cfg_parse.specs.Action.Forwarding.{forwarding_rule}
-use Rattle.cfg_parse.proofs.SoundLemmas.{section_left, bufsize_left, maxrewrite_left, mode_left, timeout_left, bind_left, server_left, filter_left, rule_left, acls_left, forwarding_left}
+use Rattle.cfg_parse.proofs.SoundLemmas.{section_left, bufsize_left, maxrewrite_left, mode_left, timeout_left, bind_left, server_left, filter_left, rule_left, acls_left, forwarding_left, docroot_left, index_left, script_left, param_left}
 
 -- a line that asks for no pattern
 pub reads_plainly : (result : Result (Unit {0}) LineRefusal) (left : Draft) (meaning : Result Draft CfgKind) (before after : ℕ) (kept : Kept) →
@@ -76,6 +78,26 @@ unfolding forwarding_line
 forwarding_fails draft arguments before after kept refusal fails =
     fails_first (of_rule (forwarding_rule arguments)) (λ rule. plain (Ok (with_forwarding draft rule))) before after kept (cause_of refusal) fails
 
+-- ---- pairs
+
+-- a line whose pair and rule were read
+pub param_line_reads : (draft left : Draft) (arguments : List (List ℕ)) (name : List ℕ) (rule : Rule) (before after : ℕ) (kept : Kept) (result : Result (Unit {0}) LineRefusal) →
+    (of_rule (param_rule draft.acls arguments)).gives ≡ Ok (name, rule) → after ≡ before → Leaves result left (param_added draft name rule) →
+    ReadsLine (λ nothing. left) (param_line draft arguments) before after kept result
+unfolding param_line
+param_line_reads draft left arguments name rule before after kept (Ok done) is same leaves =
+    (ap (λ g. given_by g (λ found. plain (param_added draft found.0 found.1))) is ∙ leaves, same)
+param_line_reads draft left arguments name rule before after kept (Err refusal) is same leaves =
+    fails_behind (of_rule (param_rule draft.acls arguments)) (λ found. plain (param_added draft found.0 found.1)) (name, rule) before after after kept (cause_of refusal) is same
+    (reads_plainly (Err refusal) left (param_added draft name rule) after after kept leaves refl)
+
+-- a line whose pair or rule was not read
+pub param_line_fails : (draft : Draft) (arguments : List (List ℕ)) (before after : ℕ) (kept : Kept) (refusal : LineRefusal) →
+    Fails (of_rule (param_rule draft.acls arguments)) before after kept (cause_of refusal) → Fails (param_line draft arguments) before after kept (cause_of refusal)
+unfolding param_line
+param_line_fails draft arguments before after kept refusal fails =
+    fails_first (of_rule (param_rule draft.acls arguments)) (λ found. plain (param_added draft found.0 found.1)) before after kept (cause_of refusal) fails
+
 -- ---- acl lines
 
 -- as a test fails, its line does
@@ -107,6 +129,8 @@ pub ruleset parts = (
   rule_line_fails,
   forwarding_reads,
   forwarding_fails,
+  param_line_reads,
+  param_line_fails,
   acl_line_reads,
   acl_line_fails,
   section_left,
@@ -120,4 +144,8 @@ pub ruleset parts = (
   rule_left,
   acls_left,
   forwarding_left,
+  docroot_left,
+  index_left,
+  script_left,
+  param_left,
 )

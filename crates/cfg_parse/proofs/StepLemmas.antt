@@ -1,8 +1,10 @@
 -- Steps that gave a value, and tests that let pass.
-use Rattle.std.proofs.Common.{◌≡◌, Bool, true, false, cond, Result, Ok, Err, refl}
+use Rattle.std.proofs.Common.{◌≡◌, Bool, true, false, cond, Result, Ok, Err, refl, ap}
 use Rattle.std.specs.Prelude.{◌&&◌, ◌||◌}
 use Rattle.cfg_parse.specs.declared.fault.CfgKind.{CfgKind}
-use Rattle.cfg_parse.specs.Reading.{◌>>=◌}
+use Rattle.cfg_parse.specs.declared.fault.LineRefusal.{LineRefusal}
+use Rattle.cfg_parse.specs.declared.fault.LineRefusal.TheVariants as refusals
+use Rattle.cfg_parse.specs.Reading.{◌>>=◌, Fails}
 
 -- the value of a step that was not refused
 pub bind_ok : {A B : Type 0} (r : Result A CfgKind) (f : A → Result B CfgKind) (y : B) → (r >>= f) ≡ Ok y → (x : A) × ((r ≡ Ok x) × (f x ≡ Ok y))
@@ -32,3 +34,19 @@ or_false false b e = (refl, e)
 pub and_true : (a b : Bool) → (a && b) ≡ true → (a ≡ true) × (b ≡ true)
 and_true true b e = (refl, e)
 and_true false b e = absurd cc
+
+-- ---- from left to right
+
+-- what follows a step that gave a value
+pub then_ok : {A B : Type 0} (r : Result A CfgKind) (f : A → Result B CfgKind) (x : A) → r ≡ Ok x → (r >>= f) ≡ f x
+then_ok r f x is = ap (λ r. r >>= f) is
+
+-- what stands behind a test that did not refuse
+pub then_passed : {A : Type 0} (b : Bool) (kind : CfgKind) (x : Result A CfgKind) → b ≡ false → cond b (Err kind) x ≡ x
+then_passed b kind x is = ap (λ b. cond b (Err kind) x) is
+
+-- a step that failed decides
+pub then_fails : {A B : Type 0} (r : Result A CfgKind) (f : A → Result B CfgKind) (refusal : LineRefusal) → Fails refusal r → Fails refusal (r >>= f)
+then_fails r f refusals.Pattern fails = fails
+then_fails r f refusals.OutOfMemory fails = tt
+then_fails r f (refusals.Refused kind) fails = ap (λ r. r >>= f) fails

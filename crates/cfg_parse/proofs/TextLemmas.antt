@@ -21,7 +21,7 @@ use Rattle.cfg_parse.specs.Limits.{most_text}
 use Rattle.cfg_parse.specs.Draft.{start}
 use Rattle.cfg_parse.specs.Lines.{line_of}
 use Rattle.cfg_parse.specs.Whole.{Placed, Refusal, later_asks, placed_gives, lines_from, of_text, after_lines, of_lines, whole, read_whole, refused_at, config_of, pattern_at, fault_at, Configures, Loads}
-use Rattle.cfg_parse.proofs.SoundLemmas.{whole-valid}
+use Rattle.cfg_parse.proofs.WholeLemmas.{whole-valid}
 
 -- what is left gives what all gives, and asks for nothing that all does not ask for
 pub record Leads (all left : Placed Draft) : Type 0 where

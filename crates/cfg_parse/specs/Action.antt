@@ -10,4 +10,5 @@ pub mod Plain
 pub mod Actions
 pub mod Rules
 pub mod Forwarding
+pub mod Params
 pub mod Good

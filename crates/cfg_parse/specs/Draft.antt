@@ -1,6 +1,7 @@
 -- The configuration so far, while lines are read.
 use Rattle.std.specs.Prelude.{[], Bool, true, false, None}
 use Rattle.http_rules.specs.declared.config.Timeouts.{Timeouts}
+use Rattle.cfg_parse.specs.declared.draft.ApplicationLines.{ApplicationLines}
 use Rattle.cfg_parse.specs.declared.draft.Draft.{Draft}
 use Rattle.cfg_parse.specs.declared.draft.Section.{Section}
 use Rattle.cfg_parse.specs.declared.draft.Section.TheVariants as sections
@@ -12,6 +13,10 @@ use Rattle.cfg_parse.specs.declared.keywords.Places.TheVariants.{InGlobal, InBot
 -- where no line gives them, in milliseconds
 abbrev pub default_timeouts : Timeouts
 default_timeouts = record { client = 60000; server = 60000; connect = 5000; http_request = 10000; http_keep_alive = 10000 }
+
+-- no line says how an application is asked
+abbrev pub no_application : ApplicationLines
+no_application = record { is_asked = false; root = None; index = None; script = None; params = [] }
 
 -- before the first line
 abbrev pub start : Draft
@@ -26,11 +31,13 @@ start =
       accept_proxy = false;
       server = None;
       send_proxy = None;
+      application = no_application;
       acls = [];
       tests = 0;
       request = [];
       response = [];
       after = [];
+      param_rules = [];
       req_filters = [];
       res_filters = [];
       forwarding = None;

@@ -6,7 +6,7 @@ use Rattle.cfg_parse.specs.declared.keywords.FirstWord.TheVariants.{Begins, Sets
 use Rattle.cfg_parse.specs.declared.keywords.SectionWord.{SectionWord}
 use Rattle.cfg_parse.specs.declared.keywords.SectionWord.TheVariants.{Global, Defaults, Listen, Other}
 use Rattle.cfg_parse.specs.declared.keywords.Setting.{Setting}
-use Rattle.cfg_parse.specs.declared.keywords.Setting.TheVariants.{Bufsize, Maxrewrite, Mode, Timeout, Options, Bind, Server, Acl, HttpRequest, HttpResponse, HttpAfterResponse, Filter}
+use Rattle.cfg_parse.specs.declared.keywords.Setting.TheVariants.{Bufsize, Maxrewrite, Mode, Timeout, Options, Bind, Server, Acl, HttpRequest, HttpResponse, HttpAfterResponse, Filter, Docroot, Index, Script, Param}
 use Rattle.cfg_parse.specs.declared.keywords.TimeoutName.{TimeoutName}
 use Rattle.cfg_parse.specs.declared.keywords.TimeoutName.TheVariants as names
 use Rattle.cfg_parse.specs.declared.keywords.Places.{Places}
@@ -43,6 +43,19 @@ listen_setting word =
     else (if bytes_eq word (codes "filter") then Some Filter
     else None))))))
 
+-- those of `listen` that say how an application is asked
+unfoldable pub application_setting : List ℕ → Option Setting
+application_setting word =
+    if bytes_eq word (codes "fcgi-docroot") then Some Docroot
+    else (if bytes_eq word (codes "fcgi-index") then Some Index
+    else (if bytes_eq word (codes "fcgi-script") then Some Script
+    else (if bytes_eq word (codes "fcgi-param") then Some Param
+    else None)))
+
+abbrev pub or_setting : Option Setting → Option Setting → Option Setting
+or_setting (Some setting) other = Some setting
+or_setting None other = other
+
 abbrev pub as_listen_setting : Option Setting → FirstWord
 as_listen_setting (Some setting) = Sets setting InListen
 as_listen_setting None = Unknown
@@ -58,7 +71,7 @@ as_section None other = other
 -- what a first word says of its line
 abbrev pub first_word_of : List ℕ → FirstWord
 first_word_of word =
-    as_section (section_word word) (as_setting (general_setting word) (as_listen_setting (listen_setting word)))
+    as_section (section_word word) (as_setting (general_setting word) (as_listen_setting (or_setting (listen_setting word) (application_setting word))))
 
 -- the options of `server`, each by the version of the header of the PROXY protocol that it asks for
 unfoldable pub header_version : List ℕ → Option ℕ

@@ -8,6 +8,8 @@ pub mod Filters
 pub mod Limits
 pub mod Settings
 pub mod Rules
+pub mod Applications
+pub mod Pairs
 pub mod Lines
 pub mod Sound
 pub mod Whole

@@ -21,6 +21,10 @@ most_filters = 8
 abbrev pub most_needle : ℕ
 most_needle = 256
 
+-- the most bytes of an application's root, and of a file's name there
+abbrev pub most_path : ℕ
+most_path = 255
+
 -- the most digits of a port, and of a number of rules and filters
 abbrev pub most_digits : ℕ
 most_digits = 18

@@ -9,7 +9,7 @@ use Rattle.cfg_parse.specs.declared.fault.CfgKind.TheVariants.{Word, Section, Ke
 use Rattle.cfg_parse.specs.declared.keywords.FirstWord.{FirstWord}
 use Rattle.cfg_parse.specs.declared.keywords.FirstWord.TheVariants.{Begins, Sets, Unknown}
 use Rattle.cfg_parse.specs.declared.keywords.Setting.{Setting}
-use Rattle.cfg_parse.specs.declared.keywords.Setting.TheVariants.{Bufsize, Maxrewrite, Mode, Timeout, Options, Bind, Server, Acl, HttpRequest, HttpResponse, HttpAfterResponse, Filter}
+use Rattle.cfg_parse.specs.declared.keywords.Setting.TheVariants.{Bufsize, Maxrewrite, Mode, Timeout, Options, Bind, Server, Acl, HttpRequest, HttpResponse, HttpAfterResponse, Filter, Docroot, Index, Script, Param}
 use Rattle.cfg_parse.specs.declared.keywords.Places.{Places}
 use Rattle.cfg_parse.specs.declared.draft.Draft.{Draft}
 use Rattle.cfg_parse.specs.Asking.{LineReading}
@@ -18,6 +18,8 @@ use Rattle.cfg_parse.specs.Draft.{is_before, belongs}
 use Rattle.cfg_parse.specs.Settings.{section_line, bufsize_line, maxrewrite_line, mode_line, timeout_line, bind_line, server_line}
 use Rattle.cfg_parse.specs.Filters.{filter_setting}
 use Rattle.cfg_parse.specs.Rules.{rule_line, acl_setting, option_line}
+use Rattle.cfg_parse.specs.Applications.{docroot_line, index_line, script_line}
+use Rattle.cfg_parse.specs.Pairs.{param_line}
 
 -- the line of a setting that the section knows
 unfoldable pub setting_line : Draft → Setting → List (List ℕ) → LineReading Draft
@@ -33,6 +35,10 @@ setting_line draft HttpRequest arguments = rule_line draft Request arguments
 setting_line draft HttpResponse arguments = rule_line draft Response arguments
 setting_line draft HttpAfterResponse arguments = rule_line draft After arguments
 setting_line draft Filter arguments = plain (filter_setting draft arguments)
+setting_line draft Docroot arguments = plain (docroot_line draft arguments)
+setting_line draft Index arguments = plain (index_line draft arguments)
+setting_line draft Script arguments = plain (script_line draft arguments)
+setting_line draft Param arguments = param_line draft arguments
 
 -- a line of a section: first whether a section has begun, then whether it knows the word
 unfoldable pub known_line : Draft → Setting → Places → List (List ℕ) → LineReading Draft

@@ -101,13 +101,25 @@ bind_line draft arguments =
     if is_some draft.bind then Err Argument
     else (argument arguments >>= λ word. address_of word.0 >>= λ address. bind_options word.1 >>= λ accepts. Ok (record draft { bind = Some address; accept_proxy = accepts }))
 
--- what may stand behind the address of `server`: nothing, or one option, of which it tells the version
-unfoldable pub server_options : List (List ℕ) → Result (Option ℕ) CfgKind
-server_options [] = Ok None
-server_options (word ∷ others) = named (header_version word) >>= λ version. no_more others >>= λ ended. Ok (Some version)
+-- the version of a header that the server is sent, where it is sent one, and whether it is an application
+abbrev pub Manner : Type 0
+Manner = Option ℕ × Bool
 
--- `server NAME HOST:PORT` with `send-proxy`, `send-proxy-v2` or nothing behind it, once
+-- behind `proto`: `fcgi` alone
+unfoldable pub protocol : List (List ℕ) → Result Manner CfgKind
+protocol words = do
+  word ← argument words
+  if bytes_eq word.0 (codes "fcgi") then (no_more word.1 >>= λ ended. Ok (None, true)) else Err Argument
+
+-- what may stand behind the address of `server`: nothing, one option that asks for a header, or `proto fcgi`
+unfoldable pub server_options : List (List ℕ) → Result Manner CfgKind
+server_options [] = Ok (None, false)
+server_options (word ∷ others) =
+    if bytes_eq word (codes "proto") then protocol others
+    else (named (header_version word) >>= λ version. no_more others >>= λ ended. Ok (Some version, false))
+
+-- `server NAME HOST:PORT` with `send-proxy`, `send-proxy-v2`, `proto fcgi` or nothing behind it, once
 unfoldable pub server_line : Draft → List (List ℕ) → Result Draft CfgKind
 server_line draft arguments =
     if is_some draft.server then Err Argument
-    else (argument arguments >>= λ name. argument name.1 >>= λ word. server_address_of word.0 >>= λ address. server_options word.1 >>= λ version. Ok (record draft { server = Some address; send_proxy = version }))
+    else (argument arguments >>= λ name. argument name.1 >>= λ word. server_address_of word.0 >>= λ address. server_options word.1 >>= λ manner. Ok (record draft { server = Some address; send_proxy = manner.0; application = record draft.application { is_asked = manner.1 } }))

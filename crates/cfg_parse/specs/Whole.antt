@@ -1,20 +1,27 @@
 -- The configuration of a text.
-use Rattle.std.specs.Prelude.{◌≡◌, ℕ, ◌+◌, ◌-◌, ◌/◌, min, List, [], ◌∷◌, ◌++◌, map, length, nat_lt, if◌then◌else◌, Option, Some, None, unwrap_or, IsSomeAnd, slice_get, Result, Ok, Err}
+use Rattle.std.specs.Prelude.{◌≡◌, ℕ, ◌+◌, ◌-◌, ◌/◌, min, List, [], ◌∷◌, ◌++◌, map, length, Bool, true, false, ◌&&◌, ◌||◌, nat_lt, if◌then◌else◌, Option, Some, None, is_some, unwrap_or, IsSomeAnd, slice_get, Result, Ok, Err}
+use Rattle.std.specs.List.{list_any}
 use Rattle.std.specs.Str.Lines.{lines}
 use Rattle.http_model.specs.Sizes.{least_head}
 use Rattle.http_model.specs.declared.Limits.{Limits}
 use Rattle.px_link.specs.declared.address.Address.{Address}
+use Rattle.fcgi_model.specs.Application.{Application, param_field}
 use Rattle.px_pattern.specs.Pattern.{Pattern}
 use Rattle.px_pattern.specs.Refusals.{Kept, Rose}
 use Rattle.http_rules.specs.declared.config.Config.{Config}
+use Rattle.http_rules.specs.declared.rule.action.Action.{Action}
+use Rattle.http_rules.specs.declared.rule.action.Action.TheVariants.{DelHeader}
+use Rattle.http_rules.specs.declared.rule.action.Action.TheVariants as actions
+use Rattle.http_rules.specs.declared.rule.action.DelBy.TheVariants.{Str}
 use Rattle.http_rules.specs.declared.rule.rule.Rule.{Rule}
 use Rattle.cfg_parse.specs.declared.fault.CfgKind.{CfgKind}
-use Rattle.cfg_parse.specs.declared.fault.CfgKind.TheVariants.{Limit, Missing}
+use Rattle.cfg_parse.specs.declared.fault.CfgKind.TheVariants.{Argument, Limit, Missing}
 use Rattle.cfg_parse.specs.declared.fault.CfgKind.TheVariants as kinds
 use Rattle.cfg_parse.specs.declared.fault.CfgFault.{CfgFault}
 use Rattle.cfg_parse.specs.declared.fault.CfgFault.TheVariants as faults
 use Rattle.cfg_parse.specs.declared.fault.LineRefusal.{LineRefusal}
 use Rattle.cfg_parse.specs.declared.fault.LineRefusal.TheVariants as refusals
+use Rattle.cfg_parse.specs.declared.draft.ApplicationLines.{ApplicationLines}
 use Rattle.cfg_parse.specs.declared.draft.Draft.{Draft}
 use Rattle.cfg_parse.specs.Draft.{start, has_listen}
 use Rattle.cfg_parse.specs.Asking.{LineReading}
@@ -44,9 +51,48 @@ abbrev pub with_last : List Rule → Option Rule → Result (List Rule) CfgKind
 with_last rules None = Ok rules
 with_last rules (Some rule) = if nat_lt (length rules) most_rules then Ok (rules ++ rule ∷ []) else Err Limit
 
--- what the lines said, with these rules on requests and these addresses; no peer is told
-abbrev pub made_config : Draft → List Rule → Address → Address → Config
-made_config draft rules bind server =
+-- the action ends the rules on a request, and lets it pass
+unfoldable pub is_allow : Action → Bool
+is_allow actions.Allow = true
+is_allow action = false
+
+abbrev pub ends_rules : Rule → Bool
+ends_rules rule = is_allow rule.action
+
+-- a rule would keep those of pairs from running, of which there are some
+abbrev pub stops_pairs : Draft → Bool
+stops_pairs draft = nat_lt 0 (length draft.application.params) && list_any ends_rules draft.request
+
+-- the rule that takes away what a client sends as the field of a pair
+abbrev pub param_removal : (name : List ℕ) → Rule
+param_removal name = record { action = DelHeader (Str (param_field name)); cond = None }
+
+-- the rules of pairs: no field of one is the client's, and then what the lines tell, in their order
+abbrev pub pair_rules : (names : List (List ℕ)) → (sets : List Rule) → List Rule
+pair_rules names sets = map param_removal names ++ sets
+
+-- rules with those of pairs behind them, where there is room for all
+abbrev pub with_pairs : List Rule → (names : List (List ℕ)) → (sets : List Rule) → Result (List Rule) CfgKind
+with_pairs rules names sets = if nat_lt most_rules (length rules + (length names + length sets)) then Err Limit else Ok (rules ++ pair_rules names sets)
+
+-- an application whose files lie below this root
+abbrev pub application_below : ApplicationLines → Option (List ℕ) → Result (Option Application) CfgKind
+application_below lines None = Err Missing
+application_below lines (Some root) = Ok (Some (record { root = root; index = lines.index; script = lines.script; params = lines.params }))
+
+-- a line says which file of an application is asked, or a pair
+abbrev pub tells_more : ApplicationLines → Bool
+tells_more lines = is_some lines.index || (is_some lines.script || nat_lt 0 (length lines.params))
+
+-- How the server is asked, where it is an application: one has a root, and no other server has a file or a pair. A root alone says nothing.
+unfoldable pub application_of : ApplicationLines → Result (Option Application) CfgKind
+application_of lines =
+    if lines.is_asked then application_below lines lines.root
+    else (if tells_more lines then Err Missing else Ok None)
+
+-- what the lines said, with these rules on requests, this application and these addresses; no peer is told
+abbrev pub made_config : Draft → List Rule → Option Application → Address → Address → Config
+made_config draft rules application bind server =
     record {
       limits = limits_of draft;
       timeouts = draft.timeouts;
@@ -54,6 +100,7 @@ made_config draft rules bind server =
       accept_proxy = draft.accept_proxy;
       server = server;
       send_proxy = draft.send_proxy;
+      application = application;
       request = rules;
       response = draft.response;
       after = draft.after;
@@ -63,18 +110,22 @@ made_config draft rules bind server =
     }
 
 -- a configuration with these addresses, where all that it needs is there
-abbrev pub with_addresses : Draft → List Rule → Option Address → Option Address → Result Config CfgKind
-with_addresses draft rules (Some bind) (Some server) =
-    if has_listen draft.listen then Ok (made_config draft rules bind server) else Err Missing
-with_addresses draft rules (Some bind) None = Err Missing
-with_addresses draft rules None server = Err Missing
+abbrev pub with_addresses : Draft → List Rule → Option Application → Option Address → Option Address → Result Config CfgKind
+with_addresses draft rules application (Some bind) (Some server) =
+    if has_listen draft.listen then Ok (made_config draft rules application bind server) else Err Missing
+with_addresses draft rules application (Some bind) None = Err Missing
+with_addresses draft rules application None server = Err Missing
 
--- the configuration of all lines: sizes that do not suit each other come first, then the rule of `option forwardfor` behind as many rules as there
--- may be, then what is missing
+-- The configuration of all lines: sizes that do not suit each other come first, then a rule that would keep those of pairs from running, then the rule of
+-- `option forwardfor` and those of pairs behind as many rules as there may be, then what is missing.
 unfoldable pub whole : Draft → Result Config CfgKind
 whole draft =
     if nat_lt (bufsize_of draft - least_head) (maxrewrite_of draft) then Err Limit
-    else (with_last draft.request draft.forwarding >>= λ rules. with_addresses draft rules draft.bind draft.server)
+    else (if stops_pairs draft then Err Argument
+    else (with_last draft.request draft.forwarding >>= λ rules.
+    with_pairs rules draft.application.params draft.param_rules >>= λ all.
+    application_of draft.application >>= λ application.
+    with_addresses draft all application draft.bind draft.server))
 
 -- ---- lines in turn
 

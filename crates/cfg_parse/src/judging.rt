@@ -79,7 +79,7 @@ fn verdict_at_end(
     ensures ends { (all : List RefusedLine) → Lists refused all → IfOk result (EndsSo all (whole draft)) }
     ensures valid { IsSound draft → IfOk result (IfAccepted IsValid) }
 {
-    match whole(draft) {
+    match whole(alloc, draft) {
         Ok(config) => Ok(unless_refused(config, refused)),
         Err(refusal) => {
             let kind = kind_of(refusal)?;

@@ -1,7 +1,7 @@
 //! The words that a configuration knows by name.
 
 ghost use Rattle.std.specs.Prelude.{◌≡◌};
-ghost use Rattle.cfg_parse.specs.Keywords.{section_word, general_setting, listen_setting, first_word_of, header_version, timed_wait, is_idle_timeout, timeout_of};
+ghost use Rattle.cfg_parse.specs.Keywords.{section_word, general_setting, listen_setting, application_setting, first_word_of, header_version, timed_wait, is_idle_timeout, timeout_of};
 
 use cfg_expr::is_word;
 
@@ -38,6 +38,10 @@ pub enum Setting {
     HttpResponse,
     HttpAfterResponse,
     Filter,
+    Docroot,
+    Index,
+    Script,
+    Param,
 }
 
 /// The sections in which a setting may stand.
@@ -123,6 +127,24 @@ fn listen_setting(word: &[u8]) -> Option<Setting>
     }
 }
 
+/// Those that say how an application is asked.
+#[tactic(auto, unfolding(crate::specs::Keywords::application_setting))]
+fn application_setting(word: &[u8]) -> Option<Setting>
+    ensures { result ≡ application_setting word.now }
+{
+    if is_word(word, b"fcgi-docroot") {
+        Some(Setting::Docroot)
+    } else if is_word(word, b"fcgi-index") {
+        Some(Setting::Index)
+    } else if is_word(word, b"fcgi-script") {
+        Some(Setting::Script)
+    } else if is_word(word, b"fcgi-param") {
+        Some(Setting::Param)
+    } else {
+        None
+    }
+}
+
 /// What a first word says of its line: the table of all settings with their sections.
 pub fn first_word_of(word: &[u8]) -> FirstWord
     ensures { result ≡ first_word_of word.now }
@@ -133,7 +155,10 @@ pub fn first_word_of(word: &[u8]) -> FirstWord
     if let Some((setting, places)) = general_setting(word) {
         return FirstWord::Sets(setting, places);
     }
-    match listen_setting(word) {
+    if let Some(setting) = listen_setting(word) {
+        return FirstWord::Sets(setting, Places::InListen);
+    }
+    match application_setting(word) {
         Some(setting) => FirstWord::Sets(setting, Places::InListen),
         None => FirstWord::Unknown,
     }

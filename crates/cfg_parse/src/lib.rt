@@ -4,6 +4,7 @@
 
 pub mod action;
 mod address;
+mod applications;
 mod arguments;
 mod draft;
 mod fault;
@@ -14,6 +15,7 @@ mod keywords;
 mod limits;
 mod lines;
 mod meanings;
+mod pairs;
 mod refused;
 mod rule_lines;
 mod sections;
@@ -21,6 +23,7 @@ mod settings;
 mod sizes;
 mod text;
 mod times;
+mod waiting;
 
 pub use fault::{CfgFault, CfgKind};
 pub use http_rules::Config;

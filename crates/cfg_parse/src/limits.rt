@@ -15,6 +15,9 @@ pub const MAX_FILTERS: u32 = 8;
 /// The most bytes of a needle, and of what replaces one.
 pub const MAX_NEEDLE: usize = 256;
 
+/// The most bytes of an application's root, and of a file's name there.
+pub const MAX_PATH: usize = 255;
+
 /// The most digits of a port, and of a number of rules and filters.
 pub const MAX_DIGITS: u32 = 18;
 

@@ -6,11 +6,13 @@ ghost use Rattle.cfg_parse.specs.Draft.{is_before, belongs};
 ghost use Rattle.cfg_parse.specs.Sound.{IsSound};
 ghost use Rattle.cfg_parse.specs.Lines.{setting_line, known_line, words_line, line_of};
 
+use crate::applications::{set_docroot, set_index, set_script};
 use crate::arguments::Arguments;
 use crate::draft::{Draft, Section};
 use crate::fault::{CfgKind, LineRefusal};
 use crate::filters::set_filter;
 use crate::keywords::{FirstWord, Places, Setting, first_word_of};
+use crate::pairs::read_param_line;
 use crate::rule_lines::{read_acl_line, read_option_line, read_rule_line};
 use crate::sections::begin_section;
 use crate::settings::{read_mode, set_bind, set_bufsize, set_maxrewrite, set_server, set_timeout};
@@ -69,6 +71,10 @@ fn read_setting<P: Patterns>(
             read_rule_line(alloc, draft, Direction::After, arguments, pats)
         }
         Setting::Filter => set_filter(alloc, draft, arguments),
+        Setting::Docroot => set_docroot(alloc, draft, arguments),
+        Setting::Index => set_index(alloc, draft, arguments),
+        Setting::Script => set_script(alloc, draft, arguments),
+        Setting::Param => read_param_line(alloc, draft, arguments, pats),
     }
 }
 

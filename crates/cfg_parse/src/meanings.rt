@@ -17,7 +17,7 @@ pub fn meaning_of(kind: CfgKind) -> &'static str
         CfgKind::Keyword =>
             "The section has no such setting, or the list no such action or filter. One that it has stands here.",
         CfgKind::Argument =>
-            "An argument is missing, malformed or one too many, or bind or server stands twice. What the line takes stands here, and nothing behind it.",
+            "An argument is missing, malformed or one too many, a line stands twice that stands once, or http-request allow stands beside fcgi-param. What the line takes stands here, and nothing behind it.",
         CfgKind::Expr =>
             "An expression or a format is malformed, or the list has no such fetch. A fetch of the list, with converters behind commas, stands here; a format holds it in %[ and ].",
         CfgKind::Acl =>
@@ -29,8 +29,8 @@ pub fn meaning_of(kind: CfgKind) -> &'static str
         CfgKind::Limit =>
             "A number, a length or a count is beyond its limit. A smaller one stands here, or fewer lines; tune.maxrewrite is at most tune.bufsize less 512.",
         CfgKind::Missing =>
-            "The file has no listen, bind or server. It has one listen NAME, with bind HOST:PORT and server NAME HOST:PORT in it.",
+            "The file has no listen, bind or server, or a line lacks for proto fcgi. It has one listen NAME, with bind HOST:PORT and server NAME HOST:PORT in it; fcgi-docroot DIR stands beside proto fcgi, and proto fcgi beside fcgi-index, fcgi-script and fcgi-param.",
         CfgKind::Mode =>
-            "The command does not take a configuration with this option. For explain and weave, bind HOST:PORT stands without accept-proxy; for weave, server NAME HOST:PORT without send-proxy or send-proxy-v2.",
+            "The command does not take a configuration with this option. server NAME HOST:PORT stands without proto fcgi; for explain and weave, bind HOST:PORT without accept-proxy; for weave, server NAME HOST:PORT without send-proxy or send-proxy-v2.",
     }
 }

@@ -23,7 +23,7 @@ use px_pattern::Patterns;
 use std::alloc::Global;
 
 /// How many tests a rule's condition has; the greatest number where there are more.
-fn tests_of(cond: &Option<Cond>) -> u64
+pub fn tests_of(cond: &Option<Cond>) -> u64
     ensures { result ≡ min (tests_of cond.now) (2 ^ 64 - 1) }
 {
     match cond {

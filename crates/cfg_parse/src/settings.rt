@@ -2,7 +2,7 @@
 
 ghost use Rattle.std.specs.Prelude.{◌≡◌, OnErr};
 ghost use Rattle.cfg_parse.specs.Reading.{Gives, Leaves};
-ghost use Rattle.cfg_parse.specs.Settings.{bufsize_line, maxrewrite_line, mode_line, with_time, has_effect, timeout_line, bind_options, bind_line, server_options, server_line};
+ghost use Rattle.cfg_parse.specs.Settings.{bufsize_line, maxrewrite_line, mode_line, with_time, has_effect, timeout_line, bind_options, bind_line, protocol, server_options, server_line};
 
 use crate::address::{address_of, server_address_of};
 use crate::arguments::Arguments;
@@ -130,19 +130,36 @@ pub fn set_bind(
     Ok(())
 }
 
-/// The version of the header that one option behind the address of a `server` line asks for, where one stands there; nothing else may.
+/// Behind `proto`: `fcgi` alone.
+#[tactic(auto, unfolding(crate::specs::Settings::protocol))]
+fn protocol(words: Arguments<'_>) -> Result<(Option<u32>, bool), LineRefusal>
+    ensures { Gives (λ manner. (manner.0, manner.1)) result (protocol words.entry) }
+{
+    let (word, behind) = words.argument()?;
+    if !is_word(word, b"fcgi") {
+        return Err(LineRefusal::Refused(CfgKind::Argument));
+    }
+    behind.no_more()?;
+    Ok((None, true))
+}
+
+/// The version of the header that an option behind the address of a `server` line asks for, and whether the server is an application. One option may stand
+/// there, and nothing else.
 #[tactic(auto, unfolding(crate::specs::Settings::server_options))]
-fn server_options(mut words: Arguments<'_>) -> Result<Option<u32>, LineRefusal>
-    ensures { Gives (λ version. version) result (server_options words.entry) }
+fn server_options(mut words: Arguments<'_>) -> Result<(Option<u32>, bool), LineRefusal>
+    ensures { Gives (λ manner. (manner.0, manner.1)) result (server_options words.entry) }
 {
     let Some(option) = words.next() else {
-        return Ok(None);
+        return Ok((None, false));
     };
+    if is_word(option, b"proto") {
+        return protocol(words);
+    }
     let Some(version) = header_version(option) else {
         return Err(LineRefusal::Refused(CfgKind::Argument));
     };
     words.no_more()?;
-    Ok(Some(version))
+    Ok((Some(version), false))
 }
 
 #[tactic(auto, unfolding(crate::specs::Settings::server_line))]
@@ -160,8 +177,9 @@ pub fn set_server(
     let (_name, arguments) = arguments.argument()?;
     let (word, arguments) = arguments.argument()?;
     let address = server_address_of(alloc, word)?;
-    let version = server_options(arguments)?;
+    let (version, is_application) = server_options(arguments)?;
     drop(draft.server.replace(address));
     draft.send_proxy = version;
+    draft.application.is_asked = is_application;
     Ok(())
 }

@@ -68,11 +68,11 @@ pub fn first_line(text: &[u8]) -> (&[u8], &[u8])
 
 /// What all lines come to.
 #[tactic(auto, using(crate::proofs::TextLemmas::endings))]
-fn whole_at_end(draft: Draft) -> Result<Config, CfgFault>
+fn whole_at_end(alloc: Global, draft: Draft) -> Result<Config, CfgFault>
     ensures configures { Configures result (of_text (whole draft)) }
     ensures valid { IsSound draft → IfOk result IsValid }
 {
-    match whole(draft) {
+    match whole(alloc, draft) {
         Ok(config) => Ok(config),
         Err(refusal) => Err(at_line(0, refusal)),
     }
@@ -95,7 +95,7 @@ fn read_lines<P: Patterns>(alloc: Global, text: &[u8], pats: &mut P) -> Result<C
         number += 1;
         rest = others;
     }
-    whole_at_end(draft)
+    whole_at_end(alloc, draft)
 }
 
 /// The configuration of a text. The first refused line decides, and in it the first refused word; a text of more

@@ -1,10 +1,11 @@
-//! What a configuration holds: sizes, times, addresses, three lists of rules and the filters of both directions. Nothing here reads or runs it.
+//! What a configuration holds: sizes, times, addresses, how an application is asked, three lists of rules and the filters of both directions. Nothing here
+//! reads or runs it.
 ghost use Rattle.std.specs.Prelude.{◌≡◌, ◌+◌, length};
 
 use crate::rule::Rules;
 use body_filter::FilterSpec;
 use http_model::Limits;
-use px_link::{Address, ItemList};
+use px_link::{Address, Application, ItemList};
 use px_peer::Peer;
 
 /// The filters of one direction, in the order in which bodies pass through them.
@@ -38,6 +39,8 @@ pub struct Config {
     pub server: Address,
     /// The version, 1 or 2, of the header of the PROXY protocol that each server is sent in front of its requests.
     pub send_proxy: Option<u32>,
+    /// How the server is asked, where it is an application that speaks FastCGI.
+    pub application: Option<Application>,
     /// The `http-request` rules, in their order, at most 1024.
     pub request: Rules,
     /// The `http-response` rules, as many at most.
@@ -61,6 +64,7 @@ impl Drop for Config {
             accept_proxy: _,
             server: _,
             send_proxy: _,
+            application: _,
             request: _,
             response: _,
             after: _,

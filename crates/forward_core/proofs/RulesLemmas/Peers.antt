@@ -14,6 +14,7 @@ valid_for cfg peer v =
       server_port = v.server_port;
       server_host = v.server_host;
       send_proxy = v.send_proxy;
+      application = v.application;
       request = v.request;
       response = v.response;
       after = v.after;

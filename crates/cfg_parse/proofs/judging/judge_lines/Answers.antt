@@ -1,5 +1,5 @@
 use Rattle.std.proofs.Common.{◌≡◌, arith, rules}
-use Rattle.cfg_parse.proofs.SoundLemmas.{start-sound}
+use Rattle.cfg_parse.proofs.WholeLemmas.{start-sound}
 use Rattle.cfg_parse.proofs.JudgingLemmas.{going_begin, going_on, going_end_so}
 use Rattle.cfg_parse.proofs.judging.judge_lines.Goals as goal
 

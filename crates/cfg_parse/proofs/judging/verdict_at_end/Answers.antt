@@ -1,4 +1,4 @@
-use Rattle.cfg_parse.proofs.SoundLemmas.{whole-valid}
+use Rattle.cfg_parse.proofs.WholeLemmas.{whole-valid}
 use Rattle.cfg_parse.proofs.judging.verdict_at_end.Goals as goal
 
 pub returns-in-Ok-clause-valid : goal.returns-in-Ok-clause-valid

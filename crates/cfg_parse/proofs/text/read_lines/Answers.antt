@@ -3,7 +3,7 @@ use Rattle.std.specs.Str.Lines.{lines}
 use Rattle.cfg_parse.specs.Asking.{cause_of}
 use Rattle.cfg_parse.specs.Draft.{start}
 use Rattle.cfg_parse.specs.Whole.{lines_from}
-use Rattle.cfg_parse.proofs.SoundLemmas.{start-sound}
+use Rattle.cfg_parse.proofs.WholeLemmas.{start-sound}
 use Rattle.cfg_parse.proofs.TextLemmas.{leads_begin, leads_on, leads_end, leads_out}
 use Rattle.cfg_parse.proofs.text.read_lines.Goals as goal
 

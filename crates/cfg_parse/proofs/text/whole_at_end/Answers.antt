@@ -1,6 +1,6 @@
 use Rattle.std.proofs.Common.{rules, ◌≡◌, Ok}
 use Rattle.cfg_parse.specs.Whole.{whole}
-use Rattle.cfg_parse.proofs.SoundLemmas.{whole-valid}
+use Rattle.cfg_parse.proofs.WholeLemmas.{whole-valid}
 use Rattle.cfg_parse.proofs.text.whole_at_end.Goals as goal
 
 pub returns-in-Ok-clause-valid : goal.returns-in-Ok-clause-valid
