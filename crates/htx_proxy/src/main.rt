@@ -6,6 +6,7 @@ mod crew;
 mod nets;
 mod worker;
 
+use fcgi_link::AppNet;
 use nets::RealNets;
 use proxy_call::{Many, Networks, Status, htx_proxy};
 use px_pattern::RealPatterns;
@@ -87,7 +88,7 @@ fn status_of(rt: &HostRuntime, words: &[String], is_worker: bool) -> Status {
         return Status::NetFault;
     };
     let mut nets = Networks {
-        serve: SendNet::new(RealNet::telling(rt.alloc(), rt)),
+        serve: AppNet::new(rt.alloc(), SendNet::new(RealNet::telling(rt.alloc(), rt))),
         run,
     };
     let mut files = RealFiles::new(rt.alloc(), rt);

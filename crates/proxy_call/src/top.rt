@@ -17,6 +17,7 @@ ghost use Rattle.proxy_commands.specs.Files.{told_by};
 ghost use Rattle.proxy_commands.specs.Serving.{Serving};
 ghost use Rattle.proxy_sessions.specs.Serving.{GainsBind, LostBy, ServedBy};
 
+use fcgi_link::AsksApplication;
 use proxy_commands::{Networks, Status, end, run};
 use proxy_sessions::{Switch, Workers};
 use px_link::{Files, Link, Net, Sink, Waits, WaitsNet, Wakes};
@@ -30,7 +31,7 @@ use std::alloc::Global;
 pub fn htx_proxy<
     F: Files,
     H: Link + HasPair,
-    N: Net<Link = H> + Introduces,
+    N: Net<Link = H> + Introduces + AsksApplication,
     L: Waits + HasPair + Drop,
     M: WaitsNet<Link = L> + Introduces + Drop,
     S: Nets<M> + Switch + Workers<M>,

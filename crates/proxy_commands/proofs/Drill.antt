@@ -22,7 +22,7 @@ use Rattle.cfg_parse.specs.Keywords as keywords
 use Rattle.cfg_parse.specs.Lines as lines
 use Rattle.cfg_parse.specs.Rules as rules
 use Rattle.cfg_parse.specs.Settings as settings
-use Rattle.cfg_parse.specs.Whole.{Builds, Loads, Refusal, config_of, lines_from, pattern_at, read_whole, whole}
+use Rattle.cfg_parse.specs.Whole.{Builds, Loads, Refusal, application_of, config_of, lines_from, pattern_at, read_whole, whole}
 use Rattle.cfg_parse.specs.declared.fault.CfgKind.{CfgKind}
 use Rattle.cfg_parse.specs.declared.fault.CfgFault.{CfgFault}
 use Rattle.cfg_parse.specs.declared.fault.CfgFault.TheVariants as faults
@@ -39,7 +39,7 @@ gives_one (Err refusal) = false
 
 -- it asks for no pattern, and gives a configuration: by computation
 reads : asks_none (read_whole configuration).asks && gives_one (read_whole configuration).gives ≡ true
-unfolding configuration read_whole lines_from whole lines.line_of lines.words_line lines.known_line lines.setting_line
+unfolding configuration read_whole lines_from whole application_of lines.line_of lines.words_line lines.known_line lines.setting_line
     keywords.section_word keywords.general_setting keywords.listen_setting items.item_at items.plain verdict words_of
     settings.section_line settings.bind_line settings.bind_options settings.server_line settings.server_options
     addresses.address_of addresses.server_address_of addresses.named addresses.with_port addresses.port_of

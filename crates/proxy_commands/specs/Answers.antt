@@ -48,8 +48,8 @@ IsRefusedOf files builder cfg_name text =
 abbrev pub IsAllRefusedOf : Option (List NamedBytes) → Builder → (cfg_name text : List ℕ) → Type 0
 IsAllRefusedOf files builder cfg_name text = (all : List RefusedLine) × IfTold files (λ fs. RefusesAll fs builder cfg_name all) × (text ≡ refused_text cfg_name all)
 
--- The text is what is written of a refused configuration: of `check --all` each refused line, of any other command the first; or the command takes none whose
--- clients begin with a header, and that is written.
+-- The text is what is written of a refused configuration: of `check --all` each refused line, of any other command the first; or the command takes none that is
+-- such a one, and that is written.
 abbrev pub IsRefusedBy : List (List ℕ) → Option (List NamedBytes) → Builder → (text : List ℕ) → Type 0
 IsRefusedBy words files builder text =
     ((cfg_name : List ℕ) × NamesConfig words cfg_name × IsRefusedOf files builder cfg_name text)

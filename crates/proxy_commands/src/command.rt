@@ -13,6 +13,7 @@ use crate::networks::Networks;
 use crate::running::{RunCommand, run_many};
 use crate::serving::{ServeCommand, serve};
 use crate::stop::Stop;
+use fcgi_link::AsksApplication;
 use proxy_sessions::{Switch, Workers};
 use px_command::{Asked, asked_by, help_of_text, help_text, version_text};
 use px_link::{Bytes, Files, Link, Net, Sink, Waits, WaitsNet, Wakes};
@@ -35,7 +36,7 @@ pub fn run<
     'a,
     F: Files,
     H: Link + HasPair,
-    N: Net<Link = H> + Introduces,
+    N: Net<Link = H> + Introduces + AsksApplication,
     L: Waits + HasPair + Drop,
     M: WaitsNet<Link = L> + Introduces + Drop,
     S: Nets<M> + Switch + Workers<M>,

@@ -1,6 +1,6 @@
-//! The commands that run a record by a configuration, and which configurations they refuse.
+//! The commands that run a record by a configuration, and which configurations they and `run` refuse.
 ghost use Rattle.std.specs.Prelude.{◌≡◌};
-ghost use Rattle.proxy_commands.specs.Modes.{refuses};
+ghost use Rattle.proxy_commands.specs.Modes.{asks_application, refuses};
 
 use cfg_parse::Config;
 
@@ -9,10 +9,17 @@ use cfg_parse::Config;
 pub enum RecordCommand {
     /// Each connection alone. It takes each configuration.
     Replay,
-    /// The first exchange of the first connection. It takes none whose clients begin with a header of the PROXY protocol.
+    /// The first exchange of the first connection. It takes none whose server is an application, or whose clients begin with a header of the PROXY protocol.
     Explain,
-    /// All connections over cores that they share. It takes none with such a header on either side.
+    /// All connections over cores that they share. It takes none whose server is an application, or with such a header on either side.
     Weave,
+}
+
+/// Whether the server is an application.
+pub(crate) fn asks_application(config: &Config) -> bool
+    ensures { result ≡ asks_application config.now }
+{
+    config.application.is_some()
 }
 
 /// Whether a command refuses a configuration as a whole.
@@ -21,7 +28,9 @@ pub(crate) fn refuses(command: RecordCommand, config: &Config) -> bool
 {
     match command {
         RecordCommand::Replay => false,
-        RecordCommand::Explain => config.accept_proxy,
-        RecordCommand::Weave => config.accept_proxy || config.send_proxy.is_some(),
+        RecordCommand::Explain => asks_application(config) || config.accept_proxy,
+        RecordCommand::Weave => {
+            asks_application(config) || config.accept_proxy || config.send_proxy.is_some()
+        }
     }
 }

@@ -8,6 +8,7 @@ ghost use Rattle.proxy_commands.specs.Stops.{given};
 
 use crate::answer::configuration;
 use crate::stop::Stop;
+use fcgi_link::AsksApplication;
 use proxy_sessions::serve_clients;
 use px_link::{Files, Link, Net, Sink};
 use px_pattern::Patterns;
@@ -23,7 +24,14 @@ pub struct ServeCommand<'a> {
 }
 
 /// Serves so many connections by the configuration in a file, and writes their lines.
-pub fn serve<'a, F: Files, H: Link + HasPair, N: Net<Link = H> + Introduces, K: Sink, P: Patterns>(
+pub fn serve<
+    'a,
+    F: Files,
+    H: Link + HasPair,
+    N: Net<Link = H> + Introduces + AsksApplication,
+    K: Sink,
+    P: Patterns,
+>(
     alloc: Global,
     files: &mut F,
     asked: &ServeCommand<'a>,

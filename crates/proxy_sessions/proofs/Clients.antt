@@ -1,5 +1,5 @@
 -- What the driver did with a client is what its configuration makes of it.
-use Rattle.std.proofs.Common.{◌≡◌, inl, inr, List, Option, Some}
+use Rattle.std.proofs.Common.{◌≡◌, inl, inr, List, Option, Some, None}
 use Rattle.std.specs.Prelude.{Result, Ok, Err, ℕ}
 use Rattle.http_model.specs.declared.Ending.{Ending}
 use Rattle.session_model.specs.Meaning.{Meaning}
@@ -14,7 +14,8 @@ use Rattle.htx_drive.specs.declared.SessionFault.{SessionFault}
 use Rattle.px_peer.specs.declared.Pair.{Pair}
 use Rattle.px_proxyproto.specs.declared.meeting.Met.{Met}
 use Rattle.px_proxyproto.specs.declared.meeting.Met.TheVariants as met
-use Rattle.serve_run.specs.Drove.{Drove}
+use Rattle.fcgi_link.specs.Asked.{Responder}
+use Rattle.serve_run.specs.Drove.{AsksFirst, Drove}
 use Rattle.serve_run.specs.Met.{ServedAsMet}
 use Rattle.proxy_sessions.specs.Connections.{ServesWith}
 
@@ -34,6 +35,15 @@ serves meaning stands core_seen seen wrote cfg to first client first_net net law
     let g = h.1 in
     inl (record { past = g.past; front = g.front; came = g.came; put = g.put; closed = g.closed; dials = g.dials; spent = g.spent; spent_in_turns = g.spent_in_turns; turned = h.2 })
 serves meaning stands core_seen seen wrote cfg to first client first_net net law (Err fault) (inr h) = inr h
+
+-- what follows of each net that is begun with follows behind a net that was asked first
+pub as_asked : {L : Type 0} (responder : Option Responder) (seen : L → Seen) (wrote : L → List ℕ → Type 0) (begins client : L) (first_net net : NetSeen) (does makes : NetSeen → Type 0) (result : Result Ran SessionFault)
+    → ((asked : NetSeen) → does asked → makes asked)
+    → AsksFirst responder seen wrote begins client first_net net does result → AsksFirst responder seen wrote begins client first_net net makes result
+as_asked None seen wrote begins client first_net net does makes result follows h = follows _ h
+as_asked (Some responder) seen wrote begins client first_net net does makes (Ok ran) follows h = follows _ h
+as_asked (Some responder) seen wrote begins client first_net net does makes (Err fault) follows (inl h) = inl (follows _ h)
+as_asked (Some responder) seen wrote begins client first_net net does makes (Err fault) follows (inr h) = inr h
 
 -- what follows for each caller follows for whoever was met
 pub as_met : {L : Type 0} (seen : L → Seen) (wrote : L → List ℕ → Type 0) (does makes : Option Pair → L → L → NetSeen → NetSeen → Result Ran SessionFault → Type 0) (how : Met) (begins client : L) (first_net net : NetSeen) (result : Result Ran SessionFault)

@@ -1,5 +1,5 @@
 -- What a configuration makes of a client that connects.
-use Rattle.std.specs.Prelude.{◌≡◌, ℕ, Bool, ◌⊎◌, ◌≤◌, List, [], Option, Some, Result, Ok, Err}
+use Rattle.std.specs.Prelude.{◌≡◌, ℕ, Bool, ◌⊎◌, ◌≤◌, List, [], Option, Some, Result, Ok, Err, option_map}
 use Rattle.http_model.specs.declared.Ending.{Ending}
 use Rattle.http_model.specs.declared.Close.TheVariants.{Failed}
 use Rattle.session_model.specs.Meaning.{Meaning}
@@ -9,6 +9,8 @@ use Rattle.px_peer.specs.declared.Pair.{Pair}
 use Rattle.px_proxyproto.specs.Meeting.{source_in}
 use Rattle.px_proxyproto.specs.Nets.{heading_for, introduced}
 use Rattle.px_link.specs.Net.{Place, Coming, Kept, NetSeen}
+use Rattle.fcgi_model.specs.Application.{Application}
+use Rattle.fcgi_link.specs.Asked.{Responder}
 use Rattle.http_rules.specs.declared.config.Config.{Config}
 use Rattle.forward_core.specs.Meaning.Product.{meaning_of}
 use Rattle.htx_drive.specs.Machine.{CoreSeen, TookFront}
@@ -21,7 +23,7 @@ use Rattle.htx_drive.specs.Headline.{IsSessionOf}
 use Rattle.htx_drive.specs.declared.Ran.{Ran}
 use Rattle.htx_drive.specs.declared.SessionFault.{SessionFault}
 use Rattle.htx_drive.specs.declared.SessionFault.TheVariants as faults
-use Rattle.serve_run.specs.Drove.{budget, NotBegun}
+use Rattle.serve_run.specs.Drove.{budget, AsksFirst, NotBegun}
 use Rattle.serve_run.specs.Met.{MeetsAndServes}
 use Rattle.proxy_sessions.specs.Driven.{stands_for, seen_of}
 
@@ -60,13 +62,18 @@ abbrev pub ServesClient : {L : Type 0} (cfg : Config) (seen : L → Seen) (wrote
 ServesClient cfg = ServesWith (meaning_of cfg) (stands_for cfg) seen_of
 
 -- The same of a link that was accepted and met first: by the header in front of its stream where one is to stand there, else by what the link may tell of
--- its two ends. The session begins where that ends, its peer is the end that asks, and where headers of a version are sent each link to a server passes on
--- one of these ends first; one that isn't heard is turned away.
-abbrev pub ServesMet : {L : Type 0} (tells : L → Option Pair → Type 0) (accepts_header : Bool) (sends_header : Option ℕ) (cfg : Config) (seen : L → Seen) (wrote : L → List ℕ → Type 0) (to : Place) (first client : L) (first_net net : NetSeen) → Result Ran SessionFault → Type 0
-ServesMet tells accepts_header sends_header cfg seen wrote to =
+-- its two ends. The session begins where that ends, and its peer is the end that asks. Where the servers are an application each link to one asks it, and where
+-- headers of a version are sent each passes on one of these ends first; one that isn't heard is turned away.
+abbrev pub ServesMet : {L : Type 0} (tells : L → Option Pair → Type 0) (accepts_header : Bool) (sends_header : Option ℕ) (responder : Option Responder) (cfg : Config) (seen : L → Seen) (wrote : L → List ℕ → Type 0) (to : Place) (first client : L) (first_net net : NetSeen) → Result Ran SessionFault → Type 0
+ServesMet tells accepts_header sends_header responder cfg seen wrote to =
     MeetsAndServes tells accepts_header seen wrote
-    (λ pair begins client first_net net result. ServesClient (record cfg { peer = source_in pair }) seen wrote to begins client (introduced (heading_for sends_header pair) first_net) net result)
+    (λ pair begins client first_net net result. AsksFirst responder seen wrote begins client first_net net
+    (λ asked. ServesClient (record cfg { peer = source_in pair }) seen wrote to begins client (introduced (heading_for sends_header pair) asked) net result) result)
+
+-- how the servers are asked by a configuration, where they are an application: a head of its answers has at most as many bytes as a buffer
+abbrev pub responder_of : Config → Option Responder
+responder_of cfg = option_map (λ (application : Application). let responder : Responder = (application, cfg.limits.bufsize) in responder) cfg.application
 
 -- as the configuration says
 abbrev pub ServesFor : {L : Type 0} (tells : L → Option Pair → Type 0) (cfg : Config) (seen : L → Seen) (wrote : L → List ℕ → Type 0) (to : Place) (first client : L) (first_net net : NetSeen) → Result Ran SessionFault → Type 0
-ServesFor tells cfg = ServesMet tells cfg.accept_proxy cfg.send_proxy cfg
+ServesFor tells cfg = ServesMet tells cfg.accept_proxy cfg.send_proxy (responder_of cfg) cfg

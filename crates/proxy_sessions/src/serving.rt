@@ -4,17 +4,18 @@ ghost use Rattle.http_rules.specs.Valid.{IsValid};
 ghost use Rattle.htx_drive.specs.Dialled.{Dialled};
 ghost use Rattle.px_link.specs.Net.{Coming, Kept, address_of};
 ghost use Rattle.px_link.specs.Told.{Rose};
-ghost use Rattle.proxy_sessions.specs.Connections.{ServesFor};
+ghost use Rattle.proxy_sessions.specs.Connections.{ServesFor, responder_of};
 ghost use Rattle.serve_run.specs.Lines.{net_line};
 ghost use Rattle.serve_run.specs.Served.{Breaks, LostOne, NetFails, ServedAll, ServedOne};
 ghost use Rattle.serve_run.specs.Told.{Visited};
 
 use crate::cores::{ClientCores, ConfigCore};
+use fcgi_link::AsksApplication;
 use http_rules::Config;
 use htx_drive::laws::ran_is_the_session;
-use px_link::{Address, Link, Net, Sink};
+use px_link::{Address, Application, Link, Net, Sink};
 use px_proxyproto::{HasPair, Introduces};
-use serve_run::{Driven, Ran, ServeFault, SessionFault, Sessions, serve};
+use serve_run::{Driven, Ran, Responder, ServeFault, SessionFault, Sessions, serve};
 use std::alloc::Global;
 
 /// Sessions of one configuration with the servers at one address, one after another in the same memory.
@@ -23,18 +24,25 @@ struct ConfigSessions<'c> {
     driven: Driven<'c, ConfigCore<'c>, ClientCores<'c>>,
 }
 
-impl<'c, H: Link + HasPair, N: Net<Link = H> + Introduces> Sessions<N> for ConfigSessions<'c> {
+impl<'c, H: Link + HasPair, N: Net<Link = H> + Introduces + AsksApplication> Sessions<N>
+    for ConfigSessions<'c> {
     ghost use Rattle.px_link.specs.Net.{address_of};
     ghost use Rattle.proxy_sessions.specs.Connections.{ServesMet};
 
-    type Settings = (Config, Address, bool, Option<u32>);
+    type Settings = (
+        Config,
+        Address,
+        bool,
+        Option<u32>,
+        Option<(Application, u32)>,
+    );
 
-    ghost settings = { λ s. (s.driven.opener, s.driven.to.now, s.driven.accepts_header, s.driven.sends_header) };
+    ghost settings = { λ s. (s.driven.opener, s.driven.to.now, s.driven.accepts_header, s.driven.sends_header, s.driven.responder) };
 
     ghost to = { λ settings. address_of settings.1 };
 
     ghost session = { λ settings first client first_net net result.
-        ServesMet H.tells settings.2 settings.3 settings.0 H.seen H.wrote (address_of settings.1) first client (N.seen first_net) (N.seen net) result };
+        ServesMet H.tells settings.2 settings.3 settings.4 settings.0 H.seen H.wrote (address_of settings.1) first client (N.seen first_net) (N.seen net) result };
 
     fn run(&mut self, client: &mut H, net: &mut N) -> Result<Ran, SessionFault> {
         ran_is_the_session::<ConfigCore<'c>, H>();
@@ -42,8 +50,21 @@ impl<'c, H: Link + HasPair, N: Net<Link = H> + Introduces> Sessions<N> for Confi
     }
 }
 
+/// How the servers are asked by a configuration, where they are an application.
+fn responder_of(config: &Config) -> Option<Responder<'_>>
+    ensures { result ≡ responder_of config.now }
+{
+    match &config.application {
+        Some(application) => Some(Responder {
+            application,
+            limit: config.limits.bufsize,
+        }),
+        None => None,
+    }
+}
+
 /// Listens where the configuration says, serves so many clients one after another, and writes a line for each once its session is over.
-pub fn serve_clients<H: Link + HasPair, N: Net<Link = H> + Introduces, K: Sink>(
+pub fn serve_clients<H: Link + HasPair, N: Net<Link = H> + Introduces + AsksApplication, K: Sink>(
     alloc: Global,
     config: &Config,
     count: u32,
@@ -78,6 +99,7 @@ pub fn serve_clients<H: Link + HasPair, N: Net<Link = H> + Introduces, K: Sink>(
             &config.server,
             config.accept_proxy,
             config.send_proxy,
+            responder_of(config),
         ),
     };
     let served = serve(alloc, &config.bind, count, &mut sessions, net, out);

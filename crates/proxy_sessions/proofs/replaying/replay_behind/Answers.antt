@@ -5,6 +5,6 @@ use Rattle.proxy_sessions.proofs.replaying.replay_behind.Goals as goal
 
 pub returns : goal.returns
 returns c =
-    let told : Config = record c.args.config.now { peer = c.args.asked.peer } in
+    let told : Config = record c.args.config.now { peer = c.args.caller.peer } in
     let client = c.in_ok-client.ensures in
-    behind_is c.args.asked.heading told c.args.turns.items c.args.conn.now c.args.len c.in_ok-client.client c.deref.result.now c.replay_for-replayed.result client.bytes client.ending c.deref.ensures.value c.replay_for-replayed.ensures
+    behind_is c.args.config.now.application c.args.caller.heading told c.args.turns.items c.args.conn.now c.args.len c.in_ok-client.client c.deref.result.now c.replay_for-replayed.result client.bytes client.ending c.deref.ensures.value c.replay_for-replayed.ensures

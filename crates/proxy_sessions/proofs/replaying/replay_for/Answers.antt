@@ -1,49 +1,24 @@
-use Rattle.std.proofs.Common.{◌≡◌, ◌≤◌, List, Some, None, sym, subst, arith}
-use Rattle.http_rules.specs.declared.config.Config.{Config}
-use Rattle.http_rules.specs.Valid.{IsValid}
-use Rattle.px_peer.specs.declared.Peer.{Peer}
+use Rattle.std.proofs.Common.{◌≡◌, List, Some, None, sym, subst}
 use Rattle.std.specs.Prelude.{Option, Result, IfOk}
+use Rattle.http_rules.specs.declared.config.Config.{Config}
+use Rattle.fcgi_model.specs.Application.{Application}
 use Rattle.px_link.specs.declared.turns.Turn.{Turn}
 use Rattle.px_proxyproto.specs.declared.heading.Heading.{Heading}
 use Rattle.rec_format.specs.Recorded.{Visit}
 use Rattle.rec_format.specs.ReportParts.{out_of}
 use Rattle.rec_format.specs.declared.report.Report.{Report}
 use Rattle.htx_drive.specs.Replay.Streams.{visit_in}
-use Rattle.session_core.specs.Consequences.{IsTotal}
-use Rattle.session_core.specs.MeaningLaws.Bound.{IsBounded}
-use Rattle.forward_core.specs.Meaning.Product.{meaning_of}
-use Rattle.proxy_sessions.specs.Ready.{IsReady}
-use Rattle.proxy_sessions.specs.Recorded.{ReplaysSending}
-use Rattle.proxy_sessions.proofs.Callers.{valid_for}
+use Rattle.proxy_sessions.specs.Recorded.{ReplaysOver}
 use Rattle.proxy_sessions.proofs.replaying.replay_for.Goals as goal
 
--- a valid configuration makes cores of any peer
-ready_for : (cfg : Config) (peer : Option Peer) → IsValid cfg → ((c : Config) → IsValid c → IsBounded (meaning_of c)) → ((c : Config) → IsTotal (meaning_of c)) → IsReady (record cfg { peer = peer }) cfg.limits.bufsize
-ready_for cfg peer v bounded total =
-    let told : Config = record cfg { peer = peer } in
-    let valid : IsValid told = valid_for cfg peer v in
-    let least : 1024 ≤ told.limits.bufsize = valid.limits.least in
-    record {
-      valid = valid;
-      window_room = omega (arith, least);
-      some_room = omega (arith, least);
-      bounded = bounded told valid;
-      total = total told;
-    }
-
-pub replay_streams-requires : goal.replay_streams-requires
-replay_streams-requires c = record { ready = ready_for c.args.config.now c.args.asked.peer c.requires.valid c.bounded.ensures c.total.ensures }
-
-pub replay_headed-requires : goal.replay_headed-requires
-replay_headed-requires c = record { ready = ready_for c.args.config.now c.args.asked.peer c.requires.valid c.bounded.ensures c.total.ensures }
-
-sends_as : {E : Type 0} (heading other : Option Heading) (cfg : Config) (turns : List Turn) (visit : Visit) (r : Result Report E) → heading ≡ other
-    → IfOk r (λ report. ReplaysSending other cfg turns visit (out_of report)) → IfOk r (λ report. ReplaysSending heading cfg turns visit (out_of report))
-sends_as heading other cfg turns visit r is replayed = subst (λ (h : Option Heading). IfOk r (λ report. ReplaysSending h cfg turns visit (out_of report))) (sym is) replayed
+over_as : {E : Type 0} (application other : Option Application) (heading : Option Heading) (cfg : Config) (turns : List Turn) (visit : Visit) (r : Result Report E) → application ≡ other
+    → IfOk r (λ report. ReplaysOver other heading cfg turns visit (out_of report)) → IfOk r (λ report. ReplaysOver application heading cfg turns visit (out_of report))
+over_as application other heading cfg turns visit r is replayed = subst (λ (a : Option Application). IfOk r (λ report. ReplaysOver a heading cfg turns visit (out_of report))) (sym is) replayed
 
 pub returns-in-None : goal.returns-in-None
-returns-in-None c = sends_as c.args.asked.heading None (record c.args.config.now { peer = c.args.asked.peer }) c.args.turns.items (visit_in c.args.streams) c.replay_streams.result c.in-None.is c.replay_streams.ensures
+returns-in-None c =
+    over_as c.args.config.now.application None c.args.caller.heading (record c.args.config.now { peer = c.args.caller.peer }) c.args.turns.items (visit_in c.args.streams) c.replay_sending.result c.in-None.is c.replay_sending.ensures
 
 pub returns-in-Some : goal.returns-in-Some
 returns-in-Some c =
-    sends_as c.args.asked.heading (Some c.in-Some.heading) (record c.args.config.now { peer = c.args.asked.peer }) c.args.turns.items (visit_in c.args.streams) c.replay_headed.result c.in-Some.is c.replay_headed.ensures
+    over_as c.args.config.now.application (Some c.in-Some.application) c.args.caller.heading (record c.args.config.now { peer = c.args.caller.peer }) c.args.turns.items (visit_in c.args.streams) c.replay_application.result c.in-Some.is c.replay_application.ensures

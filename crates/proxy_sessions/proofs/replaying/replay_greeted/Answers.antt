@@ -10,4 +10,4 @@ returns-in-Header c =
     let conn = c.args.conn.now in
     let stands : StandsInFront (fronts.Header c.in-Header.len c.in-Header.pair) conn.client.bytes =
     subst (λ (bytes : List ℕ). StandsInFront (fronts.Header c.in-Header.len c.in-Header.pair) bytes) c.as_slice.ensures c.in-Header.ensures in
-    heard c.args.config.now c.args.turns.items (visit conn) c.in-Header.len c.in-Header.pair c.asked_by.result.peer c.asked_by.result.heading c.replay_behind.result stands c.asked_by.ensures.peer c.asked_by.ensures.heading c.replay_behind.ensures
+    heard c.args.config.now c.args.turns.items (visit conn) c.in-Header.len c.in-Header.pair c.caller_of.result.peer c.caller_of.result.heading c.replay_behind.result stands c.caller_of.ensures.peer c.caller_of.ensures.heading c.replay_behind.ensures

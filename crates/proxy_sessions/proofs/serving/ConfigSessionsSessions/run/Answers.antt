@@ -15,9 +15,10 @@ use Rattle.session_core.specs.declared.machine.Core.{Core}
 use Rattle.session_model.specs.Meaning.{Meaning}
 use Rattle.forward_core.specs.Joined.Joined.{SessionStands, request_of, answer_of}
 use Rattle.forward_core.specs.declared.joined.directions.Directions.{Directions}
-use Rattle.serve_run.specs.Drove.{DrivesFor}
+use Rattle.fcgi_link.specs.Asked.{Responder}
+use Rattle.serve_run.specs.Drove.{AsksFirst, DrivesFor, Drove}
 use Rattle.proxy_sessions.specs.Connections.{ServesClient}
-use Rattle.proxy_sessions.proofs.Clients.{serves, as_met}
+use Rattle.proxy_sessions.proofs.Clients.{serves, as_asked, as_met}
 use Rattle.proxy_sessions.proofs.serving.ConfigSessionsSessions.run.Goals as goal
 
 pub returns-clause-session : goal.returns-clause-session
@@ -32,17 +33,23 @@ returns-clause-session g c =
     let sends : Option ℕ = c.args.self.now.driven.sends_header in
     let first_net = g.N.Net.seen c.args.net.now in
     let net = g.N.Net.seen c.run.new.net in
-    let begun : Option Pair → NetSeen = λ pair. introduced (heading_for sends pair) first_net in
+    let responder : Option Responder = c.args.self.now.driven.responder in
+    let begun : Option Pair → NetSeen → NetSeen = λ pair asked. introduced (heading_for sends pair) asked in
     record {
       begins = met.begins;
       how = met.how;
       so = met.so;
       served =
-          as_met g.H.Link.seen g.H.Link.wrote (DrivesFor meaning stands sees g.H.Link.seen g.H.Link.wrote cfg sends to)
-          (λ pair begins client first_net net result. ServesClient (record opener { peer = source_in pair }) g.H.Link.seen g.H.Link.wrote to begins client (introduced (heading_for sends pair) first_net) net result)
+          as_met g.H.Link.seen g.H.Link.wrote (DrivesFor meaning stands sees g.H.Link.seen g.H.Link.wrote cfg sends responder to)
+          (λ pair begins client first_net net result. AsksFirst responder g.H.Link.seen g.H.Link.wrote begins client first_net net
+          (λ asked. ServesClient (record opener { peer = source_in pair }) g.H.Link.seen g.H.Link.wrote to begins client (introduced (heading_for sends pair) asked) net result) result)
           met.how met.begins c.run.new.client first_net net c.run.result
-          (λ pair h. serves meaning stands sees g.H.Link.seen g.H.Link.wrote (cfg (source_in pair)) to met.begins c.run.new.client (begun pair) net
-          (λ core ran own ending answers kept a b d e r. c.ran_is_the_session.ensures (cfg (source_in pair)) core met.begins c.run.new.client to (begun pair) net ran own ending answers kept a b d e r)
-          c.run.result h)
+          (λ pair h. as_asked responder g.H.Link.seen g.H.Link.wrote met.begins c.run.new.client first_net net
+          (λ asked. Drove meaning stands sees g.H.Link.seen g.H.Link.wrote (cfg (source_in pair)) to met.begins c.run.new.client (begun pair asked) net c.run.result)
+          (λ asked. ServesClient (record opener { peer = source_in pair }) g.H.Link.seen g.H.Link.wrote to met.begins c.run.new.client (begun pair asked) net c.run.result)
+          c.run.result
+          (λ asked d. serves meaning stands sees g.H.Link.seen g.H.Link.wrote (cfg (source_in pair)) to met.begins c.run.new.client (begun pair asked) net
+          (λ core ran own ending answers kept a b e f r. c.ran_is_the_session.ensures (cfg (source_in pair)) core met.begins c.run.new.client to (begun pair asked) net ran own ending answers kept a b e f r)
+          c.run.result d) h)
           met.served;
     }
