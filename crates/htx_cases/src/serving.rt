@@ -1,5 +1,6 @@
 //! What serves in the run over loopback: the program's one call, with a configuration in memory, over sockets.
 use case_sessions::served::{many_of, no_net};
+use fcgi_link::AppNet;
 use proxy_call::{Networks, Status, htx_proxy};
 use px_link::{MemFiles, OutOfMemory};
 use px_loop::RULES;
@@ -52,7 +53,7 @@ pub fn serve<R: Net + Clock + Print + Eprint + AllocGlobal>(rt: &R, ports: Ports
         return ExitCode::from(Status::OutOfMemory.number());
     };
     let mut nets = Networks {
-        serve: SendNet::new(RealNet::new(alloc, rt)),
+        serve: AppNet::new(alloc, SendNet::new(RealNet::new(alloc, rt))),
         run: many_of(alloc, unused, &[]),
     };
     let mut out = RealSink::new(rt);

@@ -14,27 +14,35 @@ fn give(answer: &mut Translator, http: &mut Vec<u8>) -> Result<(), Fault> {
     Ok(())
 }
 
-/// Hands a piece in, and gives what is then ready.
-fn feed_piece(
-    alloc: Global,
+/// Hands as much of a piece in as there is room for, gives what is then ready, and answers what is left of the piece.
+fn feed_front<'a>(
     answer: &mut Translator,
-    piece: &[u8],
+    piece: &'a [u8],
     http: &mut Vec<u8>,
-) -> Result<(), Fault> {
-    answer.feed(piece)?;
-    answer.begin(alloc)?;
-    give(answer, http)
+) -> Result<&'a [u8], Fault> {
+    let (front, rest) = piece.split_at(piece.len().min(answer.room()));
+    answer.feed(front);
+    answer.begin();
+    give(answer, http)?;
+    Ok(rest)
+}
+
+/// Hands a piece in, and gives what is then ready, until it is all in or nothing more may come.
+fn feed_piece(answer: &mut Translator, piece: &[u8], http: &mut Vec<u8>) -> Result<(), Fault> {
+    let mut rest = piece;
+    for _ in 0..piece.len() {
+        if rest.is_empty() {
+            break;
+        }
+        rest = feed_front(answer, rest, http)?;
+    }
+    Ok(())
 }
 
 /// Hands each byte in as a piece.
-fn feed_bytes(
-    alloc: Global,
-    answer: &mut Translator,
-    bytes: &[u8],
-    http: &mut Vec<u8>,
-) -> Result<(), Fault> {
+fn feed_bytes(answer: &mut Translator, bytes: &[u8], http: &mut Vec<u8>) -> Result<(), Fault> {
     for byte in bytes {
-        feed_piece(alloc, answer, &[*byte], http)?;
+        feed_piece(answer, &[*byte], http)?;
     }
     Ok(())
 }
@@ -56,13 +64,13 @@ fn say_pieces(
     by_byte: bool,
     answers: &mut Answers,
 ) -> Result<(), Fault> {
-    let mut answer = Translator::new(alloc, limit);
+    let mut answer = Translator::new(alloc, limit)?;
     let mut http = Vec::new(alloc);
-    feed_piece(alloc, &mut answer, pieces.0, &mut http)?;
+    feed_piece(&mut answer, pieces.0, &mut http)?;
     if by_byte {
-        feed_bytes(alloc, &mut answer, pieces.1, &mut http)?;
+        feed_bytes(&mut answer, pieces.1, &mut http)?;
     } else {
-        feed_piece(alloc, &mut answer, pieces.1, &mut http)?;
+        feed_piece(&mut answer, pieces.1, &mut http)?;
     }
     say_end(&answer, &http, answers);
     Ok(())

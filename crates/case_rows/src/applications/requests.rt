@@ -1,9 +1,11 @@
-//! Requests of applications: NAME, the root of the application's files, `cut` or `whole`, the text of a request, and the records that ask the same, with what may
-//! come behind them. With `cut` each cut of the text into two pieces, and its bytes one by one, have to come to the same. The records of a body are joined.
+//! Requests of applications: NAME, the application, `cut` or `whole`, the text of a request, and the records that ask the same, with what may come behind
+//! them. With `cut` each cut of the text into two pieces, and its bytes one by one, have to come to the same. The records of a body are joined.
+use crate::applications::application::application_of;
 use crate::bodies::is_cut_same;
 use crate::{Answers, Fault, Row, decoded};
 use fcgi_lane::request::{Refusal, RequestState, Translator};
 use fcgi_record::{RecordHead, RecordKind, read_head};
+use px_link::Application;
 use std::alloc::Global;
 
 /// The most bytes of a body in a record.
@@ -121,11 +123,7 @@ fn say_state(state: RequestState, answers: &mut Answers) {
 }
 
 /// Hands a piece in, and gives what is then ready.
-fn feed_piece(
-    request: &mut Translator<'_>,
-    piece: &[u8],
-    given: &mut Vec<u8>,
-) -> Result<(), Fault> {
+fn feed_piece(request: &mut Translator, piece: &[u8], given: &mut Vec<u8>) -> Result<(), Fault> {
     request.feed(piece)?;
     given.extend_from_slice(request.ready())?;
     let count = request.ready().len();
@@ -136,11 +134,11 @@ fn feed_piece(
 /// Says what a text in two pieces comes to.
 fn say_pieces(
     alloc: Global,
-    root: &[u8],
+    application: &Application,
     pieces: (&[u8], &[u8]),
     answers: &mut Answers,
 ) -> Result<(), Fault> {
-    let mut request = Translator::new(alloc, root);
+    let mut request = Translator::new(alloc, application.copy(alloc)?);
     let mut given = Vec::new(alloc);
     feed_piece(&mut request, pieces.0, &mut given)?;
     feed_piece(&mut request, pieces.1, &mut given)?;
@@ -150,15 +148,24 @@ fn say_pieces(
 }
 
 /// What a text in two pieces comes to.
-fn facts_of(alloc: Global, root: &[u8], pieces: (&[u8], &[u8])) -> Result<Vec<u8>, Fault> {
+fn facts_of(
+    alloc: Global,
+    application: &Application,
+    pieces: (&[u8], &[u8]),
+) -> Result<Vec<u8>, Fault> {
     let mut answers = Answers::new(alloc);
-    let said = say_pieces(alloc, root, pieces, &mut answers);
+    let said = say_pieces(alloc, application, pieces, &mut answers);
     answers.told(said)
 }
 
 /// Says what a text comes to byte by byte.
-fn say_bytes(alloc: Global, root: &[u8], text: &[u8], answers: &mut Answers) -> Result<(), Fault> {
-    let mut request = Translator::new(alloc, root);
+fn say_bytes(
+    alloc: Global,
+    application: &Application,
+    text: &[u8],
+    answers: &mut Answers,
+) -> Result<(), Fault> {
+    let mut request = Translator::new(alloc, application.copy(alloc)?);
     let mut given = Vec::new(alloc);
     for byte in text {
         feed_piece(&mut request, &[*byte], &mut given)?;
@@ -171,13 +178,13 @@ fn say_bytes(alloc: Global, root: &[u8], text: &[u8], answers: &mut Answers) -> 
 /// Whether a text comes to the same at each cut. Else says what the first other one comes to.
 fn is_each_cut_same(
     alloc: Global,
-    root: &[u8],
+    application: &Application,
     text: &[u8],
     facts: &[u8],
     answers: &mut Answers,
 ) -> Result<bool, Fault> {
     for first in 0..text.len() + 1 {
-        let other = facts_of(alloc, root, text.split_at(first))?;
+        let other = facts_of(alloc, application, text.split_at(first))?;
         if !is_cut_same(first, facts, &other, answers) {
             return Ok(false);
         }
@@ -188,25 +195,25 @@ fn is_each_cut_same(
 /// Whether it comes to the same byte by byte. Else says what it comes to.
 fn is_same_by_byte(
     alloc: Global,
-    root: &[u8],
+    application: &Application,
     text: &[u8],
     facts: &[u8],
     answers: &mut Answers,
 ) -> Result<bool, Fault> {
     let mut bytes = Answers::new(alloc);
-    let said = say_bytes(alloc, root, text, &mut bytes);
+    let said = say_bytes(alloc, application, text, &mut bytes);
     let other = bytes.told(said)?;
     Ok(is_cut_same(text.len(), facts, &other, answers))
 }
 
 /// What a row comes to.
 pub fn asked(alloc: Global, row: Row<'_>, answers: &mut Answers) -> Result<(), Fault> {
-    let root = decoded(alloc, row.field(1).as_bytes())?;
+    let application = application_of(alloc, row.field(1))?;
     let text = decoded(alloc, row.field(3).as_bytes())?;
-    let facts = facts_of(alloc, &root, (b"", &text))?;
+    let facts = facts_of(alloc, &application, (b"", &text))?;
     if row.field(2) == "cut"
-        && !(is_each_cut_same(alloc, &root, &text, &facts, answers)?
-            && is_same_by_byte(alloc, &root, &text, &facts, answers)?)
+        && !(is_each_cut_same(alloc, &application, &text, &facts, answers)?
+            && is_same_by_byte(alloc, &application, &text, &facts, answers)?)
     {
         return Ok(());
     }

@@ -11,8 +11,10 @@ use std::alloc::Global;
 /// What stands around the lines.
 const FRONT: &[u8] = b"global\ntune.bufsize ";
 
-const BEHIND: &[u8] =
-    b"\ntune.maxrewrite 256\nlisten p\nbind 127.0.0.1:8080\nserver s 127.0.0.1:8081\n";
+const BEHIND: &[u8] = b"\ntune.maxrewrite 256\nlisten p\nbind 127.0.0.1:8080\n";
+
+/// The server, where the lines don't begin with one.
+const SERVER: &[u8] = b"server s 127.0.0.1:8081\n";
 
 /// The configuration of a text.
 fn loaded(alloc: Global, text: &[u8]) -> Result<Config, Fault>
@@ -34,6 +36,10 @@ pub fn config_of(alloc: Global, size: &str, lines: &str) -> Result<Config, Fault
     text.extend_from_slice(FRONT)?;
     text.extend_from_slice(size.as_bytes())?;
     text.extend_from_slice(BEHIND)?;
-    text.extend_from_slice(&decoded(alloc, lines.as_bytes())?)?;
+    let lines = decoded(alloc, lines.as_bytes())?;
+    if !lines.starts_with(b"server ") {
+        text.extend_from_slice(SERVER)?;
+    }
+    text.extend_from_slice(&lines)?;
     loaded(alloc, &text)
 }

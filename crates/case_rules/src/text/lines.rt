@@ -3,6 +3,7 @@ use case_rows::{Answers, Fault, Row, decoded, place_of};
 use cfg_lex::{LineFault, Words, words_of_line};
 use cfg_parse::{CfgFault, RefusedLine, RefusedLines, Verdict, load, verdict_of};
 use http_rules::Config;
+use px_link::Application;
 use px_pattern::{FakePatterns, Patterns, RealPatterns};
 use std::alloc::Global;
 
@@ -37,9 +38,30 @@ fn say_counts(name: &[u8], first: u64, second: u64, answers: &mut Answers) {
     answers.more_count(second);
 }
 
+/// Says how an application is asked: its root, its index and its script, where it has one, and the names of its pairs, each in brackets.
+fn say_application(application: &Application, answers: &mut Answers) {
+    answers.say(b"application ");
+    answers.bracket(application.root.as_slice());
+    if let Some(index) = &application.index {
+        answers.say(b"index ");
+        answers.bracket(index.as_slice());
+    }
+    if let Some(script) = &application.script {
+        answers.say(b"script ");
+        answers.bracket(script.as_slice());
+    }
+    if application.params.is_empty() {
+        return;
+    }
+    answers.say(b"params ");
+    for name in application.params.as_slice() {
+        answers.bracket(name.as_slice());
+    }
+}
+
 /// Says what an accepted configuration has: `ok`, its two sizes and how many request rules; where there are any, how many
 /// rules of responses and behind them; where there are filters, how many of each direction; whether a header of the PROXY
-/// protocol is awaited; and of what version one is sent to each server, where one is.
+/// protocol is awaited; of what version one is sent to each server, where one is; and how an application is asked, where the server is one.
 fn say_config(config: &Config, answers: &mut Answers) {
     answers.say(b"ok ");
     answers.more_count(u64::from(config.limits.bufsize));
@@ -65,6 +87,9 @@ fn say_config(config: &Config, answers: &mut Answers) {
     if let Some(version) = config.send_proxy {
         answers.say(b"send-proxy ");
         answers.more_count(u64::from(version));
+    }
+    if let Some(application) = &config.application {
+        say_application(application, answers);
     }
 }
 

@@ -101,7 +101,9 @@ fn servers(
 }
 
 /// The net on which the clients of a record come, and its servers stand.
-pub(crate) fn net_of(alloc: Global, record: &Record, failing: &Call<'_>) -> Result<MemNet, Fault> {
+pub(crate) fn net_of(alloc: Global, record: &Record, failing: &Call<'_>) -> Result<MemNet, Fault>
+    ensures { IfOk result (λ net. net.lent ≡ 0) }
+{
     let clients = clients(alloc, &record.conns, failing)?;
     let servers = servers(alloc, &record.conns, failing)?;
     let mut net = MemNet::new(alloc, clients, servers)?;

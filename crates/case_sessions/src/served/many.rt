@@ -5,6 +5,7 @@ ghost use Rattle.px_link.specs.MemNet.{net_of};
 
 use crate::served::links::put_servers;
 use case_rows::{Call, Fault};
+use fcgi_link::AppNet;
 use proxy_commands::Networks;
 use proxy_sessions::{Many, Switch, Workers};
 use px_link::{Fault as Failure, MemNet, MemWakes, Net, OutOfMemory, Script, ScriptedNet, Sink};
@@ -84,7 +85,7 @@ impl<'r> Nets<ReadyNet> for RecordNets<'r> {
 pub type MemMany<'r> = Many<ReadyNet, RecordNets<'r>, MemWakes>;
 
 /// What the program is handed in memory.
-pub type MemNetworks<'r> = Networks<SendNet<MemNet>, ReadyNet, RecordNets<'r>, MemWakes>;
+pub type MemNetworks<'r> = Networks<AppNet<SendNet<MemNet>>, ReadyNet, RecordNets<'r>, MemWakes>;
 
 /// What `run` is handed, with the clients on this net, and the servers of these connections. Its clock stands still.
 pub fn many_of<'r>(alloc: Global, net: MemNet, conns: &'r [Connection]) -> MemMany<'r> {

@@ -1,10 +1,13 @@
 //! `serve` and `run` over links and nets in memory, one of whose calls may fail.
+ghost use Rattle.std.specs.Prelude.{◌≡◌, IfOk};
+
 use crate::program::Program;
 use crate::served::failing::calls_of;
 use crate::served::links::net_of;
 use crate::served::many::many_of;
 use crate::session::record_in;
 use case_rows::{Answers, Call, Fault, Row, decoded, words_of};
+use fcgi_link::AppNet;
 use proxy_commands::{Networks, Status};
 use px_link::{MemFiles, MemNet, MemSink};
 use px_pattern::RealPatterns;
@@ -48,17 +51,19 @@ fn served<P: Program>(alloc: Global, row: Row<'_>) -> Result<Vec<u8>, Fault> {
     let record = record_in(alloc, &decoded(alloc, row.field(4).as_bytes())?)?;
     let mut files = files_of(alloc, &cfg, &failing)?;
     let mut nets = Networks {
-        serve: SendNet::new(net_of(alloc, &record, &failing)?),
+        serve: AppNet::new(alloc, SendNet::new(net_of(alloc, &record, &failing)?)),
         run: many_of(alloc, no_net(alloc)?, &[]),
     };
     let mut out = output_of(alloc, &failing)?;
     let mut pats = RealPatterns::new();
     let status = P::call(alloc, &words, &mut files, &mut nets, &mut out, &mut pats);
-    tell(alloc, status, &out, nets.serve.inner())
+    tell(alloc, status, &out, nets.serve.inner().inner())
 }
 
 /// A net to which no client comes.
-pub fn no_net(alloc: Global) -> Result<MemNet, Fault> {
+pub fn no_net(alloc: Global) -> Result<MemNet, Fault>
+    ensures { IfOk result (λ net. net.lent ≡ 0) }
+{
     Ok(MemNet::new(alloc, Vec::new(alloc), Vec::new(alloc))?)
 }
 
@@ -70,7 +75,7 @@ fn ran<P: Program>(alloc: Global, row: Row<'_>) -> Result<Vec<u8>, Fault> {
     let record = record_in(alloc, &decoded(alloc, row.field(4).as_bytes())?)?;
     let mut files = files_of(alloc, &cfg, &failing)?;
     let mut nets = Networks {
-        serve: SendNet::new(no_net(alloc)?),
+        serve: AppNet::new(alloc, SendNet::new(no_net(alloc)?)),
         run: many_of(alloc, net_of(alloc, &record, &failing)?, &record.conns),
     };
     let mut out = output_of(alloc, &failing)?;

@@ -4,6 +4,7 @@ use crate::program::Program;
 use crate::served::{many_of, no_net};
 use crate::session::facts::facts_of;
 use case_rows::{Answers, Call, Fault, Row, decoded, words_of};
+use fcgi_link::AppNet;
 use proxy_commands::{Networks, Status};
 use px_link::{MemFiles, MemSink};
 use px_pattern::RealPatterns;
@@ -34,7 +35,7 @@ pub(crate) fn reply_to<P: Program>(
     out.fail_at(failing);
     let mut pats = RealPatterns::new();
     let mut nets = Networks {
-        serve: SendNet::new(no_net(alloc)?),
+        serve: AppNet::new(alloc, SendNet::new(no_net(alloc)?)),
         run: many_of(alloc, no_net(alloc)?, &[]),
     };
     let status = P::call(alloc, &words, &mut files, &mut nets, &mut out, &mut pats);
