@@ -36,7 +36,7 @@ OPTIONS = {"send-proxy": 1, "send-proxy-v2": 2}
 UNTRIED = ("", "text", "sh", "console", "rust")
 HEAD = f"""# Examples of {PAGE}, made of the page by `tools/try-docs.sh --rows`: NAME | a text | ok with bufsize, maxrewrite and the number of
 # rules; where there are any, the rules of responses and behind them, and the filters of requests and of responses; `accept-proxy` where each client's
-# stream begins with a header; `send-proxy` and its version where each server is sent one; or the refused line and its kind
+# stream begins with a header; `send-proxy` and its version where each server is sent one; how an application is asked; or the refused line and its kind
 """
 
 
@@ -111,6 +111,12 @@ class Counts:
         self.req, self.res = (sum(words[0] == "filter" and words[2] == side for words in lines) for side in ("req", "res"))
         self.accepts = any(words[0] == "bind" and words[2:3] == ["accept-proxy"] for words in lines)
         self.sends = next((OPTIONS.get(words[3]) for words in lines if words[0] == "server" and words[3:]), None)
+        self.root, self.index, self.script = (next((words[1] for words in lines if words[0] == name), None) for name in ("fcgi-docroot", "fcgi-index", "fcgi-script"))
+        if not any(words[0] == "server" and words[3:5] == ["proto", "fcgi"] for words in lines):
+            self.root = None
+        told = [words[1] for words in lines if words[0] == "fcgi-param"]
+        self.names = list(dict.fromkeys(told))
+        self.request += len(self.names) + len(told)  # a rule for each name, and one for each line
         sizes = {words[0]: int(words[1]) for words in lines if words[0].startswith("tune.")}
         self.bufsize = sizes.get("tune.bufsize", 16384)
         self.maxrewrite = sizes.get("tune.maxrewrite", min(1024, self.bufsize // 2))
@@ -123,7 +129,14 @@ class Counts:
         filters = f"; filters {self.req} {self.res}" if self.req or self.res else ""
         accepts = "; accept-proxy" if self.accepts else ""
         sends = f"; send-proxy {self.sends}" if self.sends else ""
-        return f"ok {self.bufsize} {self.maxrewrite} {self.request}{answers}{filters}{accepts}{sends}"
+        return f"ok {self.bufsize} {self.maxrewrite} {self.request}{answers}{filters}{accepts}{sends}{self.application()}"
+
+    def application(self):
+        if self.root is None:
+            return ""
+        said = [f"{name} [{text}]" for name, text in (("application", self.root), ("index", self.index), ("script", self.script)) if text is not None]
+        params = ["params " + "".join(f"[{name}]" for name in self.names)] if self.names else []
+        return "".join(f"; {part}" for part in said + params)
 
 
 def rows():
