@@ -1,10 +1,11 @@
 -- Reads of a link that asks an application, by those of the link below.
-use Rattle.std.proofs.Common.{◌≡◌, ◌⊎◌, ℕ, ◌+◌, ◌-◌, ◌≤◌, ◌<◌, ◌^◌, inl, inr, List, [], ◌∷◌, ◌++◌, length, take, drop, min, refl, sym, ap, subst, ◌∙◌, arith}
+use Rattle.std.proofs.Common.{◌≡◌, ◌⊎◌, ℕ, ◌+◌, ◌-◌, ◌≤◌, ◌<◌, ◌^◌, inl, inr, Bool, List, [], ◌∷◌, ◌++◌, length, take, drop, min, refl, sym, ap, subst, ◌∙◌, arith}
 use Rattle.std.specs.Prelude.{Option, Some, None, IfSome, option_map}
 use Rattle.std.proofs.lemmas.List.{length-append, length-take-le, take_at, drop_at}
+use Rattle.http_model.specs.declared.Close.{Close}
 use Rattle.http_model.specs.declared.Ending.{Ending}
 use Rattle.http_model.specs.declared.Ending.TheVariants.{Closed}
-use Rattle.px_link.specs.Link.{Seen, Gave, counted}
+use Rattle.px_link.specs.Link.{Seen, Untold, Asks, Gave, counted}
 use Rattle.fcgi_model.specs.Application.{Application}
 use Rattle.fcgi_lane.specs.Answer.Cgi.{HttpStream}
 use Rattle.fcgi_lane.specs.Answer.Stands.{Translating, left_in, ready_in}
@@ -74,3 +75,29 @@ nothing_ready n into (b ∷ ready) some (inr all) none = absurd (omega (arith, a
 
 pub counted_is : (k n r : ℕ) → k < 2 ^ 64 → r ≡ min (k + n) (2 ^ 64 - 1) → r ≡ counted k n
 counted_is k n r below is = omega (arith, below, is)
+
+-- ---- reads of the link below that gave nothing yet
+
+-- what is told of a link by the stream that is left, and the counts
+abbrev told : Application → (write_faults : ℕ) → Option HttpStream → Option (Option Close) → (plain : Bool) → (given faults : ℕ) → Seen
+told application write_faults stream closed plain given faults = record {
+  to_come = bytes_of stream;
+  ending = ending_of stream;
+  closed = closed;
+  plain = plain;
+  takes = Untold;
+  manner = Asks application;
+  taken = Some given;
+  read_faults = faults;
+  write_faults = write_faults;
+}
+
+pub same_asking : (application : Application) (old new : AnswersSeen) (write_faults : ℕ) (s t : Seen) → IsAlike old.translating s new.translating t → new.given ≡ old.given → new.faults ≡ old.faults
+    → seen_asking application new write_faults t ≡ seen_asking application old write_faults s
+same_asking application old new write_faults s t alike given faults =
+    let stream : Option HttpStream = option_map (left_in old.translating) s.to_come in
+    ap (λ (x : Option HttpStream). told application write_faults x t.closed t.plain new.given new.faults) alike.stream
+    ∙ ap (λ (x : Option (Option Close)). told application write_faults stream x t.plain new.given new.faults) alike.closed
+    ∙ ap (λ (x : Bool). told application write_faults stream s.closed x new.given new.faults) alike.plain
+    ∙ ap (λ (x : ℕ). told application write_faults stream s.closed s.plain x new.faults) given
+    ∙ ap (λ (x : ℕ). told application write_faults stream s.closed s.plain old.given x) faults

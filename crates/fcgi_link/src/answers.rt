@@ -1,15 +1,15 @@
 //! The answer of an application as the bytes of an HTTP stream, over the link below.
-ghost use Rattle.std.specs.Prelude.{◌≡◌, ◌⊎◌, ◌<◌, ◌≤◌, ℕ, List, length, take, drop, IfOk};
+ghost use Rattle.std.specs.Prelude.{◌≡◌, ◌⊎◌, ◌<◌, ◌≤◌, ℕ, List, [], false, length, take, drop, IfOk};
 ghost use Rattle.px_link.specs.Link.{Reads};
 ghost use Rattle.fcgi_model.specs.Application.{Application};
-ghost use Rattle.fcgi_lane.specs.Answer.Stands.{ready_in};
+ghost use Rattle.fcgi_lane.specs.Answer.Stands.{ready_in, IsOpen};
 ghost use Rattle.fcgi_link.specs.Reading.{IsReading, IsGivenOf};
 ghost use Rattle.fcgi_link.specs.Asking.{no_answer, seen_asking};
 
-use crate::reading::fill;
+use crate::reading::{fill, has_come};
 use fcgi_lane::answer::Translator;
 use http_model::OutOfMemory;
-use px_link::{Failed, Link};
+use px_link::{Failed, Link, Waits};
 use std::alloc::Global;
 use std::marker::Model;
 
@@ -92,6 +92,16 @@ impl Answers {
         let count = give(&mut self.translator, into);
         self.given = self.given.saturating_add(count as u64);
         Ok(count)
+    }
+
+    /// Whether a read is answered at once. Where bytes of the HTTP stream have to come first, it takes what records the link below gives without a wait.
+    pub fn can_read<L: Waits>(&mut self, inner: &mut L) -> bool
+        ensures seen { (application : Application) (write_faults : ℕ) → seen_asking application self.new write_faults (L.seen inner.new) ≡ seen_asking application self.old write_faults (L.seen inner.old) }
+        ensures manner { (L.seen inner.new).manner ≡ (L.seen inner.old).manner }
+        ensures waits { result ≡ false → (ready_in self.new.translating.head ≡ []) × IsOpen self.new.translating }
+        ensures wrote { (bytes : List ℕ) → L.wrote inner.old bytes → L.wrote inner.new bytes }
+    {
+        has_come(inner, &mut self.translator, &mut self.buffer)
     }
 
     /// How many bytes were given, as far as that is counted.

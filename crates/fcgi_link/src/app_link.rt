@@ -5,7 +5,7 @@ ghost use Rattle.fcgi_link.specs.Exchange.{seen_over, WroteOver, IsOver, note_of
 
 use crate::exchange::Exchange;
 use crate::note::Note;
-use px_link::{Close, Failed, Fault, Link};
+use px_link::{Close, Failed, Fault, Link, Net, Readiness, Waits, Wakes};
 use px_peer::Pair;
 use px_proxyproto::HasPair;
 use std::marker::Model;
@@ -102,6 +102,19 @@ fn read_over<L: Link>(
     }
 }
 
+/// Whether a read of the link below is answered at once, or one of what an application answers over it.
+fn can_read_over<L: Waits>(inner: &mut L, exchange: &mut Option<Exchange>) -> bool
+    requires over { IsOver exchange.old (L.seen inner.old).manner }
+    ensures over { IsOver exchange.new (L.seen inner.new).manner }
+    ensures seen { seen_over exchange.new (L.seen inner.new) ≡ seen_over exchange.old (L.seen inner.old) }
+    ensures wrote { (bytes : List ℕ) → WroteOver exchange.old (L.wrote inner.old) bytes → WroteOver exchange.new (L.wrote inner.new) bytes }
+{
+    match exchange {
+        None => inner.can_read(),
+        Some(one) => one.answers.can_read(inner),
+    }
+}
+
 /// Writes the link below, or the records of a request to it.
 fn write_over<L: Link>(
     inner: &mut L,
@@ -139,6 +152,38 @@ impl<L: Link> Link for AppLink<L> {
     }
 }
 
+/// It waits where the link below does.
+impl<L: Waits> Waits for AppLink<L> {
+    /// Records that have come needn't give a byte of the answer: they are read until some do, or a read would wait.
+    fn can_read(&mut self) -> bool {
+        can_read_over(&mut self.inner, &mut self.exchange)
+    }
+
+    fn can_write(&mut self) -> bool {
+        self.inner.can_write()
+    }
+
+    fn expire_read(&mut self) {
+        self.inner.expire_read();
+    }
+
+    fn expire_write(&mut self) {
+        self.inner.expire_write();
+    }
+
+    fn note(&mut self, told: Readiness) {
+        self.inner.note(told);
+    }
+
+    fn cork(&mut self, writes: bool, follows: bool) {
+        self.inner.cork(writes, follows);
+    }
+
+    fn can_keep(&mut self) -> bool {
+        self.inner.can_keep()
+    }
+}
+
 /// What the link below tells.
 impl<L: Link + HasPair> HasPair for AppLink<L> {
     ghost tells = { λ link pair. L.tells link.inner pair };
@@ -146,4 +191,28 @@ impl<L: Link + HasPair> HasPair for AppLink<L> {
     fn pair(&self) -> Option<Pair> {
         self.inner.pair()
     }
+}
+
+/// Has this wait watch the client's link below.
+pub(crate) fn watch_client<N: Net, W: Wakes<N>>(
+    wakes: &mut W,
+    place: usize,
+    link: &mut AppLink<N::Link>,
+)
+    ensures seen { ⟦<AppLink<N::Link> as Link>⟧.seen link.new ≡ ⟦<AppLink<N::Link> as Link>⟧.seen link.old }
+    ensures wrote { (bytes : List ℕ) → ⟦<AppLink<N::Link> as Link>⟧.wrote link.old bytes → ⟦<AppLink<N::Link> as Link>⟧.wrote link.new bytes }
+{
+    wakes.watch_client(place, &mut link.inner);
+}
+
+/// Has this wait watch the server's link below.
+pub(crate) fn watch_server<N: Net, W: Wakes<N>>(
+    wakes: &mut W,
+    place: usize,
+    link: &mut AppLink<N::Link>,
+)
+    ensures seen { ⟦<AppLink<N::Link> as Link>⟧.seen link.new ≡ ⟦<AppLink<N::Link> as Link>⟧.seen link.old }
+    ensures wrote { (bytes : List ℕ) → ⟦<AppLink<N::Link> as Link>⟧.wrote link.old bytes → ⟦<AppLink<N::Link> as Link>⟧.wrote link.new bytes }
+{
+    wakes.watch_server(place, &mut link.inner);
 }

@@ -11,7 +11,7 @@ use crate::exchange::Exchange;
 use crate::note::Note;
 use crate::responder::Responder;
 use http_model::OutOfMemory;
-use px_link::{Address, Application, Fault, Net, WaitsNet};
+use px_link::{Address, Application, Fault, Net, WaitsNet, Wakes};
 use px_proxyproto::{Heading, Introduces};
 use std::alloc::Global;
 use std::marker::Model;
@@ -139,6 +139,27 @@ impl<N: Net> AppNet<N> {
         ensures { result.now ≡ self.now.notes }
     {
         &self.notes
+    }
+
+    /// Has this wait watch the listener of the net below.
+    pub(crate) fn watch_listener<W: Wakes<N>>(&mut self, wakes: &mut W)
+        ensures { ⟦<AppNet<N> as Net>⟧.seen self.new ≡ ⟦<AppNet<N> as Net>⟧.seen self.old }
+    {
+        wakes.watch_listener(&mut self.inner);
+    }
+
+    /// Has this wait leave the listener of the net below.
+    pub(crate) fn leave_listener<W: Wakes<N>>(&mut self, wakes: &mut W)
+        ensures { ⟦<AppNet<N> as Net>⟧.seen self.new ≡ ⟦<AppNet<N> as Net>⟧.seen self.old }
+    {
+        wakes.leave_listener(&mut self.inner);
+    }
+
+    /// Has this wait watch the connect that the net below has begun.
+    pub(crate) fn watch_connect<W: Wakes<N>>(&mut self, wakes: &mut W, place: usize)
+        ensures { ⟦<AppNet<N> as Net>⟧.seen self.new ≡ ⟦<AppNet<N> as Net>⟧.seen self.old }
+    {
+        wakes.watch_connect(place, &mut self.inner);
     }
 }
 

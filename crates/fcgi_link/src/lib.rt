@@ -5,6 +5,7 @@
 mod answers;
 mod app_link;
 mod app_net;
+mod app_wakes;
 mod asks;
 mod asks_application;
 mod exchange;
@@ -14,6 +15,7 @@ mod responder;
 
 pub use app_link::AppLink;
 pub use app_net::AppNet;
+pub use app_wakes::AppWakes;
 pub use asks_application::AsksApplication;
 pub use note::Note;
 pub use px_link::Application;

@@ -8,7 +8,7 @@ ghost use Rattle.fcgi_lane.specs.Answer.Work.{work_left};
 ghost use Rattle.fcgi_link.specs.Reading.{IsReading, IsAlike, BreaksOff};
 
 use fcgi_lane::answer::{AnswerState, Translator};
-use px_link::{Failed, Link};
+use px_link::{Failed, Link, Waits};
 
 /// What an answer is read for next.
 pub(crate) enum Next {
@@ -83,6 +83,36 @@ pub(crate) fn fill<L: Link>(inner: &mut L, translator: &mut Translator, buffer: 
         }
         if !read_on(inner, translator, buffer) {
             return false;
+        }
+    }
+}
+
+/// Reads while that doesn't wait, until bytes are ready, the answer is over, or it breaks off. It says false where a read would wait for more, so that none of
+/// these has come. Where nothing came, the next read asks the link below once more, which is answered at once.
+pub(crate) fn has_come<L: Waits>(
+    inner: &mut L,
+    translator: &mut Translator,
+    buffer: &mut [u8],
+) -> bool
+    requires buffer { 0 < length buffer.old }
+    requires reading { IsReading translator.old }
+    ensures len { length buffer.new ≡ length buffer.old }
+    ensures reading { IsReading translator.new }
+    ensures alike { IsAlike translator.old (L.seen inner.old) translator.new (L.seen inner.new) }
+    ensures waits { result ≡ false → (ready_in translator.new.head ≡ []) × IsOpen translator.new }
+    ensures wrote { (bytes : List ℕ) → L.wrote inner.old bytes → L.wrote inner.new bytes }
+{
+    'pieces: loop {
+        match next_of(translator) {
+            Next::Given => return true,
+            Next::Broken => return true,
+            Next::More => {}
+        }
+        if !inner.can_read() {
+            return false;
+        }
+        if !read_on(inner, translator, buffer) {
+            return true;
         }
     }
 }
