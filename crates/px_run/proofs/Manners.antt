@@ -15,6 +15,7 @@ use Rattle.htx_drive.specs.declared.Ran.{Ran}
 use Rattle.htx_drive.specs.declared.SessionFault.{SessionFault}
 use Rattle.px_run.specs.Course.{EndedOrLeft}
 use Rattle.px_run.specs.Callers.{CameAsMet, CameBack}
+use Rattle.px_run.specs.declared.plan.Opening.{Opening}
 
 ended_manner : {C L : Type 0} (M : Meaning) (stands : C → Past → Type 0) (sees : C → CoreSeen) (seen : L → Seen) (wrote : L → List ℕ → Type 0) (first client : L) (to : Place) (first_net net : NetSeen) (came : Option (Result Ran SessionFault))
     → EndedOrLeft M stands sees seen wrote first client to first_net net came → (seen client).manner ≡ (seen first).manner
@@ -29,13 +30,13 @@ met_manner tells true link old new met.Refused h = let t = h.1 in let k = t.kind
 met_manner tells false link old new (met.Caller pair) h = ap (λ (s : Seen). s.manner) h.1
 met_manner tells false link old new met.Refused h = absurd h
 
-module _ {C L : Type 0} (M : Option Pair → Meaning) (stands : Option Pair → C → Past → Type 0) (sees : C → CoreSeen) (seen : L → Seen) (wrote : L → List ℕ → Type 0) (tells : L → Option Pair → Type 0) (accepts_header : Bool) (sends_header : Option ℕ) (first : L) (to : Place) (first_net : NetSeen) where
-  came_manner : (how : Met) (begins client : L) (net : NetSeen) (came : Option (Result Ran SessionFault)) → CameAsMet M stands sees seen wrote sends_header how begins client to first_net net came → (seen client).manner ≡ (seen begins).manner
-  came_manner (met.Caller pair) begins client net came h = ended_manner (M pair) (stands pair) sees seen wrote begins client to (introduced (heading_for sends_header pair) first_net) net came h
+module _ {C L : Type 0} (M : Option Pair → Meaning) (stands : Option Pair → C → Past → Type 0) (sees : C → CoreSeen) (seen : L → Seen) (wrote : L → List ℕ → Type 0) (tells : L → Option Pair → Type 0) (accepts_header : Bool) (opening : Opening) (first : L) (to : Place) (first_net : NetSeen) where
+  came_manner : (how : Met) (begins client : L) (net : NetSeen) (came : Option (Result Ran SessionFault)) → CameAsMet M stands sees seen wrote opening how begins client to first_net net came → (seen client).manner ≡ (seen begins).manner
+  came_manner (met.Caller pair) begins client net came h = ended_manner (M pair) (stands pair) sees seen wrote begins client to (introduced (heading_for opening.sends_header pair) first_net) net came h
   came_manner met.Refused begins client net None h = absurd h
   came_manner met.Refused begins client net (Some (Ok ran)) h = ap (λ (s : Seen). s.manner) h.closed
   came_manner met.Refused begins client net (Some (Err fault)) h = absurd h
 
-  pub back_manner : (client : L) (net : NetSeen) (came : Option (Result Ran SessionFault)) → CameBack M stands sees seen wrote tells accepts_header sends_header first client to first_net net came → (seen client).manner ≡ (seen first).manner
+  pub back_manner : (client : L) (net : NetSeen) (came : Option (Result Ran SessionFault)) → CameBack M stands sees seen wrote tells accepts_header opening first client to first_net net came → (seen client).manner ≡ (seen first).manner
   back_manner client net came (inl h) = let so = h.so in came_manner h.how h.begins client net came h.came ∙ met_manner tells accepts_header first (seen first) (seen h.begins) h.how so.meets
   back_manner client net came (inr h) = let g = h.greeted in let f = g.so_far in let t = f.1 in let k = t.kind in let u = h.untouched in ap (λ (s : Seen). s.manner) u.closed ∙ k.manner

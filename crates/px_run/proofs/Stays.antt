@@ -14,7 +14,7 @@ use Rattle.htx_drive.specs.Machine.{CoreSeen}
 use Rattle.htx_drive.specs.Weave.State.{IsReady}
 use Rattle.htx_drive.specs.declared.Ran.{Ran}
 use Rattle.htx_drive.specs.declared.SessionFault.{SessionFault}
-use Rattle.px_run.specs.Course.{IsNewNet}
+use Rattle.px_run.specs.Course.{IsToldNet}
 use Rattle.px_run.specs.Connection.{IsFreshFor, LookedSo, IsIdle}
 use Rattle.px_run.specs.Callers.{IsAtFor, CameBack}
 use Rattle.px_run.specs.Lines.{outcomes_in, said_of, ended_by}
@@ -28,24 +28,25 @@ use Rattle.px_run.proofs.Halls.{here_taken, taken_set, taken_set_same}
 use Rattle.px_run.proofs.Numbers.{some_same, num_here, num_other, num_view, num_map, num_all, num_sum, num_more, num_last, num_within, here_set, here_at, here_last}
 use Rattle.px_run.proofs.Sets.{all_more}
 use Rattle.px_run.proofs.Texts.{looked_says, looked_other, looked_keeps, idle_says}
+use Rattle.px_run.specs.declared.plan.Opening.{Opening}
 
-module _ {C L N : Type 0} (M : Option Pair → Meaning) (stands : Option Pair → C → Past → Type 0) (sees : C → CoreSeen) (sound : C → Type 0) (seen : L → Seen) (wrote : L → List ℕ → Type 0) (tells : L → Option Pair → Type 0) (accepts_header : Bool) (sends_header : Option ℕ) (sees_net : N → NetSeen) (to : Place) where
+module _ {C L N : Type 0} (M : Option Pair → Meaning) (stands : Option Pair → C → Past → Type 0) (sees : C → CoreSeen) (sound : C → Type 0) (seen : L → Seen) (wrote : L → List ℕ → Type 0) (tells : L → Option Pair → Type 0) (accepts_header : Bool) (opening : Opening) (sees_net : N → NetSeen) (to : Place) where
   -- ---- one connection
 
   -- the connection that stands there
-  pub placed_is : (visits : List (Visit L N)) (at : Option (Connection C L N)) (c : Connection C L N) → at ≡ Some c → IsPlaced M stands sees sound seen wrote tells accepts_header sends_header sees_net to visits at → IsOf M stands sees sound seen wrote tells accepts_header sends_header sees_net to visits c
-  placed_is visits at c e h = let P : Option (Connection C L N) → Type 0 = λ o. IsPlaced M stands sees sound seen wrote tells accepts_header sends_header sees_net to visits o in subst P e h
+  pub placed_is : (visits : List (Visit L N)) (at : Option (Connection C L N)) (c : Connection C L N) → at ≡ Some c → IsPlaced M stands sees sound seen wrote tells accepts_header opening sees_net to visits at → IsOf M stands sees sound seen wrote tells accepts_header opening sees_net to visits c
+  placed_is visits at c e h = let P : Option (Connection C L N) → Type 0 = λ o. IsPlaced M stands sees sound seen wrote tells accepts_header opening sees_net to visits o in subst P e h
 
   -- of the visits, the one of its number is the same
-  pub of_same : (old new : List (Visit L N)) (c : Connection C L N) → numbered c.number new ≡ numbered c.number old → IsOf M stands sees sound seen wrote tells accepts_header sends_header sees_net to old c → IsOf M stands sees sound seen wrote tells accepts_header sends_header sees_net to new c
+  pub of_same : (old new : List (Visit L N)) (c : Connection C L N) → numbered c.number new ≡ numbered c.number old → IsOf M stands sees sound seen wrote tells accepts_header opening sees_net to old c → IsOf M stands sees sound seen wrote tells accepts_header opening sees_net to new c
   of_same old new c e h = record { visit = h.visit; is = e ∙ h.is; here = h.here; came = h.came; at = h.at }
 
-  of_asked : (visits : List (Visit L N)) (b c : Connection C L N) → IsAsked seen wrote sees_net b c → IsOf M stands sees sound seen wrote tells accepts_header sends_header sees_net to visits b → IsOf M stands sees sound seen wrote tells accepts_header sends_header sees_net to visits c
+  of_asked : (visits : List (Visit L N)) (b c : Connection C L N) → IsAsked seen wrote sees_net b c → IsOf M stands sees sound seen wrote tells accepts_header opening sees_net to visits b → IsOf M stands sees sound seen wrote tells accepts_header opening sees_net to visits c
   of_asked visits b c a h =
-      let asked = for_asked M stands sees sound seen wrote tells accepts_header sends_header sees_net h.visit.first to (sees_net h.visit.own) b.caller b.conn.client c.conn.client b.conn.server c.conn.server (sees_net b.conn.net) (sees_net c.conn.net) b.conn.ran b.core a.client a.server a.net h.at in
-      let P : Option (Result Ran SessionFault) → Type 0 = λ o. IsAtFor M stands sees sound seen wrote tells accepts_header sends_header sees_net h.visit.first b.caller c.conn.client c.conn.server to (sees_net h.visit.own) (sees_net c.conn.net) o b.core in
-      let Q : Option C → Type 0 = λ o. IsAtFor M stands sees sound seen wrote tells accepts_header sends_header sees_net h.visit.first b.caller c.conn.client c.conn.server to (sees_net h.visit.own) (sees_net c.conn.net) c.conn.ran o in
-      let R : Caller → Type 0 = λ o. IsAtFor M stands sees sound seen wrote tells accepts_header sends_header sees_net h.visit.first o c.conn.client c.conn.server to (sees_net h.visit.own) (sees_net c.conn.net) c.conn.ran c.core in
+      let asked = for_asked M stands sees sound seen wrote tells accepts_header opening sees_net h.visit.first to (sees_net h.visit.own) b.caller b.conn.client c.conn.client b.conn.server c.conn.server (sees_net b.conn.net) (sees_net c.conn.net) b.conn.ran b.core a.client a.server a.net h.at in
+      let P : Option (Result Ran SessionFault) → Type 0 = λ o. IsAtFor M stands sees sound seen wrote tells accepts_header opening sees_net h.visit.first b.caller c.conn.client c.conn.server to (sees_net h.visit.own) (sees_net c.conn.net) o b.core in
+      let Q : Option C → Type 0 = λ o. IsAtFor M stands sees sound seen wrote tells accepts_header opening sees_net h.visit.first b.caller c.conn.client c.conn.server to (sees_net h.visit.own) (sees_net c.conn.net) c.conn.ran o in
+      let R : Caller → Type 0 = λ o. IsAtFor M stands sees sound seen wrote tells accepts_header opening sees_net h.visit.first o c.conn.client c.conn.server to (sees_net h.visit.own) (sees_net c.conn.net) c.conn.ran c.core in
       record {
         visit = h.visit;
         is = ap (λ n. numbered n visits) a.number ∙ h.is;
@@ -56,16 +57,16 @@ module _ {C L N : Type 0} (M : Option Pair → Meaning) (stands : Option Pair �
 
   -- it was looked at
   pub of_looked : (visits : List (Visit L N)) (b c : Connection C L N) → c.number ≡ b.number
-      → ((first : L) (own : N) → IsAtFor M stands sees sound seen wrote tells accepts_header sends_header sees_net first b.caller b.conn.client b.conn.server to (sees_net own) (sees_net b.conn.net) b.conn.ran b.core → IsAtFor M stands sees sound seen wrote tells accepts_header sends_header sees_net first c.caller c.conn.client c.conn.server to (sees_net own) (sees_net c.conn.net) c.conn.ran c.core)
-      → IsOf M stands sees sound seen wrote tells accepts_header sends_header sees_net to visits b → IsOf M stands sees sound seen wrote tells accepts_header sends_header sees_net to (change_numbered (came_to c.conn.ran) c.number visits) c
+      → ((first : L) (own : N) → IsAtFor M stands sees sound seen wrote tells accepts_header opening sees_net first b.caller b.conn.client b.conn.server to (sees_net own) (sees_net b.conn.net) b.conn.ran b.core → IsAtFor M stands sees sound seen wrote tells accepts_header opening sees_net first c.caller c.conn.client c.conn.server to (sees_net own) (sees_net c.conn.net) c.conn.ran c.core)
+      → IsOf M stands sees sound seen wrote tells accepts_header opening sees_net to visits b → IsOf M stands sees sound seen wrote tells accepts_header opening sees_net to (change_numbered (came_to c.conn.ran) c.number visits) c
   of_looked visits b c n k h =
       let is : numbered c.number visits ≡ Some h.visit = ap (λ n. numbered n visits) n ∙ h.is in
       record { visit = came_to c.conn.ran h.visit; is = num_here (came_to c.conn.ran) visits c.number h.visit is; here = h.here; came = refl; at = k h.visit.first h.visit.own h.at }
 
   -- it was accepted
   pub of_new : (visits : List (Visit L N)) (link : L) (own : N) (c : Connection C L N) → c.number ≡ length visits + 1 → c.conn.ran ≡ None
-      → IsAtFor M stands sees sound seen wrote tells accepts_header sends_header sees_net link c.caller c.conn.client c.conn.server to (sees_net own) (sees_net c.conn.net) c.conn.ran c.core
-      → IsOf M stands sees sound seen wrote tells accepts_header sends_header sees_net to (visits ++ new_visit link own ∷ []) c
+      → IsAtFor M stands sees sound seen wrote tells accepts_header opening sees_net link c.caller c.conn.client c.conn.server to (sees_net own) (sees_net c.conn.net) c.conn.ran c.core
+      → IsOf M stands sees sound seen wrote tells accepts_header opening sees_net to (visits ++ new_visit link own ∷ []) c
   of_new visits link own c n r at = record { visit = new_visit link own; is = num_last visits (new_visit link own) c.number n; here = refl; came = sym r; at = at }
 
   -- ---- all of them
@@ -73,7 +74,7 @@ module _ {C L N : Type 0} (M : Option Pair → Meaning) (stands : Option Pair �
   -- links were asked
   pub stand_asked : (visits : List (Visit L N)) (old new : List (Option (Connection C L N))) (sets behind : List C)
       → ((place : ℕ) (c : Connection C L N) → IsHere new place c → (b : Connection C L N) × IsHere old place b × IsAsked seen wrote sees_net b c) → count_taken new ≡ count_taken old → behind ≡ sets
-      → AllStand M stands sees sound seen wrote tells accepts_header sends_header sees_net to visits old sets → AllStand M stands sees sound seen wrote tells accepts_header sends_header sees_net to visits new behind
+      → AllStand M stands sees sound seen wrote tells accepts_header opening sees_net to visits old sets → AllStand M stands sees sound seen wrote tells accepts_header opening sees_net to visits new behind
   stand_asked visits old new sets behind each taken same s =
       record {
         placed = λ place c h. let b = each place c h in of_asked visits b.0 c b.2 (s.placed place b.0 b.1);
@@ -86,7 +87,7 @@ module _ {C L N : Type 0} (M : Option Pair → Meaning) (stands : Option Pair �
 
   -- none is open
   pub stand_none : (places : List (Option (Connection C L N))) (sets : List C) → count_taken places ≡ 0 → AllByRecursion (IsReady sees sound) sets → AllByRecursion (IsFreshFor stands) sets
-      → AllStand M stands sees sound seen wrote tells accepts_header sends_header sees_net to [] places sets
+      → AllStand M stands sees sound seen wrote tells accepts_header opening sees_net to [] places sets
   stand_none places sets e r f =
       record {
         placed = λ place c h. let one = here_taken places place c h in absurd (omega (arith, one, e));
@@ -98,19 +99,19 @@ module _ {C L N : Type 0} (M : Option Pair → Meaning) (stands : Option Pair �
       }
 
   -- a visit whose net is new, of a connection that is here
-  visit_here : (f : Visit L N → Visit L N) (visit : Visit L N) → (f visit).own ≡ visit.own → (f visit).back ≡ None → IsVisit M stands sees seen wrote tells accepts_header sends_header sees_net to visit → IsVisit M stands sees seen wrote tells accepts_header sends_header sees_net to (f visit)
+  visit_here : (f : Visit L N → Visit L N) (visit : Visit L N) → (f visit).own ≡ visit.own → (f visit).back ≡ None → IsVisit M stands sees seen wrote tells accepts_header opening sees_net to visit → IsVisit M stands sees seen wrote tells accepts_header opening sees_net to (f visit)
   visit_here f visit e n h =
-      let P : Option (L × N) → Type 0 = λ o. IfSome o (λ (back : L × N). CameBack M stands sees seen wrote tells accepts_header sends_header (f visit).first back.0 to (sees_net (f visit).own) (sees_net back.1) (f visit).came) in
-      record { new_net = subst (λ (own : N). IsNewNet (sees_net own)) (sym e) h.new_net; back = subst P (sym n) tt }
+      let P : Option (L × N) → Type 0 = λ o. IfSome o (λ (back : L × N). CameBack M stands sees seen wrote tells accepts_header opening (f visit).first back.0 to (sees_net (f visit).own) (sees_net back.1) (f visit).came) in
+      record { new_net = subst (λ (own : N). IsToldNet opening.responder (sees_net own)) (sym e) h.new_net; back = subst P (sym n) tt }
 
   -- one was accepted at a place at which none is
   pub stand_new : (visits : List (Visit L N)) (places : List (Option (Connection C L N))) (sets : List C) (place : ℕ) (link : L) (own : N) (c : Connection C L N) → place < length places → ((d : Option (Connection C L N)) → get_or places place d ≡ None)
-      → c.number ≡ length visits + 1 → IsNewNet (sees_net own) → IsOf M stands sees sound seen wrote tells accepts_header sends_header sees_net to (visits ++ new_visit link own ∷ []) c
-      → AllStand M stands sees sound seen wrote tells accepts_header sends_header sees_net to visits places sets → AllStand M stands sees sound seen wrote tells accepts_header sends_header sees_net to (visits ++ new_visit link own ∷ []) (set places place (Some c)) sets
+      → c.number ≡ length visits + 1 → IsToldNet opening.responder (sees_net own) → IsOf M stands sees sound seen wrote tells accepts_header opening sees_net to (visits ++ new_visit link own ∷ []) c
+      → AllStand M stands sees sound seen wrote tells accepts_header opening sees_net to visits places sets → AllStand M stands sees sound seen wrote tells accepts_header opening sees_net to (visits ++ new_visit link own ∷ []) (set places place (Some c)) sets
   stand_new visits places sets place link own c w free n net of s =
       record {
         placed = λ other d h. elim (here_set places place other (Some c) d h) [
-          | inl k ↦ subst (λ (o : Connection C L N). IsOf M stands sees sound seen wrote tells accepts_header sends_header sees_net to (visits ++ new_visit link own ∷ []) o) (some_same c d k.1) of
+          | inl k ↦ subst (λ (o : Connection C L N). IsOf M stands sees sound seen wrote tells accepts_header opening sees_net to (visits ++ new_visit link own ∷ []) o) (some_same c d k.1) of
           | inr k ↦ (let was = s.placed other d k.1 in of_same visits (visits ++ new_visit link own ∷ []) d (num_more visits (new_visit link own ∷ []) d.number was.visit was.is ∙ sym was.is) was)
         ];
         alone = λ one other d e h k same. elim (here_set places place one (Some c) d h) [
@@ -123,7 +124,7 @@ module _ {C L N : Type 0} (M : Option Pair → Meaning) (stands : Option Pair �
             | inr q ↦ s.alone one other d e p.1 q.1 same
           ]
         ];
-        each = all_more (IsVisit M stands sees seen wrote tells accepts_header sends_header sees_net to) visits (new_visit link own) s.each (record { new_net = net; back = tt });
+        each = all_more (IsVisit M stands sees seen wrote tells accepts_header opening sees_net to) visits (new_visit link own) s.each (record { new_net = net; back = tt });
         counted =
             let more : count_open (visits ++ new_visit link own ∷ []) ≡ count_open visits + 1 = sum_by_push (λ (visit : Visit L N). open_in visit.back) visits (new_visit link own) in
             let taken = taken_set places place (Some c) None w in
@@ -142,10 +143,10 @@ module _ {C L N : Type 0} (M : Option Pair → Meaning) (stands : Option Pair �
 
   abbrev Looks : (looked : Looked) → (visits : List (Visit L N)) → (places : List (Option (Connection C L N))) → (sets behind : List C) → (place : ℕ) → (was now : Option (Connection C L N)) → Type 0
   Looks looked visits places sets behind place was now =
-      (b : List (Visit L N)) × Advances looked visits b × AllStand M stands sees sound seen wrote tells accepts_header sends_header sees_net to b (set places place now) behind
+      (b : List (Visit L N)) × Advances looked visits b × AllStand M stands sees sound seen wrote tells accepts_header opening sees_net to b (set places place now) behind
 
   looks_none : (looked : Looked) (visits : List (Visit L N)) (places : List (Option (Connection C L N))) (sets behind : List C) (place : ℕ) → place < length places → get_or places place None ≡ None → IsIdle looked
-      → AllByRecursion (IsReady sees sound) behind → AllByRecursion (IsFreshFor stands) behind → AllStand M stands sees sound seen wrote tells accepts_header sends_header sees_net to visits places sets → Looks looked visits places sets behind place None None
+      → AllByRecursion (IsReady sees sound) behind → AllByRecursion (IsFreshFor stands) behind → AllStand M stands sees sound seen wrote tells accepts_header opening sees_net to visits places sets → Looks looked visits places sets behind place None None
   looks_none looked visits places sets behind place w e idle r f s = (
     visits,
     record {
@@ -174,8 +175,8 @@ module _ {C L N : Type 0} (M : Option Pair → Meaning) (stands : Option Pair �
   )
 
   looks_some : (looked : Looked) (visits : List (Visit L N)) (places : List (Option (Connection C L N))) (sets behind : List C) (place : ℕ) (b c : Connection C L N) → place < length places → get_or places place (Some b) ≡ Some b
-      → c.number ≡ b.number → LookedSo looked b.number b.conn.ran c.conn.ran → IsOf M stands sees sound seen wrote tells accepts_header sends_header sees_net to (change_numbered (came_to c.conn.ran) c.number visits) c
-      → AllByRecursion (IsReady sees sound) behind → AllByRecursion (IsFreshFor stands) behind → AllStand M stands sees sound seen wrote tells accepts_header sends_header sees_net to visits places sets → Looks looked visits places sets behind place (Some b) (Some c)
+      → c.number ≡ b.number → LookedSo looked b.number b.conn.ran c.conn.ran → IsOf M stands sees sound seen wrote tells accepts_header opening sees_net to (change_numbered (came_to c.conn.ran) c.number visits) c
+      → AllByRecursion (IsReady sees sound) behind → AllByRecursion (IsFreshFor stands) behind → AllStand M stands sees sound seen wrote tells accepts_header opening sees_net to visits places sets → Looks looked visits places sets behind place (Some b) (Some c)
   looks_some looked visits places sets behind place b c w e n l of r f s = (
     next,
     record {
@@ -191,7 +192,7 @@ module _ {C L N : Type 0} (M : Option Pair → Meaning) (stands : Option Pair �
     },
     record {
       placed = λ other d h. elim (here_set places place other (Some c) d h) [
-        | inl k ↦ subst (λ (o : Connection C L N). IsOf M stands sees sound seen wrote tells accepts_header sends_header sees_net to next o) (some_same c d k.1) of
+        | inl k ↦ subst (λ (o : Connection C L N). IsOf M stands sees sound seen wrote tells accepts_header opening sees_net to next o) (some_same c d k.1) of
         | inr k ↦ of_same visits next d (num_other come visits c.number d.number (λ same. k.0 (s.alone other place d b k.1 here (same ∙ n)))) (s.placed other d k.1)
       ];
       alone = λ one other d x h k same. elim (here_set places place one (Some c) d h) [
@@ -204,7 +205,7 @@ module _ {C L N : Type 0} (M : Option Pair → Meaning) (stands : Option Pair �
           | inr q ↦ s.alone one other d x p.1 q.1 same
         ]
       ];
-      each = num_all (IsVisit M stands sees seen wrote tells accepts_header sends_header sees_net to) come visits c.number (λ visit at it. visit_here come visit refl (ap (λ (v : Visit L N). v.back) (the_one visit at) ∙ was.here) it) s.each;
+      each = num_all (IsVisit M stands sees seen wrote tells accepts_header opening sees_net to) come visits c.number (λ visit at it. visit_here come visit refl (ap (λ (v : Visit L N). v.back) (the_one visit at) ∙ was.here) it) s.each;
       counted =
           let sum = num_sum (λ (visit : Visit L N). open_in visit.back) come visits c.number was.visit at_number in
           let taken = taken_set_same places place (Some c) (Some b) w e refl in
@@ -224,7 +225,7 @@ module _ {C L N : Type 0} (M : Option Pair → Meaning) (stands : Option Pair �
       here : IsHere places place b
       here = here_at places place (Some b) b w e refl
 
-      was : IsOf M stands sees sound seen wrote tells accepts_header sends_header sees_net to visits b
+      was : IsOf M stands sees sound seen wrote tells accepts_header opening sees_net to visits b
       was = s.placed place b here
 
       at_number : numbered c.number visits ≡ Some was.visit
@@ -246,9 +247,9 @@ module _ {C L N : Type 0} (M : Option Pair → Meaning) (stands : Option Pair �
       ]
 
   pub looks_at : (looked : Looked) (visits : List (Visit L N)) (places : List (Option (Connection C L N))) (sets behind : List C) (place : ℕ) (was now : Option (Connection C L N)) → place < length places → get_or places place was ≡ was
-      → LookedAt looked was now → IsPlaced M stands sees sound seen wrote tells accepts_header sends_header sees_net to (advanced now visits) now
-      → AllByRecursion (IsReady sees sound) behind → AllByRecursion (IsFreshFor stands) behind → AllStand M stands sees sound seen wrote tells accepts_header sends_header sees_net to visits places sets
-      → (b : List (Visit L N)) × Advances looked visits b × AllStand M stands sees sound seen wrote tells accepts_header sends_header sees_net to b (set places place now) behind
+      → LookedAt looked was now → IsPlaced M stands sees sound seen wrote tells accepts_header opening sees_net to (advanced now visits) now
+      → AllByRecursion (IsReady sees sound) behind → AllByRecursion (IsFreshFor stands) behind → AllStand M stands sees sound seen wrote tells accepts_header opening sees_net to visits places sets
+      → (b : List (Visit L N)) × Advances looked visits b × AllStand M stands sees sound seen wrote tells accepts_header opening sees_net to b (set places place now) behind
   looks_at looked visits places sets behind place None None w e l p r f s = looks_none looked visits places sets behind place w e l r f s
   looks_at looked visits places sets behind place None (Some c) w e l p r f s = absurd l
   looks_at looked visits places sets behind place (Some b) None w e l p r f s = absurd l
@@ -269,17 +270,17 @@ module _ {C L N : Type 0} (M : Option Pair → Meaning) (stands : Option Pair �
   -- the connections that are left are elsewhere, and are one fewer
   pub stand_back : (visits : List (Visit L N)) (places rest : List (Option (Connection C L N))) (sets : List C) (place : ℕ) (c : Connection C L N) (client : L) (own : N) → (here : IsHere places place c)
       → ((other : ℕ) (d : Connection C L N) → IsHere rest other d → (other ≡ place → ⊥) × IsHere places other d) → count_taken rest + 1 ≡ count_taken places
-      → ((of : IsOf M stands sees sound seen wrote tells accepts_header sends_header sees_net to visits c) → CameBack M stands sees seen wrote tells accepts_header sends_header of.visit.first client to (sees_net of.visit.own) (sees_net own) c.conn.ran)
-      → AllStand M stands sees sound seen wrote tells accepts_header sends_header sees_net to visits places sets → AllStand M stands sees sound seen wrote tells accepts_header sends_header sees_net to (change_numbered (given_back client own) c.number visits) rest sets
+      → ((of : IsOf M stands sees sound seen wrote tells accepts_header opening sees_net to visits c) → CameBack M stands sees seen wrote tells accepts_header opening of.visit.first client to (sees_net of.visit.own) (sees_net own) c.conn.ran)
+      → AllStand M stands sees sound seen wrote tells accepts_header opening sees_net to visits places sets → AllStand M stands sees sound seen wrote tells accepts_header opening sees_net to (change_numbered (given_back client own) c.number visits) rest sets
   stand_back visits places rest sets place c client own here elsewhere fewer came s =
       record {
         placed = λ other d h. let k = elsewhere other d h in
             of_same visits next d (num_other back visits c.number d.number (λ same. k.0 (s.alone other place d c k.1 here same))) (s.placed other d k.1);
         alone = λ one other d x h k same. s.alone one other d x (elsewhere one d h).1 (elsewhere other x k).1 same;
-        each = num_all (IsVisit M stands sees seen wrote tells accepts_header sends_header sees_net to) back visits c.number (λ visit at it.
+        each = num_all (IsVisit M stands sees seen wrote tells accepts_header opening sees_net to) back visits c.number (λ visit at it.
             let same : was.visit ≡ visit = some_same was.visit visit (sym was.is ∙ at) in
-            let P : Option (Result Ran SessionFault) → Type 0 = λ o. CameBack M stands sees seen wrote tells accepts_header sends_header visit.first client to (sees_net visit.own) (sees_net own) o in
-            let Q : Visit L N → Type 0 = λ v. CameBack M stands sees seen wrote tells accepts_header sends_header v.first client to (sees_net v.own) (sees_net own) c.conn.ran in
+            let P : Option (Result Ran SessionFault) → Type 0 = λ o. CameBack M stands sees seen wrote tells accepts_header opening visit.first client to (sees_net visit.own) (sees_net own) o in
+            let Q : Visit L N → Type 0 = λ v. CameBack M stands sees seen wrote tells accepts_header opening v.first client to (sees_net v.own) (sees_net own) c.conn.ran in
             record { new_net = it.new_net; back = subst P (sym was.came ∙ ap (λ (v : Visit L N). v.came) same) (subst Q same (came was)) }) s.each;
         counted =
             let sum = num_sum (λ (visit : Visit L N). open_in visit.back) back visits c.number was.visit was.is in
@@ -296,40 +297,40 @@ module _ {C L N : Type 0} (M : Option Pair → Meaning) (stands : Option Pair �
       next : List (Visit L N)
       next = change_numbered (given_back client own) c.number visits
 
-      was : IsOf M stands sees sound seen wrote tells accepts_header sends_header sees_net to visits c
+      was : IsOf M stands sees sound seen wrote tells accepts_header opening sees_net to visits c
       was = s.placed place c here
 
   -- of a visit that was given back, what is said of its end stays
-  pub itself_back : (visits : List (Visit L N)) (c : Connection C L N) (client : L) (own : N) → is_some c.conn.ran ≡ true → IsOf M stands sees sound seen wrote tells accepts_header sends_header sees_net to visits c → AllByRecursion EndsByItself visits
+  pub itself_back : (visits : List (Visit L N)) (c : Connection C L N) (client : L) (own : N) → is_some c.conn.ran ≡ true → IsOf M stands sees sound seen wrote tells accepts_header opening sees_net to visits c → AllByRecursion EndsByItself visits
       → AllByRecursion EndsByItself (change_numbered (given_back client own) c.number visits)
   itself_back visits c client own ended was all =
       num_all EndsByItself (given_back client own) visits c.number (λ visit at it.
       let same : was.visit ≡ visit = some_same was.visit visit (sym was.is ∙ at) in
       record { over = λ e. ap (λ (o : Option (Result Ran SessionFault)). is_some o) (ap (λ (v : Visit L N). v.came) (sym same) ∙ was.came) ∙ ended; kept_on = it.kept_on }) all
 
-  placed_some : (visits : List (Visit L N)) (places : List (Option (Connection C L N))) (sets : List C) (place : ℕ) (at : Option (Connection C L N)) → ((c : Connection C L N) → at ≡ Some c → IsHere places place c) → AllStand M stands sees sound seen wrote tells accepts_header sends_header sees_net to visits places sets
-      → IsPlaced M stands sees sound seen wrote tells accepts_header sends_header sees_net to visits at
+  placed_some : (visits : List (Visit L N)) (places : List (Option (Connection C L N))) (sets : List C) (place : ℕ) (at : Option (Connection C L N)) → ((c : Connection C L N) → at ≡ Some c → IsHere places place c) → AllStand M stands sees sound seen wrote tells accepts_header opening sees_net to visits places sets
+      → IsPlaced M stands sees sound seen wrote tells accepts_header opening sees_net to visits at
   placed_some visits places sets place None h s = tt
   placed_some visits places sets place (Some c) h s = s.placed place c (h c refl)
 
   -- what is said of a place
-  pub placed_at : (visits : List (Visit L N)) (places : List (Option (Connection C L N))) (sets : List C) (place : ℕ) (at : Option (Connection C L N)) → place < length places → get_or places place at ≡ at → AllStand M stands sees sound seen wrote tells accepts_header sends_header sees_net to visits places sets
-      → IsPlaced M stands sees sound seen wrote tells accepts_header sends_header sees_net to visits at
+  pub placed_at : (visits : List (Visit L N)) (places : List (Option (Connection C L N))) (sets : List C) (place : ℕ) (at : Option (Connection C L N)) → place < length places → get_or places place at ≡ at → AllStand M stands sees sound seen wrote tells accepts_header opening sees_net to visits places sets
+      → IsPlaced M stands sees sound seen wrote tells accepts_header opening sees_net to visits at
   placed_at visits places sets place at w e s = placed_some visits places sets place at (λ c f. here_at places place at c w e f) s
 
   -- and of the last one
-  pub placed_last : (visits : List (Visit L N)) (places rest : List (Option (Connection C L N))) (sets : List C) (last : Option (Option (Connection C L N))) (at : Option (Connection C L N)) → last ≡ Some at → places ≡ rest ++ option_to_list last → AllStand M stands sees sound seen wrote tells accepts_header sends_header sees_net to visits places sets
-      → IsPlaced M stands sees sound seen wrote tells accepts_header sends_header sees_net to visits at
+  pub placed_last : (visits : List (Visit L N)) (places rest : List (Option (Connection C L N))) (sets : List C) (last : Option (Option (Connection C L N))) (at : Option (Connection C L N)) → last ≡ Some at → places ≡ rest ++ option_to_list last → AllStand M stands sees sound seen wrote tells accepts_header opening sees_net to visits places sets
+      → IsPlaced M stands sees sound seen wrote tells accepts_header opening sees_net to visits at
   placed_last visits places rest sets last at f e s =
       let is : places ≡ rest ++ at ∷ [] = e ∙ ap (λ o. rest ++ option_to_list o) f in
       placed_some visits places sets (length rest) at (λ c g. subst (λ l. IsHere l (length rest) c) (sym is) (subst (λ o. IsHere (rest ++ o ∷ []) (length rest) c) (sym g) (here_last rest c))) s
 
-  pub placed_none : (visits : List (Visit L N)) (at : Option (Connection C L N)) → at ≡ None → IsPlaced M stands sees sound seen wrote tells accepts_header sends_header sees_net to (advanced at visits) at
+  pub placed_none : (visits : List (Visit L N)) (at : Option (Connection C L N)) → at ≡ None → IsPlaced M stands sees sound seen wrote tells accepts_header opening sees_net to (advanced at visits) at
   placed_none visits None e = tt
   placed_none visits (Some c) e = cc
 
   pub stand_new_at : (visits : List (Visit L N)) (places : List (Option (Connection C L N))) (sets : List C) (place : ℕ) (link : L) (own : N) (c : Connection C L N) (at : Option (Connection C L N)) → place < length places → ((d : Option (Connection C L N)) → get_or places place d ≡ None)
-      → at ≡ Some c → c.number ≡ length visits + 1 → IsNewNet (sees_net own) → IsOf M stands sees sound seen wrote tells accepts_header sends_header sees_net to (visits ++ new_visit link own ∷ []) c
-      → AllStand M stands sees sound seen wrote tells accepts_header sends_header sees_net to visits places sets → AllStand M stands sees sound seen wrote tells accepts_header sends_header sees_net to (visits ++ new_visit link own ∷ []) (set places place at) sets
+      → at ≡ Some c → c.number ≡ length visits + 1 → IsToldNet opening.responder (sees_net own) → IsOf M stands sees sound seen wrote tells accepts_header opening sees_net to (visits ++ new_visit link own ∷ []) c
+      → AllStand M stands sees sound seen wrote tells accepts_header opening sees_net to visits places sets → AllStand M stands sees sound seen wrote tells accepts_header opening sees_net to (visits ++ new_visit link own ∷ []) (set places place at) sets
   stand_new_at visits places sets place link own c at w free f n net of s =
-      subst (λ (o : Option (Connection C L N)). AllStand M stands sees sound seen wrote tells accepts_header sends_header sees_net to (visits ++ new_visit link own ∷ []) (set places place o) sets) (sym f) (stand_new visits places sets place link own c w free n net of s)
+      subst (λ (o : Option (Connection C L N)). AllStand M stands sees sound seen wrote tells accepts_header opening sees_net to (visits ++ new_visit link own ∷ []) (set places place o) sets) (sym f) (stand_new visits places sets place link own c w free n net of s)

@@ -23,6 +23,7 @@ use Rattle.px_run.specs.Connection.{◌∘◌, IsAt}
 use Rattle.px_run.specs.declared.connection.Connection.{Connection}
 use Rattle.px_run.specs.declared.caller.Caller.{Caller}
 use Rattle.px_run.specs.declared.caller.Caller.TheVariants as callers
+use Rattle.px_run.specs.declared.plan.Opening.{Opening}
 
 -- the pair of one that was met: who asks, and where
 abbrev pub pair_of : Caller → Option Pair
@@ -43,10 +44,10 @@ is_refused (callers.Known pair) = false
 is_refused callers.Refused = true
 
 -- a net that is to introduce its caller to each server, once it is known who asks
-abbrev pub net_for : (sends_header : Option ℕ) → Caller → NetSeen → NetSeen
-net_for sends_header (callers.Greets greeter) net = net
-net_for sends_header (callers.Known pair) net = introduced (heading_for sends_header pair) net
-net_for sends_header callers.Refused net = net
+abbrev pub net_for : (opening : Opening) → Caller → NetSeen → NetSeen
+net_for opening (callers.Greets greeter) net = net
+net_for opening (callers.Known pair) net = introduced (heading_for opening.sends_header pair) net
+net_for opening callers.Refused net = net
 
 -- Who asks over a link that was accepted now: a header is to say it, of which nothing was read; or this pair, which the link may tell.
 abbrev pub IsCallerOf : {L : Type 0} → (tells : L → Option Pair → Type 0) → (accepts_header : Bool) → (link : L) → Caller → Type 0
@@ -92,11 +93,11 @@ pub record IsGreeting {C L : Type 0} (accepts_header : Bool) (seen : L → Seen)
   pub no_core : held ≡ None
 
 -- This caller asks. Its session is where it leads from the link as it was met, and from the net that was to introduce it then.
-pub record IsServed {C L N : Type 0} (M : Option Pair → Meaning) (stands : Option Pair → C → Past → Type 0) (sees : C → CoreSeen) (sound : C → Type 0) (seen : L → Seen) (wrote : L → List ℕ → Type 0) (tells : L → Option Pair → Type 0) (accepts_header : Bool) (sends_header : Option ℕ) (sees_net : N → NetSeen) (first client : L) (server : Option L) (to : Place) (first_net net : NetSeen) (ran : Option (Result Ran SessionFault)) (held : Option C) (pair : Option Pair) : Type 0 where
+pub record IsServed {C L N : Type 0} (M : Option Pair → Meaning) (stands : Option Pair → C → Past → Type 0) (sees : C → CoreSeen) (sound : C → Type 0) (seen : L → Seen) (wrote : L → List ℕ → Type 0) (tells : L → Option Pair → Type 0) (accepts_header : Bool) (opening : Opening) (sees_net : N → NetSeen) (first client : L) (server : Option L) (to : Place) (first_net net : NetSeen) (ran : Option (Result Ran SessionFault)) (held : Option C) (pair : Option Pair) : Type 0 where
   pub begins : L
   pub met : MetSo tells accepts_header seen wrote first begins (met.Caller pair)
   pub own : N
-  pub introduces : sees_net own ≡ introduced (heading_for sends_header pair) first_net
+  pub introduces : sees_net own ≡ introduced (heading_for opening.sends_header pair) first_net
   pub at : IsAt (M pair) (stands pair) sees sound seen wrote begins client server to (sees_net own) net ran held
 
 -- its client isn't heard: it has ended, with nothing sent to anybody
@@ -109,31 +110,31 @@ pub record IsTurnedAway {C L : Type 0} (seen : L → Seen) (wrote : L → List �
   pub no_core : held ≡ None
 
 -- by who asks: it has a core only once it was met
-abbrev pub IsAtFor : {C L N : Type 0} → (M : Option Pair → Meaning) → (stands : Option Pair → C → Past → Type 0) → (sees : C → CoreSeen) → (sound : C → Type 0) → (seen : L → Seen) → (wrote : L → List ℕ → Type 0) → (tells : L → Option Pair → Type 0) → (accepts_header : Bool) → (sends_header : Option ℕ) → (sees_net : N → NetSeen) → (first : L) → Caller → (client : L) → (server : Option L) → Place → (first_net net : NetSeen) → Option (Result Ran SessionFault) → Option C → Type 0
-IsAtFor M stands sees sound seen wrote tells accepts_header sends_header sees_net first (callers.Greets greeter) client server to first_net net ran held = IsGreeting accepts_header seen wrote first client server first_net net ran held greeter
-IsAtFor M stands sees sound seen wrote tells accepts_header sends_header sees_net first (callers.Known pair) client server to first_net net ran held = IsServed M stands sees sound seen wrote tells accepts_header sends_header sees_net first client server to first_net net ran held pair
-IsAtFor M stands sees sound seen wrote tells accepts_header sends_header sees_net first callers.Refused client server to first_net net ran held = IsTurnedAway seen wrote tells accepts_header first client server first_net net ran held
+abbrev pub IsAtFor : {C L N : Type 0} → (M : Option Pair → Meaning) → (stands : Option Pair → C → Past → Type 0) → (sees : C → CoreSeen) → (sound : C → Type 0) → (seen : L → Seen) → (wrote : L → List ℕ → Type 0) → (tells : L → Option Pair → Type 0) → (accepts_header : Bool) → (opening : Opening) → (sees_net : N → NetSeen) → (first : L) → Caller → (client : L) → (server : Option L) → Place → (first_net net : NetSeen) → Option (Result Ran SessionFault) → Option C → Type 0
+IsAtFor M stands sees sound seen wrote tells accepts_header opening sees_net first (callers.Greets greeter) client server to first_net net ran held = IsGreeting accepts_header seen wrote first client server first_net net ran held greeter
+IsAtFor M stands sees sound seen wrote tells accepts_header opening sees_net first (callers.Known pair) client server to first_net net ran held = IsServed M stands sees sound seen wrote tells accepts_header opening sees_net first client server to first_net net ran held pair
+IsAtFor M stands sees sound seen wrote tells accepts_header opening sees_net first callers.Refused client server to first_net net ran held = IsTurnedAway seen wrote tells accepts_header first client server first_net net ran held
 
 -- this connection stands so, whoever asks under this configuration
-abbrev pub StandsFor : {C L N S : Type 0} → (meaning : S → Meaning) → (stands : S → C → Past → Type 0) → (for_peer : S → Option Peer → S) → (cfg : S) → (sees : C → CoreSeen) → (sound : C → Type 0) → (seen : L → Seen) → (wrote : L → List ℕ → Type 0) → (tells : L → Option Pair → Type 0) → (accepts_header : Bool) → (sends_header : Option ℕ) → (sees_net : N → NetSeen) → (first : L) → Place → (first_net : N) → Connection C L N → Type 0
-StandsFor meaning stands for_peer cfg sees sound seen wrote tells accepts_header sends_header sees_net first to first_net c =
-    IsAtFor (meaning ∘ for_peer cfg ∘ source_in) (stands ∘ for_peer cfg ∘ source_in) sees sound seen wrote tells accepts_header sends_header sees_net first c.caller c.conn.client c.conn.server to (sees_net first_net) (sees_net c.conn.net) c.conn.ran c.core
+abbrev pub StandsFor : {C L N S : Type 0} → (meaning : S → Meaning) → (stands : S → C → Past → Type 0) → (for_peer : S → Option Peer → S) → (cfg : S) → (sees : C → CoreSeen) → (sound : C → Type 0) → (seen : L → Seen) → (wrote : L → List ℕ → Type 0) → (tells : L → Option Pair → Type 0) → (accepts_header : Bool) → (opening : Opening) → (sees_net : N → NetSeen) → (first : L) → Place → (first_net : N) → Connection C L N → Type 0
+StandsFor meaning stands for_peer cfg sees sound seen wrote tells accepts_header opening sees_net first to first_net c =
+    IsAtFor (meaning ∘ for_peer cfg ∘ source_in) (stands ∘ for_peer cfg ∘ source_in) sees sound seen wrote tells accepts_header opening sees_net first c.caller c.conn.client c.conn.server to (sees_net first_net) (sees_net c.conn.net) c.conn.ran c.core
 
 -- ---- what it came to
 
 -- By how it was met: a caller's session has ended or was given up with the loop, over a net that was to introduce it, and who isn't heard was turned away.
-abbrev pub CameAsMet : {C L : Type 0} → (M : Option Pair → Meaning) → (stands : Option Pair → C → Past → Type 0) → (sees : C → CoreSeen) → (seen : L → Seen) → (wrote : L → List ℕ → Type 0) → (sends_header : Option ℕ) → Met → (begins client : L) → Place → (first_net net : NetSeen) → Option (Result Ran SessionFault) → Type 0
-CameAsMet M stands sees seen wrote sends_header (met.Caller pair) begins client to first_net net came = EndedOrLeft (M pair) (stands pair) sees seen wrote begins client to (introduced (heading_for sends_header pair) first_net) net came
-CameAsMet M stands sees seen wrote sends_header met.Refused begins client to first_net net None = ⊥
-CameAsMet M stands sees seen wrote sends_header met.Refused begins client to first_net net (Some (Ok ran)) = TurnedAway seen wrote begins client first_net net ran
-CameAsMet M stands sees seen wrote sends_header met.Refused begins client to first_net net (Some (Err fault)) = ⊥
+abbrev pub CameAsMet : {C L : Type 0} → (M : Option Pair → Meaning) → (stands : Option Pair → C → Past → Type 0) → (sees : C → CoreSeen) → (seen : L → Seen) → (wrote : L → List ℕ → Type 0) → (opening : Opening) → Met → (begins client : L) → Place → (first_net net : NetSeen) → Option (Result Ran SessionFault) → Type 0
+CameAsMet M stands sees seen wrote opening (met.Caller pair) begins client to first_net net came = EndedOrLeft (M pair) (stands pair) sees seen wrote begins client to (introduced (heading_for opening.sends_header pair) first_net) net came
+CameAsMet M stands sees seen wrote opening met.Refused begins client to first_net net None = ⊥
+CameAsMet M stands sees seen wrote opening met.Refused begins client to first_net net (Some (Ok ran)) = TurnedAway seen wrote begins client first_net net ran
+CameAsMet M stands sees seen wrote opening met.Refused begins client to first_net net (Some (Err fault)) = ⊥
 
 -- it was met, and came to this
-pub record WasMet {C L : Type 0} (M : Option Pair → Meaning) (stands : Option Pair → C → Past → Type 0) (sees : C → CoreSeen) (seen : L → Seen) (wrote : L → List ℕ → Type 0) (tells : L → Option Pair → Type 0) (accepts_header : Bool) (sends_header : Option ℕ) (first client : L) (to : Place) (first_net net : NetSeen) (ran : Option (Result Ran SessionFault)) : Type 0 where
+pub record WasMet {C L : Type 0} (M : Option Pair → Meaning) (stands : Option Pair → C → Past → Type 0) (sees : C → CoreSeen) (seen : L → Seen) (wrote : L → List ℕ → Type 0) (tells : L → Option Pair → Type 0) (accepts_header : Bool) (opening : Opening) (first client : L) (to : Place) (first_net net : NetSeen) (ran : Option (Result Ran SessionFault)) : Type 0 where
   pub begins : L
   pub how : Met
   pub so : MetSo tells accepts_header seen wrote first begins how
-  pub came : CameAsMet M stands sees seen wrote sends_header how begins client to first_net net ran
+  pub came : CameAsMet M stands sees seen wrote opening how begins client to first_net net ran
 
 -- It was given up with the loop before it was met: what came of a header was read, its link is closed Failed, and nothing else was done.
 pub record LeftUnmet {L : Type 0} (accepts_header : Bool) (seen : L → Seen) (wrote : L → List ℕ → Type 0) (first client : L) (first_net net : NetSeen) (came : Option (Result Ran SessionFault)) : Type 0 where
@@ -143,6 +144,6 @@ pub record LeftUnmet {L : Type 0} (accepts_header : Bool) (seen : L → Seen) (w
   pub untouched : Untouched seen wrote begins client first_net net 0
   pub none : came ≡ None
 
-abbrev pub CameBack : {C L : Type 0} → (M : Option Pair → Meaning) → (stands : Option Pair → C → Past → Type 0) → (sees : C → CoreSeen) → (seen : L → Seen) → (wrote : L → List ℕ → Type 0) → (tells : L → Option Pair → Type 0) → (accepts_header : Bool) → (sends_header : Option ℕ) → (first client : L) → Place → (first_net net : NetSeen) → Option (Result Ran SessionFault) → Type 0
-CameBack M stands sees seen wrote tells accepts_header sends_header first client to first_net net came =
-    WasMet M stands sees seen wrote tells accepts_header sends_header first client to first_net net came ⊎ LeftUnmet accepts_header seen wrote first client first_net net came
+abbrev pub CameBack : {C L : Type 0} → (M : Option Pair → Meaning) → (stands : Option Pair → C → Past → Type 0) → (sees : C → CoreSeen) → (seen : L → Seen) → (wrote : L → List ℕ → Type 0) → (tells : L → Option Pair → Type 0) → (accepts_header : Bool) → (opening : Opening) → (first client : L) → Place → (first_net net : NetSeen) → Option (Result Ran SessionFault) → Type 0
+CameBack M stands sees seen wrote tells accepts_header opening first client to first_net net came =
+    WasMet M stands sees seen wrote tells accepts_header opening first client to first_net net came ⊎ LeftUnmet accepts_header seen wrote first client first_net net came

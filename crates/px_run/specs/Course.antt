@@ -3,8 +3,9 @@ use Rattle.std.specs.Prelude.{◌≡◌, ℕ, ◌<◌, ◌⊎◌, List, [], ◌+
 use Rattle.session_model.specs.Meaning.{Meaning}
 use Rattle.session_core.specs.History.{Past}
 use Rattle.px_link.specs.declared.turns.Turn.{Turn}
-use Rattle.px_link.specs.Link.{Seen}
+use Rattle.px_link.specs.Link.{Seen, AsItIs}
 use Rattle.px_link.specs.Net.{Place, Kept, NetSeen}
+use Rattle.fcgi_link.specs.Asked.{Responder, asked_for}
 use Rattle.htx_drive.specs.Machine.{CoreSeen}
 use Rattle.htx_drive.specs.declared.Ran.{Ran}
 use Rattle.htx_drive.specs.declared.weave.conn.Conn.{Conn}
@@ -18,11 +19,18 @@ use Rattle.px_run.specs.declared.step.Stepped.TheVariants as steps
 
 -- ---- what it begins with
 
--- nothing was done with a net yet
+-- nothing was done with a net yet, and its links pass on as it is what is written to them
 pub record IsNewNet (net : NetSeen) : Type 0 where
   pub none_lent : net.lent ≡ 0
   pub none_dialled : net.dialled ≡ []
   pub none_kept : (kept : List Kept) → net.kept ≡ Some kept → kept ≡ []
+  pub as_it_is : net.manner ≡ AsItIs
+
+-- a new net that was told of the application, where there is one
+pub record IsToldNet (responder : Option Responder) (net : NetSeen) : Type 0 where
+  pub first : NetSeen
+  pub is_new : IsNewNet first
+  pub told : net ≡ asked_for responder first
 
 -- ---- links that were asked what can be done now
 

@@ -10,9 +10,10 @@ use Rattle.htx_drive.specs.Machine.{CoreSeen}
 use Rattle.htx_drive.specs.declared.Ran.{Ran}
 use Rattle.htx_drive.specs.declared.SessionFault.{SessionFault}
 use Rattle.serve_run.specs.declared.outcome.Outcome.{Outcome}
-use Rattle.px_run.specs.Course.{IsNewNet}
+use Rattle.px_run.specs.Course.{IsToldNet}
 use Rattle.px_run.specs.Callers.{CameBack}
 use Rattle.px_run.specs.Lines.{Ended, outcomes_in, said_of}
+use Rattle.px_run.specs.declared.plan.Opening.{Opening}
 
 -- ---- connections
 
@@ -73,10 +74,10 @@ open_in (Some back) = 0
 abbrev pub count_open : {L N : Type 0} → List (Visit L N) → ℕ
 count_open {L} {N} visits = sum_by (λ (visit : Visit L N). open_in visit.back) visits
 
--- Its net is a new one. Where its link was given back, it was met as the link that was accepted tells, its net was to introduce its caller, whose session led there, or it was turned away or given up.
-pub record IsVisit {C L N : Type 0} (M : Option Pair → Meaning) (stands : Option Pair → C → Past → Type 0) (sees : C → CoreSeen) (seen : L → Seen) (wrote : L → List ℕ → Type 0) (tells : L → Option Pair → Type 0) (accepts_header : Bool) (sends_header : Option ℕ) (sees_net : N → NetSeen) (to : Place) (visit : Visit L N) : Type 0 where
-  pub new_net : IsNewNet (sees_net visit.own)
-  pub back : IfSome visit.back (λ (back : L × N). CameBack M stands sees seen wrote tells accepts_header sends_header visit.first back.0 to (sees_net visit.own) (sees_net back.1) visit.came)
+-- Its net is a new one, which was told of the application, where there is one. Where its link was given back, it was met as the link that was accepted tells, its net was to introduce its caller, whose session led there, or it was turned away or given up.
+pub record IsVisit {C L N : Type 0} (M : Option Pair → Meaning) (stands : Option Pair → C → Past → Type 0) (sees : C → CoreSeen) (seen : L → Seen) (wrote : L → List ℕ → Type 0) (tells : L → Option Pair → Type 0) (accepts_header : Bool) (opening : Opening) (sees_net : N → NetSeen) (to : Place) (visit : Visit L N) : Type 0 where
+  pub new_net : IsToldNet opening.responder (sees_net visit.own)
+  pub back : IfSome visit.back (λ (back : L × N). CameBack M stands sees seen wrote tells accepts_header opening visit.first back.0 to (sees_net visit.own) (sees_net back.1) visit.came)
 
 -- It is given back only once it has come to something, and not for want of memory.
 pub record EndsByItself {L N : Type 0} (visit : Visit L N) : Type 0 where

@@ -14,6 +14,7 @@ use Rattle.px_run.specs.Lines.{Ended, lines_of}
 use Rattle.px_run.specs.History.{Visit, numbered, links_back, IsVisit, Story}
 use Rattle.px_run.specs.declared.plan.RunFault.{RunFault}
 use Rattle.px_run.specs.declared.plan.RunFault.TheVariants as faults
+use Rattle.px_run.specs.declared.plan.Opening.{Opening}
 
 -- no memory was wanted
 abbrev pub had_memory : {T : Type 0} → Result T RunFault → Bool
@@ -61,11 +62,11 @@ pub record TellsMany {L N : Type 0} (seen : L → Seen) (wrote : L → List ℕ 
 
 -- From the one net to the other these connections were accepted. Each was met and then served or turned away, or was given up, and was given back. The lines of those that came to an outcome
 -- were written, each once. Behind `Ok` each has an outcome, and they are as many as were asked for, unless the caller accepts no more.
-pub record ServedMany {C L N : Type 0} (M : Option Pair → Meaning) (stands : Option Pair → C → Past → Type 0) (sees : C → CoreSeen) (seen : L → Seen) (wrote : L → List ℕ → Type 0) (tells : L → Option Pair → Type 0) (accepts_header : Bool) (sends_header : Option ℕ) (sees_net : N → NetSeen) (to : Place) (most : Option ℕ) (accepts_none : Type 0) (begun now : NetSeen) (writes writes_now : ℕ) (old new : Option (List ℕ)) (answer : Result (Unit {0}) RunFault) : Type 0 where
+pub record ServedMany {C L N : Type 0} (M : Option Pair → Meaning) (stands : Option Pair → C → Past → Type 0) (sees : C → CoreSeen) (seen : L → Seen) (wrote : L → List ℕ → Type 0) (tells : L → Option Pair → Type 0) (accepts_header : Bool) (opening : Opening) (sees_net : N → NetSeen) (to : Place) (most : Option ℕ) (accepts_none : Type 0) (begun now : NetSeen) (writes writes_now : ℕ) (old new : Option (List ℕ)) (answer : Result (Unit {0}) RunFault) : Type 0 where
   pub visits : List (Visit L N)
   pub ended : List Ended
   pub story : Story seen wrote begun now visits ended
-  pub each : AllByRecursion (IsVisit M stands sees seen wrote tells accepts_header sends_header sees_net to) visits
+  pub each : AllByRecursion (IsVisit M stands sees seen wrote tells accepts_header opening sees_net to) visits
   pub all_back : AllByRecursion (λ (visit : Visit L N). is_some visit.back ≡ true) visits
   pub outcomes : OnOk answer (AllByRecursion HasOutcome visits)
   pub within : IfSome most (λ count. length visits ≤ count)

@@ -1,8 +1,8 @@
 //! Links that are accepted, while places are free.
-ghost use Rattle.std.specs.Prelude.{◌≡◌, ◌<◌, ◌≤◌, ◌+◌, ◌-◌, ◌^◌, ◌++◌, ◌∷◌, [], ◌⊎◌, List, true, false, Option, None, Some, IfSome, length, slice_index_or};
+ghost use Rattle.std.specs.Prelude.{◌≡◌, ◌<◌, ◌≤◌, ◌+◌, ◌-◌, ◌^◌, ◌++◌, ◌∷◌, [], ◌⊎◌, List, true, false, Option, None, Some, IfSome, IfOk, length, slice_index_or};
 ghost use Rattle.px_link.specs.Net.{Place};
 ghost use Rattle.px_run.specs.declared.connection.Connection.{Connection};
-ghost use Rattle.px_run.specs.Course.{IsNewNet};
+ghost use Rattle.px_run.specs.Course.{IsToldNet};
 ghost use Rattle.px_run.specs.History.{Visit, new_visit};
 ghost use Rattle.px_proxyproto.specs.Meeting.{source_in};
 ghost use Rattle.px_run.specs.Connection.{◌∘◌};
@@ -13,9 +13,11 @@ use crate::caller::{caller_of, introduce};
 use crate::connection::Connection;
 use crate::hall::Hall;
 use crate::{Nets, Plan, RunFault};
+use fcgi_link::AsksApplication;
 use htx_drive::weave::{Conn, ResetsFor};
 use px_link::{Fault, OutOfMemory, Waits, WaitsNet, Wakes};
 use px_proxyproto::{HasPair, Introduces};
+use serve_run::{Responder, ask_for};
 
 /// Whether as many links were accepted as are to be, or as the number of a connection counts.
 fn has_all(accepted: u32, connections: Option<u32>) -> bool
@@ -82,16 +84,16 @@ fn take_in<
     requires within { place < length hall.old.places.items }
     requires none { (d : Option (Connection C L N)) → slice_index_or hall.old.places.items place d ≡ None }
     requires more { hall.old.accepted < 2 ^ 32 - 1 }
-    requires own { IsNewNet (N.seen own) }
-    ensures stands { (cfg : C.Settings) (to : Place) (visits : List (Visit L N)) → hall.old.accepted ≡ length visits → AllStand (C.meaning ∘ C.for_peer cfg ∘ source_in) (C.stands ∘ C.for_peer cfg ∘ source_in) C.seen C.sound L.seen L.wrote L.tells plan.now.accepts_header plan.now.sends_header N.seen to visits hall.old.places.items hall.old.sets.items
-        → AllStand (C.meaning ∘ C.for_peer cfg ∘ source_in) (C.stands ∘ C.for_peer cfg ∘ source_in) C.seen C.sound L.seen L.wrote L.tells plan.now.accepts_header plan.now.sends_header N.seen to (visits ++ new_visit link own ∷ []) hall.new.places.items hall.new.sets.items }
+    requires own { IsToldNet plan.now.opening.responder (N.seen own) }
+    ensures stands { (cfg : C.Settings) (to : Place) (visits : List (Visit L N)) → hall.old.accepted ≡ length visits → AllStand (C.meaning ∘ C.for_peer cfg ∘ source_in) (C.stands ∘ C.for_peer cfg ∘ source_in) C.seen C.sound L.seen L.wrote L.tells plan.now.accepts_header plan.now.opening N.seen to visits hall.old.places.items hall.old.sets.items
+        → AllStand (C.meaning ∘ C.for_peer cfg ∘ source_in) (C.stands ∘ C.for_peer cfg ∘ source_in) C.seen C.sound L.seen L.wrote L.tells plan.now.accepts_header plan.now.opening N.seen to (visits ++ new_visit link own ∷ []) hall.new.places.items hall.new.sets.items }
     ensures accepted { hall.new.accepted ≡ hall.old.accepted + 1 }
     ensures output { hall.new.output ≡ hall.old.output }
     ensures taken { count_taken hall.new.places.items ≡ 1 + count_taken hall.old.places.items }
 {
     let caller = caller_of(&link, plan.accepts_header);
     let mut own = own;
-    introduce(&caller, &mut own, plan.sends_header);
+    introduce(&caller, &mut own, &plan.opening);
     let mut link = link;
     wakes.watch_client(place, &mut link);
     hall.accepted += 1;
@@ -104,11 +106,25 @@ fn take_in<
     put(&mut hall.places[place], connection);
 }
 
+/// A net of its own for a connection, which was told of the application, where there is one.
+fn told_net<N: WaitsNet + AsksApplication + Drop, S: Nets<N>>(
+    nets: &mut S,
+    responder: &Option<Responder<'_>>,
+) -> Result<N, OutOfMemory>
+    ensures { IfOk result (λ net. IsToldNet responder.now (N.seen net)) }
+{
+    let mut own = nets.net()?;
+    match ask_for(&mut own, responder) {
+        Ok(()) => Ok(own),
+        Err(OutOfMemory) => Err(OutOfMemory),
+    }
+}
+
 /// Accepts a link at a place at which no connection is.
 fn accept<
     C: ResetsFor + Drop,
     L: Waits + HasPair,
-    N: WaitsNet<Link = L> + Introduces + Drop,
+    N: WaitsNet<Link = L> + Introduces + AsksApplication + Drop,
     S: Nets<N>,
     W: Wakes<N>,
 >(
@@ -122,12 +138,12 @@ fn accept<
     requires within { place < length hall.old.places.items }
     requires none { (d : Option (Connection C L N)) → slice_index_or hall.old.places.items place d ≡ None }
     requires more { hall.old.accepted < 2 ^ 32 - 1 }
-    ensures goes { KeepsAll C.meaning C.stands C.for_peer C.seen C.sound L.seen L.wrote L.tells plan.now.accepts_header plan.now.sends_header N.seen net.old net.new hall.old hall.new }
+    ensures goes { KeepsAll C.meaning C.stands C.for_peer C.seen C.sound L.seen L.wrote L.tells plan.now.accepts_header plan.now.opening N.seen net.old net.new hall.old hall.new }
     ensures accepted { hall.new.accepted ≤ hall.old.accepted + 1 }
     ensures balanced { IsBalanced (N.seen net.old) (N.seen net.new) hall.old.places.items hall.new.places.items }
     ensures net { IsSameNet (N.seen net.old) (N.seen net.new) }
 {
-    let own = match nets.net() {
+    let own = match told_net(nets, &plan.opening.responder) {
         Ok(own) => own,
         Err(OutOfMemory) => return Err(Fault::OutOfMemory),
     };
@@ -155,7 +171,7 @@ fn is_free<C, L, N>(places: &[Option<Connection<C, L, N>>], place: usize) -> boo
 fn accept_next<
     C: ResetsFor + Drop,
     L: Waits + HasPair,
-    N: WaitsNet<Link = L> + Introduces + Drop,
+    N: WaitsNet<Link = L> + Introduces + AsksApplication + Drop,
     S: Nets<N>,
     W: Wakes<N>,
 >(
@@ -166,7 +182,7 @@ fn accept_next<
     wakes: &mut W,
     plan: &Plan,
 ) -> Result<bool, RunFault>
-    ensures goes { KeepsAll C.meaning C.stands C.for_peer C.seen C.sound L.seen L.wrote L.tells plan.now.accepts_header plan.now.sends_header N.seen net.old net.new hall.old hall.new }
+    ensures goes { KeepsAll C.meaning C.stands C.for_peer C.seen C.sound L.seen L.wrote L.tells plan.now.accepts_header plan.now.opening N.seen net.old net.new hall.old hall.new }
     ensures within { IfSome plan.now.connections (λ count. hall.old.accepted ≤ count → hall.new.accepted ≤ count) }
     ensures balanced { IsBalanced (N.seen net.old) (N.seen net.new) hall.old.places.items hall.new.places.items }
     ensures net { IsSameNet (N.seen net.old) (N.seen net.new) }
@@ -204,7 +220,7 @@ fn accept_next<
 pub(crate) fn accepts<
     C: ResetsFor + Drop,
     L: Waits + HasPair,
-    N: WaitsNet<Link = L> + Introduces + Drop,
+    N: WaitsNet<Link = L> + Introduces + AsksApplication + Drop,
     S: Nets<N>,
     W: Wakes<N>,
 >(
@@ -215,7 +231,7 @@ pub(crate) fn accepts<
     wakes: &mut W,
     plan: &Plan,
 ) -> Result<(), RunFault>
-    ensures goes { KeepsAll C.meaning C.stands C.for_peer C.seen C.sound L.seen L.wrote L.tells plan.now.accepts_header plan.now.sends_header N.seen net.old net.new hall.old hall.new }
+    ensures goes { KeepsAll C.meaning C.stands C.for_peer C.seen C.sound L.seen L.wrote L.tells plan.now.accepts_header plan.now.opening N.seen net.old net.new hall.old hall.new }
     ensures within { IfSome plan.now.connections (λ count. hall.old.accepted ≤ count → hall.new.accepted ≤ count) }
     ensures balanced { IsBalanced (N.seen net.old) (N.seen net.new) hall.old.places.items hall.new.places.items }
     ensures net { IsSameNet (N.seen net.old) (N.seen net.new) }

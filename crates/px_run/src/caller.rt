@@ -3,6 +3,7 @@ ghost use Rattle.std.specs.Prelude.{◌≡◌, ℕ, List, true};
 ghost use Rattle.px_link.specs.Link.{Seen};
 ghost use Rattle.px_run.specs.Callers.{pair_of, is_greeted, is_refused, net_for, IsCallerOf, ReadSo, ReadMore};
 
+use crate::Opening;
 use px_link::Link;
 use px_proxyproto::{Greeter, Greeting, HasPair, Introduces, Pair, heading_for};
 
@@ -79,12 +80,12 @@ pub(crate) fn greet_on<L: Link>(caller: &mut Caller, client: &mut L)
 }
 
 /// Has the net of a connection introduce its caller to each server that it connects to, once it is known who asks.
-pub(crate) fn introduce<N: Introduces>(caller: &Caller, net: &mut N, sends_header: Option<u32>)
-    ensures { N.seen net.new ≡ net_for sends_header caller.now (N.seen net.old) }
+pub(crate) fn introduce<N: Introduces>(caller: &Caller, net: &mut N, opening: &Opening<'_>)
+    ensures { N.seen net.new ≡ net_for opening.now caller.now (N.seen net.old) }
 {
     match caller {
         Caller::Greets(_) => {}
-        Caller::Known(pair) => net.introduce(heading_for(sends_header, *pair)),
+        Caller::Known(pair) => net.introduce(heading_for(opening.sends_header, *pair)),
         Caller::Refused => {}
     }
 }

@@ -19,5 +19,6 @@ mod watching;
 
 pub use deadline::{Call, Marks, Phase, Times, deadline_of, expired_of};
 pub use next::{Next, Ready, next_of};
-pub use plan::{Nets, Plan, RunFault};
+pub use plan::{Nets, Opening, Plan, RunFault};
 pub use running::run;
+pub use serve_run::Responder;

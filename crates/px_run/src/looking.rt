@@ -11,11 +11,11 @@ ghost use Rattle.px_run.specs.Connection.{LookedSo, AllFreshFor, IsAtUnder};
 ghost use Rattle.px_proxyproto.specs.Meeting.{source_in};
 ghost use Rattle.px_run.specs.Callers.{pair_of, is_greeted, ReadMore, StandsFor};
 
-use crate::Plan;
 use crate::caller::{greet_on, introduce, is_greeted, is_refused};
 use crate::connection::{Connection, Looked, moved, seat, told};
 use crate::pace::Pace;
 use crate::step::Tools;
+use crate::{Opening, Plan};
 use http_model::{Close, End};
 use htx_drive::weave::{Conn, ResetsFor};
 use px_link::{Address, Link, Net, Waits, WaitsNet, Wakes};
@@ -54,13 +54,13 @@ fn turn_away<L: Link, N: Net<Link = L>>(conn: &mut Conn<L, N>)
 fn hear<C: ResetsFor, L: Waits + HasPair, N: WaitsNet<Link = L> + Introduces>(
     connection: &mut Connection<C, L, N>,
     pace: &mut Pace,
-    sends_header: Option<u32>,
+    opening: &Opening<'_>,
     now: u64,
 ) -> Looked
     requires greeted { is_greeted connection.old.caller ≡ true }
     requires goes_on { connection.old.conn.ran ≡ None }
-    ensures at { (cfg : C.Settings) (accepts_header : Bool) (first : L) (to : Place) (first_net : N) → StandsFor C.meaning C.stands C.for_peer cfg C.seen C.sound L.seen L.wrote L.tells accepts_header sends_header N.seen first to first_net connection.old
-        → StandsFor C.meaning C.stands C.for_peer cfg C.seen C.sound L.seen L.wrote L.tells accepts_header sends_header N.seen first to first_net connection.new }
+    ensures at { (cfg : C.Settings) (accepts_header : Bool) (first : L) (to : Place) (first_net : N) → StandsFor C.meaning C.stands C.for_peer cfg C.seen C.sound L.seen L.wrote L.tells accepts_header opening.now N.seen first to first_net connection.old
+        → StandsFor C.meaning C.stands C.for_peer cfg C.seen C.sound L.seen L.wrote L.tells accepts_header opening.now N.seen first to first_net connection.new }
     ensures looked { LookedSo result connection.old.number None connection.new.conn.ran }
     ensures further { result ≡ Looked.GoesOn → ReadMore connection.old.caller connection.new.caller }
     ensures number { connection.new.number ≡ connection.old.number }
@@ -70,7 +70,7 @@ fn hear<C: ResetsFor, L: Waits + HasPair, N: WaitsNet<Link = L> + Introduces>(
     }
     greet_on(&mut connection.caller, &mut connection.conn.client);
     if !is_refused(&connection.caller) {
-        introduce(&connection.caller, &mut connection.conn.net, sends_header);
+        introduce(&connection.caller, &mut connection.conn.net, opening);
         return Looked::GoesOn;
     }
     turn_away(&mut connection.conn);
@@ -119,12 +119,12 @@ pub(crate) fn look<
     plan: &Plan,
     tools: &mut Tools,
 ) -> Looked
-    requires at { (cfg : C.Settings) × (first : L) × (first_net : N) × AllFreshFor C.stands C.for_peer cfg sets.old.items × StandsFor C.meaning C.stands C.for_peer cfg C.seen C.sound L.seen L.wrote L.tells plan.now.accepts_header plan.now.sends_header N.seen first (address_of plan.now.to.now) first_net connection.old }
+    requires at { (cfg : C.Settings) × (first : L) × (first_net : N) × AllFreshFor C.stands C.for_peer cfg sets.old.items × StandsFor C.meaning C.stands C.for_peer cfg C.seen C.sound L.seen L.wrote L.tells plan.now.accepts_header plan.now.opening N.seen first (address_of plan.now.to.now) first_net connection.old }
     requires ready { AllByRecursion (IsReady C.seen C.sound) sets.old.items }
     ensures ready { AllByRecursion (IsReady C.seen C.sound) sets.new.items }
-    ensures at { (cfg : C.Settings) (first : L) (first_net : N) → AllFreshFor C.stands C.for_peer cfg sets.old.items → StandsFor C.meaning C.stands C.for_peer cfg C.seen C.sound L.seen L.wrote L.tells plan.now.accepts_header plan.now.sends_header N.seen first (address_of plan.now.to.now) first_net connection.old
-        → StandsFor C.meaning C.stands C.for_peer cfg C.seen C.sound L.seen L.wrote L.tells plan.now.accepts_header plan.now.sends_header N.seen first (address_of plan.now.to.now) first_net connection.new }
-    ensures fresh { (cfg : C.Settings) (first : L) (first_net : N) → AllFreshFor C.stands C.for_peer cfg sets.old.items → StandsFor C.meaning C.stands C.for_peer cfg C.seen C.sound L.seen L.wrote L.tells plan.now.accepts_header plan.now.sends_header N.seen first (address_of plan.now.to.now) first_net connection.old
+    ensures at { (cfg : C.Settings) (first : L) (first_net : N) → AllFreshFor C.stands C.for_peer cfg sets.old.items → StandsFor C.meaning C.stands C.for_peer cfg C.seen C.sound L.seen L.wrote L.tells plan.now.accepts_header plan.now.opening N.seen first (address_of plan.now.to.now) first_net connection.old
+        → StandsFor C.meaning C.stands C.for_peer cfg C.seen C.sound L.seen L.wrote L.tells plan.now.accepts_header plan.now.opening N.seen first (address_of plan.now.to.now) first_net connection.new }
+    ensures fresh { (cfg : C.Settings) (first : L) (first_net : N) → AllFreshFor C.stands C.for_peer cfg sets.old.items → StandsFor C.meaning C.stands C.for_peer cfg C.seen C.sound L.seen L.wrote L.tells plan.now.accepts_header plan.now.opening N.seen first (address_of plan.now.to.now) first_net connection.old
         → AllFreshFor C.stands C.for_peer cfg sets.new.items }
     ensures looked { LookedSo result connection.old.number connection.old.conn.ran connection.new.conn.ran }
     ensures number { connection.new.number ≡ connection.old.number }
@@ -133,7 +133,7 @@ pub(crate) fn look<
         return leaves(&mut connection.conn.client, pace);
     }
     if is_greeted(&connection.caller) {
-        return hear(connection, pace, plan.sends_header, tools.now);
+        return hear(connection, pace, &plan.opening, tools.now);
     }
     serve(connection, sets, pace, wakes, plan.to, tools)
 }

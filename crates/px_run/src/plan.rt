@@ -4,7 +4,17 @@ ghost use Rattle.px_run.specs.Course.{IsNewNet};
 
 use crate::Times;
 use px_link::{Address, OutOfMemory, WaitsNet};
+use serve_run::Responder;
 use std::alloc::Global;
+
+/// What each link to a server is told before anything is written to it.
+#[derive(Drop)]
+pub struct Opening<'a> {
+    /// Of which version the header of the PROXY protocol is that goes to each server first, and tells it who asks and where; with none there is no header.
+    pub sends_header: Option<u32>,
+    /// How the servers are asked, where they are an application.
+    pub responder: Option<Responder<'a>>,
+}
 
 /// What the loop is told.
 #[derive(Drop)]
@@ -18,8 +28,7 @@ pub struct Plan<'a> {
     pub connections: Option<u32>,
     /// Whether the stream of each client begins with a header of the PROXY protocol, which tells who asks.
     pub accepts_header: bool,
-    /// Of which version the header of that protocol is that goes to each server first, and tells it who asks and where; with none there is no header.
-    pub sends_header: Option<u32>,
+    pub opening: Opening<'a>,
 }
 
 /// What the loop asks of its caller, besides a net that listens, a wait and an output.
@@ -27,7 +36,7 @@ pub trait Nets<N: WaitsNet> {
     /// No further connection is to be accepted, where that is told.
     ghost accepts_none: { Self → Type 0 } = { λ _. ⊤ };
 
-    /// A net of its own for a connection: what that connects to its servers. Nothing was done with it yet.
+    /// A net of its own for a connection: what that connects to its servers. Nothing was done with it yet, and it was told nothing.
     fn net(&mut self) -> Result<N, OutOfMemory>
         ensures new { IfOk result (λ net. IsNewNet (N.seen net)) };
 

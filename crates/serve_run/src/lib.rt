@@ -16,6 +16,6 @@ pub use htx_drive::{Ran, SessionFault};
 pub use line::line_of;
 pub use outcome::{Outcome, ServeFault};
 pub use px_link::{Address, Close, End, Fault, Link, Net, OutOfMemory, Sink};
-pub use responder::Responder;
+pub use responder::{Responder, ask_for};
 pub use serving::serve;
 pub use sessions::Sessions;

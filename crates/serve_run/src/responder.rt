@@ -24,7 +24,7 @@ impl<'a> Model for Responder<'a> {
 }
 
 /// Tells a net of the application, where there is one.
-pub(crate) fn ask_for<N: AsksApplication>(
+pub fn ask_for<N: AsksApplication>(
     net: &mut N,
     responder: &Option<Responder<'_>>,
 ) -> Result<(), OutOfMemory>

@@ -18,7 +18,7 @@ leave-requires-clause-placed g c =
 pub loop-left-init : goal.loop-left-init
 loop-left-init g c =
     record {
-      goes = λ cfg accepts_header sends_header to fair whole begun writes writes_now before after h. goes_unfair (g.C.Machine.meaning ∘ g.C.ResetsFor.for_peer cfg ∘ source_in) (g.C.Machine.stands ∘ g.C.ResetsFor.for_peer cfg ∘ source_in) g.C.Machine.seen g.C.Machine.sound g.L.Link.seen g.L.Link.wrote g.L.HasPair.tells accepts_header sends_header g.N.Net.seen to begun writes before fair whole (g.N.Net.seen c.args.net.now) writes_now after c.args.hall.now h;
+      goes = λ cfg accepts_header opening to fair whole begun writes writes_now before after h. goes_unfair (g.C.Machine.meaning ∘ g.C.ResetsFor.for_peer cfg ∘ source_in) (g.C.Machine.stands ∘ g.C.ResetsFor.for_peer cfg ∘ source_in) g.C.Machine.seen g.C.Machine.sound g.L.Link.seen g.L.Link.wrote g.L.HasPair.tells accepts_header opening g.N.Net.seen to begun writes before fair whole (g.N.Net.seen c.args.net.now) writes_now after c.args.hall.now h;
       accepted = refl;
       balanced = refl;
       lent = c.requires.lent;
@@ -34,8 +34,8 @@ loop-left-preserved g c =
     let t = taken_popped c.loop-left.hall.places.items c.pop.new.self.items c.pop.result c.in-Some.at c.in-Some.is c.pop.ensures.items in
     let many : length c.loop-left.hall.places.items ≡ length c.pop.new.self.items + 1 = ap (λ (x : List (Option (Connection g.row.C.Denot g.row.L.Denot g.row.N.Denot))). length x) all ∙ length-append c.pop.new.self.items (c.in-Some.at ∷ []) in
     record {
-      goes = λ cfg accepts_header sends_header to fair whole begun writes writes_now before after h.
-          goes_left (g.C.Machine.meaning ∘ g.C.ResetsFor.for_peer cfg ∘ source_in) (g.C.Machine.stands ∘ g.C.ResetsFor.for_peer cfg ∘ source_in) g.C.Machine.seen g.C.Machine.sound g.L.Link.seen g.L.Link.wrote g.L.HasPair.tells accepts_header sends_header g.N.Net.seen to begun writes before _ whole (g.N.Net.seen c.loop-left.net) (g.N.Net.seen c.leave.new.net) writes_now after c.loop-left.hall _ c.in-Some.at all refl refl refl (l.gave_up cfg accepts_header sends_header to) (i.goes cfg accepts_header sends_header to fair whole begun writes writes_now before after h);
+      goes = λ cfg accepts_header opening to fair whole begun writes writes_now before after h.
+          goes_left (g.C.Machine.meaning ∘ g.C.ResetsFor.for_peer cfg ∘ source_in) (g.C.Machine.stands ∘ g.C.ResetsFor.for_peer cfg ∘ source_in) g.C.Machine.seen g.C.Machine.sound g.L.Link.seen g.L.Link.wrote g.L.HasPair.tells accepts_header opening g.N.Net.seen to begun writes before _ whole (g.N.Net.seen c.loop-left.net) (g.N.Net.seen c.leave.new.net) writes_now after c.loop-left.hall _ c.in-Some.at all refl refl refl (l.gave_up cfg accepts_header opening to) (i.goes cfg accepts_header opening to fair whole begun writes writes_now before after h);
       accepted = i.accepted;
       balanced = let a = i.balanced in let b = l.balanced in omega (arith, a, b, t);
       lent = let a = i.lent in let b = l.balanced in omega (arith, a, b, t);
