@@ -1,5 +1,6 @@
 pub mod PublicLaws
 mod Placing
+mod Lines
 mod Streams
 mod Puts
 mod Behind

@@ -1,8 +1,8 @@
 -- Where the directions of a core stand when it asks them.
-use Rattle.std.proofs.Common.{◌≡◌, Bool, true, false, if◌then◌else◌, Option, Some, None, sym, ap, subst, inl, inr}
+use Rattle.std.proofs.Common.{◌≡◌, Bool, true, false, refl, if◌then◌else◌, Option, Some, None, sym, ap, subst, inl, inr}
 use Rattle.session_core.specs.Sided.{AnswerSeen}
 use Rattle.session_core.specs.Waits.{is_turned}
-use Rattle.session_core.specs.Place.{Place, Says, Serves, place_serving, IsSomewhere, IsAtServer, Stay, IsPlaced}
+use Rattle.session_core.specs.Place.{Place, Says, Serves, is_reading, place_serving, IsSomewhere, IsAtServer, Stay, IsPlaced}
 use Rattle.session_core.specs.declared.Phase.{Phase}
 use Rattle.session_core.specs.declared.Phase.TheVariants as phase
 
@@ -14,7 +14,7 @@ is_somewhere placed a phase.Serving cut h = (_, h)
 is_somewhere placed a phase.Served cut h = (_, h.0)
 is_somewhere placed a phase.Refusing cut h = (_, h)
 is_somewhere placed a (phase.Replying kept) cut h = (_, h.0)
-is_somewhere placed a (phase.Over how) cut h = h
+is_somewhere placed a (phase.Over how) cut h = (h.0, h.2)
 
 pub stay_somewhere : (old new : Place → Type 0) → Stay old new → IsSomewhere old → IsSomewhere new
 stay_somewhere old new stay h = (h.0, stay h.0 h.1)
@@ -28,7 +28,7 @@ stay_placed old new a b phase.Serving cut stay same h = stay _ h
 stay_placed old new a b phase.Served cut stay same h = (stay _ h.0, rw same h.1)
 stay_placed old new a b phase.Refusing cut stay same h = stay _ h
 stay_placed old new a b (phase.Replying kept) cut stay same h = (stay _ h.0, h.1)
-stay_placed old new a b (phase.Over how) cut stay same h = stay_somewhere old new stay h
+stay_placed old new a b (phase.Over how) cut stay same h = (h.0, h.1, stay h.0 h.2)
 
 -- in the phase that it has
 pub placed_in : (placed : Place → Type 0) (a : AnswerSeen) (at phase : Phase) (cut : Option Bool) → at ≡ phase → IsPlaced placed a at cut → IsPlaced placed a phase cut
@@ -47,6 +47,11 @@ served placed cut e h = subst (λ b. placed (if b then Says else Serves)) (sym e
 
 pub serves_uncut : (placed : Place → Type 0) (cut : Option Bool) → cut ≡ None → placed Serves → placed (place_serving cut)
 serves_uncut placed cut e h = served placed cut (ap is_turned e) h
+
+pub serving_asked : (cut : Option Bool) → is_reading (place_serving cut) ≡ false
+serving_asked None = refl
+serving_asked (Some true) = refl
+serving_asked (Some false) = refl
 
 pub says : (placed : Place → Type 0) (cut : Option Bool) → cut ≡ Some false → placed (place_serving cut) → placed Says
 says placed cut e h = subst (λ c. placed (place_serving c)) e h

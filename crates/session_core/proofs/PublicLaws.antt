@@ -18,6 +18,7 @@ use Rattle.session_core.specs.declared.Told.{Told}
 use Rattle.http_model.specs.Reading.{Received, BodyReading}
 use Rattle.session_model.specs.Env.{Env, Pass, Edited, response_env, request_env}
 use Rattle.session_core.specs.HeadAsks.{HeadAsks}
+use Rattle.session_core.specs.Lines.{HasLine, IsLineOf, ShowsLine}
 use Rattle.session_core.specs.MeaningLaws.Decided.{body_bytes, RefusesSoFar, IsCutRequest, IsCutAnswer}
 use Rattle.session_core.specs.MeaningLaws.Bound.{sent_size, server_size, IsBounded}
 use Rattle.session_core.specs.Waits.{is_serving, wants_of}
@@ -29,6 +30,7 @@ use Rattle.session_core.proofs.Streams as streams
 use Rattle.session_core.proofs.Consequences as consequences
 use Rattle.session_core.proofs.Passing as passing
 use Rattle.session_core.proofs.Heads as heads
+use Rattle.session_core.proofs.Lines as lines
 use Rattle.session_core.proofs.MeaningLaws.Decides as decides
 use Rattle.session_core.proofs.MeaningLaws.Bounds as bounds
 use Rattle.session_core.proofs.Driving as driving
@@ -89,6 +91,25 @@ body_is_last = passing.body_is_last
 pub head_asks : (M : Meaning) (vars : M.Vars) (came left : Coming) (received : Received) (used : List ℕ)
     → HeadCame M came received used left → (stream : Stream) → Continues came stream → HeadAsks M vars left received stream
 head_asks = heads.head_asks
+
+-- The line of a head that came is so when more bytes come.
+pub line_gains : (M : Meaning) (came : Coming) (bytes line : List ℕ) → came.ending ≡ None → HasLine M came line → HasLine M (gains came bytes) line
+line_gains = lines.line_gains
+
+-- And when the stream ends.
+pub line_ends : (M : Meaning) (came : Coming) (how : Ending) (line : List ℕ) → came.ending ≡ None → HasLine M came line → HasLine M (ends came how) line
+line_ends = lines.line_ends
+
+-- So where no head comes.
+pub shown_gains : (M : Meaning) (came : Coming) (bytes line : List ℕ) → came.ending ≡ None → ShowsLine M came line → ShowsLine M (gains came bytes) line
+shown_gains = lines.shown_gains
+
+pub shown_ends : (M : Meaning) (came : Coming) (how : Ending) (line : List ℕ) → came.ending ≡ None → ShowsLine M came line → ShowsLine M (ends came how) line
+shown_ends = lines.shown_ends
+
+-- What shows the line tells it or nothing.
+pub line_of_shown : (M : Meaning) (came : Coming) (line : List ℕ) → ShowsLine M came line → IsLineOf M came line
+line_of_shown = lines.line_of_shown
 
 -- Rules that pass, a length within the limits and a finished head that fits ask for a server.
 pub sends_head : (M : Meaning) (vars : M.Vars) (received : Received) (env : Env M.Vars) (stream rest : Stream) → M.request_rules (request_env vars received.head) ≡ Pass env

@@ -45,6 +45,7 @@ pub record KeepsRequest (old new : RequestSeen) : Type 0 where
   -- nothing is put out to a server that stopped
   pub drops : new.dropped ≡ true → new.window ≡ old.window
   pub awaits : new.awaits ≡ old.awaits
+  pub line : new.line ≡ old.line
   pub rests : new.at_rest ≡ true
   pub stays : StaysSettled old.source new.source
   pub unread : new.unread ≤ old.unread

@@ -18,4 +18,5 @@ pub mod Lending
 pub mod Leads
 pub mod Waits
 pub mod Lanes
+pub mod Lines
 pub mod MeaningLaws

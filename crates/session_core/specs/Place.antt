@@ -46,6 +46,19 @@ place_serving cut = if is_turned cut then Says else Serves
 abbrev pub IsSomewhere : (Place → Type 0) → Type 0
 IsSomewhere placed = (at : Place) × placed at
 
+-- the head of the client's next request is to be read
+abbrev pub is_reading : Place → Bool
+is_reading Reads = true
+is_reading Opens = false
+is_reading Serves = false
+is_reading Says = false
+is_reading Replies = false
+is_reading Ends = false
+
+-- the directions stand behind what the client asked for
+abbrev pub IsBehindAsking : (Place → Type 0) → Type 0
+IsBehindAsking placed = (at : Place) × (is_reading at ≡ false) × placed at
+
 -- a server is open for the request in hand
 abbrev pub IsAtServer : (Place → Type 0) → Type 0
 IsAtServer placed = placed Serves ⊎ placed Says
@@ -63,4 +76,4 @@ IsPlaced placed a phase.Serving cut = placed (place_serving cut)
 IsPlaced placed a phase.Served cut = placed (place_serving cut) × (a.answered ≡ true)
 IsPlaced placed a phase.Refusing cut = placed Says
 IsPlaced placed a (phase.Replying kept) cut = placed Replies × (cut ≡ None)
-IsPlaced placed a (phase.Over how) cut = IsSomewhere placed
+IsPlaced placed a (phase.Over how) cut = IsBehindAsking placed

@@ -38,6 +38,8 @@ pub record RequestSeen : Type 0 where
   pub at_rest : Bool
   -- the list in the array on which request rules run
   pub list : List Block
+  -- the method and the target of the head that was read in this exchange, as they were received; empty where none was
+  pub line : List ℕ
 
 -- what a core sees of its answer direction
 pub record AnswerSeen : Type 0 where

@@ -8,6 +8,7 @@ ghost use Rattle.session_core.specs.Waits.{wants_of, is_serving, is_turned};
 ghost use Rattle.session_core.specs.Drives.{WantsMean, IsAlone, WantsSay, BegunSays, RefusalBegun, ReplyBegun, TurnedBegun, IsAskedFor};
 ghost use Rattle.session_core.specs.InHand.{ReadsInHand, ServesInHand, RefusesInHand, RepliesInHand, ExchangesAre};
 ghost use Rattle.session_core.specs.Leads.{Stands, Leads, Sees};
+ghost use Rattle.session_core.specs.Lines.{LineInHand, LineTold};
 ghost use Rattle.session_core.specs.Place.{IsPlaced};
 ghost use Rattle.session_core.specs.declared.machine.At.{At};
 ghost use Rattle.session_core.specs.declared.Phase.TheVariants as phase;
@@ -111,4 +112,13 @@ pub fn replies_in_hand<S: Works>()
 pub fn exchanges_are<S: Works>()
     ensures { (cfg : S.Settings) (sides : S) (at : At) (past : Past) → Stands (S.meaning cfg) S.request S.answer (S.stands cfg) sides at past
         → ExchangesAre (S.meaning cfg) (S.stands cfg sides) (S.request sides) (S.answer sides) at past }
+{}
+
+/// What the request line that is told says of the history: it is nothing, or the words of the head that came in the exchange in hand (`hand`); in front
+/// of a head it is nothing, and from there on until the next exchange begins it is those words, and nothing only where no head comes (`phase`).
+pub fn line_is_in_hand<S: Works>()
+    ensures hand { (cfg : S.Settings) (sides : S) (at : At) (past : Past) → Stands (S.meaning cfg) S.request S.answer (S.stands cfg) sides at past
+        → LineInHand (S.meaning cfg) (S.stands cfg sides) (S.request sides) (S.answer sides) at past }
+    ensures phase { (cfg : S.Settings) (sides : S) (at : At) (past : Past) → Stands (S.meaning cfg) S.request S.answer (S.stands cfg) sides at past
+        → IsPlaced (S.placed sides) (S.answer sides) at.phase at.cut → LineTold (S.meaning cfg) (S.stands cfg sides) (S.request sides) (S.answer sides) at past }
 {}

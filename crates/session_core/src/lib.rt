@@ -6,6 +6,7 @@ mod calls;
 pub mod laws;
 mod machine;
 pub mod meaning_laws;
+mod renewing;
 mod sides;
 mod turns;
 mod wants;
@@ -13,7 +14,8 @@ mod work;
 
 pub use http_model::{Close, End, Ending, OutOfMemory};
 pub use machine::{At, Core, Wants};
-pub use sides::{Asked, Renewable, RenewableFor, Works};
+pub use renewing::{Renewable, RenewableFor};
+pub use sides::{Asked, Works};
 
 /// How the last that answers stands.
 #[derive(Clone, Copy)]

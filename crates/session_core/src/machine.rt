@@ -9,7 +9,8 @@ ghost use Rattle.session_core.specs.Leads.{Stands, IsFresh};
 ghost use Rattle.px_peer.specs.declared.Peer.{Peer};
 
 use crate::Phase;
-use crate::sides::{Renewable, RenewableFor, Works};
+use crate::renewing::{Renewable, RenewableFor};
+use crate::sides::Works;
 use http_model::{Close, End};
 use px_peer::Peer;
 
@@ -133,6 +134,14 @@ impl<S: Works> Core<S> {
         ensures { HoldsList result.now (S.request self.now.sides).list }
     {
         self.sides.request_raw()
+    }
+
+    /// The method, one space and the target of the request in hand, as they were received. Where no head was read it is empty.
+    pub fn request_line(&self) -> &[u8]
+        requires placed { IsPlaced (S.placed self.now.sides) (S.answer self.now.sides) self.now.at.phase self.now.at.cut }
+        ensures { result.now ≡ (S.request self.now.sides).line }
+    {
+        self.sides.request_line()
     }
 
     /// The bytes that wait for the server, to be read alone.

@@ -1,7 +1,6 @@
 //! The two directions of a core, as it sees them.
 ghost use Rattle.std.specs.Prelude.{◌≡◌, ◌≢◌, ◌≤◌, ◌<◌, ◌++◌, ◌-◌, [], ℕ, List, Bool, Option, true, false, not, nat_lt, length, take, drop, OnOk, IfOk, IsOk, IsTrue};
 ghost use Rattle.session_model.specs.Meaning.{Meaning};
-ghost use Rattle.px_peer.specs.declared.Peer.{Peer};
 ghost use Rattle.session_core.specs.Consequences.{IsTotal};
 ghost use Rattle.session_core.specs.History.{no_stream, gains, ends};
 ghost use Rattle.std.specs.Borrow.{sem};
@@ -10,11 +9,11 @@ ghost use Rattle.session_core.specs.Waits.{is_empty};
 ghost use Rattle.session_core.specs.Place as place;
 ghost use Rattle.session_core.specs.Place.{Place, is_saying, place_behind, IsSomewhere, IsAtServer, Stay};
 ghost use Rattle.session_core.specs.Lending.{LendsText};
-ghost use Rattle.session_core.specs.Leads.{StepsRequest, KeepsRequest, StepsAnswer, AnswerWaits, Says, Refuses, Turns, AsksTo, AskKeeps, Renews, RenewsReplied, IsFresh};
+ghost use Rattle.session_core.specs.Lines.{IsLineOf, LineAt};
+ghost use Rattle.session_core.specs.Leads.{StepsRequest, KeepsRequest, StepsAnswer, AnswerWaits, Says, Refuses, Turns, AsksTo, AskKeeps, Renews, RenewsReplied};
 
 use crate::Told;
 use http_model::{Ending, OutOfMemory, Source};
-use px_peer::Peer;
 
 /// What the client's next request asks for.
 #[derive(Clone, Copy)]
@@ -131,6 +130,11 @@ pub trait Works {
     fn request_raw(&self) -> &[u8]
         requires placed { IsSomewhere (placed self.now) }
         ensures { HoldsList result.now (request self.now).list };
+
+    /// The method, one space and the target of the request in hand, as they were received. Where no head was read it is empty.
+    fn request_line(&self) -> &[u8]
+        requires placed { IsSomewhere (placed self.now) }
+        ensures { result.now ≡ (request self.now).line };
 
     // ---- the texts that wait, to be read alone
 
@@ -314,27 +318,10 @@ pub trait Works {
     /// A refusal or a reply that goes out has begun exactly where less than all of it is left.
     ghost begins_so: { (cfg : Self.Settings) (sides : Self) (p : Sided (meaning cfg)) (at : Place) → stands cfg sides p → is_saying at ≡ true → placed sides at
         → (answer sides).begun ≡ nat_lt (length p.saying.left) (length p.saying.text) };
-}
 
-/// Two directions that can begin again in the same memory.
-pub trait Renewable: Works {
-    /// As new ones, for the same configuration: by what they stand for nothing has happened yet. It takes no memory.
-    fn renew(&mut self)
-        requires placed { IsSomewhere (Self.placed self.old) }
-        ensures placed { Self.placed self.new place.Reads }
-        ensures stands { (cfg : Self.Settings) (p : Sided (Self.meaning cfg)) → Self.stands cfg self.old p
-            → (q : Sided (Self.meaning cfg)) × Self.stands cfg self.new q × IsFresh (Self.meaning cfg) (Self.request self.new) (Self.answer self.new) q };
-}
+    /// The line that is told is that of the exchange in hand, or nothing.
+    ghost line_is: { (cfg : Self.Settings) (sides : Self) (p : Sided (meaning cfg)) → stands cfg sides p → IsLineOf (meaning cfg) p.came (request sides).line };
 
-/// Two directions that can begin again for a connection of another peer.
-pub trait RenewableFor: Renewable {
-    /// The configuration, and who asks.
-    ghost for_peer: { Self.Settings → Option Peer → Self.Settings };
-
-    /// As new ones, for the same configuration and a connection of this peer: by what they stand for nothing has happened yet. It takes no memory.
-    fn renew_for(&mut self, peer: Option<Peer>)
-        requires placed { IsSomewhere (Self.placed self.old) }
-        ensures placed { Self.placed self.new place.Reads }
-        ensures stands { (cfg : Self.Settings) (other : Option Peer) (p : Sided (Self.meaning (for_peer cfg other))) → Self.stands (for_peer cfg other) self.old p
-            → (q : Sided (Self.meaning (for_peer cfg peer))) × Self.stands (for_peer cfg peer) self.new q × IsFresh (Self.meaning (for_peer cfg peer)) (Self.request self.new) (Self.answer self.new) q };
+    /// It is nothing in front of a head, and behind one only where none comes.
+    ghost line_at: { (cfg : Self.Settings) (sides : Self) (p : Sided (meaning cfg)) (at : Place) → stands cfg sides p → placed sides at → LineAt at (meaning cfg) p.came (request sides).line };
 }

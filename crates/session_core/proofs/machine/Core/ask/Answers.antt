@@ -7,7 +7,7 @@ use Rattle.session_core.specs.Leads.{AsksTo}
 use Rattle.session_core.specs.declared.sides.Asked.{Asked}
 use Rattle.session_core.proofs.Placing.{placed_in, placed_at}
 use Rattle.session_core.specs.declared.Phase.TheVariants as phase
-use Rattle.session_core.specs.Place.{place_behind, IsPlaced}
+use Rattle.session_core.specs.Place.{Ends, place_behind, IsPlaced}
 use Rattle.session_core.specs.declared.machine.At.{At}
 use Rattle.session_core.proofs.machine.Core.ask.Goals as goal
 
@@ -98,7 +98,7 @@ pub returns-in-More-clause-placed : goal.returns-in-More-clause-placed
 returns-in-More-clause-placed g c = placed_at (g.S.Works.placed c.ask.new.self) (g.S.Works.answer c.ask.new.self) c.args.self.now.at.phase phase.Reading c.args.self.now.at.cut c.requires.phase (subst (λ k. g.S.Works.placed c.ask.new.self (place_behind k)) c.in-More.is c.in_ok-asked.ensures.placed, (placed_in (g.S.Works.placed c.args.self.now.sides) (g.S.Works.answer c.args.self.now.sides) c.args.self.now.at.phase phase.Reading c.args.self.now.at.cut c.requires.phase c.requires.placed).1)
 
 pub returns-in-Nothing-clause-placed : goal.returns-in-Nothing-clause-placed
-returns-in-Nothing-clause-placed g c = (_, subst (λ k. g.S.Works.placed c.ask.new.self (place_behind k)) c.in-Nothing.is c.in_ok-asked.ensures.placed)
+returns-in-Nothing-clause-placed g c = (Ends, refl, subst (λ k. g.S.Works.placed c.ask.new.self (place_behind k)) c.in-Nothing.is c.in_ok-asked.ensures.placed)
 
 pub returns-in-Refuse-clause-placed : goal.returns-in-Refuse-clause-placed
 returns-in-Refuse-clause-placed g c = subst (λ (t : At). IsPlaced (g.S.Works.placed c.ask.new.self) (g.S.Works.answer c.ask.new.self) t.phase t.cut) (sym c.counted-self.ensures) (subst (λ k. g.S.Works.placed c.ask.new.self (place_behind k)) c.in-Refuse.is c.in_ok-asked.ensures.placed)

@@ -1,7 +1,9 @@
-use Rattle.std.proofs.Common.{sym, ◌∙◌}
+use Rattle.std.proofs.Common.{refl, sym, ◌∙◌}
 use Rattle.session_core.proofs.Working.{still}
 use Rattle.session_core.proofs.Turning.{ends_refusing}
-use Rattle.session_core.proofs.Placing.{is_somewhere}
+use Rattle.session_core.proofs.Placing.{is_somewhere, placed_in}
+use Rattle.session_core.specs.Place.{Says}
+use Rattle.session_core.specs.declared.Phase.TheVariants as phase
 use Rattle.session_core.proofs.machine.Core.end_refused.Goals as goal
 
 pub returns-then-is_answered-clause-keeps : goal.returns-then-is_answered-clause-keeps
@@ -19,4 +21,4 @@ pub is_answered-requires : goal.is_answered-requires
 is_answered-requires g c = record { placed = is_somewhere (g.S.Works.placed c.args.self.now.sides) (g.S.Works.answer c.args.self.now.sides) c.args.self.now.at.phase c.args.self.now.at.cut c.requires.placed }
 
 pub returns-then-is_answered-clause-placed : goal.returns-then-is_answered-clause-placed
-returns-then-is_answered-clause-placed g c = is_somewhere (g.S.Works.placed c.args.self.now.sides) (g.S.Works.answer c.args.self.now.sides) c.args.self.now.at.phase c.args.self.now.at.cut c.requires.placed
+returns-then-is_answered-clause-placed g c = (Says, refl, placed_in (g.S.Works.placed c.args.self.now.sides) (g.S.Works.answer c.args.self.now.sides) c.args.self.now.at.phase phase.Refusing c.args.self.now.at.cut c.requires.phase c.requires.placed)

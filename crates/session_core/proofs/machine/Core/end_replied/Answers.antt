@@ -1,9 +1,10 @@
-use Rattle.std.proofs.Common.{◌≡◌, true, sym, ap, ◌∙◌, rules}
+use Rattle.std.proofs.Common.{◌≡◌, true, refl, sym, ap, ◌∙◌, rules}
 use Rattle.session_core.specs.declared.Phase.TheVariants as phase
 use Rattle.session_core.proofs.Working.{still}
 use Rattle.session_core.proofs.Turning.{ends_replying, replies_next}
 use Rattle.session_core.specs.Leads.{renewed_at}
 use Rattle.session_core.proofs.Placing.{is_somewhere, placed_in}
+use Rattle.session_core.specs.Place.{Replies}
 use Rattle.session_core.proofs.machine.Core.end_replied.Goals as goal
 
 pub returns-then-not-is_answered-clause-keeps : goal.returns-then-not-is_answered-clause-keeps
@@ -46,4 +47,4 @@ pub returns-then-kept-clause-placed : goal.returns-then-kept-clause-placed
 returns-then-kept-clause-placed g c = (c.next_replied.ensures.placed, (placed_in (g.S.Works.placed c.args.self.now.sides) (g.S.Works.answer c.args.self.now.sides) c.args.self.now.at.phase (phase.Replying c.args.kept) c.args.self.now.at.cut c.requires.phase c.requires.placed).1)
 
 pub returns-else-kept-clause-placed : goal.returns-else-kept-clause-placed
-returns-else-kept-clause-placed g c = is_somewhere (g.S.Works.placed c.args.self.now.sides) (g.S.Works.answer c.args.self.now.sides) c.args.self.now.at.phase c.args.self.now.at.cut c.requires.placed
+returns-else-kept-clause-placed g c = (Replies, refl, (placed_in (g.S.Works.placed c.args.self.now.sides) (g.S.Works.answer c.args.self.now.sides) c.args.self.now.at.phase (phase.Replying c.args.kept) c.args.self.now.at.cut c.requires.phase c.requires.placed).0)

@@ -1,9 +1,10 @@
 use Rattle.std.proofs.Common.{◌≢◌, Some, false, rules, ap, refl}
 use Rattle.session_core.proofs.Served.{served_turned, served_ends, served_next, ready}
 use Rattle.session_core.specs.Leads.{renewed_at}
-use Rattle.session_core.proofs.Placing.{is_somewhere, placed_in, serves}
+use Rattle.session_core.proofs.Placing.{is_somewhere, placed_in, serves, serving_asked}
 use Rattle.session_core.specs.declared.Phase.TheVariants as phase
 use Rattle.session_core.specs.Waits.{is_turned}
+use Rattle.session_core.specs.Place.{place_serving}
 use Rattle.session_core.proofs.machine.Core.end_served.Goals as goal
 
 pub returns-then-is_turned-clause-keeps : goal.returns-then-is_turned-clause-keeps
@@ -40,13 +41,13 @@ returns-in-None-clause-keeps g c = λ cfg past s.
     }
 
 pub returns-then-is_turned-clause-placed : goal.returns-then-is_turned-clause-placed
-returns-then-is_turned-clause-placed g c = is_somewhere (g.S.Works.placed c.args.self.now.sides) (g.S.Works.answer c.args.self.now.sides) c.args.self.now.at.phase c.args.self.now.at.cut c.requires.placed
+returns-then-is_turned-clause-placed g c = (place_serving c.args.self.now.at.cut, serving_asked c.args.self.now.at.cut, (placed_in (g.S.Works.placed c.args.self.now.sides) (g.S.Works.answer c.args.self.now.sides) c.args.self.now.at.phase phase.Served c.args.self.now.at.cut c.requires.phase c.requires.placed).0)
 
 pub served_end-requires : goal.served_end-requires
 served_end-requires g c = record { placed = is_somewhere (g.S.Works.placed c.args.self.now.sides) (g.S.Works.answer c.args.self.now.sides) c.args.self.now.at.phase c.args.self.now.at.cut c.requires.placed }
 
 pub returns-in-Some-clause-placed : goal.returns-in-Some-clause-placed
-returns-in-Some-clause-placed g c = is_somewhere (g.S.Works.placed c.args.self.now.sides) (g.S.Works.answer c.args.self.now.sides) c.args.self.now.at.phase c.args.self.now.at.cut c.requires.placed
+returns-in-Some-clause-placed g c = (place_serving c.args.self.now.at.cut, serving_asked c.args.self.now.at.cut, (placed_in (g.S.Works.placed c.args.self.now.sides) (g.S.Works.answer c.args.self.now.sides) c.args.self.now.at.phase phase.Served c.args.self.now.at.cut c.requires.phase c.requires.placed).0)
 
 pub next-requires-clause-placed : goal.next-requires-clause-placed
 next-requires-clause-placed g c = serves (g.S.Works.placed c.args.self.now.sides) c.args.self.now.at.cut (ap is_turned (c.in-None.ensures.uncut refl)) (placed_in (g.S.Works.placed c.args.self.now.sides) (g.S.Works.answer c.args.self.now.sides) c.args.self.now.at.phase phase.Served c.args.self.now.at.cut c.requires.phase c.requires.placed).0
