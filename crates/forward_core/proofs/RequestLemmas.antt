@@ -11,3 +11,4 @@ pub mod Reading
 pub mod Sending
 pub mod Keeping
 pub mod Open
+pub mod Lines

@@ -2,6 +2,7 @@ pub use Rattle.session_core.specs.Sided
 pub use Rattle.session_core.specs.Leads
 pub mod Joined
 pub mod Begins
+pub mod Tells
 pub mod Asks
 pub mod Lent
 pub mod HeldBack

@@ -7,4 +7,5 @@ pub mod Steps
 pub mod Shown
 pub mod Reads
 pub mod Kept
+pub mod Words
 pub mod Edits

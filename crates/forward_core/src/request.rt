@@ -3,6 +3,7 @@
 
 mod kept;
 pub mod laws;
+mod line;
 mod place;
 mod side;
 

@@ -24,6 +24,7 @@ use Rattle.forward_core.specs.declared.joined.directions.Directions.{Directions}
 use Rattle.forward_core.proofs.JoinedLemmas.Joining.{sound_request, at_request, stands_request}
 use Rattle.forward_core.proofs.JoinedLemmas.Refusing.{asks_refusal, refusal_goes}
 use Rattle.forward_core.proofs.JoinedLemmas.Sending.{idle_starts, idle_heard}
+use Rattle.forward_core.proofs.RequestLemmas.Lines.{shown_idle}
 
 -- what asking leads to has a past
 past_behind : (cfg : Config) (new : Directions) (q : RequestSeen) (p : Sided (meaning_of cfg)) (asks : Asked) → AsksTo (meaning_of cfg) (DirectionsStand cfg new) q p asks → HasPast new
@@ -107,7 +108,8 @@ refused_leads : (d : Directions) (r : RequestSide) (new : Directions) (code : �
 refused_leads d r new code was tells refuses cfg p s =
     let held : d.rules.vars ≡ p.vars = subst (λ (x : Read). Holds x (answers.place_of d.answer) d.rules.vars p.vars p.asking.vars p.now) was.is_at.stand.0 s.vars in
     asks_refusal cfg (record d { request = r }) new p code [] [] p.vars false false
-    (record { config = s.config; total = s.total; is_for = (tells.leads cfg p.vars p.came p.asking p.to_server p.reply s.request).is_for; answer = s.answer })
+    (let still : RequestStands cfg r p.vars p.came p.asking p.to_server p.reply = tells.leads cfg p.vars p.came p.asking p.to_server p.reply s.request in
+    record { config = s.config; total = s.total; is_for = still.is_for; ending = still.ending; line = shown_idle (requests.place_of r) cfg p.came (requests.line_of r) tells.place still.line; answer = s.answer })
     tells.place refuses refl held refl (tells.asks cfg p.vars p.came p.asking p.to_server p.reply s.request)
 
 pub asks_refused : (d : Directions) (r : RequestSide) (new : Directions) (code : ℕ) → Placed d at.Reads → requests.is_open r ≡ requests.is_open d.request → requests.window_of r ≡ requests.window_of d.request

@@ -16,7 +16,7 @@ use Rattle.session_core.specs.Sided.{Sided, Asking, Reply, Saying, asker_in, uns
 use Rattle.session_core.specs.Leads.{IsFresh}
 use Rattle.forward_core.specs.Rules.Ruling.{IsReady}
 use Rattle.forward_core.specs.Request.Seen as requests
-use Rattle.forward_core.specs.Request.Stands.{IsSound, RequestStands}
+use Rattle.forward_core.specs.Request.Stands.{IsSound, RequestStands, TellsLine}
 use Rattle.forward_core.specs.Request.Stands.{StandsAt as RequestAt}
 use Rattle.forward_core.specs.declared.request.side.RequestSide.{RequestSide}
 use Rattle.forward_core.specs.declared.answer.side.AnswerSide.{AnswerSide}
@@ -117,6 +117,8 @@ request_for cfg peer r vars came asking put reply reads s =
     record {
       is_for = record { limits = s.is_for.limits; filters = s.is_for.filters };
       at = subst (λ (x : Asked). RequestAt x (record cfg { peer = peer }) r.lane vars came asking put reply) (sym reads) (subst (λ (x : Asked). RequestAt x cfg r.lane vars came asking put reply) reads s.at);
+      ending = s.ending;
+      line = subst (λ (x : Asked). TellsLine x (record cfg { peer = peer }) came (requests.line_of r)) (sym reads) (subst (λ (x : Asked). TellsLine x cfg came (requests.line_of r)) reads s.line);
     }
 
 pub answer_for : (cfg : Config) (peer : Option Peer) (a : AnswerSide) (asking : Asking Variables) (server : Coming) (put : List ℕ) (now : Variables) (saying : Saying) → IsSoundSide a → answers.place_of a ≡ answered.Idle

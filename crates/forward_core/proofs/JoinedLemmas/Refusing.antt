@@ -1,5 +1,5 @@
 -- What is said to a client before a server is asked for: a refusal.
-use Rattle.std.proofs.Common.{◌≡◌, ℕ, ◌<◌, List, [], Bool, false, length, refl, sym, ap, ◌∙◌, subst, arith}
+use Rattle.std.proofs.Common.{◌≡◌, ℕ, ◌<◌, List, [], Bool, false, length, refl, sym, ap, ◌∙◌, subst, inr, arith}
 use Rattle.http_model.specs.Reading.{Received}
 use Rattle.px_sample.specs.Buffer.{Buffer}
 use Rattle.px_sample.specs.Variables.{Variables}
@@ -14,13 +14,14 @@ use Rattle.session_core.specs.Consequences.{IsTotal}
 use Rattle.session_core.specs.History.{Coming, Continues}
 use Rattle.session_core.specs.Sided.{Sided, Asking, Reply, asker_in, unsaid}
 use Rattle.session_core.specs.Leads.{AsksRefusal}
+use Rattle.session_core.specs.Lines.{ShowsLine}
 use Rattle.session_core.specs.declared.sides.Asked.TheVariants as asks
 use Rattle.forward_core.specs.Rules.Ruling.{config_of, IsReady}
 use Rattle.forward_core.specs.declared.rules.rules.SessionRules.{SessionRules}
 use Rattle.forward_core.specs.declared.request.kept.Kept.{Kept}
 use Rattle.forward_core.specs.Request.Seen as requests
 use Rattle.forward_core.specs.Request.Seen.{unread_at}
-use Rattle.forward_core.specs.Request.Stands.{IsFor, RequestStands, StandsAt, left_of}
+use Rattle.forward_core.specs.Request.Stands.{IsFor, RequestStands, StandsAt, TellsLine, left_of}
 use Rattle.forward_core.specs.declared.request.place.Place.{Place as Asked}
 use Rattle.forward_core.specs.declared.request.place.Place.TheVariants as asked
 use Rattle.forward_core.specs.declared.request.side.RequestSide.{RequestSide}
@@ -37,15 +38,22 @@ use Rattle.forward_core.proofs.JoinedLemmas.Serving.{sound_both, begun_idle}
 -- ---- nothing is read and nothing goes out
 
 pub idle_stands : (cfg : Config) (side : RequestSide) (vars : Variables) (came : Coming) (asking : Asking Variables) (to_server : List ℕ) (reply : Reply Variables)
-    → requests.place_of side ≡ asked.Idle → IsFor cfg side.lane → RequestStands cfg side vars came asking to_server reply
-idle_stands cfg side vars came asking to_server reply idle is_for =
-    record { is_for = is_for; at = subst (λ (x : Asked). StandsAt x cfg side.lane vars came asking to_server reply) (sym idle) tt }
+    → requests.place_of side ≡ asked.Idle → IsFor cfg side.lane → came.ending ≡ side.lane.ended → ShowsLine (meaning_of cfg) came (requests.line_of side) → RequestStands cfg side vars came asking to_server reply
+idle_stands cfg side vars came asking to_server reply idle is_for ending line =
+    record {
+      is_for = is_for;
+      at = subst (λ (x : Asked). StandsAt x cfg side.lane vars came asking to_server reply) (sym idle) tt;
+      ending = ending;
+      line = subst (λ (x : Asked). TellsLine x cfg came (requests.line_of side)) (sym idle) line;
+    }
 
 -- the directions stand so for this past
 pub record Stills (cfg : Config) (d : Directions) (p : Sided (meaning_of cfg)) : Type 0 where
   pub config : settings_of d ≡ cfg
   pub total : IsTotal (meaning_of cfg)
   pub is_for : IsFor cfg d.request.lane
+  pub ending : p.came.ending ≡ d.request.lane.ended
+  pub line : ShowsLine (meaning_of cfg) p.came (requests.line_of d.request)
   pub answer : AnswerStands cfg d.answer p.asking p.server p.to_client p.now p.saying
 
 -- a text is said, and the request direction stays where nothing is read
@@ -56,7 +64,8 @@ text_stands cfg old new p text s idle request config says =
     record {
       config = config ∙ s.config;
       total = s.total;
-      request = idle_stands cfg new.request p.vars p.came p.asking p.to_server p.reply still (subst (λ (x : RequestSide). IsFor cfg x.lane) (sym request) s.is_for);
+      request = idle_stands cfg new.request p.vars p.came p.asking p.to_server p.reply still (subst (λ (x : RequestSide). IsFor cfg x.lane) (sym request) s.is_for)
+          (subst (λ (x : RequestSide). p.came.ending ≡ x.lane.ended) (sym request) s.ending) (subst (λ (x : RequestSide). ShowsLine (meaning_of cfg) p.came (requests.line_of x)) (sym request) s.line);
       answer = says p.asking p.server p.to_client p.now p.saying s.answer;
       vars = subst (λ (x : Asked). Holds x (answers.place_of new.answer) new.rules.vars p.vars p.asking.vars p.now) (sym still) tt;
       method = subst (λ (x : Asked). KeepsMethod x new.method.bytes (asker_in p.asking).method) (sym still) tt;
@@ -90,7 +99,14 @@ asks_refusal cfg old new p code method other vars no_body alone s idle r f g h a
 
 -- of a head that the rules ran on
 pub ruled_still : (cfg : Config) (d : Directions) (p : Sided (meaning_of cfg)) (received : Received) (kept : Kept) (verdict : Verdict) → Ruled cfg d p received kept verdict → Stills cfg d p
-ruled_still cfg d p received kept verdict r = record { config = r.config; total = r.total; is_for = r.read.is_for; answer = r.answer }
+ruled_still cfg d p received kept verdict r = record {
+  config = r.config;
+  total = r.total;
+  is_for = r.read.is_for;
+  ending = ap (λ (x : Coming). x.ending) r.read.head.came_is;
+  line = inr r.read.line;
+  answer = r.answer;
+}
 
 pub refuses_head : (cfg : Config) (old new : Directions) (p : Sided (meaning_of cfg)) (received : Received) (kept : Kept) (verdict : Verdict) (code : ℕ) (method : List ℕ) (vars : Variables)
     → Ruled cfg old p received kept verdict → requests.place_of old.request ≡ asked.Idle → RefusesSo old new code old.method.bytes kept.head_asked → old.method.bytes ≡ method → old.rules.vars ≡ vars

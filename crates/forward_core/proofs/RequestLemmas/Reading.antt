@@ -1,18 +1,22 @@
 -- From what a lane tells of a head to what the client's stream asks for.
 use Rattle.std.proofs.Common.{◌≡◌, ◌≢◌, ℕ, ◌<◌, inl, inr, List, [], ◌∷◌, ◌++◌, ◌&&◌, ◌==◌, Bool, true, false, refl, ap, sym, ◌∙◌, subst, append_assoc, if◌then◌else◌, length, ◌-◌, arith}
-use Rattle.std.specs.Prelude.{Option, Some, None, is_some}
+use Rattle.std.specs.Prelude.{Option, Some, None, is_some, codes}
 use Rattle.std.proofs.lemmas.List.{append-nil}
 use Rattle.http_model.specs.declared.Ending.{Ending}
 use Rattle.http_model.specs.declared.Limits.{Limits}
+use Rattle.http_model.specs.Head.{StartLine}
 use Rattle.http_model.specs.Reading.{HeadReading, Nothing, Refused, Begins, Received}
 use Rattle.session_model.specs.Stream.{Stream}
 use Rattle.session_model.specs.Asking.{Asks, asked_of}
 use Rattle.session_core.specs.History.{Coming, Continues, ContinuesBy}
 use Rattle.session_core.specs.Sided.{Asking, Reply}
+use Rattle.session_core.specs.Lanes.{HeadCame}
+use Rattle.session_core.specs.Lines.{ShowsLine, IsHeadless, request_words}
 use Rattle.px_sample.specs.Variables.{Variables}
 use Rattle.http_rules.specs.declared.config.Config.{Config}
 use Rattle.forward_core.specs.Meaning.Product.{meaning_of}
 use Rattle.h1_head.specs.Kind.{request_heads}
+use Rattle.h1_head.specs.Lines.{IsRequestLine}
 use Rattle.h1_head.specs.Request.{RequestOf}
 use Rattle.httparse.specs.Grammar.{RequestHead, print_request, print_blank}
 use Rattle.httparse.proofs.GrammarLemmas.{print_request-append}
@@ -26,7 +30,7 @@ use Rattle.lane.specs.Direction.State.{LaneState}
 use Rattle.forward_core.specs.declared.request.place.Place.{Place}
 use Rattle.forward_core.specs.declared.request.place.Place.TheVariants as place
 use Rattle.forward_core.specs.declared.request.side.RequestSide.{RequestSide}
-use Rattle.forward_core.specs.Request.Stands.{IsFor, ReadsOn, SoundAt, StandsAt}
+use Rattle.forward_core.specs.Request.Stands.{IsFor, ReadsOn, SoundAt, StandsAt, left_of}
 use Rattle.forward_core.specs.Request.Reads.{HeadRead}
 use Rattle.forward_core.proofs.RequestLemmas.Bodies.{Follows, follows}
 
@@ -82,27 +86,47 @@ reads_as cfg old came r is on each more ends =
 came_follows : (old : LaneState) (came : Coming) (stream : Stream) → ReadsOn old came → Continues came stream → Follows old.ended came.bytes stream
 came_follows old came stream on c = follows old.ended came.bytes stream (subst (λ (o : Option Ending). ContinuesBy o came.bytes stream) on.ending c)
 
--- a reading that needs nothing of what follows is asked by
+-- a reading that needs nothing of what follows is that of each stream
+reads_always : (cfg : Config) (old : LaneState) (came : Coming) (r : HeadReading) → IsFor cfg old → ReadsOn old came
+    → OnEachStream (is_some old.ended) (λ more. HeadOf request_heads old.limits (old.input.items ++ more) r)
+    → (stream : Stream) → Continues came stream → RequestOf cfg.limits stream.bytes r
+reads_always cfg old came r is on each stream c =
+    let f = came_follows old came stream on c in
+    subst (λ (xs : List ℕ). RequestOf cfg.limits xs r) (sym f.is) (reads_as cfg old came (λ more. r) is on each f.more (ended_none old.ended f.more stream.ending f.goes))
+
+-- where it is no head, no line is told
+pub shows_none : (cfg : Config) (old : LaneState) (came : Coming) (r : HeadReading) (line : List ℕ) → IsFor cfg old → ReadsOn old came
+    → OnEachStream (is_some old.ended) (λ more. HeadOf request_heads old.limits (old.input.items ++ more) r) → IsHeadless r → line ≡ [] → ShowsLine (meaning_of cfg) came line
+shows_none cfg old came r line is on each headless none =
+    inl (none, λ stream c. record { head = r; reads = reads_always cfg old came r is on each stream c; headless = headless })
+
+-- and it is asked by
 pub asks_reading : (cfg : Config) (old : LaneState) (vars : Variables) (came : Coming) (r : HeadReading) → IsFor cfg old → ReadsOn old came
     → OnEachStream (is_some old.ended) (λ more. HeadOf request_heads old.limits (old.input.items ++ more) r)
     → (stream : Stream) → Continues came stream → Asks (meaning_of cfg) vars stream (asked_of (meaning_of cfg) vars stream.ending r)
 asks_reading cfg old vars came r is on each stream c =
-    let f = came_follows old came stream on c in
-    record {
-      head = r;
-      reads = subst (λ (xs : List ℕ). RequestOf cfg.limits xs r) (sym f.is) (reads_as cfg old came (λ more. r) is on each f.more (ended_none old.ended f.more stream.ending f.goes));
-      asks = refl;
-    }
+    record { head = r; reads = reads_always cfg old came r is on each stream c; asks = refl }
 
 -- the stream has ended in empty lines
 pub each_nothing : (old new : LaneState) → IsEnd side.Request old new → OnEachStream (is_some old.ended) (λ more. HeadOf request_heads old.limits (old.input.items ++ more) Nothing)
 each_nothing old new h more ends = ap (λ (xs : List ℕ). behind (old.input.items ++ xs)) (ends h.ended) ∙ ap behind (append-nil old.input.items) ∙ h.nothing
 
+no_byte : (x : ℕ) (xs : List ℕ) → x ∷ xs ≡ [] → ⊥
+no_byte x xs e = cc
+
+-- the words of a request line are at least the space
+words_some : (method target : List ℕ) → method ++ codes " " ++ target ≢ []
+words_some [] target none = no_byte 32 target none
+words_some (x ∷ xs) target none = no_byte x (xs ++ codes " " ++ target) none
+
+line_some : (line : StartLine) → IsRequestLine line → request_words line ≢ []
+line_some line h none = words_some h.method h.target (sym (ap request_words h.is) ∙ none)
+
 -- a head came
 pub head_read : (cfg : Config) (old : LaneState) (new : RequestSide) (came : Coming) → IsFor cfg old → IsFor cfg new.lane → new.lane.ended ≡ old.ended → ReadsOn old came
-    → (h : LaneHas side.Request old new.lane)
+    → (h : LaneHas side.Request old new.lane) → new.line.bytes ≡ request_words h.head.line
     → HeadRead cfg new came (record { head = h.head; framing = new.lane.framing; declared = new.lane.declared; close = new.lane.close })
-head_read cfg old new came is now ended on h =
+head_read cfg old new came is now ended on h words =
     let got : Received = record { head = h.head; framing = new.lane.framing; declared = new.lane.declared; close = new.lane.close } in
     let input : List ℕ = new.lane.input.items in
     let r : List ℕ → HeadReading = λ more. Begins got (input ++ more) in
@@ -112,18 +136,16 @@ head_read cfg old new came is now ended on h =
     let e = rest_ends cfg.limits came.bytes got input first in
     let with_ending : Option Ending → Coming = λ o. record { bytes = e.0 ++ input; ending = o } in
     let with_bytes : List ℕ → Coming = λ xs. record { bytes = xs; ending = came.ending } in
-    record {
-      is_for = now;
-      used = e.0;
-      head = record {
-        came_is = ap with_bytes e.1 ∙ ap with_ending (on.ending ∙ sym ended);
-        reads = λ rest c. (let f = follows new.lane.ended input rest c in
-            let same : e.0 ++ rest.bytes ≡ came.bytes ++ f.more = ap (λ (xs : List ℕ). e.0 ++ xs) f.is ∙ sym (append_assoc e.0 input f.more) ∙ ap (λ (xs : List ℕ). xs ++ f.more) (sym e.1) in
-            let ends : is_some old.ended ≡ true → f.more ≡ [] = λ some. ended_none new.lane.ended f.more rest.ending f.goes (ap is_some ended ∙ some) in
-            subst (λ (xs : List ℕ). RequestOf cfg.limits xs (Begins got rest.bytes)) (sym same)
-            (subst (λ (xs : List ℕ). RequestOf cfg.limits (came.bytes ++ f.more) (Begins got xs)) (sym f.is) (at f.more ends)));
-      };
-    }
+    let head : HeadCame (meaning_of cfg) came got e.0 (left_of new) = record {
+      came_is = ap with_bytes e.1 ∙ ap with_ending (on.ending ∙ sym ended);
+      reads = λ rest c. (let f = follows new.lane.ended input rest c in
+          let same : e.0 ++ rest.bytes ≡ came.bytes ++ f.more = ap (λ (xs : List ℕ). e.0 ++ xs) f.is ∙ sym (append_assoc e.0 input f.more) ∙ ap (λ (xs : List ℕ). xs ++ f.more) (sym e.1) in
+          let ends : is_some old.ended ≡ true → f.more ≡ [] = λ some. ended_none new.lane.ended f.more rest.ending f.goes (ap is_some ended ∙ some) in
+          subst (λ (xs : List ℕ). RequestOf cfg.limits xs (Begins got rest.bytes)) (sym same)
+          (subst (λ (xs : List ℕ). RequestOf cfg.limits (came.bytes ++ f.more) (Begins got xs)) (sym f.is) (at f.more ends)));
+    } in
+    let some : new.line.bytes ≢ [] = λ none. line_some h.head.line h.received.line (sym words ∙ none) in
+    record { is_for = now; used = e.0; head = head; line = record { received = got; used = e.0; left = left_of new; head = head; is = words; some = some } }
 
 -- where more is to come the window still stands for what came
 pub reads_on : (old new : LaneState) (came : Coming) → new.ended ≡ old.ended → Waits side.Request old new → ReadsOn old came → ReadsOn new came
@@ -167,9 +189,6 @@ nothing_out place.Replied lane e s = absurd (cc)
 back_nil : (xs ys : List ℕ) → xs ++ ys ≡ [] → ys ≡ []
 back_nil [] ys e = e
 back_nil (x ∷ xs) ys e = absurd (cc)
-
-no_byte : (x : ℕ) (xs : List ℕ) → x ∷ xs ≡ [] → ⊥
-no_byte x xs e = cc
 
 -- a head is not empty
 head_has : (h : RequestHead) (rest : List ℕ) → print_request h ++ rest ≡ [] → ⊥

@@ -7,6 +7,7 @@ use Rattle.session_core.specs.Leads.{KeepsRequest, StaysSettled}
 use Rattle.session_core.specs.Sided.{Asking, Reply, IsSettled}
 use Rattle.http_model.specs.declared.Source.{Source}
 use Rattle.http_model.specs.declared.Source.TheVariants as source
+use Rattle.px_sample.specs.Buffer.{Buffer}
 use Rattle.px_sample.specs.Variables.{Variables}
 use Rattle.http_rules.specs.declared.config.Config.{Config}
 use Rattle.lane.specs.Direction.Sends.{Past, GoesOn, Stands}
@@ -110,13 +111,14 @@ step_unread place.Sending old new e t = t.shrinks
 step_unread place.Idle old new e t = absurd (cc)
 step_unread place.Replied old new e t = absurd (cc)
 
-pub step_keeps : (at : Place) (awaits was : Bool) (old new : LaneState) → at ≡ place.Sending → Steps old new → SoundAt at old
-    → KeepsRequest (seen (record { lane = old; place = at; awaits = awaits; at_rest = was })) (seen (record { lane = new; place = at; awaits = awaits; at_rest = true }))
-step_keeps at awaits was old new e t s = record {
+pub step_keeps : (at : Place) (line : Buffer) (awaits was : Bool) (old new : LaneState) → at ≡ place.Sending → Steps old new → SoundAt at old
+    → KeepsRequest (seen (record { lane = old; place = at; line = line; awaits = awaits; at_rest = was })) (seen (record { lane = new; place = at; line = line; awaits = awaits; at_rest = true }))
+step_keeps at line awaits was old new e t s = record {
   is_open = ap is_none t.keeps.ended;
   dropped = t.dropped;
   drops = λ d. t.drops (sym t.dropped ∙ d);
   awaits = refl;
+  line = refl;
   rests = refl;
   stays = step_settles at old new e t;
   unread = step_unread at old new e t;
@@ -127,13 +129,16 @@ step_keeps at awaits was old new e t s = record {
 -- ---- where nothing is to go out
 
 -- no text is put out
-pub nothing_put : (at : Place) (awaits was now : Bool) (lane : LaneState) → Puts (record { lane = lane; place = at; awaits = awaits; at_rest = was }) (record { lane = lane; place = at; awaits = awaits; at_rest = now })
-nothing_put at awaits was now lane = record {
+pub nothing_put : (at : Place) (line : Buffer) (awaits was now : Bool) (lane : LaneState)
+    → Puts (record { lane = lane; place = at; line = line; awaits = awaits; at_rest = was }) (record { lane = lane; place = at; line = line; awaits = awaits; at_rest = now })
+nothing_put at line awaits was now lane = record {
   put = [];
   window = sym (append-nil lane.output.items);
   stands = λ cfg vars came_ asking to_server reply h. record {
     is_for = h.is_for;
     at = subst (λ (text : List ℕ). StandsAt at cfg lane vars came_ asking text reply) (sym (append-nil to_server)) h.at;
+    ending = h.ending;
+    line = h.line;
   };
 }
 
@@ -143,13 +148,14 @@ rest_waits place.Sending lane over s h = absurd (over refl (undone lane.stage h 
 rest_waits place.Idle lane over s h = absurd (cc)
 rest_waits place.Replied lane over s h = absurd (cc)
 
-pub rest_keeps : (at : Place) (awaits was : Bool) (lane : LaneState) → (at ≡ place.Sending → lane.stage ≢ stage.Sending) → SoundAt at lane
-    → KeepsRequest (seen (record { lane = lane; place = at; awaits = awaits; at_rest = was })) (seen (record { lane = lane; place = at; awaits = awaits; at_rest = true }))
-rest_keeps at awaits was lane over s = record {
+pub rest_keeps : (at : Place) (line : Buffer) (awaits was : Bool) (lane : LaneState) → (at ≡ place.Sending → lane.stage ≢ stage.Sending) → SoundAt at lane
+    → KeepsRequest (seen (record { lane = lane; place = at; line = line; awaits = awaits; at_rest = was })) (seen (record { lane = lane; place = at; line = line; awaits = awaits; at_rest = true }))
+rest_keeps at line awaits was lane over s = record {
   is_open = refl;
   dropped = refl;
   drops = λ d. refl;
   awaits = refl;
+  line = refl;
   rests = refl;
   stays = still (source_at at lane.source);
   unread = omega arith;

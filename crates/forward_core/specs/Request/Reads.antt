@@ -13,6 +13,7 @@ use Rattle.session_model.specs.Asking.{Asked, Nothing, Refused, Asks, request_fi
 use Rattle.session_core.specs.History.{Coming, Continues}
 use Rattle.session_core.specs.Sided.{Asking, Reply}
 use Rattle.session_core.specs.Lanes.{HeadCame}
+use Rattle.session_core.specs.Lines.{HasLine}
 use Rattle.px_sample.specs.Variables.{Variables}
 use Rattle.http_rules.specs.declared.config.Config.{Config}
 use Rattle.forward_core.specs.Meaning.Product.{meaning_of, replaces}
@@ -37,11 +38,12 @@ pub record Holds (side : RequestSide) (received : Received) : Type 0 where
   pub declared : side.lane.declared ≡ received.declared
   pub close : side.lane.close ≡ received.close
 
--- the client's stream begins with this head, and then comes what is left
+-- the client's stream begins with this head, and then comes what is left; the line of a head that came is kept
 pub record HeadRead (cfg : Config) (side : RequestSide) (came : Coming) (received : Received) : Type 0 where
   pub is_for : IsFor cfg side.lane
   pub used : List ℕ
   pub head : HeadCame (meaning_of cfg) came received used (left_of side)
+  pub line : HasLine (meaning_of cfg) came side.line.bytes
 
 -- however the client's stream goes on, it asks for this
 abbrev pub AsksAlways : RequestSide → (Variables → Asked Variables) → Type 0

@@ -89,6 +89,10 @@ array_of side = side.lane.msg
 abbrev pub list_of : RequestSide → List Block
 list_of side = side.lane.msg.blocks
 
+-- the method and the target of the head that was read in this exchange, as they were received; empty where none was
+abbrev pub line_of : RequestSide → List ℕ
+line_of side = side.line.bytes
+
 -- all that a core sees
 abbrev pub seen : RequestSide → RequestSeen
 seen side =
@@ -103,4 +107,5 @@ seen side =
       awaits = side.awaits;
       at_rest = side.at_rest;
       list = list_of side;
+      line = line_of side;
     }

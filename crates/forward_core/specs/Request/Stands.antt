@@ -8,6 +8,7 @@ use Rattle.session_model.specs.Asking.{Asks, request_fits}
 use Rattle.session_core.specs.History.{Coming, Continues, prepend, prepended}
 use Rattle.session_core.specs.Sided.{Asking, Reply, replied_to}
 use Rattle.session_core.specs.Lanes.{HeadCame}
+use Rattle.session_core.specs.Lines.{HasLine, ShowsLine}
 use Rattle.px_sample.specs.Variables.{Variables}
 use Rattle.http_rules.specs.declared.config.Config.{Config}
 use Rattle.forward_core.specs.Meaning.Product.{meaning_of, replaces}
@@ -40,11 +41,12 @@ SoundAt place.Sending lane = GoesSoundly lane
 SoundAt place.Idle lane = lane.output.items ≡ []
 SoundAt place.Replied lane = lane.output.items ≡ []
 
--- its lane has the sizes that it was made with, and stands where the place says; at rest it has left nothing undone
+-- its lane has the sizes that it was made with, and stands where the place says; at rest it has left nothing undone; a request line has room
 pub record IsSound (side : RequestSide) : Type 0 where
   pub well : IsWell side.lane
   pub at : SoundAt side.place side.lane
   pub rests : side.at_rest ≡ true → RestsAt side.place side.lane
+  pub line : side.line.cap ≡ side.lane.limits.bufsize
 
 -- ---- for a past
 
@@ -116,11 +118,22 @@ StandsAt place.Sending cfg lane vars came asking to_server reply = GoesOut cfg l
 StandsAt place.Idle cfg lane vars came asking to_server reply = ⊤
 StandsAt place.Replied cfg lane vars came asking to_server reply = IsReplied cfg vars came reply (coming lane lane.input.items)
 
+-- The line that is told, by what is made of the next request: nothing in front of its head; behind that the words of the head that came, and nothing
+-- only where none comes.
+abbrev pub TellsLine : Place → Config → (came : Coming) → (line : List ℕ) → Type 0
+TellsLine place.Reading cfg came line = line ≡ []
+TellsLine place.Sending cfg came line = HasLine (meaning_of cfg) came line
+TellsLine place.Idle cfg came line = ShowsLine (meaning_of cfg) came line
+TellsLine place.Replied cfg came line = HasLine (meaning_of cfg) came line
+
 -- The request direction of this configuration stands for this past: the variables in front of the exchange, the client's stream
 -- from there on, the request that goes to a server and its text so far, and the reply of its rules.
 pub record RequestStands (cfg : Config) (side : RequestSide) (vars : Variables) (came : Coming) (asking : Asking Variables) (to_server : List ℕ) (reply : Reply Variables) : Type 0 where
   pub is_for : IsFor cfg side.lane
   pub at : StandsAt side.place cfg side.lane vars came asking to_server reply
+  -- what came has ended as the lane's stream has
+  pub ending : came.ending ≡ side.lane.ended
+  pub line : TellsLine side.place cfg came side.line.bytes
 
 -- ---- from one side to another
 

@@ -19,6 +19,7 @@ impl<'c> Works for Directions<'c> {
     ghost use Rattle.forward_core.specs.Joined.Lent.{with_to_client, with_to_server, LendsToClient, LendsToServer, client_lent, server_lent};
     ghost use Rattle.std.specs.Borrow.{sem};
     ghost use Rattle.forward_core.specs.Joined.Begins.{begins};
+    ghost use Rattle.forward_core.specs.Joined.Tells.{line_is, line_at};
 
     ghost meaning = { λ settings. meaning_of settings.0 };
 
@@ -96,6 +97,10 @@ impl<'c> Works for Directions<'c> {
 
     fn request_raw(&self) -> &[u8] {
         self.request.request_raw()
+    }
+
+    fn request_line(&self) -> &[u8] {
+        self.request.request_line()
     }
 
     fn to_client(&mut self) -> &mut [u8]
@@ -206,6 +211,10 @@ impl<'c> Works for Directions<'c> {
     ghost lends_to_server = { server_lent };
 
     ghost begins_so = { λ settings d p at s says placed. begins settings.0 d p at s.directions says placed };
+
+    ghost line_is = { λ settings d p s. line_is settings.0 d p s.directions };
+
+    ghost line_at = { λ settings d p at s placed. line_at settings.0 d p at s.directions placed };
 }
 
 impl<'c> Renewable for Directions<'c> {

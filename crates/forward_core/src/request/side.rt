@@ -13,6 +13,7 @@ ghost use Rattle.lane.specs.declared.direction.stage.Stage.TheVariants as stage;
 
 mod views;
 
+use crate::request::line::keep_line;
 use crate::request::place::Place;
 use body_filter::FilterSpec;
 use h1_head::Side;
@@ -21,12 +22,16 @@ use http_model::{Ending, Framing, Limits, OutOfMemory};
 use htx_arena::Arena;
 use lane::laws::promise;
 use lane::{Lane, LaneHead, Stage};
+use px_sample::Buf;
 use std::alloc::Global;
 
 /// The request direction of a session.
 pub struct RequestSide {
     lane: Lane,
     place: Place,
+    /// The method, one space and the target of the head that was read in this exchange, as they were received. Where none was
+    /// read it is empty.
+    line: Buf,
     /// The client waits for a response head before it sends the body (RFC 9110 section 10.1.1).
     awaits: bool,
     /// The last step left nothing undone that could be done with what has come.
@@ -38,6 +43,7 @@ impl Drop for RequestSide {
         let RequestSide {
             lane: _,
             place: _,
+            line: _,
             awaits: _,
             at_rest: _,
         } = self;
@@ -74,9 +80,11 @@ impl RequestSide {
         ensures window { IfOk result (λ side. window_of side ≡ []) }
         ensures window_size { IfOk result (λ side. window_size_of side ≡ window) }
     {
+        let line = Buf::new(alloc, limits.bufsize)?;
         Ok(RequestSide {
             lane: Lane::new(alloc, limits, window, filters)?,
             place: Place::Reading,
+            line,
             awaits: false,
             at_rest: false,
         })
@@ -206,6 +214,7 @@ impl RequestSide {
                 LaneHead::Nothing
             }
             LaneHead::Head => {
+                keep_line(&mut self.line, &mut self.lane);
                 self.place = Place::Idle;
                 LaneHead::Head
             }
@@ -283,6 +292,7 @@ impl RequestSide {
     {
         self.lane.next();
         self.lane.clear_output();
+        self.line.clear();
         self.place = Place::Reading;
         self.at_rest = false;
     }
@@ -301,6 +311,7 @@ impl RequestSide {
     {
         self.lane.new_stream();
         self.lane.clear_output();
+        self.line.clear();
         self.place = Place::Reading;
         self.awaits = false;
         self.at_rest = false;

@@ -2,7 +2,7 @@
 ghost use Rattle.std.specs.Prelude.{◌≡◌, not};
 ghost use Rattle.session_core.specs.Sided.{HoldsList};
 ghost use Rattle.session_core.specs.Waits.{is_empty};
-ghost use Rattle.forward_core.specs.Request.Seen.{seen, place_of, is_open, room_of, window_of, array_of};
+ghost use Rattle.forward_core.specs.Request.Seen.{seen, place_of, is_open, room_of, window_of, array_of, line_of};
 ghost use Rattle.forward_core.specs.Request.Edits.{framing_of, declared_of, close_of};
 
 use crate::request::place::Place;
@@ -70,6 +70,14 @@ impl RequestSide {
         ensures { HoldsList result.now (seen self.now).list }
     {
         self.lane.raw()
+    }
+
+    /// The method, one space and the target of the head that was read in this exchange, as they were received. Where none was
+    /// read it is empty.
+    pub fn request_line(&self) -> &[u8]
+        ensures { result.now ≡ line_of self.now }
+    {
+        self.line.bytes()
     }
 
     /// The array in which the head stands that was read, for rules to edit.

@@ -5,6 +5,7 @@ use Rattle.lane.specs.Direction.State.{LaneState}
 use Rattle.forward_core.specs.Request.Seen.{unread_at, to_read}
 use Rattle.forward_core.proofs.RequestLemmas.Events.{Takes, takes, for_same, same_by}
 use Rattle.forward_core.proofs.RequestLemmas.Sounds.{none_is, sound_keeps, room_less, unread_more, seen_as}
+use Rattle.forward_core.proofs.RequestLemmas.Lines.{line_takes}
 use Rattle.forward_core.proofs.RequestLemmas.Resting.{unrested}
 use Rattle.forward_core.proofs.request.side.RequestSide.from_client.Goals as goal
 
@@ -16,6 +17,7 @@ returns-clause-sound c =
       at = sound_keeps c.args.self.now.place c.args.self.now.lane c.push.new.self (e.reading side.Request) (λ none. ap (λ (l : LaneState). l.output.items) e.same ∙ none) (ap (λ (l : LaneState). l.stage) e.same) (ap (λ (l : LaneState). l.dropped) e.same)
           (λ p s. (record p { bytes = p.bytes ++ c.args.bytes.now }, e.stands p s)) c.requires.sound.at;
       rests = unrested c.args.self.now.place c.push.new.self;
+      line = c.requires.sound.line ∙ ap (λ (l : LaneState). l.limits.bufsize) (sym e.same);
     }
 
 pub returns-clause-leads : goal.returns-clause-leads
@@ -30,7 +32,12 @@ returns-clause-leads c = λ cfg vars came asking to_server reply h.
       dropped = ap (λ (l : LaneState). l.dropped) e.same;
       sends = e.stands;
     } in
-    record { is_for = for_same cfg c.args.self.now.lane c.push.new.self t.same h.is_for; at = takes c.args.self.now.place cfg c.args.self.now.lane c.push.new.self c.args.bytes.now vars came asking to_server reply t h.at }
+    record {
+      is_for = for_same cfg c.args.self.now.lane c.push.new.self t.same h.is_for;
+      at = takes c.args.self.now.place cfg c.args.self.now.lane c.push.new.self c.args.bytes.now vars came asking to_server reply t h.at;
+      ending = h.ending ∙ sym (ap (λ (l : LaneState). l.ended) e.same);
+      line = line_takes c.args.self.now.place cfg came c.args.bytes.now c.args.self.now.line.bytes (h.ending ∙ t.open_) h.line;
+    }
 
 pub returns-clause-seen : goal.returns-clause-seen
 returns-clause-seen c =
@@ -38,7 +45,7 @@ returns-clause-seen c =
     let old = c.args.self.now.lane in
     let new = c.push.new.self in
     let at = c.args.self.now.place in
-    seen_as old new at c.args.self.now.awaits c.args.self.now.at_rest false (is_none old.ended) old.dropped
+    seen_as old new at c.args.self.now.line c.args.self.now.awaits c.args.self.now.at_rest false (is_none old.ended) old.dropped
     (old.input.capacity - length old.input.items - length c.args.bytes.now) (unread_at at old.input.items + to_read at (length c.args.bytes.now)) old.output.items
     (ap (λ (l : LaneState). is_none l.ended) e.same) (room_less old new c.args.bytes.now c.requires.sound.well (e.sound c.requires.sound.well) (ap (λ (l : LaneState). l.limits) e.same) e.input)
     (unread_more at old new c.args.bytes.now e.input) (ap (λ (l : LaneState). l.output.items) e.same) (ap (λ (l : LaneState). l.source) e.same) (ap (λ (l : LaneState). l.stage) e.same) (ap (λ (l : LaneState). l.dropped) e.same) (ap (λ (l : LaneState). l.msg) e.same)

@@ -1,4 +1,5 @@
 use Rattle.std.proofs.Common.{ℕ, ◌++◌, ap, sym, ◌∙◌}
+use Rattle.http_model.specs.declared.Limits.{Limits}
 use Rattle.wire_buf.specs.Buffer.{Buffer}
 use Rattle.h1_head.specs.Stream.{behind}
 use Rattle.h1_head.specs.declared.answer.Side.TheVariants as side
@@ -11,7 +12,7 @@ use Rattle.forward_core.proofs.request.side.RequestSide.next.Goals as goal
 pub returns-clause-sound : goal.returns-clause-sound
 returns-clause-sound c =
     let reading = c.clear_output.ensures.reading side.Request (c.next.ensures.reading side.Request) in
-    record { well = reading.ready.sound; at = (reading, c.clear_output.ensures.empty); rests = unrested place.Reading c.clear_output.new.self }
+    record { well = reading.ready.sound; at = (reading, c.clear_output.ensures.empty); rests = unrested place.Reading c.clear_output.new.self; line = c.clear.ensures.cap ∙ (c.requires.sound.line ∙ ap (λ (l : Limits). l.bufsize) (sym (ap (λ (l : LaneState). l.limits) c.clear_output.ensures.same ∙ c.next.ensures.limits))) }
 
 pub returns-clause-leads : goal.returns-clause-leads
 returns-clause-leads c = λ cfg vars next came asking now to_server text reply other h.
@@ -22,4 +23,6 @@ returns-clause-leads c = λ cfg vars next came asking now to_server text reply o
     record {
       is_for = for_same cfg old new (same_by old new (ap (λ (l : LaneState). l.limits) same ∙ c.next.ensures.limits) (ap (λ (l : LaneState). l.sieve) same ∙ c.next.ensures.sieve)) h.is_for;
       at = record { ending = sym (ap (λ (l : LaneState). l.ended) same ∙ c.next.ensures.ended); lines = λ more. ap (λ (b : Buffer ℕ). behind (b.items ++ more)) (sym input) };
+      ending = sym (ap (λ (l : LaneState). l.ended) same ∙ c.next.ensures.ended);
+      line = c.clear.ensures.bytes;
     }
