@@ -6,8 +6,8 @@ mod crew;
 mod nets;
 mod worker;
 
-use fcgi_link::AppNet;
-use nets::RealNets;
+use fcgi_link::{AppNet, AppWakes};
+use nets::{OwnNet, RealNets};
 use proxy_call::{Many, Networks, Status, htx_proxy};
 use px_pattern::RealPatterns;
 use px_proxyproto::{SendNet, SendWakes};
@@ -23,9 +23,9 @@ const NO_TEXT: &str = "\u{fffd}";
 
 /// What `run` is handed.
 type RealMany<'a> = Many<
-    SendNet<ReadyNet<'a, HostRuntime>>,
+    OwnNet<'a, HostRuntime>,
     RealNets<'a, HostRuntime>,
-    SendWakes<ReadyPoll<'a, HostRuntime>>,
+    AppWakes<SendWakes<ReadyPoll<'a, HostRuntime>>>,
 >;
 
 /// The words of the command line, without the program's name.
@@ -59,9 +59,9 @@ fn first_many<'a>(rt: &'a HostRuntime) -> io::Result<RealMany<'a>> {
     let mut wakes = ReadyPoll::new(rt.alloc(), rt)?;
     wakes.watch_input();
     Ok(Many {
-        net: SendNet::new(ReadyNet::telling(rt.alloc(), rt)),
+        net: AppNet::new(rt.alloc(), SendNet::new(ReadyNet::telling(rt.alloc(), rt))),
         nets: RealNets::new(rt),
-        wakes: SendWakes::new(wakes),
+        wakes: AppWakes::new(SendWakes::new(wakes)),
     })
 }
 
@@ -71,9 +71,12 @@ fn worker_many<'a>(rt: &'a HostRuntime) -> io::Result<RealMany<'a>> {
     wakes.watch_output();
     let listener = rt.stdin().as_fd().try_clone_to_owned()?;
     Ok(Many {
-        net: SendNet::new(ReadyNet::handed(rt.alloc(), rt, listener)),
+        net: AppNet::new(
+            rt.alloc(),
+            SendNet::new(ReadyNet::handed(rt.alloc(), rt, listener)),
+        ),
         nets: RealNets::of_worker(rt),
-        wakes: SendWakes::new(wakes),
+        wakes: AppWakes::new(SendWakes::new(wakes)),
     })
 }
 

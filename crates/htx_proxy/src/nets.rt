@@ -1,5 +1,6 @@
 //! The nets of connections that are served at once, what turns further ones off, and the processes that serve in place of this one.
 use crate::crew::Crew;
+use fcgi_link::AppNet;
 use proxy_call::{Switch, Workers};
 use px_link::{Fault, OutOfMemory, Sink};
 use px_proxyproto::SendNet;
@@ -21,7 +22,10 @@ enum Off {
     Ended,
 }
 
-/// Makes nets over the system's sockets, which may write a header of the PROXY protocol to each server first.
+/// A net over the system's sockets, which may ask an application, or write a header of the PROXY protocol to each server first.
+pub type OwnNet<'a, R> = AppNet<SendNet<ReadyNet<'a, R>>>;
+
+/// Makes nets over the system's sockets.
 #[derive(Drop)]
 pub struct RealNets<'a, R> {
     alloc: Global,
@@ -61,9 +65,12 @@ impl<'a, R> Switch for RealNets<'a, R> {
     }
 }
 
-impl<'a, R: net::Net + Eprint> Nets<SendNet<ReadyNet<'a, R>>> for RealNets<'a, R> {
-    fn net(&mut self) -> Result<SendNet<ReadyNet<'a, R>>, OutOfMemory> {
-        Ok(SendNet::new(ReadyNet::telling(self.alloc, self.rt)))
+impl<'a, R: net::Net + Eprint> Nets<OwnNet<'a, R>> for RealNets<'a, R> {
+    fn net(&mut self) -> Result<OwnNet<'a, R>, OutOfMemory> {
+        Ok(AppNet::new(
+            self.alloc,
+            SendNet::new(ReadyNet::telling(self.alloc, self.rt)),
+        ))
     }
 
     fn accepts_more(&mut self) -> bool {
@@ -81,16 +88,16 @@ impl<'a, R: net::Net + Eprint> Nets<SendNet<ReadyNet<'a, R>>> for RealNets<'a, R
     }
 }
 
-impl<'a> Workers<SendNet<ReadyNet<'a, HostRuntime>>> for RealNets<'a, HostRuntime> {
-    fn start(&mut self, net: &SendNet<ReadyNet<'a, HostRuntime>>, count: u32) -> Result<(), Fault> {
-        self.crew.start(net.inner(), count)
+impl<'a> Workers<OwnNet<'a, HostRuntime>> for RealNets<'a, HostRuntime> {
+    fn start(&mut self, net: &OwnNet<'a, HostRuntime>, count: u32) -> Result<(), Fault> {
+        self.crew.start(net.inner().inner(), count)
     }
 
     fn pass_on<K: Sink>(
         &mut self,
-        net: &SendNet<ReadyNet<'a, HostRuntime>>,
+        net: &OwnNet<'a, HostRuntime>,
         out: &mut K,
     ) -> Result<(), Fault> {
-        self.crew.pass_on(net.inner(), out)
+        self.crew.pass_on(net.inner().inner(), out)
     }
 }

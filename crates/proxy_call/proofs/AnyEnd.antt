@@ -243,7 +243,7 @@ module _ {L N : Type 0} (seen : L → Seen) (wrote : L → List ℕ → Type 0) 
 
   never_due : (fs : List NamedBytes) (status wanted : Status) → input.files ≡ Some fs → RunsTo input.words input.files Runs status → IsDue input.words fs wanted → ⊥
   never_due fs status wanted files (name, options, is, cfg, accepted, (answer, runs, same)) due =
-      run_not_due input.words fs name options cfg wanted is accepted.1 (of_told input.files fs _ files accepted.0) due
+      run_not_due input.words fs name options cfg wanted is (of_told input.files fs _ files accepted) due
 
   pub complete : (status : Status) → End status → (fs : List NamedBytes) → input.files ≡ Some fs → (wanted : Status) → IsDue input.words fs wanted
       → (Rose input.reads input.reads_now → ⊥) → (Rose output.writes output.writes_now → ⊥) → (Rose input.builder.before input.builder.now → ⊥)

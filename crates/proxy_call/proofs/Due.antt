@@ -15,7 +15,7 @@ use Rattle.px_command.specs.declared.options.RunOptions.{RunOptions}
 use Rattle.proxy_commands.specs.Answers.{Checks, DecidesRecord, IsGood, IsRefused, IsRefusedBy}
 use Rattle.proxy_call.specs.Due.{IsDue}
 use Rattle.proxy_commands.specs.Files.{Builder, Configured, Holds, IfTold, RecordIs, RefusesAll}
-use Rattle.proxy_commands.specs.Modes.{RunsSo, Takes, asks_application, refuses}
+use Rattle.proxy_commands.specs.Modes.{RunsSo, Refuses, Takes, refuses}
 use Rattle.proxy_commands.specs.declared.record_command.RecordCommand.{RecordCommand}
 use Rattle.proxy_commands.specs.declared.record_command.RecordCommand.TheVariants.{Replay, Explain, Weave}
 use Rattle.proxy_commands.specs.declared.status.Status.{Status}
@@ -66,7 +66,7 @@ refused_or_not command other a b same one taken refused =
     let not_so : refuses other b ≡ false = subst (λ (cfg : Config). P other cfg) one (subst (λ (c : RecordCommand). P c a) same taken) in
     absurd (true≢false (sym refused ∙ not_so))
 
-taken_or_mode : (words : List (List ℕ)) (files : List NamedBytes) (name rec other last : List ℕ) (cfg c : Config) → Takes words name rec cfg → (command : RecordCommand) × RunsSo command words other last × (refuses command c ≡ true) → name ≡ other
+taken_or_mode : (words : List (List ℕ)) (files : List NamedBytes) (name rec other last : List ℕ) (cfg c : Config) → Takes words name rec cfg → Refuses words other last c → name ≡ other
     → Configured files name (Ok cfg) → Configured files other (Ok c) → ⊥
 taken_or_mode words files name rec other last cfg c takes refused same ok accepted =
     let both = both_hold files other (λ t. config_of t None ≡ Ok cfg) (λ t. config_of t None ≡ Ok c) (subst (λ (n : List ℕ). Configured files n (Ok cfg)) same ok) accepted in
@@ -98,8 +98,7 @@ config_or_usage words files (inl (name, inl (inr (inl (rec, is))), line, kind, r
 config_or_usage words files (inl (name, inl (inr (inr (inl (count, is)))), line, kind, refused)) usage = usage.serve name count is
 config_or_usage words files (inl (name, inl (inr (inr (inr (options, is)))), line, kind, refused)) usage = usage.run name options is
 config_or_usage words files (inl (name, inr all, line, kind, refused)) usage = usage.check_all name all
-config_or_usage words files (inr (name, rec, cfg, ok, inl (command, so, refused))) usage = runs_or_usage words name rec (runs_record command words name rec so) usage
-config_or_usage words files (inr (name, rec, cfg, ok, inr ((options, is), asks))) usage = usage.run name options is
+config_or_usage words files (inr (name, rec, cfg, ok, (command, so, refused))) usage = runs_or_usage words name rec (runs_record command words name rec so) usage
 
 record_or_usage : (words : List (List ℕ)) (files : List NamedBytes) → IsDue words files ended.Record → IsUsage words → ⊥
 record_or_usage words files (rec, place, kind, refused, inl is) usage = usage.check_record rec is
@@ -112,17 +111,12 @@ good_or_config words files (inr (inl (rec, is, r, ok))) (inl (other, named, line
 good_or_config words files (inr (inr (inl (name, rec, is, cfg, r, say, takes)))) (inl (other, named, line, kind, refused)) =
     accepted_or_refused files name other cfg (line, kind) (same_config_name words name other (inl (inr (inl (rec, is)))) named) say.configuration refused
 good_or_config words files (inr (inr (inr none))) (inl (other, named, line, kind, refused)) = fileless_or_config words other none named
-good_or_config words files (inl (name, inl check, cfg, ok)) (inr (other, rec, c, accepted, inl (command, so, refused))) = check_or_record words name rec check (inr (other, runs_record command words other rec so))
-good_or_config words files (inl (name, inr (count, serve), cfg, ok)) (inr (other, rec, c, accepted, inl (command, so, refused))) = serve_or_record words name rec count serve (inr (other, runs_record command words other rec so))
-good_or_config words files (inr (inl (name, is, r, ok))) (inr (other, rec, c, accepted, inl (command, so, refused))) = record_or_config words name other is (inl (inr (inl (rec, runs_record command words other rec so))))
-good_or_config words files (inr (inr (inl (name, rec, is, cfg, r, say, takes)))) (inr (other, last, c, accepted, inl (command, so, refused))) =
+good_or_config words files (inl (name, inl check, cfg, ok)) (inr (other, rec, c, accepted, (command, so, refused))) = check_or_record words name rec check (inr (other, runs_record command words other rec so))
+good_or_config words files (inl (name, inr (count, serve), cfg, ok)) (inr (other, rec, c, accepted, (command, so, refused))) = serve_or_record words name rec count serve (inr (other, runs_record command words other rec so))
+good_or_config words files (inr (inl (name, is, r, ok))) (inr (other, rec, c, accepted, (command, so, refused))) = record_or_config words name other is (inl (inr (inl (rec, runs_record command words other rec so))))
+good_or_config words files (inr (inr (inl (name, rec, is, cfg, r, say, takes)))) (inr (other, last, c, accepted, (command, so, refused))) =
     taken_or_mode words files name rec other last cfg c takes (command, so, refused) (same_config_name words name other (inl (inr (inl (rec, is)))) (inl (inr (inl (last, runs_record command words other last so))))) say.configuration accepted
-good_or_config words files (inr (inr (inr none))) (inr (other, rec, c, accepted, inl (command, so, refused))) = fileless_or_config words other none (inl (inr (inl (rec, runs_record command words other rec so))))
-good_or_config words files (inl (name, inl check, cfg, ok)) (inr (other, rec, c, accepted, inr ((options, is), asks))) = run_or_check words name (other, options, is) check
-good_or_config words files (inl (name, inr (count, serve), cfg, ok)) (inr (other, rec, c, accepted, inr ((options, is), asks))) = run_or_serve words (other, options, is) (name, count, serve)
-good_or_config words files (inr (inl (name, record_is, r, ok))) (inr (other, rec, c, accepted, inr ((options, is), asks))) = run_or_record words name (other, options, is) (inl record_is)
-good_or_config words files (inr (inr (inl (name, last, runs, cfg, r, say, takes)))) (inr (other, rec, c, accepted, inr ((options, is), asks))) = run_or_record words last (other, options, is) (inr (name, runs))
-good_or_config words files (inr (inr (inr none))) (inr (other, rec, c, accepted, inr ((options, is), asks))) = run_or_fileless words (other, options, is) none
+good_or_config words files (inr (inr (inr none))) (inr (other, rec, c, accepted, (command, so, refused))) = fileless_or_config words other none (inl (inr (inl (rec, runs_record command words other rec so))))
 
 good_or_record : (words : List (List ℕ)) (files : List NamedBytes) → IsDue words files Good → IsDue words files ended.Record → ⊥
 good_or_record words files (inl (name, inl check, cfg, ok)) (rec, place, kind, refused, how) = check_or_record words name rec check (record_named words files rec how)
@@ -137,10 +131,9 @@ config_or_record : (words : List (List ℕ)) (files : List NamedBytes) → IsDue
 config_or_record words files (inl (name, named, line, kind, refused)) (rec, place, what, err, inl is) = record_or_config words rec name is named
 config_or_record words files (inl (name, named, line, kind, refused)) (rec, place, what, err, inr (cfg_name, is, cfg, ok, takes)) =
     accepted_or_refused files cfg_name name cfg (line, kind) (same_config_name words cfg_name name (inl (inr (inl (rec, is)))) named) ok refused
-config_or_record words files (inr (name, last, c, accepted, inl (command, so, refused))) (rec, place, what, err, inl is) = record_or_config words rec name is (inl (inr (inl (last, runs_record command words name last so))))
-config_or_record words files (inr (name, last, c, accepted, inl (command, so, refused))) (rec, place, what, err, inr (cfg_name, is, cfg, ok, takes)) =
+config_or_record words files (inr (name, last, c, accepted, (command, so, refused))) (rec, place, what, err, inl is) = record_or_config words rec name is (inl (inr (inl (last, runs_record command words name last so))))
+config_or_record words files (inr (name, last, c, accepted, (command, so, refused))) (rec, place, what, err, inr (cfg_name, is, cfg, ok, takes)) =
     taken_or_mode words files cfg_name rec name last cfg c takes (command, so, refused) (same_config_name words cfg_name name (inl (inr (inl (rec, is)))) (inl (inr (inl (last, runs_record command words name last so))))) ok accepted
-config_or_record words files (inr (name, last, c, accepted, inr ((options, is), asks))) (rec, place, what, err, how) = run_or_record words rec (name, options, is) (record_named words files rec how)
 
 pub due_once : (words : List (List ℕ)) (files : List NamedBytes) (a b : Status) → IsDue words files a → IsDue words files b → a ≡ b
 due_once words files Good Good p q = refl
@@ -180,31 +173,23 @@ due_once words files ended.Record OutFault p q = absurd q
 due_once words files ended.Record NetFault p q = absurd q
 due_once words files ended.Record OutOfMemory p q = absurd q
 
--- a configuration asks an application or none
-asks_or_not : (a b : Config) → a ≡ b → asks_application a ≡ false → asks_application b ≡ true → ⊥
-asks_or_not a b same taken asks = absurd (true≢false (sym asks ∙ subst (λ (c : Config). asks_application c ≡ false) same taken))
-
--- Where the words are `run` and its configuration is accepted and taken, no status is due: it may go on without end.
-pub run_not_due : (words : List (List ℕ)) (files : List NamedBytes) (name : List ℕ) (options : RunOptions) (cfg : Config) (wanted : Status) → IsRun words name options → asks_application cfg ≡ false → Configured files name (Ok cfg)
+-- Where the words are `run` and its configuration is accepted, no status is due: it may go on without end.
+pub run_not_due : (words : List (List ℕ)) (files : List NamedBytes) (name : List ℕ) (options : RunOptions) (cfg : Config) (wanted : Status) → IsRun words name options → Configured files name (Ok cfg)
     → IsDue words files wanted → ⊥
-run_not_due words files name options cfg Good is taken ok (inl (other, inl checks, c, other_ok)) = run_or_check words other (name, options, is) checks
-run_not_due words files name options cfg Good is taken ok (inl (other, inr (count, serve), c, other_ok)) = run_or_serve words (name, options, is) (other, count, serve)
-run_not_due words files name options cfg Good is taken ok (inr (inl (rec, record_is, r, other_ok))) = run_or_record words rec (name, options, is) (inl record_is)
-run_not_due words files name options cfg Good is taken ok (inr (inr (inl (other, rec, runs, c, r, say, takes)))) = run_or_record words rec (name, options, is) (inr (other, runs))
-run_not_due words files name options cfg Good is taken ok (inr (inr (inr none))) = run_or_fileless words (name, options, is) none
-run_not_due words files name options cfg Usage is taken ok usage = usage.run name options is
-run_not_due words files name options cfg ended.Config is taken ok (inl (other, named, line, kind, refused)) =
+run_not_due words files name options cfg Good is ok (inl (other, inl checks, c, other_ok)) = run_or_check words other (name, options, is) checks
+run_not_due words files name options cfg Good is ok (inl (other, inr (count, serve), c, other_ok)) = run_or_serve words (name, options, is) (other, count, serve)
+run_not_due words files name options cfg Good is ok (inr (inl (rec, record_is, r, other_ok))) = run_or_record words rec (name, options, is) (inl record_is)
+run_not_due words files name options cfg Good is ok (inr (inr (inl (other, rec, runs, c, r, say, takes)))) = run_or_record words rec (name, options, is) (inr (other, runs))
+run_not_due words files name options cfg Good is ok (inr (inr (inr none))) = run_or_fileless words (name, options, is) none
+run_not_due words files name options cfg Usage is ok usage = usage.run name options is
+run_not_due words files name options cfg ended.Config is ok (inl (other, named, line, kind, refused)) =
     accepted_or_refused files name other cfg (line, kind) (same_config_name words name other (inl (inr (inr (inr (options, is))))) named) ok refused
-run_not_due words files name options cfg ended.Config is taken ok (inr (other, rec, c, accepted, inl (command, so, refused))) = run_or_record words rec (name, options, is) (inr (other, runs_record command words other rec so))
-run_not_due words files name options cfg ended.Config is taken ok (inr (other, rec, c, accepted, inr ((others, runs), asks))) =
-    let same = same_config_name words name other (inl (inr (inr (inr (options, is))))) (inl (inr (inr (inr (others, runs))))) in
-    let both = both_hold files other (λ t. config_of t None ≡ Ok cfg) (λ t. config_of t None ≡ Ok c) (subst (λ (n : List ℕ). Configured files n (Ok cfg)) same ok) accepted in
-    asks_or_not cfg c (same_config (config_of both.0 None) cfg c both.1 both.2) taken asks
-run_not_due words files name options cfg ended.Record is taken ok (rec, place, kind, refused, how) = run_or_record words rec (name, options, is) (record_named words files rec how)
-run_not_due words files name options cfg FileFault is taken ok due = due
-run_not_due words files name options cfg OutFault is taken ok due = due
-run_not_due words files name options cfg NetFault is taken ok due = due
-run_not_due words files name options cfg OutOfMemory is taken ok due = due
+run_not_due words files name options cfg ended.Config is ok (inr (other, rec, c, accepted, (command, so, refused))) = run_or_record words rec (name, options, is) (inr (other, runs_record command words other rec so))
+run_not_due words files name options cfg ended.Record is ok (rec, place, kind, refused, how) = run_or_record words rec (name, options, is) (record_named words files rec how)
+run_not_due words files name options cfg FileFault is ok due = due
+run_not_due words files name options cfg OutFault is ok due = due
+run_not_due words files name options cfg NetFault is ok due = due
+run_not_due words files name options cfg OutOfMemory is ok due = due
 
 -- ---- what is written is what is due
 

@@ -33,7 +33,7 @@ pub fn htx_proxy<
     H: Link + HasPair,
     N: Net<Link = H> + Introduces + AsksApplication,
     L: Waits + HasPair + Drop,
-    M: WaitsNet<Link = L> + Introduces + Drop,
+    M: WaitsNet<Link = L> + Introduces + AsksApplication + Drop,
     S: Nets<M> + Switch + Workers<M>,
     W: Wakes<M>,
     K: Sink,

@@ -1,5 +1,5 @@
 -- What a step that stops says of the whole command.
-use Rattle.std.proofs.Common.{◌≡◌, ◌≤◌, true, ℕ, List, [], inl, inr, refl, sym, subst, arith}
+use Rattle.std.proofs.Common.{◌≡◌, ◌≤◌, true, ℕ, List, inl, inr, refl, sym, subst, arith}
 use Rattle.std.specs.Prelude.{Option, Result, Ok, Err, IfErr, IsErrAnd}
 use Rattle.px_link.specs.Told.{NamedBytes, Reads, Rose}
 use Rattle.http_rules.specs.declared.config.Config.{Config}
@@ -20,7 +20,7 @@ use Rattle.px_command.specs.Command.{IsCheckAll, NamesConfig, RunsRecord}
 use Rattle.proxy_commands.specs.Answers.{DecidesBy, DecidesRecord, IsAccepted, IsRefusedBy}
 use Rattle.proxy_commands.specs.Lines.{refused_line}
 use Rattle.proxy_commands.specs.Files.{IfTold, Configured, IsBuilt}
-use Rattle.proxy_commands.specs.Modes.{RunsSo, RunsClients, Takes, asks_application, refuses}
+use Rattle.proxy_commands.specs.Modes.{RunsSo, Takes, refuses}
 use Rattle.proxy_commands.specs.declared.record_command.RecordCommand.{RecordCommand}
 use Rattle.proxy_commands.specs.declared.record_command.RecordCommand.TheVariants.{Replay, Explain, Weave}
 use Rattle.proxy_commands.specs.Stops.{Input, Answers, ReadStops, SaysAll, SaysVerdict, StopsBy, stop_of_configuration, stop_of_record}
@@ -86,12 +86,7 @@ runs_record Weave words cfg_name rec_name so = inr (inr so)
 pub mode_stops : (input : Input) (command : RecordCommand) (cfg_name rec_name : List ℕ) (cfg : Config) → RunsSo command input.words cfg_name rec_name
     → IfTold input.files (λ fs. Configured fs cfg_name (Ok cfg)) → IsBuilt input.builder → refuses command cfg ≡ true → StopsBy input (stops.Refused 0 Mode)
 mode_stops input command cfg_name rec_name cfg so accepts built refused =
-    inr (record { cfg_name = cfg_name; rec_name = rec_name; cfg = cfg; refuses = inl (command, so, refused); accepted = accepts; built = built; whole = refl; mode = refl })
-
-pub clients_stop : (input : Input) (cfg_name : List ℕ) (cfg : Config) → RunsClients input.words cfg_name
-    → IfTold input.files (λ fs. Configured fs cfg_name (Ok cfg)) → IsBuilt input.builder → asks_application cfg ≡ true → StopsBy input (stops.Refused 0 Mode)
-clients_stop input cfg_name cfg runs accepts built asks =
-    inr (record { cfg_name = cfg_name; rec_name = []; cfg = cfg; refuses = inr (runs, asks); accepted = accepts; built = built; whole = refl; mode = refl })
+    inr (record { cfg_name = cfg_name; rec_name = rec_name; cfg = cfg; refuses = (command, so, refused); accepted = accepts; built = built; whole = refl; mode = refl })
 
 -- what is written of a configuration that is refused, or that the command doesn't take
 pub refused_by : (input : Input) (line : ℕ) (kind : CfgKind) (text : List ℕ) → StopsBy input (stops.Refused line kind) → text ≡ refused_line line kind → IsRefusedBy input.words input.files input.builder text

@@ -1,12 +1,11 @@
--- Which configurations a command takes: `replay`, like `serve`, each; `explain` none whose server is an application or whose clients begin with a header of the PROXY
--- protocol; `weave`, whose sessions share cores, none whose server is an application or with such a header on either side; `run` none whose server is an application.
-use Rattle.std.specs.Prelude.{◌≡◌, ℕ, ◌||◌, ◌⊎◌, List, Bool, true, false, Option, Ok, is_some}
+-- Which configurations a command takes: `replay`, like `serve` and `run`, each; `explain` none whose server is an application or whose clients begin with a header of the
+-- PROXY protocol; `weave`, whose sessions share cores, none whose server is an application or with such a header on either side.
+use Rattle.std.specs.Prelude.{◌≡◌, ℕ, ◌||◌, List, Bool, true, false, Option, Ok, is_some}
 use Rattle.px_link.specs.Told.{NamedBytes}
 use Rattle.http_rules.specs.declared.config.Config.{Config}
 use Rattle.cfg_parse.specs.declared.fault.CfgKind.{CfgKind}
 use Rattle.cfg_parse.specs.declared.fault.CfgKind.TheVariants.{Mode}
-use Rattle.px_command.specs.Command.{IsReplay, Explains, IsWeave, IsRun}
-use Rattle.px_command.specs.declared.options.RunOptions.{RunOptions}
+use Rattle.px_command.specs.Command.{IsReplay, Explains, IsWeave}
 use Rattle.proxy_commands.specs.Files.{IfTold, Builder, Configured, IsBuilt}
 use Rattle.proxy_commands.specs.declared.record_command.RecordCommand.{RecordCommand}
 use Rattle.proxy_commands.specs.declared.record_command.RecordCommand.TheVariants.{Replay, Explain, Weave}
@@ -31,18 +30,9 @@ refuses Weave cfg = asks_application cfg || (cfg.accept_proxy || is_some cfg.sen
 abbrev pub Takes : List (List ℕ) → (cfg_name rec_name : List ℕ) → Config → Type 0
 Takes words cfg_name rec_name cfg = (command : RecordCommand) × RunsSo command words cfg_name rec_name × (refuses command cfg ≡ false)
 
--- the words are `run` of this file
-abbrev pub RunsClients : List (List ℕ) → (cfg_name : List ℕ) → Type 0
-RunsClients words cfg_name = (options : RunOptions) × IsRun words cfg_name options
-
--- the file's text is accepted as a configuration that `run` takes, where files are told
-abbrev pub IsRunBy : Option (List NamedBytes) → (cfg_name : List ℕ) → Config → Type 0
-IsRunBy files cfg_name cfg = IfTold files (λ fs. Configured fs cfg_name (Ok cfg)) × (asks_application cfg ≡ false)
-
 -- the words are of a command that refuses the configuration as a whole
 abbrev pub Refuses : List (List ℕ) → (cfg_name rec_name : List ℕ) → Config → Type 0
-Refuses words cfg_name rec_name cfg =
-    ((command : RecordCommand) × RunsSo command words cfg_name rec_name × (refuses command cfg ≡ true)) ⊎ (RunsClients words cfg_name × (asks_application cfg ≡ true))
+Refuses words cfg_name rec_name cfg = (command : RecordCommand) × RunsSo command words cfg_name rec_name × (refuses command cfg ≡ true)
 
 -- The file's text is accepted as a configuration, each of its patterns was built, and the words are of a command that refuses it as a whole.
 pub record IsOtherMode (words : List (List ℕ)) (files : Option (List NamedBytes)) (builder : Builder) (line : ℕ) (kind : CfgKind) : Type 0 where

@@ -10,11 +10,11 @@ ghost use Rattle.rec_format.specs.Reports.{Reportable};
 ghost use Rattle.proxy_commands.specs.Files.{IfTold, Builder, Configured, IsBuilt, Say, told_by};
 ghost use Rattle.proxy_commands.specs.Stops.{Answers, ReadStops, SaysVerdict, StopsBy, given};
 ghost use Rattle.proxy_commands.specs.Lines.{accepted_line};
-ghost use Rattle.proxy_commands.specs.Modes.{RunsSo, RunsClients, asks_application, refuses};
+ghost use Rattle.proxy_commands.specs.Modes.{RunsSo, refuses};
 
 use crate::explaining::{block_explanation, explanation};
 use crate::lines::accepted_line;
-use crate::record_command::{RecordCommand, asks_application, refuses};
+use crate::record_command::{RecordCommand, refuses};
 use crate::refusals::refused_text;
 use crate::stop::Stop;
 use cfg_parse::{CfgKind, Config, MAX_TEXT, Verdict, load, verdict_of};
@@ -90,33 +90,6 @@ fn taken_configuration<'a, F: Files, P: Patterns>(
 {
     let cfg = configuration(alloc, files, name, pats)?;
     if refuses(command, &cfg) {
-        drop(cfg);
-        return Err(Stop::Refused {
-            line: WHOLE,
-            kind: CfgKind::Mode,
-        });
-    }
-    Ok(cfg)
-}
-
-/// The configuration that a file says, where `run` takes it.
-pub fn run_configuration<'a, F: Files, P: Patterns>(
-    alloc: Global,
-    files: &mut F,
-    name: &'a str,
-    pats: &mut P,
-) -> Result<Config, Stop<'a>>
-    ensures accepted { IfOk result (λ cfg. IfTold (F.files files.old) (λ fs. Configured fs name.now (Ok cfg))) }
-    ensures taken { IfOk result (λ cfg. asks_application cfg ≡ false) }
-    ensures valid { IfOk result IsValid }
-    ensures built { OnOk result (P.refusals pats.new ≡ P.refusals pats.old) }
-    ensures stop { (words : List (List ℕ)) → RunsClients words name.now
-        → IfErr result (StopsBy (given words (F.files files.old) (told_by (P.refusals pats.old) (P.refusals pats.new) (P.last_refused pats.new)) (F.last_failed files.new) (F.faults files.old) (F.faults files.new))) }
-    ensures grows { F.faults files.old ≤ F.faults files.new }
-    ensures files { F.files files.new ≡ F.files files.old }
-{
-    let cfg = configuration(alloc, files, name, pats)?;
-    if asks_application(&cfg) {
         drop(cfg);
         return Err(Stop::Refused {
             line: WHOLE,

@@ -1,4 +1,4 @@
-//! The commands that run a record by a configuration, and which configurations they and `run` refuse.
+//! The commands that run a record by a configuration, and which configurations they refuse.
 ghost use Rattle.std.specs.Prelude.{◌≡◌};
 ghost use Rattle.proxy_commands.specs.Modes.{asks_application, refuses};
 
@@ -16,7 +16,7 @@ pub enum RecordCommand {
 }
 
 /// Whether the server is an application.
-pub(crate) fn asks_application(config: &Config) -> bool
+fn asks_application(config: &Config) -> bool
     ensures { result ≡ asks_application config.now }
 {
     config.application.is_some()

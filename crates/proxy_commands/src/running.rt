@@ -6,8 +6,9 @@ ghost use Rattle.proxy_commands.specs.Files.{told_by};
 ghost use Rattle.proxy_sessions.specs.Running.{Runs};
 ghost use Rattle.proxy_commands.specs.Stops.{given};
 
-use crate::answer::run_configuration;
+use crate::answer::configuration;
 use crate::stop::Stop;
+use fcgi_link::AsksApplication;
 use proxy_sessions::{Many, Switch, Workers, run_clients};
 use px_command::RunOptions;
 use px_link::{Files, Sink, Waits, WaitsNet, Wakes};
@@ -29,7 +30,7 @@ pub fn run_many<
     'a,
     F: Files,
     L: Waits + HasPair + Drop,
-    N: WaitsNet<Link = L> + Introduces + Drop,
+    N: WaitsNet<Link = L> + Introduces + AsksApplication + Drop,
     S: Nets<N> + Switch + Workers<N>,
     W: Wakes<N>,
     K: Sink,
@@ -47,7 +48,7 @@ pub fn run_many<
         (put (K.faults out.old) (K.faults out.new) (K.written out.old) (K.written out.new)) (many.new ≡ many.old)
         (Runs L.seen L.wrote L.tells N.seen (S.accepts_none many.new.nets) many.old.net many.new.net (K.faults out.old) (K.faults out.new) (K.written out.old) (K.written out.new)) result }
 {
-    let cfg = run_configuration(alloc, files, asked.cfg, pats)?;
+    let cfg = configuration(alloc, files, asked.cfg, pats)?;
     run_clients(alloc, &cfg, asked.options, many, out)?;
     Ok(())
 }

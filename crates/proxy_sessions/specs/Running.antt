@@ -9,8 +9,10 @@ use Rattle.http_rules.specs.declared.config.Config.{Config}
 use Rattle.px_command.specs.declared.options.RunOptions.{RunOptions}
 use Rattle.px_proxyproto.specs.Meeting.{source_in}
 use Rattle.px_run.specs.Served.{ServedMany}
+use Rattle.px_run.specs.declared.plan.Opening.{Opening}
 use Rattle.px_run.specs.declared.plan.RunFault.{RunFault}
 use Rattle.px_run.specs.declared.plan.RunFault.TheVariants as faults
+use Rattle.proxy_sessions.specs.Connections.{responder_of}
 use Rattle.proxy_sessions.specs.Driven.{stands_for, seen_of}
 use Rattle.proxy_sessions.specs.Lines.{listening_line}
 use Rattle.proxy_sessions.specs.Serving.{GainsBind}
@@ -19,16 +21,20 @@ use Rattle.proxy_sessions.specs.Serving.{GainsBind}
 abbrev pub WroteListening : Place → (writes writes_now : ℕ) → (old new : Option (List ℕ)) → Type 0
 WroteListening at writes writes_now old new = ((writes_now ≡ writes) × Gains old new (listening_line at)) ⊎ (Rose writes writes_now × GainsFront old new (listening_line at))
 
+-- what each link to a server is told first: how the application is asked, where the configuration says one, and the header that it begins with
+abbrev pub opening_of : Config → Opening
+opening_of cfg = record { sends_header = cfg.send_proxy; responder = responder_of cfg }
+
 -- The net was bound where the configuration says, the line that says so was written, and then each link that was accepted was served by sessions of the configuration,
 -- which begin with what the link tells of its two ends, or behind the header in front of its stream and with what that names, where the configuration accepts
--- one. Where it sends headers each link to a server passes on one of these ends first.
+-- one. Where it sends headers each link to a server passes on one of these ends first; where it asks an application each link to it passes on the records that ask its text.
 pub record RanLoop {L N : Type 0} (seen : L → Seen) (wrote : L → List ℕ → Type 0) (tells : L → Option Pair → Type 0) (net_seen : N → NetSeen) (accepts_none : Type 0) (first now : N) (writes writes_now : ℕ) (old new : Option (List ℕ)) (cfg : Config) (options : RunOptions) (answer : Result (Unit {0}) RunFault) : Type 0 where
   pub bound : N
   pub listens : Bound (net_seen first) (net_seen bound) (address_of cfg.bind)
   pub writes_then : ℕ
   pub between : Option (List ℕ)
   pub line : WroteListening (address_of cfg.bind) writes writes_then old between
-  pub served : ServedMany (λ pair. meaning_of (record cfg { peer = source_in pair })) (λ pair. stands_for (record cfg { peer = source_in pair })) seen_of seen wrote tells cfg.accept_proxy cfg.send_proxy net_seen (address_of cfg.server) options.connections accepts_none (net_seen bound) (net_seen now) writes_then writes_now between new answer
+  pub served : ServedMany (λ pair. meaning_of (record cfg { peer = source_in pair })) (λ pair. stands_for (record cfg { peer = source_in pair })) seen_of seen wrote tells cfg.accept_proxy (opening_of cfg) net_seen (address_of cfg.server) options.connections accepts_none (net_seen bound) (net_seen now) writes_then writes_now between new answer
 
 -- The bind failed, and nothing was written; or memory ran out at the bind or behind it, and a front of the line was written. No link was accepted.
 abbrev pub NotBegun : (first now : NetSeen) → (old new : Option (List ℕ)) → Place → Result (Unit {0}) RunFault → Type 0

@@ -3,6 +3,7 @@
 
 mod cores;
 mod lines;
+mod opening;
 mod records;
 mod replaying;
 mod running;

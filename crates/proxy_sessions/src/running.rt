@@ -8,6 +8,8 @@ ghost use Rattle.proxy_sessions.specs.Running.{Runs, RanLoop, NotBegun, WroteLis
 
 use crate::cores::RecordCores;
 use crate::lines::listening_line;
+use crate::opening::opening_of;
+use fcgi_link::AsksApplication;
 use forward_core::bounds::bounded;
 use forward_core::request::laws::total;
 use http_rules::{Config, Timeouts};
@@ -45,7 +47,13 @@ pub trait Workers<N> {
 }
 
 /// The times of a configuration.
-fn times_of(timeouts: &Timeouts) -> Times {
+fn times_of(timeouts: &Timeouts) -> Times
+    ensures client { result.client ≡ timeouts.now.client }
+    ensures server { result.server ≡ timeouts.now.server }
+    ensures connect { result.connect ≡ timeouts.now.connect }
+    ensures http_request { result.http_request ≡ timeouts.now.http_request }
+    ensures http_keep_alive { result.http_keep_alive ≡ timeouts.now.http_keep_alive }
+{
     Times {
         client: timeouts.client,
         server: timeouts.server,
@@ -74,7 +82,7 @@ fn write_listening<K: Sink>(alloc: Global, config: &Config, out: &mut K) -> Resu
 /// Serves many clients at once with cores of this process. The net is bound already.
 fn serve_here<
     L: Waits + HasPair + Drop,
-    N: WaitsNet<Link = L> + Introduces + Drop,
+    N: WaitsNet<Link = L> + Introduces + AsksApplication + Drop,
     S: Nets<N> + Switch,
     W: Wakes<N>,
     K: Sink,
@@ -113,7 +121,7 @@ fn serve_here<
         times: times_of(&config.timeouts),
         connections: options.connections,
         accepts_header: config.accept_proxy,
-        sends_header: config.send_proxy,
+        opening: opening_of(config),
     };
     run(
         &mut many.net,
@@ -158,7 +166,7 @@ fn serve_by_workers<N, S: Workers<N>, W, K: Sink>(
 /// Listens where the configuration says, and serves many clients at once.
 pub fn run_clients<
     L: Waits + HasPair + Drop,
-    N: WaitsNet<Link = L> + Introduces + Drop,
+    N: WaitsNet<Link = L> + Introduces + AsksApplication + Drop,
     S: Nets<N> + Switch + Workers<N>,
     W: Wakes<N>,
     K: Sink,

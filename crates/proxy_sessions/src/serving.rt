@@ -4,18 +4,19 @@ ghost use Rattle.http_rules.specs.Valid.{IsValid};
 ghost use Rattle.htx_drive.specs.Dialled.{Dialled};
 ghost use Rattle.px_link.specs.Net.{Coming, Kept, address_of};
 ghost use Rattle.px_link.specs.Told.{Rose};
-ghost use Rattle.proxy_sessions.specs.Connections.{ServesFor, responder_of};
+ghost use Rattle.proxy_sessions.specs.Connections.{ServesFor};
 ghost use Rattle.serve_run.specs.Lines.{net_line};
 ghost use Rattle.serve_run.specs.Served.{Breaks, LostOne, NetFails, ServedAll, ServedOne};
 ghost use Rattle.serve_run.specs.Told.{Visited};
 
 use crate::cores::{ClientCores, ConfigCore};
+use crate::opening::responder_of;
 use fcgi_link::AsksApplication;
 use http_rules::Config;
 use htx_drive::laws::ran_is_the_session;
 use px_link::{Address, Application, Link, Net, Sink};
 use px_proxyproto::{HasPair, Introduces};
-use serve_run::{Driven, Ran, Responder, ServeFault, SessionFault, Sessions, serve};
+use serve_run::{Driven, Ran, ServeFault, SessionFault, Sessions, serve};
 use std::alloc::Global;
 
 /// Sessions of one configuration with the servers at one address, one after another in the same memory.
@@ -47,19 +48,6 @@ impl<'c, H: Link + HasPair, N: Net<Link = H> + Introduces + AsksApplication> Ses
     fn run(&mut self, client: &mut H, net: &mut N) -> Result<Ran, SessionFault> {
         ran_is_the_session::<ConfigCore<'c>, H>();
         self.driven.run(client, net)
-    }
-}
-
-/// How the servers are asked by a configuration, where they are an application.
-fn responder_of(config: &Config) -> Option<Responder<'_>>
-    ensures { result ≡ responder_of config.now }
-{
-    match &config.application {
-        Some(application) => Some(Responder {
-            application,
-            limit: config.limits.bufsize,
-        }),
-        None => None,
     }
 }
 

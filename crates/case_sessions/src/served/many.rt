@@ -14,15 +14,17 @@ use px_run::Nets;
 use rec_format::Connection;
 use std::alloc::Global;
 
-/// A net that says yes to each question, whose servers may be sent headers first.
-pub type ReadyNet = SendNet<ScriptedNet<MemNet>>;
+/// A net that says yes to each question, whose servers may be an application, or be sent headers first.
+pub type ReadyNet = AppNet<SendNet<ScriptedNet<MemNet>>>;
 
 fn ready(alloc: Global, net: MemNet) -> ReadyNet
-    ensures { ⟦<SendNet<ScriptedNet<MemNet>> as Net>⟧.seen result ≡ net_of net }
+    requires lent { net.lent ≡ 0 }
+    ensures seen { ⟦<AppNet<SendNet<ScriptedNet<MemNet>>> as Net>⟧.seen result ≡ net_of net }
 {
     let accepts = Script::new(Vec::new(alloc));
     let connects = Script::new(Vec::new(alloc));
-    SendNet::new(ScriptedNet::new(alloc, net, accepts, connects, Vec::new(alloc)))
+    let scripted = ScriptedNet::new(alloc, net, accepts, connects, Vec::new(alloc));
+    AppNet::new(alloc, SendNet::new(scripted))
 }
 
 /// The nets of the connections of a record, in their order, and behind them nets without a server.
@@ -88,7 +90,9 @@ pub type MemMany<'r> = Many<ReadyNet, RecordNets<'r>, MemWakes>;
 pub type MemNetworks<'r> = Networks<AppNet<SendNet<MemNet>>, ReadyNet, RecordNets<'r>, MemWakes>;
 
 /// What `run` is handed, with the clients on this net, and the servers of these connections. Its clock stands still.
-pub fn many_of<'r>(alloc: Global, net: MemNet, conns: &'r [Connection]) -> MemMany<'r> {
+pub fn many_of<'r>(alloc: Global, net: MemNet, conns: &'r [Connection]) -> MemMany<'r>
+    requires { net.lent ≡ 0 }
+{
     Many {
         net: ready(alloc, net),
         nets: RecordNets {

@@ -81,7 +81,7 @@ fn ran<P: Program>(alloc: Global, row: Row<'_>) -> Result<Vec<u8>, Fault> {
     let mut out = output_of(alloc, &failing)?;
     let mut pats = RealPatterns::new();
     let status = P::call(alloc, &words, &mut files, &mut nets, &mut out, &mut pats);
-    tell(alloc, status, &out, nets.run.net.inner().net())
+    tell(alloc, status, &out, nets.run.net.inner().inner().net())
 }
 
 /// What a row of `served` or `ran` comes to; none of another kind.

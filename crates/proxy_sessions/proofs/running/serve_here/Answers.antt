@@ -42,5 +42,5 @@ returns-clause-did g c =
       writes_then = g.K.Sink.faults c.write_listening.new.out;
       between = g.K.Sink.written c.write_listening.new.out;
       line = c.in-Ok-write_listening.ensures.wrote;
-      served = c.run.ensures.served (cfg, cfg.limits.bufsize) (all_as _ _ (λ core h. fresh_for (stands_under cfg) cfg.peer core h) _ c.in-Ok.ensures.fresh);
+      served = rw c.opening_of.ensures at c.run.ensures.served (cfg, cfg.limits.bufsize) (all_as _ _ (λ core h. fresh_for (stands_under cfg) cfg.peer core h) _ c.in-Ok.ensures.fresh);
     })
