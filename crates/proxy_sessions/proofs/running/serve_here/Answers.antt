@@ -1,5 +1,9 @@
-use Rattle.std.proofs.Common.{List, [], ◌∷◌, inl, ℕ, Option, Some, None}
+use Rattle.std.proofs.Common.{◌≡◌, List, [], ◌∷◌, inl, subst, ℕ, Bool, Option, Some, None}
+use Rattle.std.specs.Prelude.{Result}
 use Rattle.std.specs.List.{AllByRecursion}
+use Rattle.px_link.specs.Link.{Seen}
+use Rattle.px_link.specs.Net.{Place, NetSeen}
+use Rattle.px_peer.specs.declared.Pair.{Pair}
 use Rattle.px_peer.specs.declared.Peer.{Peer}
 use Rattle.px_proxyproto.specs.Meeting.{source_in}
 use Rattle.session_core.specs.History.{Past}
@@ -9,8 +13,14 @@ use Rattle.http_rules.specs.declared.config.Config.{Config}
 use Rattle.forward_core.specs.Meaning.Product.{meaning_of}
 use Rattle.forward_core.specs.Joined.Joined.{SessionStands, request_of, answer_of}
 use Rattle.forward_core.specs.declared.joined.directions.Directions.{Directions}
+use Rattle.session_model.specs.Meaning.{Meaning}
+use Rattle.htx_drive.specs.Machine.{CoreSeen}
 use Rattle.htx_drive.specs.Weave.State.{IsFresh}
 use Rattle.px_run.specs.Connection.{IsFreshFor}
+use Rattle.px_run.specs.Served.{ServedMany}
+use Rattle.px_run.specs.declared.plan.Opening.{Opening}
+use Rattle.px_run.specs.declared.plan.RunFault.{RunFault}
+use Rattle.proxy_sessions.specs.Running.{opening_of}
 use Rattle.proxy_sessions.proofs.running.serve_here.Goals as goal
 
 all_as : {A : Type 0} (P Q : A → Type 0) → ((x : A) → P x → Q x) → (xs : List A) → AllByRecursion P xs → AllByRecursion Q xs
@@ -27,6 +37,14 @@ abbrev stands_under : Config → Option Peer → Core Directions → Past → Ty
 stands_under cfg peer core past =
     Stands (meaning_of (record cfg { peer = peer })) request_of answer_of (SessionStands (record cfg { peer = peer }, cfg.limits.bufsize)) core.sides core.at past
 
+-- what was served by what each link was told is so by what that equals
+opened : {C L N : Type 0} {M : Option Pair → Meaning} {stands : Option Pair → C → Past → Type 0} {sees : C → CoreSeen} {seen : L → Seen} {wrote : L → List ℕ → Type 0} {tells : L → Option Pair → Type 0} {accepts_header : Bool} {sees_net : N → NetSeen} {to : Place} {most : Option ℕ} {accepts_none : Type 0} {begun now : NetSeen} {writes writes_now : ℕ} {old new : Option (List ℕ)} {answer : Result (Unit {0}) RunFault}
+    (a b : Opening) → a ≡ b
+    → ServedMany M stands sees seen wrote tells accepts_header a sees_net to most accepts_none begun now writes writes_now old new answer
+    → ServedMany M stands sees seen wrote tells accepts_header b sees_net to most accepts_none begun now writes writes_now old new answer
+opened {M} {stands} {sees} {seen} {wrote} {tells} {accepts_header} {sees_net} {to} {most} {accepts_none} {begun} {now} {writes} {writes_now} {old} {new} {answer} a b e h =
+    subst (λ (o : Opening). ServedMany M stands sees seen wrote tells accepts_header o sees_net to most accepts_none begun now writes writes_now old new answer) e h
+
 pub run-requires-clause-fresh : goal.run-requires-clause-fresh
 run-requires-clause-fresh g c =
     let cfg = c.args.config.now in
@@ -42,5 +60,5 @@ returns-clause-did g c =
       writes_then = g.K.Sink.faults c.write_listening.new.out;
       between = g.K.Sink.written c.write_listening.new.out;
       line = c.in-Ok-write_listening.ensures.wrote;
-      served = rw c.opening_of.ensures at c.run.ensures.served (cfg, cfg.limits.bufsize) (all_as _ _ (λ core h. fresh_for (stands_under cfg) cfg.peer core h) _ c.in-Ok.ensures.fresh);
+      served = opened c.opening_of.result (opening_of cfg) c.opening_of.ensures (c.run.ensures.served (cfg, cfg.limits.bufsize) (all_as _ _ (λ core h. fresh_for (stands_under cfg) cfg.peer core h) _ c.in-Ok.ensures.fresh));
     })
