@@ -3,7 +3,7 @@ ghost use Rattle.std.specs.Prelude.{◌≡◌, ◌<◌, ℕ, List, None, Some, l
 ghost use Rattle.px_link.specs.Link.{Reads, Writes, AsItIs, with_close};
 ghost use Rattle.fcgi_link.specs.Exchange.{seen_over, WroteOver, IsOver, note_of};
 
-use crate::exchange::Exchange;
+use crate::boxed_exchange::BoxedExchange;
 use crate::note::Note;
 use px_link::{Close, Failed, Fault, Link, Net, Readiness, Waits, Wakes};
 use px_peer::Pair;
@@ -15,7 +15,7 @@ use std::marker::Model;
 #[derive(Drop)]
 pub struct AppLink<L: Link> {
     inner: L,
-    exchange: Option<Exchange>,
+    exchange: Option<BoxedExchange>,
 }
 
 impl<L: Link> Model for AppLink<L> {
@@ -40,7 +40,7 @@ impl<L: Link> AppLink<L> {
     }
 
     /// A link over which this is asked, where there is something. The link below passes on all as it is then.
-    pub(crate) fn over(inner: L, exchange: Option<Exchange>) -> AppLink<L>
+    pub(crate) fn over(inner: L, exchange: Option<BoxedExchange>) -> AppLink<L>
         requires { IsOver exchange (L.seen inner).manner }
         ensures { result ≡ record { inner = inner; exchange = exchange } }
     {
@@ -71,23 +71,19 @@ impl<L: Link> AppLink<L> {
 }
 
 /// What is noted of a link over which this was asked.
-fn note_over(exchange: &Option<Exchange>) -> Option<Note>
+fn note_over(exchange: &Option<BoxedExchange>) -> Option<Note>
     ensures { result ≡ note_of exchange.now }
 {
     match exchange {
         None => None,
-        Some(one) => Some(Note {
-            given: one.answers.given(),
-            read_faults: one.answers.faults(),
-            write_faults: one.asks.faults(),
-        }),
+        Some(one) => Some(one.note()),
     }
 }
 
 /// Reads the link below, or what an application answers over it.
 fn read_over<L: Link>(
     inner: &mut L,
-    exchange: &mut Option<Exchange>,
+    exchange: &mut Option<BoxedExchange>,
     into: &mut [u8],
 ) -> Result<usize, Failed>
     requires some { 0 < length into.old }
@@ -98,12 +94,12 @@ fn read_over<L: Link>(
 {
     match exchange {
         None => inner.read(into),
-        Some(one) => one.answers.read(inner, into),
+        Some(one) => one.read(inner, into),
     }
 }
 
 /// Whether a read of the link below is answered at once, or one of what an application answers over it.
-fn can_read_over<L: Waits>(inner: &mut L, exchange: &mut Option<Exchange>) -> bool
+fn can_read_over<L: Waits>(inner: &mut L, exchange: &mut Option<BoxedExchange>) -> bool
     requires over { IsOver exchange.old (L.seen inner.old).manner }
     ensures over { IsOver exchange.new (L.seen inner.new).manner }
     ensures seen { seen_over exchange.new (L.seen inner.new) ≡ seen_over exchange.old (L.seen inner.old) }
@@ -111,14 +107,14 @@ fn can_read_over<L: Waits>(inner: &mut L, exchange: &mut Option<Exchange>) -> bo
 {
     match exchange {
         None => inner.can_read(),
-        Some(one) => one.answers.can_read(inner),
+        Some(one) => one.can_read(inner),
     }
 }
 
 /// Writes the link below, or the records of a request to it.
 fn write_over<L: Link>(
     inner: &mut L,
-    exchange: &mut Option<Exchange>,
+    exchange: &mut Option<BoxedExchange>,
     piece: &[u8],
 ) -> Result<usize, Fault>
     requires some { 0 < length piece.now }
@@ -128,7 +124,7 @@ fn write_over<L: Link>(
 {
     match exchange {
         None => inner.write(piece),
-        Some(one) => one.asks.write(inner, piece),
+        Some(one) => one.write(inner, piece),
     }
 }
 

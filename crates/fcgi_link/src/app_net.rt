@@ -7,7 +7,7 @@ ghost use Rattle.fcgi_link.specs.Nets.{asking_some, with_notes, IsOver, IsBegun}
 
 use crate::app_link::AppLink;
 use crate::asks_application::AsksApplication;
-use crate::exchange::Exchange;
+use crate::boxed_exchange::BoxedExchange;
 use crate::note::Note;
 use crate::responder::Responder;
 use http_model::OutOfMemory;
@@ -46,12 +46,16 @@ impl<N: Net> Model for AppNet<N> {
 fn exchange_of(
     alloc: Global,
     responder: &Option<Responder>,
-) -> Result<Option<Exchange>, OutOfMemory>
+) -> Result<Option<BoxedExchange>, OutOfMemory>
     ensures { IfOk result (λ exchange. IsBegun responder.now exchange) }
 {
     match responder {
         None => Ok(None),
-        Some(responder) => Ok(Some(Exchange::new(alloc, &responder.application, responder.limit)?)),
+        Some(responder) => Ok(Some(BoxedExchange::new(
+            alloc,
+            &responder.application,
+            responder.limit,
+        )?)),
     }
 }
 
@@ -83,7 +87,7 @@ fn prepare(
     responder: &Option<Responder>,
     notes: &mut Vec<Option<Note>>,
     lent: usize,
-) -> Result<Option<Exchange>, OutOfMemory>
+) -> Result<Option<BoxedExchange>, OutOfMemory>
     ensures items { notes.new.items ≡ notes.old.items }
     ensures capacity { vec_capacity notes.old ≤ vec_capacity notes.new }
     ensures room { OnOk result (vec_len notes.new + (lent + 1) ≤ vec_capacity notes.new) }

@@ -8,6 +8,7 @@ mod app_net;
 mod app_wakes;
 mod asks;
 mod asks_application;
+mod boxed_exchange;
 mod exchange;
 mod note;
 mod reading;

@@ -1,7 +1,6 @@
 use Rattle.std.proofs.Common.{◌≡◌, sym, subst}
-use Rattle.std.specs.Prelude.{Option}
+use Rattle.std.specs.Prelude.{Option, Some}
 use Rattle.fcgi_link.specs.declared.exchange.Exchange.{Exchange}
-use Rattle.fcgi_link.specs.Asking.{seen_asking}
 use Rattle.fcgi_link.specs.Exchange.{seen_over}
 use Rattle.fcgi_link.proofs.app_link.can_read_over.Goals as goal
 
@@ -9,6 +8,4 @@ pub returns-in-Some-clause-seen : goal.returns-in-Some-clause-seen
 returns-in-Some-clause-seen g c =
     let s = g.L.Link.seen c.args.inner.now in
     let t = g.L.Link.seen c.can_read-in-Some.new.inner in
-    let asks = c.in-Some.one.asks in
-    subst (λ (x : Option Exchange). seen_asking asks.translating.application c.can_read-in-Some.new.self asks.faults t ≡ seen_over x s) (sym c.in-Some.is)
-    (c.can_read-in-Some.ensures.seen asks.translating.application asks.faults)
+    subst (λ (x : Option Exchange). seen_over (Some c.can_read-in-Some.new.self) t ≡ seen_over x s) (sym c.in-Some.is) c.can_read-in-Some.ensures.seen

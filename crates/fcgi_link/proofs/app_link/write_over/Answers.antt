@@ -1,8 +1,7 @@
 use Rattle.std.proofs.Common.{sym, subst}
-use Rattle.std.specs.Prelude.{Option}
+use Rattle.std.specs.Prelude.{Option, Some}
 use Rattle.px_link.specs.Link.{Writes}
 use Rattle.fcgi_link.specs.declared.exchange.Exchange.{Exchange}
-use Rattle.fcgi_link.specs.Asking.{WroteAsking, seen_asking}
 use Rattle.fcgi_link.specs.Exchange.{WroteOver, seen_over}
 use Rattle.fcgi_link.proofs.app_link.write_over.Goals as goal
 
@@ -12,7 +11,5 @@ returns-in-Some-clause-writes g c =
     let w = g.L.Link.wrote c.write-in-Some.new.inner in
     let s = g.L.Link.seen c.args.inner.now in
     let t = g.L.Link.seen c.write-in-Some.new.inner in
-    let asks = c.write-in-Some.new.self in
-    let answers = c.in-Some.one.answers in
-    subst (λ (x : Option Exchange). Writes (WroteOver x v) (WroteAsking asks w) (seen_over x s) (seen_asking asks.translating.application answers asks.faults t) c.args.piece.now c.write-in-Some.result) (sym c.in-Some.is)
-    (c.write-in-Some.ensures.writes answers)
+    let one = Some c.write-in-Some.new.self in
+    subst (λ (x : Option Exchange). Writes (WroteOver x v) (WroteOver one w) (seen_over x s) (seen_over one t) c.args.piece.now c.write-in-Some.result) (sym c.in-Some.is) c.write-in-Some.ensures.writes
