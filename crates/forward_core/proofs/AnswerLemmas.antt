@@ -6,6 +6,7 @@ pub mod Answering
 pub mod Events
 pub mod Views
 pub mod Saying
+pub mod Lines
 pub mod Listed
 pub mod Putting
 pub mod HeardLemmas
@@ -18,3 +19,4 @@ pub mod StepLemmas
 pub mod Resting
 pub mod RestLaws
 pub mod HeardLaws
+pub mod Statuses

@@ -4,7 +4,9 @@ pub use Rattle.session_core.specs.Lanes
 pub use Rattle.lane.specs.Answering
 pub mod Seen
 pub mod HeadsRead
+pub mod Status
 pub mod Stands
+pub mod Begins
 pub mod Said
 pub mod Listed
 pub mod Lent

@@ -3,6 +3,7 @@ pub use Rattle.session_core.specs.Leads
 pub mod Joined
 pub mod Begins
 pub mod Tells
+pub mod Statuses
 pub mod Asks
 pub mod Lent
 pub mod HeldBack

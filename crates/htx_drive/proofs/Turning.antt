@@ -76,6 +76,11 @@ pub works_in : {C : Type 0} (stands : C → Past → Type 0) (seen : C → CoreS
     → ((p : Past) → stands old p → stands core (after p (Work note))) → (p : Past) → StandsIn stands seen all left budget spare old p → WorkedIn stands seen all left budget spare core (after p (Work note))
 works_in stands seen all left budget spare old core note leads p s = record { stand = leads p s.stand; turned = takes_none s.worked left p (Work note) refl s.turned; paid = s.paid }
 
+-- a core that has worked ends an exchange, which is work again
+pub ends_in : {C : Type 0} (stands : C → Past → Type 0) (seen : C → CoreSeen) (all left : List Turn) (budget spare : ℕ) (old core : C) (note : Option Bool)
+    → ((p : Past) → stands old p → stands core (after p (Work note))) → (p : Past) → WorkedIn stands seen all left budget spare old p → StandsIn stands seen all left budget spare core (after p (Work note))
+ends_in stands seen all left budget spare old core note leads p s = record { stand = leads p s.stand; worked = true; turned = takes_none true left p (Work note) refl s.turned; paid = s.paid }
+
 -- an opening takes no turn, and one of the budget
 pub opens_in : {C : Type 0} (stands : C → Past → Type 0) (seen : C → CoreSeen) (all left : List Turn) (budget spare less : ℕ) (old core : C) (past : Past) (opened : Bool)
     → stands core (after past (ServerOpened opened)) → spare ≤ 1 + less → WorkedIn stands seen all left budget spare old past → StandsIn stands seen all left budget less core (after past (ServerOpened opened))

@@ -1,5 +1,6 @@
 -- What the laws of a session's core say to a driver.
-use Rattle.std.proofs.Common.{◌≡◌, ◌≢◌, ℕ, ◌<◌, List, [], ◌∷◌, Bool, length, Some, sym, ap, refl, arith}
+use Rattle.std.proofs.Common.{◌≡◌, ◌≢◌, ℕ, ◌<◌, List, [], ◌∷◌, Bool, true, length, Some, sym, ap, refl, arith}
+use Rattle.http_model.specs.declared.Close.{Close}
 use Rattle.http_model.specs.declared.End.{End}
 use Rattle.session_model.specs.Meaning.{Meaning}
 use Rattle.session_core.specs.History.{Past}
@@ -8,9 +9,12 @@ use Rattle.session_core.specs.Waits.{wants_of, is_serving}
 use Rattle.session_core.specs.Consequences.{IsTotal, IsFinal, IsFront, out_of_past}
 use Rattle.session_core.specs.Drives.{WantsSay}
 use Rattle.session_core.specs.Leads.{Stands}
+use Rattle.session_core.specs.Lines.{IsLineOf, LineAt}
+use Rattle.session_core.specs.Place.{Place, IsPlaced}
+use Rattle.session_core.specs.Statuses.{StatusAt, status_in, whole_in}
 use Rattle.session_core.specs.declared.machine.At.{At}
-use Rattle.session_core.proofs.PublicLaws.{front, mean, says, final_taken, front_taken}
-use Rattle.htx_drive.specs.Machine.{CoreSeen, WantsMean}
+use Rattle.session_core.proofs.PublicLaws.{front, mean, says, final_taken, front_taken, tells, close_whole}
+use Rattle.htx_drive.specs.Machine.{CoreSeen, WantsMean, TellsSo}
 
 -- a window with bytes is one that isn't empty
 some_wait : (window : List ℕ) → window ≢ [] → 0 < length window
@@ -30,6 +34,9 @@ core_seen q a at lost =
       cut = at.cut;
       begun = a.begun;
       exchanges = at.exchanges;
+      line = q.line;
+      status = status_in at.phase a.status;
+      whole = whole_in at.phase a.answered;
       lost = lost;
     }
 
@@ -52,6 +59,16 @@ core_says M request answer stands sides at past s = says M at (request sides) (a
 pub core_noted : (M : Meaning) {D : Type 0} (request : D → RequestSeen) (answer : D → AnswerSeen) (stands : D → Sided M → Type 0) (sides : D) (at : At) (past : Past)
     → Stands M request answer stands sides at past → at.cut ≡ past.note
 core_noted M request answer stands sides at past s = sym s.holds.note
+
+pub core_tells : (M : Meaning) {D : Type 0} (request : D → RequestSeen) (answer : D → AnswerSeen) (stands : D → Sided M → Type 0) (placed : Place → Type 0) (sides : D) (at : At) (lost : Bool) (past : Past)
+    → Stands M request answer stands sides at past → IsPlaced placed (answer sides) at.phase at.cut
+    → ((p : Sided M) → stands sides p → IsLineOf M p.came (request sides).line) → ((p : Sided M) (place : Place) → stands sides p → placed place → LineAt place M p.came (request sides).line)
+    → ((p : Sided M) (place : Place) → stands sides p → placed place → StatusAt place (answer sides) p)
+    → TellsSo M past (core_seen (request sides) (answer sides) at lost)
+core_tells M request answer stands placed sides at lost past s here line line_at status = tells M (stands sides) placed at (request sides) (answer sides) s.sided past s.stand s.holds here line line_at status
+
+pub core_closes : (q : RequestSeen) (a : AnswerSeen) (at : At) (how : Close) → (wants_of q a at).server_close ≡ Some how → whole_in at.phase a.answered ≡ true
+core_closes q a at how e = close_whole q a at how e
 
 pub core_over : (M : Meaning) {D : Type 0} (request : D → RequestSeen) (answer : D → AnswerSeen) (stands : D → Sided M → Type 0) (sides : D) (at : At) (past : Past) (how : End)
     → Stands M request answer stands sides at past → (wants_of (request sides) (answer sides) at).over ≡ Some how → IsFinal M past (out_of_past past past.taken at.exchanges how)

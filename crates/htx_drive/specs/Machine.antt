@@ -3,10 +3,12 @@ use Rattle.std.specs.Prelude.{◌≡◌, ℕ, ◌<◌, List, [], length, Bool, t
 use Rattle.session_model.specs.Meaning.{Meaning}
 use Rattle.session_core.specs.History.{Event, Past, after}
 use Rattle.session_core.specs.Consequences.{IsFront}
+use Rattle.session_core.specs.Statuses.{TellsExchange}
 use Rattle.session_core.specs.declared.machine.Wants.{Wants}
 
 -- its wants; whether a server is open; the bytes that wait for each peer; the room for bytes of each; how a request was met as
--- cut, and whether the answer in hand has begun; how many exchanges were begun; whether it is lost
+-- cut, and whether the answer in hand has begun; how many exchanges were begun; of the exchange in hand the words of its request
+-- line, the status that the client is sent, and whether all text of its answer was put out; whether the core is lost
 pub record CoreSeen : Type 0 where
   pub wants : Wants
   pub serving : Bool
@@ -17,6 +19,9 @@ pub record CoreSeen : Type 0 where
   pub cut : Option Bool
   pub begun : Bool
   pub exchanges : ℕ
+  pub line : List ℕ
+  pub status : Option ℕ
+  pub whole : Bool
   pub lost : Bool
 
 -- What wants say of windows and rooms, and of whether a server is open.
@@ -36,3 +41,7 @@ Leads {Settings} stands old new event = (cfg : Settings) (past : Past) → stand
 -- connect is refused.
 abbrev pub TookFront : (M : Meaning) → Past → Type 0
 TookFront M past = (begun : Bool) × IsFront M past [] [] begun
+
+-- what is seen of the exchange in hand is so, of this past
+abbrev pub TellsSo : (M : Meaning) → Past → CoreSeen → Type 0
+TellsSo M past core = TellsExchange M past core.to_client core.whole core.exchanges core.line core.status

@@ -5,14 +5,14 @@ use crate::Machine;
 use crate::weave::{Resets, ResetsFor};
 use px_link::{Ending, OutOfMemory};
 use px_peer::Peer;
-use session_core::{Core, Renewable, RenewableFor, Wants, Works};
+use session_core::{Core, Renewable, RenewableFor, Wants, Worked, Works};
 
 impl<S: Works> Machine for Core<S> {
     type Settings = S::Settings;
 
     ghost use Rattle.session_core.specs.Leads.{Stands};
     ghost use Rattle.session_core.specs.Place.{IsPlaced};
-    ghost use Rattle.htx_drive.specs.Cores.{core_seen, core_means, core_says, core_noted, core_over, core_front, core_lends};
+    ghost use Rattle.htx_drive.specs.Cores.{core_seen, core_means, core_says, core_noted, core_tells, core_closes, core_over, core_front, core_lends};
 
     ghost meaning = { S.meaning };
 
@@ -55,6 +55,14 @@ impl<S: Works> Machine for Core<S> {
         self.exchanges()
     }
 
+    fn request_line(&self) -> &[u8] {
+        self.request_line()
+    }
+
+    fn status(&self) -> Option<u16> {
+        self.status()
+    }
+
     fn from_client(&mut self, bytes: &[u8]) {
         self.from_client(bytes);
     }
@@ -95,6 +103,14 @@ impl<S: Works> Machine for Core<S> {
         self.work()
     }
 
+    fn work_part(&mut self) -> Result<Worked, OutOfMemory> {
+        self.work_part()
+    }
+
+    fn end_said(&mut self) {
+        self.end_said();
+    }
+
     ghost lends_to_client = { λ core. core_lends (λ sides. record core { sides = sides }) (S.lends_to_client core.sides) };
 
     ghost lends_to_server = { λ core. core_lends (λ sides. record core { sides = sides }) (S.lends_to_server core.sides) };
@@ -104,6 +120,10 @@ impl<S: Works> Machine for Core<S> {
     ghost wants_say = { λ cfg core past s. core_says (S.meaning cfg) S.request S.answer (S.stands cfg) core.sides core.at past s };
 
     ghost cut_is_noted = { λ cfg core past s. core_noted (S.meaning cfg) S.request S.answer (S.stands cfg) core.sides core.at past s };
+
+    ghost tells = { λ cfg core past s here. core_tells (S.meaning cfg) S.request S.answer (S.stands cfg) (S.placed core.sides) core.sides core.at core.lost past s here (S.line_is cfg core.sides) (S.line_at cfg core.sides) (S.status_at cfg core.sides) };
+
+    ghost close_is_whole = { λ core how closes. core_closes (S.request core.sides) (S.answer core.sides) core.at how closes };
 
     ghost over_is_the_session = { λ cfg core past how s over. core_over (S.meaning cfg) S.request S.answer (S.stands cfg) core.sides core.at past how s over };
 

@@ -22,7 +22,7 @@ pub use machine::Machine;
 pub use px_link::{Address, Close, End, Ending, Fault, Link, Net, OutOfMemory, Turn, Turns};
 pub use resources::{MOST_READ, Resources};
 pub use session::run_session;
-pub use session_core::Wants;
+pub use session_core::{Wants, Worked};
 pub use step::{Did, Stepped, step_idle, step_open};
 
 /// What a session that ended came to.

@@ -1,5 +1,5 @@
 //! A core, as its driver sees it: calls, wants and laws.
-ghost use Rattle.std.specs.Prelude.{◌≡◌, ◌≤◌, ◌<◌, [], ℕ, List, Option, Some, Bool, true, false, length, take, OnOk, IsErr, ◌↔◌};
+ghost use Rattle.std.specs.Prelude.{◌≡◌, ◌≤◌, ◌<◌, [], ℕ, List, Option, Some, Bool, true, false, length, take, None, OnOk, IfOk, IsErr, ◌↔◌};
 ghost use Rattle.http_model.specs.declared.Close.{Close};
 ghost use Rattle.http_model.specs.declared.End.{End};
 ghost use Rattle.session_model.specs.Meaning.{Meaning};
@@ -9,10 +9,10 @@ ghost use Rattle.session_core.specs.Consequences.{IsFinal, IsFront, out_of_past}
 ghost use Rattle.session_core.specs.Drives.{WantsSay};
 ghost use Rattle.std.specs.Borrow.{sem};
 ghost use Rattle.session_core.specs.Lending.{LendsText};
-ghost use Rattle.htx_drive.specs.Machine.{CoreSeen, WantsMean, Leads};
+ghost use Rattle.htx_drive.specs.Machine.{CoreSeen, WantsMean, Leads, TellsSo};
 
 use px_link::{Close, End, Ending, OutOfMemory};
-use session_core::Wants;
+use session_core::{Wants, Worked};
 
 /// A core: events lead its history on, and its wants tell the driver what it may do.
 pub trait Machine {
@@ -62,6 +62,16 @@ pub trait Machine {
 
     fn exchanges(&self) -> u32
         ensures { result ≡ (seen self.now).exchanges };
+
+    /// The method, one space and the target of the request in hand, as they were received.
+    fn request_line(&self) -> &[u8]
+        requires sound { sound self.now }
+        ensures { result.now ≡ (seen self.now).line };
+
+    /// The status that the client is sent in the exchange in hand.
+    fn status(&self) -> Option<u16>
+        requires sound { sound self.now }
+        ensures { result ≡ (seen self.now).status };
 
     fn from_client(&mut self, bytes: &[u8])
         requires wanted { (seen self.old).wants.client_read ≡ true }
@@ -139,6 +149,24 @@ pub trait Machine {
         ensures serving { OnOk result ((seen self.new).serving ≡ (seen self.old).serving) }
         ensures lost { IsErr result ↔ ((seen self.new).lost ≡ true) };
 
+    /// The same up to the end of an exchange that is a refusal or a reply, which `end_said` ends.
+    fn work_part(&mut self) -> Result<Worked, OutOfMemory>
+        requires sound { sound self.old }
+        ensures sound { OnOk result (sound self.new) }
+        ensures leads { OnOk result ((note : Option Bool) × Leads stands self.old self.new (Work note)) }
+        ensures wants { IfOk result (λ done. done ≡ Worked.Settled → wants_any (seen self.new).wants ≡ true) }
+        ensures said { IfOk result (λ done. done ≡ Worked.Said → (seen self.new).whole ≡ true) }
+        ensures serving { OnOk result ((seen self.new).serving ≡ (seen self.old).serving) }
+        ensures lost { IsErr result ↔ ((seen self.new).lost ≡ true) };
+
+    /// Ends the exchange of a refusal or a reply of which all text was put out. Where there is none it does nothing.
+    fn end_said(&mut self)
+        requires sound { sound self.old }
+        ensures sound { sound self.new }
+        ensures leads { Leads stands self.old self.new (Work None) }
+        ensures serving { (seen self.new).serving ≡ (seen self.old).serving }
+        ensures lost { (seen self.new).lost ≡ (seen self.old).lost };
+
     ghost lends_to_client: { (c : Self) → with_to_client c (seen c).to_client ≡ c };
 
     ghost lends_to_server: { (c : Self) → with_to_server c (seen c).to_server ≡ c };
@@ -148,6 +176,12 @@ pub trait Machine {
     ghost wants_say: { (cfg : Self.Settings) (c : Self) (past : Past) → stands cfg c past → WantsSay (seen c).wants past };
 
     ghost cut_is_noted: { (cfg : Self.Settings) (c : Self) (past : Past) → stands cfg c past → (seen c).cut ≡ past.note };
+
+    /// What is seen of the exchange in hand is so.
+    ghost tells: { (cfg : Self.Settings) (c : Self) (past : Past) → stands cfg c past → sound c → TellsSo (meaning cfg) past (seen c) };
+
+    /// Where a server's link is to be closed, all text of the answer was put out.
+    ghost close_is_whole: { (c : Self) (how : Close) → (seen c).wants.server_close ≡ Some how → (seen c).whole ≡ true };
 
     /// Where a session is over, what was put out is its session, whatever the open streams go on to give.
     ghost over_is_the_session: { (cfg : Self.Settings) (c : Self) (past : Past) (how : End) → stands cfg c past → (seen c).wants.over ≡ Some how → IsFinal (meaning cfg) past (out_of_past past past.taken (seen c).exchanges how) };

@@ -1,6 +1,7 @@
 pub mod PublicLaws
 mod Placing
 mod Lines
+mod Statuses
 mod Streams
 mod Puts
 mod Behind

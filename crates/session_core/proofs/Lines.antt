@@ -71,7 +71,7 @@ shown_at Ends M came line e h = h
 
 -- ---- the core
 
-line_by : (placed : Place → Type 0) (a : AnswerSeen) (ph : Phase) (cut : Option Bool) (M : Meaning) (came : Coming) (line : List ℕ) → IsPlaced placed a ph cut → ((at : Place) → placed at → LineAt at M came line) → LineIn ph cut M came line
+pub line_by : (placed : Place → Type 0) (a : AnswerSeen) (ph : Phase) (cut : Option Bool) (M : Meaning) (came : Coming) (line : List ℕ) → IsPlaced placed a ph cut → ((at : Place) → placed at → LineAt at M came line) → LineIn ph cut M came line
 line_by placed a phase.Reading cut M came line h each = each Reads h.0
 line_by placed a phase.Opening cut M came line h each = each Opens h.0
 line_by placed a phase.Unserved cut M came line h each = each Opens h

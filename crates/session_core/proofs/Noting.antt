@@ -37,3 +37,10 @@ noted meaning request answer stands old old_at new new_at begun k (inr e) =
   where
     same : (b : Bool) → Some begun ≡ Some b → b ≡ begun
     same b so = grind (arith, so)
+
+-- a part of work that leaves the note as it is
+pub unnoted : {C : Type 0} (meaning : C → Meaning) {D : Type 0} (request : D → RequestSeen) (answer : D → AnswerSeen) (stands : (cfg : C) → D → Sided (meaning cfg) → Type 0) (old : D) (old_at : At) (new : D) (new_at : At)
+    → Keeps meaning request answer stands old old_at new new_at → new_at.cut ≡ old_at.cut → Leads meaning request answer stands old old_at new new_at (Work None)
+unnoted meaning request answer stands old old_at new new_at k e = λ cfg past s.
+    let P : Option Bool → Type 0 = λ n. Stands (meaning cfg) request answer (stands cfg) new new_at (record past { note = n }) in
+    subst P (e ∙ sym s.holds.note) (k cfg past s)

@@ -18,11 +18,14 @@ use Rattle.session_core.specs.declared.Told.{Told}
 use Rattle.http_model.specs.Reading.{Received, BodyReading}
 use Rattle.session_model.specs.Env.{Env, Pass, Edited, response_env, request_env}
 use Rattle.session_core.specs.HeadAsks.{HeadAsks}
-use Rattle.session_core.specs.Lines.{HasLine, IsLineOf, ShowsLine}
+use Rattle.session_core.specs.Lines.{HasLine, IsLineOf, ShowsLine, LineAt}
 use Rattle.session_core.specs.MeaningLaws.Decided.{body_bytes, RefusesSoFar, IsCutRequest, IsCutAnswer}
 use Rattle.session_core.specs.MeaningLaws.Bound.{sent_size, server_size, IsBounded}
 use Rattle.session_core.specs.Waits.{is_serving, wants_of}
+use Rattle.session_core.specs.Place.{Place, IsPlaced}
+use Rattle.session_core.specs.Statuses.{TellsExchange, StatusAt, status_in, whole_in}
 use Rattle.session_core.specs.Drives.{WantsMean, WantsSay}
+use Rattle.http_model.specs.declared.Close.{Close}
 use Rattle.http_model.specs.declared.End.{End}
 use Rattle.session_core.specs.declared.Told.TheVariants as told
 use Rattle.http_model.specs.Reading as reading
@@ -31,6 +34,8 @@ use Rattle.session_core.proofs.Consequences as consequences
 use Rattle.session_core.proofs.Passing as passing
 use Rattle.session_core.proofs.Heads as heads
 use Rattle.session_core.proofs.Lines as lines
+use Rattle.session_core.proofs.InHand as in_hand
+use Rattle.session_core.proofs.Statuses as statuses
 use Rattle.session_core.proofs.MeaningLaws.Decides as decides
 use Rattle.session_core.proofs.MeaningLaws.Bounds as bounds
 use Rattle.session_core.proofs.Driving as driving
@@ -153,3 +158,14 @@ front_taken = driving.front_taken
 -- What wants say of the history.
 pub says : (M : Meaning) (at : At) (q : RequestSeen) (a : AnswerSeen) (p : Sided M) (past : Past) → Holds M at q a p past → WantsSay (wants_of q a at) past
 says = driving.says
+
+-- What a core tells of the exchange in hand is so.
+pub tells : (M : Meaning) (S : Sided M → Type 0) (placed : Place → Type 0) (at : At) (q : RequestSeen) (a : AnswerSeen) (p : Sided M) (past : Past) → S p → Holds M at q a p past → IsPlaced placed a at.phase at.cut
+    → ((p : Sided M) → S p → IsLineOf M p.came q.line) → ((p : Sided M) (place : Place) → S p → placed place → LineAt place M p.came q.line)
+    → ((p : Sided M) (place : Place) → S p → placed place → StatusAt place a p)
+    → TellsExchange M past a.window (whole_in at.phase a.answered) at.exchanges q.line (status_in at.phase a.status)
+tells M S placed at q a p past s h here line line_at status = statuses.tells_exchange M S placed at q a past (in_hand.exchanges_so M S at q a p past s h) here line line_at status
+
+-- Where a server's link is to be closed, all text of the answer was put out.
+pub close_whole : (q : RequestSeen) (a : AnswerSeen) (at : At) (how : Close) → (wants_of q a at).server_close ≡ Some how → whole_in at.phase a.answered ≡ true
+close_whole = statuses.closes_whole

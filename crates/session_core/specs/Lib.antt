@@ -19,4 +19,6 @@ pub mod Leads
 pub mod Waits
 pub mod Lanes
 pub mod Lines
+pub mod Statuses
+pub mod Parts
 pub mod MeaningLaws

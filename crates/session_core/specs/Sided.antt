@@ -55,6 +55,8 @@ pub record AnswerSeen : Type 0 where
   pub begun : Bool
   -- a response head was read
   pub heard : Bool
+  -- the status of the last that answers; none before it is known which that is
+  pub status : Option ℕ
   -- the last step left nothing undone that could be done with what has come
   pub at_rest : Bool
 

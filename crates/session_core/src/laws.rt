@@ -1,5 +1,6 @@
 //! What follows for every core that stands for its history.
-ghost use Rattle.std.specs.Prelude.{◌≡◌, ◌++◌, ◌∷◌, [], List, Bool, Some, false};
+ghost use Rattle.std.specs.Prelude.{◌≡◌, ◌++◌, ◌∷◌, [], List, Bool, Some, true, false};
+ghost use Rattle.http_model.specs.declared.Close.{Close};
 ghost use Rattle.http_model.specs.declared.End.{End};
 ghost use Rattle.session_core.specs.History.{Event, Past, past_of};
 ghost use Rattle.session_core.specs.Consequences.{IsFinal, IsFront, out_of_past};
@@ -9,6 +10,7 @@ ghost use Rattle.session_core.specs.Drives.{WantsMean, IsAlone, WantsSay, BegunS
 ghost use Rattle.session_core.specs.InHand.{ReadsInHand, ServesInHand, RefusesInHand, RepliesInHand, ExchangesAre};
 ghost use Rattle.session_core.specs.Leads.{Stands, Leads, Sees};
 ghost use Rattle.session_core.specs.Lines.{LineInHand, LineTold};
+ghost use Rattle.session_core.specs.Statuses.{TellsExchange, status_in, whole_in};
 ghost use Rattle.session_core.specs.Place.{IsPlaced};
 ghost use Rattle.session_core.specs.declared.machine.At.{At};
 ghost use Rattle.session_core.specs.declared.Phase.TheVariants as phase;
@@ -121,4 +123,12 @@ pub fn line_is_in_hand<S: Works>()
         → LineInHand (S.meaning cfg) (S.stands cfg sides) (S.request sides) (S.answer sides) at past }
     ensures phase { (cfg : S.Settings) (sides : S) (at : At) (past : Past) → Stands (S.meaning cfg) S.request S.answer (S.stands cfg) sides at past
         → IsPlaced (S.placed sides) (S.answer sides) at.phase at.cut → LineTold (S.meaning cfg) (S.stands cfg sides) (S.request sides) (S.answer sides) at past }
+{}
+
+/// What a core tells of the exchange in hand is so: its number, the words of its request line, and the status that its client is sent (`tells`). Where a server's link is to be closed,
+/// all text of the answer was put out (`close`).
+pub fn tells_the_exchange<S: Works>()
+    ensures tells { (cfg : S.Settings) (sides : S) (at : At) (past : Past) → Stands (S.meaning cfg) S.request S.answer (S.stands cfg) sides at past → IsPlaced (S.placed sides) (S.answer sides) at.phase at.cut
+        → TellsExchange (S.meaning cfg) past (S.answer sides).window (whole_in at.phase (S.answer sides).answered) at.exchanges (S.request sides).line (status_in at.phase (S.answer sides).status) }
+    ensures close { (q : RequestSeen) (a : AnswerSeen) (at : At) (how : Close) → (wants_of q a at).server_close ≡ Some how → whole_in at.phase a.answered ≡ true }
 {}

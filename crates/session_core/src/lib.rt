@@ -6,6 +6,7 @@ mod calls;
 pub mod laws;
 mod machine;
 pub mod meaning_laws;
+mod parts;
 mod renewing;
 mod sides;
 mod turns;
@@ -14,6 +15,7 @@ mod work;
 
 pub use http_model::{Close, End, Ending, OutOfMemory};
 pub use machine::{At, Core, Wants};
+pub use parts::Worked;
 pub use renewing::{Renewable, RenewableFor};
 pub use sides::{Asked, Works};
 

@@ -6,6 +6,7 @@ ghost use Rattle.session_core.specs.Sided.{Sided, HoldsList};
 ghost use Rattle.session_core.specs.Place as place;
 ghost use Rattle.session_core.specs.Place.{IsPlaced};
 ghost use Rattle.session_core.specs.Leads.{Stands, IsFresh};
+ghost use Rattle.session_core.specs.Statuses.{status_in};
 ghost use Rattle.px_peer.specs.declared.Peer.{Peer};
 
 use crate::Phase;
@@ -142,6 +143,23 @@ impl<S: Works> Core<S> {
         ensures { result.now ≡ (S.request self.now.sides).line }
     {
         self.sides.request_line()
+    }
+
+    /// The status that the client is sent in the exchange in hand, while its answer goes out.
+    pub fn status(&self) -> Option<u16>
+        requires placed { IsPlaced (S.placed self.now.sides) (S.answer self.now.sides) self.now.at.phase self.now.at.cut }
+        ensures { result ≡ status_in self.now.at.phase (S.answer self.now.sides).status }
+    {
+        match self.at.phase {
+            Phase::Serving => self.sides.status(),
+            Phase::Served => self.sides.status(),
+            Phase::Refusing => self.sides.status(),
+            Phase::Replying(_) => self.sides.status(),
+            Phase::Reading => None,
+            Phase::Opening => None,
+            Phase::Unserved => None,
+            Phase::Over(_) => None,
+        }
     }
 
     /// The bytes that wait for the server, to be read alone.

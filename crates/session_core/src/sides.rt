@@ -10,6 +10,7 @@ ghost use Rattle.session_core.specs.Place as place;
 ghost use Rattle.session_core.specs.Place.{Place, is_saying, place_behind, IsSomewhere, IsAtServer, Stay};
 ghost use Rattle.session_core.specs.Lending.{LendsText};
 ghost use Rattle.session_core.specs.Lines.{IsLineOf, LineAt};
+ghost use Rattle.session_core.specs.Statuses.{StatusAt};
 ghost use Rattle.session_core.specs.Leads.{StepsRequest, KeepsRequest, StepsAnswer, AnswerWaits, Says, Refuses, Turns, AsksTo, AskKeeps, Renews, RenewsReplied};
 
 use crate::Told;
@@ -97,6 +98,11 @@ pub trait Works {
     fn has_heard(&self) -> bool
         requires placed { IsSomewhere (placed self.now) }
         ensures { result ≡ (answer self.now).heard };
+
+    /// The status of the last that answers, once it is known which that is.
+    fn status(&self) -> Option<u16>
+        requires placed { IsSomewhere (placed self.now) }
+        ensures { result ≡ (answer self.now).status };
 
     // ---- what it sees of streams and windows
 
@@ -324,4 +330,7 @@ pub trait Works {
 
     /// It is nothing in front of a head, and behind one only where none comes.
     ghost line_at: { (cfg : Self.Settings) (sides : Self) (p : Sided (meaning cfg)) (at : Place) → stands cfg sides p → placed sides at → LineAt at (meaning cfg) p.came (request sides).line };
+
+    /// The status that is told is that of what the client is sent, by where they stand: none in front of an answer, and some once all text of it was put out.
+    ghost status_at: { (cfg : Self.Settings) (sides : Self) (p : Sided (meaning cfg)) (at : Place) → stands cfg sides p → placed sides at → StatusAt at (answer sides) p };
 }

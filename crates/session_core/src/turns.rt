@@ -4,6 +4,7 @@ ghost use Rattle.session_core.specs.History.{Past};
 ghost use Rattle.session_core.specs.Sided.{Sided, asker_in};
 ghost use Rattle.session_core.specs.Stands.{most};
 ghost use Rattle.session_core.specs.Waits.{is_serving, Ready, SayWaits, IsSaying, Ended, Settled};
+ghost use Rattle.session_core.specs.Parts.{says_itself, BeginsOne};
 ghost use Rattle.session_core.specs.Leads.{Stands, Keeps, Follows};
 ghost use Rattle.session_core.specs.Place.{IsPlaced, IsSomewhere};
 
@@ -22,7 +23,10 @@ impl<S: Works> Core<S> {
         ensures cut { self.new.at.cut ≡ self.old.at.cut }
         ensures unread { (S.request self.new.sides).unread ≤ (S.request self.old.sides).unread }
         ensures serving { is_serving self.new.at.phase ≡ is_serving self.old.at.phase }
+        ensures lost { self.new.lost ≡ self.old.lost }
         ensures ended { Ready self.old.at.phase self.old.at.cut (S.request self.old.sides) (S.answer self.old.sides) → Ended self.new.at.phase self.new.at.cut (S.request self.new.sides) (S.answer self.new.sides) }
+        ensures exchanges { self.new.at.exchanges ≡ self.old.at.exchanges }
+        ensures stays { says_itself self.old.at.phase ≡ true → (S.answer self.old.sides).answered ≡ false → self.new.at ≡ self.old.at }
     {
         match self.at.phase {
             Phase::Served => self.end_served(),
@@ -44,7 +48,10 @@ impl<S: Works> Core<S> {
         ensures cut { self.new.at.cut ≡ self.old.at.cut }
         ensures unread { (S.request self.new.sides).unread ≤ (S.request self.old.sides).unread }
         ensures serving { is_serving self.new.at.phase ≡ is_serving self.old.at.phase }
+        ensures lost { self.new.lost ≡ self.old.lost }
         ensures ended { SayWaits (S.answer self.old.sides) → Ended self.new.at.phase self.new.at.cut (S.request self.new.sides) (S.answer self.new.sides) }
+        ensures exchanges { self.new.at.exchanges ≡ self.old.at.exchanges }
+        ensures stays { (S.answer self.old.sides).answered ≡ false → self.new.at ≡ self.old.at }
     {
         if self.sides.is_answered() {
             self.at.phase = Phase::Over(End::Closed);
@@ -59,7 +66,10 @@ impl<S: Works> Core<S> {
         ensures cut { self.new.at.cut ≡ self.old.at.cut }
         ensures unread { (S.request self.new.sides).unread ≤ (S.request self.old.sides).unread }
         ensures serving { is_serving self.new.at.phase ≡ is_serving self.old.at.phase }
+        ensures lost { self.new.lost ≡ self.old.lost }
         ensures ended { SayWaits (S.answer self.old.sides) → Ended self.new.at.phase self.new.at.cut (S.request self.new.sides) (S.answer self.new.sides) }
+        ensures exchanges { self.new.at.exchanges ≡ self.old.at.exchanges }
+        ensures stays { (S.answer self.old.sides).answered ≡ false → self.new.at ≡ self.old.at }
     {
         if !self.sides.is_answered() {
             return;
@@ -80,7 +90,9 @@ impl<S: Works> Core<S> {
         ensures cut { self.new.at.cut ≡ self.old.at.cut }
         ensures unread { (S.request self.new.sides).unread ≤ (S.request self.old.sides).unread }
         ensures serving { is_serving self.new.at.phase ≡ is_serving self.old.at.phase }
+        ensures lost { self.new.lost ≡ self.old.lost }
         ensures ended { Ended self.new.at.phase self.new.at.cut (S.request self.new.sides) (S.answer self.new.sides) }
+        ensures exchanges { self.new.at.exchanges ≡ self.old.at.exchanges }
     {
         if self.is_turned() {
             self.at.phase = Phase::Over(End::Closed);
@@ -131,6 +143,8 @@ impl<S: Works> Core<S> {
         ensures less { IfOk result (λ more. more ≡ true → (S.request self.new.sides).unread < (S.request self.old.sides).unread) }
         ensures saying { IfOk result (λ more. more ≡ true → IsSaying self.new.at.phase) }
         ensures settled { IfOk result (λ more. more ≡ false → Ended self.old.at.phase self.old.at.cut (S.request self.old.sides) (S.answer self.old.sides) → Settled self.new.at.phase self.new.at.cut (S.request self.new.sides) (S.answer self.new.sides)) }
+        ensures begins { OnOk result (BeginsOne self.old.at self.new.at) }
+        ensures stays { OnOk result (says_itself self.old.at.phase ≡ true → self.new.at ≡ self.old.at) }
     {
         match self.at.phase {
             Phase::Reading => self.ask(),
@@ -155,6 +169,7 @@ impl<S: Works> Core<S> {
         ensures less { IfOk result (λ more. more ≡ true → (S.request self.new.sides).unread < (S.request self.old.sides).unread) }
         ensures saying { IfOk result (λ more. more ≡ true → IsSaying self.new.at.phase) }
         ensures settled { IfOk result (λ more. more ≡ false → Settled self.new.at.phase self.new.at.cut (S.request self.new.sides) (S.answer self.new.sides)) }
+        ensures begins { OnOk result (BeginsOne self.old.at self.new.at) }
     {
         let asked = self.sides.ask()?;
         match asked {

@@ -72,13 +72,14 @@ impl<S: Works> Core<S> {
 
     /// The request direction, as far as it can go. Where the request is met as cut and the answer hasn't begun, a refusal
     /// takes its place.
-    fn run_request(&mut self)
+    pub(crate) fn run_request(&mut self)
         requires placed { IsPlaced (S.placed self.old.sides) (S.answer self.old.sides) self.old.at.phase self.old.at.cut }
         ensures placed { IsPlaced (S.placed self.new.sides) (S.answer self.new.sides) self.new.at.phase self.new.at.cut }
         ensures keeps { Keeps S.meaning S.request S.answer S.stands self.old.sides self.old.at self.new.sides self.new.at }
         ensures met { Meets self.old.at.cut self.new.at.cut (S.answer self.old.sides).begun }
         ensures phase { self.new.at.phase ≡ self.old.at.phase }
         ensures stepped { Stepped self.new.at.phase (S.request self.new.sides) }
+        ensures exchanges { self.new.at.exchanges ≡ self.old.at.exchanges }
     {
         match self.at.phase {
             Phase::Serving => self.step_request(),
@@ -100,6 +101,7 @@ impl<S: Works> Core<S> {
         ensures met { Meets self.old.at.cut self.new.at.cut (S.answer self.old.sides).begun }
         ensures phase { self.new.at.phase ≡ self.old.at.phase }
         ensures stepped { RequestWaits (S.request self.new.sides) }
+        ensures exchanges { self.new.at.exchanges ≡ self.old.at.exchanges }
     {
         self.sides.step_request();
         match self.newly_cut() {
@@ -116,7 +118,7 @@ impl<S: Works> Core<S> {
     }
 
     /// A server was refused: so is the client.
-    fn refuse_unserved(&mut self) -> Result<(), OutOfMemory>
+    pub(crate) fn refuse_unserved(&mut self) -> Result<(), OutOfMemory>
         requires placed { IsPlaced (S.placed self.old.sides) (S.answer self.old.sides) self.old.at.phase self.old.at.cut }
         ensures placed { OnOk result (IsPlaced (S.placed self.new.sides) (S.answer self.new.sides) self.new.at.phase self.new.at.cut) }
         ensures keeps { OnOk result (Keeps S.meaning S.request S.answer S.stands self.old.sides self.old.at self.new.sides self.new.at) }
@@ -124,6 +126,7 @@ impl<S: Works> Core<S> {
         ensures cut { OnOk result (self.new.at.cut ≡ self.old.at.cut) }
         ensures phase { OnOk result (self.new.at.phase ≡ refused_phase self.old.at.phase) }
         ensures request { OnOk result (S.request self.new.sides ≡ S.request self.old.sides) }
+        ensures exchanges { OnOk result (self.new.at.exchanges ≡ self.old.at.exchanges) }
     {
         match self.at.phase {
             Phase::Unserved => self.refuse_server(),
@@ -146,6 +149,7 @@ impl<S: Works> Core<S> {
         ensures cut { OnOk result (self.new.at.cut ≡ self.old.at.cut) }
         ensures phase { OnOk result (self.new.at.phase ≡ Phase.Refusing) }
         ensures request { OnOk result (S.request self.new.sides ≡ S.request self.old.sides) }
+        ensures exchanges { OnOk result (self.new.at.exchanges ≡ self.old.at.exchanges) }
     {
         self.sides.refuse(503)?;
         self.at.phase = Phase::Refusing;
@@ -164,7 +168,7 @@ impl<S: Works> Core<S> {
 
     /// The answer direction, as far as it can go.
     #[inline(always)]
-    fn run_answer(&mut self) -> Result<(), OutOfMemory>
+    pub(crate) fn run_answer(&mut self) -> Result<(), OutOfMemory>
         requires placed { IsPlaced (S.placed self.old.sides) (S.answer self.old.sides) self.old.at.phase self.old.at.cut }
         ensures placed { OnOk result (IsPlaced (S.placed self.new.sides) (S.answer self.new.sides) self.new.at.phase self.new.at.cut) }
         ensures keeps { OnOk result (Keeps S.meaning S.request S.answer S.stands self.old.sides self.old.at self.new.sides self.new.at) }

@@ -122,7 +122,7 @@ instead_keeps cfg asking lane server put e now for h shows promise i stream c =
 -- ---- the server's response
 
 -- what a lane knows of the response that goes out, with the server's bytes behind its head
-record ResponseGoes (cfg : Config) (asker : Asker) (received : Received) (head : Head) (interim put : List ℕ) (lane : ResponseLane) (server : Coming) (read : List Head) : Type 0 where
+pub record ResponseGoes (cfg : Config) (asker : Asker) (received : Received) (head : Head) (interim put : List ℕ) (lane : ResponseLane) (server : Coming) (read : List Head) : Type 0 where
   pub past : Past
   pub text : List ℕ
   pub left : List ℕ
@@ -138,7 +138,7 @@ same_pending a b o e f = let P : Option Received → Received = λ o. by o in ap
     by None = a
     by (Some x) = x
 
-response_goes : (cfg : Config) (asker : Asker) (before : Variables) (lane : ResponseLane) (server : Coming) (put : List ℕ) (e : Exchange) (now : Variables) → IsFor cfg lane → IsInHand asker lane server put e
+pub response_goes : (cfg : Config) (asker : Asker) (before : Variables) (lane : ResponseLane) (server : Coming) (put : List ℕ) (e : Exchange) (now : Variables) → IsFor cfg lane → IsInHand asker lane server put e
     → AnswersLast lane e → ((q : Past) → Stands lane.lane q → Promise lane.lane q) → (r : IsResponse cfg asker before now e)
     → ResponseGoes cfg asker r.received r.head (interim_text (sent_interim asker e.read)) put lane server e.read
 response_goes cfg asker before lane server put e now for h a promise r =
@@ -221,13 +221,13 @@ settled (source.Cut code) off = tt
 done_told : (lane : ResponseLane) (e : Exchange) → AnswersLast lane e → is_done (stage_of lane) ≡ true → IsTold (told_by (source_of lane))
 done_told lane e a done = settled lane.lane.source (a.stands.done (done_is lane.lane.stage done))
 
-pub so_at : (at : Place) (cfg : Config) (asking : Asking Variables) (lane : ResponseLane) (server : Coming) (put : List ℕ) (now : Variables) (saying : Saying) → IsTotalAnswers (meaning_of cfg)
-    → ((e : Exchange) → Answers lane e → AnswerPromise lane e) → ((q : Past) → Stands lane.lane q → Promise lane.lane q) → IsFor cfg lane → is_serving at ≡ true → StandsAt at cfg (asker_in asking) (answering asking.vars) lane server put now saying
+pub so_at : (at : Place) (status : Option ℕ) (cfg : Config) (asking : Asking Variables) (lane : ResponseLane) (server : Coming) (put : List ℕ) (now : Variables) (saying : Saying) → IsTotalAnswers (meaning_of cfg)
+    → ((e : Exchange) → Answers lane e → AnswerPromise lane e) → ((q : Past) → Stands lane.lane q → Promise lane.lane q) → IsFor cfg lane → is_serving at ≡ true → StandsAt at status cfg (asker_in asking) (answering asking.vars) lane server put now saying
     → (answered_at at (stage_of lane) ≡ true → IsTold (told_at at (source_of lane)))
     × ((stream : Stream) → Continues server stream → AnswerGoes (meaning_of cfg) (told_at at (source_of lane)) (answered_at at (stage_of lane)) (has_begun lane) asking put now stream)
-so_at place.Idle cfg asking lane server put now saying total promise promises for serves s = absurd (let both : false ≡ true = serves in cc both)
-so_at place.Saying cfg asking lane server put now saying total promise promises for serves s = absurd (let both : false ≡ true = serves in cc both)
-so_at place.Heads cfg asking lane server put now saying total promise promises for serves s =
+so_at place.Idle status cfg asking lane server put now saying total promise promises for serves s = absurd (let both : false ≡ true = serves in cc both)
+so_at place.Saying status cfg asking lane server put now saying total promise promises for serves s = absurd (let both : false ≡ true = serves in cc both)
+so_at place.Heads status cfg asking lane server put now saying total promise promises for serves s =
     let e : Exchange = s.0 in
     let none : has_begun lane ≡ false = unbegun lane e s.2 s.1.answers in
     let left = heads_came cfg (asker_in asking) lane server put e for s.1 (promise e s.1.answers) in
@@ -237,28 +237,28 @@ so_at place.Heads cfg asking lane server put now saying total promise promises f
           (answers_open (meaning_of cfg) total asking server (record { bytes = left.0; ending = server.ending }) e.read heads.used put now heads.passed
           (interim_front (asker_in asking) lane server put e s.1 (promise e s.1.answers) none) stream c),
     )
-so_at place.Response cfg asking lane server put now saying total promise promises for serves s =
+so_at place.Response status cfg asking lane server put now saying total promise promises for serves s =
     let e : Exchange = s.0 in
-    let a = answering_at lane.phase lane e _ _ _ _ refl s.2 s.3.last s.1.answers in
+    let a = answering_at lane.phase lane e _ _ _ _ refl s.2.shows s.3.last s.1.answers in
     (done_told lane e a.1, response_answers cfg asking lane server put e now total for s.1 a.1 promises s.3)
-so_at place.Closing cfg asking lane server put now saying total promise promises for serves s =
-    (λ answered. tt, instead_closes cfg asking lane server put s.0 now for s.1 s.2 (promise s.0 s.1.answers) s.3)
-so_at place.Keeping cfg asking lane server put now saying total promise promises for serves s =
-    (λ answered. tt, instead_keeps cfg asking lane server put s.0 now for s.1 s.2 (promise s.0 s.1.answers) s.3)
+so_at place.Closing status cfg asking lane server put now saying total promise promises for serves s =
+    (λ answered. tt, instead_closes cfg asking lane server put s.0 now for s.1 s.2.shows (promise s.0 s.1.answers) s.3)
+so_at place.Keeping status cfg asking lane server put now saying total promise promises for serves s =
+    (λ answered. tt, instead_keeps cfg asking lane server put s.0 now for s.1 s.2.shows (promise s.0 s.1.answers) s.3)
 
-pub in_hand_at : (at : Place) (cfg : Config) (asking : Asking Variables) (lane : ResponseLane) (server : Coming) (put : List ℕ) (now : Variables) (saying : Saying) → is_serving at ≡ true
-    → StandsAt at cfg (asker_in asking) (answering asking.vars) lane server put now saying → (e : Exchange) × IsInHand (asker_in asking) lane server put e
-in_hand_at place.Idle cfg asking lane server put now saying serves s = absurd (let both : false ≡ true = serves in cc both)
-in_hand_at place.Heads cfg asking lane server put now saying serves s = (s.0, s.1)
-in_hand_at place.Response cfg asking lane server put now saying serves s = (s.0, s.1)
-in_hand_at place.Closing cfg asking lane server put now saying serves s = (s.0, s.1)
-in_hand_at place.Keeping cfg asking lane server put now saying serves s = (s.0, s.1)
-in_hand_at place.Saying cfg asking lane server put now saying serves s = absurd (let both : false ≡ true = serves in cc both)
+pub in_hand_at : (at : Place) (status : Option ℕ) (cfg : Config) (asking : Asking Variables) (lane : ResponseLane) (server : Coming) (put : List ℕ) (now : Variables) (saying : Saying) → is_serving at ≡ true
+    → StandsAt at status cfg (asker_in asking) (answering asking.vars) lane server put now saying → (e : Exchange) × IsInHand (asker_in asking) lane server put e
+in_hand_at place.Idle status cfg asking lane server put now saying serves s = absurd (let both : false ≡ true = serves in cc both)
+in_hand_at place.Heads status cfg asking lane server put now saying serves s = (s.0, s.1)
+in_hand_at place.Response status cfg asking lane server put now saying serves s = (s.0, s.1)
+in_hand_at place.Closing status cfg asking lane server put now saying serves s = (s.0, s.1)
+in_hand_at place.Keeping status cfg asking lane server put now saying serves s = (s.0, s.1)
+in_hand_at place.Saying status cfg asking lane server put now saying serves s = absurd (let both : false ≡ true = serves in cc both)
 
 pub before_at : (cfg : Config) (side : AnswerSide) (asking : Asking Variables) (server : Coming) (put : List ℕ) (now : Variables) (saying : Saying) → ((e : Exchange) → Answers side.lane e → AnswerPromise side.lane e)
     → is_serving side.place ≡ true → has_begun side.lane ≡ false → AnswerStands cfg side asking server put now saying → Interims (meaning_of cfg) (asker_in asking) server put
 before_at cfg side asking server put now saying promise serves none s =
-    let h = in_hand_at side.place cfg asking side.lane server put now saying serves s.at in
+    let h = in_hand_at side.place side.status cfg asking side.lane server put now saying serves s.at in
     let left = heads_came cfg (asker_in asking) side.lane server put h.0 s.for_it h.1 (promise h.0 h.1.answers) in
     let heads : Came cfg (asker_in asking) server h.0.read left.0 = came cfg (asker_in asking) server h.0.read left.0 left.1 in
     interims_so (meaning_of cfg) (asker_in asking) server (record { bytes = left.0; ending = server.ending }) h.0.read heads.used put heads.passed

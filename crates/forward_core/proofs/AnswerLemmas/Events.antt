@@ -64,6 +64,7 @@ instead_more cfg asker before server so now e more open_ i =
     record {
       head = i.head;
       body = i.body;
+      line = i.line;
       last = i.last;
       left = i.left ++ more;
       came = came_more asker.head_asked cfg.limits server.ending e.read e.bytes i.left more open_ i.came;
@@ -76,6 +77,7 @@ instead_ends cfg asker before server so now e how open_ i =
     record {
       head = i.head;
       body = i.body;
+      line = i.line;
       last = i.last;
       left = i.left;
       came = came_end asker.head_asked cfg.limits server.ending e.read e.bytes i.left how open_ i.came;
@@ -89,6 +91,7 @@ instead_of cfg asker before server so now e f last read bytes i =
     record {
       head = i.head;
       body = i.body;
+      line = i.line;
       last = last ∙ i.last;
       left = i.left;
       came = subst (λ (heads : List Head). HeadsCame asker.head_asked cfg.limits server.ending heads f.bytes i.left) (sym read)
@@ -113,18 +116,18 @@ in_hand_more asker old new server put e more t h =
 server_open : (asker : Asker) (old new : ResponseLane) (server : Coming) (put : List ℕ) (e : Exchange) (more : List ℕ) → Takes old new more → IsInHand asker old server put e → server.ending ≡ None
 server_open asker old new server put e more t h = sym h.ending ∙ t.is_open
 
-pub takes_at : (at : Place) (cfg : Config) (asker : Asker) (before : Variables) (old new : ResponseLane) (server : Coming) (put : List ℕ) (now : Variables) (saying : Saying) (more : List ℕ) → Takes old new more
-    → StandsAt at cfg asker before old server put now saying → StandsAt at cfg asker before new (gains server more) put now saying
-takes_at place.Idle cfg asker before old new server put now saying more t s = (with_bytes s.0 more, t.answers s.0 s.1, record { put = s.2.put; passed = s.2.passed }, s.3)
-takes_at place.Heads cfg asker before old new server put now saying more t s = (with_bytes s.0 more, in_hand_more asker old new server put s.0 more t s.1, s.2)
-takes_at place.Response cfg asker before old new server put now saying more t s =
-    (with_bytes s.0 more, in_hand_more asker old new server put s.0 more t s.1, ap shows_last t.phase ∙ s.2, response_of cfg asker before now s.0 (with_bytes s.0 more) refl refl s.3)
-takes_at place.Closing cfg asker before old new server put now saying more t s =
-    (with_bytes s.0 more, in_hand_more asker old new server put s.0 more t s.1, ap shows_last t.phase ∙ s.2, instead_more cfg asker before server _ now s.0 more (server_open asker old new server put s.0 more t s.1) s.3)
-takes_at place.Keeping cfg asker before old new server put now saying more t s =
-    (with_bytes s.0 more, in_hand_more asker old new server put s.0 more t s.1, ap shows_last t.phase ∙ s.2, instead_more cfg asker before server _ now s.0 more (server_open asker old new server put s.0 more t s.1) s.3)
-takes_at place.Saying cfg asker before old new server put now saying more t s =
-    (with_bytes s.0 more, t.answers s.0 s.1, ap shows_last t.phase ∙ s.2, record { head = s.3.head; body = s.3.body; no_body = s.3.no_body; last = s.3.last; text = s.3.text; said = s.3.said }, t.begun ∙ s.4)
+pub takes_at : (at : Place) (status : Option ℕ) (cfg : Config) (asker : Asker) (before : Variables) (old new : ResponseLane) (server : Coming) (put : List ℕ) (now : Variables) (saying : Saying) (more : List ℕ) → Takes old new more
+    → StandsAt at status cfg asker before old server put now saying → StandsAt at status cfg asker before new (gains server more) put now saying
+takes_at place.Idle status cfg asker before old new server put now saying more t s = (with_bytes s.0 more, t.answers s.0 s.1, record { put = s.2.put; passed = s.2.passed }, s.3)
+takes_at place.Heads status cfg asker before old new server put now saying more t s = (with_bytes s.0 more, in_hand_more asker old new server put s.0 more t s.1, s.2)
+takes_at place.Response status cfg asker before old new server put now saying more t s =
+    (with_bytes s.0 more, in_hand_more asker old new server put s.0 more t s.1, record { shows = ap shows_last t.phase ∙ s.2.shows; told = s.2.told }, response_of cfg asker before now s.0 (with_bytes s.0 more) refl refl s.3)
+takes_at place.Closing status cfg asker before old new server put now saying more t s =
+    (with_bytes s.0 more, in_hand_more asker old new server put s.0 more t s.1, record { shows = ap shows_last t.phase ∙ s.2.shows; told = s.2.told }, instead_more cfg asker before server _ now s.0 more (server_open asker old new server put s.0 more t s.1) s.3)
+takes_at place.Keeping status cfg asker before old new server put now saying more t s =
+    (with_bytes s.0 more, in_hand_more asker old new server put s.0 more t s.1, record { shows = ap shows_last t.phase ∙ s.2.shows; told = s.2.told }, instead_more cfg asker before server _ now s.0 more (server_open asker old new server put s.0 more t s.1) s.3)
+takes_at place.Saying status cfg asker before old new server put now saying more t s =
+    (with_bytes s.0 more, t.answers s.0 s.1, record { shows = ap shows_last t.phase ∙ s.2.shows; told = s.2.told }, record { head = s.3.head; body = s.3.body; no_body = s.3.no_body; line = s.3.line; last = s.3.last; text = s.3.text; said = s.3.said }, t.begun ∙ s.4)
 
 -- ---- a stream ends, and bytes are taken
 
@@ -139,16 +142,16 @@ pub record Ends (old new : ResponseLane) (how : Ending) : Type 0 where
 in_hand_ends : (asker : Asker) (old new : ResponseLane) (server : Coming) (put : List ℕ) (e : Exchange) (how : Ending) → Ends old new how → IsInHand asker old server put e → IsInHand asker new (ends server how) put e
 in_hand_ends asker old new server put e how t h = record { answers = t.answers e h.answers; asked = h.asked; bytes = h.bytes; ending = t.ended; passed = h.passed; put_is = h.put_is }
 
-pub ends_at : (at : Place) (cfg : Config) (asker : Asker) (before : Variables) (old new : ResponseLane) (server : Coming) (put : List ℕ) (now : Variables) (saying : Saying) (how : Ending) → Ends old new how
-    → StandsAt at cfg asker before old server put now saying → StandsAt at cfg asker before new (ends server how) put now saying
-ends_at place.Idle cfg asker before old new server put now saying how t s = (s.0, t.answers s.0 s.1, s.2, s.3)
-ends_at place.Heads cfg asker before old new server put now saying how t s = (s.0, in_hand_ends asker old new server put s.0 how t s.1, s.2)
-ends_at place.Response cfg asker before old new server put now saying how t s = (s.0, in_hand_ends asker old new server put s.0 how t s.1, ap shows_last t.phase ∙ s.2, s.3)
-ends_at place.Closing cfg asker before old new server put now saying how t s =
-    (s.0, in_hand_ends asker old new server put s.0 how t s.1, ap shows_last t.phase ∙ s.2, instead_ends cfg asker before server _ now s.0 how (sym s.1.ending ∙ t.is_open) s.3)
-ends_at place.Keeping cfg asker before old new server put now saying how t s =
-    (s.0, in_hand_ends asker old new server put s.0 how t s.1, ap shows_last t.phase ∙ s.2, instead_ends cfg asker before server _ now s.0 how (sym s.1.ending ∙ t.is_open) s.3)
-ends_at place.Saying cfg asker before old new server put now saying how t s = (s.0, t.answers s.0 s.1, ap shows_last t.phase ∙ s.2, s.3, t.begun ∙ s.4)
+pub ends_at : (at : Place) (status : Option ℕ) (cfg : Config) (asker : Asker) (before : Variables) (old new : ResponseLane) (server : Coming) (put : List ℕ) (now : Variables) (saying : Saying) (how : Ending) → Ends old new how
+    → StandsAt at status cfg asker before old server put now saying → StandsAt at status cfg asker before new (ends server how) put now saying
+ends_at place.Idle status cfg asker before old new server put now saying how t s = (s.0, t.answers s.0 s.1, s.2, s.3)
+ends_at place.Heads status cfg asker before old new server put now saying how t s = (s.0, in_hand_ends asker old new server put s.0 how t s.1, s.2)
+ends_at place.Response status cfg asker before old new server put now saying how t s = (s.0, in_hand_ends asker old new server put s.0 how t s.1, record { shows = ap shows_last t.phase ∙ s.2.shows; told = s.2.told }, s.3)
+ends_at place.Closing status cfg asker before old new server put now saying how t s =
+    (s.0, in_hand_ends asker old new server put s.0 how t s.1, record { shows = ap shows_last t.phase ∙ s.2.shows; told = s.2.told }, instead_ends cfg asker before server _ now s.0 how (sym s.1.ending ∙ t.is_open) s.3)
+ends_at place.Keeping status cfg asker before old new server put now saying how t s =
+    (s.0, in_hand_ends asker old new server put s.0 how t s.1, record { shows = ap shows_last t.phase ∙ s.2.shows; told = s.2.told }, instead_ends cfg asker before server _ now s.0 how (sym s.1.ending ∙ t.is_open) s.3)
+ends_at place.Saying status cfg asker before old new server put now saying how t s = (s.0, t.answers s.0 s.1, record { shows = ap shows_last t.phase ∙ s.2.shows; told = s.2.told }, s.3, t.begun ∙ s.4)
 
 -- what a lane keeps of whose output bytes are taken
 pub record Took (old new : ResponseLane) : Type 0 where
@@ -160,14 +163,14 @@ pub record Took (old new : ResponseLane) : Type 0 where
 in_hand_took : (asker : Asker) (old new : ResponseLane) (server : Coming) (put : List ℕ) (e : Exchange) → Took old new → IsInHand asker old server put e → IsInHand asker new server put e
 in_hand_took asker old new server put e t h = record { answers = t.answers e h.answers; asked = h.asked; bytes = h.bytes; ending = t.ended ∙ h.ending; passed = h.passed; put_is = h.put_is }
 
-pub took_at : (at : Place) (cfg : Config) (asker : Asker) (before : Variables) (old new : ResponseLane) (server : Coming) (put : List ℕ) (now : Variables) (saying : Saying) → Took old new
-    → StandsAt at cfg asker before old server put now saying → StandsAt at cfg asker before new server put now saying
-took_at place.Idle cfg asker before old new server put now saying t s = (s.0, t.answers s.0 s.1, s.2, s.3)
-took_at place.Heads cfg asker before old new server put now saying t s = (s.0, in_hand_took asker old new server put s.0 t s.1, s.2)
-took_at place.Response cfg asker before old new server put now saying t s = (s.0, in_hand_took asker old new server put s.0 t s.1, ap shows_last t.phase ∙ s.2, s.3)
-took_at place.Closing cfg asker before old new server put now saying t s = (s.0, in_hand_took asker old new server put s.0 t s.1, ap shows_last t.phase ∙ s.2, s.3)
-took_at place.Keeping cfg asker before old new server put now saying t s = (s.0, in_hand_took asker old new server put s.0 t s.1, ap shows_last t.phase ∙ s.2, s.3)
-took_at place.Saying cfg asker before old new server put now saying t s = (s.0, t.answers s.0 s.1, ap shows_last t.phase ∙ s.2, s.3, t.begun ∙ s.4)
+pub took_at : (at : Place) (status : Option ℕ) (cfg : Config) (asker : Asker) (before : Variables) (old new : ResponseLane) (server : Coming) (put : List ℕ) (now : Variables) (saying : Saying) → Took old new
+    → StandsAt at status cfg asker before old server put now saying → StandsAt at status cfg asker before new server put now saying
+took_at place.Idle status cfg asker before old new server put now saying t s = (s.0, t.answers s.0 s.1, s.2, s.3)
+took_at place.Heads status cfg asker before old new server put now saying t s = (s.0, in_hand_took asker old new server put s.0 t s.1, s.2)
+took_at place.Response status cfg asker before old new server put now saying t s = (s.0, in_hand_took asker old new server put s.0 t s.1, record { shows = ap shows_last t.phase ∙ s.2.shows; told = s.2.told }, s.3)
+took_at place.Closing status cfg asker before old new server put now saying t s = (s.0, in_hand_took asker old new server put s.0 t s.1, record { shows = ap shows_last t.phase ∙ s.2.shows; told = s.2.told }, s.3)
+took_at place.Keeping status cfg asker before old new server put now saying t s = (s.0, in_hand_took asker old new server put s.0 t s.1, record { shows = ap shows_last t.phase ∙ s.2.shows; told = s.2.told }, s.3)
+took_at place.Saying status cfg asker before old new server put now saying t s = (s.0, t.answers s.0 s.1, record { shows = ap shows_last t.phase ∙ s.2.shows; told = s.2.told }, s.3, t.begun ∙ s.4)
 
 -- ---- its configuration
 

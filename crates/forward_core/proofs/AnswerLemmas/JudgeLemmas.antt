@@ -27,6 +27,7 @@ use Rattle.lane.specs.declared.response_lane.ResponseLane.{ResponseLane}
 use Rattle.forward_core.specs.Answer.Seen.{size_of}
 use Rattle.session_core.specs.declared.Told.{Told}
 use Rattle.session_core.specs.declared.Told.TheVariants as told
+use Rattle.forward_core.specs.Answer.Status.{is_status_line, line_status}
 use Rattle.forward_core.specs.Answer.Stands.{IsAsker, IsInHand, IsInstead, StandsAt, list_text}
 use Rattle.forward_core.specs.Answer.Hearing.{IsBetween, FinalHead}
 use Rattle.forward_core.specs.Answer.Judging.{Edits, Settles, GoesOut, IsEdited, told_when, place_when, is_not_modified, finished_by}
@@ -116,12 +117,12 @@ finished_is cfg side asker received replaced not_modified head asks rep unchange
 
 -- ---- it goes out
 
-pub sends_response : (cfg : Config) (old : AnswerSide) (new : ResponseLane) (asking : Asking Variables) (server : Coming) (put : List ℕ) (now : Variables) (received : Received) (head : Head) (framing : Framing)
-    → (f : FinalHead cfg old asking server put received) → IsEdited cfg asking received head now → response_fits (meaning_of cfg) (asker_in asking) received head ≡ true
+pub sends_response : (cfg : Config) (old : AnswerSide) (new : ResponseLane) (asking : Asking Variables) (server : Coming) (put : List ℕ) (now : Variables) (received : Received) (head : Head) (framing : Framing) (status : Option ℕ)
+    → status ≡ line_status (finished_response (meaning_of cfg) (asker_in asking) received head).line → (f : FinalHead cfg old asking server put received) → IsEdited cfg asking received head now → response_fits (meaning_of cfg) (asker_in asking) received head ≡ true
     → framing ≡ response_framing (replaces cfg.res_filters) (asker_in asking).is_http_11 received.framing → ended_of new ≡ ended_of old.lane → shows_last (phase_of new) ≡ true
     → Answers new (serves f.read.e cfg.res_filters (finished_response (meaning_of cfg) (asker_in asking) received head) framing old.asker.head_asked)
-    → StandsAt place.Response cfg (asker_in asking) (answering asking.vars) new server put now (unsaid [])
-sends_response cfg old new asking server put now received head framing f edits fits framed ended shows a =
+    → StandsAt place.Response status cfg (asker_in asking) (answering asking.vars) new server put now (unsaid [])
+sends_response cfg old new asking server put now received head framing status told f edits fits framed ended shows a =
     let done : Head = finished_response (meaning_of cfg) (asker_in asking) received head in (
       serves f.read.e cfg.res_filters done framing old.asker.head_asked,
       record {
@@ -132,7 +133,7 @@ sends_response cfg old new asking server put now received head framing f edits f
         passed = f.read.in_hand.passed;
         put_is = f.read.in_hand.put_is;
       },
-      shows,
+      record { shows = shows; told = told },
       record {
         received = received;
         at = edits.at;
@@ -150,11 +151,11 @@ sends_response cfg old new asking server put now received head framing f edits f
 
 -- ---- a list in its place
 
-pub instead_stands : (cfg : Config) (old : AnswerSide) (new : ResponseLane) (asking : Asking Variables) (server : Coming) (put : List ℕ) (now : Variables) (saying : Saying) (last : Final Variables) (head : Head) (body : List ℕ) (replied : Bool)
-    → (s : Settles cfg old asking server put last) → SpellsFinal (meaning_of cfg) (asker_in asking) last (list_text (asker_in asking).head_asked head body) → ToldIs (meaning_of cfg) (told_when replied) now last
+pub instead_stands : (cfg : Config) (old : AnswerSide) (new : ResponseLane) (asking : Asking Variables) (server : Coming) (put : List ℕ) (now : Variables) (saying : Saying) (last : Final Variables) (head : Head) (body : List ℕ) (replied : Bool) (status : Option ℕ)
+    → is_status_line head.line ≡ true → status ≡ line_status head.line → (s : Settles cfg old asking server put last) → SpellsFinal (meaning_of cfg) (asker_in asking) last (list_text (asker_in asking).head_asked head body) → ToldIs (meaning_of cfg) (told_when replied) now last
     → ended_of new ≡ ended_of old.lane → shows_last (phase_of new) ≡ true → Answers new (replies s.e head body old.asker.head_asked)
-    → StandsAt (place_when replied) cfg (asker_in asking) (answering asking.vars) new server put now saying
-instead_stands cfg old new asking server put now saying last head body replied s spelled is_told ended shows a = by replied is_told
+    → StandsAt (place_when replied) status cfg (asker_in asking) (answering asking.vars) new server put now saying
+instead_stands cfg old new asking server put now saying last head body replied status line said_status s spelled is_told ended shows a = by replied is_told
   where
     in_hand : IsInHand (asker_in asking) new server put (replies s.e head body old.asker.head_asked)
     in_hand = record { answers = a; asked = s.in_hand.asked; bytes = s.in_hand.bytes; ending = ended ∙ s.in_hand.ending; passed = s.in_hand.passed; put_is = s.in_hand.put_is }
@@ -164,15 +165,16 @@ instead_stands cfg old new asking server put now saying last head body replied s
         record {
           head = head;
           body = body;
+          line = line;
           last = ap (λ (b : Bool). ListReplies head body b) s.asks.head_asked;
           left = s.left;
           came = s.came;
           decides = λ rest goes. (let x = s.answers rest goes in record { last = last; head = x.head; reads = x.reads; answers = x.answers; spelled = spelled; told = told_ });
         }
 
-    by : (r : Bool) → ToldIs (meaning_of cfg) (told_when r) now last → StandsAt (place_when r) cfg (asker_in asking) (answering asking.vars) new server put now saying
-    by true told_ = (replies s.e head body old.asker.head_asked, in_hand, shows, instead told.Whole told_)
-    by false told_ = (replies s.e head body old.asker.head_asked, in_hand, shows, instead told.Closes told_)
+    by : (r : Bool) → ToldIs (meaning_of cfg) (told_when r) now last → StandsAt (place_when r) status cfg (asker_in asking) (answering asking.vars) new server put now saying
+    by true told_ = (replies s.e head body old.asker.head_asked, in_hand, record { shows = shows; told = said_status }, instead told.Whole told_)
+    by false told_ = (replies s.e head body old.asker.head_asked, in_hand, record { shows = shows; told = said_status }, instead told.Closes told_)
 
 -- ---- its length
 

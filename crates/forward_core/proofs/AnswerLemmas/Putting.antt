@@ -30,17 +30,17 @@ pub in_hand_puts : (asker : Asker) (old new : ResponseLane) (server : Coming) (p
 in_hand_puts asker old new server put e more t h =
     record { answers = t.answers e h.answers; asked = h.asked; bytes = h.bytes; ending = t.ended ∙ h.ending; passed = h.passed; put_is = ap (λ xs. xs ++ more) h.put_is }
 
-pub puts_at : (at : Place) (cfg : Config) (asker : Asker) (before : Variables) (old new : ResponseLane) (server : Coming) (put : List ℕ) (now : Variables) (saying : Saying) (more : List ℕ) → is_last at ≡ true → Puts old new more
-    → StandsAt at cfg asker before old server put now saying → StandsAt at cfg asker before new server (put ++ more) now saying
-puts_at place.Idle cfg asker before old new server put now saying more last t s = absurd (let both : false ≡ true = last in cc both)
-puts_at place.Heads cfg asker before old new server put now saying more last t s = absurd (let both : false ≡ true = last in cc both)
-puts_at place.Saying cfg asker before old new server put now saying more last t s = absurd (let both : false ≡ true = last in cc both)
-puts_at place.Response cfg asker before old new server put now saying more last t s =
-    (with_put s.0 more, in_hand_puts asker old new server put s.0 more t s.1, t.last s.2, response_of cfg asker before now s.0 (with_put s.0 more) refl refl s.3)
-puts_at place.Closing cfg asker before old new server put now saying more last t s =
-    (with_put s.0 more, in_hand_puts asker old new server put s.0 more t s.1, t.last s.2, instead_of cfg asker before server _ now s.0 (with_put s.0 more) refl refl refl s.3)
-puts_at place.Keeping cfg asker before old new server put now saying more last t s =
-    (with_put s.0 more, in_hand_puts asker old new server put s.0 more t s.1, t.last s.2, instead_of cfg asker before server _ now s.0 (with_put s.0 more) refl refl refl s.3)
+pub puts_at : (at : Place) (status : Option ℕ) (cfg : Config) (asker : Asker) (before : Variables) (old new : ResponseLane) (server : Coming) (put : List ℕ) (now : Variables) (saying : Saying) (more : List ℕ) → is_last at ≡ true → Puts old new more
+    → StandsAt at status cfg asker before old server put now saying → StandsAt at status cfg asker before new server (put ++ more) now saying
+puts_at place.Idle status cfg asker before old new server put now saying more last t s = absurd (let both : false ≡ true = last in cc both)
+puts_at place.Heads status cfg asker before old new server put now saying more last t s = absurd (let both : false ≡ true = last in cc both)
+puts_at place.Saying status cfg asker before old new server put now saying more last t s = absurd (let both : false ≡ true = last in cc both)
+puts_at place.Response status cfg asker before old new server put now saying more last t s =
+    (with_put s.0 more, in_hand_puts asker old new server put s.0 more t s.1, record { shows = t.last s.2.shows; told = s.2.told }, response_of cfg asker before now s.0 (with_put s.0 more) refl refl s.3)
+puts_at place.Closing status cfg asker before old new server put now saying more last t s =
+    (with_put s.0 more, in_hand_puts asker old new server put s.0 more t s.1, record { shows = t.last s.2.shows; told = s.2.told }, instead_of cfg asker before server _ now s.0 (with_put s.0 more) refl refl refl s.3)
+puts_at place.Keeping status cfg asker before old new server put now saying more last t s =
+    (with_put s.0 more, in_hand_puts asker old new server put s.0 more t s.1, record { shows = t.last s.2.shows; told = s.2.told }, instead_of cfg asker before server _ now s.0 (with_put s.0 more) refl refl refl s.3)
 
 pub last_shows : (at : Place) (side : AnswerSide) → is_last at ≡ true → FitsAt at side → shows_last (phase_of side.lane) ≡ true
 last_shows place.Idle side last f = absurd (let both : false ≡ true = last in cc both)

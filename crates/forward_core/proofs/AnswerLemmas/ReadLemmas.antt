@@ -44,8 +44,8 @@ pub record InHeads (cfg : Config) (side : AnswerSide) (asking : Asking Variables
 
 pub in_heads : (cfg : Config) (side : AnswerSide) (asking : Asking Variables) (server : Coming) (put : List ℕ) (now : Variables) (saying : Saying) → side.place ≡ place.Heads → AnswerStands cfg side asking server put now saying → InHeads cfg side asking server put
 in_heads cfg side asking server put now saying heads s =
-    let at : StandsAt place.Heads cfg (asker_in asking) (answering asking.vars) side.lane server put now saying =
-    subst (λ (p : Place). StandsAt p cfg (asker_in asking) (answering asking.vars) side.lane server put now saying) heads s.at in
+    let at : StandsAt place.Heads side.status cfg (asker_in asking) (answering asking.vars) side.lane server put now saying =
+    subst (λ (p : Place). StandsAt p side.status cfg (asker_in asking) (answering asking.vars) side.lane server put now saying) heads s.at in
     record { asks = s.asks; for_it = s.for_it; e = at.0; in_hand = at.1; last = at.2; heard = subst (λ (p : Place). HeardAt side.heard p cfg (asker_in asking) side.lane server) heads s.heard }
 
 pub stands_in : (cfg : Config) (side : AnswerSide) (asking : Asking Variables) (server : Coming) (put : List ℕ) (now : Variables) (saying : Saying) → side.place ≡ place.Heads → side.at_rest ≡ false → InHeads cfg side asking server put → AnswerStands cfg side asking server put now saying
@@ -53,7 +53,7 @@ stands_in cfg side asking server put now saying heads stirs h =
     record {
       asks = h.asks;
       for_it = h.for_it;
-      at = subst (λ (p : Place). StandsAt p cfg (asker_in asking) (answering asking.vars) side.lane server put now saying) (sym heads) (h.e, h.in_hand, h.last);
+      at = subst (λ (p : Place). StandsAt p side.status cfg (asker_in asking) (answering asking.vars) side.lane server put now saying) (sym heads) (h.e, h.in_hand, h.last);
       heard = subst (λ (p : Place). HeardAt side.heard p cfg (asker_in asking) side.lane server) (sym heads) h.heard;
       rests = λ rest. absurd (let both : false ≡ true = sym stirs ∙ rest in cc both);
     }

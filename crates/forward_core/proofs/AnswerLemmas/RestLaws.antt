@@ -90,21 +90,21 @@ answering_done phase.Answering lane e at shows done a = at
 begun_done : (lane : ResponseLane) (e : Exchange) → Laws lane → shows_last (phase_of lane) ≡ true → stage_of lane ≡ stage.Done → Answers lane e → has_begun lane ≡ true
 begun_done lane e laws shows done a = laws.done e a (answering_done lane.phase lane e refl shows done a) done
 
-awaits_at : (at : Place) (cfg : Config) (asker : Asker) (before : Variables) (lane : ResponseLane) (server : Coming) (put : List ℕ) (now : Variables) (saying : Saying) → IsSoundAnswer lane → IsFor cfg lane → Laws lane
-    → is_serving at ≡ true → output_of lane ≡ [] → has_begun lane ≡ false → StandsAt at cfg asker before lane server put now saying → RestsAt at asker.head_asked lane → AwaitsHead cfg asker server put
-awaits_at place.Idle cfg asker before lane server put now saying sound for laws serves none unbegun s rests = absurd (let both : false ≡ true = serves in cc both)
-awaits_at place.Saying cfg asker before lane server put now saying sound for laws serves none unbegun s rests = absurd (let both : false ≡ true = serves in cc both)
-awaits_at place.Heads cfg asker before lane server put now saying sound for laws serves none unbegun s rests = awaits cfg asker lane server put s.0 sound for s.1 (laws.promise s.0 s.1.answers) rests none
-awaits_at place.Response cfg asker before lane server put now saying sound for laws serves none unbegun s rests =
-    let a = answering_at lane.phase lane s.0 _ _ _ _ refl s.2 s.3.last s.1.answers in
+awaits_at : (at : Place) (status : Option ℕ) (cfg : Config) (asker : Asker) (before : Variables) (lane : ResponseLane) (server : Coming) (put : List ℕ) (now : Variables) (saying : Saying) → IsSoundAnswer lane → IsFor cfg lane → Laws lane
+    → is_serving at ≡ true → output_of lane ≡ [] → has_begun lane ≡ false → StandsAt at status cfg asker before lane server put now saying → RestsAt at asker.head_asked lane → AwaitsHead cfg asker server put
+awaits_at place.Idle status cfg asker before lane server put now saying sound for laws serves none unbegun s rests = absurd (let both : false ≡ true = serves in cc both)
+awaits_at place.Saying status cfg asker before lane server put now saying sound for laws serves none unbegun s rests = absurd (let both : false ≡ true = serves in cc both)
+awaits_at place.Heads status cfg asker before lane server put now saying sound for laws serves none unbegun s rests = awaits cfg asker lane server put s.0 sound for s.1 (laws.promise s.0 s.1.answers) rests none
+awaits_at place.Response status cfg asker before lane server put now saying sound for laws serves none unbegun s rests =
+    let a = answering_at lane.phase lane s.0 _ _ _ _ refl s.2.shows s.3.last s.1.answers in
     begun_not (has_begun lane) (begun_by (source_of lane) lane s.0 laws a.0 s.1.answers (rests none)) unbegun
-awaits_at place.Closing cfg asker before lane server put now saying sound for laws serves none unbegun s rests = begun_not (has_begun lane) (begun_done lane s.0 laws s.2 (rests none) s.1.answers) unbegun
-awaits_at place.Keeping cfg asker before lane server put now saying sound for laws serves none unbegun s rests = begun_not (has_begun lane) (begun_done lane s.0 laws s.2 (rests none) s.1.answers) unbegun
+awaits_at place.Closing status cfg asker before lane server put now saying sound for laws serves none unbegun s rests = begun_not (has_begun lane) (begun_done lane s.0 laws s.2.shows (rests none) s.1.answers) unbegun
+awaits_at place.Keeping status cfg asker before lane server put now saying sound for laws serves none unbegun s rests = begun_not (has_begun lane) (begun_done lane s.0 laws s.2.shows (rests none) s.1.answers) unbegun
 
 pub begun_or_waits : (cfg : Config) (side : AnswerSide) (asking : Asking Variables) (server : Coming) (put : List ℕ) (now : Variables) (saying : Saying) → Laws side.lane → IsSoundAnswer side.lane → AnswerStands cfg side asking server put now saying
     → is_serving side.place ≡ true → side.at_rest ≡ true → output_of side.lane ≡ [] → has_begun side.lane ≡ false → AwaitsHead cfg (asker_in asking) server put
 begun_or_waits cfg side asking server put now saying laws sound s serves rest none unbegun =
-    awaits_at side.place cfg (asker_in asking) (answering asking.vars) side.lane server put now saying sound s.for_it laws serves none unbegun s.at (s.rests rest)
+    awaits_at side.place side.status cfg (asker_in asking) (answering asking.vars) side.lane server put now saying sound s.for_it laws serves none unbegun s.at (s.rests rest)
 
 -- ---- when it has begun
 
@@ -216,9 +216,9 @@ pub body_put_out : (cfg : Config) (side : AnswerSide) (asking : Asking Variables
 body_put_out cfg side asking server put now saying law s response going rest none =
     let asker : Asker = asker_in asking in
     let lane : ResponseLane = side.lane in
-    let at : StandsAt place.Response cfg asker (answering asking.vars) lane server put now saying = subst (λ (p : Place). StandsAt p cfg asker (answering asking.vars) lane server put now saying) response s.at in
+    let at : StandsAt place.Response side.status cfg asker (answering asking.vars) lane server put now saying = subst (λ (p : Place). StandsAt p side.status cfg asker (answering asking.vars) lane server put now saying) response s.at in
     let rests : RestsAt place.Response asker.head_asked lane = subst (λ (p : Place). RestsAt p asker.head_asked lane) response (s.rests rest) in
     let goes : source_of lane ≡ source.Going = is_going (source_of lane) (sym (ap (λ (p : Place). told_at p (source_of lane)) response) ∙ going) in
     let out : IsPutOut source.Going lane = subst (λ (src : Source). IsPutOut src lane) goes (rests none) in
-    let a = answering_at lane.phase lane at.0 _ _ _ _ refl at.2 at.3.last at.1.answers in
+    let a = answering_at lane.phase lane at.0 _ _ _ _ refl at.2.shows at.3.last at.1.answers in
     puts_out cfg asker (answering asking.vars) lane server put now at.0 s.for_it at.1 at.3 (law at.0 _ _ _ _ at.1.answers a.0 at.3.last goes out)

@@ -1,5 +1,5 @@
 -- The last that answers, at rest.
-use Rattle.std.proofs.Common.{◌≡◌, ◌≢◌, ◌⊎◌, inl, inr, ℕ, List, [], true, false, refl, sym, ap, ◌∙◌, length, arith}
+use Rattle.std.proofs.Common.{◌≡◌, ◌≢◌, ◌⊎◌, inl, inr, ℕ, List, [], Option, true, false, refl, sym, ap, ◌∙◌, length, arith}
 use Rattle.px_sample.specs.Variables.{Variables}
 use Rattle.http_rules.specs.declared.config.Config.{Config}
 use Rattle.session_model.specs.Asking.{Asker}
@@ -37,13 +37,13 @@ whole_done lane whole at goes none = done_by lane (λ going. (let both : source.
 
 -- a step of the last that answers leaves nothing undone
 pub last_rests : (at : Place) (side : AnswerSide) (cfg : Config) (asker : Asker) (before : Variables) (server : Coming) (put : List ℕ) (now : Variables) (saying : Saying) → is_last at ≡ true → FitsAt at side
-    → StandsAt at cfg asker before side.lane server put now saying → (stage_of side.lane ≡ stage.Sending) ⊎ (stage_of side.lane ≡ stage.Done) → (stage_of side.lane ≡ stage.Sending → MayGoOn side.lane)
+    → StandsAt at side.status cfg asker before side.lane server put now saying → (stage_of side.lane ≡ stage.Sending) ⊎ (stage_of side.lane ≡ stage.Done) → (stage_of side.lane ≡ stage.Sending → MayGoOn side.lane)
     → (phase_of side.lane ≡ phase.Answering → output_of side.lane ≡ [] → HoldsNothingBack side.lane) → RestsAt at asker.head_asked side.lane
 last_rests place.Idle side cfg asker before server put now saying last f s at goes back = absurd (let both : false ≡ true = last in cc both)
 last_rests place.Heads side cfg asker before server put now saying last f s at goes back = absurd (let both : false ≡ true = last in cc both)
 last_rests place.Saying side cfg asker before server put now saying last f s at goes back = absurd (let both : false ≡ true = last in cc both)
 last_rests place.Response side cfg asker before server put now saying last f s at goes back = λ none.
-    let a = answering_at side.lane.phase side.lane s.0 _ _ _ _ refl s.2 s.3.last s.1.answers in
+    let a = answering_at side.lane.phase side.lane s.0 _ _ _ _ refl s.2.shows s.3.last s.1.answers in
     put_out_by (source_of side.lane) side.lane refl at goes (back a.0 none) none
 last_rests place.Closing side cfg asker before server put now saying last f s at goes back = λ none. whole_done side.lane f.1 at goes none
 last_rests place.Keeping side cfg asker before server put now saying last f s at goes back = λ none. whole_done side.lane f.1 at goes none
@@ -54,13 +54,13 @@ put_out_done source.Whole lane off done = done
 put_out_done (source.Cut code) lane off done = done
 
 -- and so it is where all was put out before
-pub done_rests : (at : Place) (cfg : Config) (asker : Asker) (before : Variables) (lane : ResponseLane) (server : Coming) (put : List ℕ) (now : Variables) (saying : Saying) → is_last at ≡ true → stage_of lane ≡ stage.Done
-    → StandsAt at cfg asker before lane server put now saying → RestsAt at asker.head_asked lane
-done_rests place.Idle cfg asker before lane server put now saying last done s = absurd (let both : false ≡ true = last in cc both)
-done_rests place.Heads cfg asker before lane server put now saying last done s = absurd (let both : false ≡ true = last in cc both)
-done_rests place.Saying cfg asker before lane server put now saying last done s = absurd (let both : false ≡ true = last in cc both)
-done_rests place.Response cfg asker before lane server put now saying last done s = λ none.
-    let a = answering_at lane.phase lane s.0 _ _ _ _ refl s.2 s.3.last s.1.answers in
+pub done_rests : (at : Place) (status : Option ℕ) (cfg : Config) (asker : Asker) (before : Variables) (lane : ResponseLane) (server : Coming) (put : List ℕ) (now : Variables) (saying : Saying) → is_last at ≡ true → stage_of lane ≡ stage.Done
+    → StandsAt at status cfg asker before lane server put now saying → RestsAt at asker.head_asked lane
+done_rests place.Idle status cfg asker before lane server put now saying last done s = absurd (let both : false ≡ true = last in cc both)
+done_rests place.Heads status cfg asker before lane server put now saying last done s = absurd (let both : false ≡ true = last in cc both)
+done_rests place.Saying status cfg asker before lane server put now saying last done s = absurd (let both : false ≡ true = last in cc both)
+done_rests place.Response status cfg asker before lane server put now saying last done s = λ none.
+    let a = answering_at lane.phase lane s.0 _ _ _ _ refl s.2.shows s.3.last s.1.answers in
     put_out_done (source_of lane) lane (a.1.stands.done done) done
-done_rests place.Closing cfg asker before lane server put now saying last done s = λ none. done
-done_rests place.Keeping cfg asker before lane server put now saying last done s = λ none. done
+done_rests place.Closing status cfg asker before lane server put now saying last done s = λ none. done
+done_rests place.Keeping status cfg asker before lane server put now saying last done s = λ none. done

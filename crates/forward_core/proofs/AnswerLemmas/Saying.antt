@@ -18,6 +18,7 @@ use Rattle.lane.specs.declared.phase.Phase.{Phase}
 use Rattle.lane.specs.declared.phase.Phase.TheVariants as phase
 use Rattle.lane.specs.declared.response_lane.ResponseLane.{ResponseLane}
 use Rattle.forward_core.specs.Answer.Seen.{is_done, answered_at}
+use Rattle.forward_core.specs.Answer.Status.{is_status_line, line_status, last_status}
 use Rattle.forward_core.specs.Answer.Stands.{IsInHand, IsSaid, BeginsSo, IsUnanswered, list_text}
 use Rattle.forward_core.specs.declared.answer.place.Place.{Place}
 use Rattle.forward_core.specs.declared.answer.place.Place.TheVariants as place
@@ -25,12 +26,13 @@ use Rattle.forward_core.proofs.AnswerLemmas.Texts.{list_goes}
 use Rattle.forward_core.proofs.AnswerLemmas.Bodies.{done_is}
 
 -- a list that is said where nothing was put out
-pub said_at : (e : Exchange) (head : Head) (body : List ℕ) (no_body : Bool) → IsUnanswered e → IsSaid (unsaid (list_text no_body head body)) (replies e head body no_body)
-said_at e head body no_body u =
+pub said_at : (e : Exchange) (head : Head) (body : List ℕ) (no_body : Bool) → is_status_line head.line ≡ true → IsUnanswered e → IsSaid (unsaid (list_text no_body head body)) (replies e head body no_body)
+said_at e head body no_body line u =
     record {
       head = head;
       body = body;
       no_body = no_body;
+      line = line;
       last = refl;
       text = refl;
       said = ap (λ xs. xs ++ list_text no_body head body) u.put ∙ sym (ap (λ hs. Rattle.lane.specs.Answering.interim_text hs ++ list_text no_body head body) u.passed);
@@ -50,7 +52,7 @@ says new e saying put shows a promise s =
     record {
       left = g.left;
       said = append_cancel_left e.put saying.left (put ++ g.left) both;
-      is_said = record { head = s.head; body = s.body; no_body = s.no_body; last = s.last; text = s.text; said = g.said };
+      is_said = record { head = s.head; body = s.body; no_body = s.no_body; line = s.line; last = s.last; text = s.text; said = g.said };
       all = λ done. g.sent (done_is (stage_of new) done);
     }
 
@@ -119,20 +121,22 @@ pub record Turned (cfg : Config) (asker : Asker) (server : Coming) (put : List �
   pub e : Exchange
   pub answers : Answers new e
   pub left : List ℕ
+  pub last : last_status e.last ≡ line_status head.line
   pub is_said : IsSaid (record { text = list_text asker.head_asked head body; left = left }) e
   pub heads : List Head
   pub said : put ++ left ≡ interim_text (sent_interim asker heads) ++ list_text asker.head_asked head body
   pub begins : BeginsAlways (meaning_of cfg) asker server heads
 
-pub turned : (cfg : Config) (asker : Asker) (lane new : ResponseLane) (server : Coming) (put : List ℕ) (e : Exchange) (head : Head) (body : List ℕ) (no_body : Bool) → no_body ≡ asker.head_asked → IsInHand asker lane server put e → shows_last (phase_of new) ≡ true
+pub turned : (cfg : Config) (asker : Asker) (lane new : ResponseLane) (server : Coming) (put : List ℕ) (e : Exchange) (head : Head) (body : List ℕ) (no_body : Bool) → is_status_line head.line ≡ true → no_body ≡ asker.head_asked → IsInHand asker lane server put e → shows_last (phase_of new) ≡ true
     → Answers new (replies e head body no_body) → AnswerPromise new (replies e head body no_body) → BeginsAlways (meaning_of cfg) asker server e.read → Turned cfg asker server put new head body
-turned cfg asker lane new server put e head body no_body is h shows a promise begins =
+turned cfg asker lane new server put e head body no_body line is h shows a promise begins =
     let g = list_goes new (replies e head body no_body) head body no_body shows refl a promise in
     record {
       e = replies e head body no_body;
       answers = a;
       left = g.left;
-      is_said = record { head = head; body = body; no_body = no_body; last = refl; text = ap (λ (b : Bool). list_text b head body) (sym is); said = g.said };
+      last = refl;
+      is_said = record { head = head; body = body; no_body = no_body; line = line; last = refl; text = ap (λ (b : Bool). list_text b head body) (sym is); said = g.said };
       heads = e.read;
       said = ap (λ xs. xs ++ g.left) (sym h.put_is) ∙ g.said ∙ ap (λ hs. interim_text hs ++ list_text no_body head body) h.passed
           ∙ ap (λ (b : Bool). interim_text (sent_interim asker e.read) ++ list_text b head body) is;

@@ -36,6 +36,7 @@ use Rattle.http_model.specs.Spelling.{SpellsBody}
 use Rattle.http_rules.specs.declared.action.side.Side.TheVariants.{Answer}
 use Rattle.http_rules.specs.declared.verdict.Verdict.{Verdict as Told}
 use Rattle.lane.specs.Answering.{blocks_of}
+use Rattle.forward_core.specs.Answer.Status.{is_status_line}
 use Rattle.forward_core.specs.Answer.Listed.{IsListed, IsSentAsItIs}
 use Rattle.forward_core.proofs.AnswerLemmas.SettleLemmas.{settles_head}
 
@@ -203,5 +204,5 @@ as_it_is (framing.Length n) body trailers off spells = tt
 as_it_is framing.ToClose body trailers off spells = tt
 as_it_is framing.Chunked body trailers off spells = absurd (off refl)
 
-pub listed_by : (m : Message) → m.trailers ≡ [] → m.framing ≢ framing.Chunked → SpellsBody true m.framing m.body m.trailers m.body → IsListed m
-listed_by m none off spells = record { trailers = none; framed = as_it_is m.framing m.body m.trailers off spells }
+pub listed_by : (m : Message) → is_status_line m.head.line ≡ true → m.trailers ≡ [] → m.framing ≢ framing.Chunked → SpellsBody true m.framing m.body m.trailers m.body → IsListed m
+listed_by m line none off spells = record { line = line; trailers = none; framed = as_it_is m.framing m.body m.trailers off spells }

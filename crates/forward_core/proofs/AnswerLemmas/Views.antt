@@ -14,8 +14,8 @@ use Rattle.forward_core.specs.declared.answer.place.Place.TheVariants as place
 use Rattle.forward_core.specs.declared.answer.side.AnswerSide.{AnswerSide}
 use Rattle.forward_core.proofs.AnswerLemmas.Bodies.{done_is}
 
-pub seen_same : (a b : AnswerSeen) → a.is_open ≡ b.is_open → a.room ≡ b.room → a.window ≡ b.window → a.told ≡ b.told → a.answered ≡ b.answered → a.begun ≡ b.begun → a.heard ≡ b.heard → a.at_rest ≡ b.at_rest → a ≡ b
-seen_same a b is_open room window told answered begun heard at_rest = λ i. record {
+pub seen_same : (a b : AnswerSeen) → a.is_open ≡ b.is_open → a.room ≡ b.room → a.window ≡ b.window → a.told ≡ b.told → a.answered ≡ b.answered → a.begun ≡ b.begun → a.heard ≡ b.heard → a.status ≡ b.status → a.at_rest ≡ b.at_rest → a ≡ b
+seen_same a b is_open room window told answered begun heard status at_rest = λ i. record {
   is_open = is_open i;
   room = room i;
   window = window i;
@@ -23,6 +23,7 @@ seen_same a b is_open room window told answered begun heard at_rest = λ i. reco
   answered = answered i;
   begun = begun i;
   heard = heard i;
+  status = status i;
   at_rest = at_rest i;
 }
 

@@ -122,7 +122,7 @@ kept_short keep fs =
 -- ---- a response
 
 -- what is kept where no row refuses
-kept_where_decided : (refusal : Option HeadWhy) (framed : Framing) (limits : Limits) (line : StartLine) (fields : List Field) (got : Received) → decided refusal framed limits line fields ≡ Ok got → kept_reading line framed fields ≡ got
+pub kept_where_decided : (refusal : Option HeadWhy) (framed : Framing) (limits : Limits) (line : StartLine) (fields : List Field) (got : Received) → decided refusal framed limits line fields ≡ Ok got → kept_reading line framed fields ≡ got
 unfolding decided
 kept_where_decided None framed limits line fields got e = by_weight _ (kept_reading line framed fields) got e
   where

@@ -75,7 +75,7 @@ idle_past : (cfg : Config) (d : Directions) (r : RequestSide) (p : Sided (meanin
 idle_past cfg d r p idle s request =
     record {
       config = s.config;
-      total = s.total;
+      laws = s.laws;
       request = request;
       answer = s.answer;
       vars = subst (λ (x : Read). Holds x (answers.place_of d.answer) d.rules.vars p.vars p.asking.vars p.now) (sym idle) tt;
@@ -109,7 +109,7 @@ refused_leads d r new code was tells refuses cfg p s =
     let held : d.rules.vars ≡ p.vars = subst (λ (x : Read). Holds x (answers.place_of d.answer) d.rules.vars p.vars p.asking.vars p.now) was.is_at.stand.0 s.vars in
     asks_refusal cfg (record d { request = r }) new p code [] [] p.vars false false
     (let still : RequestStands cfg r p.vars p.came p.asking p.to_server p.reply = tells.leads cfg p.vars p.came p.asking p.to_server p.reply s.request in
-    record { config = s.config; total = s.total; is_for = still.is_for; ending = still.ending; line = shown_idle (requests.place_of r) cfg p.came (requests.line_of r) tells.place still.line; answer = s.answer })
+    record { config = s.config; laws = s.laws; is_for = still.is_for; ending = still.ending; line = shown_idle (requests.place_of r) cfg p.came (requests.line_of r) tells.place still.line; answer = s.answer })
     tells.place refuses refl held refl (tells.asks cfg p.vars p.came p.asking p.to_server p.reply s.request)
 
 pub asks_refused : (d : Directions) (r : RequestSide) (new : Directions) (code : ℕ) → Placed d at.Reads → requests.is_open r ≡ requests.is_open d.request → requests.window_of r ≡ requests.window_of d.request
@@ -142,7 +142,7 @@ head_leads d r new asks was tells behind cfg p s =
     let comes : HeadComes d.request r = tells in
     behind.leads cfg p comes.received (record {
       config = s.config;
-      total = s.total;
+      laws = s.laws;
       read = comes.came cfg p.vars p.came p.asking p.to_server p.reply s.request;
       answer = s.answer;
       holds = comes.holds;

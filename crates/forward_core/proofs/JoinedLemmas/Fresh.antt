@@ -9,7 +9,6 @@ use Rattle.http_rules.specs.declared.config.Config.{Config}
 use Rattle.http_rules.specs.Lives.{answering}
 use Rattle.forward_core.specs.Meaning.Product.{meaning_of}
 use Rattle.forward_core.specs.Meaning.Beginning.{beginning}
-use Rattle.session_core.specs.Consequences.{IsTotal}
 use Rattle.session_core.specs.History.{Coming, no_stream}
 use Rattle.session_core.specs.Place as at
 use Rattle.session_core.specs.Sided.{Sided, Asking, Reply, Saying, asker_in, unsaid}
@@ -29,7 +28,7 @@ use Rattle.forward_core.specs.Answer.Stands.{StandsAt as AnswerAt}
 use Rattle.forward_core.specs.declared.answer.place.Place.{Place as Answered}
 use Rattle.forward_core.specs.declared.answer.place.Place.TheVariants as answered
 use Rattle.forward_core.specs.declared.answer.asker.Asker.{Asker}
-use Rattle.forward_core.specs.Joined.Joined.{IsAt, Holds, KeepsMethod, DirectionsStand, settings_of, request_of, answer_of}
+use Rattle.forward_core.specs.Joined.Joined.{IsAt, Holds, KeepsMethod, DirectionsStand, settings_of, request_of, answer_of, IsLawful}
 use Rattle.forward_core.specs.declared.joined.directions.Directions.{Directions}
 
 abbrev pub no_head : Head
@@ -55,28 +54,28 @@ asked_nothing : (seen : Asker) → seen ≡ answers.nobody → IsAsker seen (ask
 asked_nothing seen h = record { head_asked = ap (λ (a : Asker). a.head_asked) h; is_http_11 = ap (λ (a : Asker). a.is_http_11) h; keep = ap (λ (a : Asker). a.keep) h }
 
 -- new directions stand for nothing
-pub fresh_stand : (cfg : Config) (d : Directions) → settings_of d ≡ cfg → IsTotal (meaning_of cfg) → d.rules.vars ≡ beginning cfg.peer → requests.place_of d.request ≡ asked.Reading
+pub fresh_stand : (cfg : Config) (d : Directions) → settings_of d ≡ cfg → IsLawful cfg → d.rules.vars ≡ beginning cfg.peer → requests.place_of d.request ≡ asked.Reading
     → RequestStands cfg d.request (beginning cfg.peer) no_stream no_asking [] no_reply
     → (IsAsker (answers.asker_of d.answer) (asker_in no_asking) → AnswerStands cfg d.answer no_asking no_stream [] no_variables (unsaid []))
     → answers.asker_of d.answer ≡ answers.nobody
     → DirectionsStand cfg d (no_past cfg)
-fresh_stand cfg d config total vars reads request answer nobody =
+fresh_stand cfg d config laws vars reads request answer nobody =
     record {
       config = config;
-      total = total;
+      laws = laws;
       request = request;
       answer = answer (asked_nothing (answers.asker_of d.answer) nobody);
       vars = subst (λ (x : Asked). Holds x (answers.place_of d.answer) d.rules.vars (beginning cfg.peer) no_asking.vars no_variables) (sym reads) vars;
       method = subst (λ (x : Asked). KeepsMethod x d.method.bytes (asker_in no_asking).method) (sym reads) tt;
     }
 
-pub fresh_new : (cfg : Config) (d : Directions) (r : RequestSide) (a : AnswerSide) → d.request ≡ r → d.answer ≡ a → settings_of d ≡ cfg → IsTotal (meaning_of cfg) → d.rules.vars ≡ beginning cfg.peer
+pub fresh_new : (cfg : Config) (d : Directions) (r : RequestSide) (a : AnswerSide) → d.request ≡ r → d.answer ≡ a → settings_of d ≡ cfg → IsLawful cfg → d.rules.vars ≡ beginning cfg.peer
     → requests.place_of r ≡ asked.Reading → RequestStands cfg r (beginning cfg.peer) no_stream no_asking [] no_reply
     → (IsAsker (answers.asker_of a) (asker_in no_asking) → AnswerStands cfg a no_asking no_stream [] no_variables (unsaid []))
     → answers.asker_of a ≡ answers.nobody
     → DirectionsStand cfg d (no_past cfg)
-fresh_new cfg d r a is_r is_a config total vars reads request answer nobody =
-    fresh_stand cfg d config total vars (ap (λ (x : RequestSide). requests.place_of x) is_r ∙ reads)
+fresh_new cfg d r a is_r is_a config laws vars reads request answer nobody =
+    fresh_stand cfg d config laws vars (ap (λ (x : RequestSide). requests.place_of x) is_r ∙ reads)
     (subst (λ (x : RequestSide). RequestStands cfg x (beginning cfg.peer) no_stream no_asking [] no_reply) (sym is_r) request)
     (subst (λ (x : AnswerSide). IsAsker (answers.asker_of x) (asker_in no_asking) → AnswerStands cfg x no_asking no_stream [] no_variables (unsaid [])) (sym is_a) answer)
     (subst (λ (x : AnswerSide). answers.asker_of x ≡ answers.nobody) (sym is_a) nobody)
@@ -128,8 +127,8 @@ answer_for cfg peer a asking server put now saying sound idle s =
     record {
       asks = s.asks;
       for_it = record { limits = s.for_it.limits; filters = s.for_it.filters };
-      at = subst (λ (x : Answered). AnswerAt x (record cfg { peer = peer }) (asker_in asking) (answering asking.vars) a.lane server put now saying) (sym idle)
-          (subst (λ (x : Answered). AnswerAt x cfg (asker_in asking) (answering asking.vars) a.lane server put now saying) idle s.at);
+      at = subst (λ (x : Answered). AnswerAt x a.status (record cfg { peer = peer }) (asker_in asking) (answering asking.vars) a.lane server put now saying) (sym idle)
+          (subst (λ (x : Answered). AnswerAt x a.status cfg (asker_in asking) (answering asking.vars) a.lane server put now saying) idle s.at);
       heard = subst (λ (h : Bool). HeardAt h a.place (record cfg { peer = peer }) (asker_in asking) a.lane server) (sym fits.2)
           (subst (λ (x : Answered). HeardAt false x (record cfg { peer = peer }) (asker_in asking) a.lane server) (sym idle) tt);
       rests = s.rests;

@@ -69,7 +69,7 @@ pub stands_request : (cfg : Config) (d : Directions) (r : RequestSide) (p : Side
 stands_request cfg d r p came to_server place s stands =
     record {
       config = s.config;
-      total = s.total;
+      laws = s.laws;
       request = stands;
       answer = s.answer;
       vars = subst (λ (x : Asked). Holds x (answers.place_of d.answer) d.rules.vars p.vars p.asking.vars p.now) (sym place) s.vars;
@@ -83,7 +83,7 @@ pub stands_answer : (cfg : Config) (d : Directions) (a : AnswerSide) (p : Sided 
 stands_answer cfg d a p server to_client saying place s stands =
     record {
       config = s.config;
-      total = s.total;
+      laws = s.laws;
       request = s.request;
       answer = stands;
       vars = subst (λ (x : Answered). Holds (requests.place_of d.request) x d.rules.vars p.vars p.asking.vars p.now) (sym place) s.vars;

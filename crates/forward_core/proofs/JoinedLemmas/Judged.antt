@@ -83,7 +83,7 @@ ruled_by : (d : Directions) (r : RequestSide) (rules : SessionRules) (method : B
 ruled_by d r rules method verdict edits config asks runs cfg p received kept came is_kept =
     record {
       config = config ∙ came.config;
-      total = came.total;
+      laws = came.laws;
       read = edits.came cfg p.came received came.read;
       answer = came.answer;
       kept_is = is_kept;

@@ -10,7 +10,6 @@ use Rattle.session_model.specs.Stream.{Stream}
 use Rattle.session_model.specs.Env.{request_env}
 use Rattle.session_model.specs.Meaning.{is_head_request}
 use Rattle.session_model.specs.Asking.{Asks, Refused, asked_by}
-use Rattle.session_core.specs.Consequences.{IsTotal}
 use Rattle.session_core.specs.History.{Coming, Continues}
 use Rattle.session_core.specs.Sided.{Sided, Asking, Reply, asker_in, unsaid}
 use Rattle.session_core.specs.Leads.{AsksRefusal}
@@ -29,7 +28,7 @@ use Rattle.forward_core.specs.Answer.Seen as answers
 use Rattle.forward_core.specs.Answer.Stands.{IsSoundSide, AnswerStands}
 use Rattle.forward_core.specs.declared.answer.place.Place.TheVariants as answered
 use Rattle.forward_core.specs.declared.answer.side.AnswerSide.{AnswerSide}
-use Rattle.forward_core.specs.Joined.Joined.{IsSoundPair, Holds, KeepsMethod, DirectionsStand, settings_of}
+use Rattle.forward_core.specs.Joined.Joined.{IsSoundPair, Holds, KeepsMethod, DirectionsStand, settings_of, IsLawful}
 use Rattle.forward_core.specs.Joined.Asks.{SaysText, SaysRefusal, IsSilent, Ruled, RefusesSo, GoesOn}
 use Rattle.forward_core.specs.declared.joined.directions.Directions.{Directions}
 use Rattle.forward_core.proofs.JoinedLemmas.AskLemmas.{asks_always}
@@ -50,7 +49,7 @@ idle_stands cfg side vars came asking to_server reply idle is_for ending line =
 -- the directions stand so for this past
 pub record Stills (cfg : Config) (d : Directions) (p : Sided (meaning_of cfg)) : Type 0 where
   pub config : settings_of d ≡ cfg
-  pub total : IsTotal (meaning_of cfg)
+  pub laws : IsLawful cfg
   pub is_for : IsFor cfg d.request.lane
   pub ending : p.came.ending ≡ d.request.lane.ended
   pub line : ShowsLine (meaning_of cfg) p.came (requests.line_of d.request)
@@ -63,7 +62,7 @@ text_stands cfg old new p text s idle request config says =
     let still : requests.place_of new.request ≡ asked.Idle = ap (λ (x : RequestSide). requests.place_of x) request ∙ idle in
     record {
       config = config ∙ s.config;
-      total = s.total;
+      laws = s.laws;
       request = idle_stands cfg new.request p.vars p.came p.asking p.to_server p.reply still (subst (λ (x : RequestSide). IsFor cfg x.lane) (sym request) s.is_for)
           (subst (λ (x : RequestSide). p.came.ending ≡ x.lane.ended) (sym request) s.ending) (subst (λ (x : RequestSide). ShowsLine (meaning_of cfg) p.came (requests.line_of x)) (sym request) s.line);
       answer = says p.asking p.server p.to_client p.now p.saying s.answer;
@@ -101,7 +100,7 @@ asks_refusal cfg old new p code method other vars no_body alone s idle r f g h a
 pub ruled_still : (cfg : Config) (d : Directions) (p : Sided (meaning_of cfg)) (received : Received) (kept : Kept) (verdict : Verdict) → Ruled cfg d p received kept verdict → Stills cfg d p
 ruled_still cfg d p received kept verdict r = record {
   config = r.config;
-  total = r.total;
+  laws = r.laws;
   is_for = r.read.is_for;
   ending = ap (λ (x : Coming). x.ending) r.read.head.came_is;
   line = inr r.read.line;

@@ -19,7 +19,6 @@ use Rattle.forward_core.specs.Meaning.Product.{meaning_of}
 use Rattle.session_model.specs.Env.{Verdict, Reply, request_env, method_in}
 use Rattle.session_model.specs.Meaning.{Meaning, is_head_request, is_bodiless, keeps}
 use Rattle.session_model.specs.Asking.{asked_by}
-use Rattle.session_core.specs.Consequences.{IsTotal}
 use Rattle.session_core.specs.History.{Coming}
 use Rattle.session_core.specs.Sided.{Sided, Asking, asker_in, replied_to, Saying, unsaid}
 use Rattle.session_core.specs.Sided as sided
@@ -35,13 +34,14 @@ use Rattle.forward_core.specs.Request.Stands.{IsSound, RequestStands, left_of}
 use Rattle.forward_core.specs.declared.request.place.Place.{Place as Asked}
 use Rattle.forward_core.specs.declared.request.place.Place.TheVariants as asked
 use Rattle.forward_core.specs.declared.request.side.RequestSide.{RequestSide}
+use Rattle.forward_core.proofs.AnswerLemmas.Lines.{replied_line}
 use Rattle.forward_core.specs.Answer.Listed.{IsListed, IsSentAsItIs}
 use Rattle.forward_core.specs.Answer.Seen as answers
 use Rattle.forward_core.specs.Answer.Stands.{AnswerStands, StandsAt}
 use Rattle.forward_core.specs.declared.answer.place.Place.{Place as Answered}
 use Rattle.forward_core.specs.declared.answer.place.Place.TheVariants as answered
 use Rattle.forward_core.specs.declared.answer.side.AnswerSide.{AnswerSide}
-use Rattle.forward_core.specs.Joined.Joined.{Holds, KeepsMethod, DirectionsStand, settings_of}
+use Rattle.forward_core.specs.Joined.Joined.{Holds, KeepsMethod, DirectionsStand, settings_of, IsLawful}
 use Rattle.forward_core.specs.Joined.Asks.{SaysReply, HasRead, Ruled, GoesOn, AsksOn}
 use Rattle.forward_core.specs.declared.joined.directions.Directions.{Directions}
 use Rattle.forward_core.proofs.JoinedLemmas.AskLemmas.{asks_behind}
@@ -67,6 +67,7 @@ sent_as_it_is framed.ToClose body trailers other h = tt
 pub reply_listed : (cfg : Config) (env left : Env) (m : Message) → ArePlain → AreRules directions.Request cfg.request → (meaning_of cfg).request_rules env ≡ Reply m left → IsListed m
 reply_listed cfg env left m plain good is =
     record {
+      line = replied_line cfg.limits.bufsize cfg.request env left m is;
       trailers = plain.trailers cfg.limits.bufsize cfg.request env left m is;
       framed = sent_as_it_is m.framing m.body m.trailers (plain.framing cfg.limits.bufsize cfg.request env left m is)
           (plain.body cfg.limits.bufsize directions.Request cfg.request env left m good is);
@@ -83,8 +84,8 @@ any_now cfg side asking server put now other saying idle s =
       for_it = s.for_it;
       heard = s.heard;
       rests = s.rests;
-      at = subst (λ (x : Answered). StandsAt x cfg (asker_in asking) (answering asking.vars) side.lane server put other saying) (sym idle)
-          (subst (λ (x : Answered). StandsAt x cfg (asker_in asking) (answering asking.vars) side.lane server put now saying) idle s.at);
+      at = subst (λ (x : Answered). StandsAt x side.status cfg (asker_in asking) (answering asking.vars) side.lane server put other saying) (sym idle)
+          (subst (λ (x : Answered). StandsAt x side.status cfg (asker_in asking) (answering asking.vars) side.lane server put now saying) idle s.at);
     }
 
 reply_at : (cfg now : Config) (old new : AnswerSide) (m : Message) (method other : List ℕ) (vars held behind : Variables) (no_body alone keep goes kept : Bool) → cfg ≡ now → method ≡ other → vars ≡ held → no_body ≡ alone → keep ≡ goes
@@ -103,13 +104,13 @@ SaysEach d a rules method no_body keep kept =
 
 -- how the directions stand behind it
 replied_stands : (cfg : Config) (d : Directions) (a : AnswerSide) (rules : SessionRules) (r : RequestSide) (p : Sided (meaning_of cfg)) (reply : sided.Reply Variables) (text : List ℕ)
-    → settings_of d ≡ cfg → config_of rules ≡ config_of d.rules → IsTotal (meaning_of cfg) → requests.place_of r ≡ asked.Replied
+    → settings_of d ≡ cfg → config_of rules ≡ config_of d.rules → IsLawful cfg → requests.place_of r ≡ asked.Replied
     → RequestStands cfg r p.vars p.came p.asking p.to_server reply → AnswerStands cfg a p.asking p.server p.to_client rules.vars (unsaid text)
     → DirectionsStand cfg (record d { answer = a; rules = rules; request = r }) (record p { reply = reply; now = rules.vars; saying = unsaid text })
-replied_stands cfg d a rules r p reply text config same total place request answer =
+replied_stands cfg d a rules r p reply text config same laws place request answer =
     record {
       config = same ∙ config;
-      total = total;
+      laws = laws;
       request = request;
       answer = answer;
       vars = subst (λ (x : Asked). Holds x (answers.place_of a) rules.vars p.vars p.asking.vars rules.vars) (sym place) refl;
@@ -139,7 +140,7 @@ asks_reply cfg d a rules r p received kept keep going plain read ruled keep_is s
       text = said.text;
       spelled = said.spelled;
       behind = said.behind;
-      stands = replied_stands cfg d a rules r p reply said.text ruled.config same ruled.total place
+      stands = replied_stands cfg d a rules r p reply said.text ruled.config same ruled.laws place
           (replies cfg p.vars p.came received x.message x.left p.asking p.to_server ruled.read x.is)
           (said.says p.asking p.server p.to_client rules.vars p.saying (any_now cfg d.answer p.asking p.server p.to_client p.now rules.vars p.saying read.still.silent ruled.answer));
       asks = asks_behind M p.vars p.came received ruled.read.used (left_of d.request) ruled.read.head (λ rest. replied_to reply rest)

@@ -130,7 +130,7 @@ stand_sending cfg old mid new p received kept framing x r f s request =
     let rules : new.rules ≡ old.rules = s.rules ∙ f.rules in
     record {
       config = ap (λ (y : SessionRules). config_of y) rules ∙ r.config;
-      total = r.total;
+      laws = r.laws;
       request = request;
       answer = s.knows cfg p.asking asking p.server p.to_client p.now p.saying
           (subst (λ (y : AnswerSide). AnswerStands cfg y p.asking p.server p.to_client p.now p.saying) (sym f.answer) r.answer) (kept_asker received kept x.left.head x.left.vars r.kept_is);

@@ -42,7 +42,7 @@ pub serves_with : (cfg : Config) (d : Directions) (a : AnswerSide) (rules : Sess
 serves_with cfg d a rules p server to_client now saying sends config s stands held =
     record {
       config = config ∙ s.config;
-      total = s.total;
+      laws = s.laws;
       request = s.request;
       answer = stands;
       vars = subst (λ (x : Asked). Holds x (answers.place_of a) rules.vars p.vars p.asking.vars now) (sym sends) held;
@@ -103,7 +103,7 @@ pub renews_at : (cfg : Config) (d : Directions) (r : RequestSide) (a : AnswerSid
 renews_at cfg d r a rules p left reads config renews held s stands stands_a =
     record {
       config = config ∙ s.config;
-      total = s.total;
+      laws = s.laws;
       request = stands;
       answer = stands_a;
       vars = subst (λ (x : Asked). Holds x (answers.place_of a) rules.vars (renewed p.now) p.asking.vars p.now) (sym reads) (renews ∙ ap renewed held);

@@ -1,5 +1,5 @@
 -- What a session sees of its answer direction.
-use Rattle.std.specs.Prelude.{ℕ, ◌-◌, Bool, true, false, length, is_none}
+use Rattle.std.specs.Prelude.{ℕ, ◌-◌, Bool, true, false, length, is_none, Option, None}
 use Rattle.lane.specs.declared.direction.stage.Stage.{Stage}
 use Rattle.lane.specs.declared.direction.stage.Stage.TheVariants as stage
 use Rattle.http_model.specs.declared.Source.{Source}
@@ -43,6 +43,15 @@ answered_at place.Closing at = is_done at
 answered_at place.Keeping at = is_done at
 answered_at place.Saying at = is_done at
 
+-- the status of what goes out; none in front of an answer
+abbrev pub status_at : Place → (last : Option ℕ) → Option ℕ
+status_at place.Idle last = None
+status_at place.Heads last = None
+status_at place.Response last = last
+status_at place.Closing last = last
+status_at place.Keeping last = last
+status_at place.Saying last = last
+
 -- the last that answers goes out
 abbrev pub is_last : Place → Bool
 is_last place.Idle = false
@@ -81,5 +90,6 @@ seen side =
       answered = answered_at side.place (stage_of side.lane);
       begun = has_begun side.lane;
       heard = side.heard;
+      status = status_at side.place side.status;
       at_rest = side.at_rest;
     }

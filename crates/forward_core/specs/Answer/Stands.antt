@@ -1,5 +1,5 @@
 -- What the answer direction of a session stands for, over what it has of the past of an exchange.
-use Rattle.std.specs.Prelude.{◌≡◌, ◌≢◌, ◌⊎◌, ℕ, List, [], ◌++◌, Bool, true, false, Some, is_none, nat_lt, length, ⊤}
+use Rattle.std.specs.Prelude.{◌≡◌, ◌≢◌, ◌⊎◌, ℕ, List, [], ◌++◌, Bool, true, false, Option, Some, is_none, nat_lt, length, ⊤}
 use Rattle.http_model.specs.Head.{Head}
 use Rattle.http_model.specs.Finish.{response_framing}
 use Rattle.http_model.specs.Reading.{Received, HeadReading}
@@ -18,6 +18,7 @@ use Rattle.session_model.specs.Answering.{Final, AnswersReading, sent_interim, r
 use Rattle.session_model.specs.Session.{SpellsFinal}
 use Rattle.session_core.specs.History.{Coming, Continues}
 use Rattle.session_core.specs.Sided.{Asking, asker_in, ToldIs, Saying}
+use Rattle.session_core.specs.Statuses.{TellsStatus}
 use Rattle.session_core.specs.declared.Told.{Told}
 use Rattle.session_core.specs.declared.Told.TheVariants as told
 use Rattle.lane.specs.Answering.{Exchange, Answers, Serves, Replies, NotYet, HeadsCame, HasFilters, HoldsNothingBack, IsOpen, IsSoundAnswer, interim_text, limits_of, stage_of, source_of, input_of, output_of, ended_of, phase_of, has_begun, shows_last}
@@ -26,6 +27,8 @@ use Rattle.http_model.specs.declared.Source.{Source}
 use Rattle.http_model.specs.declared.Source.TheVariants as source
 use Rattle.lane.specs.declared.response_lane.ResponseLane.{ResponseLane}
 use Rattle.forward_core.specs.Answer.HeadsRead.{HeardAt}
+use Rattle.forward_core.specs.Answer.Seen.{seen}
+use Rattle.forward_core.specs.Answer.Status.{ShowsStatus, is_status_line}
 use Rattle.forward_core.specs.declared.answer.asker.Asker.{Asker as AskerSeen}
 use Rattle.forward_core.specs.declared.answer.place.Place.{Place}
 use Rattle.forward_core.specs.declared.answer.place.Place.TheVariants as place
@@ -88,6 +91,7 @@ pub record Decides (M : Meaning) (asker : Asker) (before : M.Vars) (so : Told) (
 pub record IsInstead (cfg : Config) (asker : Asker) (before : Variables) (server : Coming) (so : Told) (now : Variables) (e : Exchange) : Type 0 where
   pub head : Head
   pub body : List ℕ
+  pub line : is_status_line head.line ≡ true
   pub last : e.last ≡ Replies head body asker.head_asked
   pub left : List ℕ
   pub came : HeadsCame asker.head_asked cfg.limits server.ending e.read e.bytes left
@@ -100,6 +104,7 @@ pub record IsSaid (saying : Saying) (e : Exchange) : Type 0 where
   pub head : Head
   pub body : List ℕ
   pub no_body : Bool
+  pub line : is_status_line head.line ≡ true
   pub last : e.last ≡ Replies head body no_body
   pub text : saying.text ≡ list_text no_body head body
   pub said : e.put ++ saying.left ≡ interim_text e.passed ++ list_text no_body head body
@@ -139,23 +144,38 @@ RestsAt place.Saying head_asked lane = ⊤
 
 -- ---- the whole
 
-abbrev pub StandsAt : Place → (cfg : Config) → Asker → (before : Variables) → ResponseLane → (server : Coming) → (to_client : List ℕ) → (now : Variables) → (saying : Saying) → Type 0
-StandsAt place.Idle cfg asker before lane server put now saying = (e : Exchange) × Answers lane e × IsUnanswered e × (put ≡ [])
-StandsAt place.Heads cfg asker before lane server put now saying = (e : Exchange) × IsInHand asker lane server put e × (e.last ≡ NotYet)
-StandsAt place.Response cfg asker before lane server put now saying = (e : Exchange) × IsInHand asker lane server put e × (shows_last (phase_of lane) ≡ true) × IsResponse cfg asker before now e
-StandsAt place.Closing cfg asker before lane server put now saying = (e : Exchange) × IsInHand asker lane server put e × (shows_last (phase_of lane) ≡ true) × IsInstead cfg asker before server told.Closes now e
-StandsAt place.Keeping cfg asker before lane server put now saying = (e : Exchange) × IsInHand asker lane server put e × (shows_last (phase_of lane) ≡ true) × IsInstead cfg asker before server told.Whole now e
-StandsAt place.Saying cfg asker before lane server put now saying = (e : Exchange) × Answers lane e × (shows_last (phase_of lane) ≡ true) × IsSaid saying e × BeginsSo lane saying
+abbrev pub StandsAt : Place → (status : Option ℕ) → (cfg : Config) → Asker → (before : Variables) → ResponseLane → (server : Coming) → (to_client : List ℕ) → (now : Variables) → (saying : Saying) → Type 0
+StandsAt place.Idle status cfg asker before lane server put now saying = (e : Exchange) × Answers lane e × IsUnanswered e × (put ≡ [])
+StandsAt place.Heads status cfg asker before lane server put now saying = (e : Exchange) × IsInHand asker lane server put e × (e.last ≡ NotYet)
+StandsAt place.Response status cfg asker before lane server put now saying = (e : Exchange) × IsInHand asker lane server put e × ShowsStatus status lane e × IsResponse cfg asker before now e
+StandsAt place.Closing status cfg asker before lane server put now saying = (e : Exchange) × IsInHand asker lane server put e × ShowsStatus status lane e × IsInstead cfg asker before server told.Closes now e
+StandsAt place.Keeping status cfg asker before lane server put now saying = (e : Exchange) × IsInHand asker lane server put e × ShowsStatus status lane e × IsInstead cfg asker before server told.Whole now e
+StandsAt place.Saying status cfg asker before lane server put now saying = (e : Exchange) × Answers lane e × ShowsStatus status lane e × IsSaid saying e × BeginsSo lane saying
 
 -- The answer direction stands for its part of the past of an exchange: the request that is answered, the server's stream, the text
--- that was put out to the client, the variables behind the last that answers, and what is still to be said. It knows whether a head of the
--- server's stream was read. Where it is at rest, nothing was left undone.
+-- that was put out to the client, the variables behind the last that answers, and what is still to be said. It knows the status of what goes out,
+-- and whether a head of the server's stream was read. Where it is at rest, nothing was left undone.
 pub record AnswerStands (cfg : Config) (side : AnswerSide) (asking : Asking Variables) (server : Coming) (to_client : List ℕ) (now : Variables) (saying : Saying) : Type 0 where
   pub asks : IsAsker side.asker (asker_in asking)
   pub for_it : IsFor cfg side.lane
-  pub at : StandsAt side.place cfg (asker_in asking) (answering asking.vars) side.lane server to_client now saying
+  pub at : StandsAt side.place side.status cfg (asker_in asking) (answering asking.vars) side.lane server to_client now saying
   pub heard : HeardAt side.heard side.place cfg (asker_in asking) side.lane server
   pub rests : side.at_rest ≡ true → RestsAt side.place (asker_in asking).head_asked side.lane
+
+-- a server answers
+abbrev pub is_serving : Place → Bool
+is_serving place.Idle = false
+is_serving place.Heads = true
+is_serving place.Response = true
+is_serving place.Closing = true
+is_serving place.Keeping = true
+is_serving place.Saying = false
+
+-- While a server answers, the status of its answer is told.
+abbrev pub TellsStatuses : Config → Type 0
+TellsStatuses cfg =
+    (side : AnswerSide) (asking : Asking Variables) (server : Coming) (to_client : List ℕ) (now : Variables) (saying : Saying) → AnswerStands cfg side asking server to_client now saying
+    → is_serving side.place ≡ true → TellsStatus (seen side).answered to_client (seen side).status
 
 -- ---- its sizes
 
@@ -174,12 +194,3 @@ pub record IsSoundSide (side : AnswerSide) : Type 0 where
   pub lane : IsSoundAnswer side.lane
   pub open_is : side.open ≡ is_none (ended_of side.lane)
   pub at : FitsAt side.place side
-
--- a server answers
-abbrev pub is_serving : Place → Bool
-is_serving place.Idle = false
-is_serving place.Heads = true
-is_serving place.Response = true
-is_serving place.Closing = true
-is_serving place.Keeping = true
-is_serving place.Saying = false

@@ -18,7 +18,6 @@ use Rattle.session_core.specs.Leads.{AsksTo, AskWaits, AskKeeps}
 use Rattle.session_core.specs.Place.{place_behind}
 use Rattle.session_core.specs.declared.sides.Asked.{Asked}
 use Rattle.session_core.specs.declared.sides.Asked.TheVariants as asks
-use Rattle.session_core.specs.Consequences.{IsTotal}
 use Rattle.px_sample.specs.Variables.{Variables}
 use Rattle.http_rules.specs.declared.action.side.Side.TheVariants as sides
 use Rattle.http_rules.specs.declared.config.Config.{Config}
@@ -41,7 +40,7 @@ use Rattle.forward_core.specs.Answer.Stands.{AnswerStands}
 use Rattle.forward_core.specs.declared.answer.place.Place.TheVariants as answered
 use Rattle.forward_core.specs.declared.answer.asker.Asker.{Asker}
 use Rattle.forward_core.specs.declared.answer.side.AnswerSide.{AnswerSide}
-use Rattle.forward_core.specs.Joined.Joined.{IsSoundPair, IsAt, Placed, DirectionsStand, KeepsWindows, settings_of, request_of, answer_of}
+use Rattle.forward_core.specs.Joined.Joined.{IsSoundPair, IsAt, Placed, DirectionsStand, KeepsWindows, settings_of, request_of, answer_of, IsLawful}
 use Rattle.forward_core.specs.declared.joined.directions.Directions.{Directions}
 
 -- ---- what is said
@@ -89,7 +88,7 @@ pub record HasRead (d : Directions) : Type 0 where
 -- The head that came stands in the array as it was received, in front of the rules.
 pub record Came (cfg : Config) (d : Directions) (p : Sided (meaning_of cfg)) (received : Received) : Type 0 where
   pub config : settings_of d ≡ cfg
-  pub total : IsTotal (meaning_of cfg)
+  pub laws : IsLawful cfg
   pub read : HeadRead cfg d.request p.came received
   pub answer : AnswerStands cfg d.answer p.asking p.server p.to_client p.now p.saying
   pub holds : Holds d.request received
@@ -99,7 +98,7 @@ pub record Came (cfg : Config) (d : Directions) (p : Sided (meaning_of cfg)) (re
 -- It stands there as the rules left it, with this verdict; what is kept of it as it was received, and its method as they left it, are kept.
 pub record Ruled (cfg : Config) (d : Directions) (p : Sided (meaning_of cfg)) (received : Received) (kept : Kept) (verdict : Verdict) : Type 0 where
   pub config : settings_of d ≡ cfg
-  pub total : IsTotal (meaning_of cfg)
+  pub laws : IsLawful cfg
   pub read : HeadRead cfg d.request p.came received
   pub answer : AnswerStands cfg d.answer p.asking p.server p.to_client p.now p.saying
   pub kept_is : IsKept received kept

@@ -30,5 +30,5 @@ pub begins : (cfg : Config) (d : Directions) (p : Sided (meaning_of cfg)) (at : 
     → (answer_of d).begun ≡ nat_lt (length p.saying.left) (length p.saying.text)
 begins cfg d p at s says placed =
     let is : answers.place_of d.answer ≡ answered.Saying = says_at at (requests.place_of d.request) (answers.place_of d.answer) says placed.is_at.stand in
-    let said : StandsAt answered.Saying cfg (asker_in p.asking) (answering p.asking.vars) d.answer.lane p.server p.to_client p.now p.saying =
-    subst (λ (x : Answered). StandsAt x cfg (asker_in p.asking) (answering p.asking.vars) d.answer.lane p.server p.to_client p.now p.saying) is s.answer.at in said.4
+    let said : StandsAt answered.Saying d.answer.status cfg (asker_in p.asking) (answering p.asking.vars) d.answer.lane p.server p.to_client p.now p.saying =
+    subst (λ (x : Answered). StandsAt x d.answer.status cfg (asker_in p.asking) (answering p.asking.vars) d.answer.lane p.server p.to_client p.now p.saying) is s.answer.at in said.4

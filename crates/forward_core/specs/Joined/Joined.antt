@@ -14,7 +14,7 @@ use Rattle.forward_core.specs.Request.Stands.{IsSound, RequestStands}
 use Rattle.forward_core.specs.declared.request.place.Place.{Place as Asked}
 use Rattle.forward_core.specs.declared.request.place.Place.TheVariants as asked
 use Rattle.forward_core.specs.Answer.Seen as answers
-use Rattle.forward_core.specs.Answer.Stands.{IsSoundSide, AnswerStands, is_serving}
+use Rattle.forward_core.specs.Answer.Stands.{IsSoundSide, AnswerStands, TellsStatuses, is_serving}
 use Rattle.forward_core.specs.declared.answer.place.Place.{Place as Answered}
 use Rattle.forward_core.specs.declared.answer.place.Place.TheVariants as answered
 use Rattle.forward_core.specs.declared.joined.directions.Directions.{Directions}
@@ -86,10 +86,16 @@ KeepsMethod asked.Sending kept method = kept ≡ method
 KeepsMethod asked.Idle kept method = ⊤
 KeepsMethod asked.Replied kept method = ⊤
 
--- They stand for this past, under this configuration; each stream of a client has a head's reading.
+-- What holds of a configuration, whatever came: each stream of a client has a head's reading, and while a server answers the status of its
+-- answer is told.
+pub record IsLawful (cfg : Config) : Type 0 where
+  pub total : IsTotal (meaning_of cfg)
+  pub statuses : TellsStatuses cfg
+
+-- They stand for this past, under this configuration.
 pub record DirectionsStand (cfg : Config) (d : Directions) (p : Sided (meaning_of cfg)) : Type 0 where
   pub config : settings_of d ≡ cfg
-  pub total : IsTotal (meaning_of cfg)
+  pub laws : IsLawful cfg
   pub request : RequestStands cfg d.request p.vars p.came p.asking p.to_server p.reply
   pub answer : AnswerStands cfg d.answer p.asking p.server p.to_client p.now p.saying
   pub vars : Holds (requests.place_of d.request) (answers.place_of d.answer) d.rules.vars p.vars p.asking.vars p.now

@@ -23,7 +23,7 @@ ghost use Rattle.lane.specs.Answering.{HeadsCame};
 ghost use Rattle.forward_core.specs.Answer.HeadsRead.{BeginsWithHead, HeadBegins};
 ghost use Rattle.forward_core.specs.Answer.Resting.{AwaitsHead, PutsOutBody};
 ghost use Rattle.forward_core.specs.Answer.Seen.{seen, place_of};
-ghost use Rattle.forward_core.specs.Answer.Stands.{AnswerStands, IsSoundSide, is_serving, list_text};
+ghost use Rattle.forward_core.specs.Answer.Stands.{AnswerStands, TellsStatuses, IsSoundSide, is_serving, list_text};
 ghost use Rattle.forward_core.specs.declared.answer.place.Place.TheVariants as place;
 ghost use Rattle.forward_core.specs.declared.answer.side.AnswerSide.{AnswerSide};
 
@@ -42,6 +42,15 @@ pub fn total()
 pub fn answers()
     ensures { (cfg : Config) (side : AnswerSide) (p : Sided (meaning_of cfg))
         → AnswerStands cfg side p.asking p.server p.to_client p.now p.saying → is_serving (place_of side) ≡ true → AnswersSo (meaning_of cfg) (seen side) p }
+{
+    total();
+    lane::laws::answer_promise();
+    lane::direction::laws::promise();
+}
+
+/// While a server answers, the status of its answer is told: none while heads are read, and then that of what the client is sent behind interim heads.
+pub fn statuses()
+    ensures { (cfg : Config) → TellsStatuses cfg }
 {
     total();
     lane::laws::answer_promise();

@@ -35,6 +35,8 @@ pub struct AnswerSide {
     open: bool,
     /// A response head was read.
     heard: bool,
+    /// The status of the last that goes out. It counts for nothing in front of an answer.
+    status: Option<u16>,
     /// The last step left nothing undone that could be done with what has come.
     at_rest: bool,
 }
@@ -47,6 +49,7 @@ impl Drop for AnswerSide {
             place: _,
             open: _,
             heard: _,
+            status: _,
             at_rest: _,
         } = self;
     }
@@ -93,6 +96,7 @@ impl AnswerSide {
             place: Place::Idle,
             open: true,
             heard: false,
+            status: None,
             at_rest: true,
         })
     }

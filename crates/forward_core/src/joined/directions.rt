@@ -3,6 +3,7 @@ ghost use Rattle.std.specs.Prelude.{◌≡◌, ◌≤◌, IfOk};
 ghost use Rattle.http_rules.specs.Valid.{IsValid};
 
 use crate::answer::AnswerSide;
+use crate::answer::laws::statuses;
 use crate::request::RequestSide;
 use crate::request::laws::total;
 use crate::rules::SessionRules;
@@ -55,6 +56,7 @@ impl<'c> Directions<'c> {
         ensures windows { IfOk result (HasWindows window) }
     {
         total();
+        statuses();
         let mut method = Buf::new(alloc, config.limits.bufsize)?;
         let request = RequestSide::new(
             alloc,

@@ -1,6 +1,7 @@
 //! Both directions as a core sees them.
 ghost use Rattle.std.specs.Prelude.{◌≡◌};
 
+use crate::answer::laws::statuses;
 use crate::joined::directions::Directions;
 use crate::joined::saying;
 use crate::request::laws::total;
@@ -20,10 +21,11 @@ impl<'c> Works for Directions<'c> {
     ghost use Rattle.std.specs.Borrow.{sem};
     ghost use Rattle.forward_core.specs.Joined.Begins.{begins};
     ghost use Rattle.forward_core.specs.Joined.Tells.{line_is, line_at};
+    ghost use Rattle.forward_core.specs.Joined.Statuses.{status_at};
 
     ghost meaning = { λ settings. meaning_of settings.0 };
 
-    ghost total = { λ settings d p s. s.directions.total };
+    ghost total = { λ settings d p s. s.directions.laws.total };
 
     ghost needs = { λ settings. holds_pattern settings.0 };
 
@@ -69,6 +71,10 @@ impl<'c> Works for Directions<'c> {
 
     fn has_heard(&self) -> bool {
         self.answer.has_heard()
+    }
+
+    fn status(&self) -> Option<u16> {
+        self.answer.status()
     }
 
     fn client_is_open(&self) -> bool {
@@ -215,6 +221,8 @@ impl<'c> Works for Directions<'c> {
     ghost line_is = { λ settings d p s. line_is settings.0 d p s.directions };
 
     ghost line_at = { λ settings d p at s placed. line_at settings.0 d p at s.directions placed };
+
+    ghost status_at = { λ settings d p at s placed. status_at settings.0 d p at s.directions placed };
 }
 
 impl<'c> Renewable for Directions<'c> {
@@ -232,6 +240,7 @@ impl<'c> RenewableFor for Directions<'c> {
 
     fn renew_for(&mut self, peer: Option<Peer>) {
         total();
+        statuses();
         self.request.renew();
         self.answer.renew();
         self.rules.renew_for(peer, &mut self.method);

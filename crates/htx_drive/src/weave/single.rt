@@ -1,5 +1,5 @@
 //! The acts of one connection, each by its own: for whoever lets the readiness of its links choose among them.
-ghost use Rattle.std.specs.Prelude.{◌≡◌, ◌<◌, ◌+◌, ℕ, List, ◌∷◌, Some, None, true, false, is_some, IfOk, OnOk, OnErr, IsErrOf};
+ghost use Rattle.std.specs.Prelude.{◌≡◌, ◌<◌, ◌+◌, ℕ, List, ◌∷◌, Some, None, true, false, is_some, IfSome, IfOk, OnOk, OnErr, IsErrOf};
 ghost use Rattle.px_link.specs.Net.{address_of, Place};
 ghost use Rattle.px_link.specs.declared.turns.Turn.{Turn};
 ghost use Rattle.session_core.specs.Waits.{wants_any};
@@ -16,7 +16,7 @@ use crate::turn::{turn_idle, turn_open};
 use crate::weave::conn::Conn;
 use crate::weave::ends::{give_back, shut};
 use crate::weave::step::put;
-use crate::{Address, Close, Link, Machine, Net, OutOfMemory, SessionFault, Turn, Wants};
+use crate::{Address, Close, Link, Machine, Net, OutOfMemory, SessionFault, Turn, Wants, Worked};
 
 /// Has the core of a connection work, and answers what it wants then. Behind a fault no server is open.
 pub fn work<C: Machine, L: Link, N: Net<Link = L>>(
@@ -44,6 +44,49 @@ pub fn work<C: Machine, L: Link, N: Net<Link = L>>(
             Err(OutOfMemory)
         }
     }
+}
+
+/// The same up to the end of an exchange that is a refusal or a reply: then nothing is wanted before `end_said`.
+pub fn work_part<C: Machine, L: Link, N: Net<Link = L>>(
+    conn: &mut Conn<L, N>,
+    core: &mut C,
+) -> Result<Option<Wants>, OutOfMemory>
+    requires serving { (C.seen core.old).serving ≡ is_some conn.old.server }
+    requires lent { is_some conn.old.server ≡ true → 0 < (N.seen conn.old.net).lent }
+    requires sound { C.sound core.old }
+    ensures sound { OnOk result (C.sound core.new) }
+    ensures goes { (cfg : C.Settings) (all ahead : List Turn) (count : ℕ) (first : L) (to : Place) (first_net : N) → Going (C.stands cfg) C.seen all ahead core.old L.seen L.wrote first conn.old.client conn.old.server to (N.seen first_net) (N.seen conn.old.net) count
+        → OrGivesUp result (Working (C.stands cfg) C.seen all ahead core.new L.seen L.wrote first conn.new.client conn.new.server to (N.seen first_net) (N.seen conn.new.net) count)
+        (GivesUp (C.meaning cfg) (C.stands cfg) C.seen all core.new L.seen L.wrote first conn.new.client to (N.seen first_net) (N.seen conn.new.net) count false) }
+    ensures wants { IfOk result (λ told. IfSome told (λ wants. wants ≡ (C.seen core.new).wants)) }
+    ensures any { IfOk result (λ told. IfSome told (λ wants. wants_any wants ≡ true)) }
+    ensures said { IfOk result (λ told. told ≡ None → (C.seen core.new).whole ≡ true) }
+    ensures serving { OnOk result ((C.seen core.new).serving ≡ is_some conn.new.server) }
+    ensures lent { OnOk result (is_some conn.new.server ≡ true → 0 < (N.seen conn.new.net).lent) }
+    ensures none { OnErr result (conn.new.server ≡ None) }
+    ensures ran { conn.new.ran ≡ conn.old.ran }
+{
+    match core.work_part() {
+        Ok(Worked::Settled) => Ok(Some(core.wants())),
+        Ok(Worked::Said) => Ok(None),
+        Err(OutOfMemory) => {
+            give_back(&mut conn.server, &mut conn.net);
+            Err(OutOfMemory)
+        }
+    }
+}
+
+/// Ends the exchange of a refusal or a reply of which all text was put out: its core goes on to work behind it.
+pub fn end_said<C: Machine, L: Link, N: Net<Link = L>>(conn: &mut Conn<L, N>, core: &mut C)
+    requires serving { (C.seen core.old).serving ≡ is_some conn.old.server }
+    requires sound { C.sound core.old }
+    ensures sound { C.sound core.new }
+    ensures goes { (cfg : C.Settings) (all ahead : List Turn) (count : ℕ) (first : L) (to : Place) (first_net : N) → Working (C.stands cfg) C.seen all ahead core.old L.seen L.wrote first conn.old.client conn.old.server to (N.seen first_net) (N.seen conn.old.net) count
+        → Going (C.stands cfg) C.seen all ahead core.new L.seen L.wrote first conn.new.client conn.new.server to (N.seen first_net) (N.seen conn.new.net) count }
+    ensures serving { (C.seen core.new).serving ≡ is_some conn.new.server }
+    ensures conn { conn.new ≡ conn.old }
+{
+    core.end_said();
 }
 
 /// Opens the server that the core of a connection wants: what the one connect of the exchange came to.

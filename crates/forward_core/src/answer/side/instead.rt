@@ -1,5 +1,5 @@
 //! What goes out in place of a server's response: a refusal, a reply, or the plain refusal.
-ghost use Rattle.std.specs.Prelude.{◌≡◌, ℕ, List, false, IsOk, OnOk};
+ghost use Rattle.std.specs.Prelude.{◌≡◌, ℕ, List, true, false, IsOk, OnOk};
 ghost use Rattle.http_model.specs.Head.{Head, Message, front_blocks, message_blocks};
 ghost use Rattle.px_sample.specs.Variables.{Variables};
 ghost use Rattle.http_rules.specs.declared.config.Config.{Config};
@@ -12,6 +12,7 @@ ghost use Rattle.session_core.specs.History.{Coming};
 ghost use Rattle.session_core.specs.Sided.{Asking, asker_in, ToldIs, Saying};
 ghost use Rattle.forward_core.specs.Answer.Seen.{size_of};
 ghost use Rattle.forward_core.specs.Answer.Stands.{AnswerStands, list_text};
+ghost use Rattle.forward_core.specs.Answer.Status.{is_status_line};
 ghost use Rattle.forward_core.specs.Answer.Listed.{IsListed};
 ghost use Rattle.forward_core.specs.Answer.Hearing.{IsBetween};
 ghost use Rattle.forward_core.specs.Answer.Judging.{Settles, Finds, GoesOut, told_when};
@@ -22,6 +23,7 @@ use crate::answer::side::AnswerSide;
 use crate::rules::SessionRules;
 use http_model::OutOfMemory;
 use htx_arena::Arena;
+use htx_view::status_of;
 
 /// The place of a list that goes out in place of a response.
 fn place_when(replied: bool) -> Place
@@ -97,11 +99,12 @@ impl AnswerSide {
         requires between { IsBetween self.old }
         requires size { said.old.size ≡ size_of self.old }
         ensures leads { (cfg : Config) (asking : Asking Variables) (server : Coming) (put : List ℕ) (saying : Saying) (now : Variables) (last : Final Variables) (head : Head) (body : List ℕ) → Settles cfg self.old asking server put last → said.old.blocks ≡ front_blocks head body
-            → SpellsFinal (meaning_of cfg) (asker_in asking) last (list_text (asker_in asking).head_asked head body) → ToldIs (meaning_of cfg) (told_when replied) now last → AnswerStands cfg self.new asking server put now saying }
+            → is_status_line head.line ≡ true → SpellsFinal (meaning_of cfg) (asker_in asking) last (list_text (asker_in asking).head_asked head body) → ToldIs (meaning_of cfg) (told_when replied) now last → AnswerStands cfg self.new asking server put now saying }
         ensures goes_out { GoesOut self.old self.new }
         ensures said_size { said.new.size ≡ said.old.size }
     {
         let _room = said.room();
+        self.status = status_of(said);
         self.lane.answer(said, self.asker.head_asked);
         self.place = place_when(replied);
         self.at_rest = false;

@@ -3,6 +3,7 @@ ghost use Rattle.std.specs.Prelude.{◌≡◌, ℕ, List, true, false, not, ◌&
 ghost use Rattle.http_model.specs.Finish.{finish_response, response_framing};
 ghost use Rattle.http_model.specs.Head.{Head, head_blocks};
 ghost use Rattle.http_model.specs.Reading.{Received};
+ghost use Rattle.htx_view.specs.Lines.{status_in};
 ghost use Rattle.px_sample.specs.Variables.{Variables};
 ghost use Rattle.http_rules.specs.declared.action.side.Side.TheVariants as sides;
 ghost use Rattle.http_rules.specs.declared.config.Config.{Config};
@@ -34,6 +35,7 @@ use crate::rules::SessionRules;
 use header_ops::laws::edits_of_heads;
 use http_model::OutOfMemory;
 use http_rules::{Filters, Verdict, body_stays, replies_are_plain};
+use htx_view::status_of;
 use lane::laws::edited_answer;
 use px_reply::finish_response;
 
@@ -188,6 +190,14 @@ impl AnswerSide {
         finish_response(self.lane.head(), framing, declared, close).is_ok()
     }
 
+    /// The status of the head that stands in the array.
+    fn head_status(&mut self) -> Option<u16>
+        ensures status { result ≡ status_in (blocks_of self.old.lane) }
+        ensures same { self.new ≡ self.old }
+    {
+        status_of(self.lane.head())
+    }
+
     /// The head that stands in the array is put out, and the body behind it.
     fn send(&mut self, replaced: bool)
         requires between { IsBetween self.old }
@@ -198,6 +208,7 @@ impl AnswerSide {
         ensures goes_out { GoesOut self.old self.new }
     {
         let framing = response_framing(replaced, self.asker.is_http_11, self.lane.framing());
+        self.status = self.head_status();
         self.lane.send(framing, self.asker.head_asked);
         self.place = Place::Response;
         self.at_rest = false;

@@ -8,6 +8,7 @@ ghost use Rattle.session_core.specs.History.{Coming};
 ghost use Rattle.session_core.specs.Sided.{Asking, Saying, unsaid};
 ghost use Rattle.forward_core.specs.Answer.Seen.{seen, place_of, size_of, window_size_of};
 ghost use Rattle.forward_core.specs.Answer.Stands.{AnswerStands, IsSoundSide, is_serving, list_text};
+ghost use Rattle.forward_core.specs.Answer.Status.{is_status_line};
 ghost use Rattle.forward_core.specs.Answer.Said.{SaysMore, TurnsTo};
 ghost use Rattle.forward_core.specs.declared.answer.place.Place.TheVariants as place;
 
@@ -15,6 +16,7 @@ use crate::answer::place::Place;
 use crate::answer::side::AnswerSide;
 use crate::answer::side::views::is_done;
 use htx_arena::Arena;
+use htx_view::status_of;
 use lane::laws::answer_promise;
 
 impl AnswerSide {
@@ -24,7 +26,7 @@ impl AnswerSide {
         requires idle { place_of self.old ≡ place.Idle }
         requires fits { Fits list.old.blocks (size_of self.old) }
         ensures leads { (cfg : Config) (asking : Asking Variables) (server : Coming) (put : List ℕ) (now : Variables) (saying : Saying) (head : Head) (body : List ℕ) → AnswerStands cfg self.old asking server put now saying
-            → list.old.blocks ≡ front_blocks head body → AnswerStands cfg self.new asking server put now (unsaid (list_text no_body head body)) }
+            → list.old.blocks ≡ front_blocks head body → is_status_line head.line ≡ true → AnswerStands cfg self.new asking server put now (unsaid (list_text no_body head body)) }
         ensures place { place_of self.new ≡ place.Saying }
         ensures starts { (seen self.new).answered ≡ false }
         ensures begun { (seen self.new).begun ≡ false }
@@ -35,6 +37,7 @@ impl AnswerSide {
         ensures size { size_of self.new ≡ size_of self.old }
         ensures window_size { window_size_of self.new ≡ window_size_of self.old }
     {
+        self.status = status_of(list);
         self.lane.answer(list, no_body);
         self.place = Place::Saying;
         self.at_rest = false;
@@ -48,7 +51,7 @@ impl AnswerSide {
         requires begun { (seen self.old).begun ≡ false }
         requires fits { Fits list.old.blocks (size_of self.old) }
         ensures leads { (cfg : Config) (asking : Asking Variables) (server : Coming) (put : List ℕ) (now : Variables) (saying : Saying) (head : Head) (body : List ℕ) → AnswerStands cfg self.old asking server put now saying
-            → list.old.blocks ≡ front_blocks head body → TurnsTo cfg self.new asking server put now head body }
+            → list.old.blocks ≡ front_blocks head body → is_status_line head.line ≡ true → TurnsTo cfg self.new asking server put now head body }
         ensures place { place_of self.new ≡ place.Saying }
         ensures starts { (seen self.new).answered ≡ false }
         ensures begun { (seen self.new).begun ≡ false }
@@ -61,6 +64,7 @@ impl AnswerSide {
         ensures window_size { window_size_of self.new ≡ window_size_of self.old }
     {
         answer_promise();
+        self.status = status_of(list);
         self.lane.answer(list, self.asker.head_asked);
         self.place = Place::Saying;
         self.at_rest = false;

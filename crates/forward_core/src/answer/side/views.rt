@@ -84,6 +84,20 @@ impl AnswerSide {
         self.heard
     }
 
+    /// The status of what goes out: none in front of an answer.
+    pub fn status(&self) -> Option<u16>
+        ensures { result ≡ (seen self.now).status }
+    {
+        match self.place {
+            Place::Idle => None,
+            Place::Heads => None,
+            Place::Response => self.status,
+            Place::Closing => self.status,
+            Place::Keeping => self.status,
+            Place::Saying => self.status,
+        }
+    }
+
     /// Whether the request in hand lets the connection be kept.
     pub fn keeps(&self) -> bool
         ensures { result ≡ (asker_of self.now).keep }

@@ -16,4 +16,4 @@ pub returns-clause-closing : goal.returns-clause-closing
 returns-clause-closing c = λ code. closing_listed (refusal code) (refusal_listed code)
 
 pub returns-clause-sent : goal.returns-clause-sent
-returns-clause-sent c = λ cfg. reply_listed (meaning_of cfg)
+returns-clause-sent c = λ cfg. reply_listed cfg

@@ -22,7 +22,7 @@ returns-clause-says c =
       spelled = c.lists.ensures.spelled m c.args.no_body listed;
       says = λ asking server put now saying s. c.begin_saying.ensures.leads cfg asking server put now saying m.head m.body s
           (refusal_said cfg (config_of c.begin_answer.new.self) code method rules.vars c.begin_answer.new.self.vars c.say_refusal.new.self.said.blocks c.begin_answer.ensures.config c.begin_answer.ensures.vars c.in_ok-say_refusal.ensures.said
-          ∙ c.lists.ensures.blocks m listed);
+          ∙ c.lists.ensures.blocks m listed) listed.line;
     }
 
 pub returns-clause-ready : goal.returns-clause-ready

@@ -27,7 +27,7 @@ returns-clause-says c = λ m listed is.
       text = list_text c.args.no_body sent.head sent.body;
       spelled = c.lists.ensures.spelled sent c.args.no_body sent_listed;
       behind = x.behind ∙ kept_alike kept c.say_reply.new.self.vars;
-      says = λ asking server put now saying s. c.begin_saying.ensures.leads cfg asking server put now saying sent.head sent.body s (x.says ∙ c.lists.ensures.blocks sent sent_listed);
+      says = λ asking server put now saying s. c.begin_saying.ensures.leads cfg asking server put now saying sent.head sent.body s (x.says ∙ c.lists.ensures.blocks sent sent_listed) sent_listed.line;
     }
 
 pub returns-clause-ready : goal.returns-clause-ready

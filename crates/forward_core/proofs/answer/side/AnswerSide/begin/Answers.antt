@@ -12,11 +12,11 @@ use Rattle.forward_core.proofs.answer.side.AnswerSide.begin.Goals as goal
 pub returns-clause-leads : goal.returns-clause-leads
 returns-clause-leads c = λ cfg was asking server put now saying s is.
     let old = c.args.self.now in
-    let at : StandsAt place.Idle cfg (asker_in was) (answering was.vars) old.lane server put now saying = subst (λ (p : Place). StandsAt p cfg (asker_in was) (answering was.vars) old.lane server put now saying) c.requires.idle s.at in
+    let at : StandsAt place.Idle old.status cfg (asker_in was) (answering was.vars) old.lane server put now saying = subst (λ (p : Place). StandsAt p old.status cfg (asker_in was) (answering was.vars) old.lane server put now saying) c.requires.idle s.at in
     record {
       asks = is;
       for_it = s.for_it;
-      at = subst (λ (p : Place). StandsAt p cfg (asker_in asking) (answering asking.vars) old.lane server put now saying) (sym c.requires.idle) (at.0, at.1, at.2, at.3);
+      at = subst (λ (p : Place). StandsAt p old.status cfg (asker_in asking) (answering asking.vars) old.lane server put now saying) (sym c.requires.idle) (at.0, at.1, at.2, at.3);
       heard = not_heard old.heard old.place cfg (asker_in asking) old.lane server (at_place place.Idle old c.requires.idle c.requires.sound.at).2
           (subst (λ (p : Place). HeardAt false p cfg (asker_in asking) old.lane server) (sym c.requires.idle) tt);
       rests = λ _. subst (λ (p : Place). RestsAt p (asker_in asking).head_asked old.lane) (sym c.requires.idle) tt;

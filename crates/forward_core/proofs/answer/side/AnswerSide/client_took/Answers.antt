@@ -15,7 +15,7 @@ returns-clause-leads c = λ cfg asking server put now saying s.
     record {
       asks = s.asks;
       for_it = for_new cfg old.lane c.took.new.self c.took.ensures.limits c.took.ensures.filters s.for_it;
-      at = took_at old.place cfg (asker_in asking) (answering asking.vars) old.lane c.took.new.self server put now saying
+      at = took_at old.place old.status cfg (asker_in asking) (answering asking.vars) old.lane c.took.new.self server put now saying
           (record { answers = c.took.ensures.answers; ended = c.took.ensures.ended; phase = c.took.ensures.phase; begun = c.took.ensures.begun }) s.at;
       heard = heard_took old.heard old.place cfg (asker_in asking) old.lane c.took.new.self server
           (record { answers = c.took.ensures.answers; ended = c.took.ensures.ended; phase = c.took.ensures.phase; begun = c.took.ensures.begun }) s.heard;
@@ -26,7 +26,7 @@ pub returns-clause-seen : goal.returns-clause-seen
 returns-clause-seen c =
     let old = c.args.self.now in
     seen_same _ _ (ap is_none c.took.ensures.ended) (ap (λ (b : Buffer ℕ). b.capacity - length b.items) c.took.ensures.came) c.took.ensures.output
-    (ap (told_at old.place) c.took.ensures.source) (ap (answered_at old.place) c.took.ensures.stage) c.took.ensures.begun refl refl
+    (ap (told_at old.place) c.took.ensures.source) (ap (answered_at old.place) c.took.ensures.stage) c.took.ensures.begun refl refl refl
 
 pub returns-clause-sound : goal.returns-clause-sound
 returns-clause-sound c =

@@ -20,7 +20,7 @@ returns-clause-leads c = λ cfg asking server put now saying s.
     record {
       asks = s.asks;
       for_it = for_new cfg old.lane c.push.new.self c.push.ensures.limits c.push.ensures.filters s.for_it;
-      at = takes_at old.place cfg (asker_in asking) (answering asking.vars) old.lane c.push.new.self server put now saying c.args.bytes.now
+      at = takes_at old.place old.status cfg (asker_in asking) (answering asking.vars) old.lane c.push.new.self server put now saying c.args.bytes.now
           (record { answers = c.push.ensures.answers; is_open = none_of (ended_of old.lane) c.requires.open; ended = c.push.ensures.ended; phase = c.push.ensures.phase; begun = c.push.ensures.begun }) s.at;
       heard = heard_takes old.heard old.place cfg (asker_in asking) old.lane c.push.new.self server c.args.bytes.now
           (record { answers = c.push.ensures.answers; is_open = none_of (ended_of old.lane) c.requires.open; ended = c.push.ensures.ended; phase = c.push.ensures.phase; begun = c.push.ensures.begun }) s.heard;
@@ -35,7 +35,7 @@ returns-clause-seen c =
     let most : most_of new ≡ most_of old.lane =
     (c.push.ensures.sound c.requires.sound.lane).sound.sized.input ∙ ap (λ (l : Limits). l.bufsize) c.push.ensures.limits ∙ sym c.requires.sound.lane.sound.sized.input in
     seen_same _ _ (ap is_none c.push.ensures.ended) (room_less (most_of old.lane) (most_of new) (length (input_of old.lane)) (length (input_of new)) (length c.args.bytes.now) most came)
-    (ap (λ (b : Buffer ℕ). b.items) c.push.ensures.window) (ap (told_at old.place) c.push.ensures.source) (ap (answered_at old.place) c.push.ensures.stage) c.push.ensures.begun refl refl
+    (ap (λ (b : Buffer ℕ). b.items) c.push.ensures.window) (ap (told_at old.place) c.push.ensures.source) (ap (answered_at old.place) c.push.ensures.stage) c.push.ensures.begun refl refl refl
 
 pub returns-clause-sound : goal.returns-clause-sound
 returns-clause-sound c =

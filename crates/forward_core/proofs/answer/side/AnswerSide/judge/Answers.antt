@@ -7,6 +7,7 @@ use Rattle.forward_core.specs.Answer.Seen.{size_of}
 use Rattle.forward_core.specs.Answer.Hearing.{IsBetween, HasHead, FinalHead}
 use Rattle.forward_core.specs.Answer.Judging.{GoesOut}
 use Rattle.forward_core.specs.declared.answer.side.AnswerSide.{AnswerSide}
+use Rattle.forward_core.proofs.AnswerLemmas.Lines.{replied_line}
 use Rattle.forward_core.proofs.AnswerLemmas.VerdictLemmas.{passed_head, replied_so, judged_deny, judged_fail, judged_reply, judged_pass, listed_by}
 use Rattle.forward_core.proofs.AnswerLemmas.JudgeLemmas.{edits_goes, sized_still}
 use Rattle.forward_core.proofs.answer.side.AnswerSide.judge.Goals as goal
@@ -97,7 +98,7 @@ returns-in-Reply-clause-leads c =
     leads cfg asking server put saying x.message
     (judged_reply c.args.rules.now c.args.method cfg c.is_not_modified-not_modified.new.self c.run_rules.new.self asking server put received c.run_rules.new.rules.vars c.run_rules.new.rules.said.blocks c.in_ok-verdict.ensures.edits f runs before x)
     (c.in_ok-verdict.ensures.config ∙ runs.config) x.said_is
-    (listed_by x.message (laws.trailers run.limits.bufsize run.response _ x.at x.message x.comes) (laws.framing run.limits.bufsize run.response _ x.at x.message x.comes)
+    (listed_by x.message (replied_line run.limits.bufsize run.response _ x.at x.message x.comes) (laws.trailers run.limits.bufsize run.response _ x.at x.message x.comes) (laws.framing run.limits.bufsize run.response _ x.at x.message x.comes)
     (laws.body run.limits.bufsize _ run.response _ x.at x.message c.requires.ready.valid.response x.comes)))
     c.reply.ensures.leads
 

@@ -18,7 +18,7 @@ restart-requires-clause-rests c = inr ((at_place place.Idle c.args.self.now c.re
 pub returns-clause-leads : goal.returns-clause-leads
 returns-clause-leads c = λ cfg asking server put now saying s.
     let old = c.args.self.now in
-    let at : StandsAt place.Idle cfg (asker_in asking) (answering asking.vars) old.lane server put now saying = subst (λ (p : Place). StandsAt p cfg (asker_in asking) (answering asking.vars) old.lane server put now saying) c.requires.idle s.at in
+    let at : StandsAt place.Idle old.status cfg (asker_in asking) (answering asking.vars) old.lane server put now saying = subst (λ (p : Place). StandsAt p old.status cfg (asker_in asking) (answering asking.vars) old.lane server put now saying) c.requires.idle s.at in
     record {
       asks = s.asks;
       for_it = for_new cfg old.lane c.restart.new.self c.restart.ensures.limits c.restart.ensures.filters s.for_it;

@@ -31,9 +31,9 @@ returns-then-is_done-clause-leads c = λ cfg asking server put now saying s.
       stands = record {
         asks = s.asks;
         for_it = s.for_it;
-        at = subst (λ xs. StandsAt old.place cfg (asker_in asking) (answering asking.vars) old.lane server xs now saying) (sym (append-nil put)) s.at;
+        at = subst (λ xs. StandsAt old.place old.status cfg (asker_in asking) (answering asking.vars) old.lane server xs now saying) (sym (append-nil put)) s.at;
         heard = s.heard;
-        rests = λ _. done_rests old.place cfg (asker_in asking) (answering asking.vars) old.lane server put now saying c.requires.last (done_is (stage_of old.lane) done) s.at;
+        rests = λ _. done_rests old.place old.status cfg (asker_in asking) (answering asking.vars) old.lane server put now saying c.requires.last (done_is (stage_of old.lane) done) s.at;
       };
       window = sym (append-nil (output_of old.lane));
       waits = (refl, λ off. absurd (let both : true ≡ false = sym (last_answered old.place (stage_of old.lane) c.requires.last ∙ done) ∙ off in cc both));
@@ -44,10 +44,10 @@ returns-clause-leads c = λ cfg asking server put now saying s.
     let old = c.args.self.now in
     let new = c.step.new.self in
     let p = c.step.ensures.answers in
-    let h = in_hand_at old.place cfg asking old.lane server put now saying (last_serves old.place c.requires.last) s.at in
+    let h = in_hand_at old.place old.status cfg asking old.lane server put now saying (last_serves old.place c.requires.last) s.at in
     let shows = c.step.ensures.last (last_shows old.place old c.requires.last c.requires.sound.at) in
     let side : AnswerSide = record old { lane = new; at_rest = true } in
-    let at = puts_at old.place cfg (asker_in asking) (answering asking.vars) old.lane new server put now saying p.put c.requires.last
+    let at = puts_at old.place old.status cfg (asker_in asking) (answering asking.vars) old.lane new server put now saying p.put c.requires.last
     (record { answers = p.answers; ended = c.step.ensures.ended; last = c.step.ensures.last }) s.at in
     let fits = last_fits old.place old side c.requires.last c.step.ensures.last c.step.ensures.whole c.requires.sound.at in
     let stage = last_stage new.phase new shows c.step.ensures.sound.at in

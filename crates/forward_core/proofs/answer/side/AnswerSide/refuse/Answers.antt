@@ -19,14 +19,14 @@ pub returns-clause-leads : goal.returns-clause-leads
 returns-clause-leads c = λ cfg asking server put saying s is.
     let M = meaning_of (config_of c.args.rules.now) in
     let m : Message = refusal_sent M c.args.code c.args.method.now c.args.rules.now.vars in
-    let listed : IsListed m = reply_listed M (refusal c.args.code) c.args.method.now c.args.rules.now.vars false (refusal_listed c.args.code) in
+    let listed : IsListed m = reply_listed (config_of c.args.rules.now) (refusal c.args.code) c.args.method.now c.args.rules.now.vars false (refusal_listed c.args.code) in
     let last = Refuses c.args.code c.args.method.now c.args.rules.now.vars in
     let new = c.say_instead.new.self in
     let now = c.say_refusal.new.self.vars in
     subst (λ (k : Config). Settles k c.args.self.now asking server put last → Finds k new asking server put saying now) is
     (λ s. record {
       behind = now;
-      stands = c.say_instead.ensures.leads (config_of c.args.rules.now) asking server put saying now last m.head m.body s (c.in_ok-say_refusal.ensures.said ∙ listed_blocks m listed) (listed_spells m (asker_in asking).head_asked listed) (refl, refl);
+      stands = c.say_instead.ensures.leads (config_of c.args.rules.now) asking server put saying now last m.head m.body s (c.in_ok-say_refusal.ensures.said ∙ listed_blocks m listed) listed.line (listed_spells m (asker_in asking).head_asked listed) (refl, refl);
       vars = refl;
     })
     s

@@ -23,7 +23,7 @@ returns-clause-leads c = λ cfg asking server put saying m s is stands listed.
     let method = c.args.method.now in
     let keep = c.args.self.now.asker.keep in
     let sent : Message = reply_sent M m method vars keep in
-    let sent_listed : IsListed sent = reply_listed M m method vars keep listed in
+    let sent_listed : IsListed sent = reply_listed config m method vars keep listed in
     let last = Replies m method vars in
     let new = c.say_instead.new.self in
     let now = c.amend_reply.new.self.vars in
@@ -31,7 +31,7 @@ returns-clause-leads c = λ cfg asking server put saying m s is stands listed.
     subst (λ (k : Config). Settles k c.args.self.now asking server put last → Finds k new asking server put saying now) is
     (λ s. record {
       behind = now;
-      stands = c.say_instead.ensures.leads config asking server put saying now last sent.head sent.body s (a.says ∙ listed_blocks sent sent_listed)
+      stands = c.say_instead.ensures.leads config asking server put saying now last sent.head sent.body s (a.says ∙ listed_blocks sent sent_listed) sent_listed.line
           (reply_spells config m method vars (asker_in asking) keep s.asks.keep (listed_spells sent (asker_in asking).head_asked sent_listed))
           (reply_told config m method vars now c.in_ok-replied.replied a.behind);
       vars = refl;

@@ -17,7 +17,7 @@ returns-clause-leads c = λ cfg asking server put saying s is.
     let now = c.say_plain.new.self.vars in
     record {
       behind = now;
-      stands = c.say_instead.ensures.leads cfg asking server put saying now Plain plain_refusal.head plain_refusal.body s (c.say_plain.ensures.said ∙ listed_blocks plain_refusal listed) (listed_spells plain_refusal (asker_in asking).head_asked listed) (refl, refl);
+      stands = c.say_instead.ensures.leads cfg asking server put saying now Plain plain_refusal.head plain_refusal.body s (c.say_plain.ensures.said ∙ listed_blocks plain_refusal listed) listed.line (listed_spells plain_refusal (asker_in asking).head_asked listed) (refl, refl);
       vars = refl;
     }
 

@@ -19,7 +19,7 @@ returns-clause-leads c = λ cfg asking server put now saying s.
     record {
       asks = s.asks;
       for_it = for_new cfg old.lane c.end.new.self c.end.ensures.limits c.end.ensures.filters s.for_it;
-      at = ends_at old.place cfg (asker_in asking) (answering asking.vars) old.lane c.end.new.self server put now saying c.args.how
+      at = ends_at old.place old.status cfg (asker_in asking) (answering asking.vars) old.lane c.end.new.self server put now saying c.args.how
           (record { answers = c.end.ensures.answers; is_open = none_of (ended_of old.lane) c.requires.open; ended = c.end.ensures.ended; phase = c.end.ensures.phase; begun = c.end.ensures.begun }) s.at;
       heard = heard_ends old.heard old.place cfg (asker_in asking) old.lane c.end.new.self server c.args.how
           (record { answers = c.end.ensures.answers; is_open = none_of (ended_of old.lane) c.requires.open; ended = c.end.ensures.ended; phase = c.end.ensures.phase; begun = c.end.ensures.begun }) s.heard;
@@ -30,7 +30,7 @@ pub returns-clause-seen : goal.returns-clause-seen
 returns-clause-seen c =
     let old = c.args.self.now in
     seen_same _ _ (ap is_none c.end.ensures.ended) (ap (λ (b : Buffer ℕ). b.capacity - length b.items) c.end.ensures.came) (ap (λ (b : Buffer ℕ). b.items) c.end.ensures.window)
-    (ap (told_at old.place) c.end.ensures.source) (ap (answered_at old.place) c.end.ensures.stage) c.end.ensures.begun refl refl
+    (ap (told_at old.place) c.end.ensures.source) (ap (answered_at old.place) c.end.ensures.stage) c.end.ensures.begun refl refl refl
 
 pub returns-clause-sound : goal.returns-clause-sound
 returns-clause-sound c =

@@ -17,7 +17,7 @@ returns-clause-stands c =
     let es = c.in-Ok-new.ensures in
     let d : Directions = record { request = r; answer = a; rules = c.in-Ok-new.rules; method = c.new-4.new.text } in (
       no_past cfg,
-      fresh_new cfg d r a refl refl es.config (c.total.ensures cfg) es.vars er.place (er.stands cfg (beginning cfg.peer) no_asking [] no_reply refl (sym c.as_slice.ensures))
+      fresh_new cfg d r a refl refl es.config (record { total = c.total.ensures cfg; statuses = c.statuses.ensures cfg }) es.vars er.place (er.stands cfg (beginning cfg.peer) no_asking [] no_reply refl (sym c.as_slice.ensures))
           (ea.stands cfg no_asking no_stream no_variables (unsaid []) refl (sym c.as_slice-2.ensures)) ea.nobody,
       fresh_is cfg d r a refl refl er.open er.window ea.window,
     )

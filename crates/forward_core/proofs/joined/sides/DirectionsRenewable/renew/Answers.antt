@@ -33,7 +33,7 @@ returns-clause-stands c = λ settings p session.
     let same : config_of c.renew_for.new.self ≡ config_of c.args.self.now.rules = c.renew_for.ensures.config ∙ ap (λ (x : Option Peer). record (config_of c.args.self.now.rules) { peer = x }) c.peer-peer.ensures in (
       no_past cfg,
       record {
-        directions = fresh_new cfg d r a refl refl (same ∙ s.config) s.total (c.renew_for.ensures.vars ∙ ap (λ (x : Option Peer). beginning x) (c.peer-peer.ensures ∙ ap (λ (x : Config). x.peer) s.config)) c.renew.ensures.place
+        directions = fresh_new cfg d r a refl refl (same ∙ s.config) s.laws (c.renew_for.ensures.vars ∙ ap (λ (x : Option Peer). beginning x) (c.peer-peer.ensures ∙ ap (λ (x : Config). x.peer) s.config)) c.renew.ensures.place
             (c.renew.ensures.stands cfg p.vars p.came p.asking p.to_server p.reply s.request (beginning cfg.peer) no_asking [] no_reply)
             (c.renew-2.ensures.stands cfg p.asking p.server p.to_client p.now p.saying s.answer no_asking no_stream no_variables (unsaid [])) c.renew-2.ensures.nobody;
         windows = (c.renew.ensures.window_size ∙ session.windows.0, c.renew-2.ensures.window_size ∙ session.windows.1);
@@ -60,7 +60,7 @@ returns-clause-placed c =
       past = (
         cfg,
         no_past cfg,
-        fresh_new cfg d r a refl refl (same ∙ s.config) s.total (c.renew_for.ensures.vars ∙ ap (λ (x : Option Peer). beginning x) (c.peer-peer.ensures ∙ ap (λ (x : Config). x.peer) s.config)) er.place
+        fresh_new cfg d r a refl refl (same ∙ s.config) s.laws (c.renew_for.ensures.vars ∙ ap (λ (x : Option Peer). beginning x) (c.peer-peer.ensures ∙ ap (λ (x : Config). x.peer) s.config)) er.place
             (er.stands cfg p.vars p.came p.asking p.to_server p.reply s.request (beginning cfg.peer) no_asking [] no_reply)
             (ea.stands cfg p.asking p.server p.to_client p.now p.saying s.answer no_asking no_stream no_variables (unsaid [])) ea.nobody,
       );

@@ -33,7 +33,7 @@ returns-clause-stands c = λ settings other p session.
     let d : Directions = record { request = r; answer = a; rules = c.renew_for.new.self; method = c.renew_for.new.text } in (
       no_past cfg,
       record {
-        directions = fresh_new cfg d r a refl refl (c.renew_for.ensures.config ∙ ap (λ (x : Config). record x { peer = c.args.peer }) s.config) (c.total.ensures cfg) c.renew_for.ensures.vars er.place
+        directions = fresh_new cfg d r a refl refl (c.renew_for.ensures.config ∙ ap (λ (x : Config). record x { peer = c.args.peer }) s.config) (record { total = c.total.ensures cfg; statuses = c.statuses.ensures cfg }) c.renew_for.ensures.vars er.place
             (request_for old c.args.peer r (beginning cfg.peer) no_stream no_asking [] no_reply er.place (er.stands old p.vars p.came p.asking p.to_server p.reply s.request (beginning cfg.peer) no_asking [] no_reply))
             (λ asks. answer_for old c.args.peer a no_asking no_stream [] no_variables (unsaid []) ea.sound ea.place (ea.stands old p.asking p.server p.to_client p.now p.saying s.answer no_asking no_stream no_variables (unsaid []) asks)) ea.nobody;
         windows = (er.window_size ∙ session.windows.0, ea.window_size ∙ session.windows.1);
@@ -61,7 +61,7 @@ returns-clause-placed c =
       past = (
         cfg,
         no_past cfg,
-        fresh_new cfg d r a refl refl config (c.total.ensures cfg) c.renew_for.ensures.vars er.place
+        fresh_new cfg d r a refl refl config (record { total = c.total.ensures cfg; statuses = c.statuses.ensures cfg }) c.renew_for.ensures.vars er.place
             (request_for old c.args.peer r (beginning cfg.peer) no_stream no_asking [] no_reply er.place (er.stands old p.vars p.came p.asking p.to_server p.reply s.request (beginning cfg.peer) no_asking [] no_reply))
             (λ asks. answer_for old c.args.peer a no_asking no_stream [] no_variables (unsaid []) ea.sound ea.place (ea.stands old p.asking p.server p.to_client p.now p.saying s.answer no_asking no_stream no_variables (unsaid []) asks)) ea.nobody,
       );

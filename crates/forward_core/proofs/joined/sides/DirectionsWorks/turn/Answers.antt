@@ -2,7 +2,7 @@ use Rattle.forward_core.proofs.JoinedLemmas.SayLemmas.{said_fits, said_size}
 use Rattle.session_core.specs.Sided.{Saying, asker_in}
 use Rattle.forward_core.specs.Answer.Seen.{size_of}
 use Rattle.forward_core.specs.Answer.Stands.{list_text}
-use Rattle.std.proofs.Common.{◌≡◌, true, false, sym, ◌∙◌}
+use Rattle.std.proofs.Common.{◌≡◌, true, false, refl, sym, ◌∙◌}
 use Rattle.http_model.specs.Refusal.{refusal, closing}
 use Rattle.forward_core.specs.Request.Seen as requests
 use Rattle.forward_core.proofs.JoinedLemmas.Serving.{turns, sound_both, begun_sending}
@@ -17,7 +17,7 @@ returns-clause-placed c =
     let x = c.requires.placed in
     let p = x.past.1 in
     let m = closing (refusal c.args.code) in
-    let t = e.leads x.past.0 p.asking p.server p.to_client p.now p.saying m.head m.body x.past.2.answer (c.say_closing.ensures.said ∙ c.lists.ensures.blocks m (c.lists.ensures.closing c.args.code)) in
+    let t = e.leads x.past.0 p.asking p.server p.to_client p.now p.saying m.head m.body x.past.2.answer (c.say_closing.ensures.said ∙ c.lists.ensures.blocks m (c.lists.ensures.closing c.args.code)) refl in
     let said : Saying = record { text = list_text (asker_in p.asking).head_asked m.head m.body; left = t.left } in
     let ready = c.say_closing.ensures.ready in
     record {
@@ -38,7 +38,7 @@ returns-clause-leads c = λ settings p session before.
     let e = c.turn_to.ensures in
     let x = c.requires.placed in
     let m = closing (refusal c.args.code) in
-    let t = e.leads cfg p.asking p.server p.to_client p.now p.saying m.head m.body s.answer (c.say_closing.ensures.said ∙ c.lists.ensures.blocks m (c.lists.ensures.closing c.args.code)) in
+    let t = e.leads cfg p.asking p.server p.to_client p.now p.saying m.head m.body s.answer (c.say_closing.ensures.said ∙ c.lists.ensures.blocks m (c.lists.ensures.closing c.args.code)) refl in
     let said : Saying = record { text = list_text (asker_in p.asking).head_asked m.head m.body; left = t.left } in
     record {
       saying = said;
