@@ -194,6 +194,41 @@ run
 "${fetch[@]}" -Z "$url/middle?[1-6]" -o "$work/z.#1" 2>"$work/curl"
 finish "curl -Z with six URLs" "$(for number in 1 2 3 4 5 6; do cmp "$work/z.$number" "$work/www/middle" 2>&1; done)"
 
+told() { # OPTIONS-OF-CURL..: 40 curls at once, and what is wrong with the lines of their exchanges: who asked, what, the status and the bytes
+  local number asking=() line
+  for number in $(seq 40); do
+    behind "${fetch[@]}" "$@" -w ': %{local_ip}:%{local_port} GET /middle status %{http_code} bytes %{size_header} %{size_download} ms \n' "$url/middle" -o "$work/got.$number" >"$work/told.$number"; asking+=($!)
+  done
+  wait "${asking[@]}"
+  for number in $(seq 40); do
+    line="$(awk '{ print $1, $2, $3, $4, $5, $6, $7, $8 + $9, "ms" }' "$work/told.$number")"
+    grep -q -F "$line" "$work/lines" || echo "no line has $line "
+  done
+}
+run --log --sets 64
+wrong="$(told)"
+finish "a line for each exchange of 40 curls at once" "$wrong$([ "$(grep -c '^connection [0-9]* exchange 1: ' "$work/lines")" = 40 ] || echo "there are $(grep -c ' exchange ' "$work/lines") lines")"
+
+run --log
+"${fetch[@]}" "$url/small" -o /dev/null "$url/none?a=b" -o /dev/null -H 'Cookie: secret' "$url/middle" -o /dev/null
+"${fetch[@]}" -I "$url/large" -o /dev/null
+"${fetch[@]}" --limit-rate 1M --max-time 1 "$url/large" -o /dev/null 2>/dev/null
+for _ in $(seq 100); do grep -q 'connection 3' "$work/lines" && break; sleep 0.1; done
+large_bytes=$((megabytes * 1048576))
+finish "lines of exchanges, and of one that is broken off" "$(for line in 'connection 1 exchange 1: 127.0.0.1:[0-9]* GET /small status 200 bytes [0-9]* ms [0-9]*' \
+    'connection 1 exchange 2: 127.0.0.1:[0-9]* GET /none?a=b status 404 bytes [0-9]* ms [0-9]*' 'connection 1 exchange 3: 127.0.0.1:[0-9]* GET /middle status 200 bytes [0-9]* ms [0-9]*' \
+    'connection 1: end done exchanges 3' 'connection 2 exchange 1: 127.0.0.1:[0-9]* HEAD /large status 200 bytes [0-9]* ms [0-9]*' \
+    'connection 3 exchange 1: 127.0.0.1:[0-9]* GET /large status 200 bytes [0-9]* ms [0-9]*'; do
+    grep -q "^$line$" "$work/lines" || echo "no line is $line "; done
+  # what the system takes of a smaller body before its client reads may be all of it
+  [ "$megabytes" -lt 50 ] || grep -q '^connection 3: client write fault$' "$work/lines" || echo 'it was not broken off '
+  awk -v most="$large_bytes" '/^connection 3 exchange/ && most >= 52428800 && $11 + 0 >= most { print "it tells " $11 " bytes" }' "$work/lines")"
+
+run --log --sets 64
+ab -q -k -c 64 -n "$((requests / 5))" "$url/small" >"$work/got" 2>&1
+finish "$((requests / 5)) requests of ab on 64 kept connections with a log, $(sed -n 's/^Requests per second: *\([0-9.]*\).*/\1/p' "$work/got") a second" \
+  "$(wrong_in "$work/got"; [ "$(grep -c ' GET /small status 200 bytes ' "$work/lines")" -ge "$((requests / 5))" ] || echo "$(grep -c ' exchange ' "$work/lines") lines came")"
+
 run --sets 256
 wrk -t1 -c200 -d1s "$url/small" >/dev/null 2>&1
 before="$(descriptors_at_rest)" least="$(memory)"

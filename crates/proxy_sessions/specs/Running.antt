@@ -34,7 +34,7 @@ pub record RanLoop {L N : Type 0} (seen : L → Seen) (wrote : L → List ℕ �
   pub writes_then : ℕ
   pub between : Option (List ℕ)
   pub line : WroteListening (address_of cfg.bind) writes writes_then old between
-  pub served : ServedMany (λ pair. meaning_of (record cfg { peer = source_in pair })) (λ pair. stands_for (record cfg { peer = source_in pair })) seen_of seen wrote tells cfg.accept_proxy (opening_of cfg) net_seen (address_of cfg.server) options.connections accepts_none (net_seen bound) (net_seen now) writes_then writes_now between new answer
+  pub served : ServedMany (λ pair. meaning_of (record cfg { peer = source_in pair })) (λ pair. stands_for (record cfg { peer = source_in pair })) seen_of seen wrote tells cfg.accept_proxy options.logs (opening_of cfg) net_seen (address_of cfg.server) options.connections accepts_none (net_seen bound) (net_seen now) writes_then writes_now between new answer
 
 -- The bind failed, and nothing was written; or memory ran out at the bind or behind it, and a front of the line was written. No link was accepted.
 abbrev pub NotBegun : (first now : NetSeen) → (old new : Option (List ℕ)) → Place → Result (Unit {0}) RunFault → Type 0

@@ -121,6 +121,7 @@ fn serve_here<
         times: times_of(&config.timeouts),
         connections: options.connections,
         accepts_header: config.accept_proxy,
+        logs: options.logs,
         opening: opening_of(config),
     };
     run(

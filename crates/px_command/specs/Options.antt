@@ -6,17 +6,26 @@ use Rattle.px_command.specs.declared.options.RunOptions.{RunOptions}
 
 -- no option was said
 abbrev pub nothing_said : RunOptions
-nothing_said = record { sets = None; connections = None; workers = None; until_input_ends = false }
+nothing_said = record { sets = None; connections = None; workers = None; until_input_ends = false; logs = false }
 
 -- the number within bounds that 1 to 10 decimal digits are
 abbrev pub number_within : (least most : ℕ) → (word : List ℕ) → Option ℕ
 number_within least most word =
     option_and_then (λ n. if nat_le least n && nat_le n most then Some n else None) (decimal_of 10 word)
 
--- what is said with a word more, which is `--until-input-ends`; none where it is another, or was said before
+-- what is said with `--until-input-ends` more; none where it was said before
+abbrev pub with_soft_end : RunOptions → Option RunOptions
+with_soft_end said = if said.until_input_ends then None else Some (record said { until_input_ends = true })
+
+-- the same of `--log`
+abbrev pub with_log : RunOptions → Option RunOptions
+with_log said = if said.logs then None else Some (record said { logs = true })
+
+-- what is said with a word more, which is one of these options; none where it is another
 abbrev pub with_flag : RunOptions → (word : List ℕ) → Option RunOptions
 with_flag said word =
-    if bytes_eq word (codes "--until-input-ends") && not said.until_input_ends then Some (record said { until_input_ends = true }) else None
+    if bytes_eq word (codes "--until-input-ends") then with_soft_end said
+    else (if bytes_eq word (codes "--log") then with_log said else None)
 
 -- what is said with `--sets` and 1 to 4096 more; none where the word is another number, or it was said before
 abbrev pub with_sets : RunOptions → (value : List ℕ) → Option RunOptions

@@ -38,7 +38,7 @@ run_numbers =
 
 -- `run`, with a file and its options
 abbrev pub run_shape : App
-run_shape = with_rule run_numbers (flag_rule (codes "until-input-ends"))
+run_shape = with_rule (with_rule run_numbers (flag_rule (codes "until-input-ends"))) (flag_rule (codes "log"))
 
 -- `check`, with a file, the flag that asks for each refused line, and the flag that says that it is a record
 abbrev pub check_shape : App

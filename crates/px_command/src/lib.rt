@@ -3,6 +3,7 @@
 #![tactic(auto)]
 
 mod ask;
+mod help;
 mod lists;
 mod name;
 mod options;

@@ -1,6 +1,6 @@
 //! The options of `run`, in any order, each at most once.
 ghost use Rattle.std.specs.Prelude.{◌≡◌, map, string_bytes};
-ghost use Rattle.px_command.specs.Options.{may_stand, nothing_said, number_within, options_behind, options_of, with_connections, with_flag, with_number, with_sets, with_workers};
+ghost use Rattle.px_command.specs.Options.{may_stand, nothing_said, number_within, options_behind, options_of, with_connections, with_flag, with_log, with_number, with_sets, with_soft_end, with_workers};
 
 use crate::words::number;
 
@@ -15,6 +15,8 @@ pub struct RunOptions {
     pub workers: Option<u32>,
     /// Nothing more is accepted once standard input has ended.
     pub until_input_ends: bool,
+    /// A line is written for each exchange.
+    pub logs: bool,
 }
 
 /// What no word says.
@@ -26,6 +28,7 @@ fn no_options() -> RunOptions
         connections: None,
         workers: None,
         until_input_ends: false,
+        logs: false,
     }
 }
 
@@ -36,13 +39,10 @@ fn within(word: &str, least: u32, most: u32) -> Option<u32>
     number(word, least, most)
 }
 
-/// What is said with this word more, where it is an option by itself that wasn't said yet.
-fn flagged(said: RunOptions, word: &str) -> Option<RunOptions>
-    ensures { result ≡ with_flag said word.now }
+/// What is said with `--until-input-ends` more, where it wasn't said yet.
+fn ended_softly(said: RunOptions) -> Option<RunOptions>
+    ensures { result ≡ with_soft_end said }
 {
-    if word != "--until-input-ends" {
-        return None;
-    }
     if said.until_input_ends {
         return None;
     }
@@ -50,6 +50,29 @@ fn flagged(said: RunOptions, word: &str) -> Option<RunOptions>
         until_input_ends: true,
         ..said
     })
+}
+
+/// The same of `--log`.
+fn logged(said: RunOptions) -> Option<RunOptions>
+    ensures { result ≡ with_log said }
+{
+    if said.logs {
+        return None;
+    }
+    Some(RunOptions { logs: true, ..said })
+}
+
+/// What is said with this word more, where it is an option by itself that wasn't said yet.
+fn flagged(said: RunOptions, word: &str) -> Option<RunOptions>
+    ensures { result ≡ with_flag said word.now }
+{
+    if word == "--until-input-ends" {
+        return ended_softly(said);
+    }
+    if word == "--log" {
+        return logged(said);
+    }
+    None
 }
 
 /// What is said with this number of sets more, where none was said yet.

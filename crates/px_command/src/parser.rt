@@ -201,7 +201,12 @@ pub fn run_command<'a>(alloc: Global) -> Result<Command<'a>, AllocError>
         "until-input-ends",
         "Accepts nothing more once standard input has ended, and ends when all are served",
     );
-    run_numbers(alloc)?.arg(switch)
+    let log = flag(
+        alloc,
+        "log",
+        "Writes a line for each exchange, beside that of each connection",
+    );
+    run_numbers(alloc)?.arg(switch)?.arg(log)
 }
 
 /// `drill SEED COUNT`.

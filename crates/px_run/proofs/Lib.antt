@@ -1,6 +1,7 @@
 mod Deadlines
 mod Asked
 mod Courses
+mod Logs
 mod Sets
 mod Begins
 mod Looks
@@ -14,5 +15,6 @@ mod AtPlace
 mod Stays
 mod Leaves
 mod Tellings
+mod ToldSo
 mod Acts
 mod Stories

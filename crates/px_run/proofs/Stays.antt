@@ -27,6 +27,7 @@ use Rattle.px_run.proofs.Callers.{for_asked}
 use Rattle.px_run.proofs.Halls.{here_taken, taken_set, taken_set_same}
 use Rattle.px_run.proofs.Numbers.{some_same, num_here, num_other, num_view, num_map, num_all, num_sum, num_more, num_last, num_within, here_set, here_at, here_last}
 use Rattle.px_run.proofs.Sets.{all_more}
+use Rattle.px_run.proofs.ToldSo.{keeps_same, keeps_changed}
 use Rattle.px_run.proofs.Texts.{looked_says, looked_other, looked_keeps, idle_says}
 use Rattle.px_run.specs.declared.plan.Opening.{Opening}
 
@@ -154,6 +155,7 @@ module _ {C L N : Type 0} (M : Option Pair → Meaning) (stands : Option Pair �
       returned = λ number. refl;
       said = λ number. sym (ap (λ l. outcomes_of (numbered number visits) ++ said_of number l) (idle_says looked idle) ∙ append-nil (outcomes_of (numbered number visits)));
       fair = λ kept all. all;
+      kept = keeps_same visits;
     },
     record {
       placed = λ other c h. elim (here_set places place other None c h) [
@@ -189,6 +191,7 @@ module _ {C L N : Type 0} (M : Option Pair → Meaning) (stands : Option Pair �
             kept_on = looked_keeps looked b.number b.conn.ran c.conn.ran l kept
                 (let P : Option (Result Ran SessionFault) → Type 0 = λ o. is_some o ≡ true → outcomes_in o ≡ [] → ⊥ in subst P (ap (λ (v : Visit L N). v.came) same ∙ was.came) it.kept_on);
           }) all;
+      kept = keeps_changed come (λ visit. refl) (λ visit. refl) c.number visits;
     },
     record {
       placed = λ other d h. elim (here_set places place other (Some c) d h) [
@@ -263,6 +266,7 @@ module _ {C L N : Type 0} (M : Option Pair → Meaning) (stands : Option Pair �
         returned = λ number. refl;
         said = λ number. sym (ap (λ l. outcomes_of (numbered number visits) ++ said_of number l) (idle_says looked idle) ∙ append-nil (outcomes_of (numbered number visits)));
         fair = λ kept all. all;
+        kept = keeps_same visits;
       }
 
   -- ---- the link of a connection was given back

@@ -9,8 +9,8 @@ use Rattle.htx_drive.specs.declared.SessionFault.{SessionFault}
 use Rattle.htx_drive.specs.declared.SessionFault.TheVariants as faults
 use Rattle.serve_run.specs.declared.outcome.Outcome.{Outcome}
 use Rattle.serve_run.specs.declared.outcome.Outcome.TheVariants as outcome
-use Rattle.serve_run.specs.Lines.{answer_of, line_of}
-use Rattle.px_run.specs.Lines.{Ended, outcomes_in, said_of, lines_of, ended_by, Writes}
+use Rattle.serve_run.specs.Lines.{answer_of}
+use Rattle.px_run.specs.Lines.{Ended, outcomes_in, said_of, ended_by, Writes}
 use Rattle.px_run.specs.Connection.{LookedSo, IsIdle}
 use Rattle.px_run.specs.Served.{WritesLines}
 use Rattle.px_run.specs.declared.connection.Looked.{Looked}
@@ -44,6 +44,13 @@ pub writes_front : (output : Output) (writes writes_now : ℕ) (old new : Option
 writes_front outputs.Open writes writes_now old new text w = front_whole old new text w.1
 writes_front outputs.Gone writes writes_now old new text w = w.1
 
+pub front_short : (old new : Option (List ℕ)) (text more : List ℕ) → GainsFront old new text → GainsFront old new (text ++ more)
+front_short old new text more g = (g.0, g.1 ++ more, ap (λ b. b ++ more) g.2 ∙ append_assoc g.0 g.1 more, g.3)
+
+-- nothing of what was said then was written
+pub writes_short : (output : Output) (writes writes_now : ℕ) (old new : Option (List ℕ)) (text more : List ℕ) → Writes true output writes writes_now old new text → GainsFront old new (text ++ more)
+writes_short output writes writes_now old new text more w = front_short old new text more (writes_front output writes writes_now old new text w)
+
 pub writes_weaker : (whole : Bool) (output : Output) (writes writes_now : ℕ) (old new : Option (List ℕ)) (text : List ℕ) → Writes true output writes writes_now old new text → Writes whole output writes writes_now old new text
 writes_weaker true output writes writes_now old new text w = w
 writes_weaker false output writes writes_now old new text w = writes_front output writes writes_now old new text w
@@ -71,10 +78,6 @@ writes_lines true outputs.Gone writes writes_now old new text w = inr w
 writes_lines false output writes writes_now old new text w = w
 
 -- ---- the connections that ended
-
-pub lines_then : (xs ys : List Ended) → lines_of (xs ++ ys) ≡ lines_of xs ++ lines_of ys
-lines_then [] ys = refl
-lines_then (x ∷ xs) ys = ap (λ l. line_of x.0 x.1 ++ l) (lines_then xs ys) ∙ sym (append_assoc (line_of x.0 x.1) (lines_of xs) (lines_of ys))
 
 or_one : (b : Bool) (x : Outcome) (more rest behind : List Outcome) → more ≡ rest ++ behind → cond b (x ∷ more) more ≡ cond b (x ∷ rest) rest ++ behind
 or_one true x more rest behind e = ap (λ l. x ∷ l) e

@@ -13,8 +13,8 @@ use Rattle.htx_drive.specs.Weave.State.{IsReady}
 use Rattle.px_run.specs.Course.{IsSame, IsSameServer}
 use Rattle.px_run.specs.Connection.{◌∘◌, IsFreshFor, LookedSo, IsIdle}
 use Rattle.px_run.specs.Callers.{IsAtFor, CameBack}
-use Rattle.px_run.specs.Lines.{Ended, said_of, lines_of, ended_by, Writes}
-use Rattle.px_run.specs.History.{Visit, numbered, change_numbered, came_to, links_back, outcomes_of, count_open, IsVisit, EndsByItself, Story}
+use Rattle.px_run.specs.Lines.{Said, said_of, lines_of, ended_in, ended_by, AllTold, Writes}
+use Rattle.px_run.specs.History.{Visit, numbered, change_numbered, came_to, links_back, outcomes_of, count_open, IsVisit, IsLogged, EndsByItself, KeepsEach, Story}
 use Rattle.px_run.specs.declared.connection.Connection.{Connection}
 use Rattle.px_run.specs.declared.connection.Looked.{Looked}
 use Rattle.px_run.specs.declared.connection.Looked.TheVariants as looks
@@ -129,34 +129,36 @@ pub record Advances {L N : Type 0} (looked : Looked) (old new : List (Visit L N)
   pub returned : (number : ℕ) → links_back (numbered number new) ≡ links_back (numbered number old)
   pub said : (number : ℕ) → outcomes_of (numbered number new) ≡ outcomes_of (numbered number old) ++ said_of number (ended_by looked)
   pub fair : (looked ≡ looks.Lost → ⊥) → AllByRecursion EndsByItself old → AllByRecursion EndsByItself new
+  pub kept : KeepsEach old new
 
 -- ---- the loop
 
 -- What the loop has done so far, and where all connections stand. `fair`: none was given up for want of memory, or with the loop. `whole`: no memory was wanted for a line.
-pub record Goes {C L N : Type 0} (M : Option Pair → Meaning) (stands : Option Pair → C → Past → Type 0) (sees : C → CoreSeen) (sound : C → Type 0) (seen : L → Seen) (wrote : L → List ℕ → Type 0) (tells : L → Option Pair → Type 0) (accepts_header : Bool) (opening : Opening) (sees_net : N → NetSeen) (to : Place) (fair whole : Bool) (begun now : NetSeen) (writes writes_now : ℕ) (before after : Option (List ℕ)) (hall : Hall C L N) : Type 0 where
+pub record Goes {C L N : Type 0} (M : Option Pair → Meaning) (stands : Option Pair → C → Past → Type 0) (sees : C → CoreSeen) (sound : C → Type 0) (seen : L → Seen) (wrote : L → List ℕ → Type 0) (tells : L → Option Pair → Type 0) (accepts_header logs : Bool) (opening : Opening) (sees_net : N → NetSeen) (to : Place) (fair whole : Bool) (begun now : NetSeen) (writes writes_now : ℕ) (before after : Option (List ℕ)) (hall : Hall C L N) : Type 0 where
   pub visits : List (Visit L N)
-  pub ended : List Ended
+  pub said : List Said
   pub all : AllStand M stands sees sound seen wrote tells accepts_header opening sees_net to visits hall.places.items hall.sets.items
   pub accepted : hall.accepted ≡ length visits
-  pub story : Story seen wrote begun now visits ended
+  pub story : Story seen wrote begun now visits (ended_in said)
   pub itself : fair ≡ true → AllByRecursion EndsByItself visits
-  pub written : Writes whole hall.output writes writes_now before after (lines_of ended)
+  pub written : Writes whole hall.output writes writes_now before after (lines_of said)
+  pub told_so : AllTold (IsLogged M stands sees seen wrote tells accepts_header logs opening sees_net to visits) said
 
 -- what the loop has done so far under this configuration
-abbrev pub GoesFor : {C L N S : Type 0} → (meaning : S → Meaning) → (stands : S → C → Past → Type 0) → (for_peer : S → Option Peer → S) → (cfg : S) → (sees : C → CoreSeen) → (sound : C → Type 0) → (seen : L → Seen) → (wrote : L → List ℕ → Type 0) → (tells : L → Option Pair → Type 0) → (accepts_header : Bool) → (opening : Opening) → (sees_net : N → NetSeen) → Place → (fair whole : Bool) → (begun now : NetSeen) → (writes writes_now : ℕ) → (before after : Option (List ℕ)) → Hall C L N → Type 0
+abbrev pub GoesFor : {C L N S : Type 0} → (meaning : S → Meaning) → (stands : S → C → Past → Type 0) → (for_peer : S → Option Peer → S) → (cfg : S) → (sees : C → CoreSeen) → (sound : C → Type 0) → (seen : L → Seen) → (wrote : L → List ℕ → Type 0) → (tells : L → Option Pair → Type 0) → (accepts_header logs : Bool) → (opening : Opening) → (sees_net : N → NetSeen) → Place → (fair whole : Bool) → (begun now : NetSeen) → (writes writes_now : ℕ) → (before after : Option (List ℕ)) → Hall C L N → Type 0
 GoesFor meaning stands for_peer cfg = Goes (meaning ∘ for_peer cfg ∘ source_in) (stands ∘ for_peer cfg ∘ source_in)
 
 -- Whatever the loop had done, it has done behind this too. `whole`: no memory was wanted.
-abbrev pub KeepsGoing : {C L N S K : Type 0} → (meaning : S → Meaning) → (stands : S → C → Past → Type 0) → (for_peer : S → Option Peer → S) → (sees : C → CoreSeen) → (sound : C → Type 0) → (seen : L → Seen) → (wrote : L → List ℕ → Type 0) → (tells : L → Option Pair → Type 0) → (accepts_header : Bool) → (opening : Opening) → (sees_net : N → NetSeen) → Place → (faults : K → ℕ) → (written : K → Option (List ℕ)) → (whole : Bool) → (old_net net : N) → (old_out out : K) → (old new : Hall C L N) → Type 0
-KeepsGoing {C} {L} {N} {S} {K} meaning stands for_peer sees sound seen wrote tells accepts_header opening sees_net to faults written whole old_net net old_out out old new =
-    (cfg : S) (begun : NetSeen) (writes : ℕ) (before : Option (List ℕ)) → GoesFor meaning stands for_peer cfg sees sound seen wrote tells accepts_header opening sees_net to true true begun (sees_net old_net) writes (faults old_out) before (written old_out) old
-    → GoesFor meaning stands for_peer cfg sees sound seen wrote tells accepts_header opening sees_net to whole whole begun (sees_net net) writes (faults out) before (written out) new
+abbrev pub KeepsGoing : {C L N S K : Type 0} → (meaning : S → Meaning) → (stands : S → C → Past → Type 0) → (for_peer : S → Option Peer → S) → (sees : C → CoreSeen) → (sound : C → Type 0) → (seen : L → Seen) → (wrote : L → List ℕ → Type 0) → (tells : L → Option Pair → Type 0) → (accepts_header logs : Bool) → (opening : Opening) → (sees_net : N → NetSeen) → Place → (faults : K → ℕ) → (written : K → Option (List ℕ)) → (whole : Bool) → (old_net net : N) → (old_out out : K) → (old new : Hall C L N) → Type 0
+KeepsGoing {C} {L} {N} {S} {K} meaning stands for_peer sees sound seen wrote tells accepts_header logs opening sees_net to faults written whole old_net net old_out out old new =
+    (cfg : S) (begun : NetSeen) (writes : ℕ) (before : Option (List ℕ)) → GoesFor meaning stands for_peer cfg sees sound seen wrote tells accepts_header logs opening sees_net to true true begun (sees_net old_net) writes (faults old_out) before (written old_out) old
+    → GoesFor meaning stands for_peer cfg sees sound seen wrote tells accepts_header logs opening sees_net to whole whole begun (sees_net net) writes (faults out) before (written out) new
 
 -- the same where nothing is written, wherever the servers are
-abbrev pub KeepsAll : {C L N S : Type 0} → (meaning : S → Meaning) → (stands : S → C → Past → Type 0) → (for_peer : S → Option Peer → S) → (sees : C → CoreSeen) → (sound : C → Type 0) → (seen : L → Seen) → (wrote : L → List ℕ → Type 0) → (tells : L → Option Pair → Type 0) → (accepts_header : Bool) → (opening : Opening) → (sees_net : N → NetSeen) → (old_net net : N) → (old new : Hall C L N) → Type 0
-KeepsAll {C} {L} {N} {S} meaning stands for_peer sees sound seen wrote tells accepts_header opening sees_net old_net net old new =
-    (cfg : S) (to : Place) (begun : NetSeen) (writes writes_now : ℕ) (before after : Option (List ℕ)) → GoesFor meaning stands for_peer cfg sees sound seen wrote tells accepts_header opening sees_net to true true begun (sees_net old_net) writes writes_now before after old
-    → GoesFor meaning stands for_peer cfg sees sound seen wrote tells accepts_header opening sees_net to true true begun (sees_net net) writes writes_now before after new
+abbrev pub KeepsAll : {C L N S : Type 0} → (meaning : S → Meaning) → (stands : S → C → Past → Type 0) → (for_peer : S → Option Peer → S) → (sees : C → CoreSeen) → (sound : C → Type 0) → (seen : L → Seen) → (wrote : L → List ℕ → Type 0) → (tells : L → Option Pair → Type 0) → (accepts_header logs : Bool) → (opening : Opening) → (sees_net : N → NetSeen) → (old_net net : N) → (old new : Hall C L N) → Type 0
+KeepsAll {C} {L} {N} {S} meaning stands for_peer sees sound seen wrote tells accepts_header logs opening sees_net old_net net old new =
+    (cfg : S) (to : Place) (begun : NetSeen) (writes writes_now : ℕ) (before after : Option (List ℕ)) → GoesFor meaning stands for_peer cfg sees sound seen wrote tells accepts_header logs opening sees_net to true true begun (sees_net old_net) writes writes_now before after old
+    → GoesFor meaning stands for_peer cfg sees sound seen wrote tells accepts_header logs opening sees_net to true true begun (sees_net net) writes writes_now before after new
 
 -- what the loop leaves of a net: it binds and dials nothing more
 pub record IsSameNet (old new : NetSeen) : Type 0 where

@@ -13,6 +13,7 @@ use Rattle.serve_run.specs.declared.outcome.Outcome.{Outcome}
 use Rattle.px_run.specs.Course.{IsToldNet}
 use Rattle.px_run.specs.Callers.{CameBack}
 use Rattle.px_run.specs.Lines.{Ended, outcomes_in, said_of}
+use Rattle.px_run.specs.Log.{Entry, IsToldOf}
 use Rattle.px_run.specs.declared.plan.Opening.{Opening}
 
 -- ---- connections
@@ -79,10 +80,21 @@ pub record IsVisit {C L N : Type 0} (M : Option Pair → Meaning) (stands : Opti
   pub new_net : IsToldNet opening.responder (sees_net visit.own)
   pub back : IfSome visit.back (λ (back : L × N). CameBack M stands sees seen wrote tells accepts_header opening visit.first back.0 to (sees_net visit.own) (sees_net back.1) visit.came)
 
+-- An exchange that is told is one of a connection that was accepted, and was so.
+pub record IsLogged {C L N : Type 0} (M : Option Pair → Meaning) (stands : Option Pair → C → Past → Type 0) (sees : C → CoreSeen) (seen : L → Seen) (wrote : L → List ℕ → Type 0) (tells : L → Option Pair → Type 0) (accepts_header logs : Bool) (opening : Opening) (sees_net : N → NetSeen) (to : Place) (visits : List (Visit L N)) (entry : Entry) : Type 0 where
+  pub asked : logs ≡ true
+  pub visit : Visit L N
+  pub is : numbered entry.connection visits ≡ Some visit
+  pub told : IsToldOf M stands sees seen wrote tells accepts_header opening sees_net to visit.first visit.own entry
+
 -- It is given back only once it has come to something, and not for want of memory.
 pub record EndsByItself {L N : Type 0} (visit : Visit L N) : Type 0 where
   pub over : is_some visit.back ≡ true → is_some visit.came ≡ true
   pub kept_on : is_some visit.came ≡ true → outcomes_in visit.came ≡ [] → ⊥
+
+-- each connection has its number still, the link that was accepted, and the net that was made for it
+abbrev pub KeepsEach : {L N : Type 0} → (old new : List (Visit L N)) → Type 0
+KeepsEach {L} {N} old new = (number : ℕ) (visit : Visit L N) → numbered number old ≡ Some visit → (next : Visit L N) × (numbered number new ≡ Some next) × (next.first ≡ visit.first) × (next.own ≡ visit.own)
 
 -- ---- the net that listens
 

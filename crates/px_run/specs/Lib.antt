@@ -1,6 +1,7 @@
 pub mod Next
 pub mod Deadline
 pub mod Course
+pub mod Log
 pub mod Lines
 pub mod Connection
 pub mod Callers

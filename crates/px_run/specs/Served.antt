@@ -10,8 +10,8 @@ use Rattle.px_link.specs.Told.{Rose, Gains, GainsFront}
 use Rattle.htx_drive.specs.Machine.{CoreSeen}
 use Rattle.serve_run.specs.declared.outcome.Outcome.{Outcome}
 use Rattle.serve_run.specs.Lines.{answer_of}
-use Rattle.px_run.specs.Lines.{Ended, lines_of}
-use Rattle.px_run.specs.History.{Visit, numbered, links_back, IsVisit, Story}
+use Rattle.px_run.specs.Lines.{Said, lines_of, ended_in, AllTold}
+use Rattle.px_run.specs.History.{Visit, numbered, links_back, IsVisit, IsLogged, Story}
 use Rattle.px_run.specs.declared.plan.RunFault.{RunFault}
 use Rattle.px_run.specs.declared.plan.RunFault.TheVariants as faults
 use Rattle.px_run.specs.declared.plan.Opening.{Opening}
@@ -61,15 +61,18 @@ pub record TellsMany {L N : Type 0} (seen : L → Seen) (wrote : L → List ℕ 
   pub once : (number : ℕ) → times_in number links ≡ length (links_back (numbered number visits))
 
 -- From the one net to the other these connections were accepted. Each was met and then served or turned away, or was given up, and was given back. The lines of those that came to an outcome
--- were written, each once. Behind `Ok` each has an outcome, and they are as many as were asked for, unless the caller accepts no more.
-pub record ServedMany {C L N : Type 0} (M : Option Pair → Meaning) (stands : Option Pair → C → Past → Type 0) (sees : C → CoreSeen) (seen : L → Seen) (wrote : L → List ℕ → Type 0) (tells : L → Option Pair → Type 0) (accepts_header : Bool) (opening : Opening) (sees_net : N → NetSeen) (to : Place) (most : Option ℕ) (accepts_none : Type 0) (begun now : NetSeen) (writes writes_now : ℕ) (old new : Option (List ℕ)) (answer : Result (Unit {0}) RunFault) : Type 0 where
+-- were written, each once, and between them those of exchanges. Behind `Ok` each has an outcome, and they are as many as were asked for, unless the caller accepts no more.
+pub record ServedMany {C L N : Type 0} (M : Option Pair → Meaning) (stands : Option Pair → C → Past → Type 0) (sees : C → CoreSeen) (seen : L → Seen) (wrote : L → List ℕ → Type 0) (tells : L → Option Pair → Type 0) (accepts_header logs : Bool) (opening : Opening) (sees_net : N → NetSeen) (to : Place) (most : Option ℕ) (accepts_none : Type 0) (begun now : NetSeen) (writes writes_now : ℕ) (old new : Option (List ℕ)) (answer : Result (Unit {0}) RunFault) : Type 0 where
   pub visits : List (Visit L N)
-  pub ended : List Ended
-  pub story : Story seen wrote begun now visits ended
+  -- what its lines are of, in their order
+  pub said : List Said
+  pub story : Story seen wrote begun now visits (ended_in said)
   pub each : AllByRecursion (IsVisit M stands sees seen wrote tells accepts_header opening sees_net to) visits
   pub all_back : AllByRecursion (λ (visit : Visit L N). is_some visit.back ≡ true) visits
   pub outcomes : OnOk answer (AllByRecursion HasOutcome visits)
   pub within : IfSome most (λ count. length visits ≤ count)
   pub as_many : OnOk answer (IfSome most (λ count. (length visits ≡ count) ⊎ accepts_none))
   pub told : (coming : List Coming) (before : List Kept) → begun.accepts ≡ Some coming → begun.kept ≡ Some before → TellsMany seen wrote now coming before visits
-  pub written : WritesLines (had_memory answer) writes writes_now old new (lines_of ended)
+  pub written : WritesLines (had_memory answer) writes writes_now old new (lines_of said)
+  -- each exchange that is told was so, of a connection that was accepted; without a log there is none
+  pub told_so : AllTold (IsLogged M stands sees seen wrote tells accepts_header logs opening sees_net to visits) said

@@ -138,7 +138,7 @@ fn accept<
     requires within { place < length hall.old.places.items }
     requires none { (d : Option (Connection C L N)) → slice_index_or hall.old.places.items place d ≡ None }
     requires more { hall.old.accepted < 2 ^ 32 - 1 }
-    ensures goes { KeepsAll C.meaning C.stands C.for_peer C.seen C.sound L.seen L.wrote L.tells plan.now.accepts_header plan.now.opening N.seen net.old net.new hall.old hall.new }
+    ensures goes { KeepsAll C.meaning C.stands C.for_peer C.seen C.sound L.seen L.wrote L.tells plan.now.accepts_header plan.now.logs plan.now.opening N.seen net.old net.new hall.old hall.new }
     ensures accepted { hall.new.accepted ≤ hall.old.accepted + 1 }
     ensures balanced { IsBalanced (N.seen net.old) (N.seen net.new) hall.old.places.items hall.new.places.items }
     ensures net { IsSameNet (N.seen net.old) (N.seen net.new) }
@@ -182,7 +182,7 @@ fn accept_next<
     wakes: &mut W,
     plan: &Plan,
 ) -> Result<bool, RunFault>
-    ensures goes { KeepsAll C.meaning C.stands C.for_peer C.seen C.sound L.seen L.wrote L.tells plan.now.accepts_header plan.now.opening N.seen net.old net.new hall.old hall.new }
+    ensures goes { KeepsAll C.meaning C.stands C.for_peer C.seen C.sound L.seen L.wrote L.tells plan.now.accepts_header plan.now.logs plan.now.opening N.seen net.old net.new hall.old hall.new }
     ensures within { IfSome plan.now.connections (λ count. hall.old.accepted ≤ count → hall.new.accepted ≤ count) }
     ensures balanced { IsBalanced (N.seen net.old) (N.seen net.new) hall.old.places.items hall.new.places.items }
     ensures net { IsSameNet (N.seen net.old) (N.seen net.new) }
@@ -231,7 +231,7 @@ pub(crate) fn accepts<
     wakes: &mut W,
     plan: &Plan,
 ) -> Result<(), RunFault>
-    ensures goes { KeepsAll C.meaning C.stands C.for_peer C.seen C.sound L.seen L.wrote L.tells plan.now.accepts_header plan.now.opening N.seen net.old net.new hall.old hall.new }
+    ensures goes { KeepsAll C.meaning C.stands C.for_peer C.seen C.sound L.seen L.wrote L.tells plan.now.accepts_header plan.now.logs plan.now.opening N.seen net.old net.new hall.old hall.new }
     ensures within { IfSome plan.now.connections (λ count. hall.old.accepted ≤ count → hall.new.accepted ≤ count) }
     ensures balanced { IsBalanced (N.seen net.old) (N.seen net.new) hall.old.places.items hall.new.places.items }
     ensures net { IsSameNet (N.seen net.old) (N.seen net.new) }

@@ -10,6 +10,7 @@ ghost use Rattle.htx_drive.specs.declared.Ran.{Ran};
 ghost use Rattle.htx_drive.specs.declared.SessionFault.{SessionFault};
 ghost use Rattle.px_run.specs.Connection.{LookedSo, IsIdle, AllFreshFor, IsAtUnder};
 ghost use Rattle.px_run.specs.Callers.{pair_of};
+ghost use Rattle.px_run.specs.Log.{Logs};
 
 use crate::caller::{Caller, pair_of};
 use crate::pace::Pace;
@@ -64,6 +65,8 @@ fn watched_step<C: Resets, L: Waits, N: WaitsNet<Link = L>, W: Wakes<N>>(
     requires may { MayStep C.seen C.sound core.old conn.old.server (N.seen conn.old.net) conn.old.ran }
     ensures goes { (cfg : C.Settings) (first : L) (first_net : N) → IsUnderWay (C.stands cfg) C.seen core.old L.seen L.wrote N.seen first (address_of to.now) first_net conn.old
         → LeadsTo result C.meaning C.stands cfg C.seen core.new L.seen L.wrote N.seen first (address_of to.now) first_net conn.new }
+    ensures logs { (cfg : C.Settings) (first : L) (first_net : N) → IsUnderWay (C.stands cfg) C.seen core.old L.seen L.wrote N.seen first (address_of to.now) first_net conn.old
+        → Logs C.meaning C.stands cfg C.seen L.seen L.wrote N.seen first (address_of to.now) first_net tools.old.log tools.new.log }
     ensures may { StepsTo result (MayStep C.seen C.sound core.new conn.new.server (N.seen conn.new.net) conn.new.ran) (HasCome result (C.sound core.new) conn.new.server conn.new.ran) }
 {
     match step(conn, core, pace, to, tools) {
@@ -93,6 +96,8 @@ fn moves<C: Resets, L: Waits, N: WaitsNet<Link = L>, W: Wakes<N>>(
     requires may { MayStep C.seen C.sound core.old conn.old.server (N.seen conn.old.net) conn.old.ran }
     ensures goes { (cfg : C.Settings) (first : L) (first_net : N) → IsUnderWay (C.stands cfg) C.seen core.old L.seen L.wrote N.seen first (address_of to.now) first_net conn.old
         → LeadsTo result C.meaning C.stands cfg C.seen core.new L.seen L.wrote N.seen first (address_of to.now) first_net conn.new }
+    ensures logs { (cfg : C.Settings) (first : L) (first_net : N) → IsUnderWay (C.stands cfg) C.seen core.old L.seen L.wrote N.seen first (address_of to.now) first_net conn.old
+        → Logs C.meaning C.stands cfg C.seen L.seen L.wrote N.seen first (address_of to.now) first_net tools.old.log tools.new.log }
     ensures may { StepsTo result (MayStep C.seen C.sound core.new conn.new.server (N.seen conn.new.net) conn.new.ran) (HasCome result (C.sound core.new) conn.new.server conn.new.ran) }
 {
     for _taken in 0..STEPS {
@@ -145,6 +150,8 @@ fn go<C: Resets, L: Waits, N: WaitsNet<Link = L>, W: Wakes<N>>(
     ensures goes { (cfg : C.Settings) (first : L) (first_net : N)
         → HasCore connection.old.core (λ core. IsUnderWay (C.stands cfg) C.seen core L.seen L.wrote N.seen first (address_of to.now) first_net connection.old.conn)
         → HasCore connection.new.core (λ core. LeadsTo result C.meaning C.stands cfg C.seen core L.seen L.wrote N.seen first (address_of to.now) first_net connection.new.conn) }
+    ensures logs { (cfg : C.Settings) (first : L) (first_net : N) → HasCore connection.old.core (λ core. IsUnderWay (C.stands cfg) C.seen core L.seen L.wrote N.seen first (address_of to.now) first_net connection.old.conn)
+        → Logs C.meaning C.stands cfg C.seen L.seen L.wrote N.seen first (address_of to.now) first_net tools.old.log tools.new.log }
     ensures may { HasCore connection.new.core (λ core. StepsTo result (MayStep C.seen C.sound core connection.new.conn.server (N.seen connection.new.conn.net) connection.new.conn.ran) (HasCome result (C.sound core) connection.new.conn.server connection.new.conn.ran)) }
     ensures number { connection.new.number ≡ connection.old.number }
     ensures caller { connection.new.caller ≡ connection.old.caller }
@@ -183,6 +190,8 @@ pub(crate) fn moved<C: ResetsFor + Drop, L: Waits, N: WaitsNet<Link = L>, W: Wak
     ensures ready { AllByRecursion (IsReady C.seen C.sound) sets.new.items }
     ensures at { (cfg : C.Settings) (first : L) (first_net : N) → HasCore connection.old.core (λ core. IsUnderWay (C.stands cfg) C.seen core L.seen L.wrote N.seen first (address_of to.now) first_net connection.old.conn)
         → IsAtUnder C.meaning C.stands cfg C.seen C.sound L.seen L.wrote N.seen first (address_of to.now) first_net connection.new }
+    ensures logs { (cfg : C.Settings) (first : L) (first_net : N) → HasCore connection.old.core (λ core. IsUnderWay (C.stands cfg) C.seen core L.seen L.wrote N.seen first (address_of to.now) first_net connection.old.conn)
+        → Logs C.meaning C.stands cfg C.seen L.seen L.wrote N.seen first (address_of to.now) first_net tools.old.log tools.new.log }
     ensures fresh { (cfg : C.Settings) (pair : Option Pair) (first : L) (first_net : N) → HasCore connection.old.core (λ core. IsUnderWay (C.stands (C.for_peer cfg (source_in pair))) C.seen core L.seen L.wrote N.seen first (address_of to.now) first_net connection.old.conn)
         → AllFreshFor C.stands C.for_peer cfg sets.old.items → AllFreshFor C.stands C.for_peer cfg sets.new.items }
     ensures looked { LookedSo result connection.old.number None connection.new.conn.ran }

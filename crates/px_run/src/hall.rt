@@ -6,12 +6,13 @@ ghost use Rattle.htx_drive.specs.Weave.State.{IsReady};
 ghost use Rattle.px_run.specs.Connection.{◌∘◌, AllFreshFor};
 ghost use Rattle.px_proxyproto.specs.Meeting.{source_in};
 ghost use Rattle.px_run.specs.Course.{IsSame, IsSameServer};
-ghost use Rattle.px_run.specs.Lines.{Writes, ended_by, lines_of};
-ghost use Rattle.px_run.specs.History.{Visit};
+ghost use Rattle.px_run.specs.Lines.{Writes, ended_by, says_of, lines_of};
+ghost use Rattle.px_run.specs.Log.{MoreLines};
+ghost use Rattle.px_run.specs.History.{Visit, IsLogged};
 ghost use Rattle.px_run.specs.Hall.{IsPlaced, IsAskedAt, LookedAt, MayGiveBack, HasEnded, AllStand, Advances, advanced, taken_at, count_taken, IsSameNet, IsBalancedAt, GoesFor};
 
 use crate::connection::{Connection, Looked};
-use crate::lines::{Output, write_line};
+use crate::lines::{Output, write_line, write_log};
 use crate::looking::look;
 use crate::pace::Pace;
 use crate::step::Tools;
@@ -164,6 +165,8 @@ fn look_at<
     ensures ready { AllByRecursion (IsReady C.seen C.sound) sets.new.items }
     ensures placed { (cfg : C.Settings) (visits : List (Visit L N)) → AllFreshFor C.stands C.for_peer cfg sets.old.items → IsPlaced (C.meaning ∘ C.for_peer cfg ∘ source_in) (C.stands ∘ C.for_peer cfg ∘ source_in) C.seen C.sound L.seen L.wrote L.tells plan.now.accepts_header plan.now.opening N.seen (address_of plan.now.to.now) visits at.old → IsPlaced (C.meaning ∘ C.for_peer cfg ∘ source_in) (C.stands ∘ C.for_peer cfg ∘ source_in) C.seen C.sound L.seen L.wrote L.tells plan.now.accepts_header plan.now.opening N.seen (address_of plan.now.to.now) (advanced at.new visits) at.new }
     ensures fresh { (cfg : C.Settings) (visits : List (Visit L N)) → AllFreshFor C.stands C.for_peer cfg sets.old.items → IsPlaced (C.meaning ∘ C.for_peer cfg ∘ source_in) (C.stands ∘ C.for_peer cfg ∘ source_in) C.seen C.sound L.seen L.wrote L.tells plan.now.accepts_header plan.now.opening N.seen (address_of plan.now.to.now) visits at.old → AllFreshFor C.stands C.for_peer cfg sets.new.items }
+    ensures logs { (cfg : C.Settings) (visits : List (Visit L N)) → AllFreshFor C.stands C.for_peer cfg sets.old.items → IsPlaced (C.meaning ∘ C.for_peer cfg ∘ source_in) (C.stands ∘ C.for_peer cfg ∘ source_in) C.seen C.sound L.seen L.wrote L.tells plan.now.accepts_header plan.now.opening N.seen (address_of plan.now.to.now) visits at.old
+        → MoreLines (IsLogged (C.meaning ∘ C.for_peer cfg ∘ source_in) (C.stands ∘ C.for_peer cfg ∘ source_in) C.seen L.seen L.wrote L.tells plan.now.accepts_header plan.now.logs plan.now.opening N.seen (address_of plan.now.to.now) visits) tools.old.log.text.items tools.new.log.text.items }
     ensures looked { LookedAt result at.old at.new }
 {
     match at {
@@ -182,6 +185,8 @@ fn look_here<
     requires stands { (cfg : C.Settings) × (visits : List (Visit L N)) × AllStand (C.meaning ∘ C.for_peer cfg ∘ source_in) (C.stands ∘ C.for_peer cfg ∘ source_in) C.seen C.sound L.seen L.wrote L.tells plan.now.accepts_header plan.now.opening N.seen (address_of plan.now.to.now) visits hall.old.places.items hall.old.sets.items }
     ensures stands { (cfg : C.Settings) (visits : List (Visit L N)) → AllStand (C.meaning ∘ C.for_peer cfg ∘ source_in) (C.stands ∘ C.for_peer cfg ∘ source_in) C.seen C.sound L.seen L.wrote L.tells plan.now.accepts_header plan.now.opening N.seen (address_of plan.now.to.now) visits hall.old.places.items hall.old.sets.items
         → (behind : List (Visit L N)) × Advances result visits behind × AllStand (C.meaning ∘ C.for_peer cfg ∘ source_in) (C.stands ∘ C.for_peer cfg ∘ source_in) C.seen C.sound L.seen L.wrote L.tells plan.now.accepts_header plan.now.opening N.seen (address_of plan.now.to.now) behind hall.new.places.items hall.new.sets.items }
+    ensures logs { (cfg : C.Settings) (visits : List (Visit L N)) → AllStand (C.meaning ∘ C.for_peer cfg ∘ source_in) (C.stands ∘ C.for_peer cfg ∘ source_in) C.seen C.sound L.seen L.wrote L.tells plan.now.accepts_header plan.now.opening N.seen (address_of plan.now.to.now) visits hall.old.places.items hall.old.sets.items
+        → MoreLines (IsLogged (C.meaning ∘ C.for_peer cfg ∘ source_in) (C.stands ∘ C.for_peer cfg ∘ source_in) C.seen L.seen L.wrote L.tells plan.now.accepts_header plan.now.logs plan.now.opening N.seen (address_of plan.now.to.now) visits) hall.old.tools.log.text.items hall.new.tools.log.text.items }
     ensures taken { count_taken hall.new.places.items ≡ count_taken hall.old.places.items }
     ensures accepted { hall.new.accepted ≡ hall.old.accepted }
     ensures output { hall.new.output ≡ hall.old.output }
@@ -215,13 +220,17 @@ pub(crate) fn visit<
     plan: &Plan,
 ) -> Result<Looked, OutOfMemory>
     requires stands { (cfg : C.Settings) × (visits : List (Visit L N)) × AllStand (C.meaning ∘ C.for_peer cfg ∘ source_in) (C.stands ∘ C.for_peer cfg ∘ source_in) C.seen C.sound L.seen L.wrote L.tells plan.now.accepts_header plan.now.opening N.seen (address_of plan.now.to.now) visits hall.old.places.items hall.old.sets.items }
-    ensures goes { (cfg : C.Settings) (begun now : NetSeen) (writes : ℕ) (before : Option (List ℕ)) → GoesFor C.meaning C.stands C.for_peer cfg C.seen C.sound L.seen L.wrote L.tells plan.now.accepts_header plan.now.opening N.seen (address_of plan.now.to.now) true true begun now writes (K.faults out.old) before (K.written out.old) hall.old
-        → GoesFor C.meaning C.stands C.for_peer cfg C.seen C.sound L.seen L.wrote L.tells plan.now.accepts_header plan.now.opening N.seen (address_of plan.now.to.now) (is_ok result) (is_ok result) begun now writes (K.faults out.new) before (K.written out.new) hall.new }
+    ensures goes { (cfg : C.Settings) (begun now : NetSeen) (writes : ℕ) (before : Option (List ℕ)) → GoesFor C.meaning C.stands C.for_peer cfg C.seen C.sound L.seen L.wrote L.tells plan.now.accepts_header plan.now.logs plan.now.opening N.seen (address_of plan.now.to.now) true true begun now writes (K.faults out.old) before (K.written out.old) hall.old
+        → GoesFor C.meaning C.stands C.for_peer cfg C.seen C.sound L.seen L.wrote L.tells plan.now.accepts_header plan.now.logs plan.now.opening N.seen (address_of plan.now.to.now) (is_ok result) (is_ok result) begun now writes (K.faults out.new) before (K.written out.new) hall.new }
     ensures taken { count_taken hall.new.places.items ≡ count_taken hall.old.places.items }
     ensures accepted { hall.new.accepted ≡ hall.old.accepted }
 {
+    hall.tools.log.text.truncate(0);
     let looked = look_here(hall, pace, wakes, plan);
-    say(looked, plan.alloc, &mut hall.output, out)
+    match write_log(&hall.tools.log, &mut hall.output, out) {
+        Ok(()) => say(looked, plan.alloc, &mut hall.output, out),
+        Err(OutOfMemory) => Err(OutOfMemory),
+    }
 }
 
 /// The line of a connection that ended in this look.
@@ -233,7 +242,7 @@ fn say<K: Sink>(
 ) -> Result<Looked, OutOfMemory>
     // `text` is what was to be written before.
     ensures writes { (writes : ℕ) (before : Option (List ℕ)) (text : List ℕ) → Writes true output.old writes (K.faults out.old) before (K.written out.old) text
-        → Writes (is_ok result) output.new writes (K.faults out.new) before (K.written out.new) (text ++ lines_of (ended_by looked)) }
+        → Writes (is_ok result) output.new writes (K.faults out.new) before (K.written out.new) (text ++ lines_of (says_of (ended_by looked))) }
     ensures kept_on { OnOk result (looked ≡ Looked.Lost → ⊥) }
 {
     match looked {

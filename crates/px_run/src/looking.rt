@@ -7,11 +7,12 @@ ghost use Rattle.htx_drive.specs.declared.Ran.{Ran};
 ghost use Rattle.htx_drive.specs.declared.SessionFault.{SessionFault};
 ghost use Rattle.serve_run.specs.Met.{TurnedAway, unheard};
 ghost use Rattle.px_run.specs.Course.{IsSame};
-ghost use Rattle.px_run.specs.Connection.{LookedSo, AllFreshFor, IsAtUnder};
+ghost use Rattle.px_run.specs.Connection.{◌∘◌, LookedSo, AllFreshFor, IsAtUnder};
+ghost use Rattle.px_run.specs.Log.{IsToldOf, IsLine, MoreLines, LogsMore, Logs};
 ghost use Rattle.px_proxyproto.specs.Meeting.{source_in};
 ghost use Rattle.px_run.specs.Callers.{pair_of, is_greeted, ReadMore, StandsFor};
 
-use crate::caller::{greet_on, introduce, is_greeted, is_refused};
+use crate::caller::{greet_on, introduce, is_greeted, is_refused, pair_of};
 use crate::connection::{Connection, Looked, moved, seat, told};
 use crate::pace::Pace;
 use crate::step::Tools;
@@ -19,7 +20,7 @@ use crate::{Opening, Plan};
 use http_model::{Close, End};
 use htx_drive::weave::{Conn, ResetsFor};
 use px_link::{Address, Link, Net, Waits, WaitsNet, Wakes};
-use px_proxyproto::{HasPair, Introduces};
+use px_proxyproto::{HasPair, Introduces, source_of};
 use serve_run::Ran;
 
 /// A look at a connection that has ended: whether its client's link can be given back.
@@ -93,6 +94,8 @@ fn serve<C: ResetsFor + Drop, L: Waits, N: WaitsNet<Link = L>, W: Wakes<N>>(
     ensures ready { AllByRecursion (IsReady C.seen C.sound) sets.new.items }
     ensures at { (cfg : C.Settings) (first : L) (first_net : N) → AllFreshFor C.stands C.for_peer cfg sets.old.items → IsAtUnder C.meaning C.stands (C.for_peer cfg (source_in (pair_of connection.old.caller))) C.seen C.sound L.seen L.wrote N.seen first (address_of to.now) first_net connection.old
         → IsAtUnder C.meaning C.stands (C.for_peer cfg (source_in (pair_of connection.old.caller))) C.seen C.sound L.seen L.wrote N.seen first (address_of to.now) first_net connection.new }
+    ensures logs { (cfg : C.Settings) (first : L) (first_net : N) → AllFreshFor C.stands C.for_peer cfg sets.old.items → IsAtUnder C.meaning C.stands (C.for_peer cfg (source_in (pair_of connection.old.caller))) C.seen C.sound L.seen L.wrote N.seen first (address_of to.now) first_net connection.old
+        → Logs C.meaning C.stands (C.for_peer cfg (source_in (pair_of connection.old.caller))) C.seen L.seen L.wrote N.seen first (address_of to.now) first_net tools.old.log tools.new.log }
     ensures fresh { (cfg : C.Settings) (first : L) (first_net : N) → AllFreshFor C.stands C.for_peer cfg sets.old.items → IsAtUnder C.meaning C.stands (C.for_peer cfg (source_in (pair_of connection.old.caller))) C.seen C.sound L.seen L.wrote N.seen first (address_of to.now) first_net connection.old
         → AllFreshFor C.stands C.for_peer cfg sets.new.items }
     ensures looked { LookedSo result connection.old.number connection.old.conn.ran connection.new.conn.ran }
@@ -106,6 +109,41 @@ fn serve<C: ResetsFor + Drop, L: Waits, N: WaitsNet<Link = L>, W: Wakes<N>>(
 }
 
 /// A look at a connection: its header is read, it gets a core, makes steps, ends or leaves.
+fn look_on<
+    C: ResetsFor + Drop,
+    L: Waits + HasPair,
+    N: WaitsNet<Link = L> + Introduces,
+    W: Wakes<N>,
+>(
+    connection: &mut Connection<C, L, N>,
+    sets: &mut Vec<C>,
+    pace: &mut Pace,
+    wakes: &mut W,
+    plan: &Plan,
+    tools: &mut Tools,
+) -> Looked
+    requires at { (cfg : C.Settings) × (first : L) × (first_net : N) × AllFreshFor C.stands C.for_peer cfg sets.old.items × StandsFor C.meaning C.stands C.for_peer cfg C.seen C.sound L.seen L.wrote L.tells plan.now.accepts_header plan.now.opening N.seen first (address_of plan.now.to.now) first_net connection.old }
+    requires ready { AllByRecursion (IsReady C.seen C.sound) sets.old.items }
+    ensures ready { AllByRecursion (IsReady C.seen C.sound) sets.new.items }
+    ensures at { (cfg : C.Settings) (first : L) (first_net : N) → AllFreshFor C.stands C.for_peer cfg sets.old.items → StandsFor C.meaning C.stands C.for_peer cfg C.seen C.sound L.seen L.wrote L.tells plan.now.accepts_header plan.now.opening N.seen first (address_of plan.now.to.now) first_net connection.old
+        → StandsFor C.meaning C.stands C.for_peer cfg C.seen C.sound L.seen L.wrote L.tells plan.now.accepts_header plan.now.opening N.seen first (address_of plan.now.to.now) first_net connection.new }
+    ensures fresh { (cfg : C.Settings) (first : L) (first_net : N) → AllFreshFor C.stands C.for_peer cfg sets.old.items → StandsFor C.meaning C.stands C.for_peer cfg C.seen C.sound L.seen L.wrote L.tells plan.now.accepts_header plan.now.opening N.seen first (address_of plan.now.to.now) first_net connection.old
+        → AllFreshFor C.stands C.for_peer cfg sets.new.items }
+    ensures logs { (cfg : C.Settings) (first : L) (first_net : N) → AllFreshFor C.stands C.for_peer cfg sets.old.items → StandsFor C.meaning C.stands C.for_peer cfg C.seen C.sound L.seen L.wrote L.tells plan.now.accepts_header plan.now.opening N.seen first (address_of plan.now.to.now) first_net connection.old
+        → LogsMore (IsToldOf (C.meaning ∘ C.for_peer cfg ∘ source_in) (C.stands ∘ C.for_peer cfg ∘ source_in) C.seen L.seen L.wrote L.tells plan.now.accepts_header plan.now.opening N.seen (address_of plan.now.to.now) first first_net) tools.old.log tools.new.log }
+    ensures looked { LookedSo result connection.old.number connection.old.conn.ran connection.new.conn.ran }
+    ensures number { connection.new.number ≡ connection.old.number }
+{
+    if connection.conn.ran.is_some() {
+        return leaves(&mut connection.conn.client, pace);
+    }
+    if is_greeted(&connection.caller) {
+        return hear(connection, pace, &plan.opening, tools.now);
+    }
+    serve(connection, sets, pace, wakes, plan.to, tools)
+}
+
+/// The same, with a log of its own: that is begun for it, and what was counted of it before is counted on.
 pub(crate) fn look<
     C: ResetsFor + Drop,
     L: Waits + HasPair,
@@ -126,14 +164,16 @@ pub(crate) fn look<
         → StandsFor C.meaning C.stands C.for_peer cfg C.seen C.sound L.seen L.wrote L.tells plan.now.accepts_header plan.now.opening N.seen first (address_of plan.now.to.now) first_net connection.new }
     ensures fresh { (cfg : C.Settings) (first : L) (first_net : N) → AllFreshFor C.stands C.for_peer cfg sets.old.items → StandsFor C.meaning C.stands C.for_peer cfg C.seen C.sound L.seen L.wrote L.tells plan.now.accepts_header plan.now.opening N.seen first (address_of plan.now.to.now) first_net connection.old
         → AllFreshFor C.stands C.for_peer cfg sets.new.items }
+    ensures logs { (cfg : C.Settings) (first : L) (first_net : N) → AllFreshFor C.stands C.for_peer cfg sets.old.items → StandsFor C.meaning C.stands C.for_peer cfg C.seen C.sound L.seen L.wrote L.tells plan.now.accepts_header plan.now.opening N.seen first (address_of plan.now.to.now) first_net connection.old
+        → MoreLines (IsLine plan.now.logs connection.old.number (IsToldOf (C.meaning ∘ C.for_peer cfg ∘ source_in) (C.stands ∘ C.for_peer cfg ∘ source_in) C.seen L.seen L.wrote L.tells plan.now.accepts_header plan.now.opening N.seen (address_of plan.now.to.now) first first_net)) tools.old.log.text.items tools.new.log.text.items }
     ensures looked { LookedSo result connection.old.number connection.old.conn.ran connection.new.conn.ran }
     ensures number { connection.new.number ≡ connection.old.number }
 {
-    if connection.conn.ran.is_some() {
-        return leaves(&mut connection.conn.client, pace);
-    }
-    if is_greeted(&connection.caller) {
-        return hear(connection, pace, &plan.opening, tools.now);
-    }
-    serve(connection, sets, pace, wakes, plan.to, tools)
+    let peer = source_of(pair_of(&connection.caller));
+    tools
+        .log
+        .begin(plan.logs, connection.number, peer, pace.tally);
+    let looked = look_on(connection, sets, pace, wakes, plan, tools);
+    pace.tally = tools.log.tally;
+    looked
 }

@@ -1,5 +1,6 @@
 //! When a connection is looked at again: how far its client's request is, and when what it waits for began. No contract speaks of it.
 
+use crate::log::Tally;
 use crate::{Call, Marks, Next, Phase, Times, deadline_of, expired_of};
 use px_link::Turn;
 use session_core::Wants;
@@ -38,6 +39,8 @@ pub(crate) struct Pace {
     pub until: Option<u64>,
     /// It is looked at next.
     pub due: bool,
+    /// What was counted of it for its log.
+    pub tally: Tally,
 }
 
 /// This time if the want is new, or else the one before.
@@ -91,6 +94,7 @@ impl Pace {
             expired: false,
             until: deadline_of(&WAITING, Phase::First, times, &marks),
             due: false,
+            tally: Tally::new(),
         }
     }
 

@@ -28,6 +28,9 @@ pub struct Plan<'a> {
     pub connections: Option<u32>,
     /// Whether the stream of each client begins with a header of the PROXY protocol, which tells who asks.
     pub accepts_header: bool,
+    /// Whether a line is written for each exchange.
+    pub logs: bool,
+    /// What each link to a server is told first.
     pub opening: Opening<'a>,
 }
 

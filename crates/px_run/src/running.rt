@@ -17,6 +17,7 @@ use crate::caller::{Caller, is_greeted};
 use crate::connection::Connection;
 use crate::hall::{Hall, is_empty, no_places};
 use crate::lines::Output;
+use crate::log::Log;
 use crate::rounds::{looks, wait};
 use crate::step::Tools;
 use crate::{Nets, Plan, RunFault};
@@ -46,9 +47,9 @@ fn rounds<
     out: &mut K,
     plan: &Plan,
 ) -> Result<(), RunFault>
-    requires goes { (cfg : C.Settings) × (begun : NetSeen) × (writes : ℕ) × (before : Option (List ℕ)) × GoesFor C.meaning C.stands C.for_peer cfg C.seen C.sound L.seen L.wrote L.tells plan.now.accepts_header plan.now.opening N.seen (address_of plan.now.to.now) true true begun (N.seen net.old) writes (K.faults out.old) before (K.written out.old) hall.old }
+    requires goes { (cfg : C.Settings) × (begun : NetSeen) × (writes : ℕ) × (before : Option (List ℕ)) × GoesFor C.meaning C.stands C.for_peer cfg C.seen C.sound L.seen L.wrote L.tells plan.now.accepts_header plan.now.logs plan.now.opening N.seen (address_of plan.now.to.now) true true begun (N.seen net.old) writes (K.faults out.old) before (K.written out.old) hall.old }
     requires lent { count_taken hall.old.places.items ≤ (N.seen net.old).lent }
-    ensures goes { KeepsGoing C.meaning C.stands C.for_peer C.seen C.sound L.seen L.wrote L.tells plan.now.accepts_header plan.now.opening N.seen (address_of plan.now.to.now) K.faults K.written (had_memory result) net.old net.new out.old out.new hall.old hall.new }
+    ensures goes { KeepsGoing C.meaning C.stands C.for_peer C.seen C.sound L.seen L.wrote L.tells plan.now.accepts_header plan.now.logs plan.now.opening N.seen (address_of plan.now.to.now) K.faults K.written (had_memory result) net.old net.new out.old out.new hall.old hall.new }
     ensures within { IfSome plan.now.connections (λ count. hall.old.accepted ≤ count → hall.new.accepted ≤ count) }
     ensures balanced { IsBalanced (N.seen net.old) (N.seen net.new) hall.old.places.items hall.new.places.items }
     ensures net { IsSameNet (N.seen net.old) (N.seen net.new) }
@@ -124,10 +125,10 @@ fn leave_all<C: ResetsFor + Drop, L: Waits + HasPair + Drop, N: WaitsNet<Link = 
     hall: &mut Hall<C, L, N>,
     net: &mut N,
 )
-    requires goes { (cfg : C.Settings) × (accepts_header : Bool) × (opening : Opening) × (to : Place) × (fair whole : Bool) × (begun : NetSeen) × (writes writes_now : ℕ) × (before after : Option (List ℕ)) × GoesFor C.meaning C.stands C.for_peer cfg C.seen C.sound L.seen L.wrote L.tells accepts_header opening N.seen to fair whole begun (N.seen net.old) writes writes_now before after hall.old }
+    requires goes { (cfg : C.Settings) × (accepts_header logs : Bool) × (opening : Opening) × (to : Place) × (fair whole : Bool) × (begun : NetSeen) × (writes writes_now : ℕ) × (before after : Option (List ℕ)) × GoesFor C.meaning C.stands C.for_peer cfg C.seen C.sound L.seen L.wrote L.tells accepts_header logs opening N.seen to fair whole begun (N.seen net.old) writes writes_now before after hall.old }
     requires lent { count_taken hall.old.places.items ≤ (N.seen net.old).lent }
-    ensures goes { (cfg : C.Settings) (accepts_header : Bool) (opening : Opening) (to : Place) (fair whole : Bool) (begun : NetSeen) (writes writes_now : ℕ) (before after : Option (List ℕ)) → GoesFor C.meaning C.stands C.for_peer cfg C.seen C.sound L.seen L.wrote L.tells accepts_header opening N.seen to fair whole begun (N.seen net.old) writes writes_now before after hall.old
-        → GoesFor C.meaning C.stands C.for_peer cfg C.seen C.sound L.seen L.wrote L.tells accepts_header opening N.seen to false whole begun (N.seen net.new) writes writes_now before after hall.new }
+    ensures goes { (cfg : C.Settings) (accepts_header logs : Bool) (opening : Opening) (to : Place) (fair whole : Bool) (begun : NetSeen) (writes writes_now : ℕ) (before after : Option (List ℕ)) → GoesFor C.meaning C.stands C.for_peer cfg C.seen C.sound L.seen L.wrote L.tells accepts_header logs opening N.seen to fair whole begun (N.seen net.old) writes writes_now before after hall.old
+        → GoesFor C.meaning C.stands C.for_peer cfg C.seen C.sound L.seen L.wrote L.tells accepts_header logs opening N.seen to false whole begun (N.seen net.new) writes writes_now before after hall.new }
     ensures accepted { hall.new.accepted ≡ hall.old.accepted }
     ensures none { count_taken hall.new.places.items ≡ 0 }
     ensures balanced { IsBalanced (N.seen net.old) (N.seen net.new) hall.old.places.items hall.new.places.items }
@@ -161,7 +162,7 @@ pub fn run<
     requires ready { AllByRecursion (IsReady C.seen C.sound) sets.items }
     requires fresh { (cfg : C.Settings) × AllByRecursion (IsFreshFor (λ pair. C.stands (C.for_peer cfg (source_in pair)))) sets.items }
     // Each link that was accepted is that of a connection, which was served to its end or given up, and was given back; and the lines were written.
-    ensures served { (cfg : C.Settings) → AllByRecursion (IsFreshFor (λ pair. C.stands (C.for_peer cfg (source_in pair)))) sets.items → ServedMany (λ pair. C.meaning (C.for_peer cfg (source_in pair))) (λ pair. C.stands (C.for_peer cfg (source_in pair))) C.seen L.seen L.wrote L.tells plan.now.accepts_header plan.now.opening N.seen (address_of plan.now.to.now) plan.now.connections (S.accepts_none nets.new) (N.seen net.old) (N.seen net.new) (K.faults out.old) (K.faults out.new) (K.written out.old) (K.written out.new) result }
+    ensures served { (cfg : C.Settings) → AllByRecursion (IsFreshFor (λ pair. C.stands (C.for_peer cfg (source_in pair)))) sets.items → ServedMany (λ pair. C.meaning (C.for_peer cfg (source_in pair))) (λ pair. C.stands (C.for_peer cfg (source_in pair))) C.seen L.seen L.wrote L.tells plan.now.accepts_header plan.now.logs plan.now.opening N.seen (address_of plan.now.to.now) plan.now.connections (S.accepts_none nets.new) (N.seen net.old) (N.seen net.new) (K.faults out.old) (K.faults out.new) (K.written out.old) (K.written out.new) result }
     ensures lent { (N.seen net.new).lent ≡ (N.seen net.old).lent }
     ensures bound { (N.seen net.new).bound ≡ (N.seen net.old).bound }
     ensures dialled { (N.seen net.new).dialled ≡ (N.seen net.old).dialled }
@@ -175,6 +176,7 @@ pub fn run<
     let tools = Tools {
         now: wakes.now(),
         buffer: [0; MOST_READ],
+        log: Log::new(plan.alloc),
     };
     let mut hall = Hall {
         places,

@@ -28,6 +28,9 @@ fn more_options(options: RunOptions, answers: &mut Answers) {
     if options.until_input_ends {
         answers.more(b" until-input-ends");
     }
+    if options.logs {
+        answers.more(b" log");
+    }
 }
 
 /// Says a command of one file.

@@ -38,12 +38,12 @@ stands_under cfg peer core past =
     Stands (meaning_of (record cfg { peer = peer })) request_of answer_of (SessionStands (record cfg { peer = peer }, cfg.limits.bufsize)) core.sides core.at past
 
 -- what was served by what each link was told is so by what that equals
-opened : {C L N : Type 0} {M : Option Pair → Meaning} {stands : Option Pair → C → Past → Type 0} {sees : C → CoreSeen} {seen : L → Seen} {wrote : L → List ℕ → Type 0} {tells : L → Option Pair → Type 0} {accepts_header : Bool} {sees_net : N → NetSeen} {to : Place} {most : Option ℕ} {accepts_none : Type 0} {begun now : NetSeen} {writes writes_now : ℕ} {old new : Option (List ℕ)} {answer : Result (Unit {0}) RunFault}
+opened : {C L N : Type 0} {M : Option Pair → Meaning} {stands : Option Pair → C → Past → Type 0} {sees : C → CoreSeen} {seen : L → Seen} {wrote : L → List ℕ → Type 0} {tells : L → Option Pair → Type 0} {accepts_header logs : Bool} {sees_net : N → NetSeen} {to : Place} {most : Option ℕ} {accepts_none : Type 0} {begun now : NetSeen} {writes writes_now : ℕ} {old new : Option (List ℕ)} {answer : Result (Unit {0}) RunFault}
     (a b : Opening) → a ≡ b
-    → ServedMany M stands sees seen wrote tells accepts_header a sees_net to most accepts_none begun now writes writes_now old new answer
-    → ServedMany M stands sees seen wrote tells accepts_header b sees_net to most accepts_none begun now writes writes_now old new answer
-opened {M} {stands} {sees} {seen} {wrote} {tells} {accepts_header} {sees_net} {to} {most} {accepts_none} {begun} {now} {writes} {writes_now} {old} {new} {answer} a b e h =
-    subst (λ (o : Opening). ServedMany M stands sees seen wrote tells accepts_header o sees_net to most accepts_none begun now writes writes_now old new answer) e h
+    → ServedMany M stands sees seen wrote tells accepts_header logs a sees_net to most accepts_none begun now writes writes_now old new answer
+    → ServedMany M stands sees seen wrote tells accepts_header logs b sees_net to most accepts_none begun now writes writes_now old new answer
+opened {M} {stands} {sees} {seen} {wrote} {tells} {accepts_header} {logs} {sees_net} {to} {most} {accepts_none} {begun} {now} {writes} {writes_now} {old} {new} {answer} a b e h =
+    subst (λ (o : Opening). ServedMany M stands sees seen wrote tells accepts_header logs o sees_net to most accepts_none begun now writes writes_now old new answer) e h
 
 pub run-requires-clause-fresh : goal.run-requires-clause-fresh
 run-requires-clause-fresh g c =

@@ -20,3 +20,9 @@ returns-clause-goes g c = λ cfg first first_net h.
 
 pub returns-clause-may : goal.returns-clause-may
 returns-clause-may g c = (c.moves.new.core, refl, c.moves.ensures.may)
+
+pub returns-clause-logs : goal.returns-clause-logs
+returns-clause-logs g c = λ cfg first first_net h.
+    let e : c.args.connection.now.core ≡ Some c.in-Some.core = search rules in
+    c.moves.ensures.logs cfg first first_net
+    (has_it (λ core. GoesOn (g.C.Machine.stands cfg) g.C.Machine.seen core g.L.Link.seen g.L.Link.wrote first c.args.connection.now.conn.client c.args.connection.now.conn.server (address_of c.args.to.now) (g.N.Net.seen first_net) (g.N.Net.seen c.args.connection.now.conn.net)) c.args.connection.now.core c.in-Some.core e h)

@@ -1,0 +1,95 @@
+//! Which calls on the links of a connection are answered at once.
+ghost use Rattle.std.specs.Prelude.{◌≡◌};
+ghost use Rattle.px_run.specs.Course.{IsSame, IsSameServer};
+
+use crate::Ready;
+use htx_drive::Wants;
+use htx_drive::weave::Conn;
+use px_link::{Address, Waits, WaitsNet};
+
+/// Whether a read is wanted and answered at once.
+fn may_read<L: Waits>(link: &mut L, wanted: bool) -> bool
+    ensures same { IsSame L.seen L.wrote link.old link.new }
+{
+    if !wanted {
+        return false;
+    }
+    link.can_read()
+}
+
+/// Whether a write is wanted and answered at once.
+fn may_write<L: Waits>(link: &mut L, wanted: bool) -> bool
+    ensures same { IsSame L.seen L.wrote link.old link.new }
+{
+    if !wanted {
+        return false;
+    }
+    link.can_write()
+}
+
+/// Whether a read of the server is wanted and answered at once.
+fn may_read_server<L: Waits>(server: &mut Option<L>, wanted: bool) -> bool
+    ensures same { IsSameServer L.seen L.wrote server.old server.new }
+{
+    match server {
+        Some(link) => may_read(link, wanted),
+        None => false,
+    }
+}
+
+/// Whether a write to the server is wanted and answered at once.
+fn may_write_server<L: Waits>(server: &mut Option<L>, wanted: bool) -> bool
+    ensures same { IsSameServer L.seen L.wrote server.old server.new }
+{
+    match server {
+        Some(link) => may_write(link, wanted),
+        None => false,
+    }
+}
+
+/// Whether a connect is wanted and is over, or its time is.
+fn may_open<N: WaitsNet>(net: &mut N, to: &Address, wanted: bool, over: bool) -> bool
+    ensures same { N.seen net.new ≡ N.seen net.old }
+{
+    if !wanted {
+        return false;
+    }
+    if over {
+        return true;
+    }
+    net.can_connect(to)
+}
+
+/// Tells a link whether it is written to now, and whether more follows at once.
+fn cork<L: Waits>(link: &mut L, writes: bool, follows: bool)
+    ensures same { IsSame L.seen L.wrote link.old link.new }
+{
+    link.cork(writes, follows);
+}
+
+/// Which calls are answered at once, of those that are wanted.
+pub(crate) fn ready_of<L: Waits, N: WaitsNet<Link = L>>(
+    conn: &mut Conn<L, N>,
+    wants: &Wants,
+    to: &Address,
+    connect_over: bool,
+) -> Ready
+    ensures client { IsSame L.seen L.wrote conn.old.client conn.new.client }
+    ensures server { IsSameServer L.seen L.wrote conn.old.server conn.new.server }
+    ensures net { N.seen conn.new.net ≡ N.seen conn.old.net }
+    ensures ran { conn.new.ran ≡ conn.old.ran }
+{
+    let client_read = may_read(&mut conn.client, wants.client_read);
+    let client_write = may_write(&mut conn.client, wants.client_write);
+    let server_read = may_read_server(&mut conn.server, wants.server_read);
+    let server_write = may_write_server(&mut conn.server, wants.server_write);
+    let connect = may_open(&mut conn.net, to, wants.server_open, connect_over);
+    cork(&mut conn.client, client_write, server_read);
+    Ready {
+        client_read,
+        client_write,
+        server_read,
+        server_write,
+        connect,
+    }
+}
