@@ -64,6 +64,19 @@ impl Arena {
         })
     }
 
+    /// An empty list in bytes that are there.
+    pub(crate) fn over(bytes: Vec<u8>) -> Self
+        requires { length bytes.items ≤ 262144 }
+        ensures size { result.size ≡ length bytes.items }
+        ensures empty { result.blocks ≡ [] }
+        ensures addrs { result.addrs ≡ [] }
+        ensures front { result.front ≡ 0 }
+    {
+        Arena {
+            array: Array::over(bytes),
+        }
+    }
+
     /// How many blocks there are.
     pub fn len(&self) -> u32
         ensures { result ≡ length self.now.blocks }

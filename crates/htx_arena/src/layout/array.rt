@@ -60,8 +60,29 @@ impl Array {
         ensures addrs { IfOk result (λ array. array.addrs ≡ []) }
         ensures front { IfOk result (λ array. array.front ≡ 0) }
     {
-        Ok(Array {
-            space: Space::new(alloc, size)?,
+        Ok(Array::with(Space::new(alloc, size)?))
+    }
+
+    /// No blocks, over bytes that are there.
+    pub(crate) fn over(bytes: Vec<u8>) -> Self
+        requires { length bytes.items ≤ 262144 }
+        ensures size { result.size ≡ length bytes.items }
+        ensures empty { result.blocks ≡ [] }
+        ensures addrs { result.addrs ≡ [] }
+        ensures front { result.front ≡ 0 }
+    {
+        Array::with(Space::over(bytes))
+    }
+
+    /// No blocks, in this space.
+    fn with(space: Space) -> Self
+        ensures size { result.size ≡ length space }
+        ensures empty { result.blocks ≡ [] }
+        ensures addrs { result.addrs ≡ [] }
+        ensures front { result.front ≡ 0 }
+    {
+        Array {
+            space,
             count: 0,
             load: 0,
             ends: Ends {
@@ -69,7 +90,7 @@ impl Array {
                 top: 0,
                 low: None,
             },
-        })
+        }
     }
 
     /// How many blocks there are.

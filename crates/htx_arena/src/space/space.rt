@@ -47,6 +47,14 @@ impl Space {
         Ok(Space { bytes })
     }
 
+    /// The same over bytes that are there.
+    pub fn over(bytes: Vec<u8>) -> Self
+        requires { length bytes.items ≤ 262144 }
+        ensures { result ≡ bytes.items }
+    {
+        Space { bytes }
+    }
+
     pub fn bytes(&self) -> &[u8]
         ensures { result.now ≡ self.now }
     {
