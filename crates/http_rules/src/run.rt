@@ -17,7 +17,7 @@ use crate::action::{Acted, Scratch, Side, Stepped, answers, is_met, run_action, 
 use crate::rule::{Action, Rule, Rules};
 use crate::step::Step;
 use crate::verdict::{Ended, Ruled, Verdict};
-use htx_arena::Arena;
+use htx_arena::{Arena, LateArena};
 use px_sample::{OutOfMemory, Vars};
 
 /// The mode behind an action.
@@ -134,14 +134,14 @@ pub(crate) fn verdict_by(step: Stepped) -> Verdict
     }
 }
 
-/// Runs rules that may answer by themselves; a reply comes into its own array.
+/// Runs rules that may answer by themselves; a reply comes into its own array, whose memory waits until one is made.
 fn run_all(
     rules: &Rules,
     side: Side<'_>,
     msg: &mut Arena,
     vars: &mut Vars,
     scratch: &mut Scratch,
-    reply: &mut Arena,
+    reply: &mut LateArena,
 ) -> Result<Verdict, OutOfMemory>
     requires scratch { IsScratch msg.old.size scratch.old }
     requires front { IsFront msg.old.blocks }
@@ -157,7 +157,7 @@ fn run_all(
     match run_rules(rules, side, msg, vars, scratch)? {
         Ended::With(verdict) => Ok(verdict),
         Ended::Answering(action) => {
-            let step = run_reply(action, side, msg, vars, scratch, reply)?;
+            let step = run_reply(action, side, msg, vars, scratch, reply.arena())?;
             Ok(verdict_by(step))
         }
     }
@@ -170,7 +170,7 @@ pub fn run_request(
     msg: &mut Arena,
     vars: &mut Vars,
     scratch: &mut Scratch,
-    reply: &mut Arena,
+    reply: &mut LateArena,
 ) -> Result<Verdict, OutOfMemory>
     requires scratch { IsScratch msg.old.size scratch.old }
     requires head { IsHead msg.old.blocks }
@@ -193,7 +193,7 @@ pub fn run_response(
     msg: &mut Arena,
     vars: &mut Vars,
     scratch: &mut Scratch,
-    reply: &mut Arena,
+    reply: &mut LateArena,
 ) -> Result<Verdict, OutOfMemory>
     requires scratch { IsScratch msg.old.size scratch.old }
     requires head { IsHead msg.old.blocks }

@@ -13,7 +13,7 @@ use http_model::Limits;
 use http_rules::{
     Config, OutOfMemory, Scratch, Vars, Verdict, run_after, run_request, run_response,
 };
-use htx_arena::Arena;
+use htx_arena::{Arena, LateArena};
 use std::alloc::Global;
 
 /// A head that is read as an answer to another method than HEAD.
@@ -62,7 +62,7 @@ fn run_rules(
     cfg: &Config,
     run: Run<'_>,
     msg: &mut Arena,
-    reply: &mut Arena,
+    reply: &mut LateArena,
 ) -> Result<Verdict, OutOfMemory>
     requires valid { IsValid cfg.now }
     requires head { IsHead msg.old.blocks }
@@ -94,10 +94,10 @@ fn came_to(alloc: Global, cfg: &Config, run: Run<'_>, head: Arena) -> Result<Vec
     requires size { head.size ≡ cfg.now.limits.bufsize }
 {
     let mut msg = head;
-    let mut reply = Arena::new(alloc, cfg.limits.bufsize)?;
+    let mut reply = LateArena::new(alloc, cfg.limits.bufsize)?;
     let verdict = run_rules(alloc, cfg, run, &mut msg, &mut reply)?;
     let mut answers = Answers::new(alloc);
-    say_verdict(verdict, &msg, &reply, &mut answers);
+    say_verdict(verdict, &msg, reply.arena(), &mut answers);
     answers.into_text()
 }
 

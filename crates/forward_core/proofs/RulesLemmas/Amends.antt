@@ -6,22 +6,65 @@ use Rattle.std.proofs.lemmas.List.{append-nil}
 use Rattle.http_model.specs.Block.{Block, Header}
 use Rattle.http_model.specs.Blocks.{load, Fits}
 use Rattle.http_model.specs.Finish.{close_field}
+use Rattle.htx_arena.specs.Layout.Contents.{Contents}
 use Rattle.header_ops.specs.Headers.{HasEnd, with_header}
+use Rattle.http_rules.specs.declared.action.side.Side.{Side}
 use Rattle.http_rules.specs.declared.config.Config.{Config}
+use Rattle.http_rules.specs.declared.rule.rule.Rule.{Rule}
+use Rattle.http_rules.specs.declared.verdict.Verdict.{Verdict as Told}
+use Rattle.http_rules.specs.declared.verdict.Verdict.TheVariants as verdicts
+use Rattle.http_rules.specs.Action.Given.{Env}
+use Rattle.http_rules.specs.Rules.{Comes, rules_of, after_of, amended_by}
+use Rattle.http_rules.specs.Run.{Leaves}
 use Rattle.forward_core.specs.Meaning.Product.{meaning_of}
 use Rattle.http_model.specs.Head.{Head, Message, with_head, front_blocks, message_blocks, ended_trailers, trailer_block}
 use Rattle.http_model.specs.Refusal.{closing}
-use Rattle.session_model.specs.Env.{Amended, Edited, Plain, reply_env}
+use Rattle.session_model.specs.Env.{Pass, Reply, Deny, Fail, Amended, Edited, Plain, reply_env}
 use Rattle.session_model.specs.Meaning.{Meaning}
 use Rattle.session_model.specs.Amending.{amended, behind_reply, closing_fits, plain_refusal}
 use Rattle.px_sample.specs.Variables.{Variables}
-use Rattle.forward_core.specs.Rules.Ruling.{AmendsFront, IsReply, AmendsReply, SaysReply}
+use Rattle.forward_core.specs.Rules.Ruling.{is_pass, AmendsFront, IsReply, AmendsReply, SaysReply}
 
 -- ---- replies
 
 -- a message without trailers is its head with its body
 pub front_of : (m : Message) → m.trailers ≡ [] → message_blocks m ≡ front_blocks m.head m.body
 front_of m none = ap (λ ts. front_blocks m.head m.body ++ ended_trailers (map trailer_block ts)) none ∙ append-nil (front_blocks m.head m.body)
+
+-- rules that come to this leave it of a message with this body
+left_of : (side : Side) (comes : Comes) (verdict : Told) (body : List ℕ) (blocks : List Block) (vars : Variables) → ((left : Env) → comes ≡ Pass left → left.body ≡ body) → Leaves side comes verdict blocks vars []
+    → AmendsFront body (amended_by comes) (is_pass verdict) blocks vars
+left_of side (Pass left) verdicts.Pass body blocks vars stays h = (h.0.blocks_are ∙ ap (λ (bytes : List ℕ). front_blocks left.head bytes) (stays left refl), h.0.vars_are)
+left_of side (Pass left) verdicts.Reply body blocks vars stays h = absurd h
+left_of side (Pass left) (verdicts.Deny told) body blocks vars stays h = absurd h
+left_of side (Pass left) (verdicts.Fail told) body blocks vars stays h = absurd h
+left_of side (Reply m left) verdicts.Pass body blocks vars stays h = absurd h
+left_of side (Reply m left) verdicts.Reply body blocks vars stays h = tt
+left_of side (Reply m left) (verdicts.Deny told) body blocks vars stays h = absurd h
+left_of side (Reply m left) (verdicts.Fail told) body blocks vars stays h = absurd h
+left_of side (Deny code left) verdicts.Pass body blocks vars stays h = absurd h
+left_of side (Deny code left) verdicts.Reply body blocks vars stays h = absurd h
+left_of side (Deny code left) (verdicts.Deny told) body blocks vars stays h = tt
+left_of side (Deny code left) (verdicts.Fail told) body blocks vars stays h = absurd h
+left_of side (Fail why left) verdicts.Pass body blocks vars stays h = absurd h
+left_of side (Fail why left) verdicts.Reply body blocks vars stays h = absurd h
+left_of side (Fail why left) (verdicts.Deny told) body blocks vars stays h = absurd h
+left_of side (Fail why left) (verdicts.Fail told) body blocks vars stays h = tt
+
+-- what a run on the array that is lent leaves of what is said
+pub said_left : (size : ℕ) (rules : List Rule) (side : Side) (method : List ℕ) (before : Variables) (lent said : Contents) (verdict : Told) (edited : Bool) (blocks : List Block) (vars : Variables)
+    → lent ≡ said → said.size ≡ size → edited ≡ is_pass verdict → ((at : ℕ) (list : List Rule) (env left : Env) → rules_of at list env ≡ Pass left → left.body ≡ env.body)
+    → ((head : Head) (body : List ℕ) → lent.blocks ≡ front_blocks head body
+    → Leaves side (rules_of lent.size rules (record { is_request = false; head = head; body = body; method = method; vars = before })) verdict blocks vars [])
+    → (head : Head) (body : List ℕ) → said.blocks ≡ front_blocks head body
+    → AmendsFront body (after_of size rules (record { is_request = false; head = head; body = body; method = method; vars = before })) edited blocks vars
+said_left size rules side method before lent said verdict edited blocks vars same sized told stays runs head body is =
+    let env : Env = record { is_request = false; head = head; body = body; method = method; vars = before } in
+    let held : lent.size ≡ size = ap (λ (x : Contents). x.size) same ∙ sized in
+    let ran : Leaves side (rules_of lent.size rules env) verdict blocks vars [] = runs head body (ap (λ (x : Contents). x.blocks) same ∙ is) in
+    subst (λ (b : Bool). AmendsFront body (after_of size rules env) b blocks vars) (sym told)
+    (left_of side (rules_of size rules env) verdict body blocks vars (λ left e. stays size rules env left e)
+    (subst (λ (n : ℕ). Leaves side (rules_of n rules env) verdict blocks vars []) held ran))
 
 -- `connection: close` behind the fields of a message
 abbrev pub Closes : Type 0
@@ -35,6 +78,11 @@ fits_so load size false h =
       | inl within ↦ absurd (false≢true (h.1 (leb-true load size within)))
       | inr past ↦ past
     ]
+
+-- what tells it of an array tells it of one like it
+pub tells_alike : (room : Bool) (held said : Contents) → held ≡ said → (IsTrue room ↔ Fits (with_header (Header close_field.0 close_field.1) held.blocks) held.size)
+    → (IsTrue room ↔ Fits (with_header (Header close_field.0 close_field.1) said.blocks) said.size)
+tells_alike room held said e h = subst (λ (x : Contents). IsTrue room ↔ Fits (with_header (Header close_field.0 close_field.1) x.blocks) x.size) e h
 
 module _ (cfg : Config) (m : Message) (method : List ℕ) (vars : Variables) (before between : List Block) (now : Variables) (reply : IsReply m before) where
   -- what a run of the rules on all that the client is sent says of a reply

@@ -41,8 +41,9 @@ pub(crate) fn refuse(
     rules.begin_answer();
     rules.say_refusal(code, method)?;
     // called for its clause alone: the list weighs no more than its array, so the answer direction can take it
-    let _room = rules.said.room();
-    answer.begin_saying(&mut rules.said, no_body);
+    let said = rules.said.arena();
+    let _room = said.room();
+    answer.begin_saying(said, no_body);
     Ok(())
 }
 
@@ -77,7 +78,8 @@ pub(crate) fn reply(
     rules.begin_answer();
     let kept = rules.say_reply(method, keep)?;
     // called for its clause alone: the list weighs no more than its array, so the answer direction can take it
-    let _room = rules.said.room();
-    answer.begin_saying(&mut rules.said, no_body);
+    let said = rules.said.arena();
+    let _room = said.room();
+    answer.begin_saying(said, no_body);
     Ok(kept)
 }

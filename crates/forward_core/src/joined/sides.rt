@@ -190,8 +190,9 @@ impl<'c> Works for Directions<'c> {
         crate::answer::laws::lists();
         self.rules.say_closing(code);
         // called for its clause alone: the list weighs no more than its array, so the answer direction can take it
-        let _room = self.rules.said.room();
-        self.answer.turn_to(&mut self.rules.said);
+        let said = self.rules.said.arena();
+        let _room = said.room();
+        self.answer.turn_to(said);
     }
 
     fn say(&mut self) {

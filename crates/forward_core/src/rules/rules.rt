@@ -15,7 +15,7 @@ use http_rules::{
     Config, Scratch, Vars, Verdict, begin_answer, begin_exchange, body_stays, run_after,
     run_request, run_response,
 };
-use htx_arena::Arena;
+use htx_arena::{Arena, LateArena};
 use px_peer::Peer;
 use px_sample::{Buf, Scope};
 use std::alloc::Global;
@@ -24,8 +24,8 @@ use std::alloc::Global;
 pub struct SessionRules<'c> {
     /// The variables of the four scopes.
     pub vars: Vars,
-    /// What is said to the client in place of a server's answer.
-    pub said: Arena,
+    /// What is said to the client in place of a server's answer. Its memory waits until something is.
+    pub said: LateArena,
     config: &'c Config,
     /// Whose session it is.
     peer: Option<Peer>,
@@ -72,7 +72,7 @@ impl<'c> SessionRules<'c> {
         ensures said { IfOk result (λ rules. rules.said.blocks ≡ []) }
         ensures cap { text.new.cap ≡ text.old.cap }
     {
-        let said = Arena::new(alloc, config.limits.bufsize)?;
+        let said = LateArena::new(alloc, config.limits.bufsize)?;
         let scratch = Scratch::new(alloc, config.limits.bufsize)?;
         let mut vars = Vars::new(alloc)?;
         begin_with(&mut vars, config.peer, text);
@@ -222,7 +222,7 @@ impl<'c> SessionRules<'c> {
         let verdict = run_after(
             &config.after,
             method,
-            &mut self.said,
+            self.said.arena(),
             &mut self.vars,
             &mut self.scratch,
         )?;

@@ -22,8 +22,9 @@ impl<'c> SessionRules<'c> {
     {
         replies_of_messages();
         self.said.clear();
-        refusal(code, &mut self.said);
-        add_close(&mut self.said).unwrap();
+        let said = self.said.arena();
+        refusal(code, said);
+        add_close(said).unwrap();
     }
 
     /// The refusal 500 is said in place of all that can't be sent otherwise; no rule runs on it.
@@ -53,12 +54,12 @@ impl<'c> SessionRules<'c> {
             self.say_plain();
             return Ok(false);
         }
-        if !has_room_to_close(&self.said) {
+        if !has_room_to_close(self.said.arena()) {
             self.say_plain();
             return Ok(false);
         }
         if !keep {
-            add_close(&mut self.said).unwrap();
+            add_close(self.said.arena()).unwrap();
         }
         Ok(true)
     }
@@ -85,7 +86,7 @@ impl<'c> SessionRules<'c> {
         ensures config { config_of self.new ≡ config_of self.old }
     {
         self.said.clear();
-        refusal(code, &mut self.said);
+        refusal(code, self.said.arena());
         let _kept = self.say_reply(method, false)?;
         Ok(())
     }

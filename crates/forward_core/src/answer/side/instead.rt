@@ -54,7 +54,7 @@ impl AnswerSide {
         ensures config { config_of rules.new ≡ config_of rules.old }
     {
         rules.say_refusal(code, method)?;
-        self.say_instead(&mut rules.said, false);
+        self.say_instead(rules.said.arena(), false);
         Ok(())
     }
 
@@ -76,7 +76,7 @@ impl AnswerSide {
         ensures config { config_of rules.new ≡ config_of rules.old }
     {
         let replied = rules.amend_reply(method, self.asker.keep)?;
-        self.say_instead(&mut rules.said, replied);
+        self.say_instead(rules.said.arena(), replied);
         Ok(())
     }
 
@@ -91,7 +91,7 @@ impl AnswerSide {
         ensures config { config_of rules.new ≡ config_of rules.old }
     {
         rules.say_plain();
-        self.say_instead(&mut rules.said, false);
+        self.say_instead(rules.said.arena(), false);
     }
 
     /// What stands in this list goes out in place of a response.

@@ -1,4 +1,5 @@
-use Rattle.std.proofs.Common.{◌∙◌, false}
+use Rattle.std.proofs.Common.{ap, ◌∙◌, false}
+use Rattle.htx_arena.specs.Layout.Contents.{Contents}
 use Rattle.http_model.specs.Refusal.{refusal}
 use Rattle.http_rules.specs.Lives.{answering}
 use Rattle.forward_core.specs.Meaning.Product.{meaning_of}
@@ -21,12 +22,12 @@ returns-clause-says c =
       text = list_text c.args.no_body m.head m.body;
       spelled = c.lists.ensures.spelled m c.args.no_body listed;
       says = λ asking server put now saying s. c.begin_saying.ensures.leads cfg asking server put now saying m.head m.body s
-          (refusal_said cfg (config_of c.begin_answer.new.self) code method rules.vars c.begin_answer.new.self.vars c.say_refusal.new.self.said.blocks c.begin_answer.ensures.config c.begin_answer.ensures.vars c.in_ok-say_refusal.ensures.said
+          (ap (λ (x : Contents). x.blocks) c.arena-said.ensures.value ∙ refusal_said cfg (config_of c.begin_answer.new.self) code method rules.vars c.begin_answer.new.self.vars c.say_refusal.new.self.said.blocks c.begin_answer.ensures.config c.begin_answer.ensures.vars c.in_ok-say_refusal.ensures.said
           ∙ c.lists.ensures.blocks m listed) listed.line;
     }
 
 pub returns-clause-ready : goal.returns-clause-ready
-returns-clause-ready c = ready_saying c.say_refusal.new.self c.begin_saying.new.list c.begin_saying.ensures.list_size c.say_refusal.ensures.ready
+returns-clause-ready c = ready_saying c.say_refusal.new.self c.begin_saying.new.list (c.begin_saying.ensures.list_size ∙ ap (λ (x : Contents). x.size) c.arena-said.ensures.value) c.say_refusal.ensures.ready
 
 pub say_refusal-requires : goal.say_refusal-requires
 say_refusal-requires c = record { ready = c.begin_answer.ensures.ready c.requires.ready }
@@ -35,5 +36,5 @@ pub begin_saying-requires-clause-fits : goal.begin_saying-requires-clause-fits
 begin_saying-requires-clause-fits c =
     let new = c.say_refusal.new.self in
     let size = size_of c.args.answer.now in
-    said_fits new.said.blocks c.room-room.result new.said.size size c.room-room.ensures
-    (said_size c.args.rules.now new size c.say_refusal.ensures.ready (c.say_refusal.ensures.config ∙ c.begin_answer.ensures.config) c.requires.size)
+    said_fits c.arena-said.result.now.blocks c.room-room.result c.arena-said.result.now.size size c.room-room.ensures
+    (ap (λ (x : Contents). x.size) c.arena-said.ensures.value ∙ said_size c.args.rules.now new size c.say_refusal.ensures.ready (c.say_refusal.ensures.config ∙ c.begin_answer.ensures.config) c.requires.size)

@@ -27,11 +27,11 @@ returns-clause-says c = λ m listed is.
       text = list_text c.args.no_body sent.head sent.body;
       spelled = c.lists.ensures.spelled sent c.args.no_body sent_listed;
       behind = x.behind ∙ kept_alike kept c.say_reply.new.self.vars;
-      says = λ asking server put now saying s. c.begin_saying.ensures.leads cfg asking server put now saying sent.head sent.body s (x.says ∙ c.lists.ensures.blocks sent sent_listed) sent_listed.line;
+      says = λ asking server put now saying s. c.begin_saying.ensures.leads cfg asking server put now saying sent.head sent.body s (ap (λ (x : Contents). x.blocks) c.arena-said.ensures.value ∙ x.says ∙ c.lists.ensures.blocks sent sent_listed) sent_listed.line;
     }
 
 pub returns-clause-ready : goal.returns-clause-ready
-returns-clause-ready c = ready_saying c.say_reply.new.self c.begin_saying.new.list c.begin_saying.ensures.list_size c.say_reply.ensures.ready
+returns-clause-ready c = ready_saying c.say_reply.new.self c.begin_saying.new.list (c.begin_saying.ensures.list_size ∙ ap (λ (x : Contents). x.size) c.arena-said.ensures.value) c.say_reply.ensures.ready
 
 pub say_reply-requires-clause-ready : goal.say_reply-requires-clause-ready
 say_reply-requires-clause-ready c = c.begin_answer.ensures.ready c.requires.ready
@@ -40,5 +40,5 @@ pub begin_saying-requires-clause-fits : goal.begin_saying-requires-clause-fits
 begin_saying-requires-clause-fits c =
     let new = c.say_reply.new.self in
     let size = size_of c.args.answer.now in
-    said_fits new.said.blocks c.room-room.result new.said.size size c.room-room.ensures
-    (said_size c.args.rules.now new size c.say_reply.ensures.ready (c.say_reply.ensures.config ∙ c.begin_answer.ensures.config) c.requires.size)
+    said_fits c.arena-said.result.now.blocks c.room-room.result c.arena-said.result.now.size size c.room-room.ensures
+    (ap (λ (x : Contents). x.size) c.arena-said.ensures.value ∙ said_size c.args.rules.now new size c.say_reply.ensures.ready (c.say_reply.ensures.config ∙ c.begin_answer.ensures.config) c.requires.size)

@@ -1,4 +1,5 @@
 use Rattle.std.proofs.Common.{false, refl, ap, ◌∙◌, subst}
+use Rattle.htx_arena.specs.Layout.Contents.{Contents}
 use Rattle.http_model.specs.Head.{Message}
 use Rattle.http_model.specs.Refusal.{refusal}
 use Rattle.http_rules.specs.declared.config.Config.{Config}
@@ -13,7 +14,7 @@ use Rattle.forward_core.proofs.AnswerLemmas.Listed.{listed_blocks, listed_spells
 use Rattle.forward_core.proofs.answer.side.AnswerSide.refuse.Goals as goal
 
 pub say_instead-requires-clause-size : goal.say_instead-requires-clause-size
-say_instead-requires-clause-size c = c.in_ok-say_refusal.ensures.ready.said ∙ ap (λ (k : Config). k.limits.bufsize) c.in_ok-say_refusal.ensures.config ∙ c.requires.size
+say_instead-requires-clause-size c = ap (λ (x : Contents). x.size) c.arena.ensures.value ∙ c.in_ok-say_refusal.ensures.ready.said ∙ ap (λ (k : Config). k.limits.bufsize) c.in_ok-say_refusal.ensures.config ∙ c.requires.size
 
 pub returns-clause-leads : goal.returns-clause-leads
 returns-clause-leads c = λ cfg asking server put saying s is.
@@ -26,7 +27,7 @@ returns-clause-leads c = λ cfg asking server put saying s is.
     subst (λ (k : Config). Settles k c.args.self.now asking server put last → Finds k new asking server put saying now) is
     (λ s. record {
       behind = now;
-      stands = c.say_instead.ensures.leads (config_of c.args.rules.now) asking server put saying now last m.head m.body s (c.in_ok-say_refusal.ensures.said ∙ listed_blocks m listed) listed.line (listed_spells m (asker_in asking).head_asked listed) (refl, refl);
+      stands = c.say_instead.ensures.leads (config_of c.args.rules.now) asking server put saying now last m.head m.body s (ap (λ (x : Contents). x.blocks) c.arena.ensures.value ∙ c.in_ok-say_refusal.ensures.said ∙ listed_blocks m listed) listed.line (listed_spells m (asker_in asking).head_asked listed) (refl, refl);
       vars = refl;
     })
     s
@@ -34,4 +35,4 @@ returns-clause-leads c = λ cfg asking server put saying s is.
 pub returns-clause-ready : goal.returns-clause-ready
 returns-clause-ready c =
     let r = c.in_ok-say_refusal.ensures.ready in
-    record { valid = r.valid; scratch = r.scratch; said = c.say_instead.ensures.said_size ∙ r.said }
+    record { valid = r.valid; scratch = r.scratch; said = c.say_instead.ensures.said_size ∙ ap (λ (x : Contents). x.size) c.arena.ensures.value ∙ r.said }

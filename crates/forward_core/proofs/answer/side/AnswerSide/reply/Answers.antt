@@ -1,4 +1,5 @@
 use Rattle.std.proofs.Common.{refl, ap, ◌∙◌, subst}
+use Rattle.htx_arena.specs.Layout.Contents.{Contents}
 use Rattle.http_model.specs.Head.{Message}
 use Rattle.http_rules.specs.declared.config.Config.{Config}
 use Rattle.forward_core.specs.Meaning.Product.{meaning_of}
@@ -13,7 +14,7 @@ use Rattle.forward_core.proofs.AnswerLemmas.LastLemmas.{reply_told, reply_spells
 use Rattle.forward_core.proofs.answer.side.AnswerSide.reply.Goals as goal
 
 pub say_instead-requires-clause-size : goal.say_instead-requires-clause-size
-say_instead-requires-clause-size c = c.in_ok-replied.ensures.ready.said ∙ ap (λ (k : Config). k.limits.bufsize) c.in_ok-replied.ensures.config ∙ c.requires.size
+say_instead-requires-clause-size c = ap (λ (x : Contents). x.size) c.arena.ensures.value ∙ c.in_ok-replied.ensures.ready.said ∙ ap (λ (k : Config). k.limits.bufsize) c.in_ok-replied.ensures.config ∙ c.requires.size
 
 pub returns-clause-leads : goal.returns-clause-leads
 returns-clause-leads c = λ cfg asking server put saying m s is stands listed.
@@ -31,7 +32,7 @@ returns-clause-leads c = λ cfg asking server put saying m s is stands listed.
     subst (λ (k : Config). Settles k c.args.self.now asking server put last → Finds k new asking server put saying now) is
     (λ s. record {
       behind = now;
-      stands = c.say_instead.ensures.leads config asking server put saying now last sent.head sent.body s (a.says ∙ listed_blocks sent sent_listed) sent_listed.line
+      stands = c.say_instead.ensures.leads config asking server put saying now last sent.head sent.body s (ap (λ (x : Contents). x.blocks) c.arena.ensures.value ∙ a.says ∙ listed_blocks sent sent_listed) sent_listed.line
           (reply_spells config m method vars (asker_in asking) keep s.asks.keep (listed_spells sent (asker_in asking).head_asked sent_listed))
           (reply_told config m method vars now c.in_ok-replied.replied a.behind);
       vars = refl;
@@ -41,4 +42,4 @@ returns-clause-leads c = λ cfg asking server put saying m s is stands listed.
 pub returns-clause-ready : goal.returns-clause-ready
 returns-clause-ready c =
     let r = c.in_ok-replied.ensures.ready in
-    record { valid = r.valid; scratch = r.scratch; said = c.say_instead.ensures.said_size ∙ r.said }
+    record { valid = r.valid; scratch = r.scratch; said = c.say_instead.ensures.said_size ∙ ap (λ (x : Contents). x.size) c.arena.ensures.value ∙ r.said }
