@@ -181,14 +181,16 @@ module _ {C L N : Type 0} (M : Option Pair → Meaning) (stands : Option Pair �
       (omega (arith, pushed, all)) sets same output left.came left.keeps (λ t. absurd (false≢true t)) g
 
   -- the loop begins
-  pub goes_begins : (now : NetSeen) → now ≡ begun → (hall : Hall C L N) → count_taken hall.places.items ≡ 0 → hall.accepted ≡ 0 → hall.output ≡ outputs.Open → AllByRecursion (IsReady sees sound) hall.sets.items → AllByRecursion (IsFreshFor stands) hall.sets.items
+  pub goes_begins : (now : NetSeen) → now ≡ begun → (sets : List C) (hall : Hall C L N) → hall.sets.items ≡ sets → count_taken hall.places.items ≡ 0 → hall.accepted ≡ 0 → hall.output ≡ outputs.Open → AllByRecursion (IsReady sees sound) sets → AllByRecursion (IsFreshFor stands) sets
       → Goes M stands sees sound seen wrote tells accepts_header logs opening sees_net to true true begun now writes writes before before hall
-  goes_begins now same hall none accepted output ready fresh =
+  goes_begins now same sets hall same_sets none accepted output ready fresh =
       let P : NetSeen → Type 0 = λ n. Goes M stands sees sound seen wrote tells accepts_header logs opening sees_net to true true begun n writes writes before before hall in
+      let ready_here : AllByRecursion (IsReady sees sound) hall.sets.items = subst (λ l. AllByRecursion (IsReady sees sound) l) (sym same_sets) ready in
+      let fresh_here : AllByRecursion (IsFreshFor stands) hall.sets.items = subst (λ l. AllByRecursion (IsFreshFor stands) l) (sym same_sets) fresh in
       subst P (sym same) (record {
         visits = [];
         said = [];
-        all = stand_none M stands sees sound seen wrote tells accepts_header opening sees_net to hall.places.items hall.sets.items none ready fresh;
+        all = stand_none M stands sees sound seen wrote tells accepts_header opening sees_net to hall.places.items hall.sets.items none ready_here fresh_here;
         accepted = accepted;
         story = story_none seen wrote begun;
         itself = λ e. tt;

@@ -1,3 +1,4 @@
+pub mod Boxed
 pub mod Next
 pub mod Deadline
 pub mod Course

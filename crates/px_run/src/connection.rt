@@ -12,6 +12,7 @@ ghost use Rattle.px_run.specs.Connection.{LookedSo, IsIdle, AllFreshFor, IsAtUnd
 ghost use Rattle.px_run.specs.Callers.{pair_of};
 ghost use Rattle.px_run.specs.Log.{Logs};
 
+use crate::boxed_core::BoxedCore;
 use crate::caller::{Caller, pair_of};
 use crate::pace::Pace;
 use crate::step::{Stepped, Tools, step};
@@ -33,7 +34,7 @@ pub(crate) struct Connection<C, L, N> {
     /// Who asks.
     pub caller: Caller,
     pub conn: Conn<L, N>,
-    pub core: Option<C>,
+    pub core: Option<BoxedCore<C>>,
 }
 
 /// What a look at a connection came to.
@@ -113,14 +114,14 @@ fn moves<C: Resets, L: Waits, N: WaitsNet<Link = L>, W: Wakes<N>>(
 }
 
 /// Takes back the core of a connection that has ended: nothing has happened to it, and it is free. There is room for it, since it was taken out before.
-fn give_set<C: ResetsFor + Drop>(set: C, sets: &mut Vec<C>)
+fn give_set<C: ResetsFor + Drop>(set: BoxedCore<C>, sets: &mut Vec<BoxedCore<C>>)
     requires sound { C.sound set }
     requires ready { AllByRecursion (IsReady C.seen C.sound) sets.old.items }
     ensures ready { AllByRecursion (IsReady C.seen C.sound) sets.new.items }
     ensures fresh { (cfg : C.Settings) (pair : Option Pair) → StandsSomehow (C.stands (C.for_peer cfg (source_in pair))) set → AllFreshFor C.stands C.for_peer cfg sets.old.items → AllFreshFor C.stands C.for_peer cfg sets.new.items }
 {
     let mut set = set;
-    set.reset();
+    set.core().reset();
     drop(sets.push(set));
 }
 
@@ -157,13 +158,13 @@ fn go<C: Resets, L: Waits, N: WaitsNet<Link = L>, W: Wakes<N>>(
     ensures caller { connection.new.caller ≡ connection.old.caller }
 {
     match &mut connection.core {
-        Some(core) => moves(&mut connection.conn, core, pace, wakes, to, tools),
+        Some(core) => moves(&mut connection.conn, core.core(), pace, wakes, to, tools),
         None => unreachable!(),
     }
 }
 
 /// The core of a connection that has ended is free.
-fn free<C: ResetsFor + Drop>(core: &mut Option<C>, sets: &mut Vec<C>)
+fn free<C: ResetsFor + Drop>(core: &mut Option<BoxedCore<C>>, sets: &mut Vec<BoxedCore<C>>)
     requires sound { HasCore core.old C.sound }
     requires ready { AllByRecursion (IsReady C.seen C.sound) sets.old.items }
     ensures none { core.new ≡ None }
@@ -179,7 +180,7 @@ fn free<C: ResetsFor + Drop>(core: &mut Option<C>, sets: &mut Vec<C>)
 /// Steps of a connection that has a core, which is free behind its end, but for one that found no memory.
 pub(crate) fn moved<C: ResetsFor + Drop, L: Waits, N: WaitsNet<Link = L>, W: Wakes<N>>(
     connection: &mut Connection<C, L, N>,
-    sets: &mut Vec<C>,
+    sets: &mut Vec<BoxedCore<C>>,
     pace: &mut Pace,
     wakes: &mut W,
     to: &Address,
@@ -217,8 +218,8 @@ pub(crate) fn moved<C: ResetsFor + Drop, L: Waits, N: WaitsNet<Link = L>, W: Wak
 
 /// A core for a connection of this peer that has none, where one is free.
 fn take_set<C: ResetsFor + Drop>(
-    core: &mut Option<C>,
-    sets: &mut Vec<C>,
+    core: &mut Option<BoxedCore<C>>,
+    sets: &mut Vec<BoxedCore<C>>,
     peer: Option<Peer>,
     pace: &mut Pace,
 ) -> bool
@@ -232,8 +233,9 @@ fn take_set<C: ResetsFor + Drop>(
     match sets.pop() {
         Some(free) => {
             let mut set = free;
-            set.reset_for(peer);
-            pace.room = Some(set.client_room());
+            let inside = set.core();
+            inside.reset_for(peer);
+            pace.room = Some(inside.client_room());
             match core.replace(set) {
                 None => true,
                 Some(_) => unreachable!(),
@@ -246,7 +248,7 @@ fn take_set<C: ResetsFor + Drop>(
 /// A look at a connection that has no core: whether it gets one, since its client gives its first bytes.
 fn sit_down<C: ResetsFor + Drop, L: Waits, N: WaitsNet<Link = L>>(
     connection: &mut Connection<C, L, N>,
-    sets: &mut Vec<C>,
+    sets: &mut Vec<BoxedCore<C>>,
     pace: &mut Pace,
 ) -> Option<Looked>
     requires none { connection.old.core ≡ None }
@@ -280,7 +282,7 @@ fn sit_down<C: ResetsFor + Drop, L: Waits, N: WaitsNet<Link = L>>(
 /// The same of one that may have a core already.
 pub(crate) fn seat<C: ResetsFor + Drop, L: Waits, N: WaitsNet<Link = L>>(
     connection: &mut Connection<C, L, N>,
-    sets: &mut Vec<C>,
+    sets: &mut Vec<BoxedCore<C>>,
     pace: &mut Pace,
 ) -> Option<Looked>
     requires goes_on { connection.old.conn.ran ≡ None }

@@ -11,6 +11,7 @@ ghost use Rattle.px_run.specs.Log.{MoreLines};
 ghost use Rattle.px_run.specs.History.{Visit, IsLogged};
 ghost use Rattle.px_run.specs.Hall.{IsPlaced, IsAskedAt, LookedAt, MayGiveBack, HasEnded, AllStand, Advances, advanced, taken_at, count_taken, IsSameNet, IsBalancedAt, GoesFor};
 
+use crate::boxed_core::BoxedCore;
 use crate::connection::{Connection, Looked};
 use crate::lines::{Output, write_line, write_log};
 use crate::looking::look;
@@ -28,7 +29,7 @@ pub(crate) struct Hall<C, L, N> {
     /// The connection at each place.
     pub places: Vec<Option<Connection<C, L, N>>>,
     /// The cores that are free.
-    pub sets: Vec<C>,
+    pub sets: Vec<BoxedCore<C>>,
     /// How many links were accepted.
     pub accepted: u32,
     pub output: Output,
@@ -154,7 +155,7 @@ fn look_at<
     W: Wakes<N>,
 >(
     at: &mut Option<Connection<C, L, N>>,
-    sets: &mut Vec<C>,
+    sets: &mut Vec<BoxedCore<C>>,
     pace: &mut Pace,
     wakes: &mut W,
     plan: &Plan,

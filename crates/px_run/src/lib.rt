@@ -3,6 +3,7 @@
 
 mod accepts;
 mod agenda;
+mod boxed_core;
 mod caller;
 mod connection;
 mod deadline;

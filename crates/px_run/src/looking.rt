@@ -12,6 +12,7 @@ ghost use Rattle.px_run.specs.Log.{IsToldOf, IsLine, MoreLines, LogsMore, Logs};
 ghost use Rattle.px_proxyproto.specs.Meeting.{source_in};
 ghost use Rattle.px_run.specs.Callers.{pair_of, is_greeted, ReadMore, StandsFor};
 
+use crate::boxed_core::BoxedCore;
 use crate::caller::{greet_on, introduce, is_greeted, is_refused, pair_of};
 use crate::connection::{Connection, Looked, moved, seat, told};
 use crate::pace::Pace;
@@ -82,7 +83,7 @@ fn hear<C: ResetsFor, L: Waits + HasPair, N: WaitsNet<Link = L> + Introduces>(
 /// A look at a connection that was met and hasn't ended: it gets a core, makes steps or ends.
 fn serve<C: ResetsFor + Drop, L: Waits, N: WaitsNet<Link = L>, W: Wakes<N>>(
     connection: &mut Connection<C, L, N>,
-    sets: &mut Vec<C>,
+    sets: &mut Vec<BoxedCore<C>>,
     pace: &mut Pace,
     wakes: &mut W,
     to: &Address,
@@ -116,7 +117,7 @@ fn look_on<
     W: Wakes<N>,
 >(
     connection: &mut Connection<C, L, N>,
-    sets: &mut Vec<C>,
+    sets: &mut Vec<BoxedCore<C>>,
     pace: &mut Pace,
     wakes: &mut W,
     plan: &Plan,
@@ -151,7 +152,7 @@ pub(crate) fn look<
     W: Wakes<N>,
 >(
     connection: &mut Connection<C, L, N>,
-    sets: &mut Vec<C>,
+    sets: &mut Vec<BoxedCore<C>>,
     pace: &mut Pace,
     wakes: &mut W,
     plan: &Plan,

@@ -13,6 +13,7 @@ ghost use Rattle.px_run.specs.Hall.{IsPlaced, GaveUpAt, taken_at, count_taken, I
 
 use crate::accepts::{accepts, still_accepts};
 use crate::agenda::Agenda;
+use crate::boxed_core::boxed;
 use crate::caller::{Caller, is_greeted};
 use crate::connection::Connection;
 use crate::hall::{Hall, is_empty, no_places};
@@ -170,6 +171,10 @@ pub fn run<
     let count = sets.len().saturating_mul(PLACES_A_SET);
     let places = match no_places(plan.alloc, count) {
         Ok(places) => places,
+        Err(OutOfMemory) => return Err(RunFault::OutOfMemory),
+    };
+    let sets = match boxed(plan.alloc, sets) {
+        Ok(sets) => sets,
         Err(OutOfMemory) => return Err(RunFault::OutOfMemory),
     };
     wakes.watch_listener(net);
