@@ -1,5 +1,5 @@
 -- A session begins on a core to which nothing has happened.
-use Rattle.std.proofs.Common.{◌≡◌, ℕ, ◌+◌, List, [], false, Some, None, refl, sym, ap, subst, ◌∙◌, inl, arith}
+use Rattle.std.proofs.Common.{◌≡◌, ℕ, List, [], false, Some, None, refl, sym, ap, subst, ◌∙◌, inl, arith}
 use Rattle.std.proofs.lemmas.List.{append-nil}
 use Rattle.session_core.specs.History.{Past, nothing_yet, no_stream}
 use Rattle.px_link.specs.Link.{Seen, Takes, Untold, UpTo, All, WithinTakes, counted}

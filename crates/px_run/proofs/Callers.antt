@@ -1,6 +1,6 @@
 -- Where a connection stands by who asks, and what it came to.
-use Rattle.std.proofs.Common.{◌≡◌, ℕ, List, [], Bool, true, false, Option, Some, None, refl, sym, ap, subst, ◌∙◌, inl, inr}
-use Rattle.std.specs.Prelude.{Result, Ok, Err, is_some}
+use Rattle.std.proofs.Common.{◌≡◌, ℕ, List, Bool, true, false, Option, Some, None, refl, sym, ap, subst, ◌∙◌, inl, inr}
+use Rattle.std.specs.Prelude.{Result, Ok, is_some}
 use Rattle.std.proofs.lemmas.Bool.{false≢true, true≢false}
 use Rattle.session_model.specs.Meaning.{Meaning}
 use Rattle.session_core.specs.History.{Past}
@@ -12,7 +12,6 @@ use Rattle.px_proxyproto.specs.Greeting.{GreetsSoFar}
 use Rattle.px_proxyproto.specs.Meeting.{Meets}
 use Rattle.px_proxyproto.specs.Nets.{heading_for, introduced}
 use Rattle.px_proxyproto.specs.Reading.{Read}
-use Rattle.px_proxyproto.specs.declared.meeting.Met.{Met}
 use Rattle.px_proxyproto.specs.declared.meeting.Met.TheVariants as met
 use Rattle.htx_drive.specs.Machine.{CoreSeen}
 use Rattle.htx_drive.specs.declared.Ran.{Ran}

@@ -1,18 +1,16 @@
 -- Lines of exchanges, one behind the other.
-use Rattle.std.proofs.Common.{◌≡◌, ℕ, List, [], ◌∷◌, ◌++◌, Bool, true, Option, Some, refl, sym, ap, subst, ◌∙◌, inl, inr, append_assoc}
+use Rattle.std.proofs.Common.{◌≡◌, ℕ, List, [], ◌∷◌, ◌++◌, Bool, true, Option, refl, sym, ap, subst, ◌∙◌, inl, inr, append_assoc}
 use Rattle.std.specs.Prelude.{Result}
-use Rattle.std.specs.List.{AllByRecursion, flat_map}
+use Rattle.std.specs.List.{AllByRecursion}
 use Rattle.std.proofs.lemmas.List.{append-nil}
 use Rattle.session_model.specs.Meaning.{Meaning}
 use Rattle.session_core.specs.History.{Past}
 use Rattle.px_link.specs.Link.{Seen}
 use Rattle.px_link.specs.Net.{Place, NetSeen}
 use Rattle.px_link.specs.declared.turns.Turn.{Turn}
-use Rattle.px_peer.specs.declared.Pair.{Pair}
 use Rattle.htx_drive.specs.Machine.{CoreSeen, TellsSo}
 use Rattle.htx_drive.specs.Turned.{WorkedIn}
-use Rattle.htx_drive.specs.Underway.{Runs, Stopped, LeftSo}
-use Rattle.htx_drive.specs.Weave.Single.{Working, GivesUp}
+use Rattle.htx_drive.specs.Weave.Single.{GivesUp}
 use Rattle.htx_drive.specs.declared.Ran.{Ran}
 use Rattle.htx_drive.specs.declared.SessionFault.{SessionFault}
 use Rattle.px_run.specs.Course.{WorksOn, MayStep}

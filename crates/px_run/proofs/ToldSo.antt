@@ -1,7 +1,6 @@
 -- What lines are of, one behind the other: connections that ended, and exchanges that are told.
-use Rattle.std.proofs.Common.{◌≡◌, ℕ, List, [], ◌∷◌, ◌++◌, Bool, Option, Some, None, refl, sym, ap, subst, ◌∙◌, inl, inr, append_assoc}
+use Rattle.std.proofs.Common.{◌≡◌, ℕ, List, [], ◌∷◌, ◌++◌, Bool, Option, Some, refl, sym, ap, subst, ◌∙◌, inl, inr, append_assoc}
 use Rattle.std.specs.List.{AllByRecursion}
-use Rattle.std.proofs.lemmas.List.{append-nil}
 use Rattle.std.proofs.lemmas.Bool.{cases_eq}
 use Rattle.session_model.specs.Meaning.{Meaning}
 use Rattle.session_core.specs.History.{Past}
@@ -9,12 +8,11 @@ use Rattle.px_link.specs.Link.{Seen}
 use Rattle.px_link.specs.Net.{Place, NetSeen}
 use Rattle.px_peer.specs.declared.Pair.{Pair}
 use Rattle.htx_drive.specs.Machine.{CoreSeen}
-use Rattle.serve_run.specs.Lines.{line_of}
 use Rattle.px_run.specs.Log.{Entry, entry_line, entry_lines, IsToldOf, IsLine, MoreLines}
 use Rattle.px_run.specs.Lines.{Ended, Said, Ends, Tells, said_line, lines_of, ended_in, AllTold, says_of, tells_of}
-use Rattle.px_run.specs.History.{Visit, new_visit, numbered, change_numbered, IsLogged, KeepsEach}
+use Rattle.px_run.specs.History.{Visit, numbered, change_numbered, IsLogged, KeepsEach}
 use Rattle.px_run.specs.declared.plan.Opening.{Opening}
-use Rattle.px_run.proofs.Numbers.{some_same, num_here, num_other, num_more}
+use Rattle.px_run.proofs.Numbers.{num_here, num_other, num_more}
 use Rattle.px_run.proofs.Logs.{more_as}
 
 -- ---- lines

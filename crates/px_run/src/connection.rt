@@ -1,12 +1,11 @@
 //! One connection of many, from its accept until its client's link is given back.
-ghost use Rattle.std.specs.Prelude.{◌≡◌, ℕ, Option, Some, None, Result, true, false, is_some, IfSome};
+ghost use Rattle.std.specs.Prelude.{◌≡◌, Option, Some, None, true, false, is_some, IfSome};
 ghost use Rattle.std.specs.List.{AllByRecursion};
 ghost use Rattle.px_link.specs.Net.{address_of, Place};
 ghost use Rattle.px_peer.specs.declared.Pair.{Pair};
 ghost use Rattle.px_proxyproto.specs.Meeting.{source_in};
 ghost use Rattle.htx_drive.specs.Weave.State.{IsReady, IsFresh};
 ghost use Rattle.px_run.specs.Course.{IsSame, StandsSomehow, StepsTo, MayStep, HasCome, HasCore, LeadsTo, IsUnderWay};
-ghost use Rattle.htx_drive.specs.declared.Ran.{Ran};
 ghost use Rattle.htx_drive.specs.declared.SessionFault.{SessionFault};
 ghost use Rattle.px_run.specs.Connection.{LookedSo, IsIdle, AllFreshFor, IsAtUnder};
 ghost use Rattle.px_run.specs.Callers.{pair_of};

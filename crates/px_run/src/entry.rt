@@ -1,5 +1,5 @@
 //! The line of an exchange.
-ghost use Rattle.std.specs.Prelude.{◌≡◌, ◌++◌, codes, decimal, IfOk, OnOk};
+ghost use Rattle.std.specs.Prelude.{◌≡◌, ◌++◌, IfOk, OnOk};
 ghost use Rattle.px_run.specs.Log.{or_dash, status_text, entry_head, entry_end, entry_line, entry_of};
 
 use px_link::{Bytes, OutOfMemory};

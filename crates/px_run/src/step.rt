@@ -1,5 +1,5 @@
 //! One step of a connection that has a core: what it wants, of what its links answer at once.
-ghost use Rattle.std.specs.Prelude.{◌≡◌, ◌<◌, ℕ, List, Some, None, true, false, is_some, IfOk, IfSome, OnOk, OnErr};
+ghost use Rattle.std.specs.Prelude.{◌≡◌, ◌<◌, ℕ, List, Some, None, true, false, IfOk, IfSome, OnOk, OnErr};
 ghost use Rattle.px_link.specs.Net.{address_of, Place};
 ghost use Rattle.px_link.specs.declared.turns.Turn.{Turn};
 ghost use Rattle.htx_drive.specs.Weave.Woven.{Going};

@@ -1,4 +1,4 @@
-use Rattle.std.proofs.Common.{refl, ap, ◌∙◌}
+use Rattle.std.proofs.Common.{ap, ◌∙◌}
 use Rattle.px_run.specs.Log.{entry_of, TellsOf}
 use Rattle.px_run.proofs.Logs.{logs_one}
 use Rattle.px_run.proofs.log.tell_now.Goals as goal
