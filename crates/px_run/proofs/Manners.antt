@@ -1,18 +1,18 @@
 -- How links that were given back pass on what is written to them: as before.
-use Rattle.std.proofs.Common.{◌≡◌, ℕ, List, Bool, true, false, Option, Some, None, ap, ◌∙◌, inl, inr}
+use Rattle.std.proofs.Common.{◌≡◌, ℕ, List, Bool, Option, Some, None, ap, ◌∙◌, inl, inr}
 use Rattle.std.specs.Prelude.{Result, Ok, Err}
 use Rattle.session_model.specs.Meaning.{Meaning}
 use Rattle.session_core.specs.History.{Past}
 use Rattle.px_link.specs.Link.{Seen}
 use Rattle.px_link.specs.Net.{Place, NetSeen}
 use Rattle.px_peer.specs.declared.Pair.{Pair}
-use Rattle.px_proxyproto.specs.Meeting.{Meets}
 use Rattle.px_proxyproto.specs.Nets.{heading_for, introduced}
 use Rattle.px_proxyproto.specs.declared.meeting.Met.{Met}
 use Rattle.px_proxyproto.specs.declared.meeting.Met.TheVariants as met
 use Rattle.htx_drive.specs.Machine.{CoreSeen}
 use Rattle.htx_drive.specs.declared.Ran.{Ran}
 use Rattle.htx_drive.specs.declared.SessionFault.{SessionFault}
+use Rattle.serve_run.proofs.PublicLaws.{met_manner}
 use Rattle.px_run.specs.Course.{EndedOrLeft}
 use Rattle.px_run.specs.Callers.{CameAsMet, CameBack}
 use Rattle.px_run.specs.declared.plan.Opening.{Opening}
@@ -23,12 +23,6 @@ ended_manner M stands sees seen wrote first client to first_net net None (inl h)
 ended_manner M stands sees seen wrote first client to first_net net None (inr u) = ap (λ (s : Seen). s.manner) u.closed
 ended_manner M stands sees seen wrote first client to first_net net (Some (Ok ran)) h = let e = h.3 in let so = e.so in let c = so.came in let k = c.kind in k.manner
 ended_manner M stands sees seen wrote first client to first_net net (Some (Err fault)) h = let g = h.2 in let c = g.came in let k = c.kind in k.manner
-
-met_manner : {L : Type 0} (tells : L → Option Pair → Type 0) (accepts_header : Bool) (link : L) (old new : Seen) (how : Met) → Meets tells accepts_header link old new how → new.manner ≡ old.manner
-met_manner tells true link old new (met.Caller pair) h = let t = h.1 in let k = t.kind in k.manner
-met_manner tells true link old new met.Refused h = let t = h.1 in let k = t.kind in k.manner
-met_manner tells false link old new (met.Caller pair) h = ap (λ (s : Seen). s.manner) h.1
-met_manner tells false link old new met.Refused h = absurd h
 
 module _ {C L : Type 0} (M : Option Pair → Meaning) (stands : Option Pair → C → Past → Type 0) (sees : C → CoreSeen) (seen : L → Seen) (wrote : L → List ℕ → Type 0) (tells : L → Option Pair → Type 0) (accepts_header : Bool) (opening : Opening) (first : L) (to : Place) (first_net : NetSeen) where
   came_manner : (how : Met) (begins client : L) (net : NetSeen) (came : Option (Result Ran SessionFault)) → CameAsMet M stands sees seen wrote opening how begins client to first_net net came → (seen client).manner ≡ (seen begins).manner

@@ -1,3 +1,4 @@
+pub mod PublicLaws
 mod Addresses
 mod Chain
 mod Drives
