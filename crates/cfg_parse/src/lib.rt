@@ -31,4 +31,4 @@ pub use judging::verdict_of;
 pub use limits::{MAX_KEPT, MAX_TEXT};
 pub use meanings::meaning_of;
 pub use refused::{RefusedLine, RefusedLines, Verdict};
-pub use text::load;
+pub use text::{first_line, load};

@@ -1,0 +1,4 @@
+mod Joining
+mod TableLemmas
+mod PairLemmas
+pub mod PublicLaws

@@ -1,0 +1,10 @@
+pub mod Words
+pub mod Exprs
+pub mod Formats
+pub mod Conditions
+pub mod Table
+pub mod Actions
+pub mod Rules
+pub mod Pairs
+pub mod Printed
+pub mod Fits
