@@ -7,7 +7,7 @@
 #   cfg                    a whole configuration that loads; the blocks behind it use it
 #   cfg-lines              lines that load in a `listen` section with one bind and one server
 #   cfg-refused L KIND     a whole configuration that is refused so, as the line of text above says too
-#   check                  what `check` writes of the last cfg
+#   check, printed         what `check` and `check --print` write of the last cfg
 #   request, response      a head and a body with plain line ends, for the blocks behind it
 #   samples [response]     EXPRESSION, two blanks, its text on that request or response; `absent`; `""` is empty
 #   conditions             CONDITION, two blanks, `true` or `false` on that request
@@ -221,6 +221,8 @@ class Page:
             yield from refused(2, f"config: line {words[0]}: {words[1]}", above, ran(["check", "c"], c=text))
         elif kind == "check":
             yield (0, text.encode()), ran(["check", "c"], c=self.config)
+        elif kind == "printed":
+            yield (0, text.encode()), ran(["check", "--print", "c"], c=self.config)
         elif kind == "request":
             self.request = message(text)
         elif kind == "response":

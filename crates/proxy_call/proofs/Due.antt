@@ -10,10 +10,11 @@ use Rattle.cfg_parse.specs.declared.fault.CfgKind.{CfgKind}
 use Rattle.cfg_parse.specs.declared.refused.RefusedLine.{RefusedLine}
 use Rattle.rec_format.specs.Recorded as records
 use Rattle.rec_format.specs.Recorded.{Recorded, record_of}
-use Rattle.px_command.specs.Command.{IsCheckAll, IsCheckRecord, RunsRecord, IsServe, IsRun, IsUsage, NamesConfig, ReadsConfig}
+use Rattle.cfg_print.specs.Fits.{fits}
+use Rattle.px_command.specs.Command.{IsCheckAll, IsCheckPrint, IsCheckRecord, RunsRecord, IsServe, IsRun, IsUsage, NamesConfig, ReadsConfig}
 use Rattle.px_command.specs.declared.options.RunOptions.{RunOptions}
 use Rattle.proxy_commands.specs.Answers.{Checks, DecidesRecord, IsGood, IsRefused, IsRefusedBy}
-use Rattle.proxy_call.specs.Due.{IsDue}
+use Rattle.proxy_call.specs.Due.{IsDue, Prints}
 use Rattle.proxy_commands.specs.Files.{Builder, Configured, Holds, IfTold, RecordIs, RefusesAll}
 use Rattle.proxy_commands.specs.Modes.{RunsSo, Refuses, Takes, refuses}
 use Rattle.proxy_commands.specs.declared.record_command.RecordCommand.{RecordCommand}
@@ -21,7 +22,7 @@ use Rattle.proxy_commands.specs.declared.record_command.RecordCommand.TheVariant
 use Rattle.proxy_commands.specs.declared.status.Status.{Status}
 use Rattle.proxy_commands.specs.declared.status.Status.TheVariants.{Good, Usage, FileFault, OutFault, NetFault, OutOfMemory}
 use Rattle.proxy_commands.specs.declared.status.Status.TheVariants as ended
-use Rattle.proxy_call.proofs.Words.{record_or_config, fileless_or_config, fileless_or_record, check_or_record, serve_or_record, run_or_check, run_or_serve, run_or_record, run_or_fileless, same_config_name, same_record_name, same_command, runs_record}
+use Rattle.proxy_call.proofs.Words.{record_or_config, fileless_or_config, fileless_or_record, check_or_record, serve_or_record, print_or_record, print_or_check, print_or_serve, run_or_check, run_or_print, run_or_serve, run_or_record, run_or_fileless, same_config_name, same_record_name, same_command, runs_record}
 
 -- ---- a file has one content
 
@@ -72,6 +73,21 @@ taken_or_mode words files name rec other last cfg c takes refused same ok accept
     let both = both_hold files other (λ t. config_of t None ≡ Ok cfg) (λ t. config_of t None ≡ Ok c) (subst (λ (n : List ℕ). Configured files n (Ok cfg)) same ok) accepted in
     refused_or_not takes.0 refused.0 cfg c (same_command takes.0 refused.0 words name rec other last takes.1 refused.1) (same_config (config_of both.0 None) cfg c both.1 both.2) takes.2 refused.2
 
+-- nor is one whose canonical text is not too long one whose is
+fits_or_not : (a b : Config) → a ≡ b → fits a ≡ true → fits b ≡ false → ⊥
+fits_or_not a b one fit overlong = absurd (true≢false (sym (subst (λ (cfg : Config). fits cfg ≡ true) one fit) ∙ overlong))
+
+-- the name of a configuration's file that is printed
+print_named : (words : List (List ℕ)) (name : List ℕ) → IsCheckPrint words name → ReadsConfig words name
+print_named words name is = inl (inr (inr (inr (inr is))))
+
+printed_or_overlong : (words : List (List ℕ)) (files : List NamedBytes) (name other : List ℕ) (cfg c : Config) → Prints words files name cfg → Prints words files other c
+    → fits cfg ≡ true → fits c ≡ false → ⊥
+printed_or_overlong words files name other cfg c is that fit overlong =
+    let same = same_config_name words name other (print_named words name is.0) (print_named words other that.0) in
+    let both = both_hold files other (λ t. config_of t None ≡ Ok cfg) (λ t. config_of t None ≡ Ok c) (subst (λ (n : List ℕ). Configured files n (Ok cfg)) same is.1) that.1 in
+    fits_or_not cfg c (same_config (config_of both.0 None) cfg c both.1 both.2) fit overlong
+
 config_named : (words : List (List ℕ)) (name : List ℕ) → Checks words name ⊎ ((connections : ℕ) × IsServe words name connections) → ReadsConfig words name
 config_named words name (inl (inl check)) = inl (inl check)
 config_named words name (inl (inr all)) = inr all
@@ -89,16 +105,19 @@ good_or_usage words files (inl (name, inl (inr all), cfg, ok)) usage = usage.che
 good_or_usage words files (inl (name, inr (count, serve), cfg, ok)) usage = usage.serve name count serve
 good_or_usage words files (inr (inl (rec, is, r, ok))) usage = usage.check_record rec is
 good_or_usage words files (inr (inr (inl (cfg, rec, is, c, r, say, takes)))) usage = runs_or_usage words cfg rec is usage
-good_or_usage words files (inr (inr (inr (inl (seed, exchanges, is))))) usage = usage.drill seed exchanges is
-good_or_usage words files (inr (inr (inr (inr asks)))) usage = usage.text asks
+good_or_usage words files (inr (inr (inr (inl (inl (seed, exchanges, is)))))) usage = usage.drill seed exchanges is
+good_or_usage words files (inr (inr (inr (inl (inr asks))))) usage = usage.text asks
+good_or_usage words files (inr (inr (inr (inr (name, cfg, is, fit))))) usage = usage.check_print name is.0
 
 config_or_usage : (words : List (List ℕ)) (files : List NamedBytes) → IsDue words files ended.Config → IsUsage words → ⊥
 config_or_usage words files (inl (name, inl (inl check), line, kind, refused)) usage = usage.check name check
 config_or_usage words files (inl (name, inl (inr (inl (rec, is))), line, kind, refused)) usage = runs_or_usage words name rec is usage
 config_or_usage words files (inl (name, inl (inr (inr (inl (count, is)))), line, kind, refused)) usage = usage.serve name count is
-config_or_usage words files (inl (name, inl (inr (inr (inr (options, is)))), line, kind, refused)) usage = usage.run name options is
+config_or_usage words files (inl (name, inl (inr (inr (inr (inl (options, is))))), line, kind, refused)) usage = usage.run name options is
+config_or_usage words files (inl (name, inl (inr (inr (inr (inr is)))), line, kind, refused)) usage = usage.check_print name is
 config_or_usage words files (inl (name, inr all, line, kind, refused)) usage = usage.check_all name all
-config_or_usage words files (inr (name, rec, cfg, ok, (command, so, refused))) usage = runs_or_usage words name rec (runs_record command words name rec so) usage
+config_or_usage words files (inr (inl (name, rec, cfg, ok, (command, so, refused)))) usage = runs_or_usage words name rec (runs_record command words name rec so) usage
+config_or_usage words files (inr (inr (name, cfg, is, overlong))) usage = usage.check_print name is.0
 
 record_or_usage : (words : List (List ℕ)) (files : List NamedBytes) → IsDue words files ended.Record → IsUsage words → ⊥
 record_or_usage words files (rec, place, kind, refused, inl is) usage = usage.check_record rec is
@@ -110,13 +129,22 @@ good_or_config words files (inl (name, how, cfg, ok)) (inl (other, named, line, 
 good_or_config words files (inr (inl (rec, is, r, ok))) (inl (other, named, line, kind, refused)) = record_or_config words rec other is named
 good_or_config words files (inr (inr (inl (name, rec, is, cfg, r, say, takes)))) (inl (other, named, line, kind, refused)) =
     accepted_or_refused files name other cfg (line, kind) (same_config_name words name other (inl (inr (inl (rec, is)))) named) say.configuration refused
-good_or_config words files (inr (inr (inr none))) (inl (other, named, line, kind, refused)) = fileless_or_config words other none named
-good_or_config words files (inl (name, inl check, cfg, ok)) (inr (other, rec, c, accepted, (command, so, refused))) = check_or_record words name rec check (inr (other, runs_record command words other rec so))
-good_or_config words files (inl (name, inr (count, serve), cfg, ok)) (inr (other, rec, c, accepted, (command, so, refused))) = serve_or_record words name rec count serve (inr (other, runs_record command words other rec so))
-good_or_config words files (inr (inl (name, is, r, ok))) (inr (other, rec, c, accepted, (command, so, refused))) = record_or_config words name other is (inl (inr (inl (rec, runs_record command words other rec so))))
-good_or_config words files (inr (inr (inl (name, rec, is, cfg, r, say, takes)))) (inr (other, last, c, accepted, (command, so, refused))) =
+good_or_config words files (inr (inr (inr (inl none)))) (inl (other, named, line, kind, refused)) = fileless_or_config words other none named
+good_or_config words files (inr (inr (inr (inr (name, cfg, is, fit))))) (inl (other, named, line, kind, refused)) =
+    accepted_or_refused files name other cfg (line, kind) (same_config_name words name other (print_named words name is.0) named) is.1 refused
+good_or_config words files (inl (name, inl check, cfg, ok)) (inr (inl (other, rec, c, accepted, (command, so, refused)))) = check_or_record words name rec check (inr (other, runs_record command words other rec so))
+good_or_config words files (inl (name, inr (count, serve), cfg, ok)) (inr (inl (other, rec, c, accepted, (command, so, refused)))) = serve_or_record words name rec count serve (inr (other, runs_record command words other rec so))
+good_or_config words files (inr (inl (name, is, r, ok))) (inr (inl (other, rec, c, accepted, (command, so, refused)))) = record_or_config words name other is (inl (inr (inl (rec, runs_record command words other rec so))))
+good_or_config words files (inr (inr (inl (name, rec, is, cfg, r, say, takes)))) (inr (inl (other, last, c, accepted, (command, so, refused)))) =
     taken_or_mode words files name rec other last cfg c takes (command, so, refused) (same_config_name words name other (inl (inr (inl (rec, is)))) (inl (inr (inl (last, runs_record command words other last so))))) say.configuration accepted
-good_or_config words files (inr (inr (inr none))) (inr (other, rec, c, accepted, (command, so, refused))) = fileless_or_config words other none (inl (inr (inl (rec, runs_record command words other rec so))))
+good_or_config words files (inr (inr (inr (inl none)))) (inr (inl (other, rec, c, accepted, (command, so, refused)))) = fileless_or_config words other none (inl (inr (inl (rec, runs_record command words other rec so))))
+good_or_config words files (inr (inr (inr (inr (name, cfg, is, fit))))) (inr (inl (other, rec, c, accepted, (command, so, refused)))) = print_or_record words name rec is.0 (inr (other, runs_record command words other rec so))
+good_or_config words files (inl (name, inl check, cfg, ok)) (inr (inr (other, c, that, overlong))) = print_or_check words other name that.0 check
+good_or_config words files (inl (name, inr (count, serve), cfg, ok)) (inr (inr (other, c, that, overlong))) = print_or_serve words other name count that.0 serve
+good_or_config words files (inr (inl (name, is, r, ok))) (inr (inr (other, c, that, overlong))) = print_or_record words other name that.0 (inl is)
+good_or_config words files (inr (inr (inl (name, rec, is, cfg, r, say, takes)))) (inr (inr (other, c, that, overlong))) = print_or_record words other rec that.0 (inr (name, is))
+good_or_config words files (inr (inr (inr (inl none)))) (inr (inr (other, c, that, overlong))) = fileless_or_config words other none (print_named words other that.0)
+good_or_config words files (inr (inr (inr (inr (name, cfg, is, fit))))) (inr (inr (other, c, that, overlong))) = printed_or_overlong words files name other cfg c is that fit overlong
 
 good_or_record : (words : List (List ℕ)) (files : List NamedBytes) → IsDue words files Good → IsDue words files ended.Record → ⊥
 good_or_record words files (inl (name, inl check, cfg, ok)) (rec, place, kind, refused, how) = check_or_record words name rec check (record_named words files rec how)
@@ -125,14 +153,16 @@ good_or_record words files (inr (inl (name, is, r, ok))) (rec, place, kind, refu
     record_or_refused files name rec r (record { place = place; kind = kind }) (same_record_name words name rec (inl is) (record_named words files rec how)) ok refused
 good_or_record words files (inr (inr (inl (cfg_name, name, is, cfg, r, say, takes)))) (rec, place, kind, refused, how) =
     record_or_refused files name rec r (record { place = place; kind = kind }) (same_record_name words name rec (inr (cfg_name, is)) (record_named words files rec how)) say.accepted refused
-good_or_record words files (inr (inr (inr none))) (rec, place, kind, refused, how) = fileless_or_record words rec none (record_named words files rec how)
+good_or_record words files (inr (inr (inr (inl none)))) (rec, place, kind, refused, how) = fileless_or_record words rec none (record_named words files rec how)
+good_or_record words files (inr (inr (inr (inr (name, cfg, is, fit))))) (rec, place, kind, refused, how) = print_or_record words name rec is.0 (record_named words files rec how)
 
 config_or_record : (words : List (List ℕ)) (files : List NamedBytes) → IsDue words files ended.Config → IsDue words files ended.Record → ⊥
 config_or_record words files (inl (name, named, line, kind, refused)) (rec, place, what, err, inl is) = record_or_config words rec name is named
 config_or_record words files (inl (name, named, line, kind, refused)) (rec, place, what, err, inr (cfg_name, is, cfg, ok, takes)) =
     accepted_or_refused files cfg_name name cfg (line, kind) (same_config_name words cfg_name name (inl (inr (inl (rec, is)))) named) ok refused
-config_or_record words files (inr (name, last, c, accepted, (command, so, refused))) (rec, place, what, err, inl is) = record_or_config words rec name is (inl (inr (inl (last, runs_record command words name last so))))
-config_or_record words files (inr (name, last, c, accepted, (command, so, refused))) (rec, place, what, err, inr (cfg_name, is, cfg, ok, takes)) =
+config_or_record words files (inr (inl (name, last, c, accepted, (command, so, refused)))) (rec, place, what, err, inl is) = record_or_config words rec name is (inl (inr (inl (last, runs_record command words name last so))))
+config_or_record words files (inr (inr (name, c, that, overlong))) (rec, place, what, err, how) = print_or_record words name rec that.0 (record_named words files rec how)
+config_or_record words files (inr (inl (name, last, c, accepted, (command, so, refused)))) (rec, place, what, err, inr (cfg_name, is, cfg, ok, takes)) =
     taken_or_mode words files cfg_name rec name last cfg c takes (command, so, refused) (same_config_name words cfg_name name (inl (inr (inl (rec, is)))) (inl (inr (inl (last, runs_record command words name last so))))) ok accepted
 
 pub due_once : (words : List (List ℕ)) (files : List NamedBytes) (a b : Status) → IsDue words files a → IsDue words files b → a ≡ b
@@ -180,11 +210,13 @@ run_not_due words files name options cfg Good is ok (inl (other, inl checks, c, 
 run_not_due words files name options cfg Good is ok (inl (other, inr (count, serve), c, other_ok)) = run_or_serve words (name, options, is) (other, count, serve)
 run_not_due words files name options cfg Good is ok (inr (inl (rec, record_is, r, other_ok))) = run_or_record words rec (name, options, is) (inl record_is)
 run_not_due words files name options cfg Good is ok (inr (inr (inl (other, rec, runs, c, r, say, takes)))) = run_or_record words rec (name, options, is) (inr (other, runs))
-run_not_due words files name options cfg Good is ok (inr (inr (inr none))) = run_or_fileless words (name, options, is) none
+run_not_due words files name options cfg Good is ok (inr (inr (inr (inl none)))) = run_or_fileless words (name, options, is) none
+run_not_due words files name options cfg Good is ok (inr (inr (inr (inr (other, c, that, fit))))) = run_or_print words other (name, options, is) that.0
 run_not_due words files name options cfg Usage is ok usage = usage.run name options is
 run_not_due words files name options cfg ended.Config is ok (inl (other, named, line, kind, refused)) =
-    accepted_or_refused files name other cfg (line, kind) (same_config_name words name other (inl (inr (inr (inr (options, is))))) named) ok refused
-run_not_due words files name options cfg ended.Config is ok (inr (other, rec, c, accepted, (command, so, refused))) = run_or_record words rec (name, options, is) (inr (other, runs_record command words other rec so))
+    accepted_or_refused files name other cfg (line, kind) (same_config_name words name other (inl (inr (inr (inr (inl (options, is)))))) named) ok refused
+run_not_due words files name options cfg ended.Config is ok (inr (inl (other, rec, c, accepted, (command, so, refused)))) = run_or_record words rec (name, options, is) (inr (other, runs_record command words other rec so))
+run_not_due words files name options cfg ended.Config is ok (inr (inr (other, c, that, overlong))) = run_or_print words other (name, options, is) that.0
 run_not_due words files name options cfg ended.Record is ok (rec, place, kind, refused, how) = run_or_record words rec (name, options, is) (record_named words files rec how)
 run_not_due words files name options cfg FileFault is ok due = due
 run_not_due words files name options cfg OutFault is ok due = due
@@ -203,8 +235,9 @@ good_due words files fs text told (inr (inr (inl (name, rec, is, (cfg, r, say, w
 good_due words files fs text told (inr (inr (inr (inl (name, rec, inl (is, (cfg, r, say, plain, wrote))))))) = inr (inr (inl (name, rec, inr (inl (inl is)), cfg, r, of_told files fs _ told say, (Explain, inl is, plain))))
 good_due words files fs text told (inr (inr (inr (inl (name, rec, inr (is, (cfg, r, say, plain, wrote))))))) = inr (inr (inl (name, rec, inr (inl (inr is)), cfg, r, of_told files fs _ told say, (Explain, inr is, plain))))
 good_due words files fs text told (inr (inr (inr (inr (inl (name, rec, cores, is, (cfg, r, say, plain, wrote))))))) = inr (inr (inl (name, rec, inr (inr (cores, is)), cfg, r, of_told files fs _ told say, (Weave, (cores, is), plain))))
-good_due words files fs text told (inr (inr (inr (inr (inr (inl (seed, exchanges, is, wrote))))))) = inr (inr (inr (inl (seed, exchanges, is))))
-good_due words files fs text told (inr (inr (inr (inr (inr (inr texts)))))) = inr (inr (inr (inr texts.0)))
+good_due words files fs text told (inr (inr (inr (inr (inr (inl (seed, exchanges, is, wrote))))))) = inr (inr (inr (inl (inl (seed, exchanges, is)))))
+good_due words files fs text told (inr (inr (inr (inr (inr (inr (inl texts))))))) = inr (inr (inr (inl (inr texts.0))))
+good_due words files fs text told (inr (inr (inr (inr (inr (inr (inr (name, is, (cfg, ok, fit, wrote))))))))) = inr (inr (inr (inr (name, cfg, (is, of_told files fs _ told ok), fit))))
 
 unbuilt : (fs : List NamedBytes) (builder : Builder) (name : List ℕ) (line : ℕ) (kind : CfgKind) → (Rose builder.before builder.now → ⊥) → IsRefused (Some fs) builder name line kind → Configured fs name (Err (line, kind))
 unbuilt fs builder name line kind never (None, (text, content, (refuses, builds))) = (text, content, refuses)
@@ -236,7 +269,8 @@ pub refused_by_due : (words : List (List ℕ)) (files : Option (List NamedBytes)
     → IsRefusedBy words files builder text → IsDue words fs ended.Config
 refused_by_due words files fs builder text told never (inl (name, named, (line, kind, refused, is))) = refused_due words files fs builder name line kind told never named refused
 refused_by_due words files fs builder text told never (inr (inl (name, all, (lines, refused, is)))) = all_due words files fs builder name lines told never all refused
-refused_by_due words files fs builder text told never (inr (inr (line, kind, mode, is))) = inr (mode.cfg_name, mode.rec_name, mode.cfg, of_told files fs _ told mode.accepted, mode.refuses)
+refused_by_due words files fs builder text told never (inr (inr (inl (line, kind, mode, is)))) = inr (inl (mode.cfg_name, mode.rec_name, mode.cfg, of_told files fs _ told mode.accepted, mode.refuses))
+refused_by_due words files fs builder text told never (inr (inr (inr (line, kind, long, is)))) = inr (inr (long.cfg_name, long.cfg, (long.prints, of_told files fs _ told long.accepted), long.overlong))
 
 decided : (words : List (List ℕ)) (files : Option (List NamedBytes)) (builder : Builder) (fs : List NamedBytes) (rec : List ℕ) → files ≡ Some fs → DecidesRecord words files builder rec
     → IsCheckRecord words rec ⊎ ((cfg_name : List ℕ) × RunsRecord words cfg_name rec × (cfg : Config) × Configured fs cfg_name (Ok cfg) × Takes words cfg_name rec cfg)

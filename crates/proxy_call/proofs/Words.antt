@@ -3,7 +3,7 @@ use Rattle.std.proofs.Common.{◌≡◌, ℕ, ◌+◌, ◌*◌, ◌==◌, ◌||�
 use Rattle.std.specs.Prelude.{Option, Some, if◌then◌else◌}
 use Rattle.px_bytes.specs.Numbers.{decimal_of}
 use Rattle.px_link.specs.Told.{NamedBytes}
-use Rattle.px_command.specs.Command.{IsCheck, IsCheckAll, IsCheckRecord, IsReplay, IsExplain, IsExplainBlocks, IsWeave, RunsRecord, IsServe, IsRun, IsDrill, AsksText, IsFileWord, NamesConfig, ReadsConfig}
+use Rattle.px_command.specs.Command.{IsCheck, IsCheckAll, IsCheckPrint, IsCheckRecord, IsReplay, IsExplain, IsExplainBlocks, IsWeave, RunsRecord, IsServe, IsRun, IsDrill, AsksText, IsFileWord, NamesConfig, ReadsConfig}
 use Rattle.px_command.specs.declared.options.RunOptions.{RunOptions}
 use Rattle.proxy_commands.specs.Modes.{RunsSo}
 use Rattle.proxy_commands.specs.declared.record_command.RecordCommand.{RecordCommand}
@@ -99,8 +99,13 @@ runs_long words cfg rec (inr (inr (cores, is))) = ap short is.1
 abbrev has_config : ℕ → Bool
 has_config k = k == 1101 || (k == 2112 || (k == 3112 || (k == 3097 || k == 2114)))
 
+-- whether they are three, the first with the third letter of `check` and the second with that of `--print`
+abbrev prints : List (List ℕ) → Bool
+prints [] = false
+prints (first ∷ rest) = get_or first 2 0 == 101 && (length rest == 2 && get_or (second (first ∷ rest)) 2 0 == 112)
+
 abbrev config_key : List (List ℕ) → Bool
-config_key words = runs words || has_config (key words)
+config_key words = runs words || (prints words || has_config (key words))
 
 no_bool : (b : Bool) → b ≡ true → b ≡ false → ⊥
 no_bool b p q = cc
@@ -112,7 +117,8 @@ config_there words cfg (inr (inl (rec, inr (inl (inl explain))))) = ap config_ke
 config_there words cfg (inr (inl (rec, inr (inl (inr blocks))))) = ap config_key blocks.0
 config_there words cfg (inr (inl (rec, inr (inr weave)))) = ap config_key weave.1.1
 config_there words cfg (inr (inr (inl serve))) = ap config_key serve.1.1
-config_there words cfg (inr (inr (inr ran))) = ap config_key ran.1.1
+config_there words cfg (inr (inr (inr (inl ran)))) = ap config_key ran.1.1
+config_there words cfg (inr (inr (inr (inr print)))) = ap config_key print.0
 
 -- a word with a dash in front names no file
 dash_or_file : (words : List (List ℕ)) (flag cfg : List ℕ) → second words ≡ 45 ∷ flag → IsCheck words cfg → ⊥
@@ -149,7 +155,8 @@ text_or_config : (words : List (List ℕ)) (cfg : List ℕ) → AsksText words �
 text_or_config words cfg text (inl check) = text_or_check words cfg text check
 text_or_config words cfg text (inr (inl (rec, is))) = no_bool (short words) (text_short words text) (runs_long words cfg rec is)
 text_or_config words cfg text (inr (inr (inl (count, is)))) = no_bool (short words) (text_short words text) (ap short is.1)
-text_or_config words cfg text (inr (inr (inr (options, is)))) = text_or_run words cfg options text is
+text_or_config words cfg text (inr (inr (inr (inl (options, is))))) = text_or_run words cfg options text is
+text_or_config words cfg text (inr (inr (inr (inr print)))) = no_bool (short words) (text_short words text) (ap short print.0)
 
 named_or_all : (words : List (List ℕ)) (cfg other : List ℕ) → NamesConfig words cfg → IsCheckAll words other → ⊥
 named_or_all words cfg other named all = no_bool (config_key words) (config_there words cfg named) (ap config_key all.0)
@@ -208,6 +215,28 @@ check_or_record words cfg rec (inr all) (inr (c, runs)) = named_or_all words c c
 pub serve_or_record : (words : List (List ℕ)) (cfg rec : List ℕ) (count : ℕ) → IsServe words cfg count → IsCheckRecord words rec ⊎ ((c : List ℕ) × RunsRecord words c rec) → ⊥
 serve_or_record words cfg rec count is named = no_bool (has_record (key words)) (record_there words rec named) (ap has_record (serve_key words cfg count is))
 
+-- ---- which words are `check --print`
+
+prints_there : (words : List (List ℕ)) (cfg : List ℕ) → IsCheckPrint words cfg → prints words ≡ true
+prints_there words cfg is = ap prints is.0
+
+print_or_runs : (words : List (List ℕ)) (cfg other rec : List ℕ) → IsCheckPrint words cfg → RunsRecord words other rec → ⊥
+print_or_runs words cfg other rec print (inl is) = no_bool (prints words) (prints_there words cfg print) (ap prints is.0)
+print_or_runs words cfg other rec print (inr (inl (inl is))) = no_bool (prints words) (prints_there words cfg print) (ap prints is.0)
+print_or_runs words cfg other rec print (inr (inl (inr is))) = no_bool (prints words) (prints_there words cfg print) (ap prints is.0)
+print_or_runs words cfg other rec print (inr (inr (cores, is))) = no_bool (prints words) (prints_there words cfg print) (ap prints is.1)
+
+pub print_or_record : (words : List (List ℕ)) (cfg rec : List ℕ) → IsCheckPrint words cfg → IsCheckRecord words rec ⊎ ((c : List ℕ) × RunsRecord words c rec) → ⊥
+print_or_record words cfg rec print (inl is) = no_bool (prints words) (prints_there words cfg print) (ap prints is.0)
+print_or_record words cfg rec print (inr (c, runs)) = print_or_runs words cfg c rec print runs
+
+pub print_or_check : (words : List (List ℕ)) (cfg other : List ℕ) → IsCheckPrint words cfg → Checks words other → ⊥
+print_or_check words cfg other print (inl check) = no_bool (prints words) (prints_there words cfg print) (ap prints check.0)
+print_or_check words cfg other print (inr all) = no_bool (prints words) (prints_there words cfg print) (ap prints all.0)
+
+pub print_or_serve : (words : List (List ℕ)) (cfg other : List ℕ) (count : ℕ) → IsCheckPrint words cfg → IsServe words other count → ⊥
+print_or_serve words cfg other count print serve = no_bool (prints words) (prints_there words cfg print) (ap prints serve.1)
+
 -- ---- which words are `serve`
 
 abbrev is_serve : ℕ → Bool
@@ -225,7 +254,8 @@ good_or_serve words text files (inr (inr (inr (inl (cfg, rec, inl (is, made)))))
 good_or_serve words text files (inr (inr (inr (inl (cfg, rec, inr (is, made)))))) serve = serve_key_or words (ap is_serve (blocks_key words cfg rec is)) serve
 good_or_serve words text files (inr (inr (inr (inr (inl (cfg, rec, cores, is, made)))))) serve = serve_key_or words (ap is_serve (weave_key words cfg rec cores is)) serve
 good_or_serve words text files (inr (inr (inr (inr (inr (inl (seed, exchanges, is, made))))))) serve = serve_key_or words (ap is_serve (drill_key words seed exchanges is)) serve
-good_or_serve words text files (inr (inr (inr (inr (inr (inr (asks, ends))))))) (cfg, count, is) = no_bool (short words) (text_short words asks) (ap short is.1)
+good_or_serve words text files (inr (inr (inr (inr (inr (inr (inl (asks, ends)))))))) (cfg, count, is) = no_bool (short words) (text_short words asks) (ap short is.1)
+good_or_serve words text files (inr (inr (inr (inr (inr (inr (inr (name, print, made)))))))) (cfg, count, is) = print_or_serve words name cfg count print is
 
 -- ---- which words are `run`
 
@@ -235,6 +265,9 @@ run_or_serve words (cfg, options, is) (other, count, serve) = no_bool (runs word
 pub run_or_check : (words : List (List ℕ)) (cfg : List ℕ) → NamesRun words → Checks words cfg → ⊥
 run_or_check words cfg (name, options, is) (inl check) = no_bool (runs words) (run_letter words name options is) (ap runs check.0)
 run_or_check words cfg (name, options, is) (inr all) = no_bool (runs words) (run_letter words name options is) (ap runs all.0)
+
+pub run_or_print : (words : List (List ℕ)) (cfg : List ℕ) → NamesRun words → IsCheckPrint words cfg → ⊥
+run_or_print words cfg (name, options, is) print = no_bool (runs words) (run_letter words name options is) (ap runs print.0)
 
 pub run_or_record : (words : List (List ℕ)) (rec : List ℕ) → NamesRun words → IsCheckRecord words rec ⊎ ((cfg : List ℕ) × RunsRecord words cfg rec) → ⊥
 run_or_record words rec (name, options, is) (inl record_is) = no_bool (runs words) (run_letter words name options is) (ap runs record_is.0)
@@ -255,7 +288,8 @@ good_or_run words text files (inr (inr (inr (inl (cfg, rec, inl (is, made)))))) 
 good_or_run words text files (inr (inr (inr (inl (cfg, rec, inr (is, made)))))) named = run_or_record words rec named (inr (cfg, inr (inl (inr is))))
 good_or_run words text files (inr (inr (inr (inr (inl (cfg, rec, cores, is, made)))))) named = run_or_record words rec named (inr (cfg, inr (inr (cores, is))))
 good_or_run words text files (inr (inr (inr (inr (inr (inl (seed, exchanges, is, made))))))) named = run_or_fileless words named (inl (seed, exchanges, is))
-good_or_run words text files (inr (inr (inr (inr (inr (inr (asks, ends))))))) named = run_or_fileless words named (inr asks)
+good_or_run words text files (inr (inr (inr (inr (inr (inr (inl (asks, ends)))))))) named = run_or_fileless words named (inr asks)
+good_or_run words text files (inr (inr (inr (inr (inr (inr (inr (cfg, print, made)))))))) named = run_or_print words cfg named print
 
 -- ---- the names of files
 
@@ -266,7 +300,7 @@ has_flag (first ∷ rest) = get_or first 2 0 == 112 && length rest == 3
 
 -- where these stand
 abbrev config_word : List (List ℕ) → List ℕ
-config_word words = if has_flag words then third words else second words
+config_word words = if prints words || has_flag words then third words else second words
 
 abbrev record_word : List (List ℕ) → List ℕ
 record_word words = if has_flag words then fourth words else third words
@@ -278,7 +312,8 @@ config_named_there words cfg (inr (inl (rec, inr (inl (inl is))))) = ap config_w
 config_named_there words cfg (inr (inl (rec, inr (inl (inr is))))) = ap config_word is.0
 config_named_there words cfg (inr (inl (rec, inr (inr (cores, is))))) = ap config_word is.1
 config_named_there words cfg (inr (inr (inl (count, is)))) = ap config_word is.1
-config_named_there words cfg (inr (inr (inr (options, is)))) = ap config_word is.1
+config_named_there words cfg (inr (inr (inr (inl (options, is))))) = ap config_word is.1
+config_named_there words cfg (inr (inr (inr (inr is)))) = ap config_word is.0
 
 same_named : (words : List (List ℕ)) (a b : List ℕ) → NamesConfig words a → NamesConfig words b → a ≡ b
 same_named words a b p q = let x = config_named_there words a p in let y = config_named_there words b q in cc

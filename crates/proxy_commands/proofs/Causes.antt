@@ -1,5 +1,5 @@
 -- What a step that stops says of the whole command.
-use Rattle.std.proofs.Common.{◌≡◌, ◌≤◌, true, ℕ, List, inl, inr, refl, sym, subst, arith}
+use Rattle.std.proofs.Common.{◌≡◌, ◌≤◌, true, false, ℕ, List, inl, inr, refl, sym, subst, arith}
 use Rattle.std.specs.Prelude.{Option, Result, Ok, Err, IfErr, IsErrAnd}
 use Rattle.px_link.specs.Told.{NamedBytes, Reads, Rose}
 use Rattle.http_rules.specs.declared.config.Config.{Config}
@@ -12,18 +12,21 @@ use Rattle.cfg_parse.specs.declared.fault.CfgFault.{CfgFault}
 use Rattle.cfg_parse.specs.declared.fault.CfgFault.TheVariants as configurations
 use Rattle.cfg_parse.specs.declared.fault.CfgKind.{CfgKind}
 use Rattle.cfg_parse.specs.declared.fault.CfgKind.TheVariants.{Mode}
+use Rattle.cfg_print.specs.Fits.{fits}
+use Rattle.cfg_print.specs.declared.fault.PrintFault.{PrintFault}
+use Rattle.cfg_print.specs.declared.fault.PrintFault.TheVariants as printing
 use Rattle.rec_format.specs.declared.record.RecFault.{RecFault}
 use Rattle.rec_format.specs.declared.record.RecFault.TheVariants as records
 use Rattle.rec_format.specs.Parts.{Refuses}
 use Rattle.rec_format.specs.Recorded.{record_of}
-use Rattle.px_command.specs.Command.{IsCheckAll, NamesConfig, RunsRecord}
+use Rattle.px_command.specs.Command.{IsCheckAll, IsCheckPrint, NamesConfig, RunsRecord}
 use Rattle.proxy_commands.specs.Answers.{DecidesBy, DecidesRecord, IsAccepted, IsRefusedBy}
 use Rattle.proxy_commands.specs.Lines.{refused_line}
 use Rattle.proxy_commands.specs.Files.{IfTold, Configured, IsBuilt}
 use Rattle.proxy_commands.specs.Modes.{RunsSo, Takes, refuses}
 use Rattle.proxy_commands.specs.declared.record_command.RecordCommand.{RecordCommand}
 use Rattle.proxy_commands.specs.declared.record_command.RecordCommand.TheVariants.{Replay, Explain, Weave}
-use Rattle.proxy_commands.specs.Stops.{Input, Answers, ReadStops, SaysAll, SaysVerdict, StopsBy, stop_of_configuration, stop_of_record}
+use Rattle.proxy_commands.specs.Stops.{Input, Answers, ReadStops, SaysAll, SaysVerdict, StopsBy, stop_of_configuration, stop_of_printing, stop_of_record}
 use Rattle.proxy_commands.specs.declared.stop.Stop.{Stop}
 use Rattle.proxy_commands.specs.declared.stop.Stop.TheVariants as stops
 use Rattle.proxy_commands.proofs.Told.{configured, recorded, refused, refused_all, weaker}
@@ -86,12 +89,22 @@ runs_record Weave words cfg_name rec_name so = inr (inr so)
 pub mode_stops : (input : Input) (command : RecordCommand) (cfg_name rec_name : List ℕ) (cfg : Config) → RunsSo command input.words cfg_name rec_name
     → IfTold input.files (λ fs. Configured fs cfg_name (Ok cfg)) → IsBuilt input.builder → refuses command cfg ≡ true → StopsBy input (stops.Refused 0 Mode)
 mode_stops input command cfg_name rec_name cfg so accepts built refused =
-    inr (record { cfg_name = cfg_name; rec_name = rec_name; cfg = cfg; refuses = (command, so, refused); accepted = accepts; built = built; whole = refl; mode = refl })
+    inr (inl (record { cfg_name = cfg_name; rec_name = rec_name; cfg = cfg; refuses = (command, so, refused); accepted = accepts; built = built; whole = refl; mode = refl }))
 
 -- what is written of a configuration that is refused, or that the command doesn't take
 pub refused_by : (input : Input) (line : ℕ) (kind : CfgKind) (text : List ℕ) → StopsBy input (stops.Refused line kind) → text ≡ refused_line line kind → IsRefusedBy input.words input.files input.builder text
 refused_by input line kind text (inl (name, named, refused)) is = inl (name, named, (line, kind, refused, is))
-refused_by input line kind text (inr other) is = inr (inr (line, kind, other, is))
+refused_by input line kind text (inr (inl other)) is = inr (inr (inl (line, kind, other, is)))
+refused_by input line kind text (inr (inr overlong)) is = inr (inr (inr (line, kind, overlong, is)))
+
+-- ---- the canonical text
+
+-- one that would be too long
+pub print_stops : (input : Input) (name : List ℕ) (cfg : Config) (fault : PrintFault) → IsCheckPrint input.words name → IfTold input.files (λ fs. Configured fs name (Ok cfg))
+    → IsBuilt input.builder → (fault ≡ printing.TooLong → fits cfg ≡ false) → StopsBy input (stop_of_printing fault)
+print_stops input name cfg printing.TooLong is accepts built overlong =
+    inr (inr (record { cfg_name = name; cfg = cfg; prints = is; accepted = accepts; built = built; overlong = overlong refl; whole = refl; limit = refl }))
+print_stops input name cfg printing.OutOfMemory is accepts built overlong = tt
 
 -- ---- all refused lines
 

@@ -7,7 +7,7 @@ use Rattle.cfg_parse.specs.declared.fault.CfgKind.{CfgKind}
 use Rattle.cfg_parse.specs.declared.refused.RefusedLine.{RefusedLine}
 use Rattle.htx_drive.specs.Drill.Drill.{configuration}
 use Rattle.forward_core.specs.Meaning.Product.{meaning_of}
-use Rattle.px_command.specs.Command.{IsCheck, IsCheckAll, IsCheckRecord, IsReplay, IsExplain, IsExplainBlocks, IsWeave, RunsRecord, IsServe, IsDrill, AsksText, IsUsage, NamesConfig, ReadsConfig}
+use Rattle.px_command.specs.Command.{IsCheck, IsCheckAll, IsCheckPrint, IsCheckRecord, IsReplay, IsExplain, IsExplainBlocks, IsWeave, RunsRecord, IsServe, IsDrill, AsksText, IsUsage, NamesConfig, ReadsConfig}
 use Rattle.px_command.specs.Texts.{EndsLine}
 use Rattle.rec_format.specs.declared.record.RecKind.{RecKind}
 use Rattle.rec_format.specs.Recorded.{Recorded}
@@ -19,6 +19,7 @@ use Rattle.proxy_sessions.specs.Recorded.{ReplaysFor}
 use Rattle.proxy_commands.specs.Explained.{IsExplanation, IsBlockExplanation}
 use Rattle.proxy_commands.specs.Lines.{accepted_line, refused_line, record_line, file_line}
 use Rattle.proxy_commands.specs.Modes.{IsOtherMode, Takes, refuses}
+use Rattle.proxy_commands.specs.Printing.{IsOverlong, IsPrintedOf}
 use Rattle.proxy_commands.specs.declared.record_command.RecordCommand.TheVariants.{Explain, Weave}
 use Rattle.proxy_commands.specs.Refusals.{refused_text}
 use Rattle.proxy_commands.specs.Files.{IfTold, Builder, Configured, IsBuilt, RecordIs, Refuses, RefusesAll, Say}
@@ -49,12 +50,13 @@ abbrev pub IsAllRefusedOf : Option (List NamedBytes) → Builder → (cfg_name t
 IsAllRefusedOf files builder cfg_name text = (all : List RefusedLine) × IfTold files (λ fs. RefusesAll fs builder cfg_name all) × (text ≡ refused_text cfg_name all)
 
 -- The text is what is written of a refused configuration: of `check --all` each refused line, of any other command the first; or the command takes none that is
--- such a one, and that is written.
+-- such a one, and that is written; or `check --print` would write too long a text of it.
 abbrev pub IsRefusedBy : List (List ℕ) → Option (List NamedBytes) → Builder → (text : List ℕ) → Type 0
 IsRefusedBy words files builder text =
     ((cfg_name : List ℕ) × NamesConfig words cfg_name × IsRefusedOf files builder cfg_name text)
     ⊎ (((cfg_name : List ℕ) × IsCheckAll words cfg_name × IsAllRefusedOf files builder cfg_name text)
-    ⊎ ((line : ℕ) × (kind : CfgKind) × IsOtherMode words files builder line kind × (text ≡ refused_line line kind)))
+    ⊎ (((line : ℕ) × (kind : CfgKind) × IsOtherMode words files builder line kind × (text ≡ refused_line line kind))
+    ⊎ ((line : ℕ) × (kind : CfgKind) × IsOverlong words files builder line kind × (text ≡ refused_line line kind))))
 
 -- the text is the record of the file in the second format
 abbrev pub IsRewritten : Option (List NamedBytes) → (rec_name text : List ℕ) → Type 0
@@ -120,7 +122,8 @@ abbrev pub Checks : List (List ℕ) → (cfg_name : List ℕ) → Type 0
 Checks words cfg_name = IsCheck words cfg_name ⊎ IsCheckAll words cfg_name
 
 -- The text is what the words ask for: the line of `check`, the record of `check --record`, the report of `replay` or of `weave`, what `explain`
--- tells, the lines of `drill`, or lines of help or of the version, which tests show. What `serve` writes is said with what it does.
+-- tells, the lines of `drill`, lines of help or of the version, which tests show, or the canonical text of `check --print`. What `serve` writes is said with what
+-- it does.
 abbrev pub IsGood : List (List ℕ) → Option (List NamedBytes) → (text : List ℕ) → Type 0
 IsGood words files text =
     ((cfg_name : List ℕ) × Checks words cfg_name × IsCheckOf files cfg_name text)
@@ -129,7 +132,8 @@ IsGood words files text =
     ⊎ (((cfg_name : List ℕ) × (rec_name : List ℕ) × IsExplained words files cfg_name rec_name text)
     ⊎ (((cfg_name : List ℕ) × (rec_name : List ℕ) × (cores : ℕ) × IsWeave words cfg_name rec_name cores × IsWovenReportOf files cfg_name rec_name cores text)
     ⊎ (((seed : ℕ) × (exchanges : ℕ) × IsDrill words seed exchanges × IsDrilled seed exchanges text)
-    ⊎ (AsksText words × EndsLine text))))))
+    ⊎ ((AsksText words × EndsLine text)
+    ⊎ ((cfg_name : List ℕ) × IsCheckPrint words cfg_name × IsPrintedOf files cfg_name text)))))))
 
 -- The text is what is written with this status, where the last failed read was of this name. The lines of a usage text are shown by tests.
 abbrev pub IsAnswer : List (List ℕ) → Option (List NamedBytes) → Builder → (last : List ℕ) → Status → (text : List ℕ) → Type 0

@@ -4,6 +4,7 @@ pub mod Explained
 pub mod Files
 pub mod Lines
 pub mod Modes
+pub mod Printing
 pub mod Refusals
 pub mod Serving
 pub mod Running

@@ -5,11 +5,14 @@ use Rattle.px_link.specs.declared.fault.Fault.{Fault}
 use Rattle.px_link.specs.declared.fault.Fault.TheVariants as links
 use Rattle.cfg_parse.specs.declared.fault.CfgFault.{CfgFault}
 use Rattle.cfg_parse.specs.declared.fault.CfgFault.TheVariants as configurations
+use Rattle.cfg_parse.specs.declared.fault.CfgKind.TheVariants.{Limit}
 use Rattle.cfg_parse.specs.Judged.{Lists}
 use Rattle.cfg_parse.specs.declared.refused.RefusedLine.{RefusedLine}
 use Rattle.cfg_parse.specs.declared.refused.RefusedLines.{RefusedLines}
 use Rattle.cfg_parse.specs.declared.refused.Verdict.{Verdict}
 use Rattle.cfg_parse.specs.declared.refused.Verdict.TheVariants.{Accepted, Refused}
+use Rattle.cfg_print.specs.declared.fault.PrintFault.{PrintFault}
+use Rattle.cfg_print.specs.declared.fault.PrintFault.TheVariants as printing
 use Rattle.px_command.specs.Command.{IsCheckAll, IsUsage, NamesConfig}
 use Rattle.px_command.specs.Texts.{EndsLine}
 use Rattle.rec_format.specs.declared.record.RecFault.{RecFault}
@@ -22,6 +25,7 @@ use Rattle.proxy_commands.specs.Answers.{DecidesBy, DecidesRecord, IsAllRefusedO
 use Rattle.proxy_commands.specs.Files.{IfTold, Builder, IsBuilt, RecordIs}
 use Rattle.proxy_commands.specs.Lines.{accepted_line}
 use Rattle.proxy_commands.specs.Modes.{IsOtherMode}
+use Rattle.proxy_commands.specs.Printing.{IsOverlong}
 use Rattle.proxy_commands.specs.Refusals.{refused_text}
 use Rattle.proxy_commands.specs.declared.status.Status.{Status}
 use Rattle.proxy_commands.specs.declared.status.Status.TheVariants as ended
@@ -38,6 +42,11 @@ stop_of_output links.OutOfMemory = stops.OutOfMemory
 abbrev pub stop_of_configuration : CfgFault → Stop
 stop_of_configuration (configurations.Refused line kind) = stops.Refused line kind
 stop_of_configuration configurations.OutOfMemory = stops.OutOfMemory
+
+-- a canonical text that would be too long is a refusal of the configuration as a whole
+abbrev pub stop_of_printing : PrintFault → Stop
+stop_of_printing printing.TooLong = stops.Refused 0 Limit
+stop_of_printing printing.OutOfMemory = stops.OutOfMemory
 
 abbrev pub stop_of_record : RecFault → Stop
 stop_of_record (records.Refused place kind) = stops.Record place kind
@@ -90,7 +99,8 @@ given words files builder last reads reads_now = record {
 abbrev pub StopsBy : Input → Stop → Type 0
 StopsBy input (stops.Usage text) = IsUsage input.words × EndsLine text
 StopsBy input (stops.Refused line kind) =
-    ((cfg_name : List ℕ) × NamesConfig input.words cfg_name × IsRefused input.files input.builder cfg_name line kind) ⊎ IsOtherMode input.words input.files input.builder line kind
+    ((cfg_name : List ℕ) × NamesConfig input.words cfg_name × IsRefused input.files input.builder cfg_name line kind)
+    ⊎ (IsOtherMode input.words input.files input.builder line kind ⊎ IsOverlong input.words input.files input.builder line kind)
 StopsBy input (stops.RefusedAll text) = (cfg_name : List ℕ) × IsCheckAll input.words cfg_name × IsAllRefusedOf input.files input.builder cfg_name text
 StopsBy input (stops.Record place kind) =
     (rec_name : List ℕ) × DecidesRecord input.words input.files input.builder rec_name × IfTold input.files (λ fs. RecordIs fs rec_name (Err (record { place = place; kind = kind })))

@@ -3,7 +3,7 @@
 ghost use Rattle.std.specs.Prelude.{◌≡◌, ◌+◌, ◌<◌, ◌≤◌, ◌⊎◌, length, vec_len, true, false, ℕ, List, Option, Ok, IfOk, IfErr, OnOk};
 ghost use Rattle.px_link.specs.Told.{NamedBytes, Reads};
 ghost use Rattle.http_rules.specs.Valid.{IsValid};
-ghost use Rattle.px_command.specs.Command.{IsCheck, IsCheckAll, IsCheckRecord, IsReplay, IsExplain, IsExplainBlocks, IsWeave, IsDrill, NamesConfig};
+ghost use Rattle.px_command.specs.Command.{IsCheck, IsCheckAll, IsCheckPrint, IsCheckRecord, IsReplay, IsExplain, IsExplainBlocks, IsWeave, IsDrill, NamesConfig};
 ghost use Rattle.rec_format.specs.Numbered.{IsNumbered};
 ghost use Rattle.rec_format.specs.Read.{meaning_of};
 ghost use Rattle.rec_format.specs.Reports.{Reportable};
@@ -16,8 +16,9 @@ use crate::explaining::{block_explanation, explanation};
 use crate::lines::accepted_line;
 use crate::record_command::{RecordCommand, refuses};
 use crate::refusals::refused_text;
-use crate::stop::Stop;
+use crate::stop::{Stop, WHOLE};
 use cfg_parse::{CfgKind, Config, MAX_TEXT, Verdict, load, verdict_of};
+use cfg_print::print_config;
 use http_model::OutOfMemory;
 use proxy_sessions::{drill_lines, replay_report, weave_report};
 use px_link::{Bytes, Fault, Files};
@@ -28,9 +29,6 @@ use std::alloc::Global;
 
 /// The most bytes of a record.
 const MAX_RECORD: usize = 67108864;
-
-/// The line that stands for a configuration as a whole.
-const WHOLE: u32 = 0;
 
 /// The first `limit` bytes of a file.
 fn read<'a, F: Files>(
@@ -147,6 +145,21 @@ pub fn check_all<'a, F: Files, P: Patterns>(
     let text = read(alloc, files, name, MAX_TEXT + 1)?;
     let verdict = verdict_of(alloc, text.as_slice(), pats)?;
     verdict_text(alloc, name, verdict)
+}
+
+/// The canonical text of `check --print CFG`.
+pub fn check_print<'a, F: Files, P: Patterns>(
+    alloc: Global,
+    files: &mut F,
+    name: &'a str,
+    pats: &mut P,
+) -> Result<Bytes, Stop<'a>>
+    ensures { (words : List (List ℕ)) → IsCheckPrint words name.now
+        → Answers (given words (F.files files.old) (told_by (P.refusals pats.old) (P.refusals pats.new) (P.last_refused pats.new)) (F.last_failed files.new) (F.faults files.old) (F.faults files.new)) result }
+{
+    let cfg = configuration(alloc, files, name, pats)?;
+    let text = print_config(alloc, &cfg)?;
+    Ok(text)
 }
 
 /// The record of `check --record REC`, in the second format.

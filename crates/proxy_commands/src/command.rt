@@ -7,7 +7,7 @@ ghost use Rattle.proxy_sessions.specs.Serving.{Serves};
 ghost use Rattle.proxy_commands.specs.Stops.{Answers, Input, given};
 
 use crate::answer::{
-    check, check_all, check_record, drill, explain, explain_blocks, replay, weave,
+    check, check_all, check_print, check_record, drill, explain, explain_blocks, replay, weave,
 };
 use crate::networks::Networks;
 use crate::running::{RunCommand, run_many};
@@ -59,6 +59,7 @@ pub fn run<
     match asked_by(alloc, words)? {
         Asked::Check { cfg } => write(check(alloc, files, cfg, pats), out),
         Asked::CheckAll { cfg } => write(check_all(alloc, files, cfg, pats), out),
+        Asked::CheckPrint { cfg } => write(check_print(alloc, files, cfg, pats), out),
         Asked::CheckRecord { rec } => write(check_record(alloc, files, rec), out),
         Asked::Replay { cfg, rec } => write(replay(alloc, files, cfg, rec, pats), out),
         Asked::Explain { cfg, rec } => write(explain(alloc, files, cfg, rec, pats), out),

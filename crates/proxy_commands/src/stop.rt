@@ -4,11 +4,15 @@ ghost use Rattle.proxy_commands.specs.Stops.{status_of};
 
 use crate::status::Status;
 use cfg_parse::{CfgFault, CfgKind};
+use cfg_print::PrintFault;
 use http_model::OutOfMemory;
 use proxy_sessions::ServeFault;
 use px_link::{Bytes, Fault};
 use px_run::RunFault;
 use rec_format::{RecFault, RecKind};
+
+/// The line that stands for a configuration as a whole.
+pub(crate) const WHOLE: u32 = 0;
 
 /// Why a command stops.
 #[derive(Drop)]
@@ -84,6 +88,24 @@ impl<'a> From<CfgFault> for Stop<'a> {
         match fault {
             CfgFault::Refused { line, kind } => Stop::Refused { line, kind },
             CfgFault::OutOfMemory => Stop::OutOfMemory,
+        }
+    }
+}
+
+/// A canonical text that would be too long refuses the configuration as a whole.
+impl<'a> From<PrintFault> for Stop<'a> {
+    ghost use Rattle.std.specs.Prelude.{◌≡◌};
+    ghost use Rattle.proxy_commands.specs.Stops.{stop_of_printing};
+
+    ghost from_gives = { λ fault stop. stop ≡ stop_of_printing fault };
+
+    fn from(fault: PrintFault) -> Self {
+        match fault {
+            PrintFault::TooLong => Stop::Refused {
+                line: WHOLE,
+                kind: CfgKind::Limit,
+            },
+            PrintFault::OutOfMemory => Stop::OutOfMemory,
         }
     }
 }

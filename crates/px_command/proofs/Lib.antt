@@ -1,4 +1,5 @@
 mod Accepted
+mod CheckFlags
 mod FlagWords
 mod Items
 mod Passes

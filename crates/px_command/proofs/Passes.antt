@@ -7,10 +7,11 @@ use Rattle.clap.specs.declared.error.Error.{Error}
 use Rattle.clap.specs.declared.error.kind.ErrorKind.{ErrorKind}
 use Rattle.clap.specs.declared.error.kind.ErrorKind.TheVariants.{OutOfMemory}
 use Rattle.clap.proofs.OnLiterals.{clap_on_literals}
-use Rattle.px_command.specs.Command.{IsFileWord, IsCheck, IsCheckAll, IsCheckRecord, IsReplay, IsExplain, IsExplainBlocks, IsWeave, IsServe, IsRun, IsDrill, AsksText, IsUsage}
+use Rattle.px_command.specs.Command.{IsFileWord, IsCheck, IsCheckAll, IsCheckPrint, IsCheckRecord, IsReplay, IsExplain, IsExplainBlocks, IsWeave, IsServe, IsRun, IsDrill, AsksText, IsUsage}
 use Rattle.px_command.specs.Parser.{IsRefused, parser}
 use Rattle.px_command.specs.declared.options.RunOptions.{RunOptions}
 use Rattle.px_command.proofs.Accepted.{number_word}
+use Rattle.px_command.proofs.CheckFlags.{check_all_passes, check_print_passes, check_record_passes}
 use Rattle.px_command.proofs.FlagWords.{explain_blocks_passes}
 use Rattle.px_command.proofs.ThreeWords.{weave_passes}
 
@@ -20,14 +21,6 @@ module _ (x : ℕ) (a : List ℕ) (dash : (x == 45) ≡ false) where
   check_passes : fault_of parser (codes "check" ∷ (x ∷ a) ∷ []) ≡ []
   unfolding clap_on_literals
   check_passes = simp dash refl
-
-  check_all_passes : fault_of parser (codes "check" ∷ codes "--all" ∷ (x ∷ a) ∷ []) ≡ []
-  unfolding clap_on_literals
-  check_all_passes = simp dash refl
-
-  check_record_passes : fault_of parser (codes "check" ∷ codes "--record" ∷ (x ∷ a) ∷ []) ≡ []
-  unfolding clap_on_literals
-  check_record_passes = simp dash refl
 
   module _ (y : ℕ) (b : List ℕ) (other : (y == 45) ≡ false) where
     replay_passes : fault_of parser (codes "replay" ∷ (x ∷ a) ∷ (y ∷ b) ∷ []) ≡ []
@@ -52,9 +45,9 @@ not_dash : (x : ℕ) → x ≢ 45 → (x == 45) ≡ false
 not_dash x differs = ne_eqb x 45 differs
 
 one_passes : (a : Text) → IsFileWord a → (fault_of parser (codes "check" ∷ a ∷ []) ≡ []) × (fault_of parser (codes "check" ∷ codes "--all" ∷ a ∷ []) ≡ [])
-    × (fault_of parser (codes "check" ∷ codes "--record" ∷ a ∷ []) ≡ [])
+    × (fault_of parser (codes "check" ∷ codes "--record" ∷ a ∷ []) ≡ []) × (fault_of parser (codes "check" ∷ codes "--print" ∷ a ∷ []) ≡ [])
 one_passes [] file = absurd file
-one_passes (x ∷ a) file = let p : (x == 45) ≡ false = not_dash x file in (check_passes x a p, check_all_passes x a p, check_record_passes x a p)
+one_passes (x ∷ a) file = let p : (x == 45) ≡ false = not_dash x file in (check_passes x a p, check_all_passes x a p, check_record_passes x a p, check_print_passes x a p)
 
 -- what comes of any command with two such words
 by_words : (command : Text) → ((x : ℕ) (a : List ℕ) → (x == 45) ≡ false → (y : ℕ) (b : List ℕ) → (y == 45) ≡ false → fault_of parser (command ∷ (x ∷ a) ∷ (y ∷ b) ∷ []) ≡ [])
@@ -76,6 +69,9 @@ three_pass (x ∷ a) (y ∷ b) (z ∷ d) file other third = weave_passes x y z a
 
 passes_check : (ws : List Text) (cfg : Text) → IsCheck ws cfg → fault_of parser ws ≡ []
 passes_check ws cfg is = ap (fault_of parser) is.0 ∙ (one_passes cfg is.1).0
+
+passes_check_print : (ws : List Text) (cfg : Text) → IsCheckPrint ws cfg → fault_of parser ws ≡ []
+passes_check_print ws cfg is = ap (fault_of parser) is.0 ∙ (one_passes cfg is.1).3
 
 passes_check_record : (ws : List Text) (rec : Text) → IsCheckRecord ws rec → fault_of parser ws ≡ []
 passes_check_record ws rec is = ap (fault_of parser) is.0 ∙ (one_passes rec is.1).2
@@ -122,6 +118,7 @@ refused_usage ws e refused other text run =
     record {
       check = λ cfg is. only_memory ws e refused other (passes_check ws cfg is);
       check_all = λ cfg is. only_memory ws e refused other (passes_check_all ws cfg is);
+      check_print = λ cfg is. only_memory ws e refused other (passes_check_print ws cfg is);
       check_record = λ rec is. only_memory ws e refused other (passes_check_record ws rec is);
       replay = λ cfg rec is. only_memory ws e refused other (passes_replay ws cfg rec is);
       explain = λ cfg rec is. only_memory ws e refused other (passes_explain ws cfg rec is);

@@ -27,6 +27,10 @@ IsFlagged words flag file = (words ≡ codes "check" ∷ flag ∷ file ∷ []) �
 abbrev pub IsCheckAll : List (List ℕ) → (cfg : List ℕ) → Type 0
 IsCheckAll words cfg = IsFlagged words (codes "--all") cfg
 
+-- the words are `check --print CFG`
+abbrev pub IsCheckPrint : List (List ℕ) → (cfg : List ℕ) → Type 0
+IsCheckPrint words cfg = IsFlagged words (codes "--print") cfg
+
 -- the words are `check --record REC`
 abbrev pub IsCheckRecord : List (List ℕ) → (rec : List ℕ) → Type 0
 IsCheckRecord words rec = IsFlagged words (codes "--record") rec
@@ -106,6 +110,7 @@ AsksText words = IsHelp words ⊎ (((command : CommandName) × IsHelpOf words co
 pub record IsUsage (words : List (List ℕ)) : Type 0 where
   pub check : (cfg : List ℕ) → IsCheck words cfg → ⊥
   pub check_all : (cfg : List ℕ) → IsCheckAll words cfg → ⊥
+  pub check_print : (cfg : List ℕ) → IsCheckPrint words cfg → ⊥
   pub check_record : (rec : List ℕ) → IsCheckRecord words rec → ⊥
   pub replay : (cfg rec : List ℕ) → IsReplay words cfg rec → ⊥
   pub explain : (cfg rec : List ℕ) → IsExplain words cfg rec → ⊥
@@ -119,7 +124,7 @@ pub record IsUsage (words : List (List ℕ)) : Type 0 where
 -- the configuration of a command that asks for its first refused line alone is in the file of this name
 abbrev pub NamesConfig : List (List ℕ) → List ℕ → Type 0
 NamesConfig words cfg = IsCheck words cfg ⊎ (((rec : List ℕ) × RunsRecord words cfg rec) ⊎ (((connections : ℕ) × IsServe words cfg connections)
-    ⊎ ((options : RunOptions) × IsRun words cfg options)))
+    ⊎ (((options : RunOptions) × IsRun words cfg options) ⊎ IsCheckPrint words cfg)))
 
 -- the configuration of a command, or that of `check --all`, is in the file of this name
 abbrev pub ReadsConfig : List (List ℕ) → List ℕ → Type 0

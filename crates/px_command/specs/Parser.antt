@@ -40,9 +40,13 @@ run_numbers =
 abbrev pub run_shape : App
 run_shape = with_rule (with_rule run_numbers (flag_rule (codes "until-input-ends"))) (flag_rule (codes "log"))
 
--- `check`, with a file, the flag that asks for each refused line, and the flag that says that it is a record
+-- `check` with its flags: the one that asks for each refused line, the one that asks for the canonical text, and the one that says that it is a record
+abbrev pub check_flags : App
+check_flags = with_rule (with_rule (with_rule (new_app (codes "check")) (flag_rule (codes "all"))) (flag_rule (codes "print"))) (flag_rule (codes "record"))
+
+-- `check`, with its flags and a file
 abbrev pub check_shape : App
-check_shape = with_rule (with_rule (with_rule (new_app (codes "check")) (flag_rule (codes "all"))) (flag_rule (codes "record"))) (word_rule (codes "FILE"))
+check_shape = with_rule check_flags (word_rule (codes "FILE"))
 
 -- the program's own level: words stand without the program's name, and a command must be there
 abbrev pub top_level : App

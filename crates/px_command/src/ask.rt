@@ -6,9 +6,9 @@ ghost use Rattle.px_command.specs.Parser.{IsRefused};
 ghost use Rattle.px_command.specs.declared.options.RunOptions.{RunOptions as Options};
 
 use crate::lists::{
-    asks_help, asks_version, check_all_file, check_file, check_record_file, drill_numbers,
-    explain_blocks_files, explain_files, help_command, replay_files, run_words, serve_words,
-    weave_words,
+    asks_help, asks_version, check_all_file, check_file, check_print_file, check_record_file,
+    drill_numbers, explain_blocks_files, explain_files, help_command, replay_files, run_words,
+    serve_words, weave_words,
 };
 use crate::name::CommandName;
 use crate::options::RunOptions;
@@ -29,6 +29,10 @@ pub enum Asked<'a> {
     },
     /// `check --all CFG`.
     CheckAll {
+        cfg: &'a str,
+    },
+    /// `check --print CFG`.
+    CheckPrint {
         cfg: &'a str,
     },
     /// `check --record REC`.
@@ -96,6 +100,9 @@ fn taken<'a>(alloc: Global, words: &'a [String]) -> Result<Asked<'a>, OutOfMemor
     }
     if let Some(cfg) = check_all_file(words) {
         return Ok(Asked::CheckAll { cfg });
+    }
+    if let Some(cfg) = check_print_file(words) {
+        return Ok(Asked::CheckPrint { cfg });
     }
     if let Some(rec) = check_record_file(words) {
         return Ok(Asked::CheckRecord { rec });

@@ -29,11 +29,16 @@ pub(crate) const CHECK: &[u8] = b"
 Examples:
   htx_proxy check site.cfg           writes `config ok: request rules 1, response rules 0, filters 0`
   htx_proxy check --all site.cfg     writes each refused line of site.cfg, or what check writes where none is
+  htx_proxy check --print site.cfg   writes the canonical text of site.cfg
   htx_proxy check --record site.rec  writes the record that site.rec holds, in its second format
 
 Behind --all a refused line is told by `FILE:LINE: KIND: TEXT`, and a second line says what is wrong and what stands there
 instead. A refused line is taken as blank. Line 0 is the file as a whole, has no TEXT, and comes last. 100 lines are
 written, and how many more there are.
+
+The canonical text of --print is a configuration that says the same: each setting with its value, the tests of `acl` lines
+under the names `c1`, `c2` .., and the rules of each list together. Comments, the names of `acl` lines and the order of
+settings are not kept. Where it would be longer than a configuration may be, line 0 is refused as Limit.
 
 Refused in this order: the words (1), the file of the configuration (4), the configuration (2), the output (5); with
 --record the words (1), the file of the record (4), the record (3), the output (5).

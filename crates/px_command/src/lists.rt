@@ -1,6 +1,6 @@
 //! The lists of words that name a command, or a text of the program.
 ghost use Rattle.std.specs.Prelude.{◌↔◌, ℕ, List, map, IsTrue, IfSome, IfNone, string_bytes};
-ghost use Rattle.px_command.specs.Command.{IsFlagged, IsOfFiles, IsCheck, IsCheckAll, IsCheckRecord, IsReplay, IsExplain, IsExplainBlocks, IsWeave, IsServe, IsRun, IsDrill, IsHelp, IsHelpOf, IsVersion};
+ghost use Rattle.px_command.specs.Command.{IsFlagged, IsOfFiles, IsCheck, IsCheckAll, IsCheckPrint, IsCheckRecord, IsReplay, IsExplain, IsExplainBlocks, IsWeave, IsServe, IsRun, IsDrill, IsHelp, IsHelpOf, IsVersion};
 ghost use Rattle.px_command.specs.declared.name.CommandName.{CommandName as Named};
 ghost use Rattle.px_command.specs.declared.options.RunOptions.{RunOptions as Options};
 
@@ -43,6 +43,14 @@ pub fn check_all_file<'a>(words: &'a [String]) -> Option<&'a str>
     ensures none { IfNone result ((cfg : List ℕ) → IsCheckAll (map string_bytes words.now) cfg → ⊥) }
 {
     flagged_file(words, "--all")
+}
+
+/// The file of `check --print CFG`.
+pub fn check_print_file<'a>(words: &'a [String]) -> Option<&'a str>
+    ensures some { IfSome result (λ cfg. IsCheckPrint (map string_bytes words.now) cfg.now) }
+    ensures none { IfNone result ((cfg : List ℕ) → IsCheckPrint (map string_bytes words.now) cfg → ⊥) }
+{
+    flagged_file(words, "--print")
 }
 
 /// The file of `check --record REC`.

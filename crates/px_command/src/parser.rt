@@ -2,7 +2,7 @@
 ghost use Rattle.std.specs.Prelude.{◌≡◌, ℕ, List, IfOk, false, codes};
 ghost use Rattle.clap.specs.Words.{App, app_of, new_app, rule_of, with_rule, with_subcommand};
 ghost use Rattle.clap.specs.declared.builder.command.Command.TheViews.{out-Command};
-ghost use Rattle.px_command.specs.Parser.{word_rule, flag_rule, two_words, explain_shape, weave_shape, run_numbers, run_shape, option_rule, check_shape, top_level, parser};
+ghost use Rattle.px_command.specs.Parser.{word_rule, flag_rule, two_words, explain_shape, weave_shape, run_numbers, run_shape, option_rule, check_flags, check_shape, top_level, parser};
 
 use clap::{Arg, ArgAction, Command};
 use std::alloc::{AllocError, Global};
@@ -75,9 +75,9 @@ fn word_behind<'a>(
     one_argument(alloc, name, about, first)?.arg(word(alloc, second, help))
 }
 
-/// `check CFG`, `check --all CFG` and `check --record REC`.
-pub fn check_command<'a>(alloc: Global) -> Result<Command<'a>, AllocError>
-    ensures app { IfOk result (λ c. app_of c ≡ check_shape) }
+/// `check` with its flags.
+fn check_flags<'a>(alloc: Global) -> Result<Command<'a>, AllocError>
+    ensures app { IfOk result (λ c. app_of c ≡ check_flags) }
     ensures local { IfOk result (λ c. (out-Command c).has_globals ≡ false) }
 {
     let about = "Reads a configuration or a record, and says what it is or where it is refused";
@@ -86,13 +86,27 @@ pub fn check_command<'a>(alloc: Global) -> Result<Command<'a>, AllocError>
         "all",
         "Writes each refused line of the configuration",
     );
+    let print = flag(
+        alloc,
+        "print",
+        "Writes the canonical text of the configuration",
+    );
     let record = flag(
         alloc,
         "record",
         "The file is a record; writes it in the second format",
     );
-    let flags = one_argument(alloc, "check", about, all)?.arg(record)?;
-    flags.arg(word(
+    one_argument(alloc, "check", about, all)?
+        .arg(print)?
+        .arg(record)
+}
+
+/// `check CFG`, `check --all CFG`, `check --print CFG` and `check --record REC`.
+pub fn check_command<'a>(alloc: Global) -> Result<Command<'a>, AllocError>
+    ensures app { IfOk result (λ c. app_of c ≡ check_shape) }
+    ensures local { IfOk result (λ c. (out-Command c).has_globals ≡ false) }
+{
+    check_flags(alloc)?.arg(word(
         alloc,
         "FILE",
         "The file of the configuration, or of the record behind --record",

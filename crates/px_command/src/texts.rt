@@ -171,13 +171,30 @@ fn wrong_text(alloc: Global, wrong: &Wrong<'_>) -> Result<Bytes, OutOfMemory>
 /// What is wrong with the flag of `explain`.
 const WRONG_BLOCKS: &[u8] = b"the argument '--blocks' must stand in front of '<CFG>'";
 
+/// What is wrong with two flags of `check` that stand together.
+fn wrong_flags(words: &[String]) -> Option<&'static [u8]> {
+    if has_word(words, "--all") && has_word(words, "--record") {
+        return Some(b"the argument '--all' cannot be used with '--record'");
+    }
+    if has_word(words, "--all") && has_word(words, "--print") {
+        return Some(b"the argument '--all' cannot be used with '--print'");
+    }
+    if has_word(words, "--print") && has_word(words, "--record") {
+        return Some(b"the argument '--print' cannot be used with '--record'");
+    }
+    None
+}
+
 /// What is wrong with the flags of `check`.
 fn wrong_flag(words: &[String]) -> &'static [u8] {
-    if has_word(words, "--all") && has_word(words, "--record") {
-        return b"the argument '--all' cannot be used with '--record'";
+    if let Some(wrong) = wrong_flags(words) {
+        return wrong;
     }
     if has_word(words, "--all") {
         return b"the argument '--all' must stand in front of '<FILE>'";
+    }
+    if has_word(words, "--print") {
+        return b"the argument '--print' must stand in front of '<FILE>'";
     }
     b"the argument '--record' must stand in front of '<FILE>'"
 }

@@ -90,7 +90,7 @@ fn wrong_of_two<'a>(command: &str, first: &'a str, second: &'a str) -> Option<Wr
         return wrong_drill(first, second);
     }
     if command == "check" {
-        return if first == "--record" || first == "--all" {
+        return if first == "--record" || first == "--all" || first == "--print" {
             wrong_file("FILE", second)
         } else {
             None

@@ -52,6 +52,7 @@ fn say_asked(alloc: Global, asked: &Asked<'_>, answers: &mut Answers) -> Result<
     match asked {
         Asked::Check { cfg } => say_file(b"check ", cfg, answers),
         Asked::CheckAll { cfg } => say_file(b"check --all ", cfg, answers),
+        Asked::CheckPrint { cfg } => say_file(b"check --print ", cfg, answers),
         Asked::CheckRecord { rec } => say_file(b"check --record ", rec, answers),
         Asked::Replay { cfg, rec } => say_files(b"replay ", cfg, rec, answers),
         Asked::Explain { cfg, rec } => say_files(b"explain ", cfg, rec, answers),

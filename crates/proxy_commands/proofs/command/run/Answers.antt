@@ -8,7 +8,7 @@ use Rattle.proxy_commands.specs.Ends.{put}
 use Rattle.proxy_sessions.specs.Running.{Runs}
 use Rattle.proxy_sessions.specs.Serving.{Serves}
 use Rattle.px_command.specs.Asked.{IsAsked}
-use Rattle.px_command.specs.Command.{IsCheck, IsCheckAll, IsCheckRecord, IsReplay, IsExplain, IsExplainBlocks, IsWeave, IsServe, IsRun, IsDrill, IsHelp, IsHelpOf, IsVersion}
+use Rattle.px_command.specs.Command.{IsCheck, IsCheckAll, IsCheckPrint, IsCheckRecord, IsReplay, IsExplain, IsExplainBlocks, IsWeave, IsServe, IsRun, IsDrill, IsHelp, IsHelpOf, IsVersion}
 use Rattle.proxy_commands.specs.Files.{Builder, told_by}
 use Rattle.proxy_commands.specs.Stops.{Input, given}
 use Rattle.proxy_commands.proofs.Writing.{any_of_run}
@@ -29,6 +29,14 @@ returns-in-CheckAll g c =
     let builder : Builder = told_by (g.P.Patterns.refusals c.args.pats.now) (g.P.Patterns.refusals c.check_all.new.pats) (g.P.Patterns.last_refused c.check_all.new.pats) in
     let input : Input = given words (g.F.Files.files c.args.files.now) builder (g.F.Files.last_failed c.check_all.new.files) (g.F.Files.faults c.args.files.now) (g.F.Files.faults c.check_all.new.files) in
     inl (inl (c.write-in-CheckAll.ensures input (c.check_all.ensures words is), refl), refl)
+
+pub returns-in-CheckPrint : goal.returns-in-CheckPrint
+returns-in-CheckPrint g c =
+    let words : List (List ℕ) = map string_bytes c.args.words.now in
+    let is : IsCheckPrint words c.in-CheckPrint.cfg.now = subst (IsAsked words) c.in-CheckPrint.is c.in_ok-cfg.ensures in
+    let builder : Builder = told_by (g.P.Patterns.refusals c.args.pats.now) (g.P.Patterns.refusals c.check_print.new.pats) (g.P.Patterns.last_refused c.check_print.new.pats) in
+    let input : Input = given words (g.F.Files.files c.args.files.now) builder (g.F.Files.last_failed c.check_print.new.files) (g.F.Files.faults c.args.files.now) (g.F.Files.faults c.check_print.new.files) in
+    inl (inl (c.write-in-CheckPrint.ensures input (c.check_print.ensures words is), refl), refl)
 
 pub returns-in-CheckRecord : goal.returns-in-CheckRecord
 returns-in-CheckRecord g c =
@@ -104,7 +112,7 @@ returns-in_ok-help_text-in-Help g c =
     let is : IsHelp words = subst (IsAsked words) c.in-Help.is c.in_ok-cfg.ensures in
     let builder : Builder = told_by (g.P.Patterns.refusals c.args.pats.now) (g.P.Patterns.refusals c.args.pats.now) (g.P.Patterns.last_refused c.args.pats.now) in
     let input : Input = given words (g.F.Files.files c.args.files.now) builder (g.F.Files.last_failed c.args.files.now) (g.F.Files.faults c.args.files.now) (g.F.Files.faults c.args.files.now) in
-    inl (inl (c.write-in-Help.ensures input (inr (inr (inr (inr (inr (inr (inl is, c.in_ok-help_text-in-Help.ensures)))))), refl), refl), refl)
+    inl (inl (c.write-in-Help.ensures input (inr (inr (inr (inr (inr (inr (inl (inl is, c.in_ok-help_text-in-Help.ensures))))))), refl), refl), refl)
 
 pub returns-in_ok-help_of_text-in-HelpOf : goal.returns-in_ok-help_of_text-in-HelpOf
 returns-in_ok-help_of_text-in-HelpOf g c =
@@ -112,7 +120,7 @@ returns-in_ok-help_of_text-in-HelpOf g c =
     let is : IsHelpOf words c.in-HelpOf.command = subst (IsAsked words) c.in-HelpOf.is c.in_ok-cfg.ensures in
     let builder : Builder = told_by (g.P.Patterns.refusals c.args.pats.now) (g.P.Patterns.refusals c.args.pats.now) (g.P.Patterns.last_refused c.args.pats.now) in
     let input : Input = given words (g.F.Files.files c.args.files.now) builder (g.F.Files.last_failed c.args.files.now) (g.F.Files.faults c.args.files.now) (g.F.Files.faults c.args.files.now) in
-    inl (inl (c.write-in-HelpOf.ensures input (inr (inr (inr (inr (inr (inr (inr (inl (c.in-HelpOf.command, is)), c.in_ok-help_of_text-in-HelpOf.ensures)))))), refl), refl), refl)
+    inl (inl (c.write-in-HelpOf.ensures input (inr (inr (inr (inr (inr (inr (inl (inr (inl (c.in-HelpOf.command, is)), c.in_ok-help_of_text-in-HelpOf.ensures))))))), refl), refl), refl)
 
 pub returns-in_ok-version_text-in-Version : goal.returns-in_ok-version_text-in-Version
 returns-in_ok-version_text-in-Version g c =
@@ -120,4 +128,4 @@ returns-in_ok-version_text-in-Version g c =
     let is : IsVersion words = subst (IsAsked words) c.in-Version.is c.in_ok-cfg.ensures in
     let builder : Builder = told_by (g.P.Patterns.refusals c.args.pats.now) (g.P.Patterns.refusals c.args.pats.now) (g.P.Patterns.last_refused c.args.pats.now) in
     let input : Input = given words (g.F.Files.files c.args.files.now) builder (g.F.Files.last_failed c.args.files.now) (g.F.Files.faults c.args.files.now) (g.F.Files.faults c.args.files.now) in
-    inl (inl (c.write-in-Version.ensures input (inr (inr (inr (inr (inr (inr (inr (inr is), c.in_ok-version_text-in-Version.ensures)))))), refl), refl), refl)
+    inl (inl (c.write-in-Version.ensures input (inr (inr (inr (inr (inr (inr (inl (inr (inr is), c.in_ok-version_text-in-Version.ensures))))))), refl), refl), refl)

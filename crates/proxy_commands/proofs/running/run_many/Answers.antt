@@ -19,7 +19,7 @@ returns-in_err-cfg g c =
     let output : Output = put before before (g.K.Sink.written c.args.out.now) (g.K.Sink.written c.args.out.now) in
     let Does : Config → RunOptions → Result (Unit {0}) RunFault → Type 0 = Runs g.L.Link.seen g.L.Link.wrote g.L.HasPair.tells g.N.Net.seen (g.S.Nets.accepts_none c.args.many.now.nets) c.args.many.now.net c.args.many.now.net before before output.old output.new in
     run_err input output (c.args.many.now ≡ c.args.many.now) Does c.from_residual.result c.in_err-cfg.field-0.0 c.from_residual.ensures.1
-    (inl (stops_early input before output.old c.in_err-cfg.field-0.0 (c.in_err-cfg.ensures.stop words (inr (inr (inr (c.args.asked.now.options, run))))), refl))
+    (inl (stops_early input before output.old c.in_err-cfg.field-0.0 (c.in_err-cfg.ensures.stop words (inr (inr (inr (inl (c.args.asked.now.options, run)))))), refl))
 
 pub returns-in_err-run_clients : goal.returns-in_err-run_clients
 returns-in_err-run_clients g c =

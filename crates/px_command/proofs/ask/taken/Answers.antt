@@ -5,6 +5,7 @@ returns c = (
   record {
     check = c.in_default.ensures.none;
     check_all = c.in_default-check_all_file.ensures.none;
+    check_print = c.in_default-check_print_file.ensures.none;
     check_record = c.in_default-check_record_file.ensures.none;
     replay = c.in_default-replay_files.ensures.none;
     explain = c.in_default-explain_files.ensures.none;
