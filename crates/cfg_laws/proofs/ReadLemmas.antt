@@ -1,0 +1,11 @@
+pub mod Steps
+pub mod Calls
+pub mod Numbers
+pub mod Fetches
+pub mod Convs
+pub mod Exprs
+pub mod Formats
+pub mod Values
+pub mod Tests
+pub mod Names
+pub mod Conditions

@@ -1,0 +1,16 @@
+pub mod Lines
+pub mod Calls
+pub mod Exprs
+pub mod Formats
+pub mod Tests
+pub mod Conditions
+pub mod Rules
+pub mod Table
+pub mod Read
+pub mod Numbers
+pub mod Addresses
+pub mod Settings
+pub mod Whole
+pub mod Reading
+pub mod Listing
+pub mod Configs

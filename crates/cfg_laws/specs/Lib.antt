@@ -1,0 +1,5 @@
+pub mod Spelled
+pub mod SpelledActions
+pub mod SpelledSettings
+pub mod SpelledPairs
+pub mod Laws
