@@ -7,6 +7,8 @@ pub mod Conditions
 pub mod Rules
 pub mod Table
 pub mod Read
+pub mod ReadSettings
+pub mod ReadRules
 pub mod Numbers
 pub mod Addresses
 pub mod Settings
@@ -14,3 +16,6 @@ pub mod Whole
 pub mod Reading
 pub mod Listing
 pub mod Configs
+pub mod ReadPairs
+pub mod ReadDrafts
+pub mod Loaded

@@ -10,6 +10,11 @@ ghost use Rattle.cfg_laws.specs.Laws.Table.{NamesDeclared, TermsNamed, Condition
 ghost use Rattle.cfg_laws.specs.Laws.Read.{CallsAreSpelled, NumbersAreSpelled, CountsAreSpelled, OccurrencesAreSpelled, FieldsAreSpelled, VariablesAreSpelled, FetchesAreSpelled, ConvsAreSpelled, ExprsAreSpelled, WholeExprsAreSpelled, FormatsAreSpelled, TestsAreSpelled, NamesAreSpelled, LinesAreSpelled, CondsAreSpelled};
 ghost use Rattle.cfg_laws.specs.Laws.Listing.{TableLinesRead, RuleLinesRead, PairLinesRead};
 ghost use Rattle.cfg_laws.specs.Laws.Configs.{ConfigsReadBack};
+ghost use Rattle.cfg_laws.specs.Laws.ReadSettings.{TimesAreSpelled, AddressesAreSpelled, ServersAreSpelled, FiltersAreSpelled, PathsAreSpelled, ScriptsAreSpelled, StartIsSpelled, LineKeepsSettings, LinesKeepSettings, WholeIsSpelled, TextsAreSpelled};
+ghost use Rattle.cfg_laws.specs.Laws.ReadPairs.{PairsStandBehind};
+ghost use Rattle.cfg_laws.specs.Laws.ReadDrafts.{StartHasRules, LineKeepsRules, LinesKeepRules};
+ghost use Rattle.cfg_laws.specs.Laws.Loaded.{LoadedIsSpelled, LoadedReadsBack};
+ghost use Rattle.cfg_laws.specs.Laws.ReadRules.{ActionsAreSpelled, LinesAreFew, EndsAreSpelled, RulesAreSpelled, PairsAreSpelled, ForwardingIsSpelled};
 ghost use Rattle.cfg_laws.specs.Laws.Numbers.{NumbersReadBack, SizesReadBack, TimesReadBack, PortsReadBack, CountsReadBack};
 ghost use Rattle.cfg_laws.specs.Laws.Addresses.{AddressesReadBack, ServersReadBack};
 ghost use Rattle.cfg_laws.specs.Laws.Settings.{GlobalReadBack, ListenReadBack, RequestFiltersReadBack, ResponseFiltersReadBack};
@@ -89,6 +94,16 @@ pub fn what_is_read_is_spelled()
     ensures conditions { CondsAreSpelled }
 {}
 
+/// What is read of the words of rules can be said again.
+pub fn rules_that_are_read_are_spelled()
+    ensures actions { ActionsAreSpelled }
+    ensures lines { LinesAreFew }
+    ensures ends { EndsAreSpelled }
+    ensures rules { RulesAreSpelled }
+    ensures pairs { PairsAreSpelled }
+    ensures forwarding { ForwardingIsSpelled }
+{}
+
 /// Numbers are read back, each within the limits of what it tells.
 pub fn numbers_read_back()
     ensures number { NumbersReadBack }
@@ -127,4 +142,41 @@ pub fn listing_read_back()
 /// The canonical text of a configuration loads to that configuration, where a text can say it, it fits the limits of a text, and each of its patterns is built.
 pub fn configs_read_back()
     ensures { ConfigsReadBack }
+{}
+
+/// Settings and pairs that are read from any text can be said again: they meet the premises of the laws above. Each line keeps what makes it so.
+pub fn settings_that_are_read_are_spelled()
+    ensures times { TimesAreSpelled }
+    ensures addresses { AddressesAreSpelled }
+    ensures servers { ServersAreSpelled }
+    ensures filters { FiltersAreSpelled }
+    ensures paths { PathsAreSpelled }
+    ensures scripts { ScriptsAreSpelled }
+    ensures start { StartIsSpelled }
+    ensures line { LineKeepsSettings }
+    ensures lines { LinesKeepSettings }
+    ensures whole { WholeIsSpelled }
+    ensures texts { TextsAreSpelled }
+{}
+
+/// The rules of pairs stand behind all others of requests where lines made them, with their names in the order of the first rule of each.
+pub fn pairs_that_are_read_are_spelled()
+    ensures { PairsStandBehind }
+{}
+
+/// What any lines leave of `acl` lines, rules and pairs can be said again. Each line keeps what makes it so.
+pub fn rules_of_lines_are_spelled()
+    ensures start { StartHasRules }
+    ensures line { LineKeepsRules }
+    ensures lines { LinesKeepRules }
+{}
+
+/// A text can say each configuration that is loaded; one that is loaded is valid.
+pub fn loaded_is_spelled()
+    ensures { LoadedIsSpelled }
+{}
+
+/// The canonical text of a configuration that is loaded loads to the same configuration, where it fits the limits of a text and each of its patterns is built.
+pub fn loaded_reads_back()
+    ensures { LoadedReadsBack }
 {}

@@ -131,7 +131,7 @@ abbrev with_told : Draft → (names : List (List ℕ)) → Rule → Draft
 with_told draft names rule = with_param draft (name_told names rule.action) rule
 
 -- what is so of a rule that sets the field of a pair is so of one that sets a field
-by_set : (P : Action → Type 0) (names : List (List ℕ)) (action : Action) → sets_one names action ≡ true
+pub by_set : (P : Action → Type 0) (names : List (List ℕ)) (action : Action) → sets_one names action ≡ true
     → ((field : List ℕ) (fmt : Fmt) → list_any (is_field_of field) names ≡ true → P (actions.SetHeader field fmt)) → P action
 unfolding sets_one
 by_set P names (actions.SetHeader field fmt) h p = p field fmt h

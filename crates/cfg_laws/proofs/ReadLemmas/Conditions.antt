@@ -20,7 +20,7 @@ use Rattle.cfg_expr.specs.Condition.Tests.{test_of}
 use Rattle.cfg_expr.specs.Condition.Lines.{test_on, named_tests, declared_name, is_named, most_lines, most_lines_of_a_name, with_line}
 use Rattle.cfg_expr.specs.Condition.Conditions.{line_read, acl_line, is_or, is_open, braces, tests_at, negated_or_not, marked, term_at, with_group, with_word, groups_from, no_groups, groups_of, condition_of, rule_end}
 use Rattle.cfg_laws.specs.Laws.Conditions.{has_term, are_groups}
-use Rattle.cfg_laws.specs.Laws.Read.{is_spelled_on, AreSpelledLines, is_spelled_term, is_spelled_cond}
+use Rattle.cfg_laws.specs.Laws.Read.{is_spelled_on, AreSpelledLines, is_spelled_cond}
 use Rattle.cfg_laws.proofs.ReadLemmas.Steps.{Gives, GivesSo, gives_so, gives_behind, so_behind, so_given, any, gives_any, reads_either}
 use Rattle.cfg_laws.proofs.ReadLemmas.Tests.{test_said, test_gives, on_gives}
 use Rattle.cfg_laws.proofs.ReadLemmas.Names.{all_on, named_give}
@@ -70,9 +70,18 @@ acl_gives side lines words h = so_behind line_said (AreSpelledLines side) (line_
 
 -- ---- terms
 
--- tests that can be said, whatever words are behind them
-abbrev tests_said : Side → List Test × List (List ℕ) → Bool
-tests_said side found = all_on side found.0
+-- a test in braces passes for a term's
+abbrev pub Single : (List Test → Bool) → Side → Type 0
+Single ok side = (test : Test) → is_spelled_on side test ≡ true → ok (test ∷ []) ≡ true
+
+-- what the tests of a term pass: those in braces, and those of names
+pub record Passes (ok : List Test → Bool) (side : Side) (lines : List AclLine) : Type 0 where
+  pub single : Single ok side
+  pub named : (name : List ℕ) → Gives ok (named_tests side lines name)
+
+-- tests that pass, whatever words are behind them
+abbrev tests_said : (List Test → Bool) → List Test × List (List ℕ) → Bool
+tests_said ok found = ok found.0
 
 abbrev with_others : Test → List (List ℕ) → TextReading (List Test × List (List ℕ))
 with_others test others = plain (Ok (test ∷ [], others))
@@ -86,74 +95,77 @@ of_written side words written = plain (test_on side written) >>= of_test words
 abbrev of_criterion : Side → List (List ℕ) → List ℕ × List (List ℕ) → TextReading (List Test × List (List ℕ))
 of_criterion side words criterion = test_of (Some side) criterion.0 criterion.1 >>= of_written side words
 
-test_behind : (side : Side) (words : List (List ℕ)) (test : Test) → is_spelled_on side test ≡ true → Gives (tests_said side) (of_test words test).gives
-test_behind side words test is = gives_behind any (tests_said side) (needed (up_to_close words).1) (with_others test) (gives_any (needed (up_to_close words).1)) (λ others free. and_from (is_spelled_on side test) true is refl)
+test_behind : (ok : List Test → Bool) (side : Side) (words : List (List ℕ)) (test : Test) → Single ok side → is_spelled_on side test ≡ true → Gives (tests_said ok) (of_test words test).gives
+test_behind ok side words test single is = gives_behind any (tests_said ok) (needed (up_to_close words).1) (with_others test) (gives_any (needed (up_to_close words).1)) (λ others free. single test is)
 
-written_behind : (side : Side) (words : List (List ℕ)) (written : WrittenTest) → test_said written ≡ true → Gives (tests_said side) (of_written side words written).gives
-written_behind side words written is = gives_behind (is_spelled_on side) (tests_said side) (test_on side written) (of_test words) (on_gives side written is) (test_behind side words)
+written_behind : (ok : List Test → Bool) (side : Side) (words : List (List ℕ)) (written : WrittenTest) → Single ok side → test_said written ≡ true → Gives (tests_said ok) (of_written side words written).gives
+written_behind ok side words written single is = gives_behind (is_spelled_on side) (tests_said ok) (test_on side written) (of_test words) (on_gives side written is) (λ test on. test_behind ok side words test single on)
 
-braces_give : (side : Side) (words : List (List ℕ)) → Gives (tests_said side) (braces side words).gives
+braces_give : (ok : List Test → Bool) (side : Side) (words : List (List ℕ)) → Single ok side → Gives (tests_said ok) (braces side words).gives
 unfolding braces
-braces_give side words = gives_behind any (tests_said side) (word_or Acl (up_to_close words).0) (of_criterion side words) (gives_any (word_or Acl (up_to_close words).0))
-    (λ criterion free. gives_behind test_said (tests_said side) (test_of (Some side) criterion.0 criterion.1).gives (of_written side words) (test_gives (Some side) criterion.0 criterion.1) (written_behind side words))
+braces_give ok side words single = gives_behind any (tests_said ok) (word_or Acl (up_to_close words).0) (of_criterion side words) (gives_any (word_or Acl (up_to_close words).0))
+    (λ criterion free. gives_behind test_said (tests_said ok) (test_of (Some side) criterion.0 criterion.1).gives (of_written side words) (test_gives (Some side) criterion.0 criterion.1) (λ written is. written_behind ok side words written single is))
 
 abbrev with_words : List (List ℕ) → List Test → TextReading (List Test × List (List ℕ))
 with_words others tests = plain (Ok (tests, others))
 
-at_gives : (side : Side) (lines : List AclLine) (word : List ℕ) (others : List (List ℕ)) → AreSpelledLines side lines → Gives (tests_said side) (tests_at side lines word others).gives
-at_gives side lines word others h =
-    reads_either (tests_said side) (is_open word) (braces side others) (plain (named_tests side lines word) >>= with_words others) (braces_give side others)
-    (gives_behind (all_on side) (tests_said side) (named_tests side lines word) (with_words others) (named_give side lines word h) (λ tests is. is))
+at_gives : (ok : List Test → Bool) (side : Side) (lines : List AclLine) (word : List ℕ) (others : List (List ℕ)) → Passes ok side lines → Gives (tests_said ok) (tests_at side lines word others).gives
+at_gives ok side lines word others h =
+    reads_either (tests_said ok) (is_open word) (braces side others) (plain (named_tests side lines word) >>= with_words others) (braces_give ok side others h.single)
+    (gives_behind ok (tests_said ok) (named_tests side lines word) (with_words others) (h.named word) (λ tests is. is))
 
--- a term that can be said, whatever words are behind it
-abbrev term_said : Side → Term × List (List ℕ) → Bool
-term_said side found = is_spelled_term side found.0
+-- a term that passes, whatever words are behind it
+abbrev term_said : (List Test → Bool) → Term × List (List ℕ) → Bool
+term_said ok found = ok found.0.tests
 
 abbrev with_sign : Bool → List Test × List (List ℕ) → TextReading (Term × List (List ℕ))
 with_sign negated found = plain (Ok (record { not = negated; tests = found.0 }, found.1))
 
-sign_gives : (negated : Bool) (side : Side) (lines : List AclLine) (word : List ℕ) (others : List (List ℕ)) → AreSpelledLines side lines → Gives (term_said side) (negated_or_not negated side lines word others).gives
-sign_gives negated side lines word others h = gives_behind (tests_said side) (term_said side) (tests_at side lines word others).gives (with_sign negated) (at_gives side lines word others h) (λ found is. is)
+sign_gives : (ok : List Test → Bool) (negated : Bool) (side : Side) (lines : List AclLine) (word : List ℕ) (others : List (List ℕ)) → Passes ok side lines → Gives (term_said ok) (negated_or_not negated side lines word others).gives
+sign_gives ok negated side lines word others h = gives_behind (tests_said ok) (term_said ok) (tests_at side lines word others).gives (with_sign negated) (at_gives ok side lines word others h) (λ found is. is)
 
-mark_gives : (side : Side) (lines : List AclLine) (joined : List ℕ) (others : List (List ℕ)) → AreSpelledLines side lines → Gives (term_said side) (marked side lines joined others).gives
-mark_gives side lines [] others h = gives_behind any (term_said side) (word_or Acl others) (λ next. negated_or_not true side lines next.0 next.1) (gives_any (word_or Acl others)) (λ next free. sign_gives true side lines next.0 next.1 h)
-mark_gives side lines (b ∷ joined) others h = sign_gives true side lines (b ∷ joined) others h
+mark_gives : (ok : List Test → Bool) (side : Side) (lines : List AclLine) (joined : List ℕ) (others : List (List ℕ)) → Passes ok side lines → Gives (term_said ok) (marked side lines joined others).gives
+mark_gives ok side lines [] others h = gives_behind any (term_said ok) (word_or Acl others) (λ next. negated_or_not true side lines next.0 next.1) (gives_any (word_or Acl others)) (λ next free. sign_gives ok true side lines next.0 next.1 h)
+mark_gives ok side lines (b ∷ joined) others h = sign_gives ok true side lines (b ∷ joined) others h
 
-term_gives : (side : Side) (lines : List AclLine) (word : List ℕ) (others : List (List ℕ)) → AreSpelledLines side lines → Gives (term_said side) (term_at side lines word others).gives
+term_gives : (ok : List Test → Bool) (side : Side) (lines : List AclLine) (word : List ℕ) (others : List (List ℕ)) → Passes ok side lines → Gives (term_said ok) (term_at side lines word others).gives
 unfolding term_at
-term_gives side lines [] others h = sign_gives false side lines [] others h
-term_gives side lines (b ∷ word) others h =
-    reads_either (term_said side) (b == 33) (marked side lines word others) (negated_or_not false side lines (b ∷ word) others) (mark_gives side lines word others h) (sign_gives false side lines (b ∷ word) others h)
+term_gives ok side lines [] others h = sign_gives ok false side lines [] others h
+term_gives ok side lines (b ∷ word) others h =
+    reads_either (term_said ok) (b == 33) (marked side lines word others) (negated_or_not false side lines (b ∷ word) others) (mark_gives ok side lines word others h) (sign_gives ok false side lines (b ∷ word) others h)
 
 -- ---- groups
 
-abbrev are_terms : Side → List Term → Bool
-are_terms side terms = list_all (is_spelled_term side) terms
+abbrev pub passes : (List Test → Bool) → Term → Bool
+passes ok term = ok term.tests
 
--- groups that can be said, of which there may be none
-abbrev are_said : Side → List (List Term) → Bool
-are_said side groups = list_all has_term groups && list_all (are_terms side) groups
+abbrev pub are_terms : (List Test → Bool) → List Term → Bool
+are_terms ok terms = list_all (passes ok) terms
+
+-- groups whose terms pass, of which there may be none
+abbrev are_said : (List Test → Bool) → List (List Term) → Bool
+are_said ok groups = list_all has_term groups && list_all (are_terms ok) groups
 
 -- one group or more
-abbrev some_said : Side → List (List Term) → Bool
-some_said side groups = are_groups groups && list_all (are_terms side) groups
+abbrev pub some_said : (List Test → Bool) → List (List Term) → Bool
+some_said ok groups = are_groups groups && list_all (are_terms ok) groups
 
-group_gives : (side : Side) (groups : List (List Term)) (terms : List Term) → are_said side groups ≡ true → are_terms side terms ≡ true → Gives (some_said side) (with_group groups terms)
-group_gives side groups [] h is = tt
-group_gives side groups (term ∷ terms) h is =
+group_gives : (ok : List Test → Bool) (groups : List (List Term)) (terms : List Term) → are_said ok groups ≡ true → are_terms ok terms ≡ true → Gives (some_said ok) (with_group groups terms)
+group_gives ok groups [] h is = tt
+group_gives ok groups (term ∷ terms) h is =
     let group = term ∷ terms in
     let all = groups ++ group ∷ [] in
-    let both = and_parts (list_all has_term groups) (list_all (are_terms side) groups) h in
+    let both = and_parts (list_all has_term groups) (list_all (are_terms ok) groups) h in
     let some : 0 < length all = simp length-append (omega arith) in
-    and_from (are_groups all) (list_all (are_terms side) all)
+    and_from (are_groups all) (list_all (are_terms ok) all)
     (and_from (nat_lt 0 (length all)) (list_all has_term all) (lt-ltb 0 (length all) some)
     (list_all-append has_term groups (group ∷ []) ∙ and_from (list_all has_term groups) (has_term group && true) both.0 (and_from (has_term group) true (lt-ltb 0 (length group) (omega arith)) refl)))
-    (list_all-append (are_terms side) groups (group ∷ []) ∙ and_from (list_all (are_terms side) groups) (are_terms side group && true) both.1 (and_from (are_terms side group) true is refl))
+    (list_all-append (are_terms ok) groups (group ∷ []) ∙ and_from (list_all (are_terms ok) groups) (are_terms ok group && true) both.1 (and_from (are_terms ok group) true is refl))
 
-some_are : (side : Side) (groups : List (List Term)) → some_said side groups ≡ true → are_said side groups ≡ true
-some_are side groups h =
-    let both = and_parts (are_groups groups) (list_all (are_terms side) groups) h in
-    and_from (list_all has_term groups) (list_all (are_terms side) groups) (and_parts (nat_lt 0 (length groups)) (list_all has_term groups) both.0).1 both.1
+some_are : (ok : List Test → Bool) (groups : List (List Term)) → some_said ok groups ≡ true → are_said ok groups ≡ true
+some_are ok groups h =
+    let both = and_parts (are_groups groups) (list_all (are_terms ok) groups) h in
+    and_from (list_all has_term groups) (list_all (are_terms ok) groups) (and_parts (nat_lt 0 (length groups)) (list_all has_term groups) both.0).1 both.1
 
 abbrev TypeOf : {A : Type 0} → A → Type 0
 TypeOf {A} x = A
@@ -162,11 +174,11 @@ TypeOf {A} x = A
 abbrev Groups : Type 0
 Groups = TypeOf no_groups
 
-abbrev groups_said : Side → Groups → Bool
-groups_said side so_far = are_said side so_far.whole && are_terms side so_far.terms
+abbrev groups_said : (List Test → Bool) → Groups → Bool
+groups_said ok so_far = are_said ok so_far.whole && are_terms ok so_far.terms
 
-abbrev next_said : Side → Groups × List (List ℕ) → Bool
-next_said side found = groups_said side found.0
+abbrev next_said : (List Test → Bool) → Groups × List (List ℕ) → Bool
+next_said ok found = groups_said ok found.0
 
 abbrev with_whole : List (List ℕ) → List (List Term) → TextReading (Groups × List (List ℕ))
 with_whole others whole = plain (Ok (record no_groups { whole = whole }, others))
@@ -174,56 +186,60 @@ with_whole others whole = plain (Ok (record no_groups { whole = whole }, others)
 abbrev with_term : Groups → Term × List (List ℕ) → TextReading (Groups × List (List ℕ))
 with_term so_far found = plain (Ok (record so_far { terms = so_far.terms ++ found.0 ∷ [] }, found.1))
 
-term_more : (side : Side) (terms : List Term) (term : Term) → are_terms side terms ≡ true → is_spelled_term side term ≡ true → are_terms side (terms ++ term ∷ []) ≡ true
-term_more side terms term h is =
-    list_all-append (is_spelled_term side) terms (term ∷ []) ∙ and_from (are_terms side terms) (is_spelled_term side term && true) h (and_from (is_spelled_term side term) true is refl)
+term_more : (ok : List Test → Bool) (terms : List Term) (term : Term) → are_terms ok terms ≡ true → passes ok term ≡ true → are_terms ok (terms ++ term ∷ []) ≡ true
+term_more ok terms term h is =
+    list_all-append (passes ok) terms (term ∷ []) ∙ and_from (are_terms ok terms) (passes ok term && true) h (and_from (passes ok term) true is refl)
 
-word_gives : (side : Side) (lines : List AclLine) (so_far : Groups) (word : List ℕ) (others : List (List ℕ)) → AreSpelledLines side lines → groups_said side so_far ≡ true → Gives (next_said side) (with_word side lines so_far word others).gives
+word_gives : (ok : List Test → Bool) (side : Side) (lines : List AclLine) (so_far : Groups) (word : List ℕ) (others : List (List ℕ)) → Passes ok side lines → groups_said ok so_far ≡ true → Gives (next_said ok) (with_word side lines so_far word others).gives
 unfolding with_word
-word_gives side lines so_far word others h said =
-    let both = and_parts (are_said side so_far.whole) (are_terms side so_far.terms) said in
-    reads_either (next_said side) (is_or word) (plain (with_group so_far.whole so_far.terms) >>= with_whole others) (term_at side lines word others >>= with_term so_far)
-    (gives_behind (some_said side) (next_said side) (with_group so_far.whole so_far.terms) (with_whole others) (group_gives side so_far.whole so_far.terms both.0 both.1)
-    (λ whole is. and_from (are_said side whole) true (some_are side whole is) refl))
-    (gives_behind (term_said side) (next_said side) (term_at side lines word others).gives (with_term so_far) (term_gives side lines word others h)
-    (λ found is. and_from (are_said side so_far.whole) (are_terms side (so_far.terms ++ found.0 ∷ [])) both.0 (term_more side so_far.terms found.0 both.1 is)))
+word_gives ok side lines so_far word others h said =
+    let both = and_parts (are_said ok so_far.whole) (are_terms ok so_far.terms) said in
+    reads_either (next_said ok) (is_or word) (plain (with_group so_far.whole so_far.terms) >>= with_whole others) (term_at side lines word others >>= with_term so_far)
+    (gives_behind (some_said ok) (next_said ok) (with_group so_far.whole so_far.terms) (with_whole others) (group_gives ok so_far.whole so_far.terms both.0 both.1)
+    (λ whole is. and_from (are_said ok whole) true (some_are ok whole is) refl))
+    (gives_behind (term_said ok) (next_said ok) (term_at side lines word others).gives (with_term so_far) (term_gives ok side lines word others h)
+    (λ found is. and_from (are_said ok so_far.whole) (are_terms ok (so_far.terms ++ found.0 ∷ [])) both.0 (term_more ok so_far.terms found.0 both.1 is)))
 
-last_gives : (side : Side) (so_far : Groups) → groups_said side so_far ≡ true → Gives (some_said side) (with_group so_far.whole so_far.terms)
-last_gives side so_far said =
-    let both = and_parts (are_said side so_far.whole) (are_terms side so_far.terms) said in
-    group_gives side so_far.whole so_far.terms both.0 both.1
+last_gives : (ok : List Test → Bool) (so_far : Groups) → groups_said ok so_far ≡ true → Gives (some_said ok) (with_group so_far.whole so_far.terms)
+last_gives ok so_far said =
+    let both = and_parts (are_said ok so_far.whole) (are_terms ok so_far.terms) said in
+    group_gives ok so_far.whole so_far.terms both.0 both.1
 
-from_gives : (side : Side) (lines : List AclLine) (most : ℕ) (so_far : Groups) (words : List (List ℕ)) → AreSpelledLines side lines → groups_said side so_far ≡ true → Gives (some_said side) (groups_from side lines most so_far words).gives
+from_gives : (ok : List Test → Bool) (side : Side) (lines : List AclLine) (most : ℕ) (so_far : Groups) (words : List (List ℕ)) → Passes ok side lines → groups_said ok so_far ≡ true → Gives (some_said ok) (groups_from side lines most so_far words).gives
 unfolding groups_from
-from_gives side lines zero so_far [] h said = last_gives side so_far said
-from_gives side lines (suc most) so_far [] h said = last_gives side so_far said
-from_gives side lines zero so_far (word ∷ others) h said = tt
-from_gives side lines (suc most) so_far (word ∷ others) h said =
-    gives_behind (next_said side) (some_said side) (with_word side lines so_far word others).gives (λ next. groups_from side lines most next.0 next.1) (word_gives side lines so_far word others h said)
-    (λ next is. from_gives side lines most next.0 next.1 h is)
+from_gives ok side lines zero so_far [] h said = last_gives ok so_far said
+from_gives ok side lines (suc most) so_far [] h said = last_gives ok so_far said
+from_gives ok side lines zero so_far (word ∷ others) h said = tt
+from_gives ok side lines (suc most) so_far (word ∷ others) h said =
+    gives_behind (next_said ok) (some_said ok) (with_word side lines so_far word others).gives (λ next. groups_from side lines most next.0 next.1) (word_gives ok side lines so_far word others h said)
+    (λ next is. from_gives ok side lines most next.0 next.1 h is)
 
 -- ---- conditions
 
--- a condition that can be said, if there is one
-abbrev end_said : Side → Option Cond → Bool
-end_said side None = true
-end_said side (Some cond) = is_spelled_cond side cond
+-- the terms of a condition pass, if there is one
+abbrev pub end_said : (List Test → Bool) → Option Cond → Bool
+end_said ok None = true
+end_said ok (Some cond) = some_said ok cond.groups
 
 abbrev with_word_in_front : Bool → List (List Term) → TextReading (Option Cond)
 with_word_in_front unless groups = plain (Ok (Some (record { unless = unless; groups = groups })))
 
-cond_gives : (side : Side) (lines : List AclLine) (unless : Bool) (words : List (List ℕ)) → AreSpelledLines side lines → Gives (end_said side) (condition_of side lines unless words).gives
+cond_gives : (ok : List Test → Bool) (side : Side) (lines : List AclLine) (unless : Bool) (words : List (List ℕ)) → Passes ok side lines → Gives (end_said ok) (condition_of side lines unless words).gives
 unfolding condition_of
-cond_gives side lines unless words h =
-    gives_behind (some_said side) (end_said side) (groups_of side lines words).gives (with_word_in_front unless) (from_gives side lines (length words) no_groups words h refl) (λ groups is. is)
+cond_gives ok side lines unless words h =
+    gives_behind (some_said ok) (end_said ok) (groups_of side lines words).gives (with_word_in_front unless) (from_gives ok side lines (length words) no_groups words h refl) (λ groups is. is)
 
-end_gives : (side : Side) (lines : List AclLine) (words : List (List ℕ)) → AreSpelledLines side lines → Gives (end_said side) (rule_end side lines words).gives
+pub end_gives : (ok : List Test → Bool) (side : Side) (lines : List AclLine) (words : List (List ℕ)) → Passes ok side lines → Gives (end_said ok) (rule_end side lines words).gives
 unfolding rule_end
-end_gives side lines [] h = refl
-end_gives side lines (word ∷ others) h =
+end_gives ok side lines [] h = refl
+end_gives ok side lines (word ∷ others) h =
     let unless = condition_of side lines true others in
-    reads_either (end_said side) (bytes_eq word (codes "if")) (condition_of side lines false others) (cond (bytes_eq word (codes "unless")) unless (plain (Err Argument))) (cond_gives side lines false others h)
-    (reads_either (end_said side) (bytes_eq word (codes "unless")) unless (plain (Err Argument)) (cond_gives side lines true others h) tt)
+    reads_either (end_said ok) (bytes_eq word (codes "if")) (condition_of side lines false others) (cond (bytes_eq word (codes "unless")) unless (plain (Err Argument))) (cond_gives ok side lines false others h)
+    (reads_either (end_said ok) (bytes_eq word (codes "unless")) unless (plain (Err Argument)) (cond_gives ok side lines true others h) tt)
+
+-- tests that a direction can say pass
+on_passes : (side : Side) (lines : List AclLine) → AreSpelledLines side lines → Passes (all_on side) side lines
+on_passes side lines h = record { single = λ test is. and_from (is_spelled_on side test) true is refl; named = λ name. named_give side lines name h }
 
 -- ---- as laws
 
@@ -231,4 +247,5 @@ pub lines_spelled : (side : Side) (lines more : List AclLine) (words : List (Lis
 lines_spelled side lines more words h is = so_given (AreSpelledLines side) (acl_line lines words).gives more (acl_gives side lines words h) is
 
 pub conds_spelled : (side : Side) (lines : List AclLine) (words : List (List ℕ)) (cond : Cond) → AreSpelledLines side lines → (rule_end side lines words).gives ≡ Ok (Some cond) → is_spelled_cond side cond ≡ true
-conds_spelled side lines words cond h is = gives_so (end_said side) (rule_end side lines words).gives (Some cond) (end_gives side lines words h) is
+conds_spelled side lines words cond h is =
+    gives_so (end_said (all_on side)) (rule_end side lines words).gives (Some cond) (end_gives (all_on side) side lines words (on_passes side lines h)) is

@@ -84,7 +84,7 @@ expr_gives side text = gives_behind written_said (expr_said side) (written_at (S
 abbrev of_whole : exprs.Expr × List ℕ → TextReading exprs.Expr
 of_whole found = plain (ended found.1) >>= λ end. plain (Ok found.0)
 
-whole_gives : (side : Side) (text : List ℕ) → Gives (is_spelled side) (expr_of side text).gives
+pub whole_gives : (side : Side) (text : List ℕ) → Gives (is_spelled side) (expr_of side text).gives
 unfolding expr_of
 whole_gives side text = gives_behind (expr_said side) (is_spelled side) (expr_at side text).gives of_whole (expr_gives side text)
     (λ found h. gives_behind any (is_spelled side) (ended found.1) (λ end. plain (Ok found.0)) (gives_any (ended found.1)) (λ end free. h))

@@ -162,7 +162,7 @@ format_with parts = plain (Ok (record { parts = parts }))
 none_yet : (side : Side) (text : List ℕ) → PartsFit side 64 [] text
 none_yet side text = record { all = refl; apart = refl; stops = λ ends. absurd (false≢true ends); count = refl }
 
-format_gives : (side : Side) (text : List ℕ) → Gives (is_spelled_format side) (format_of side text).gives
+pub format_gives : (side : Side) (text : List ℕ) → Gives (is_spelled_format side) (format_of side text).gives
 unfolding format_of
 format_gives side text =
     gives_behind (parts_said side) (is_spelled_format side) (parts_at side text).gives format_with (from_gives side 64 [] text (none_yet side text)) (λ parts h. h)
