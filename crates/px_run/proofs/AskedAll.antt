@@ -1,13 +1,13 @@
 -- All connections, where their links were asked and nothing else was done.
-use Rattle.std.proofs.Common.{◌≡◌, ℕ, ◌<◌, List, Option, Some, None, length, get_or, set, refl, sym, ap, subst, ◌∙◌, inl, inr}
+use Rattle.std.proofs.Common.{◌≡◌, ℕ, ◌<◌, List, [], ◌∷◌, ◌++◌, Option, Some, None, length, get_or, set, refl, sym, ap, subst, ◌∙◌, inl, inr, arith}
 use Rattle.px_link.specs.Link.{Seen}
 use Rattle.px_link.specs.Net.{NetSeen}
 use Rattle.px_run.specs.Hall.{IsAsked, IsAskedAt, IsHere, AllAsked, taken_at, count_taken}
 use Rattle.px_run.specs.declared.hall.Hall.{Hall}
 use Rattle.px_run.specs.declared.connection.Connection.{Connection}
 use Rattle.px_run.proofs.Asked.{same_link, same_server, same_then, same_server_then}
-use Rattle.px_run.proofs.Halls.{taken_set_same}
-use Rattle.px_run.proofs.Numbers.{some_same, here_set, here_at}
+use Rattle.px_run.proofs.Halls.{taken_set_same, taken_pushed}
+use Rattle.px_run.proofs.Numbers.{some_same, here_set, here_at, here_front}
 
 module _ {C L N : Type 0} (seen : L → Seen) (wrote : L → List ℕ → Type 0) (sees_net : N → NetSeen) where
   pub asked_same : (c : Connection C L N) → IsAsked seen wrote sees_net c c
@@ -73,6 +73,14 @@ module _ {C L N : Type 0} (seen : L → Seen) (wrote : L → List ℕ → Type 0
       → AllAsked seen wrote sees_net old new
   all_asked_by old new here taken sets accepted output =
       record { each = λ place c h. (c, here place c h, asked_same c); taken = taken; sets = ap (λ s. s.items) sets; accepted = accepted; output = output }
+
+  -- a further place is there, at which nobody is
+  pub asked_more : (old new : Hall C L N) → new.places.items ≡ old.places.items ++ None ∷ [] → new.sets ≡ old.sets → new.accepted ≡ old.accepted → new.output ≡ old.output → AllAsked seen wrote sees_net old new
+  asked_more old new places sets accepted output =
+      let here : (place : ℕ) (c : Connection C L N) → IsHere new.places.items place c → IsHere old.places.items place c = λ place c h. here_front old.places.items place c (subst (λ (l : List (Option (Connection C L N))). IsHere l place c) places h) in
+      let more : count_taken new.places.items ≡ count_taken (old.places.items ++ None ∷ []) = ap (λ (l : List (Option (Connection C L N))). count_taken l) places in
+      let none = taken_pushed old.places.items None in
+      all_asked_by old new here (omega (arith, more, none)) sets accepted output
 
   -- the same, with another time
   pub asked_as : (old new other : Hall C L N) → other.places.items ≡ new.places.items → other.sets.items ≡ new.sets.items → other.accepted ≡ new.accepted → other.output ≡ new.output → AllAsked seen wrote sees_net old new → AllAsked seen wrote sees_net old other

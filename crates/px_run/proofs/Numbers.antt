@@ -153,3 +153,10 @@ here_last places x = get_last places (Some x) (length places) refl
 
 pub here_within : {A : Type 0} (places : List (Option A)) (place : ℕ) (x : A) → IsHere places place x → place < length places
 here_within places place x h = slice_get_within places place (Some x) h
+
+-- a further place at which nobody is
+pub here_front : {A : Type 0} (places : List (Option A)) (place : ℕ) (x : A) → IsHere (places ++ None ∷ []) place x → IsHere places place x
+here_front [] zero x h = absurd (none_is x (some_same None (Some x) h))
+here_front [] (suc place) x h = absurd (none_is (Some x) h)
+here_front (y ∷ ys) zero x h = h
+here_front (y ∷ ys) (suc place) x h = here_front ys place x h

@@ -6,15 +6,15 @@ ghost use Rattle.px_run.specs.Course.{IsToldNet};
 ghost use Rattle.px_run.specs.History.{Visit, new_visit};
 ghost use Rattle.px_proxyproto.specs.Meeting.{source_in};
 ghost use Rattle.px_run.specs.Connection.{◌∘◌};
-ghost use Rattle.px_run.specs.Hall.{AllStand, count_taken, IsSameNet, IsBalanced, KeepsAll};
+ghost use Rattle.px_run.specs.Hall.{AllStand, AllAsked, count_taken, IsSameNet, IsBalanced, KeepsAll};
 
 use crate::agenda::Agenda;
 use crate::caller::{caller_of, introduce};
 use crate::connection::Connection;
 use crate::hall::Hall;
-use crate::{Nets, Plan, RunFault};
+use crate::{Nets, Plan, RunFault, Times};
 use fcgi_link::AsksApplication;
-use htx_drive::weave::{Conn, ResetsFor};
+use htx_drive::weave::{Conn, Resets, ResetsFor};
 use px_link::{Fault, OutOfMemory, Waits, WaitsNet, Wakes};
 use px_proxyproto::{HasPair, Introduces};
 use serve_run::{Responder, ask_for};
@@ -216,6 +216,47 @@ fn accept_next<
     }
 }
 
+/// Has a further place where none of those that are there is free.
+fn add_place<C: Resets, L: Waits, N: WaitsNet<Link = L>>(
+    hall: &mut Hall<C, L, N>,
+    agenda: &mut Agenda,
+    times: &Times,
+) -> Result<(), OutOfMemory>
+    ensures asked { AllAsked L.seen L.wrote N.seen hall.old hall.new }
+{
+    if !agenda.lacks_place() || hall.places.len() >= hall.places.capacity() {
+        return Ok(());
+    }
+    hall.places.push_reserved(None);
+    agenda.add_place(times)
+}
+
+/// The same as `accept_next`, at a place that comes where none is free.
+fn accept_further<
+    C: ResetsFor + Drop,
+    L: Waits + HasPair,
+    N: WaitsNet<Link = L> + Introduces + AsksApplication + Drop,
+    S: Nets<N>,
+    W: Wakes<N>,
+>(
+    hall: &mut Hall<C, L, N>,
+    agenda: &mut Agenda,
+    net: &mut N,
+    nets: &mut S,
+    wakes: &mut W,
+    plan: &Plan,
+) -> Result<bool, RunFault>
+    ensures goes { KeepsAll C.meaning C.stands C.for_peer C.seen C.sound L.seen L.wrote L.tells plan.now.accepts_header plan.now.logs plan.now.opening N.seen net.old net.new hall.old hall.new }
+    ensures within { IfSome plan.now.connections (λ count. hall.old.accepted ≤ count → hall.new.accepted ≤ count) }
+    ensures balanced { IsBalanced (N.seen net.old) (N.seen net.new) hall.old.places.items hall.new.places.items }
+    ensures net { IsSameNet (N.seen net.old) (N.seen net.new) }
+{
+    match add_place(hall, agenda, &plan.times) {
+        Ok(()) => accept_next(hall, agenda, net, nets, wakes, plan),
+        Err(OutOfMemory) => Err(RunFault::OutOfMemory),
+    }
+}
+
 /// Accepts the links that wait, while places are free.
 pub(crate) fn accepts<
     C: ResetsFor + Drop,
@@ -243,7 +284,7 @@ pub(crate) fn accepts<
         return Ok(());
     }
     for _ in 0..u32::MAX {
-        match accept_next(hall, agenda, net, nets, wakes, plan) {
+        match accept_further(hall, agenda, net, nets, wakes, plan) {
             Ok(true) => {}
             Ok(false) => return Ok(()),
             Err(fault) => return Err(fault),

@@ -16,15 +16,17 @@ const MOST_FAILED: u32 = 100;
 /// Who is looked at next, and when.
 #[derive(Drop)]
 pub(crate) struct Agenda {
-    /// Of each place, when its connection is looked at again.
+    /// Of each place that is there, when its connection is looked at again.
     pub paces: Vec<Pace>,
+    /// How many places there may be.
+    most: usize,
     /// The places that are looked at in this round.
     pub now_due: Vec<usize>,
     /// Those that are looked at in the next.
     due: Vec<usize>,
     /// Those that go on once a core is free, in their order.
     hungry: Vec<usize>,
-    /// Places at which no connection is.
+    /// Those of the places that are there at which no connection is.
     free: Vec<usize>,
     /// What the last wait told.
     pub woken: Vec<Wake>,
@@ -47,33 +49,16 @@ fn sooner(one: Option<u64>, other: Option<u64>) -> Option<u64> {
     }
 }
 
-/// So many places are free, the first of which is taken first.
-fn all_free(alloc: Global, places: usize) -> Result<Vec<usize>, OutOfMemory> {
-    let mut free = Vec::new(alloc);
-    for before in 0..places {
-        free.push(places - 1 - before)?;
-    }
-    Ok(free)
-}
-
-/// The pace of each of so many places.
-fn all_paces(alloc: Global, places: usize, times: &Times) -> Result<Vec<Pace>, OutOfMemory> {
-    let mut paces = Vec::new(alloc);
-    for place in 0..places {
-        paces.push(Pace::new(place, 0, times))?;
-    }
-    Ok(paces)
-}
-
 impl Agenda {
-    /// Nobody is looked at, and so many places are free.
-    pub fn new(alloc: Global, places: usize, times: &Times) -> Result<Agenda, OutOfMemory> {
+    /// Nobody is looked at, and no place is there yet. There may be so many, and the memory for what is known of them is taken here.
+    pub fn new(alloc: Global, most: usize) -> Result<Agenda, OutOfMemory> {
         Ok(Agenda {
-            paces: all_paces(alloc, places, times)?,
+            paces: Vec::with_capacity(alloc, most)?,
+            most,
             now_due: Vec::new(alloc),
             due: Vec::new(alloc),
             hungry: Vec::new(alloc),
-            free: all_free(alloc, places)?,
+            free: Vec::with_capacity(alloc, most)?,
             woken: Vec::new(alloc),
             next: None,
             may_accept: true,
@@ -84,7 +69,7 @@ impl Agenda {
 
     /// How long a wait takes at most: not at all where something can be done now.
     pub fn patience(&self, accepts: bool, now: u64) -> Option<u64> {
-        let accepts_now = accepts && self.may_accept && !self.free.is_empty();
+        let accepts_now = accepts && self.may_accept && self.has_place();
         if accepts_now || !self.due.is_empty() {
             return Some(0);
         }
@@ -227,14 +212,31 @@ impl Agenda {
         found
     }
 
-    /// A place at which no connection is.
+    /// A place that is there, at which no connection is.
     pub fn free_place(&mut self) -> Option<usize> {
         self.free.pop()
     }
 
-    /// Whether there is one.
+    /// Whether there is one, or may be.
     pub fn has_place(&self) -> bool {
-        !self.free.is_empty()
+        !self.free.is_empty() || self.may_grow()
+    }
+
+    /// Whether a further place is to come, since none of those that are there is free.
+    pub fn lacks_place(&self) -> bool {
+        self.free.is_empty() && self.may_grow()
+    }
+
+    fn may_grow(&self) -> bool {
+        self.paces.len() < self.most
+    }
+
+    /// A further place is there, behind the others.
+    pub fn add_place(&mut self, times: &Times) -> Result<(), OutOfMemory> {
+        let place = self.paces.len();
+        self.paces.push(Pace::new(place, 0, times))?;
+        self.free.push(place)?;
+        Ok(())
     }
 
     /// No connection is at this place any more.

@@ -36,18 +36,14 @@ pub(crate) struct Hall<C, L, N> {
     pub tools: Tools,
 }
 
-/// So many places without a connection.
+/// Memory for so many places, of which none is there yet: it is written to where a connection comes, so those that never come cost none.
 pub(crate) fn no_places<C: Drop, L: Drop, N: Drop>(
     alloc: Global,
     count: usize,
 ) -> Result<Vec<Option<Connection<C, L, N>>>, OutOfMemory>
     ensures none { IfOk result (λ places. count_taken places.items ≡ 0) }
 {
-    let mut places = Vec::new(alloc);
-    for _ in 0..count {
-        places.push(None)?;
-    }
-    Ok(places)
+    Ok(Vec::with_capacity(alloc, count)?)
 }
 
 /// Whether no connection is open.

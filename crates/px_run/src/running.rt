@@ -57,7 +57,7 @@ fn rounds<
     ensures empty { OnOk result (count_taken hall.new.places.items ≡ 0) }
     ensures all { OnOk result (IfSome plan.now.connections (λ count. (count ≤ hall.new.accepted) ⊎ S.accepts_none nets.new)) }
 {
-    let mut agenda = match Agenda::new(plan.alloc, hall.places.len(), &plan.times) {
+    let mut agenda = match Agenda::new(plan.alloc, hall.places.capacity()) {
         Ok(agenda) => agenda,
         Err(OutOfMemory) => return Err(RunFault::OutOfMemory),
     };
