@@ -15,16 +15,20 @@ pub enum Dialling {
     Failed(io::Error),
 }
 
-/// What came of a connect that was begun. The system tells of a failure once, so a connect that has failed is asked no more.
+/// What came of a connect that was begun. One that has come to its end well has another end.
 fn settled(stream: TcpStream) -> Dialling {
-    match stream.take_error() {
-        Ok(None) => {}
-        Ok(Some(error)) => return Dialling::Failed(error),
-        Err(error) => return Dialling::Failed(error),
-    }
     match stream.peer_addr() {
         Ok(_) => Dialling::Connected(stream),
-        Err(error) if error.kind() == ErrorKind::NotConnected => Dialling::Begun(stream),
+        Err(error) if error.kind() == ErrorKind::NotConnected => unsettled(stream),
+        Err(error) => Dialling::Failed(error),
+    }
+}
+
+/// The same of one that isn't connected. The system tells of a failure once, so a connect that has failed is asked no more.
+fn unsettled(stream: TcpStream) -> Dialling {
+    match stream.take_error() {
+        Ok(None) => Dialling::Begun(stream),
+        Ok(Some(error)) => Dialling::Failed(error),
         Err(error) => Dialling::Failed(error),
     }
 }

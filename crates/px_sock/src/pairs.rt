@@ -60,17 +60,50 @@ fn local_end(local: io::Result<SocketAddr>, v6: bool) -> Peer
     }
 }
 
-/// The two ends of a stream that is open: the other end asks, and the local one is where it asks. There is none where the system doesn't tell the other end.
-pub fn pair_of<S: OpenStream>(stream: &Option<S>) -> Option<Pair>
+/// What is known of both ends of a stream without a question to the system.
+#[derive(Clone, Copy)]
+pub struct Ends {
+    pub other: Option<SocketAddr>,
+    pub local: Option<SocketAddr>,
+}
+
+impl Ends {
+    /// Nothing is.
+    pub fn unknown() -> Ends {
+        Ends {
+            other: None,
+            local: None,
+        }
+    }
+}
+
+/// The other end of a stream: as it is known, or as the system tells it.
+fn other_of<S: OpenStream>(stream: &S, ends: &Ends) -> io::Result<SocketAddr> {
+    match ends.other {
+        Some(address) => Ok(address),
+        None => stream.peer_addr(),
+    }
+}
+
+/// The local end of a stream: as it is known, or as the system tells it.
+fn local_of<S: OpenStream>(stream: &S, ends: &Ends) -> io::Result<SocketAddr> {
+    match ends.local {
+        Some(address) => Ok(address),
+        None => stream.local_addr(),
+    }
+}
+
+/// The two ends of a stream that is open: the other end asks, and the local one is where it asks. There is none where the other end isn't known and the system doesn't tell it.
+pub fn pair_of<S: OpenStream>(stream: &Option<S>, ends: &Ends) -> Option<Pair>
     ensures { IfSome result IsPair }
 {
     let Some(stream) = stream else {
         return None;
     };
-    let Ok(address) = stream.peer_addr() else {
+    let Ok(address) = other_of(stream, ends) else {
         return None;
     };
     let src = end_of(address);
-    let dst = local_end(stream.local_addr(), src.v6);
+    let dst = local_end(local_of(stream, ends), src.v6);
     Some(Pair { src, dst })
 }

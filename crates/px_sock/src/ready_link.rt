@@ -5,7 +5,7 @@ ghost use Rattle.px_sock.specs.Ready.{link_of};
 
 use crate::faults::{count, counted};
 use crate::linger::{Lingering, linger_now};
-use crate::pairs::pair_of;
+use crate::pairs::{Ends, pair_of};
 use crate::ready::{Ready, after, ready_if};
 use crate::stream_calls::{sends_apart, sends_end};
 use crate::stream_waits::{read_in_time, reads_now, write_in_time, writes_now};
@@ -19,6 +19,33 @@ use std::os::fd::{AsRawFd, RawFd};
 
 /// A piece of so many bytes is kept for what follows at once. For shorter ones it isn't worth the calls that ask for it.
 const LONG: usize = 4096;
+
+/// So many bytes go in one segment over any path (RFC 9293 section 3.7.1).
+const SEGMENT: usize = 536;
+
+/// How the system sends what is written. On a new stream it keeps the end of a piece until all that was sent is acknowledged (RFC 9293 section 3.7.4).
+#[derive(Clone, Copy, PartialEq, Eq)]
+enum Sends {
+    /// So, and nothing was written yet.
+    New,
+    /// So, and all that was written was sent.
+    Sent,
+    /// So, and it may keep some of what was written.
+    Keeps,
+    /// Each piece is sent at once.
+    Apart,
+}
+
+/// How it does behind a piece of so many bytes: what is written first waits for nothing, but for what is longer than a segment.
+fn behind(before: Sends, len: usize) -> Sends {
+    match before {
+        Sends::New if len <= SEGMENT => Sends::Sent,
+        Sends::Apart => Sends::Apart,
+        Sends::New => Sends::Keeps,
+        Sends::Sent => Sends::Keeps,
+        Sends::Keeps => Sends::Keeps,
+    }
+}
 
 /// A link over a stream that doesn't block. Contracts see its two counts, and which calls have no time left.
 pub struct ReadyLink<S> {
@@ -34,8 +61,9 @@ pub struct ReadyLink<S> {
     writes: Ready,
     /// More follows at once what is written next.
     follows: bool,
-    /// The system may keep what was written, for what follows.
-    corked: bool,
+    sends: Sends,
+    /// What is known of both ends of the stream.
+    ends: Ends,
     /// An event told that the peer sends no more: no later one will tell of what is left.
     ended: bool,
     reads_over: bool,
@@ -54,7 +82,8 @@ impl<S: Drop> Drop for ReadyLink<S> {
             reads: _,
             writes: _,
             follows: _,
-            corked: _,
+            sends: _,
+            ends: _,
             ended: _,
             reads_over: _,
             writes_over: _,
@@ -78,11 +107,10 @@ impl<S> Model for ReadyLink<S> {
 }
 
 impl<S: OpenStream + AsRawFd + Drop> ReadyLink<S> {
-    /// A link over this stream, of which each piece is sent at once. One that lingers is closed so that its peer loses nothing.
-    pub fn new(stream: S, lingers: bool) -> Self
+    /// A link over this stream, which is new, and of whose ends so much is known. One that lingers is closed so that its peer loses nothing.
+    pub fn new(stream: S, lingers: bool, ends: Ends) -> Self
         ensures { result ≡ record { read_faults = 0; write_faults = 0; reads_over = false; writes_over = false } }
     {
-        let _ = stream.set_nodelay(true);
         ReadyLink {
             stream: Some(stream),
             closing: None,
@@ -92,7 +120,8 @@ impl<S: OpenStream + AsRawFd + Drop> ReadyLink<S> {
             // nothing was written yet, so there is room
             writes: Ready::Yes,
             follows: false,
-            corked: false,
+            sends: Sends::New,
+            ends,
             ended: false,
             reads_over: false,
             writes_over: false,
@@ -108,6 +137,22 @@ impl<S: OpenStream + AsRawFd + Drop> ReadyLink<S> {
             None => None,
         }
     }
+}
+
+/// Has the system send long pieces together again, where it sends each at once.
+fn together<S: OpenStream>(sends: Sends, stream: &Option<S>) -> Sends {
+    if sends == Sends::Apart && sends_apart(stream, false) {
+        return Sends::Sent;
+    }
+    sends
+}
+
+/// Has the system send what it may keep, and each later piece at once.
+fn released<S: OpenStream>(sends: Sends, stream: &Option<S>) -> Sends {
+    if sends == Sends::Keeps && sends_apart(stream, true) {
+        return Sends::Apart;
+    }
+    sends
 }
 
 /// What is known of the reads of a new link: a client may have sent already, so it is asked; a server speaks second, and the wait that is told of its link
@@ -156,12 +201,13 @@ impl<S: Read + Write + OpenStream + AsRawFd + Drop> Link for ReadyLink<S> {
         ensures over { self.old.writes_over ≡ true → IsErr result }
         ensures times { (self.new.reads_over ≡ self.old.reads_over) × (self.new.writes_over ≡ self.old.writes_over) }
     {
-        if self.follows && !self.corked && piece.len() >= LONG {
-            self.corked = sends_apart(&self.stream, false);
+        if self.follows && piece.len() >= LONG {
+            self.sends = together(self.sends, &self.stream);
         }
         let taken = write_in_time(&mut self.stream, self.writes_over, piece);
-        if self.corked && !self.follows {
-            self.corked = !sends_apart(&self.stream, true);
+        self.sends = behind(self.sends, piece.len());
+        if !self.follows {
+            self.sends = released(self.sends, &self.stream);
         }
         match counted(&mut self.write_faults, taken) {
             Ok(n) => {
@@ -253,8 +299,8 @@ impl<S: Read + Write + OpenStream + AsRawFd + Drop> Waits for ReadyLink<S> {
         ensures same { self.new ≡ self.old }
     {
         self.follows = follows;
-        if self.corked && !writes && !follows {
-            self.corked = !sends_apart(&self.stream, true);
+        if !writes && !follows {
+            self.sends = released(self.sends, &self.stream);
         }
     }
 
@@ -283,6 +329,6 @@ impl<S: OpenStream> HasPair for ReadyLink<S> {
     ghost tells = { λ _ pair. IfSome pair IsPair };
 
     fn pair(&self) -> Option<Pair> {
-        pair_of(&self.stream)
+        pair_of(&self.stream, &self.ends)
     }
 }

@@ -6,6 +6,7 @@ use crate::addresses::Addresses;
 use crate::dialling::Dialling;
 use crate::faults::{count, counted};
 use crate::numeric::{Numeric, place_of};
+use crate::pairs::Ends;
 use crate::ready_link::ReadyLink;
 use crate::telling::{Call, Telling, told};
 use mio::net::TcpListener;
@@ -17,6 +18,13 @@ use std::net::{IpAddr, SocketAddr, TcpStream};
 use std::os::fd::{AsFd, AsRawFd, OwnedFd, RawFd};
 use std::{io, net};
 
+/// A stream that came in, and from where.
+#[derive(Drop)]
+struct Came {
+    stream: TcpStream,
+    from: SocketAddr,
+}
+
 /// A net over sockets that don't block. It listens at the address of the last bind that was answered Ok. Contracts see the addresses of its binds
 /// and connects, how many links are lent, and its two counts.
 pub struct ReadyNet<'a, R: net::Net> {
@@ -25,8 +33,10 @@ pub struct ReadyNet<'a, R: net::Net> {
     listener: Option<TcpListener>,
     /// A listener of another process, which the next bind takes.
     handed: Option<TcpListener>,
+    /// Where it listens, unless that is every local address: the local end of each link that is accepted there.
+    local: Option<SocketAddr>,
     /// What the system answered to an accept that is still to be made.
-    came: Option<io::Result<TcpStream>>,
+    came: Option<io::Result<Came>>,
     /// A connect that is still to be made.
     dialling: Dialling,
     bound: Addresses,
@@ -46,6 +56,7 @@ impl<R: net::Net> Drop for ReadyNet<'_, R> {
             alloc: _,
             listener: _,
             handed: _,
+            local: _,
             came: _,
             dialling: _,
             bound: _,
@@ -83,6 +94,7 @@ impl<'a, R: net::Net> ReadyNet<'a, R> {
             alloc,
             listener: None,
             handed,
+            local: None,
             came: None,
             dialling: Dialling::Nothing,
             bound: Addresses::new(alloc),
@@ -182,11 +194,24 @@ fn listen<R: net::Net>(
     }
 }
 
+/// The address at which a listener listens, unless it is every local one of its family.
+fn own_address(listener: &TcpListener) -> Option<SocketAddr> {
+    match listener.local_addr() {
+        Ok(address) if !address.ip().is_unspecified() => Some(address),
+        _ => None,
+    }
+}
+
 /// The next stream that comes in. A peer that was gone before it was accepted is none.
-fn next_stream(listener: &TcpListener) -> io::Result<TcpStream> {
+fn next_stream(listener: &TcpListener) -> io::Result<Came> {
     for _ in 0..u64::MAX {
         match listener.accept() {
-            Ok((stream, _)) => return Ok(TcpStream::from(stream)),
+            Ok((stream, from)) => {
+                return Ok(Came {
+                    stream: TcpStream::from(stream),
+                    from,
+                });
+            }
             Err(error) => {
                 if error.kind() != ErrorKind::ConnectionAborted {
                     return Err(error);
@@ -198,7 +223,7 @@ fn next_stream(listener: &TcpListener) -> io::Result<TcpStream> {
 }
 
 /// The next stream that comes in to a listener.
-fn accept_from(listener: &Option<TcpListener>) -> io::Result<TcpStream> {
+fn accept_from(listener: &Option<TcpListener>) -> io::Result<Came> {
     match listener {
         Some(listener) => next_stream(listener),
         None => Err(io::Error::from(ErrorKind::NotConnected)),
@@ -206,9 +231,9 @@ fn accept_from(listener: &Option<TcpListener>) -> io::Result<TcpStream> {
 }
 
 /// What the system answers to an accept, where it doesn't say that none waits.
-fn answer_of(listener: &Option<TcpListener>) -> Option<io::Result<TcpStream>> {
+fn answer_of(listener: &Option<TcpListener>) -> Option<io::Result<Came>> {
     match accept_from(listener) {
-        Ok(stream) => Some(Ok(stream)),
+        Ok(came) => Some(Ok(came)),
         Err(error) if error.kind() == ErrorKind::WouldBlock => None,
         Err(error) => Some(Err(error)),
     }
@@ -216,9 +241,9 @@ fn answer_of(listener: &Option<TcpListener>) -> Option<io::Result<TcpStream>> {
 
 /// What the system answered before, or answers now.
 fn next_answer(
-    came: &mut Option<io::Result<TcpStream>>,
+    came: &mut Option<io::Result<Came>>,
     listener: &Option<TcpListener>,
-) -> io::Result<TcpStream> {
+) -> io::Result<Came> {
     match came.take() {
         Some(answer) => answer,
         None => accept_from(listener),
@@ -236,6 +261,7 @@ impl<'a, R: net::Net + Eprint> Net for ReadyNet<'a, R> {
         let answer = told(self.rt, self.telling, Call::Bind(at), listened);
         match counted(&mut self.bind_faults, answer) {
             Ok(listener) => {
+                self.local = own_address(&listener);
                 self.listener = Some(listener);
                 Ok(())
             }
@@ -252,9 +278,13 @@ impl<'a, R: net::Net + Eprint> Net for ReadyNet<'a, R> {
         }
         let answer = next_answer(&mut self.came, &self.listener);
         match counted(&mut self.bind_faults, answer) {
-            Ok(stream) => {
+            Ok(came) => {
                 self.lent += 1;
-                Ok(ReadyLink::new(stream, true))
+                let ends = Ends {
+                    other: Some(came.from),
+                    local: self.local,
+                };
+                Ok(ReadyLink::new(came.stream, true, ends))
             }
             Err(Fault::Failed) => Err(Fault::Failed),
             Err(Fault::OutOfMemory) => Err(Fault::OutOfMemory),
@@ -273,7 +303,7 @@ impl<'a, R: net::Net + Eprint> Net for ReadyNet<'a, R> {
         match counted(&mut self.connect_faults, answer) {
             Ok(stream) => {
                 self.lent += 1;
-                Ok(ReadyLink::new(stream, false))
+                Ok(ReadyLink::new(stream, false, Ends::unknown()))
             }
             Err(Fault::Failed) => Err(Fault::Failed),
             Err(Fault::OutOfMemory) => Err(Fault::OutOfMemory),

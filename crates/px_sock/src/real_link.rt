@@ -5,7 +5,7 @@ ghost use Rattle.px_sock.specs.Untold.{socket_of};
 
 use crate::faults::{count, counted};
 use crate::linger::linger;
-use crate::pairs::pair_of;
+use crate::pairs::{Ends, pair_of};
 use crate::stream_calls::{read_open, sends_end, write_open};
 use px_link::{Close, Failed, Fault, Link};
 use px_peer::Pair;
@@ -119,6 +119,6 @@ impl<S: OpenStream> HasPair for RealLink<S> {
     ghost tells = { λ _ pair. IfSome pair IsPair };
 
     fn pair(&self) -> Option<Pair> {
-        pair_of(&self.stream)
+        pair_of(&self.stream, &Ends::unknown())
     }
 }
