@@ -3,9 +3,8 @@ import os
 import re
 import subprocess
 import sys
-import time
 
-from exchanges import RULES, configuration, free_port
+from exchanges import RULES, configuration, connected, free_port
 
 program, haproxy, work = sys.argv[1:4]
 TICK = 1e6 / os.sysconf("SC_CLK_TCK")
@@ -62,7 +61,8 @@ def measured(is_ours, connections, kept, size):
     name = written("it.cfg", text)
     run = started([program, "run", name, "--until-input-ends"] if is_ours else [haproxy, "-db", "-f", name])
     try:
-        time.sleep(0.5)
+        connected(back).close()
+        connected(front).close()
         loaded(front, connections, kept, 1)
         before = spent(run.pid)
         count, wrong = loaded(front, connections, kept, SECONDS)
