@@ -20,7 +20,7 @@ use std::os::fd::{AsRawFd, RawFd};
 /// A piece of so many bytes is kept for what follows at once. For shorter ones it isn't worth the calls that ask for it.
 const LONG: usize = 4096;
 
-/// So many bytes go in one segment over any path (RFC 9293 section 3.7.1).
+/// So many bytes go in one segment to a peer that announces no size of its own (RFC 9293 section 3.7.1). To one that announces less the end of such a piece waits until its front is acknowledged.
 const SEGMENT: usize = 536;
 
 /// How the system sends what is written. On a new stream it keeps the end of a piece until all that was sent is acknowledged (RFC 9293 section 3.7.4).
