@@ -250,8 +250,10 @@ fn conv_at<'t, P: Patterns>(
     let Some(call) = call_in(text) else {
         return Err(TextFault::Refused(TextKind::Expr));
     };
-    let conv = conv_of(alloc, call.name, call.args, pats)?;
-    Ok((conv, call.rest))
+    match conv_of(alloc, call.name, call.args, pats) {
+        Ok(conv) => Ok((conv, call.rest)),
+        Err(fault) => Err(fault),
+    }
 }
 
 /// What is behind a comma at the front, if there is one.

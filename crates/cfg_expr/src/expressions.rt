@@ -91,11 +91,14 @@ pub fn read_expr<P: Patterns>(
 ) -> Result<Expr, TextFault>
     ensures { ReadsText (λ expr. expr) (expr_of side text.now) (P.refusals pats.old) (P.refusals pats.new) (P.last_refused pats.new) result }
 {
-    let (expr, rest) = expr_at(alloc, side, text, pats)?;
-    if rest.is_empty() {
-        Ok(expr)
-    } else {
-        drop(expr);
-        Err(TextFault::Refused(TextKind::Expr))
+    match expr_at(alloc, side, text, pats) {
+        Ok((expr, rest)) => {
+            if rest.is_empty() {
+                return Ok(expr);
+            }
+            drop(expr);
+            Err(TextFault::Refused(TextKind::Expr))
+        }
+        Err(fault) => Err(fault),
     }
 }

@@ -3,7 +3,6 @@ use px_pattern::Pat;
 use px_sample::Text;
 
 /// A converter with its arguments (Configuration Manual, section 7.3.1).
-#[derive(Debug)]
 pub enum Conv {
     /// `lower`: ASCII letters in lower case.
     Lower,

@@ -5,4 +5,3 @@ pub mod Building
 pub mod Seeking
 pub mod Refusals
 pub mod Keeping
-pub mod Kept

@@ -9,16 +9,16 @@ use crate::Groups;
 use htx_model::OutOfMemory;
 use regex::bytes::{Matcher, Regex};
 use std::alloc::Global;
+use std::cell::Cell;
 use std::marker::Model;
 
 /// A pattern that was built. It does not change, and may be shared. Contracts see its text and whether it ignores case. What was
-/// built lives as long as the program, so that what searches for it names no lifetime. The number that its builder gave it says
-/// where a searcher for it is kept, and nothing else.
-#[derive(Debug)]
+/// built lives as long as the program, so that what searches for it names no lifetime. A searcher for it is kept with it, for all
+/// that share it: it changes what a search costs, and nothing else.
 pub struct Pat {
     regex: &'static Regex,
     icase: bool,
-    number: u32,
+    kept: &'static Cell<Option<Box<Searcher>>>,
 }
 
 impl Drop for Pat {
@@ -26,7 +26,7 @@ impl Drop for Pat {
         let Pat {
             regex: _,
             icase: _,
-            number: _,
+            kept: _,
         } = self;
     }
 }
@@ -73,23 +73,15 @@ impl Model for Searcher {
 }
 
 impl Pat {
-    pub(crate) fn new(
-        alloc: Global,
-        regex: Regex,
-        icase: bool,
-        number: u32,
-    ) -> Result<Pat, OutOfMemory>
+    pub(crate) fn new(alloc: Global, regex: Regex, icase: bool) -> Result<Pat, OutOfMemory>
         requires config { regex_config regex ≡ options icase }
         requires source { IsReadFromSource regex }
         ensures value { IfOk result (λ pat. pat ≡ record { text = regex_source regex; icase = icase }) }
         ensures read { IfOk result IsPattern }
     {
         let regex = Box::leak(Box::new(alloc, regex)?);
-        Ok(Pat {
-            regex,
-            icase,
-            number,
-        })
+        let kept = Box::leak(Box::new(alloc, Cell::new(None))?);
+        Ok(Pat { regex, icase, kept })
     }
 
     /// The same pattern again, which is not built anew.
@@ -99,7 +91,7 @@ impl Pat {
         Pat {
             regex: self.regex,
             icase: self.icase,
-            number: self.number,
+            kept: self.kept,
         }
     }
 
@@ -117,9 +109,14 @@ impl Pat {
         self.icase
     }
 
-    /// Where a searcher for it is kept.
-    pub(crate) fn number(&self) -> usize {
-        self.number as usize
+    /// Takes the searcher that is kept with it: none before the first search, and while one is made with it.
+    pub(crate) fn lend_searcher(&self) -> Option<Box<Searcher>> {
+        self.kept.take()
+    }
+
+    /// Keeps a searcher for the next search.
+    pub(crate) fn keep_searcher(&self, searcher: Box<Searcher>) {
+        self.kept.set(Some(searcher));
     }
 
     /// What searches for the pattern in several texts.

@@ -14,7 +14,6 @@ use std::marker::Model;
 /// each that is no UTF-8. A copy of the last refused text is kept; where there is no memory for it, the build
 /// ends with want of memory and is no refusal.
 pub struct RealPatterns {
-    next: u32,
     refusals: u64,
     last: Option<KeptText>,
 }
@@ -22,7 +21,6 @@ pub struct RealPatterns {
 impl Drop for RealPatterns {
     fn drop(self) {
         let RealPatterns {
-            next: _,
             refusals: _,
             last: _,
         } = self;
@@ -44,7 +42,6 @@ impl RealPatterns {
         ensures last { result.last ≡ None }
     {
         RealPatterns {
-            next: 0,
             refusals: 0,
             last: None,
         }
@@ -86,11 +83,9 @@ impl Patterns for RealPatterns {
         let Ok(source) = std::str::from_utf8(text) else {
             return self.refuse(alloc, text, icase);
         };
-        let number = self.next;
-        self.next = number.saturating_add(1);
         let builder = RegexBuilder::new(source).case_insensitive(icase);
         match builder.build_bytes(alloc) {
-            Ok(regex) => match Pat::new(alloc, regex, icase, number) {
+            Ok(regex) => match Pat::new(alloc, regex, icase) {
                 Ok(pat) => Ok(pat),
                 Err(_) => Err(PatFault::OutOfMemory),
             },

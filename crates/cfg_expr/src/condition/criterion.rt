@@ -87,12 +87,15 @@ fn convs_to_end<P: Patterns>(
 ) -> Result<ConvList, TextFault>
     ensures { ReadsText (λ convs. convs) (convs_to_end text.now) (P.refusals pats.old) (P.refusals pats.new) (P.last_refused pats.new) result }
 {
-    let (convs, rest) = read_convs(alloc, text, pats)?;
-    if rest.is_empty() {
-        Ok(convs)
-    } else {
-        drop(convs);
-        Err(TextFault::Refused(TextKind::Expr))
+    match read_convs(alloc, text, pats) {
+        Ok((convs, rest)) => {
+            if rest.is_empty() {
+                return Ok(convs);
+            }
+            drop(convs);
+            Err(TextFault::Refused(TextKind::Expr))
+        }
+        Err(fault) => Err(fault),
     }
 }
 

@@ -85,7 +85,7 @@ impl<'c> SessionRules<'c> {
         })
     }
 
-    /// As new ones for a session of this peer, in the same memory and with the searchers that were made: the variables are those
+    /// As new ones for a session of this peer, in the same memory: the variables are those
     /// of the peer, nothing is said. The buffer is for the address.
     #[tactic(auto, using(crate::proofs::RulesLemmas::Peers::peers))]
     pub fn renew_for(&mut self, peer: Option<Peer>, text: &mut Buf)

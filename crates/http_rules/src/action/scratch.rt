@@ -5,7 +5,7 @@ use px_expr::Searchers;
 use px_sample::{Buf, OutOfMemory};
 use std::alloc::Global;
 
-/// Buffers of the array's size, in which texts are made, and searchers for the patterns of rules. What they hold between two calls
+/// Buffers of the array's size, in which texts are made, and what searches for the patterns of rules. What they hold between two calls
 /// changes nothing of what rules come to.
 pub struct Scratch {
     pub searchers: Searchers,
@@ -30,7 +30,7 @@ impl Drop for Scratch {
 ghost use Rattle.http_rules.specs.Action.Outcome.{IsScratch};
 
 impl Scratch {
-    /// Buffers for arrays of this size, and no searcher yet. Beside searches for patterns, this call alone takes memory.
+    /// Buffers for arrays of this size. Beside searches for patterns, this call alone takes memory.
     pub fn new(alloc: Global, size: u32) -> Result<Scratch, OutOfMemory>
         ensures { IfOk result (IsScratch size) }
     {
