@@ -114,7 +114,15 @@ fn say_conv(conv: &Conv, answers: &mut Answers) {
         Conv::Div(number) => say_counted(b"Div", *number, None, answers),
         Conv::Mod(number) => say_counted(b"Mod", *number, None, answers),
         Conv::Regsub(pat, template, which) => say_regsub(pat, template, *which, answers),
-        _ => answers.more_name(conv),
+        Conv::Lower => answers.more(b"Lower"),
+        Conv::Upper => answers.more(b"Upper"),
+        Conv::Length => answers.more(b"Length"),
+        Conv::Neg => answers.more(b"Neg"),
+        Conv::Not => answers.more(b"Not"),
+        Conv::Bool => answers.more(b"Bool"),
+        Conv::Base64 => answers.more(b"Base64"),
+        Conv::Hex => answers.more(b"Hex"),
+        Conv::UrlDec => answers.more(b"UrlDec"),
     }
 }
 
