@@ -12,8 +12,6 @@ use Rattle.session_core.specs.Stands.{IsBehind, Serves, IsServing, InPhase, Hold
 use Rattle.session_core.specs.declared.machine.At.{At}
 use Rattle.session_core.specs.declared.Phase.{Phase}
 use Rattle.session_core.specs.declared.Phase.TheVariants as phase
-use Rattle.http_model.specs.declared.Source.{Source}
-use Rattle.http_model.specs.declared.Source.TheVariants as source
 use Rattle.session_core.proofs.Streams.{continues_gains, continues_ends}
 
 pub holds_at : (M : Meaning) (at : At) (q r : RequestSeen) (a b : AnswerSeen) (p : Sided M) (past : Past)

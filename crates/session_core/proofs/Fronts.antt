@@ -11,7 +11,6 @@ use Rattle.session_model.specs.Session.{Exchange, Follow, first_bit, interim_tex
 use Rattle.session_core.specs.History.{Connect, Continues, ContinuesServer, IsPrefix, IsFrontOf, Fronts, BitFits, sent_of}
 use Rattle.session_model.specs.Answering.{sent_interim}
 use Rattle.http_model.specs.declared.Source.{Source}
-use Rattle.http_model.specs.declared.Source.TheVariants as source
 use Rattle.session_core.specs.Sided.{Sided, asker_in, RequestSeen, AnswerSeen, RequestGoes, AnswerGoes, is_all, IsBefore, IsTurned, SourceIs}
 use Rattle.session_core.specs.Stands.{One, Serves}
 use Rattle.session_core.specs.Consequences.{IsTotal}

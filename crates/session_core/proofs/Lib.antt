@@ -16,6 +16,7 @@ mod Opening
 mod Working
 mod Answering
 mod Turning
+mod Resting
 mod Finals
 mod Served
 mod Noting

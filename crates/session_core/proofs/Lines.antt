@@ -1,8 +1,8 @@
 -- The request line of the exchange in hand.
-use Rattle.std.proofs.Common.{◌≡◌, ℕ, List, [], ◌++◌, Bool, true, false, Option, None, append_assoc, sym, ap, ◌∙◌, subst, inl, inr}
+use Rattle.std.proofs.Common.{◌≡◌, ℕ, List, Bool, true, false, Option, None, append_assoc, sym, ap, ◌∙◌, subst, inl, inr}
 use Rattle.http_model.specs.declared.Ending.{Ending}
 use Rattle.session_model.specs.Meaning.{Meaning}
-use Rattle.session_core.specs.History.{Past, Coming, gains, ends, prepended}
+use Rattle.session_core.specs.History.{Past, Coming, gains, ends}
 use Rattle.session_core.specs.Sided.{Sided, RequestSeen, AnswerSeen}
 use Rattle.session_core.specs.Place.{Place, Reads, Opens, Serves, Says, Replies, Ends, is_reading, IsPlaced}
 use Rattle.session_core.specs.InHand.{ExchangesAre}

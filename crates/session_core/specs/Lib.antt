@@ -16,6 +16,7 @@ pub mod Drives
 pub mod Place
 pub mod Lending
 pub mod Leads
+pub mod Resting
 pub mod Waits
 pub mod Lanes
 pub mod Lines

@@ -1,5 +1,5 @@
 //! A core: its two directions, and where it stands in its session.
-ghost use Rattle.std.specs.Prelude.{◌≡◌, Option, Bool, false};
+ghost use Rattle.std.specs.Prelude.{◌≡◌, Option, Bool, true, false};
 ghost use Rattle.session_core.specs.History.{Past, nothing_yet};
 ghost use Rattle.session_core.specs.Waits.{is_serving};
 ghost use Rattle.session_core.specs.Sided.{Sided, HoldsList};
@@ -7,6 +7,7 @@ ghost use Rattle.session_core.specs.Place as place;
 ghost use Rattle.session_core.specs.Place.{IsPlaced};
 ghost use Rattle.session_core.specs.Leads.{Stands, IsFresh};
 ghost use Rattle.session_core.specs.Statuses.{status_in};
+ghost use Rattle.session_core.specs.Resting.{IsRested};
 ghost use Rattle.px_peer.specs.declared.Peer.{Peer};
 
 use crate::Phase;
@@ -162,6 +163,25 @@ impl<S: Works> Core<S> {
         }
     }
 
+    /// Whether it rests between two exchanges, with nothing to be kept but its count of exchanges: one that is made anew with that count (`resume_for`)
+    /// stands for its history.
+    pub fn rests(&self) -> bool
+        requires placed { IsPlaced (S.placed self.now.sides) (S.answer self.now.sides) self.now.at.phase self.now.at.cut }
+        ensures rested { result ≡ true → IsRested S.meaning S.answer S.stands self.now.sides self.now.at }
+        ensures idle { result ≡ true → is_serving self.now.at.phase ≡ false }
+    {
+        match self.at.phase {
+            Phase::Reading => !self.sides.has_to_client() && self.sides.is_untouched(),
+            Phase::Opening => false,
+            Phase::Unserved => false,
+            Phase::Serving => false,
+            Phase::Served => false,
+            Phase::Refusing => false,
+            Phase::Replying(_) => false,
+            Phase::Over(_) => false,
+        }
+    }
+
     /// The bytes that wait for the server, to be read alone.
     pub fn to_server(&mut self) -> &mut [u8]
         requires placed { IsPlaced (S.placed self.old.sides) (S.answer self.old.sides) self.old.at.phase self.old.at.cut }
@@ -206,6 +226,26 @@ impl<S: RenewableFor> Core<S> {
             phase: Phase::Reading,
             cut: None,
             exchanges: 0,
+        };
+    }
+
+    /// It stands for what a core stood for that rested, of a connection of this peer and with so many exchanges: in the same memory, for the same
+    /// configuration. It takes no memory.
+    pub fn resume_for(&mut self, peer: Option<Peer>, exchanges: u32)
+        requires placed { IsPlaced (S.placed self.old.sides) (S.answer self.old.sides) self.old.at.phase self.old.at.cut }
+        ensures placed { IsPlaced (S.placed self.new.sides) (S.answer self.new.sides) self.new.at.phase self.new.at.cut }
+        ensures stands { (cfg : S.Settings) (other : Option Peer) (before : Past) → Stands (S.meaning (S.for_peer cfg other)) S.request S.answer (S.stands (S.for_peer cfg other)) self.old.sides self.old.at before
+            → (rested : Core S) (past : Past) → Stands (S.meaning (S.for_peer cfg peer)) S.request S.answer (S.stands (S.for_peer cfg peer)) rested.sides rested.at past
+            → IsRested S.meaning S.answer S.stands rested.sides rested.at → rested.at.exchanges ≡ exchanges
+            → Stands (S.meaning (S.for_peer cfg peer)) S.request S.answer (S.stands (S.for_peer cfg peer)) self.new.sides self.new.at past }
+        ensures idle { is_serving self.new.at.phase ≡ false }
+        ensures lost { self.new.lost ≡ self.old.lost }
+    {
+        self.sides.renew_for(peer);
+        self.at = At {
+            phase: Phase::Reading,
+            cut: None,
+            exchanges,
         };
     }
 }

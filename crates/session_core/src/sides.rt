@@ -9,6 +9,7 @@ ghost use Rattle.session_core.specs.Waits.{is_empty};
 ghost use Rattle.session_core.specs.Place as place;
 ghost use Rattle.session_core.specs.Place.{Place, is_saying, place_behind, IsSomewhere, IsAtServer, Stay};
 ghost use Rattle.session_core.specs.Lending.{LendsText};
+ghost use Rattle.session_core.specs.Resting.{IsUntouched};
 ghost use Rattle.session_core.specs.Lines.{IsLineOf, LineAt};
 ghost use Rattle.session_core.specs.Statuses.{StatusAt};
 ghost use Rattle.session_core.specs.Leads.{StepsRequest, KeepsRequest, StepsAnswer, AnswerWaits, Says, Refuses, Turns, AsksTo, AskKeeps, Renews, RenewsReplied};
@@ -98,6 +99,12 @@ pub trait Works {
     fn has_heard(&self) -> bool
         requires placed { IsSomewhere (placed self.now) }
         ensures { result ≡ (answer self.now).heard };
+
+    /// In front of a head: of the client's stream nothing has come since the exchange before, and the variables are those with which a session begins.
+    /// It may also answer false where that is so.
+    fn is_untouched(&self) -> bool
+        requires placed { placed self.now place.Reads }
+        ensures untouched { result ≡ true → (cfg : Self.Settings) (p : Sided (meaning cfg)) → stands cfg self.now p → IsUntouched (meaning cfg) p };
 
     /// The status of the last that answers, once it is known which that is.
     fn status(&self) -> Option<u16>
