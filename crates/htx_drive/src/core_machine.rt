@@ -12,6 +12,7 @@ impl<S: Works> Machine for Core<S> {
 
     ghost use Rattle.session_core.specs.Leads.{Stands};
     ghost use Rattle.session_core.specs.Place.{IsPlaced};
+    ghost use Rattle.session_core.specs.Resting.{IsRested};
     ghost use Rattle.htx_drive.specs.Cores.{core_seen, core_means, core_says, core_noted, core_tells, core_closes, core_over, core_front, core_lends};
 
     ghost meaning = { S.meaning };
@@ -21,6 +22,8 @@ impl<S: Works> Machine for Core<S> {
     ghost seen = { λ core. core_seen (S.request core.sides) (S.answer core.sides) core.at core.lost };
 
     ghost sound = { λ core. IsPlaced (S.placed core.sides) (S.answer core.sides) core.at.phase core.at.cut };
+
+    ghost rested = { λ core. IsRested S.meaning S.answer S.stands core.sides core.at };
 
     ghost with_to_client = { λ core text. record core { sides = S.with_to_client core.sides text } };
 
@@ -53,6 +56,10 @@ impl<S: Works> Machine for Core<S> {
 
     fn exchanges(&self) -> u32 {
         self.exchanges()
+    }
+
+    fn rests(&self) -> bool {
+        self.rests()
     }
 
     fn request_line(&self) -> &[u8] {
@@ -141,5 +148,9 @@ impl<S: RenewableFor> ResetsFor for Core<S> {
 
     fn reset_for(&mut self, peer: Option<Peer>) {
         self.reset_for(peer);
+    }
+
+    fn resume_for(&mut self, peer: Option<Peer>, exchanges: u32) {
+        self.resume_for(peer, exchanges);
     }
 }

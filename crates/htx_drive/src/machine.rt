@@ -28,6 +28,9 @@ pub trait Machine {
     /// It may be called: it is so from its making on, until `work` finds no memory.
     ghost sound: { Self → Type 0 };
 
+    /// It rests between two exchanges: nothing of a further request has come, and nothing of it is to be kept but its count of exchanges.
+    ghost rested: { Self → Type 0 };
+
     /// It is so, with this text in place of the one that waits for the client, or for the server.
     ghost with_to_client: { Self → List ℕ → Self };
 
@@ -62,6 +65,12 @@ pub trait Machine {
 
     fn exchanges(&self) -> u32
         ensures { result ≡ (seen self.now).exchanges };
+
+    /// Whether it rests, as far as it can tell: no server is open then.
+    fn rests(&self) -> bool
+        requires sound { sound self.now }
+        ensures rested { result ≡ true → rested self.now }
+        ensures idle { result ≡ true → (seen self.now).serving ≡ false };
 
     /// The method, one space and the target of the request in hand, as they were received.
     fn request_line(&self) -> &[u8]

@@ -27,4 +27,12 @@ pub trait ResetsFor: Resets {
         ensures sound { Self.sound self.new }
         ensures idle { (Self.seen self.new).serving ≡ false }
         ensures stands { (cfg : Self.Settings) (other : Option Peer) (past : Past) → Self.stands (for_peer cfg other) self.old past → Self.stands (for_peer cfg peer) self.new nothing_yet };
+
+    /// It goes on, for the same configuration and a connection of this peer, where one rested with so many exchanges: whatever that stood for, it stands for. It takes no memory.
+    fn resume_for(&mut self, peer: Option<Peer>, exchanges: u32)
+        requires sound { Self.sound self.old }
+        ensures sound { Self.sound self.new }
+        ensures idle { (Self.seen self.new).serving ≡ false }
+        ensures stands { (cfg : Self.Settings) (other : Option Peer) (before : Past) → Self.stands (for_peer cfg other) self.old before → (rested : Self) (past : Past) → Self.stands (for_peer cfg peer) rested past → Self.rested rested
+            → (Self.seen rested).exchanges ≡ exchanges → Self.stands (for_peer cfg peer) self.new past };
 }
