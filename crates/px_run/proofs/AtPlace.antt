@@ -25,9 +25,9 @@ pub looked_at_none : {C L N : Type 0} (at : Option (Connection C L N)) → at �
 looked_at_none None e = λ number ran. refl
 looked_at_none (Some c) e = cc
 
-module _ {C L N : Type 0} (M : Option Pair → Meaning) (stands : Option Pair → C → Past → Type 0) (sees : C → CoreSeen) (sound : C → Type 0) (seen : L → Seen) (wrote : L → List ℕ → Type 0) (tells : L → Option Pair → Type 0) (accepts_header : Bool) (opening : Opening) (sees_net : N → NetSeen) (to : Place) where
-  pub gave_up_some : (old_net net : NetSeen) (at : Option (Connection C L N)) (c : Connection C L N) → at ≡ Some c → GaveUp M stands sees sound seen wrote tells accepts_header opening sees_net to old_net net c → GaveUpAt M stands sees sound seen wrote tells accepts_header opening sees_net to old_net net at
-  gave_up_some old_net net at c e h = subst (λ (o : Option (Connection C L N)). GaveUpAt M stands sees sound seen wrote tells accepts_header opening sees_net to old_net net o) (sym e) h
+module _ {C L N : Type 0} (M : Option Pair → Meaning) (stands : Option Pair → C → Past → Type 0) (sees : C → CoreSeen) (sound rested : C → Type 0) (seen : L → Seen) (wrote : L → List ℕ → Type 0) (tells : L → Option Pair → Type 0) (accepts_header : Bool) (opening : Opening) (sees_net : N → NetSeen) (to : Place) where
+  pub gave_up_some : (old_net net : NetSeen) (at : Option (Connection C L N)) (c : Connection C L N) → at ≡ Some c → GaveUp M stands sees sound rested seen wrote tells accepts_header opening sees_net to old_net net c → GaveUpAt M stands sees sound rested seen wrote tells accepts_header opening sees_net to old_net net at
+  gave_up_some old_net net at c e h = subst (λ (o : Option (Connection C L N)). GaveUpAt M stands sees sound rested seen wrote tells accepts_header opening sees_net to old_net net o) (sym e) h
 
-  pub gave_up_none : (net : NetSeen) (at : Option (Connection C L N)) → at ≡ None → GaveUpAt M stands sees sound seen wrote tells accepts_header opening sees_net to net net at
-  gave_up_none net at e = subst (λ (o : Option (Connection C L N)). GaveUpAt M stands sees sound seen wrote tells accepts_header opening sees_net to net net o) (sym e) refl
+  pub gave_up_none : (net : NetSeen) (at : Option (Connection C L N)) → at ≡ None → GaveUpAt M stands sees sound rested seen wrote tells accepts_header opening sees_net to net net at
+  gave_up_none net at e = subst (λ (o : Option (Connection C L N)). GaveUpAt M stands sees sound rested seen wrote tells accepts_header opening sees_net to net net o) (sym e) refl

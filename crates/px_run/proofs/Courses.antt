@@ -106,6 +106,27 @@ module _ {C L : Type 0} (M : Meaning) (stands : C → Past → Type 0) (sees : C
   asked_goes core was client before server prior net s t e g =
       (g.0, λ ahead. let h = g.1 ahead in (h.0, runs_same seen wrote (StandsIn stands sees (g.0 ++ ahead) ahead h.0 0 core) first was client before server to first_net prior net h.0 s t e h.1))
 
+  -- ---- by another core
+
+  -- its session is under way with this core too, since that stands for the same
+  pub goes_as : (old core : C) (client : L) (server : Option L) (net : NetSeen) → ((past : Past) → stands old past → stands core past)
+      → GoesOn stands sees old seen wrote first client server to first_net net → GoesOn stands sees core seen wrote first client server to first_net net
+  goes_as old core client server net f g = (
+    g.0,
+    λ ahead.
+        let h = g.1 ahead in (
+          h.0,
+          runs_as (StandsIn stands sees (g.0 ++ ahead) ahead h.0 0 old) (StandsIn stands sees (g.0 ++ ahead) ahead h.0 0 core) seen wrote first client server to first_net net h.0
+              (λ past s. record { stand = f past s.stand; worked = s.worked; turned = s.turned; paid = s.paid }) h.1,
+        ),
+  )
+
+  pub goes_stands : (core : C) (client : L) (server : Option L) (net : NetSeen) → GoesOn stands sees core seen wrote first client server to first_net net → StandsSomehow stands core
+  goes_stands core client server net g =
+      let h = g.1 [] in
+      let s = runs_stands (StandsIn stands sees (g.0 ++ []) [] h.0 0 core) seen wrote first client server to first_net net h.0 h.1 in
+      (s.0, s.1.stand)
+
   -- ---- by a step
 
   stood : (all ahead : List Turn) (count : ℕ) (core : C) (past : Past) → WorkedIn stands sees all ahead count 0 core past → StandsIn stands sees all ahead count 0 core past

@@ -16,15 +16,18 @@ use Rattle.htx_drive.specs.Weave.Outcome.{Dropped, Untouched, LeftAt}
 use Rattle.htx_drive.specs.Weave.Woven.{GivenUp}
 use Rattle.htx_drive.specs.declared.Ran.{Ran}
 use Rattle.htx_drive.specs.declared.SessionFault.{SessionFault}
-use Rattle.px_run.specs.Course.{IsSame, WasLeft, EndedOrLeft}
+use Rattle.px_run.specs.Course.{IsSame, GoesOn, WasLeft, EndedOrLeft}
 use Rattle.px_run.specs.Connection.{IsAt}
+use Rattle.px_run.specs.declared.held.Held.{Held}
+use Rattle.px_run.specs.declared.held.Held.TheVariants as helds
 use Rattle.px_run.proofs.Asked.{same_link}
 
-module _ {C L : Type 0} (M : Meaning) (stands : C → Past → Type 0) (sees : C → CoreSeen) (sound : C → Type 0) (seen : L → Seen) (wrote : L → List ℕ → Type 0) (to : Place) where
+module _ {C L : Type 0} (M : Meaning) (stands : C → Past → Type 0) (sees : C → CoreSeen) (sound rested : C → Type 0) (seen : L → Seen) (wrote : L → List ℕ → Type 0) (to : Place) where
   -- a server's link that is open was lent
-  pub lent_at : (first client : L) (server : Option L) (first_net net : NetSeen) (ran : Option (Result Ran SessionFault)) (held : Option C) → ran ≡ None → IsAt M stands sees sound seen wrote first client server to first_net net ran held → IsLent server net.lent
-  lent_at first client server first_net net None None e h = λ s. absurd (false≢true (ap is_some (sym h.no_server) ∙ s))
-  lent_at first client server first_net net None (Some core) e h = h.may.lent
+  pub lent_at : (first client : L) (server : Option L) (first_net net : NetSeen) (ran : Option (Result Ran SessionFault)) (held : Held C) → ran ≡ None → IsAt M stands sees sound rested seen wrote first client server to first_net net ran held → IsLent server net.lent
+  lent_at first client server first_net net None helds.Nothing e h = λ s. absurd (false≢true (ap is_some (sym h.no_server) ∙ s))
+  lent_at first client server first_net net None (helds.Rest exchanges) e h = λ s. absurd (false≢true (ap is_some (sym h.no_server) ∙ s))
+  lent_at first client server first_net net None (helds.Core core) e h = h.may.lent
   lent_at first client server first_net net (Some ran) held e h = cc
 
   -- the same from the link that was accepted, of which nothing was touched
@@ -52,16 +55,22 @@ module _ {C L : Type 0} (M : Meaning) (stands : C → Past → Type 0) (sees : C
   left_from first was client first_net old net turns count s e (inr u) =
       inr (record { closed = u.closed ∙ ap (λ k. with_close k Failed) s.told; written = λ bytes w. u.written bytes (s.written bytes w); same_net = u.same_net ∙ e; paid_none = refl })
 
-  pub left_at : (first was client : L) (server behind : Option L) (first_net old net : NetSeen) (ran : Option (Result Ran SessionFault)) (held : Option C) → ran ≡ None
+  -- its session was under way, with this core
+  left_going : (first was client : L) (server behind : Option L) (first_net old net : NetSeen) (core : C)
       → ((turns : List Turn) (count : ℕ) → Halted M stands sees turns seen wrote first was server to first_net old None count → LeftAt M stands sees turns seen wrote first client behind to first_net net None count)
-      → ((turns : List Turn) (count : ℕ) → Halted M stands sees turns seen wrote was was server to old old None count → LeftAt M stands sees turns seen wrote was client behind to old net None count)
-      → IsAt M stands sees sound seen wrote first was server to first_net old ran held → EndedOrLeft M stands sees seen wrote first client to first_net net ran
-  left_at first was client server behind first_net old net None None e step idle h =
-      let l = idle [] 0 (inl (record { same_client = refl; same_net = refl; no_server = h.no_server; paid_none = refl })) in
-      left_from first was client first_net old net [] 0 h.same h.same_net l.1
-  left_at first was client server behind first_net old net None (Some core) e step idle h =
-      let g = h.goes in
+      → GoesOn stands sees core seen wrote first was server to first_net old → WasLeft M stands sees seen wrote first client to first_net net
+  left_going first was client server behind first_net old net core step g =
       let k = g.1 [] in
       let l = step (g.0 ++ []) k.0 (inr (inl (record { waited = 0; ahead = []; core = core; going = k.1 }))) in
       left_from first first client first_net first_net net (g.0 ++ []) k.0 (same_link seen wrote first) refl l.1
+
+  pub left_at : (first was client : L) (server behind : Option L) (first_net old net : NetSeen) (ran : Option (Result Ran SessionFault)) (held : Held C) → ran ≡ None
+      → ((turns : List Turn) (count : ℕ) → Halted M stands sees turns seen wrote first was server to first_net old None count → LeftAt M stands sees turns seen wrote first client behind to first_net net None count)
+      → ((turns : List Turn) (count : ℕ) → Halted M stands sees turns seen wrote was was server to old old None count → LeftAt M stands sees turns seen wrote was client behind to old net None count)
+      → IsAt M stands sees sound rested seen wrote first was server to first_net old ran held → EndedOrLeft M stands sees seen wrote first client to first_net net ran
+  left_at first was client server behind first_net old net None helds.Nothing e step idle h =
+      let l = idle [] 0 (inl (record { same_client = refl; same_net = refl; no_server = h.no_server; paid_none = refl })) in
+      left_from first was client first_net old net [] 0 h.same h.same_net l.1
+  left_at first was client server behind first_net old net None (helds.Rest exchanges) e step idle h = left_going first was client server behind first_net old net h.core step h.goes
+  left_at first was client server behind first_net old net None (helds.Core core) e step idle h = left_going first was client server behind first_net old net core step h.goes
   left_at first was client server behind first_net old net (Some ran) held e step idle h = cc

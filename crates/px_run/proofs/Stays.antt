@@ -20,6 +20,7 @@ use Rattle.px_run.specs.Callers.{IsAtFor, CameBack}
 use Rattle.px_run.specs.Lines.{outcomes_in, said_of, ended_by}
 use Rattle.px_run.specs.History.{Visit, new_visit, numbered, change_numbered, came_to, given_back, links_back, outcomes_of, open_in, count_open, IsVisit, EndsByItself}
 use Rattle.px_run.specs.Hall.{IsOf, IsPlaced, IsAsked, LookedAt, IsHere, AllStand, Advances, advanced, taken_at, count_taken}
+use Rattle.px_run.specs.declared.held.Held.{Held}
 use Rattle.px_run.specs.declared.caller.Caller.{Caller}
 use Rattle.px_run.specs.declared.connection.Connection.{Connection}
 use Rattle.px_run.specs.declared.connection.Looked.{Looked}
@@ -31,23 +32,23 @@ use Rattle.px_run.proofs.ToldSo.{keeps_same, keeps_changed}
 use Rattle.px_run.proofs.Texts.{looked_says, looked_other, looked_keeps, idle_says}
 use Rattle.px_run.specs.declared.plan.Opening.{Opening}
 
-module _ {C L N : Type 0} (M : Option Pair → Meaning) (stands : Option Pair → C → Past → Type 0) (sees : C → CoreSeen) (sound : C → Type 0) (seen : L → Seen) (wrote : L → List ℕ → Type 0) (tells : L → Option Pair → Type 0) (accepts_header : Bool) (opening : Opening) (sees_net : N → NetSeen) (to : Place) where
+module _ {C L N : Type 0} (M : Option Pair → Meaning) (stands : Option Pair → C → Past → Type 0) (sees : C → CoreSeen) (sound rested : C → Type 0) (seen : L → Seen) (wrote : L → List ℕ → Type 0) (tells : L → Option Pair → Type 0) (accepts_header : Bool) (opening : Opening) (sees_net : N → NetSeen) (to : Place) where
   -- ---- one connection
 
   -- the connection that stands there
-  pub placed_is : (visits : List (Visit L N)) (at : Option (Connection C L N)) (c : Connection C L N) → at ≡ Some c → IsPlaced M stands sees sound seen wrote tells accepts_header opening sees_net to visits at → IsOf M stands sees sound seen wrote tells accepts_header opening sees_net to visits c
-  placed_is visits at c e h = let P : Option (Connection C L N) → Type 0 = λ o. IsPlaced M stands sees sound seen wrote tells accepts_header opening sees_net to visits o in subst P e h
+  pub placed_is : (visits : List (Visit L N)) (at : Option (Connection C L N)) (c : Connection C L N) → at ≡ Some c → IsPlaced M stands sees sound rested seen wrote tells accepts_header opening sees_net to visits at → IsOf M stands sees sound rested seen wrote tells accepts_header opening sees_net to visits c
+  placed_is visits at c e h = let P : Option (Connection C L N) → Type 0 = λ o. IsPlaced M stands sees sound rested seen wrote tells accepts_header opening sees_net to visits o in subst P e h
 
   -- of the visits, the one of its number is the same
-  pub of_same : (old new : List (Visit L N)) (c : Connection C L N) → numbered c.number new ≡ numbered c.number old → IsOf M stands sees sound seen wrote tells accepts_header opening sees_net to old c → IsOf M stands sees sound seen wrote tells accepts_header opening sees_net to new c
+  pub of_same : (old new : List (Visit L N)) (c : Connection C L N) → numbered c.number new ≡ numbered c.number old → IsOf M stands sees sound rested seen wrote tells accepts_header opening sees_net to old c → IsOf M stands sees sound rested seen wrote tells accepts_header opening sees_net to new c
   of_same old new c e h = record { visit = h.visit; is = e ∙ h.is; here = h.here; came = h.came; at = h.at }
 
-  of_asked : (visits : List (Visit L N)) (b c : Connection C L N) → IsAsked seen wrote sees_net b c → IsOf M stands sees sound seen wrote tells accepts_header opening sees_net to visits b → IsOf M stands sees sound seen wrote tells accepts_header opening sees_net to visits c
+  of_asked : (visits : List (Visit L N)) (b c : Connection C L N) → IsAsked seen wrote sees_net b c → IsOf M stands sees sound rested seen wrote tells accepts_header opening sees_net to visits b → IsOf M stands sees sound rested seen wrote tells accepts_header opening sees_net to visits c
   of_asked visits b c a h =
-      let asked = for_asked M stands sees sound seen wrote tells accepts_header opening sees_net h.visit.first to (sees_net h.visit.own) b.caller b.conn.client c.conn.client b.conn.server c.conn.server (sees_net b.conn.net) (sees_net c.conn.net) b.conn.ran b.core a.client a.server a.net h.at in
-      let P : Option (Result Ran SessionFault) → Type 0 = λ o. IsAtFor M stands sees sound seen wrote tells accepts_header opening sees_net h.visit.first b.caller c.conn.client c.conn.server to (sees_net h.visit.own) (sees_net c.conn.net) o b.core in
-      let Q : Option C → Type 0 = λ o. IsAtFor M stands sees sound seen wrote tells accepts_header opening sees_net h.visit.first b.caller c.conn.client c.conn.server to (sees_net h.visit.own) (sees_net c.conn.net) c.conn.ran o in
-      let R : Caller → Type 0 = λ o. IsAtFor M stands sees sound seen wrote tells accepts_header opening sees_net h.visit.first o c.conn.client c.conn.server to (sees_net h.visit.own) (sees_net c.conn.net) c.conn.ran c.core in
+      let asked = for_asked M stands sees sound rested seen wrote tells accepts_header opening sees_net h.visit.first to (sees_net h.visit.own) b.caller b.conn.client c.conn.client b.conn.server c.conn.server (sees_net b.conn.net) (sees_net c.conn.net) b.conn.ran b.core a.client a.server a.net h.at in
+      let P : Option (Result Ran SessionFault) → Type 0 = λ o. IsAtFor M stands sees sound rested seen wrote tells accepts_header opening sees_net h.visit.first b.caller c.conn.client c.conn.server to (sees_net h.visit.own) (sees_net c.conn.net) o b.core in
+      let Q : Held C → Type 0 = λ o. IsAtFor M stands sees sound rested seen wrote tells accepts_header opening sees_net h.visit.first b.caller c.conn.client c.conn.server to (sees_net h.visit.own) (sees_net c.conn.net) c.conn.ran o in
+      let R : Caller → Type 0 = λ o. IsAtFor M stands sees sound rested seen wrote tells accepts_header opening sees_net h.visit.first o c.conn.client c.conn.server to (sees_net h.visit.own) (sees_net c.conn.net) c.conn.ran c.core in
       record {
         visit = h.visit;
         is = ap (λ n. numbered n visits) a.number ∙ h.is;
@@ -58,16 +59,16 @@ module _ {C L N : Type 0} (M : Option Pair → Meaning) (stands : Option Pair �
 
   -- it was looked at
   pub of_looked : (visits : List (Visit L N)) (b c : Connection C L N) → c.number ≡ b.number
-      → ((first : L) (own : N) → IsAtFor M stands sees sound seen wrote tells accepts_header opening sees_net first b.caller b.conn.client b.conn.server to (sees_net own) (sees_net b.conn.net) b.conn.ran b.core → IsAtFor M stands sees sound seen wrote tells accepts_header opening sees_net first c.caller c.conn.client c.conn.server to (sees_net own) (sees_net c.conn.net) c.conn.ran c.core)
-      → IsOf M stands sees sound seen wrote tells accepts_header opening sees_net to visits b → IsOf M stands sees sound seen wrote tells accepts_header opening sees_net to (change_numbered (came_to c.conn.ran) c.number visits) c
+      → ((first : L) (own : N) → IsAtFor M stands sees sound rested seen wrote tells accepts_header opening sees_net first b.caller b.conn.client b.conn.server to (sees_net own) (sees_net b.conn.net) b.conn.ran b.core → IsAtFor M stands sees sound rested seen wrote tells accepts_header opening sees_net first c.caller c.conn.client c.conn.server to (sees_net own) (sees_net c.conn.net) c.conn.ran c.core)
+      → IsOf M stands sees sound rested seen wrote tells accepts_header opening sees_net to visits b → IsOf M stands sees sound rested seen wrote tells accepts_header opening sees_net to (change_numbered (came_to c.conn.ran) c.number visits) c
   of_looked visits b c n k h =
       let is : numbered c.number visits ≡ Some h.visit = ap (λ n. numbered n visits) n ∙ h.is in
       record { visit = came_to c.conn.ran h.visit; is = num_here (came_to c.conn.ran) visits c.number h.visit is; here = h.here; came = refl; at = k h.visit.first h.visit.own h.at }
 
   -- it was accepted
   pub of_new : (visits : List (Visit L N)) (link : L) (own : N) (c : Connection C L N) → c.number ≡ length visits + 1 → c.conn.ran ≡ None
-      → IsAtFor M stands sees sound seen wrote tells accepts_header opening sees_net link c.caller c.conn.client c.conn.server to (sees_net own) (sees_net c.conn.net) c.conn.ran c.core
-      → IsOf M stands sees sound seen wrote tells accepts_header opening sees_net to (visits ++ new_visit link own ∷ []) c
+      → IsAtFor M stands sees sound rested seen wrote tells accepts_header opening sees_net link c.caller c.conn.client c.conn.server to (sees_net own) (sees_net c.conn.net) c.conn.ran c.core
+      → IsOf M stands sees sound rested seen wrote tells accepts_header opening sees_net to (visits ++ new_visit link own ∷ []) c
   of_new visits link own c n r at = record { visit = new_visit link own; is = num_last visits (new_visit link own) c.number n; here = refl; came = sym r; at = at }
 
   -- ---- all of them
@@ -75,7 +76,7 @@ module _ {C L N : Type 0} (M : Option Pair → Meaning) (stands : Option Pair �
   -- links were asked
   pub stand_asked : (visits : List (Visit L N)) (old new : List (Option (Connection C L N))) (sets behind : List C)
       → ((place : ℕ) (c : Connection C L N) → IsHere new place c → (b : Connection C L N) × IsHere old place b × IsAsked seen wrote sees_net b c) → count_taken new ≡ count_taken old → behind ≡ sets
-      → AllStand M stands sees sound seen wrote tells accepts_header opening sees_net to visits old sets → AllStand M stands sees sound seen wrote tells accepts_header opening sees_net to visits new behind
+      → AllStand M stands sees sound rested seen wrote tells accepts_header opening sees_net to visits old sets → AllStand M stands sees sound rested seen wrote tells accepts_header opening sees_net to visits new behind
   stand_asked visits old new sets behind each taken same s =
       record {
         placed = λ place c h. let b = each place c h in of_asked visits b.0 c b.2 (s.placed place b.0 b.1);
@@ -88,7 +89,7 @@ module _ {C L N : Type 0} (M : Option Pair → Meaning) (stands : Option Pair �
 
   -- none is open
   pub stand_none : (places : List (Option (Connection C L N))) (sets : List C) → count_taken places ≡ 0 → AllByRecursion (IsReady sees sound) sets → AllByRecursion (IsFreshFor stands) sets
-      → AllStand M stands sees sound seen wrote tells accepts_header opening sees_net to [] places sets
+      → AllStand M stands sees sound rested seen wrote tells accepts_header opening sees_net to [] places sets
   stand_none places sets e r f =
       record {
         placed = λ place c h. let one = here_taken places place c h in absurd (omega (arith, one, e));
@@ -107,12 +108,12 @@ module _ {C L N : Type 0} (M : Option Pair → Meaning) (stands : Option Pair �
 
   -- one was accepted at a place at which none is
   pub stand_new : (visits : List (Visit L N)) (places : List (Option (Connection C L N))) (sets : List C) (place : ℕ) (link : L) (own : N) (c : Connection C L N) → place < length places → ((d : Option (Connection C L N)) → get_or places place d ≡ None)
-      → c.number ≡ length visits + 1 → IsToldNet opening.responder (sees_net own) → IsOf M stands sees sound seen wrote tells accepts_header opening sees_net to (visits ++ new_visit link own ∷ []) c
-      → AllStand M stands sees sound seen wrote tells accepts_header opening sees_net to visits places sets → AllStand M stands sees sound seen wrote tells accepts_header opening sees_net to (visits ++ new_visit link own ∷ []) (set places place (Some c)) sets
+      → c.number ≡ length visits + 1 → IsToldNet opening.responder (sees_net own) → IsOf M stands sees sound rested seen wrote tells accepts_header opening sees_net to (visits ++ new_visit link own ∷ []) c
+      → AllStand M stands sees sound rested seen wrote tells accepts_header opening sees_net to visits places sets → AllStand M stands sees sound rested seen wrote tells accepts_header opening sees_net to (visits ++ new_visit link own ∷ []) (set places place (Some c)) sets
   stand_new visits places sets place link own c w free n net of s =
       record {
         placed = λ other d h. elim (here_set places place other (Some c) d h) [
-          | inl k ↦ subst (λ (o : Connection C L N). IsOf M stands sees sound seen wrote tells accepts_header opening sees_net to (visits ++ new_visit link own ∷ []) o) (some_same c d k.1) of
+          | inl k ↦ subst (λ (o : Connection C L N). IsOf M stands sees sound rested seen wrote tells accepts_header opening sees_net to (visits ++ new_visit link own ∷ []) o) (some_same c d k.1) of
           | inr k ↦ (let was = s.placed other d k.1 in of_same visits (visits ++ new_visit link own ∷ []) d (num_more visits (new_visit link own ∷ []) d.number was.visit was.is ∙ sym was.is) was)
         ];
         alone = λ one other d e h k same. elim (here_set places place one (Some c) d h) [
@@ -144,10 +145,10 @@ module _ {C L N : Type 0} (M : Option Pair → Meaning) (stands : Option Pair �
 
   abbrev Looks : (looked : Looked) → (visits : List (Visit L N)) → (places : List (Option (Connection C L N))) → (sets behind : List C) → (place : ℕ) → (was now : Option (Connection C L N)) → Type 0
   Looks looked visits places sets behind place was now =
-      (b : List (Visit L N)) × Advances looked visits b × AllStand M stands sees sound seen wrote tells accepts_header opening sees_net to b (set places place now) behind
+      (b : List (Visit L N)) × Advances looked visits b × AllStand M stands sees sound rested seen wrote tells accepts_header opening sees_net to b (set places place now) behind
 
   looks_none : (looked : Looked) (visits : List (Visit L N)) (places : List (Option (Connection C L N))) (sets behind : List C) (place : ℕ) → place < length places → get_or places place None ≡ None → IsIdle looked
-      → AllByRecursion (IsReady sees sound) behind → AllByRecursion (IsFreshFor stands) behind → AllStand M stands sees sound seen wrote tells accepts_header opening sees_net to visits places sets → Looks looked visits places sets behind place None None
+      → AllByRecursion (IsReady sees sound) behind → AllByRecursion (IsFreshFor stands) behind → AllStand M stands sees sound rested seen wrote tells accepts_header opening sees_net to visits places sets → Looks looked visits places sets behind place None None
   looks_none looked visits places sets behind place w e idle r f s = (
     visits,
     record {
@@ -177,8 +178,8 @@ module _ {C L N : Type 0} (M : Option Pair → Meaning) (stands : Option Pair �
   )
 
   looks_some : (looked : Looked) (visits : List (Visit L N)) (places : List (Option (Connection C L N))) (sets behind : List C) (place : ℕ) (b c : Connection C L N) → place < length places → get_or places place (Some b) ≡ Some b
-      → c.number ≡ b.number → LookedSo looked b.number b.conn.ran c.conn.ran → IsOf M stands sees sound seen wrote tells accepts_header opening sees_net to (change_numbered (came_to c.conn.ran) c.number visits) c
-      → AllByRecursion (IsReady sees sound) behind → AllByRecursion (IsFreshFor stands) behind → AllStand M stands sees sound seen wrote tells accepts_header opening sees_net to visits places sets → Looks looked visits places sets behind place (Some b) (Some c)
+      → c.number ≡ b.number → LookedSo looked b.number b.conn.ran c.conn.ran → IsOf M stands sees sound rested seen wrote tells accepts_header opening sees_net to (change_numbered (came_to c.conn.ran) c.number visits) c
+      → AllByRecursion (IsReady sees sound) behind → AllByRecursion (IsFreshFor stands) behind → AllStand M stands sees sound rested seen wrote tells accepts_header opening sees_net to visits places sets → Looks looked visits places sets behind place (Some b) (Some c)
   looks_some looked visits places sets behind place b c w e n l of r f s = (
     next,
     record {
@@ -195,7 +196,7 @@ module _ {C L N : Type 0} (M : Option Pair → Meaning) (stands : Option Pair �
     },
     record {
       placed = λ other d h. elim (here_set places place other (Some c) d h) [
-        | inl k ↦ subst (λ (o : Connection C L N). IsOf M stands sees sound seen wrote tells accepts_header opening sees_net to next o) (some_same c d k.1) of
+        | inl k ↦ subst (λ (o : Connection C L N). IsOf M stands sees sound rested seen wrote tells accepts_header opening sees_net to next o) (some_same c d k.1) of
         | inr k ↦ of_same visits next d (num_other come visits c.number d.number (λ same. k.0 (s.alone other place d b k.1 here (same ∙ n)))) (s.placed other d k.1)
       ];
       alone = λ one other d x h k same. elim (here_set places place one (Some c) d h) [
@@ -228,7 +229,7 @@ module _ {C L N : Type 0} (M : Option Pair → Meaning) (stands : Option Pair �
       here : IsHere places place b
       here = here_at places place (Some b) b w e refl
 
-      was : IsOf M stands sees sound seen wrote tells accepts_header opening sees_net to visits b
+      was : IsOf M stands sees sound rested seen wrote tells accepts_header opening sees_net to visits b
       was = s.placed place b here
 
       at_number : numbered c.number visits ≡ Some was.visit
@@ -250,9 +251,9 @@ module _ {C L N : Type 0} (M : Option Pair → Meaning) (stands : Option Pair �
       ]
 
   pub looks_at : (looked : Looked) (visits : List (Visit L N)) (places : List (Option (Connection C L N))) (sets behind : List C) (place : ℕ) (was now : Option (Connection C L N)) → place < length places → get_or places place was ≡ was
-      → LookedAt looked was now → IsPlaced M stands sees sound seen wrote tells accepts_header opening sees_net to (advanced now visits) now
-      → AllByRecursion (IsReady sees sound) behind → AllByRecursion (IsFreshFor stands) behind → AllStand M stands sees sound seen wrote tells accepts_header opening sees_net to visits places sets
-      → (b : List (Visit L N)) × Advances looked visits b × AllStand M stands sees sound seen wrote tells accepts_header opening sees_net to b (set places place now) behind
+      → LookedAt looked was now → IsPlaced M stands sees sound rested seen wrote tells accepts_header opening sees_net to (advanced now visits) now
+      → AllByRecursion (IsReady sees sound) behind → AllByRecursion (IsFreshFor stands) behind → AllStand M stands sees sound rested seen wrote tells accepts_header opening sees_net to visits places sets
+      → (b : List (Visit L N)) × Advances looked visits b × AllStand M stands sees sound rested seen wrote tells accepts_header opening sees_net to b (set places place now) behind
   looks_at looked visits places sets behind place None None w e l p r f s = looks_none looked visits places sets behind place w e l r f s
   looks_at looked visits places sets behind place None (Some c) w e l p r f s = absurd l
   looks_at looked visits places sets behind place (Some b) None w e l p r f s = absurd l
@@ -274,8 +275,8 @@ module _ {C L N : Type 0} (M : Option Pair → Meaning) (stands : Option Pair �
   -- the connections that are left are elsewhere, and are one fewer
   pub stand_back : (visits : List (Visit L N)) (places rest : List (Option (Connection C L N))) (sets : List C) (place : ℕ) (c : Connection C L N) (client : L) (own : N) → (here : IsHere places place c)
       → ((other : ℕ) (d : Connection C L N) → IsHere rest other d → (other ≡ place → ⊥) × IsHere places other d) → count_taken rest + 1 ≡ count_taken places
-      → ((of : IsOf M stands sees sound seen wrote tells accepts_header opening sees_net to visits c) → CameBack M stands sees seen wrote tells accepts_header opening of.visit.first client to (sees_net of.visit.own) (sees_net own) c.conn.ran)
-      → AllStand M stands sees sound seen wrote tells accepts_header opening sees_net to visits places sets → AllStand M stands sees sound seen wrote tells accepts_header opening sees_net to (change_numbered (given_back client own) c.number visits) rest sets
+      → ((of : IsOf M stands sees sound rested seen wrote tells accepts_header opening sees_net to visits c) → CameBack M stands sees seen wrote tells accepts_header opening of.visit.first client to (sees_net of.visit.own) (sees_net own) c.conn.ran)
+      → AllStand M stands sees sound rested seen wrote tells accepts_header opening sees_net to visits places sets → AllStand M stands sees sound rested seen wrote tells accepts_header opening sees_net to (change_numbered (given_back client own) c.number visits) rest sets
   stand_back visits places rest sets place c client own here elsewhere fewer came s =
       record {
         placed = λ other d h. let k = elsewhere other d h in
@@ -301,40 +302,40 @@ module _ {C L N : Type 0} (M : Option Pair → Meaning) (stands : Option Pair �
       next : List (Visit L N)
       next = change_numbered (given_back client own) c.number visits
 
-      was : IsOf M stands sees sound seen wrote tells accepts_header opening sees_net to visits c
+      was : IsOf M stands sees sound rested seen wrote tells accepts_header opening sees_net to visits c
       was = s.placed place c here
 
   -- of a visit that was given back, what is said of its end stays
-  pub itself_back : (visits : List (Visit L N)) (c : Connection C L N) (client : L) (own : N) → is_some c.conn.ran ≡ true → IsOf M stands sees sound seen wrote tells accepts_header opening sees_net to visits c → AllByRecursion EndsByItself visits
+  pub itself_back : (visits : List (Visit L N)) (c : Connection C L N) (client : L) (own : N) → is_some c.conn.ran ≡ true → IsOf M stands sees sound rested seen wrote tells accepts_header opening sees_net to visits c → AllByRecursion EndsByItself visits
       → AllByRecursion EndsByItself (change_numbered (given_back client own) c.number visits)
   itself_back visits c client own ended was all =
       num_all EndsByItself (given_back client own) visits c.number (λ visit at it.
       let same : was.visit ≡ visit = some_same was.visit visit (sym was.is ∙ at) in
       record { over = λ e. ap (λ (o : Option (Result Ran SessionFault)). is_some o) (ap (λ (v : Visit L N). v.came) (sym same) ∙ was.came) ∙ ended; kept_on = it.kept_on }) all
 
-  placed_some : (visits : List (Visit L N)) (places : List (Option (Connection C L N))) (sets : List C) (place : ℕ) (at : Option (Connection C L N)) → ((c : Connection C L N) → at ≡ Some c → IsHere places place c) → AllStand M stands sees sound seen wrote tells accepts_header opening sees_net to visits places sets
-      → IsPlaced M stands sees sound seen wrote tells accepts_header opening sees_net to visits at
+  placed_some : (visits : List (Visit L N)) (places : List (Option (Connection C L N))) (sets : List C) (place : ℕ) (at : Option (Connection C L N)) → ((c : Connection C L N) → at ≡ Some c → IsHere places place c) → AllStand M stands sees sound rested seen wrote tells accepts_header opening sees_net to visits places sets
+      → IsPlaced M stands sees sound rested seen wrote tells accepts_header opening sees_net to visits at
   placed_some visits places sets place None h s = tt
   placed_some visits places sets place (Some c) h s = s.placed place c (h c refl)
 
   -- what is said of a place
-  pub placed_at : (visits : List (Visit L N)) (places : List (Option (Connection C L N))) (sets : List C) (place : ℕ) (at : Option (Connection C L N)) → place < length places → get_or places place at ≡ at → AllStand M stands sees sound seen wrote tells accepts_header opening sees_net to visits places sets
-      → IsPlaced M stands sees sound seen wrote tells accepts_header opening sees_net to visits at
+  pub placed_at : (visits : List (Visit L N)) (places : List (Option (Connection C L N))) (sets : List C) (place : ℕ) (at : Option (Connection C L N)) → place < length places → get_or places place at ≡ at → AllStand M stands sees sound rested seen wrote tells accepts_header opening sees_net to visits places sets
+      → IsPlaced M stands sees sound rested seen wrote tells accepts_header opening sees_net to visits at
   placed_at visits places sets place at w e s = placed_some visits places sets place at (λ c f. here_at places place at c w e f) s
 
   -- and of the last one
-  pub placed_last : (visits : List (Visit L N)) (places rest : List (Option (Connection C L N))) (sets : List C) (last : Option (Option (Connection C L N))) (at : Option (Connection C L N)) → last ≡ Some at → places ≡ rest ++ option_to_list last → AllStand M stands sees sound seen wrote tells accepts_header opening sees_net to visits places sets
-      → IsPlaced M stands sees sound seen wrote tells accepts_header opening sees_net to visits at
+  pub placed_last : (visits : List (Visit L N)) (places rest : List (Option (Connection C L N))) (sets : List C) (last : Option (Option (Connection C L N))) (at : Option (Connection C L N)) → last ≡ Some at → places ≡ rest ++ option_to_list last → AllStand M stands sees sound rested seen wrote tells accepts_header opening sees_net to visits places sets
+      → IsPlaced M stands sees sound rested seen wrote tells accepts_header opening sees_net to visits at
   placed_last visits places rest sets last at f e s =
       let is : places ≡ rest ++ at ∷ [] = e ∙ ap (λ o. rest ++ option_to_list o) f in
       placed_some visits places sets (length rest) at (λ c g. subst (λ l. IsHere l (length rest) c) (sym is) (subst (λ o. IsHere (rest ++ o ∷ []) (length rest) c) (sym g) (here_last rest c))) s
 
-  pub placed_none : (visits : List (Visit L N)) (at : Option (Connection C L N)) → at ≡ None → IsPlaced M stands sees sound seen wrote tells accepts_header opening sees_net to (advanced at visits) at
+  pub placed_none : (visits : List (Visit L N)) (at : Option (Connection C L N)) → at ≡ None → IsPlaced M stands sees sound rested seen wrote tells accepts_header opening sees_net to (advanced at visits) at
   placed_none visits None e = tt
   placed_none visits (Some c) e = cc
 
   pub stand_new_at : (visits : List (Visit L N)) (places : List (Option (Connection C L N))) (sets : List C) (place : ℕ) (link : L) (own : N) (c : Connection C L N) (at : Option (Connection C L N)) → place < length places → ((d : Option (Connection C L N)) → get_or places place d ≡ None)
-      → at ≡ Some c → c.number ≡ length visits + 1 → IsToldNet opening.responder (sees_net own) → IsOf M stands sees sound seen wrote tells accepts_header opening sees_net to (visits ++ new_visit link own ∷ []) c
-      → AllStand M stands sees sound seen wrote tells accepts_header opening sees_net to visits places sets → AllStand M stands sees sound seen wrote tells accepts_header opening sees_net to (visits ++ new_visit link own ∷ []) (set places place at) sets
+      → at ≡ Some c → c.number ≡ length visits + 1 → IsToldNet opening.responder (sees_net own) → IsOf M stands sees sound rested seen wrote tells accepts_header opening sees_net to (visits ++ new_visit link own ∷ []) c
+      → AllStand M stands sees sound rested seen wrote tells accepts_header opening sees_net to visits places sets → AllStand M stands sees sound rested seen wrote tells accepts_header opening sees_net to (visits ++ new_visit link own ∷ []) (set places place at) sets
   stand_new_at visits places sets place link own c at w free f n net of s =
-      subst (λ (o : Option (Connection C L N)). AllStand M stands sees sound seen wrote tells accepts_header opening sees_net to (visits ++ new_visit link own ∷ []) (set places place o) sets) (sym f) (stand_new visits places sets place link own c w free n net of s)
+      subst (λ (o : Option (Connection C L N)). AllStand M stands sees sound rested seen wrote tells accepts_header opening sees_net to (visits ++ new_visit link own ∷ []) (set places place o) sets) (sym f) (stand_new visits places sets place link own c w free n net of s)

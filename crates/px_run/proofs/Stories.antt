@@ -39,15 +39,15 @@ use Rattle.px_run.proofs.Texts.{has_outcome, writes_as, writes_open, writes_weak
 use Rattle.px_run.proofs.Acts.{story_none, story_fails, story_accepts, story_ends, story_back}
 use Rattle.px_run.specs.declared.plan.Opening.{Opening}
 
-module _ {C L N : Type 0} (M : Option Pair → Meaning) (stands : Option Pair → C → Past → Type 0) (sees : C → CoreSeen) (sound : C → Type 0) (seen : L → Seen) (wrote : L → List ℕ → Type 0) (tells : L → Option Pair → Type 0) (accepts_header logs : Bool) (opening : Opening) (sees_net : N → NetSeen) (to : Place) (begun : NetSeen) (writes : ℕ) (before : Option (List ℕ)) where
+module _ {C L N : Type 0} (M : Option Pair → Meaning) (stands : Option Pair → C → Past → Type 0) (sees : C → CoreSeen) (sound rested : C → Type 0) (seen : L → Seen) (wrote : L → List ℕ → Type 0) (tells : L → Option Pair → Type 0) (accepts_header logs : Bool) (opening : Opening) (sees_net : N → NetSeen) (to : Place) (begun : NetSeen) (writes : ℕ) (before : Option (List ℕ)) where
   -- links were asked
   pub goes_asked : (fair whole : Bool) (now : NetSeen) (writes_now : ℕ) (after : Option (List ℕ)) (old new : Hall C L N) → AllAsked seen wrote sees_net old new
-      → Goes M stands sees sound seen wrote tells accepts_header logs opening sees_net to fair whole begun now writes writes_now before after old → Goes M stands sees sound seen wrote tells accepts_header logs opening sees_net to fair whole begun now writes writes_now before after new
+      → Goes M stands sees sound rested seen wrote tells accepts_header logs opening sees_net to fair whole begun now writes writes_now before after old → Goes M stands sees sound rested seen wrote tells accepts_header logs opening sees_net to fair whole begun now writes writes_now before after new
   goes_asked fair whole now writes_now after old new a g =
       record {
         visits = g.visits;
         said = g.said;
-        all = stand_asked M stands sees sound seen wrote tells accepts_header opening sees_net to g.visits old.places.items new.places.items old.sets.items new.sets.items a.each a.taken a.sets g.all;
+        all = stand_asked M stands sees sound rested seen wrote tells accepts_header opening sees_net to g.visits old.places.items new.places.items old.sets.items new.sets.items a.each a.taken a.sets g.all;
         accepted = a.accepted ∙ g.accepted;
         story = g.story;
         itself = g.itself;
@@ -55,19 +55,19 @@ module _ {C L N : Type 0} (M : Option Pair → Meaning) (stands : Option Pair �
         told_so = g.told_so;
       }
 
-  pub goes_weaker : (fair whole : Bool) (now : NetSeen) (writes_now : ℕ) (after : Option (List ℕ)) (hall : Hall C L N) → Goes M stands sees sound seen wrote tells accepts_header logs opening sees_net to true true begun now writes writes_now before after hall
-      → Goes M stands sees sound seen wrote tells accepts_header logs opening sees_net to fair whole begun now writes writes_now before after hall
+  pub goes_weaker : (fair whole : Bool) (now : NetSeen) (writes_now : ℕ) (after : Option (List ℕ)) (hall : Hall C L N) → Goes M stands sees sound rested seen wrote tells accepts_header logs opening sees_net to true true begun now writes writes_now before after hall
+      → Goes M stands sees sound rested seen wrote tells accepts_header logs opening sees_net to fair whole begun now writes writes_now before after hall
   goes_weaker fair whole now writes_now after hall g =
       record { visits = g.visits; said = g.said; all = g.all; accepted = g.accepted; story = g.story; itself = λ e. g.itself refl; written = writes_weaker whole hall.output writes writes_now before after (lines_of g.said) g.written; told_so = g.told_so }
 
   -- one was looked at, and its line written
   pub goes_looked : (good : Bool) (now : NetSeen) (writes_then writes_now : ℕ) (between after : Option (List ℕ)) (old new : Hall C L N) (looked : Looked)
-      → (g : Goes M stands sees sound seen wrote tells accepts_header logs opening sees_net to true true begun now writes writes_then before between old)
-      → (b : List (Visit L N)) × Advances looked g.visits b × AllStand M stands sees sound seen wrote tells accepts_header opening sees_net to b new.places.items new.sets.items
+      → (g : Goes M stands sees sound rested seen wrote tells accepts_header logs opening sees_net to true true begun now writes writes_then before between old)
+      → (b : List (Visit L N)) × Advances looked g.visits b × AllStand M stands sees sound rested seen wrote tells accepts_header opening sees_net to b new.places.items new.sets.items
       → new.accepted ≡ old.accepted → (good ≡ true → looked ≡ looks.Lost → ⊥)
       → (told : List ℕ) → MoreLines (IsLogged M stands sees seen wrote tells accepts_header logs opening sees_net to g.visits) [] told
       → ((text : List ℕ) → Writes true old.output writes writes_then before between text → Writes good new.output writes writes_now before after ((text ++ told) ++ lines_of (says_of (ended_by looked))))
-      → Goes M stands sees sound seen wrote tells accepts_header logs opening sees_net to good good begun now writes writes_now before after new
+      → Goes M stands sees sound rested seen wrote tells accepts_header logs opening sees_net to good good begun now writes writes_now before after new
   goes_looked good now writes_then writes_now between after old new looked g s same kept told more write =
       let a = s.1 in
       let many : length s.0 ≡ length g.visits = sym (length-map s.0 (λ (v : Visit L N). v.first)) ∙ ap (λ l. length l) a.firsts ∙ length-map g.visits (λ (v : Visit L N). v.first) in
@@ -85,16 +85,16 @@ module _ {C L N : Type 0} (M : Option Pair → Meaning) (stands : Option Pair �
       }
 
   -- an accept failed, or wanted memory
-  pub goes_fails : (old_net net : NetSeen) (writes_now : ℕ) (after : Option (List ℕ)) (hall : Hall C L N) → Does seen wrote AcceptsNone old_net net → Goes M stands sees sound seen wrote tells accepts_header logs opening sees_net to true true begun old_net writes writes_now before after hall
-      → Goes M stands sees sound seen wrote tells accepts_header logs opening sees_net to true true begun net writes writes_now before after hall
+  pub goes_fails : (old_net net : NetSeen) (writes_now : ℕ) (after : Option (List ℕ)) (hall : Hall C L N) → Does seen wrote AcceptsNone old_net net → Goes M stands sees sound rested seen wrote tells accepts_header logs opening sees_net to true true begun old_net writes writes_now before after hall
+      → Goes M stands sees sound rested seen wrote tells accepts_header logs opening sees_net to true true begun net writes writes_now before after hall
   goes_fails old_net net writes_now after hall d g =
       record { visits = g.visits; said = g.said; all = g.all; accepted = g.accepted; story = story_fails seen wrote begun old_net net g.visits (ended_in g.said) d g.story; itself = g.itself; written = g.written; told_so = g.told_so }
 
   -- a link was accepted
   pub goes_accepts : (old_net net : NetSeen) (writes_now : ℕ) (after : Option (List ℕ)) (old new : Hall C L N) (link : L) (own : N) → Does seen wrote (Accepts link) old_net net
       → new.accepted ≡ old.accepted + 1 → new.output ≡ old.output
-      → ((visits : List (Visit L N)) → old.accepted ≡ length visits → AllStand M stands sees sound seen wrote tells accepts_header opening sees_net to visits old.places.items old.sets.items → AllStand M stands sees sound seen wrote tells accepts_header opening sees_net to (visits ++ new_visit link own ∷ []) new.places.items new.sets.items)
-      → Goes M stands sees sound seen wrote tells accepts_header logs opening sees_net to true true begun old_net writes writes_now before after old → Goes M stands sees sound seen wrote tells accepts_header logs opening sees_net to true true begun net writes writes_now before after new
+      → ((visits : List (Visit L N)) → old.accepted ≡ length visits → AllStand M stands sees sound rested seen wrote tells accepts_header opening sees_net to visits old.places.items old.sets.items → AllStand M stands sees sound rested seen wrote tells accepts_header opening sees_net to (visits ++ new_visit link own ∷ []) new.places.items new.sets.items)
+      → Goes M stands sees sound rested seen wrote tells accepts_header logs opening sees_net to true true begun old_net writes writes_now before after old → Goes M stands sees sound rested seen wrote tells accepts_header logs opening sees_net to true true begun net writes writes_now before after new
   goes_accepts old_net net writes_now after old new link own d more same stand g =
       let stands_now = stand g.visits g.accepted g.all in
       let visit = new_visit link own in
@@ -113,21 +113,21 @@ module _ {C L N : Type 0} (M : Option Pair → Meaning) (stands : Option Pair �
   pub goes_back : (fair still whole : Bool) (old_net net : NetSeen) (writes_now : ℕ) (after : Option (List ℕ)) (old new : Hall C L N) (place : ℕ) (c : Connection C L N) (client : L) (own : N) → IsHere old.places.items place c
       → ((other : ℕ) (d : Connection C L N) → IsHere new.places.items other d → (other ≡ place → ⊥) × IsHere old.places.items other d) → count_taken new.places.items + 1 ≡ count_taken old.places.items
       → new.sets ≡ old.sets → new.accepted ≡ old.accepted → new.output ≡ old.output
-      → ((visits : List (Visit L N)) (of : IsOf M stands sees sound seen wrote tells accepts_header opening sees_net to visits c) → CameBack M stands sees seen wrote tells accepts_header opening of.visit.first client to (sees_net of.visit.own) (sees_net own) c.conn.ran)
+      → ((visits : List (Visit L N)) (of : IsOf M stands sees sound rested seen wrote tells accepts_header opening sees_net to visits c) → CameBack M stands sees seen wrote tells accepts_header opening of.visit.first client to (sees_net of.visit.own) (sees_net own) c.conn.ran)
       → Keeps (wrote client) old_net net (seen client) → (still ≡ true → (fair ≡ true) × (is_some c.conn.ran ≡ true))
-      → Goes M stands sees sound seen wrote tells accepts_header logs opening sees_net to fair whole begun old_net writes writes_now before after old → Goes M stands sees sound seen wrote tells accepts_header logs opening sees_net to still whole begun net writes writes_now before after new
+      → Goes M stands sees sound rested seen wrote tells accepts_header logs opening sees_net to fair whole begun old_net writes writes_now before after old → Goes M stands sees sound rested seen wrote tells accepts_header logs opening sees_net to still whole begun net writes writes_now before after new
   goes_back fair still whole old_net net writes_now after old new place c client own here elsewhere fewer sets same output came keeps ends g =
       let of = g.all.placed place c here in
       let next = change_numbered (given_back client own) c.number g.visits in
       let many : length next ≡ length g.visits = sym (length-map next (λ (v : Visit L N). v.first)) ∙ ap (λ l. length l) (num_map (λ (v : Visit L N). v.first) (given_back client own) (λ v. refl) g.visits c.number) ∙ length-map g.visits (λ (v : Visit L N). v.first) in
-      let P : List C → Type 0 = λ l. AllStand M stands sees sound seen wrote tells accepts_header opening sees_net to next new.places.items l in
+      let P : List C → Type 0 = λ l. AllStand M stands sees sound rested seen wrote tells accepts_header opening sees_net to next new.places.items l in
       record {
         visits = next;
         said = g.said;
-        all = subst P (ap (λ s. s.items) (sym sets)) (stand_back M stands sees sound seen wrote tells accepts_header opening sees_net to g.visits old.places.items new.places.items old.sets.items place c client own here elsewhere fewer (came g.visits) g.all);
+        all = subst P (ap (λ s. s.items) (sym sets)) (stand_back M stands sees sound rested seen wrote tells accepts_header opening sees_net to g.visits old.places.items new.places.items old.sets.items place c client own here elsewhere fewer (came g.visits) g.all);
         accepted = same ∙ g.accepted ∙ sym many;
         story = story_back seen wrote begun old_net net g.visits (ended_in g.said) c.number of.visit client own of.is of.here keeps g.story;
-        itself = λ e. let k = ends e in itself_back M stands sees sound seen wrote tells accepts_header opening sees_net to g.visits c client own k.1 of (g.itself k.0);
+        itself = λ e. let k = ends e in itself_back M stands sees sound rested seen wrote tells accepts_header opening sees_net to g.visits c client own k.1 of (g.itself k.0);
         written = writes_open whole old.output new.output writes writes_now before after (lines_of g.said) (sym output) g.written;
         told_so = told_kept M stands sees seen wrote tells accepts_header logs opening sees_net to g.visits next (keeps_changed (given_back client own) (λ v. refl) (λ v. refl) c.number g.visits) g.said g.told_so;
       }
@@ -135,7 +135,7 @@ module _ {C L N : Type 0} (M : Option Pair → Meaning) (stands : Option Pair �
   -- the connection at a place left it, or nothing was done
   pub goes_gave : (old_net net : NetSeen) (writes_now : ℕ) (after : Option (List ℕ)) (old new : Hall C L N) (place : ℕ) (was now : Option (Connection C L N)) → place < length old.places.items → get_or old.places.items place was ≡ was
       → new.places.items ≡ set old.places.items place now → new.sets ≡ old.sets → new.accepted ≡ old.accepted → new.output ≡ old.output → MayGiveBack seen wrote old_net net was now
-      → Goes M stands sees sound seen wrote tells accepts_header logs opening sees_net to true true begun old_net writes writes_now before after old → Goes M stands sees sound seen wrote tells accepts_header logs opening sees_net to true true begun net writes writes_now before after new
+      → Goes M stands sees sound rested seen wrote tells accepts_header logs opening sees_net to true true begun old_net writes writes_now before after old → Goes M stands sees sound rested seen wrote tells accepts_header logs opening sees_net to true true begun net writes writes_now before after new
   goes_gave old_net net writes_now after old new place was now w e places sets same output (inl k) g =
       let c = k.connection in
       let taken = taken_set old.places.items place now was w in
@@ -148,25 +148,25 @@ module _ {C L N : Type 0} (M : Option Pair → Meaning) (stands : Option Pair �
         | inr q ↦ q
       ])
       (omega (arith, taken, one, none, all)) sets same output
-      (λ visits of. came_back M stands sees sound seen wrote tells accepts_header opening sees_net of.visit.first to (sees_net of.visit.own) c.caller c.conn.client c.conn.server (sees_net c.conn.net) c.conn.ran c.core k.ended of.at)
+      (λ visits of. came_back M stands sees sound rested seen wrote tells accepts_header opening sees_net of.visit.first to (sees_net of.visit.own) c.caller c.conn.client c.conn.server (sees_net c.conn.net) c.conn.ran c.core k.ended of.at)
       k.keeps (λ t. (refl, k.ended)) g
   goes_gave old_net net writes_now after old new place was now w e places sets same output (inr k) g =
       let is : new.places.items ≡ old.places.items = places ∙ ap (λ (o : Option (Connection C L N)). set old.places.items place o) (k.0 ∙ sym e) ∙ set-get_or old.places.items place was in
-      let P : NetSeen → Type 0 = λ n. Goes M stands sees sound seen wrote tells accepts_header logs opening sees_net to true true begun n writes writes_now before after new in
+      let P : NetSeen → Type 0 = λ n. Goes M stands sees sound rested seen wrote tells accepts_header logs opening sees_net to true true begun n writes writes_now before after new in
       subst P (sym k.1) (goes_asked true true old_net writes_now after old new
       (all_asked_by seen wrote sees_net old new (λ place c h. subst (λ (l : List (Option (Connection C L N))). IsHere l place c) is h) (ap (λ (l : List (Option (Connection C L N))). count_taken l) is) sets same output) g)
 
-  pub goes_unfair : (fair whole : Bool) (now : NetSeen) (writes_now : ℕ) (after : Option (List ℕ)) (hall : Hall C L N) → Goes M stands sees sound seen wrote tells accepts_header logs opening sees_net to fair whole begun now writes writes_now before after hall
-      → Goes M stands sees sound seen wrote tells accepts_header logs opening sees_net to false whole begun now writes writes_now before after hall
+  pub goes_unfair : (fair whole : Bool) (now : NetSeen) (writes_now : ℕ) (after : Option (List ℕ)) (hall : Hall C L N) → Goes M stands sees sound rested seen wrote tells accepts_header logs opening sees_net to fair whole begun now writes writes_now before after hall
+      → Goes M stands sees sound rested seen wrote tells accepts_header logs opening sees_net to false whole begun now writes writes_now before after hall
   goes_unfair fair whole now writes_now after hall g =
       record { visits = g.visits; said = g.said; all = g.all; accepted = g.accepted; story = g.story; itself = λ e. absurd (false≢true e); written = g.written; told_so = g.told_so }
 
   -- the connection at the last place was given up
   pub goes_left : (fair whole : Bool) (old_net net : NetSeen) (writes_now : ℕ) (after : Option (List ℕ)) (old new : Hall C L N) (at : Option (Connection C L N)) → old.places.items ≡ new.places.items ++ at ∷ []
-      → new.sets ≡ old.sets → new.accepted ≡ old.accepted → new.output ≡ old.output → GaveUpAt M stands sees sound seen wrote tells accepts_header opening sees_net to old_net net at
-      → Goes M stands sees sound seen wrote tells accepts_header logs opening sees_net to fair whole begun old_net writes writes_now before after old → Goes M stands sees sound seen wrote tells accepts_header logs opening sees_net to false whole begun net writes writes_now before after new
+      → new.sets ≡ old.sets → new.accepted ≡ old.accepted → new.output ≡ old.output → GaveUpAt M stands sees sound rested seen wrote tells accepts_header opening sees_net to old_net net at
+      → Goes M stands sees sound rested seen wrote tells accepts_header logs opening sees_net to fair whole begun old_net writes writes_now before after old → Goes M stands sees sound rested seen wrote tells accepts_header logs opening sees_net to false whole begun net writes writes_now before after new
   goes_left fair whole old_net net writes_now after old new None places sets same output left g =
-      let P : NetSeen → Type 0 = λ n. Goes M stands sees sound seen wrote tells accepts_header logs opening sees_net to false whole begun n writes writes_now before after new in
+      let P : NetSeen → Type 0 = λ n. Goes M stands sees sound rested seen wrote tells accepts_header logs opening sees_net to false whole begun n writes writes_now before after new in
       let nothing : Option (Connection C L N) = None in
       let pushed = taken_pushed new.places.items nothing in
       let all : count_taken old.places.items ≡ count_taken (new.places.items ++ nothing ∷ []) = ap (λ (l : List (Option (Connection C L N))). count_taken l) places in
@@ -182,15 +182,15 @@ module _ {C L N : Type 0} (M : Option Pair → Meaning) (stands : Option Pair �
 
   -- the loop begins
   pub goes_begins : (now : NetSeen) → now ≡ begun → (sets : List C) (hall : Hall C L N) → hall.sets.items ≡ sets → count_taken hall.places.items ≡ 0 → hall.accepted ≡ 0 → hall.output ≡ outputs.Open → AllByRecursion (IsReady sees sound) sets → AllByRecursion (IsFreshFor stands) sets
-      → Goes M stands sees sound seen wrote tells accepts_header logs opening sees_net to true true begun now writes writes before before hall
+      → Goes M stands sees sound rested seen wrote tells accepts_header logs opening sees_net to true true begun now writes writes before before hall
   goes_begins now same sets hall same_sets none accepted output ready fresh =
-      let P : NetSeen → Type 0 = λ n. Goes M stands sees sound seen wrote tells accepts_header logs opening sees_net to true true begun n writes writes before before hall in
+      let P : NetSeen → Type 0 = λ n. Goes M stands sees sound rested seen wrote tells accepts_header logs opening sees_net to true true begun n writes writes before before hall in
       let ready_here : AllByRecursion (IsReady sees sound) hall.sets.items = subst (λ l. AllByRecursion (IsReady sees sound) l) (sym same_sets) ready in
       let fresh_here : AllByRecursion (IsFreshFor stands) hall.sets.items = subst (λ l. AllByRecursion (IsFreshFor stands) l) (sym same_sets) fresh in
       subst P (sym same) (record {
         visits = [];
         said = [];
-        all = stand_none M stands sees sound seen wrote tells accepts_header opening sees_net to hall.places.items hall.sets.items none ready_here fresh_here;
+        all = stand_none M stands sees sound rested seen wrote tells accepts_header opening sees_net to hall.places.items hall.sets.items none ready_here fresh_here;
         accepted = accepted;
         story = story_none seen wrote begun;
         itself = λ e. tt;
@@ -246,7 +246,7 @@ module _ {C L N : Type 0} (M : Option Pair → Meaning) (stands : Option Pair �
           (back_manner M stands sees seen wrote tells accepts_header opening visit.first to (sees_net visit.own) back.0 (sees_net back.1) visit.came (subst P e it.back) ∙ plain, tt)
 
   pub served_many : (fair whole : Bool) (now : NetSeen) (writes_now : ℕ) (after : Option (List ℕ)) (hall : Hall C L N) (most : Option ℕ) (answer : Result (Unit {0}) RunFault) → count_taken hall.places.items ≡ 0 → whole ≡ had_memory answer → OnOk answer (fair ≡ true)
-      → (accepts_none : Type 0) → IfSome most (λ (count : ℕ). hall.accepted ≤ count) → OnOk answer (IfSome most (λ (count : ℕ). (count ≤ hall.accepted) ⊎ accepts_none)) → Goes M stands sees sound seen wrote tells accepts_header logs opening sees_net to fair whole begun now writes writes_now before after hall
+      → (accepts_none : Type 0) → IfSome most (λ (count : ℕ). hall.accepted ≤ count) → OnOk answer (IfSome most (λ (count : ℕ). (count ≤ hall.accepted) ⊎ accepts_none)) → Goes M stands sees sound rested seen wrote tells accepts_header logs opening sees_net to fair whole begun now writes writes_now before after hall
       → ServedMany M stands sees seen wrote tells accepts_header logs opening sees_net to most accepts_none begun now writes writes_now before after answer
   served_many fair whole now writes_now after hall most answer none memory well accepts_none within many g =
       let s = g.all in

@@ -91,6 +91,7 @@ said_then number (x ∷ xs) ys = or_one (x.0 == number) x.1 (said_of number (xs 
 pub looked_says : (looked : Looked) (number : ℕ) (was ran : Option (Result Ran SessionFault)) → LookedSo looked number was ran → (other : ℕ) → other ≡ number → outcomes_in ran ≡ outcomes_in was ++ said_of other (ended_by looked)
 looked_says looks.Waits number was ran h other e = ap (λ o. outcomes_in o) h ∙ sym (append-nil (outcomes_in was))
 looked_says looks.GoesOn number was ran h other e = ap (λ o. outcomes_in o) h ∙ sym (append-nil (outcomes_in was))
+looked_says looks.Rests number was ran h other e = ap (λ o. outcomes_in o) h ∙ sym (append-nil (outcomes_in was))
 looked_says looks.Hungry number was ran h other e = ap (λ o. outcomes_in o) h ∙ sym (append-nil (outcomes_in was))
 looked_says (looks.Ended told outcome) number was ran h other e =
     let one : said_of other ((told, outcome) ∷ []) ≡ outcome ∷ [] = ap (λ b. cond b (outcome ∷ []) []) (eq-eqb told other (h.0 ∙ sym e)) in
@@ -102,6 +103,7 @@ looked_says looks.Leaves number was ran h other e = ap (λ o. outcomes_in o) h.0
 pub looked_other : (looked : Looked) (number : ℕ) (was ran : Option (Result Ran SessionFault)) → LookedSo looked number was ran → (other : ℕ) → (other ≡ number → ⊥) → said_of other (ended_by looked) ≡ []
 looked_other looks.Waits number was ran h other n = refl
 looked_other looks.GoesOn number was ran h other n = refl
+looked_other looks.Rests number was ran h other n = refl
 looked_other looks.Hungry number was ran h other n = refl
 looked_other (looks.Ended told outcome) number was ran h other n = ap (λ b. cond b (outcome ∷ []) []) (ne_eqb told other (λ e. n (sym e ∙ h.0)))
 looked_other looks.Lost number was ran h other n = refl
@@ -110,6 +112,7 @@ looked_other looks.Leaves number was ran h other n = refl
 pub idle_says : (looked : Looked) → IsIdle looked → ended_by looked ≡ []
 idle_says looks.Waits h = refl
 idle_says looks.GoesOn h = refl
+idle_says looks.Rests h = refl
 idle_says looks.Hungry h = refl
 idle_says (looks.Ended told outcome) h = let none = (h 0 None).2 in cc
 idle_says looks.Lost h = refl
@@ -119,6 +122,7 @@ idle_says looks.Leaves h = refl
 pub looked_keeps : (looked : Looked) (number : ℕ) (was ran : Option (Result Ran SessionFault)) → LookedSo looked number was ran → (looked ≡ looks.Lost → ⊥) → (is_some was ≡ true → outcomes_in was ≡ [] → ⊥) → is_some ran ≡ true → outcomes_in ran ≡ [] → ⊥
 looked_keeps looks.Waits number was ran h l k s o = k (ap is_some (sym h) ∙ s) (ap (λ r. outcomes_in r) (sym h) ∙ o)
 looked_keeps looks.GoesOn number was ran h l k s o = k (ap is_some (sym h) ∙ s) (ap (λ r. outcomes_in r) (sym h) ∙ o)
+looked_keeps looks.Rests number was ran h l k s o = k (ap is_some (sym h) ∙ s) (ap (λ r. outcomes_in r) (sym h) ∙ o)
 looked_keeps looks.Hungry number was ran h l k s o = k (ap is_some (sym h) ∙ s) (ap (λ r. outcomes_in r) (sym h) ∙ o)
 looked_keeps (looks.Ended told outcome) number was ran h l k s o = let one = h.3 in cc
 looked_keeps looks.Lost number was ran h l k s o = l refl

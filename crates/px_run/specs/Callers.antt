@@ -21,6 +21,8 @@ use Rattle.serve_run.specs.Met.{MetSo, TurnedAway, unheard}
 use Rattle.px_run.specs.Course.{EndedOrLeft}
 use Rattle.px_run.specs.Connection.{◌∘◌, IsAt}
 use Rattle.px_run.specs.declared.connection.Connection.{Connection}
+use Rattle.px_run.specs.declared.held.Held.{Held}
+use Rattle.px_run.specs.declared.held.Held.TheVariants as helds
 use Rattle.px_run.specs.declared.caller.Caller.{Caller}
 use Rattle.px_run.specs.declared.caller.Caller.TheVariants as callers
 use Rattle.px_run.specs.declared.plan.Opening.{Opening}
@@ -85,40 +87,40 @@ pub record IsGreeted {L : Type 0} (accepts_header : Bool) (seen : L → Seen) (w
   pub written : (bytes : List ℕ) → wrote first bytes → wrote client bytes
 
 -- the same, and nothing else of it was touched
-pub record IsGreeting {C L : Type 0} (accepts_header : Bool) (seen : L → Seen) (wrote : L → List ℕ → Type 0) (first client : L) (server : Option L) (first_net net : NetSeen) (ran : Option (Result Ran SessionFault)) (held : Option C) (greeter : Read) : Type 0 where
+pub record IsGreeting {C L : Type 0} (accepts_header : Bool) (seen : L → Seen) (wrote : L → List ℕ → Type 0) (first client : L) (server : Option L) (first_net net : NetSeen) (ran : Option (Result Ran SessionFault)) (held : Held C) (greeter : Read) : Type 0 where
   pub greeted : IsGreeted accepts_header seen wrote first client greeter
   pub no_server : server ≡ None
   pub same_net : net ≡ first_net
   pub goes_on : ran ≡ None
-  pub no_core : held ≡ None
+  pub no_core : held ≡ helds.Nothing
 
 -- This caller asks. Its session is where it leads from the link as it was met, and from the net that was to introduce it then.
-pub record IsServed {C L N : Type 0} (M : Option Pair → Meaning) (stands : Option Pair → C → Past → Type 0) (sees : C → CoreSeen) (sound : C → Type 0) (seen : L → Seen) (wrote : L → List ℕ → Type 0) (tells : L → Option Pair → Type 0) (accepts_header : Bool) (opening : Opening) (sees_net : N → NetSeen) (first client : L) (server : Option L) (to : Place) (first_net net : NetSeen) (ran : Option (Result Ran SessionFault)) (held : Option C) (pair : Option Pair) : Type 0 where
+pub record IsServed {C L N : Type 0} (M : Option Pair → Meaning) (stands : Option Pair → C → Past → Type 0) (sees : C → CoreSeen) (sound rested : C → Type 0) (seen : L → Seen) (wrote : L → List ℕ → Type 0) (tells : L → Option Pair → Type 0) (accepts_header : Bool) (opening : Opening) (sees_net : N → NetSeen) (first client : L) (server : Option L) (to : Place) (first_net net : NetSeen) (ran : Option (Result Ran SessionFault)) (held : Held C) (pair : Option Pair) : Type 0 where
   pub begins : L
   pub met : MetSo tells accepts_header seen wrote first begins (met.Caller pair)
   pub own : N
   pub introduces : sees_net own ≡ introduced (heading_for opening.sends_header pair) first_net
-  pub at : IsAt (M pair) (stands pair) sees sound seen wrote begins client server to (sees_net own) net ran held
+  pub at : IsAt (M pair) (stands pair) sees sound rested seen wrote begins client server to (sees_net own) net ran held
 
 -- its client isn't heard: it has ended, with nothing sent to anybody
-pub record IsTurnedAway {C L : Type 0} (seen : L → Seen) (wrote : L → List ℕ → Type 0) (tells : L → Option Pair → Type 0) (accepts_header : Bool) (first client : L) (server : Option L) (first_net net : NetSeen) (ran : Option (Result Ran SessionFault)) (held : Option C) : Type 0 where
+pub record IsTurnedAway {C L : Type 0} (seen : L → Seen) (wrote : L → List ℕ → Type 0) (tells : L → Option Pair → Type 0) (accepts_header : Bool) (first client : L) (server : Option L) (first_net net : NetSeen) (ran : Option (Result Ran SessionFault)) (held : Held C) : Type 0 where
   pub begins : L
   pub met : MetSo tells accepts_header seen wrote first begins met.Refused
   pub away : TurnedAway seen wrote begins client first_net net unheard
   pub no_server : server ≡ None
   pub over : ran ≡ Some (Ok unheard)
-  pub no_core : held ≡ None
+  pub no_core : held ≡ helds.Nothing
 
 -- by who asks: it has a core only once it was met
-abbrev pub IsAtFor : {C L N : Type 0} → (M : Option Pair → Meaning) → (stands : Option Pair → C → Past → Type 0) → (sees : C → CoreSeen) → (sound : C → Type 0) → (seen : L → Seen) → (wrote : L → List ℕ → Type 0) → (tells : L → Option Pair → Type 0) → (accepts_header : Bool) → (opening : Opening) → (sees_net : N → NetSeen) → (first : L) → Caller → (client : L) → (server : Option L) → Place → (first_net net : NetSeen) → Option (Result Ran SessionFault) → Option C → Type 0
-IsAtFor M stands sees sound seen wrote tells accepts_header opening sees_net first (callers.Greets greeter) client server to first_net net ran held = IsGreeting accepts_header seen wrote first client server first_net net ran held greeter
-IsAtFor M stands sees sound seen wrote tells accepts_header opening sees_net first (callers.Known pair) client server to first_net net ran held = IsServed M stands sees sound seen wrote tells accepts_header opening sees_net first client server to first_net net ran held pair
-IsAtFor M stands sees sound seen wrote tells accepts_header opening sees_net first callers.Refused client server to first_net net ran held = IsTurnedAway seen wrote tells accepts_header first client server first_net net ran held
+abbrev pub IsAtFor : {C L N : Type 0} → (M : Option Pair → Meaning) → (stands : Option Pair → C → Past → Type 0) → (sees : C → CoreSeen) → (sound rested : C → Type 0) → (seen : L → Seen) → (wrote : L → List ℕ → Type 0) → (tells : L → Option Pair → Type 0) → (accepts_header : Bool) → (opening : Opening) → (sees_net : N → NetSeen) → (first : L) → Caller → (client : L) → (server : Option L) → Place → (first_net net : NetSeen) → Option (Result Ran SessionFault) → Held C → Type 0
+IsAtFor M stands sees sound rested seen wrote tells accepts_header opening sees_net first (callers.Greets greeter) client server to first_net net ran held = IsGreeting accepts_header seen wrote first client server first_net net ran held greeter
+IsAtFor M stands sees sound rested seen wrote tells accepts_header opening sees_net first (callers.Known pair) client server to first_net net ran held = IsServed M stands sees sound rested seen wrote tells accepts_header opening sees_net first client server to first_net net ran held pair
+IsAtFor M stands sees sound rested seen wrote tells accepts_header opening sees_net first callers.Refused client server to first_net net ran held = IsTurnedAway seen wrote tells accepts_header first client server first_net net ran held
 
 -- this connection stands so, whoever asks under this configuration
-abbrev pub StandsFor : {C L N S : Type 0} → (meaning : S → Meaning) → (stands : S → C → Past → Type 0) → (for_peer : S → Option Peer → S) → (cfg : S) → (sees : C → CoreSeen) → (sound : C → Type 0) → (seen : L → Seen) → (wrote : L → List ℕ → Type 0) → (tells : L → Option Pair → Type 0) → (accepts_header : Bool) → (opening : Opening) → (sees_net : N → NetSeen) → (first : L) → Place → (first_net : N) → Connection C L N → Type 0
-StandsFor meaning stands for_peer cfg sees sound seen wrote tells accepts_header opening sees_net first to first_net c =
-    IsAtFor (meaning ∘ for_peer cfg ∘ source_in) (stands ∘ for_peer cfg ∘ source_in) sees sound seen wrote tells accepts_header opening sees_net first c.caller c.conn.client c.conn.server to (sees_net first_net) (sees_net c.conn.net) c.conn.ran c.core
+abbrev pub StandsFor : {C L N S : Type 0} → (meaning : S → Meaning) → (stands : S → C → Past → Type 0) → (for_peer : S → Option Peer → S) → (cfg : S) → (sees : C → CoreSeen) → (sound rested : C → Type 0) → (seen : L → Seen) → (wrote : L → List ℕ → Type 0) → (tells : L → Option Pair → Type 0) → (accepts_header : Bool) → (opening : Opening) → (sees_net : N → NetSeen) → (first : L) → Place → (first_net : N) → Connection C L N → Type 0
+StandsFor meaning stands for_peer cfg sees sound rested seen wrote tells accepts_header opening sees_net first to first_net c =
+    IsAtFor (meaning ∘ for_peer cfg ∘ source_in) (stands ∘ for_peer cfg ∘ source_in) sees sound rested seen wrote tells accepts_header opening sees_net first c.caller c.conn.client c.conn.server to (sees_net first_net) (sees_net c.conn.net) c.conn.ran c.core
 
 -- ---- what it came to
 

@@ -16,6 +16,8 @@ use Rattle.serve_run.specs.Lines.{answer_of}
 use Rattle.px_run.specs.Lines.{outcomes_in}
 use Rattle.px_run.specs.Course.{IsSame, GoesOn, CameTo, MayStep}
 use Rattle.px_run.specs.declared.connection.Connection.{Connection}
+use Rattle.px_run.specs.declared.held.Held.{Held}
+use Rattle.px_run.specs.declared.held.Held.TheVariants as helds
 use Rattle.px_run.specs.declared.connection.Looked.{Looked}
 use Rattle.px_run.specs.declared.connection.Looked.TheVariants as looks
 
@@ -43,25 +45,36 @@ pub record IsServing {C L : Type 0} (stands : C → Past → Type 0) (sees : C �
   pub goes : GoesOn stands sees core seen wrote first client server to first_net net
   pub may : MayStep sees sound core server net None
 
+-- It rests between two requests, and its core was given back: one that rested with so many exchanges, with which its session is under way. No server's link is open.
+pub record IsResting {C L : Type 0} (stands : C → Past → Type 0) (sees : C → CoreSeen) (rested : C → Type 0) (seen : L → Seen) (wrote : L → List ℕ → Type 0) (first client : L) (server : Option L) (to : Place) (first_net net : NetSeen) (exchanges : ℕ) : Type 0 where
+  pub core : C
+  pub goes : GoesOn stands sees core seen wrote first client server to first_net net
+  pub rests : rested core
+  pub counts : (sees core).exchanges ≡ exchanges
+  pub no_server : server ≡ None
+
 -- it has ended, and its client's link is closed
 pub record IsOver {C L : Type 0} (M : Meaning) (stands : C → Past → Type 0) (sees : C → CoreSeen) (seen : L → Seen) (wrote : L → List ℕ → Type 0) (first client : L) (server : Option L) (to : Place) (first_net net : NetSeen) (ran : Result Ran SessionFault) : Type 0 where
   pub no_server : server ≡ None
   pub came : CameTo M stands sees seen wrote first client to first_net net (Some ran)
 
--- by what it came to, and by the core that it has: one that has ended has none
-abbrev pub IsAt : {C L : Type 0} → (M : Meaning) → (stands : C → Past → Type 0) → (sees : C → CoreSeen) → (sound : C → Type 0) → (seen : L → Seen) → (wrote : L → List ℕ → Type 0) → (first client : L) → (server : Option L) → Place → (first_net net : NetSeen) → Option (Result Ran SessionFault) → Option C → Type 0
-IsAt M stands sees sound seen wrote first client server to first_net net None None = IsWaiting seen wrote first client server first_net net
-IsAt M stands sees sound seen wrote first client server to first_net net None (Some core) = IsServing stands sees sound seen wrote first client server to first_net net core
-IsAt M stands sees sound seen wrote first client server to first_net net (Some ran) None = IsOver M stands sees seen wrote first client server to first_net net ran
-IsAt M stands sees sound seen wrote first client server to first_net net (Some ran) (Some core) = ⊥
+-- by what it came to, and by what it has of a core: one that has ended has none
+abbrev pub IsAt : {C L : Type 0} → (M : Meaning) → (stands : C → Past → Type 0) → (sees : C → CoreSeen) → (sound rested : C → Type 0) → (seen : L → Seen) → (wrote : L → List ℕ → Type 0) → (first client : L) → (server : Option L) → Place → (first_net net : NetSeen) → Option (Result Ran SessionFault) → Held C → Type 0
+IsAt M stands sees sound rested seen wrote first client server to first_net net None helds.Nothing = IsWaiting seen wrote first client server first_net net
+IsAt M stands sees sound rested seen wrote first client server to first_net net None (helds.Rest exchanges) = IsResting stands sees rested seen wrote first client server to first_net net exchanges
+IsAt M stands sees sound rested seen wrote first client server to first_net net None (helds.Core core) = IsServing stands sees sound seen wrote first client server to first_net net core
+IsAt M stands sees sound rested seen wrote first client server to first_net net (Some ran) helds.Nothing = IsOver M stands sees seen wrote first client server to first_net net ran
+IsAt M stands sees sound rested seen wrote first client server to first_net net (Some ran) (helds.Rest exchanges) = ⊥
+IsAt M stands sees sound rested seen wrote first client server to first_net net (Some ran) (helds.Core core) = ⊥
 
 -- this connection stands so under this configuration
-abbrev pub IsAtUnder : {C L N S : Type 0} → (meaning : S → Meaning) → (stands : S → C → Past → Type 0) → (cfg : S) → (sees : C → CoreSeen) → (sound : C → Type 0) → (seen : L → Seen) → (wrote : L → List ℕ → Type 0) → (sees_net : N → NetSeen) → (first : L) → Place → (first_net : N) → Connection C L N → Type 0
-IsAtUnder meaning stands cfg sees sound seen wrote sees_net first to first_net c = IsAt (meaning cfg) (stands cfg) sees sound seen wrote first c.conn.client c.conn.server to (sees_net first_net) (sees_net c.conn.net) c.conn.ran c.core
+abbrev pub IsAtUnder : {C L N S : Type 0} → (meaning : S → Meaning) → (stands : S → C → Past → Type 0) → (cfg : S) → (sees : C → CoreSeen) → (sound rested : C → Type 0) → (seen : L → Seen) → (wrote : L → List ℕ → Type 0) → (sees_net : N → NetSeen) → (first : L) → Place → (first_net : N) → Connection C L N → Type 0
+IsAtUnder meaning stands cfg sees sound rested seen wrote sees_net first to first_net c = IsAt (meaning cfg) (stands cfg) sees sound rested seen wrote first c.conn.client c.conn.server to (sees_net first_net) (sees_net c.conn.net) c.conn.ran c.core
 
 -- What a look says: one that ends does so in this look, and its number and its outcome are told. One that was given up for want of memory has no outcome.
 abbrev pub LookedSo : Looked → (number : ℕ) → (was ran : Option (Result Ran SessionFault)) → Type 0
 LookedSo looks.Waits number was ran = ran ≡ was
+LookedSo looks.Rests number was ran = ran ≡ was
 LookedSo looks.GoesOn number was ran = ran ≡ was
 LookedSo looks.Hungry number was ran = ran ≡ was
 LookedSo (looks.Ended told outcome) number was ran = (told ≡ number) × (was ≡ None) × (ran ≡ Some (answer_of outcome)) × (outcomes_in ran ≡ outcome ∷ [])

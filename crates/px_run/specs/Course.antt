@@ -1,7 +1,7 @@
 -- A connection of many, from its accept to its end.
-use Rattle.std.specs.Prelude.{◌≡◌, ℕ, ◌<◌, ◌⊎◌, List, [], ◌++◌, true, false, Option, Some, None, Result, Ok, Err, is_some, ⊤}
+use Rattle.std.specs.Prelude.{◌≡◌, ℕ, ◌<◌, ◌⊎◌, List, [], ◌++◌, Bool, true, false, Option, Some, None, Result, Ok, Err, is_some, ⊤}
 use Rattle.session_model.specs.Meaning.{Meaning}
-use Rattle.session_core.specs.History.{Past}
+use Rattle.session_core.specs.History.{Past, nothing_yet}
 use Rattle.px_link.specs.declared.turns.Turn.{Turn}
 use Rattle.px_link.specs.Link.{Seen, AsItIs}
 use Rattle.px_link.specs.Net.{Place, Kept, NetSeen}
@@ -16,6 +16,8 @@ use Rattle.htx_drive.specs.Weave.Single.{Working}
 use Rattle.htx_drive.specs.Weave.Outcome.{Untouched}
 use Rattle.px_run.specs.declared.step.Stepped.{Stepped}
 use Rattle.px_run.specs.declared.step.Stepped.TheVariants as steps
+use Rattle.px_run.specs.declared.held.Held.{Held}
+use Rattle.px_run.specs.declared.held.Held.TheVariants as helds
 
 -- ---- what it begins with
 
@@ -129,5 +131,28 @@ pub record HasCome {L : Type 0} (did : Stepped) (sound : Type 0) (server : Optio
   pub came : is_some ran ≡ true
 
 -- there is a core, and this is so of it
-abbrev pub HasCore : {C : Type 0} → Option C → (C → Type 0) → Type 0
-HasCore {C} held P = (core : C) × (held ≡ Some core) × P core
+abbrev pub HasCore : {C : Type 0} → Held C → (C → Type 0) → Type 0
+HasCore {C} held P = (core : C) × (held ≡ helds.Core core) × P core
+
+abbrev pub has_core : {C : Type 0} → Held C → Bool
+has_core helds.Nothing = false
+has_core (helds.Rest exchanges) = false
+has_core (helds.Core core) = true
+
+-- ---- a core that is taken
+
+-- Whatever a core stands for that rested with so many exchanges, this one stands for it too.
+abbrev pub Resumes : {C : Type 0} → (stands : C → Past → Type 0) → (sees : C → CoreSeen) → (rested : C → Type 0) → (exchanges : ℕ) → C → Type 0
+Resumes {C} stands sees rested exchanges core = (one : C) (past : Past) → stands one past → rested one → (sees one).exchanges ≡ exchanges → stands core past
+
+-- it rests between two exchanges, with so many behind it, and no server of it is open
+pub record RestsWith {C : Type 0} (sees : C → CoreSeen) (rested : C → Type 0) (exchanges : ℕ) (core : C) : Type 0 where
+  pub rests : rested core
+  pub idle : (sees core).serving ≡ false
+  pub counts : (sees core).exchanges ≡ exchanges
+
+-- by what a connection had before: it goes on where that rested, or nothing has happened to it
+abbrev pub TakesUp : {C : Type 0} → (stands : C → Past → Type 0) → (sees : C → CoreSeen) → (rested : C → Type 0) → Held C → C → Type 0
+TakesUp stands sees rested helds.Nothing core = stands core nothing_yet
+TakesUp stands sees rested (helds.Rest exchanges) core = Resumes stands sees rested exchanges core
+TakesUp stands sees rested (helds.Core before) core = stands core nothing_yet

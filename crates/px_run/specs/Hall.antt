@@ -24,16 +24,16 @@ use Rattle.px_run.specs.declared.plan.Opening.{Opening}
 -- ---- one place
 
 -- The connection is the one of its number: from the link that was accepted and the net that was made for that, it stands here, by who asks.
-pub record IsOf {C L N : Type 0} (M : Option Pair → Meaning) (stands : Option Pair → C → Past → Type 0) (sees : C → CoreSeen) (sound : C → Type 0) (seen : L → Seen) (wrote : L → List ℕ → Type 0) (tells : L → Option Pair → Type 0) (accepts_header : Bool) (opening : Opening) (sees_net : N → NetSeen) (to : Place) (visits : List (Visit L N)) (c : Connection C L N) : Type 0 where
+pub record IsOf {C L N : Type 0} (M : Option Pair → Meaning) (stands : Option Pair → C → Past → Type 0) (sees : C → CoreSeen) (sound rested : C → Type 0) (seen : L → Seen) (wrote : L → List ℕ → Type 0) (tells : L → Option Pair → Type 0) (accepts_header : Bool) (opening : Opening) (sees_net : N → NetSeen) (to : Place) (visits : List (Visit L N)) (c : Connection C L N) : Type 0 where
   pub visit : Visit L N
   pub is : numbered c.number visits ≡ Some visit
   pub here : visit.back ≡ None
   pub came : visit.came ≡ c.conn.ran
-  pub at : IsAtFor M stands sees sound seen wrote tells accepts_header opening sees_net visit.first c.caller c.conn.client c.conn.server to (sees_net visit.own) (sees_net c.conn.net) c.conn.ran c.core
+  pub at : IsAtFor M stands sees sound rested seen wrote tells accepts_header opening sees_net visit.first c.caller c.conn.client c.conn.server to (sees_net visit.own) (sees_net c.conn.net) c.conn.ran c.core
 
-abbrev pub IsPlaced : {C L N : Type 0} → (M : Option Pair → Meaning) → (stands : Option Pair → C → Past → Type 0) → (sees : C → CoreSeen) → (sound : C → Type 0) → (seen : L → Seen) → (wrote : L → List ℕ → Type 0) → (tells : L → Option Pair → Type 0) → (accepts_header : Bool) → (opening : Opening) → (sees_net : N → NetSeen) → Place → List (Visit L N) → Option (Connection C L N) → Type 0
-IsPlaced M stands sees sound seen wrote tells accepts_header opening sees_net to visits None = ⊤
-IsPlaced M stands sees sound seen wrote tells accepts_header opening sees_net to visits (Some c) = IsOf M stands sees sound seen wrote tells accepts_header opening sees_net to visits c
+abbrev pub IsPlaced : {C L N : Type 0} → (M : Option Pair → Meaning) → (stands : Option Pair → C → Past → Type 0) → (sees : C → CoreSeen) → (sound rested : C → Type 0) → (seen : L → Seen) → (wrote : L → List ℕ → Type 0) → (tells : L → Option Pair → Type 0) → (accepts_header : Bool) → (opening : Opening) → (sees_net : N → NetSeen) → Place → List (Visit L N) → Option (Connection C L N) → Type 0
+IsPlaced M stands sees sound rested seen wrote tells accepts_header opening sees_net to visits None = ⊤
+IsPlaced M stands sees sound rested seen wrote tells accepts_header opening sees_net to visits (Some c) = IsOf M stands sees sound rested seen wrote tells accepts_header opening sees_net to visits c
 
 -- the connection at a place came to what it says
 abbrev pub advanced : {C L N : Type 0} → Option (Connection C L N) → List (Visit L N) → List (Visit L N)
@@ -81,15 +81,15 @@ abbrev pub MayGiveBack : {C L N : Type 0} → (seen : L → Seen) → (wrote : L
 MayGiveBack seen wrote old_net net old new = GaveBack seen wrote old_net net old new ⊎ ((new ≡ old) × (net ≡ old_net))
 
 -- the connection of a place was given up with the loop, unless it has ended, and its client's link was given back
-pub record GaveUp {C L N : Type 0} (M : Option Pair → Meaning) (stands : Option Pair → C → Past → Type 0) (sees : C → CoreSeen) (sound : C → Type 0) (seen : L → Seen) (wrote : L → List ℕ → Type 0) (tells : L → Option Pair → Type 0) (accepts_header : Bool) (opening : Opening) (sees_net : N → NetSeen) (to : Place) (old_net net : NetSeen) (c : Connection C L N) : Type 0 where
+pub record GaveUp {C L N : Type 0} (M : Option Pair → Meaning) (stands : Option Pair → C → Past → Type 0) (sees : C → CoreSeen) (sound rested : C → Type 0) (seen : L → Seen) (wrote : L → List ℕ → Type 0) (tells : L → Option Pair → Type 0) (accepts_header : Bool) (opening : Opening) (sees_net : N → NetSeen) (to : Place) (old_net net : NetSeen) (c : Connection C L N) : Type 0 where
   pub client : L
   pub own : N
-  pub came : (visits : List (Visit L N)) (of : IsOf M stands sees sound seen wrote tells accepts_header opening sees_net to visits c) → CameBack M stands sees seen wrote tells accepts_header opening of.visit.first client to (sees_net of.visit.own) (sees_net own) c.conn.ran
+  pub came : (visits : List (Visit L N)) (of : IsOf M stands sees sound rested seen wrote tells accepts_header opening sees_net to visits c) → CameBack M stands sees seen wrote tells accepts_header opening of.visit.first client to (sees_net of.visit.own) (sees_net own) c.conn.ran
   pub keeps : Keeps (wrote client) old_net net (seen client)
 
-abbrev pub GaveUpAt : {C L N : Type 0} → (M : Option Pair → Meaning) → (stands : Option Pair → C → Past → Type 0) → (sees : C → CoreSeen) → (sound : C → Type 0) → (seen : L → Seen) → (wrote : L → List ℕ → Type 0) → (tells : L → Option Pair → Type 0) → (accepts_header : Bool) → (opening : Opening) → (sees_net : N → NetSeen) → Place → (old_net net : NetSeen) → Option (Connection C L N) → Type 0
-GaveUpAt M stands sees sound seen wrote tells accepts_header opening sees_net to old_net net None = net ≡ old_net
-GaveUpAt M stands sees sound seen wrote tells accepts_header opening sees_net to old_net net (Some c) = GaveUp M stands sees sound seen wrote tells accepts_header opening sees_net to old_net net c
+abbrev pub GaveUpAt : {C L N : Type 0} → (M : Option Pair → Meaning) → (stands : Option Pair → C → Past → Type 0) → (sees : C → CoreSeen) → (sound rested : C → Type 0) → (seen : L → Seen) → (wrote : L → List ℕ → Type 0) → (tells : L → Option Pair → Type 0) → (accepts_header : Bool) → (opening : Opening) → (sees_net : N → NetSeen) → Place → (old_net net : NetSeen) → Option (Connection C L N) → Type 0
+GaveUpAt M stands sees sound rested seen wrote tells accepts_header opening sees_net to old_net net None = net ≡ old_net
+GaveUpAt M stands sees sound rested seen wrote tells accepts_header opening sees_net to old_net net (Some c) = GaveUp M stands sees sound rested seen wrote tells accepts_header opening sees_net to old_net net c
 
 -- ---- all places
 
@@ -107,8 +107,8 @@ abbrev pub IsHere : {A : Type 0} → (places : List (Option A)) → (place : ℕ
 IsHere places place one = slice_get places place ≡ Some (Some one)
 
 -- Each connection is the one of its number, no two places have the same, and all that weren't given back are here. Nothing has happened to the cores that are free.
-pub record AllStand {C L N : Type 0} (M : Option Pair → Meaning) (stands : Option Pair → C → Past → Type 0) (sees : C → CoreSeen) (sound : C → Type 0) (seen : L → Seen) (wrote : L → List ℕ → Type 0) (tells : L → Option Pair → Type 0) (accepts_header : Bool) (opening : Opening) (sees_net : N → NetSeen) (to : Place) (visits : List (Visit L N)) (places : List (Option (Connection C L N))) (sets : List C) : Type 0 where
-  pub placed : (place : ℕ) (c : Connection C L N) → IsHere places place c → IsOf M stands sees sound seen wrote tells accepts_header opening sees_net to visits c
+pub record AllStand {C L N : Type 0} (M : Option Pair → Meaning) (stands : Option Pair → C → Past → Type 0) (sees : C → CoreSeen) (sound rested : C → Type 0) (seen : L → Seen) (wrote : L → List ℕ → Type 0) (tells : L → Option Pair → Type 0) (accepts_header : Bool) (opening : Opening) (sees_net : N → NetSeen) (to : Place) (visits : List (Visit L N)) (places : List (Option (Connection C L N))) (sets : List C) : Type 0 where
+  pub placed : (place : ℕ) (c : Connection C L N) → IsHere places place c → IsOf M stands sees sound rested seen wrote tells accepts_header opening sees_net to visits c
   pub alone : (place other : ℕ) (c d : Connection C L N) → IsHere places place c → IsHere places other d → c.number ≡ d.number → place ≡ other
   pub each : AllByRecursion (IsVisit M stands sees seen wrote tells accepts_header opening sees_net to) visits
   pub counted : count_open visits ≡ count_taken places
@@ -134,10 +134,10 @@ pub record Advances {L N : Type 0} (looked : Looked) (old new : List (Visit L N)
 -- ---- the loop
 
 -- What the loop has done so far, and where all connections stand. `fair`: none was given up for want of memory, or with the loop. `whole`: no memory was wanted for a line.
-pub record Goes {C L N : Type 0} (M : Option Pair → Meaning) (stands : Option Pair → C → Past → Type 0) (sees : C → CoreSeen) (sound : C → Type 0) (seen : L → Seen) (wrote : L → List ℕ → Type 0) (tells : L → Option Pair → Type 0) (accepts_header logs : Bool) (opening : Opening) (sees_net : N → NetSeen) (to : Place) (fair whole : Bool) (begun now : NetSeen) (writes writes_now : ℕ) (before after : Option (List ℕ)) (hall : Hall C L N) : Type 0 where
+pub record Goes {C L N : Type 0} (M : Option Pair → Meaning) (stands : Option Pair → C → Past → Type 0) (sees : C → CoreSeen) (sound rested : C → Type 0) (seen : L → Seen) (wrote : L → List ℕ → Type 0) (tells : L → Option Pair → Type 0) (accepts_header logs : Bool) (opening : Opening) (sees_net : N → NetSeen) (to : Place) (fair whole : Bool) (begun now : NetSeen) (writes writes_now : ℕ) (before after : Option (List ℕ)) (hall : Hall C L N) : Type 0 where
   pub visits : List (Visit L N)
   pub said : List Said
-  pub all : AllStand M stands sees sound seen wrote tells accepts_header opening sees_net to visits hall.places.items hall.sets.items
+  pub all : AllStand M stands sees sound rested seen wrote tells accepts_header opening sees_net to visits hall.places.items hall.sets.items
   pub accepted : hall.accepted ≡ length visits
   pub story : Story seen wrote begun now visits (ended_in said)
   pub itself : fair ≡ true → AllByRecursion EndsByItself visits
@@ -145,20 +145,20 @@ pub record Goes {C L N : Type 0} (M : Option Pair → Meaning) (stands : Option 
   pub told_so : AllTold (IsLogged M stands sees seen wrote tells accepts_header logs opening sees_net to visits) said
 
 -- what the loop has done so far under this configuration
-abbrev pub GoesFor : {C L N S : Type 0} → (meaning : S → Meaning) → (stands : S → C → Past → Type 0) → (for_peer : S → Option Peer → S) → (cfg : S) → (sees : C → CoreSeen) → (sound : C → Type 0) → (seen : L → Seen) → (wrote : L → List ℕ → Type 0) → (tells : L → Option Pair → Type 0) → (accepts_header logs : Bool) → (opening : Opening) → (sees_net : N → NetSeen) → Place → (fair whole : Bool) → (begun now : NetSeen) → (writes writes_now : ℕ) → (before after : Option (List ℕ)) → Hall C L N → Type 0
+abbrev pub GoesFor : {C L N S : Type 0} → (meaning : S → Meaning) → (stands : S → C → Past → Type 0) → (for_peer : S → Option Peer → S) → (cfg : S) → (sees : C → CoreSeen) → (sound rested : C → Type 0) → (seen : L → Seen) → (wrote : L → List ℕ → Type 0) → (tells : L → Option Pair → Type 0) → (accepts_header logs : Bool) → (opening : Opening) → (sees_net : N → NetSeen) → Place → (fair whole : Bool) → (begun now : NetSeen) → (writes writes_now : ℕ) → (before after : Option (List ℕ)) → Hall C L N → Type 0
 GoesFor meaning stands for_peer cfg = Goes (meaning ∘ for_peer cfg ∘ source_in) (stands ∘ for_peer cfg ∘ source_in)
 
 -- Whatever the loop had done, it has done behind this too. `whole`: no memory was wanted.
-abbrev pub KeepsGoing : {C L N S K : Type 0} → (meaning : S → Meaning) → (stands : S → C → Past → Type 0) → (for_peer : S → Option Peer → S) → (sees : C → CoreSeen) → (sound : C → Type 0) → (seen : L → Seen) → (wrote : L → List ℕ → Type 0) → (tells : L → Option Pair → Type 0) → (accepts_header logs : Bool) → (opening : Opening) → (sees_net : N → NetSeen) → Place → (faults : K → ℕ) → (written : K → Option (List ℕ)) → (whole : Bool) → (old_net net : N) → (old_out out : K) → (old new : Hall C L N) → Type 0
-KeepsGoing {C} {L} {N} {S} {K} meaning stands for_peer sees sound seen wrote tells accepts_header logs opening sees_net to faults written whole old_net net old_out out old new =
-    (cfg : S) (begun : NetSeen) (writes : ℕ) (before : Option (List ℕ)) → GoesFor meaning stands for_peer cfg sees sound seen wrote tells accepts_header logs opening sees_net to true true begun (sees_net old_net) writes (faults old_out) before (written old_out) old
-    → GoesFor meaning stands for_peer cfg sees sound seen wrote tells accepts_header logs opening sees_net to whole whole begun (sees_net net) writes (faults out) before (written out) new
+abbrev pub KeepsGoing : {C L N S K : Type 0} → (meaning : S → Meaning) → (stands : S → C → Past → Type 0) → (for_peer : S → Option Peer → S) → (sees : C → CoreSeen) → (sound rested : C → Type 0) → (seen : L → Seen) → (wrote : L → List ℕ → Type 0) → (tells : L → Option Pair → Type 0) → (accepts_header logs : Bool) → (opening : Opening) → (sees_net : N → NetSeen) → Place → (faults : K → ℕ) → (written : K → Option (List ℕ)) → (whole : Bool) → (old_net net : N) → (old_out out : K) → (old new : Hall C L N) → Type 0
+KeepsGoing {C} {L} {N} {S} {K} meaning stands for_peer sees sound rested seen wrote tells accepts_header logs opening sees_net to faults written whole old_net net old_out out old new =
+    (cfg : S) (begun : NetSeen) (writes : ℕ) (before : Option (List ℕ)) → GoesFor meaning stands for_peer cfg sees sound rested seen wrote tells accepts_header logs opening sees_net to true true begun (sees_net old_net) writes (faults old_out) before (written old_out) old
+    → GoesFor meaning stands for_peer cfg sees sound rested seen wrote tells accepts_header logs opening sees_net to whole whole begun (sees_net net) writes (faults out) before (written out) new
 
 -- the same where nothing is written, wherever the servers are
-abbrev pub KeepsAll : {C L N S : Type 0} → (meaning : S → Meaning) → (stands : S → C → Past → Type 0) → (for_peer : S → Option Peer → S) → (sees : C → CoreSeen) → (sound : C → Type 0) → (seen : L → Seen) → (wrote : L → List ℕ → Type 0) → (tells : L → Option Pair → Type 0) → (accepts_header logs : Bool) → (opening : Opening) → (sees_net : N → NetSeen) → (old_net net : N) → (old new : Hall C L N) → Type 0
-KeepsAll {C} {L} {N} {S} meaning stands for_peer sees sound seen wrote tells accepts_header logs opening sees_net old_net net old new =
-    (cfg : S) (to : Place) (begun : NetSeen) (writes writes_now : ℕ) (before after : Option (List ℕ)) → GoesFor meaning stands for_peer cfg sees sound seen wrote tells accepts_header logs opening sees_net to true true begun (sees_net old_net) writes writes_now before after old
-    → GoesFor meaning stands for_peer cfg sees sound seen wrote tells accepts_header logs opening sees_net to true true begun (sees_net net) writes writes_now before after new
+abbrev pub KeepsAll : {C L N S : Type 0} → (meaning : S → Meaning) → (stands : S → C → Past → Type 0) → (for_peer : S → Option Peer → S) → (sees : C → CoreSeen) → (sound rested : C → Type 0) → (seen : L → Seen) → (wrote : L → List ℕ → Type 0) → (tells : L → Option Pair → Type 0) → (accepts_header logs : Bool) → (opening : Opening) → (sees_net : N → NetSeen) → (old_net net : N) → (old new : Hall C L N) → Type 0
+KeepsAll {C} {L} {N} {S} meaning stands for_peer sees sound rested seen wrote tells accepts_header logs opening sees_net old_net net old new =
+    (cfg : S) (to : Place) (begun : NetSeen) (writes writes_now : ℕ) (before after : Option (List ℕ)) → GoesFor meaning stands for_peer cfg sees sound rested seen wrote tells accepts_header logs opening sees_net to true true begun (sees_net old_net) writes writes_now before after old
+    → GoesFor meaning stands for_peer cfg sees sound rested seen wrote tells accepts_header logs opening sees_net to true true begun (sees_net net) writes writes_now before after new
 
 -- what the loop leaves of a net: it binds and dials nothing more
 pub record IsSameNet (old new : NetSeen) : Type 0 where

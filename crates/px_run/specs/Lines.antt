@@ -67,6 +67,7 @@ tells_of entries = map Tells entries
 abbrev pub ended_by : Looked → List Ended
 ended_by looks.Waits = []
 ended_by looks.GoesOn = []
+ended_by looks.Rests = []
 ended_by looks.Hungry = []
 ended_by (looks.Ended number outcome) = (number, outcome) ∷ []
 ended_by looks.Lost = []

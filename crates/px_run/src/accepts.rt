@@ -12,6 +12,7 @@ use crate::agenda::Agenda;
 use crate::caller::{caller_of, introduce};
 use crate::connection::Connection;
 use crate::hall::Hall;
+use crate::held::Held;
 use crate::{Nets, Plan, RunFault, Times};
 use fcgi_link::AsksApplication;
 use htx_drive::weave::{Conn, Resets, ResetsFor};
@@ -85,8 +86,8 @@ fn take_in<
     requires none { (d : Option (Connection C L N)) → slice_index_or hall.old.places.items place d ≡ None }
     requires more { hall.old.accepted < 2 ^ 32 - 1 }
     requires own { IsToldNet plan.now.opening.responder (N.seen own) }
-    ensures stands { (cfg : C.Settings) (to : Place) (visits : List (Visit L N)) → hall.old.accepted ≡ length visits → AllStand (C.meaning ∘ C.for_peer cfg ∘ source_in) (C.stands ∘ C.for_peer cfg ∘ source_in) C.seen C.sound L.seen L.wrote L.tells plan.now.accepts_header plan.now.opening N.seen to visits hall.old.places.items hall.old.sets.items
-        → AllStand (C.meaning ∘ C.for_peer cfg ∘ source_in) (C.stands ∘ C.for_peer cfg ∘ source_in) C.seen C.sound L.seen L.wrote L.tells plan.now.accepts_header plan.now.opening N.seen to (visits ++ new_visit link own ∷ []) hall.new.places.items hall.new.sets.items }
+    ensures stands { (cfg : C.Settings) (to : Place) (visits : List (Visit L N)) → hall.old.accepted ≡ length visits → AllStand (C.meaning ∘ C.for_peer cfg ∘ source_in) (C.stands ∘ C.for_peer cfg ∘ source_in) C.seen C.sound C.rested L.seen L.wrote L.tells plan.now.accepts_header plan.now.opening N.seen to visits hall.old.places.items hall.old.sets.items
+        → AllStand (C.meaning ∘ C.for_peer cfg ∘ source_in) (C.stands ∘ C.for_peer cfg ∘ source_in) C.seen C.sound C.rested L.seen L.wrote L.tells plan.now.accepts_header plan.now.opening N.seen to (visits ++ new_visit link own ∷ []) hall.new.places.items hall.new.sets.items }
     ensures accepted { hall.new.accepted ≡ hall.old.accepted + 1 }
     ensures output { hall.new.output ≡ hall.old.output }
     ensures taken { count_taken hall.new.places.items ≡ 1 + count_taken hall.old.places.items }
@@ -101,7 +102,7 @@ fn take_in<
         number: hall.accepted,
         caller,
         conn: Conn::new(link, own),
-        core: None,
+        core: Held::Nothing,
     };
     put(&mut hall.places[place], connection);
 }
@@ -138,7 +139,7 @@ fn accept<
     requires within { place < length hall.old.places.items }
     requires none { (d : Option (Connection C L N)) → slice_index_or hall.old.places.items place d ≡ None }
     requires more { hall.old.accepted < 2 ^ 32 - 1 }
-    ensures goes { KeepsAll C.meaning C.stands C.for_peer C.seen C.sound L.seen L.wrote L.tells plan.now.accepts_header plan.now.logs plan.now.opening N.seen net.old net.new hall.old hall.new }
+    ensures goes { KeepsAll C.meaning C.stands C.for_peer C.seen C.sound C.rested L.seen L.wrote L.tells plan.now.accepts_header plan.now.logs plan.now.opening N.seen net.old net.new hall.old hall.new }
     ensures accepted { hall.new.accepted ≤ hall.old.accepted + 1 }
     ensures balanced { IsBalanced (N.seen net.old) (N.seen net.new) hall.old.places.items hall.new.places.items }
     ensures net { IsSameNet (N.seen net.old) (N.seen net.new) }
@@ -182,7 +183,7 @@ fn accept_next<
     wakes: &mut W,
     plan: &Plan,
 ) -> Result<bool, RunFault>
-    ensures goes { KeepsAll C.meaning C.stands C.for_peer C.seen C.sound L.seen L.wrote L.tells plan.now.accepts_header plan.now.logs plan.now.opening N.seen net.old net.new hall.old hall.new }
+    ensures goes { KeepsAll C.meaning C.stands C.for_peer C.seen C.sound C.rested L.seen L.wrote L.tells plan.now.accepts_header plan.now.logs plan.now.opening N.seen net.old net.new hall.old hall.new }
     ensures within { IfSome plan.now.connections (λ count. hall.old.accepted ≤ count → hall.new.accepted ≤ count) }
     ensures balanced { IsBalanced (N.seen net.old) (N.seen net.new) hall.old.places.items hall.new.places.items }
     ensures net { IsSameNet (N.seen net.old) (N.seen net.new) }
@@ -246,7 +247,7 @@ fn accept_further<
     wakes: &mut W,
     plan: &Plan,
 ) -> Result<bool, RunFault>
-    ensures goes { KeepsAll C.meaning C.stands C.for_peer C.seen C.sound L.seen L.wrote L.tells plan.now.accepts_header plan.now.logs plan.now.opening N.seen net.old net.new hall.old hall.new }
+    ensures goes { KeepsAll C.meaning C.stands C.for_peer C.seen C.sound C.rested L.seen L.wrote L.tells plan.now.accepts_header plan.now.logs plan.now.opening N.seen net.old net.new hall.old hall.new }
     ensures within { IfSome plan.now.connections (λ count. hall.old.accepted ≤ count → hall.new.accepted ≤ count) }
     ensures balanced { IsBalanced (N.seen net.old) (N.seen net.new) hall.old.places.items hall.new.places.items }
     ensures net { IsSameNet (N.seen net.old) (N.seen net.new) }
@@ -272,7 +273,7 @@ pub(crate) fn accepts<
     wakes: &mut W,
     plan: &Plan,
 ) -> Result<(), RunFault>
-    ensures goes { KeepsAll C.meaning C.stands C.for_peer C.seen C.sound L.seen L.wrote L.tells plan.now.accepts_header plan.now.logs plan.now.opening N.seen net.old net.new hall.old hall.new }
+    ensures goes { KeepsAll C.meaning C.stands C.for_peer C.seen C.sound C.rested L.seen L.wrote L.tells plan.now.accepts_header plan.now.logs plan.now.opening N.seen net.old net.new hall.old hall.new }
     ensures within { IfSome plan.now.connections (λ count. hall.old.accepted ≤ count → hall.new.accepted ≤ count) }
     ensures balanced { IsBalanced (N.seen net.old) (N.seen net.new) hall.old.places.items hall.new.places.items }
     ensures net { IsSameNet (N.seen net.old) (N.seen net.new) }

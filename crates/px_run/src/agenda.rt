@@ -115,17 +115,35 @@ impl Agenda {
     }
 
     /// The connection at this place goes on once a core is free.
-    pub fn wait_for_core(&mut self, place: usize) -> Result<(), OutOfMemory> {
+    pub fn wait_for_core(
+        &mut self,
+        place: usize,
+        times: &Times,
+        now: u64,
+    ) -> Result<(), OutOfMemory> {
+        if place >= self.paces.len() {
+            return Ok(());
+        }
+        self.paces[place].hungers(times, now);
+        let until = self.paces[place].until;
+        self.next = sooner(self.next, until);
+        if self.paces[place].hungry {
+            return Ok(());
+        }
+        self.paces[place].hungry = true;
         self.hungry.push(place)?;
         Ok(())
     }
 
-    /// A core is free: the first of those that wait for one is looked at next.
+    /// A core is free: the first of those that still wait for one is looked at next.
     pub fn feed(&mut self) -> Result<(), OutOfMemory> {
-        if self.hungry.is_empty() {
+        if !self.lacks_cores() || self.hungry.is_empty() {
             return Ok(());
         }
         let place = self.hungry.remove(0);
+        if place < self.paces.len() {
+            self.paces[place].hungry = false;
+        }
         self.call_next(place)
     }
 
@@ -192,9 +210,19 @@ impl Agenda {
         self.call_next(place)
     }
 
-    /// Whether some connection waits for a core.
-    pub fn lacks_cores(&self) -> bool {
-        !self.hungry.is_empty()
+    /// Whether some connection waits for a core. Those that got one meanwhile are forgotten.
+    pub fn lacks_cores(&mut self) -> bool {
+        for _ in 0..self.hungry.len() {
+            if self.hungry.is_empty() {
+                return false;
+            }
+            let place = self.hungry[0];
+            if place < self.paces.len() && self.paces[place].hungry {
+                return true;
+            }
+            self.hungry.remove(0);
+        }
+        false
     }
 
     /// The place of the kept connection that has rested longest.

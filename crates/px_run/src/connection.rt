@@ -4,15 +4,17 @@ ghost use Rattle.std.specs.List.{AllByRecursion};
 ghost use Rattle.px_link.specs.Net.{address_of, Place};
 ghost use Rattle.px_peer.specs.declared.Pair.{Pair};
 ghost use Rattle.px_proxyproto.specs.Meeting.{source_in};
-ghost use Rattle.htx_drive.specs.Weave.State.{IsReady, IsFresh};
-ghost use Rattle.px_run.specs.Course.{IsSame, StandsSomehow, StepsTo, MayStep, HasCome, HasCore, LeadsTo, IsUnderWay};
+ghost use Rattle.htx_drive.specs.Weave.State.{IsReady};
+ghost use Rattle.px_run.specs.Course.{IsSame, StandsSomehow, StepsTo, MayStep, HasCome, HasCore, has_core, TakesUp, LeadsTo, IsUnderWay};
 ghost use Rattle.htx_drive.specs.declared.SessionFault.{SessionFault};
 ghost use Rattle.px_run.specs.Connection.{LookedSo, IsIdle, AllFreshFor, IsAtUnder};
 ghost use Rattle.px_run.specs.Callers.{pair_of};
 ghost use Rattle.px_run.specs.Log.{Logs};
+ghost use Rattle.px_run.specs.declared.held.Held.TheVariants as helds;
 
 use crate::boxed_core::BoxedCore;
 use crate::caller::{Caller, pair_of};
+use crate::held::{Held, has_core, prepare, rests_with};
 use crate::pace::Pace;
 use crate::step::{Stepped, Tools, step};
 use crate::watching::{watch_connect, watch_server};
@@ -25,7 +27,7 @@ use serve_run::{Outcome, Ran, SessionFault};
 /// How many steps one connection makes in a row, while others wait.
 const STEPS: usize = 16;
 
-/// One connection. It has no core before it was met and its client gives its first bytes, and none once it has ended.
+/// One connection. It has no core before it was met and its client gives its first bytes, none while it rests between two requests, and none once it has ended.
 #[derive(Drop)]
 pub(crate) struct Connection<C, L, N> {
     /// Its number in the order in which links were accepted, from 1.
@@ -33,7 +35,7 @@ pub(crate) struct Connection<C, L, N> {
     /// Who asks.
     pub caller: Caller,
     pub conn: Conn<L, N>,
-    pub core: Option<BoxedCore<C>>,
+    pub core: Held<C>,
 }
 
 /// What a look at a connection came to.
@@ -41,6 +43,8 @@ pub(crate) struct Connection<C, L, N> {
 pub(crate) enum Looked {
     /// It waits for an event or its deadline.
     Waits,
+    /// It does so between two requests, and gave its core back now.
+    Rests,
     /// It can go on at once.
     GoesOn,
     /// It can go on once a core is free.
@@ -157,26 +161,54 @@ fn go<C: Resets, L: Waits, N: WaitsNet<Link = L>, W: Wakes<N>>(
     ensures caller { connection.new.caller ≡ connection.old.caller }
 {
     match &mut connection.core {
-        Some(core) => moves(&mut connection.conn, core.core(), pace, wakes, to, tools),
-        None => unreachable!(),
+        Held::Core(core) => moves(&mut connection.conn, core.core(), pace, wakes, to, tools),
+        Held::Nothing => unreachable!(),
+        Held::Rest(_) => unreachable!(),
     }
 }
 
-/// The core of a connection that has ended is free.
-fn free<C: ResetsFor + Drop>(core: &mut Option<BoxedCore<C>>, sets: &mut Vec<BoxedCore<C>>)
+/// The core of a connection is free, and this stands in its place.
+fn free<C: ResetsFor + Drop>(core: &mut Held<C>, instead: Held<C>, sets: &mut Vec<BoxedCore<C>>)
     requires sound { HasCore core.old C.sound }
     requires ready { AllByRecursion (IsReady C.seen C.sound) sets.old.items }
-    ensures none { core.new ≡ None }
+    ensures instead { core.new ≡ instead }
     ensures ready { AllByRecursion (IsReady C.seen C.sound) sets.new.items }
     ensures fresh { (cfg : C.Settings) (pair : Option Pair) → HasCore core.old (StandsSomehow (C.stands (C.for_peer cfg (source_in pair)))) → AllFreshFor C.stands C.for_peer cfg sets.old.items → AllFreshFor C.stands C.for_peer cfg sets.new.items }
 {
-    match core.take() {
-        Some(set) => give_set(set, sets),
-        None => unreachable!(),
+    match std::mem::replace(core, instead) {
+        Held::Core(set) => give_set(set, sets),
+        Held::Nothing => unreachable!(),
+        Held::Rest(_) => unreachable!(),
     }
 }
 
-/// Steps of a connection that has a core, which is free behind its end, but for one that found no memory.
+/// A connection waits, with its core. Where that rests between two requests it gives it back, and keeps the count of its exchanges alone.
+fn rest<C: ResetsFor + Drop, L: Waits, N: WaitsNet<Link = L>>(
+    connection: &mut Connection<C, L, N>,
+    sets: &mut Vec<BoxedCore<C>>,
+    pace: &mut Pace,
+) -> Looked
+    requires may { HasCore connection.old.core (λ core. MayStep C.seen C.sound core connection.old.conn.server (N.seen connection.old.conn.net) connection.old.conn.ran) }
+    requires ready { AllByRecursion (IsReady C.seen C.sound) sets.old.items }
+    ensures ready { AllByRecursion (IsReady C.seen C.sound) sets.new.items }
+    ensures at { (cfg : C.Settings) (first : L) (to : Place) (first_net : N) → HasCore connection.old.core (λ core. IsUnderWay (C.stands cfg) C.seen core L.seen L.wrote N.seen first to first_net connection.old.conn)
+        → IsAtUnder C.meaning C.stands cfg C.seen C.sound C.rested L.seen L.wrote N.seen first to first_net connection.new }
+    ensures fresh { (cfg : C.Settings) (pair : Option Pair) (first : L) (to : Place) (first_net : N) → HasCore connection.old.core (λ core. IsUnderWay (C.stands (C.for_peer cfg (source_in pair))) C.seen core L.seen L.wrote N.seen first to first_net connection.old.conn)
+        → AllFreshFor C.stands C.for_peer cfg sets.old.items → AllFreshFor C.stands C.for_peer cfg sets.new.items }
+    ensures looked { IsIdle result }
+    ensures ran { connection.new.conn.ran ≡ None }
+    ensures number { connection.new.number ≡ connection.old.number }
+    ensures caller { connection.new.caller ≡ connection.old.caller }
+{
+    let Some(exchanges) = rests_with(&mut connection.core) else {
+        return Looked::Waits;
+    };
+    free(&mut connection.core, Held::Rest(exchanges), sets);
+    pace.gives_core();
+    Looked::Rests
+}
+
+/// Steps of a connection that has a core, which is free behind its end, but for one that found no memory, and while it rests between two requests.
 pub(crate) fn moved<C: ResetsFor + Drop, L: Waits, N: WaitsNet<Link = L>, W: Wakes<N>>(
     connection: &mut Connection<C, L, N>,
     sets: &mut Vec<BoxedCore<C>>,
@@ -189,7 +221,7 @@ pub(crate) fn moved<C: ResetsFor + Drop, L: Waits, N: WaitsNet<Link = L>, W: Wak
     requires ready { AllByRecursion (IsReady C.seen C.sound) sets.old.items }
     ensures ready { AllByRecursion (IsReady C.seen C.sound) sets.new.items }
     ensures at { (cfg : C.Settings) (first : L) (first_net : N) → HasCore connection.old.core (λ core. IsUnderWay (C.stands cfg) C.seen core L.seen L.wrote N.seen first (address_of to.now) first_net connection.old.conn)
-        → IsAtUnder C.meaning C.stands cfg C.seen C.sound L.seen L.wrote N.seen first (address_of to.now) first_net connection.new }
+        → IsAtUnder C.meaning C.stands cfg C.seen C.sound C.rested L.seen L.wrote N.seen first (address_of to.now) first_net connection.new }
     ensures logs { (cfg : C.Settings) (first : L) (first_net : N) → HasCore connection.old.core (λ core. IsUnderWay (C.stands cfg) C.seen core L.seen L.wrote N.seen first (address_of to.now) first_net connection.old.conn)
         → Logs C.meaning C.stands cfg C.seen L.seen L.wrote N.seen first (address_of to.now) first_net tools.old.log tools.new.log }
     ensures fresh { (cfg : C.Settings) (pair : Option Pair) (first : L) (first_net : N) → HasCore connection.old.core (λ core. IsUnderWay (C.stands (C.for_peer cfg (source_in pair))) C.seen core L.seen L.wrote N.seen first (address_of to.now) first_net connection.old.conn)
@@ -201,15 +233,15 @@ pub(crate) fn moved<C: ResetsFor + Drop, L: Waits, N: WaitsNet<Link = L>, W: Wak
     match go(connection, pace, wakes, to, tools) {
         Stepped::Moved => Looked::GoesOn,
         Stepped::Opened => Looked::GoesOn,
-        Stepped::Waits => Looked::Waits,
+        Stepped::Waits => rest(connection, sets, pace),
         Stepped::Ended => {
             pace.ended(tools.now);
-            free(&mut connection.core, sets);
+            free(&mut connection.core, Held::Nothing, sets);
             told(connection.number, &connection.conn.ran)
         }
         Stepped::Lost => {
             pace.ended(tools.now);
-            drop(connection.core.take());
+            drop(std::mem::replace(&mut connection.core, Held::Nothing));
             told(connection.number, &connection.conn.ran)
         }
     }
@@ -217,45 +249,43 @@ pub(crate) fn moved<C: ResetsFor + Drop, L: Waits, N: WaitsNet<Link = L>, W: Wak
 
 /// A core for a connection of this peer that has none, where one is free.
 fn take_set<C: ResetsFor + Drop>(
-    core: &mut Option<BoxedCore<C>>,
+    core: &mut Held<C>,
     sets: &mut Vec<BoxedCore<C>>,
     peer: Option<Peer>,
     pace: &mut Pace,
 ) -> bool
-    requires none { core.old ≡ None }
+    requires none { has_core core.old ≡ false }
     requires ready { AllByRecursion (IsReady C.seen C.sound) sets.old.items }
     ensures ready { AllByRecursion (IsReady C.seen C.sound) sets.new.items }
     ensures fresh { (cfg : C.Settings) → AllFreshFor C.stands C.for_peer cfg sets.old.items → AllFreshFor C.stands C.for_peer cfg sets.new.items }
-    ensures took { result ≡ true → HasCore core.new (λ set. IsReady C.seen C.sound set × ((cfg : C.Settings) → AllFreshFor C.stands C.for_peer cfg sets.old.items → IsFresh (C.stands (C.for_peer cfg peer)) set)) }
-    ensures none { result ≡ false → core.new ≡ None }
+    ensures took { result ≡ true → HasCore core.new (λ set. IsReady C.seen C.sound set × ((cfg : C.Settings) → AllFreshFor C.stands C.for_peer cfg sets.old.items → TakesUp (C.stands (C.for_peer cfg peer)) C.seen C.rested core.old set)) }
+    ensures none { result ≡ false → core.new ≡ core.old }
 {
     match sets.pop() {
         Some(free) => {
             let mut set = free;
             let inside = set.core();
-            inside.reset_for(peer);
-            pace.room = Some(inside.client_room());
-            match core.replace(set) {
-                None => true,
-                Some(_) => unreachable!(),
-            }
+            prepare(inside, peer, core);
+            pace.takes_core(inside.client_room());
+            drop(std::mem::replace(core, Held::Core(set)));
+            true
         }
         None => false,
     }
 }
 
-/// A look at a connection that has no core: whether it gets one, since its client gives its first bytes.
+/// A look at a connection that has no core: whether it gets one, since its client gives its first bytes, or goes on behind a rest.
 fn sit_down<C: ResetsFor + Drop, L: Waits, N: WaitsNet<Link = L>>(
     connection: &mut Connection<C, L, N>,
     sets: &mut Vec<BoxedCore<C>>,
     pace: &mut Pace,
 ) -> Option<Looked>
-    requires none { connection.old.core ≡ None }
+    requires none { has_core connection.old.core ≡ false }
     requires ready { AllByRecursion (IsReady C.seen C.sound) sets.old.items }
     ensures ready { AllByRecursion (IsReady C.seen C.sound) sets.new.items }
     ensures fresh { (cfg : C.Settings) → AllFreshFor C.stands C.for_peer cfg sets.old.items → AllFreshFor C.stands C.for_peer cfg sets.new.items }
-    ensures took { result ≡ None → HasCore connection.new.core (λ set. IsReady C.seen C.sound set × ((cfg : C.Settings) → AllFreshFor C.stands C.for_peer cfg sets.old.items → IsFresh (C.stands (C.for_peer cfg (source_in (pair_of connection.old.caller)))) set)) }
-    ensures none { is_some result ≡ true → connection.new.core ≡ None }
+    ensures took { result ≡ None → HasCore connection.new.core (λ set. IsReady C.seen C.sound set × ((cfg : C.Settings) → AllFreshFor C.stands C.for_peer cfg sets.old.items → TakesUp (C.stands (C.for_peer cfg (source_in (pair_of connection.old.caller)))) C.seen C.rested connection.old.core set)) }
+    ensures none { is_some result ≡ true → connection.new.core ≡ connection.old.core }
     ensures looked { IfSome result IsIdle }
     ensures client { IsSame L.seen L.wrote connection.old.conn.client connection.new.conn.client }
     ensures server { connection.new.conn.server ≡ connection.old.conn.server }
@@ -288,15 +318,15 @@ pub(crate) fn seat<C: ResetsFor + Drop, L: Waits, N: WaitsNet<Link = L>>(
     requires ready { AllByRecursion (IsReady C.seen C.sound) sets.old.items }
     ensures ready { AllByRecursion (IsReady C.seen C.sound) sets.new.items }
     ensures fresh { (cfg : C.Settings) → AllFreshFor C.stands C.for_peer cfg sets.old.items → AllFreshFor C.stands C.for_peer cfg sets.new.items }
-    ensures at { (cfg : C.Settings) (first : L) (to : Place) (first_net : N) → AllFreshFor C.stands C.for_peer cfg sets.old.items → IsAtUnder C.meaning C.stands (C.for_peer cfg (source_in (pair_of connection.old.caller))) C.seen C.sound L.seen L.wrote N.seen first to first_net connection.old
-        → IsAtUnder C.meaning C.stands (C.for_peer cfg (source_in (pair_of connection.old.caller))) C.seen C.sound L.seen L.wrote N.seen first to first_net connection.new }
-    ensures has { result ≡ None → is_some connection.new.core ≡ true }
+    ensures at { (cfg : C.Settings) (first : L) (to : Place) (first_net : N) → AllFreshFor C.stands C.for_peer cfg sets.old.items → IsAtUnder C.meaning C.stands (C.for_peer cfg (source_in (pair_of connection.old.caller))) C.seen C.sound C.rested L.seen L.wrote N.seen first to first_net connection.old
+        → IsAtUnder C.meaning C.stands (C.for_peer cfg (source_in (pair_of connection.old.caller))) C.seen C.sound C.rested L.seen L.wrote N.seen first to first_net connection.new }
+    ensures has { result ≡ None → has_core connection.new.core ≡ true }
     ensures looked { IfSome result IsIdle }
     ensures ran { connection.new.conn.ran ≡ None }
     ensures number { connection.new.number ≡ connection.old.number }
     ensures caller { connection.new.caller ≡ connection.old.caller }
 {
-    if connection.core.is_some() {
+    if has_core(&connection.core) {
         return None;
     }
     sit_down(connection, sets, pace)

@@ -157,12 +157,12 @@ fn look_at<
     plan: &Plan,
     tools: &mut Tools,
 ) -> Looked
-    requires at { (cfg : C.Settings) × (visits : List (Visit L N)) × AllFreshFor C.stands C.for_peer cfg sets.old.items × IsPlaced (C.meaning ∘ C.for_peer cfg ∘ source_in) (C.stands ∘ C.for_peer cfg ∘ source_in) C.seen C.sound L.seen L.wrote L.tells plan.now.accepts_header plan.now.opening N.seen (address_of plan.now.to.now) visits at.old }
+    requires at { (cfg : C.Settings) × (visits : List (Visit L N)) × AllFreshFor C.stands C.for_peer cfg sets.old.items × IsPlaced (C.meaning ∘ C.for_peer cfg ∘ source_in) (C.stands ∘ C.for_peer cfg ∘ source_in) C.seen C.sound C.rested L.seen L.wrote L.tells plan.now.accepts_header plan.now.opening N.seen (address_of plan.now.to.now) visits at.old }
     requires ready { AllByRecursion (IsReady C.seen C.sound) sets.old.items }
     ensures ready { AllByRecursion (IsReady C.seen C.sound) sets.new.items }
-    ensures placed { (cfg : C.Settings) (visits : List (Visit L N)) → AllFreshFor C.stands C.for_peer cfg sets.old.items → IsPlaced (C.meaning ∘ C.for_peer cfg ∘ source_in) (C.stands ∘ C.for_peer cfg ∘ source_in) C.seen C.sound L.seen L.wrote L.tells plan.now.accepts_header plan.now.opening N.seen (address_of plan.now.to.now) visits at.old → IsPlaced (C.meaning ∘ C.for_peer cfg ∘ source_in) (C.stands ∘ C.for_peer cfg ∘ source_in) C.seen C.sound L.seen L.wrote L.tells plan.now.accepts_header plan.now.opening N.seen (address_of plan.now.to.now) (advanced at.new visits) at.new }
-    ensures fresh { (cfg : C.Settings) (visits : List (Visit L N)) → AllFreshFor C.stands C.for_peer cfg sets.old.items → IsPlaced (C.meaning ∘ C.for_peer cfg ∘ source_in) (C.stands ∘ C.for_peer cfg ∘ source_in) C.seen C.sound L.seen L.wrote L.tells plan.now.accepts_header plan.now.opening N.seen (address_of plan.now.to.now) visits at.old → AllFreshFor C.stands C.for_peer cfg sets.new.items }
-    ensures logs { (cfg : C.Settings) (visits : List (Visit L N)) → AllFreshFor C.stands C.for_peer cfg sets.old.items → IsPlaced (C.meaning ∘ C.for_peer cfg ∘ source_in) (C.stands ∘ C.for_peer cfg ∘ source_in) C.seen C.sound L.seen L.wrote L.tells plan.now.accepts_header plan.now.opening N.seen (address_of plan.now.to.now) visits at.old
+    ensures placed { (cfg : C.Settings) (visits : List (Visit L N)) → AllFreshFor C.stands C.for_peer cfg sets.old.items → IsPlaced (C.meaning ∘ C.for_peer cfg ∘ source_in) (C.stands ∘ C.for_peer cfg ∘ source_in) C.seen C.sound C.rested L.seen L.wrote L.tells plan.now.accepts_header plan.now.opening N.seen (address_of plan.now.to.now) visits at.old → IsPlaced (C.meaning ∘ C.for_peer cfg ∘ source_in) (C.stands ∘ C.for_peer cfg ∘ source_in) C.seen C.sound C.rested L.seen L.wrote L.tells plan.now.accepts_header plan.now.opening N.seen (address_of plan.now.to.now) (advanced at.new visits) at.new }
+    ensures fresh { (cfg : C.Settings) (visits : List (Visit L N)) → AllFreshFor C.stands C.for_peer cfg sets.old.items → IsPlaced (C.meaning ∘ C.for_peer cfg ∘ source_in) (C.stands ∘ C.for_peer cfg ∘ source_in) C.seen C.sound C.rested L.seen L.wrote L.tells plan.now.accepts_header plan.now.opening N.seen (address_of plan.now.to.now) visits at.old → AllFreshFor C.stands C.for_peer cfg sets.new.items }
+    ensures logs { (cfg : C.Settings) (visits : List (Visit L N)) → AllFreshFor C.stands C.for_peer cfg sets.old.items → IsPlaced (C.meaning ∘ C.for_peer cfg ∘ source_in) (C.stands ∘ C.for_peer cfg ∘ source_in) C.seen C.sound C.rested L.seen L.wrote L.tells plan.now.accepts_header plan.now.opening N.seen (address_of plan.now.to.now) visits at.old
         → MoreLines (IsLogged (C.meaning ∘ C.for_peer cfg ∘ source_in) (C.stands ∘ C.for_peer cfg ∘ source_in) C.seen L.seen L.wrote L.tells plan.now.accepts_header plan.now.logs plan.now.opening N.seen (address_of plan.now.to.now) visits) tools.old.log.text.items tools.new.log.text.items }
     ensures looked { LookedAt result at.old at.new }
 {
@@ -179,10 +179,10 @@ fn look_here<
     N: WaitsNet<Link = L> + Introduces,
     W: Wakes<N>,
 >(hall: &mut Hall<C, L, N>, pace: &mut Pace, wakes: &mut W, plan: &Plan) -> Looked
-    requires stands { (cfg : C.Settings) × (visits : List (Visit L N)) × AllStand (C.meaning ∘ C.for_peer cfg ∘ source_in) (C.stands ∘ C.for_peer cfg ∘ source_in) C.seen C.sound L.seen L.wrote L.tells plan.now.accepts_header plan.now.opening N.seen (address_of plan.now.to.now) visits hall.old.places.items hall.old.sets.items }
-    ensures stands { (cfg : C.Settings) (visits : List (Visit L N)) → AllStand (C.meaning ∘ C.for_peer cfg ∘ source_in) (C.stands ∘ C.for_peer cfg ∘ source_in) C.seen C.sound L.seen L.wrote L.tells plan.now.accepts_header plan.now.opening N.seen (address_of plan.now.to.now) visits hall.old.places.items hall.old.sets.items
-        → (behind : List (Visit L N)) × Advances result visits behind × AllStand (C.meaning ∘ C.for_peer cfg ∘ source_in) (C.stands ∘ C.for_peer cfg ∘ source_in) C.seen C.sound L.seen L.wrote L.tells plan.now.accepts_header plan.now.opening N.seen (address_of plan.now.to.now) behind hall.new.places.items hall.new.sets.items }
-    ensures logs { (cfg : C.Settings) (visits : List (Visit L N)) → AllStand (C.meaning ∘ C.for_peer cfg ∘ source_in) (C.stands ∘ C.for_peer cfg ∘ source_in) C.seen C.sound L.seen L.wrote L.tells plan.now.accepts_header plan.now.opening N.seen (address_of plan.now.to.now) visits hall.old.places.items hall.old.sets.items
+    requires stands { (cfg : C.Settings) × (visits : List (Visit L N)) × AllStand (C.meaning ∘ C.for_peer cfg ∘ source_in) (C.stands ∘ C.for_peer cfg ∘ source_in) C.seen C.sound C.rested L.seen L.wrote L.tells plan.now.accepts_header plan.now.opening N.seen (address_of plan.now.to.now) visits hall.old.places.items hall.old.sets.items }
+    ensures stands { (cfg : C.Settings) (visits : List (Visit L N)) → AllStand (C.meaning ∘ C.for_peer cfg ∘ source_in) (C.stands ∘ C.for_peer cfg ∘ source_in) C.seen C.sound C.rested L.seen L.wrote L.tells plan.now.accepts_header plan.now.opening N.seen (address_of plan.now.to.now) visits hall.old.places.items hall.old.sets.items
+        → (behind : List (Visit L N)) × Advances result visits behind × AllStand (C.meaning ∘ C.for_peer cfg ∘ source_in) (C.stands ∘ C.for_peer cfg ∘ source_in) C.seen C.sound C.rested L.seen L.wrote L.tells plan.now.accepts_header plan.now.opening N.seen (address_of plan.now.to.now) behind hall.new.places.items hall.new.sets.items }
+    ensures logs { (cfg : C.Settings) (visits : List (Visit L N)) → AllStand (C.meaning ∘ C.for_peer cfg ∘ source_in) (C.stands ∘ C.for_peer cfg ∘ source_in) C.seen C.sound C.rested L.seen L.wrote L.tells plan.now.accepts_header plan.now.opening N.seen (address_of plan.now.to.now) visits hall.old.places.items hall.old.sets.items
         → MoreLines (IsLogged (C.meaning ∘ C.for_peer cfg ∘ source_in) (C.stands ∘ C.for_peer cfg ∘ source_in) C.seen L.seen L.wrote L.tells plan.now.accepts_header plan.now.logs plan.now.opening N.seen (address_of plan.now.to.now) visits) hall.old.tools.log.text.items hall.new.tools.log.text.items }
     ensures taken { count_taken hall.new.places.items ≡ count_taken hall.old.places.items }
     ensures accepted { hall.new.accepted ≡ hall.old.accepted }
@@ -216,9 +216,9 @@ pub(crate) fn visit<
     out: &mut K,
     plan: &Plan,
 ) -> Result<Looked, OutOfMemory>
-    requires stands { (cfg : C.Settings) × (visits : List (Visit L N)) × AllStand (C.meaning ∘ C.for_peer cfg ∘ source_in) (C.stands ∘ C.for_peer cfg ∘ source_in) C.seen C.sound L.seen L.wrote L.tells plan.now.accepts_header plan.now.opening N.seen (address_of plan.now.to.now) visits hall.old.places.items hall.old.sets.items }
-    ensures goes { (cfg : C.Settings) (begun now : NetSeen) (writes : ℕ) (before : Option (List ℕ)) → GoesFor C.meaning C.stands C.for_peer cfg C.seen C.sound L.seen L.wrote L.tells plan.now.accepts_header plan.now.logs plan.now.opening N.seen (address_of plan.now.to.now) true true begun now writes (K.faults out.old) before (K.written out.old) hall.old
-        → GoesFor C.meaning C.stands C.for_peer cfg C.seen C.sound L.seen L.wrote L.tells plan.now.accepts_header plan.now.logs plan.now.opening N.seen (address_of plan.now.to.now) (is_ok result) (is_ok result) begun now writes (K.faults out.new) before (K.written out.new) hall.new }
+    requires stands { (cfg : C.Settings) × (visits : List (Visit L N)) × AllStand (C.meaning ∘ C.for_peer cfg ∘ source_in) (C.stands ∘ C.for_peer cfg ∘ source_in) C.seen C.sound C.rested L.seen L.wrote L.tells plan.now.accepts_header plan.now.opening N.seen (address_of plan.now.to.now) visits hall.old.places.items hall.old.sets.items }
+    ensures goes { (cfg : C.Settings) (begun now : NetSeen) (writes : ℕ) (before : Option (List ℕ)) → GoesFor C.meaning C.stands C.for_peer cfg C.seen C.sound C.rested L.seen L.wrote L.tells plan.now.accepts_header plan.now.logs plan.now.opening N.seen (address_of plan.now.to.now) true true begun now writes (K.faults out.old) before (K.written out.old) hall.old
+        → GoesFor C.meaning C.stands C.for_peer cfg C.seen C.sound C.rested L.seen L.wrote L.tells plan.now.accepts_header plan.now.logs plan.now.opening N.seen (address_of plan.now.to.now) (is_ok result) (is_ok result) begun now writes (K.faults out.new) before (K.written out.new) hall.new }
     ensures taken { count_taken hall.new.places.items ≡ count_taken hall.old.places.items }
     ensures accepted { hall.new.accepted ≡ hall.old.accepted }
 {
@@ -249,6 +249,7 @@ fn say<K: Sink>(
         },
         Looked::Lost => Err(OutOfMemory),
         Looked::Waits => Ok(looked),
+        Looked::Rests => Ok(looked),
         Looked::GoesOn => Ok(looked),
         Looked::Hungry => Ok(looked),
         Looked::Leaves => Ok(looked),

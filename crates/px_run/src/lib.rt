@@ -9,6 +9,7 @@ mod connection;
 mod deadline;
 mod entry;
 mod hall;
+mod held;
 mod lines;
 mod log;
 mod looking;

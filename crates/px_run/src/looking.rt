@@ -61,8 +61,8 @@ fn hear<C: ResetsFor, L: Waits + HasPair, N: WaitsNet<Link = L> + Introduces>(
 ) -> Looked
     requires greeted { is_greeted connection.old.caller ≡ true }
     requires goes_on { connection.old.conn.ran ≡ None }
-    ensures at { (cfg : C.Settings) (accepts_header : Bool) (first : L) (to : Place) (first_net : N) → StandsFor C.meaning C.stands C.for_peer cfg C.seen C.sound L.seen L.wrote L.tells accepts_header opening.now N.seen first to first_net connection.old
-        → StandsFor C.meaning C.stands C.for_peer cfg C.seen C.sound L.seen L.wrote L.tells accepts_header opening.now N.seen first to first_net connection.new }
+    ensures at { (cfg : C.Settings) (accepts_header : Bool) (first : L) (to : Place) (first_net : N) → StandsFor C.meaning C.stands C.for_peer cfg C.seen C.sound C.rested L.seen L.wrote L.tells accepts_header opening.now N.seen first to first_net connection.old
+        → StandsFor C.meaning C.stands C.for_peer cfg C.seen C.sound C.rested L.seen L.wrote L.tells accepts_header opening.now N.seen first to first_net connection.new }
     ensures looked { LookedSo result connection.old.number None connection.new.conn.ran }
     ensures further { result ≡ Looked.GoesOn → ReadMore connection.old.caller connection.new.caller }
     ensures number { connection.new.number ≡ connection.old.number }
@@ -90,14 +90,14 @@ fn serve<C: ResetsFor + Drop, L: Waits, N: WaitsNet<Link = L>, W: Wakes<N>>(
     tools: &mut Tools,
 ) -> Looked
     requires goes_on { connection.old.conn.ran ≡ None }
-    requires at { (cfg : C.Settings) × (first : L) × (first_net : N) × AllFreshFor C.stands C.for_peer cfg sets.old.items × IsAtUnder C.meaning C.stands (C.for_peer cfg (source_in (pair_of connection.old.caller))) C.seen C.sound L.seen L.wrote N.seen first (address_of to.now) first_net connection.old }
+    requires at { (cfg : C.Settings) × (first : L) × (first_net : N) × AllFreshFor C.stands C.for_peer cfg sets.old.items × IsAtUnder C.meaning C.stands (C.for_peer cfg (source_in (pair_of connection.old.caller))) C.seen C.sound C.rested L.seen L.wrote N.seen first (address_of to.now) first_net connection.old }
     requires ready { AllByRecursion (IsReady C.seen C.sound) sets.old.items }
     ensures ready { AllByRecursion (IsReady C.seen C.sound) sets.new.items }
-    ensures at { (cfg : C.Settings) (first : L) (first_net : N) → AllFreshFor C.stands C.for_peer cfg sets.old.items → IsAtUnder C.meaning C.stands (C.for_peer cfg (source_in (pair_of connection.old.caller))) C.seen C.sound L.seen L.wrote N.seen first (address_of to.now) first_net connection.old
-        → IsAtUnder C.meaning C.stands (C.for_peer cfg (source_in (pair_of connection.old.caller))) C.seen C.sound L.seen L.wrote N.seen first (address_of to.now) first_net connection.new }
-    ensures logs { (cfg : C.Settings) (first : L) (first_net : N) → AllFreshFor C.stands C.for_peer cfg sets.old.items → IsAtUnder C.meaning C.stands (C.for_peer cfg (source_in (pair_of connection.old.caller))) C.seen C.sound L.seen L.wrote N.seen first (address_of to.now) first_net connection.old
+    ensures at { (cfg : C.Settings) (first : L) (first_net : N) → AllFreshFor C.stands C.for_peer cfg sets.old.items → IsAtUnder C.meaning C.stands (C.for_peer cfg (source_in (pair_of connection.old.caller))) C.seen C.sound C.rested L.seen L.wrote N.seen first (address_of to.now) first_net connection.old
+        → IsAtUnder C.meaning C.stands (C.for_peer cfg (source_in (pair_of connection.old.caller))) C.seen C.sound C.rested L.seen L.wrote N.seen first (address_of to.now) first_net connection.new }
+    ensures logs { (cfg : C.Settings) (first : L) (first_net : N) → AllFreshFor C.stands C.for_peer cfg sets.old.items → IsAtUnder C.meaning C.stands (C.for_peer cfg (source_in (pair_of connection.old.caller))) C.seen C.sound C.rested L.seen L.wrote N.seen first (address_of to.now) first_net connection.old
         → Logs C.meaning C.stands (C.for_peer cfg (source_in (pair_of connection.old.caller))) C.seen L.seen L.wrote N.seen first (address_of to.now) first_net tools.old.log tools.new.log }
-    ensures fresh { (cfg : C.Settings) (first : L) (first_net : N) → AllFreshFor C.stands C.for_peer cfg sets.old.items → IsAtUnder C.meaning C.stands (C.for_peer cfg (source_in (pair_of connection.old.caller))) C.seen C.sound L.seen L.wrote N.seen first (address_of to.now) first_net connection.old
+    ensures fresh { (cfg : C.Settings) (first : L) (first_net : N) → AllFreshFor C.stands C.for_peer cfg sets.old.items → IsAtUnder C.meaning C.stands (C.for_peer cfg (source_in (pair_of connection.old.caller))) C.seen C.sound C.rested L.seen L.wrote N.seen first (address_of to.now) first_net connection.old
         → AllFreshFor C.stands C.for_peer cfg sets.new.items }
     ensures looked { LookedSo result connection.old.number connection.old.conn.ran connection.new.conn.ran }
     ensures number { connection.new.number ≡ connection.old.number }
@@ -123,14 +123,14 @@ fn look_on<
     plan: &Plan,
     tools: &mut Tools,
 ) -> Looked
-    requires at { (cfg : C.Settings) × (first : L) × (first_net : N) × AllFreshFor C.stands C.for_peer cfg sets.old.items × StandsFor C.meaning C.stands C.for_peer cfg C.seen C.sound L.seen L.wrote L.tells plan.now.accepts_header plan.now.opening N.seen first (address_of plan.now.to.now) first_net connection.old }
+    requires at { (cfg : C.Settings) × (first : L) × (first_net : N) × AllFreshFor C.stands C.for_peer cfg sets.old.items × StandsFor C.meaning C.stands C.for_peer cfg C.seen C.sound C.rested L.seen L.wrote L.tells plan.now.accepts_header plan.now.opening N.seen first (address_of plan.now.to.now) first_net connection.old }
     requires ready { AllByRecursion (IsReady C.seen C.sound) sets.old.items }
     ensures ready { AllByRecursion (IsReady C.seen C.sound) sets.new.items }
-    ensures at { (cfg : C.Settings) (first : L) (first_net : N) → AllFreshFor C.stands C.for_peer cfg sets.old.items → StandsFor C.meaning C.stands C.for_peer cfg C.seen C.sound L.seen L.wrote L.tells plan.now.accepts_header plan.now.opening N.seen first (address_of plan.now.to.now) first_net connection.old
-        → StandsFor C.meaning C.stands C.for_peer cfg C.seen C.sound L.seen L.wrote L.tells plan.now.accepts_header plan.now.opening N.seen first (address_of plan.now.to.now) first_net connection.new }
-    ensures fresh { (cfg : C.Settings) (first : L) (first_net : N) → AllFreshFor C.stands C.for_peer cfg sets.old.items → StandsFor C.meaning C.stands C.for_peer cfg C.seen C.sound L.seen L.wrote L.tells plan.now.accepts_header plan.now.opening N.seen first (address_of plan.now.to.now) first_net connection.old
+    ensures at { (cfg : C.Settings) (first : L) (first_net : N) → AllFreshFor C.stands C.for_peer cfg sets.old.items → StandsFor C.meaning C.stands C.for_peer cfg C.seen C.sound C.rested L.seen L.wrote L.tells plan.now.accepts_header plan.now.opening N.seen first (address_of plan.now.to.now) first_net connection.old
+        → StandsFor C.meaning C.stands C.for_peer cfg C.seen C.sound C.rested L.seen L.wrote L.tells plan.now.accepts_header plan.now.opening N.seen first (address_of plan.now.to.now) first_net connection.new }
+    ensures fresh { (cfg : C.Settings) (first : L) (first_net : N) → AllFreshFor C.stands C.for_peer cfg sets.old.items → StandsFor C.meaning C.stands C.for_peer cfg C.seen C.sound C.rested L.seen L.wrote L.tells plan.now.accepts_header plan.now.opening N.seen first (address_of plan.now.to.now) first_net connection.old
         → AllFreshFor C.stands C.for_peer cfg sets.new.items }
-    ensures logs { (cfg : C.Settings) (first : L) (first_net : N) → AllFreshFor C.stands C.for_peer cfg sets.old.items → StandsFor C.meaning C.stands C.for_peer cfg C.seen C.sound L.seen L.wrote L.tells plan.now.accepts_header plan.now.opening N.seen first (address_of plan.now.to.now) first_net connection.old
+    ensures logs { (cfg : C.Settings) (first : L) (first_net : N) → AllFreshFor C.stands C.for_peer cfg sets.old.items → StandsFor C.meaning C.stands C.for_peer cfg C.seen C.sound C.rested L.seen L.wrote L.tells plan.now.accepts_header plan.now.opening N.seen first (address_of plan.now.to.now) first_net connection.old
         → LogsMore (IsToldOf (C.meaning ∘ C.for_peer cfg ∘ source_in) (C.stands ∘ C.for_peer cfg ∘ source_in) C.seen L.seen L.wrote L.tells plan.now.accepts_header plan.now.opening N.seen (address_of plan.now.to.now) first first_net) tools.old.log tools.new.log }
     ensures looked { LookedSo result connection.old.number connection.old.conn.ran connection.new.conn.ran }
     ensures number { connection.new.number ≡ connection.old.number }
@@ -158,14 +158,14 @@ pub(crate) fn look<
     plan: &Plan,
     tools: &mut Tools,
 ) -> Looked
-    requires at { (cfg : C.Settings) × (first : L) × (first_net : N) × AllFreshFor C.stands C.for_peer cfg sets.old.items × StandsFor C.meaning C.stands C.for_peer cfg C.seen C.sound L.seen L.wrote L.tells plan.now.accepts_header plan.now.opening N.seen first (address_of plan.now.to.now) first_net connection.old }
+    requires at { (cfg : C.Settings) × (first : L) × (first_net : N) × AllFreshFor C.stands C.for_peer cfg sets.old.items × StandsFor C.meaning C.stands C.for_peer cfg C.seen C.sound C.rested L.seen L.wrote L.tells plan.now.accepts_header plan.now.opening N.seen first (address_of plan.now.to.now) first_net connection.old }
     requires ready { AllByRecursion (IsReady C.seen C.sound) sets.old.items }
     ensures ready { AllByRecursion (IsReady C.seen C.sound) sets.new.items }
-    ensures at { (cfg : C.Settings) (first : L) (first_net : N) → AllFreshFor C.stands C.for_peer cfg sets.old.items → StandsFor C.meaning C.stands C.for_peer cfg C.seen C.sound L.seen L.wrote L.tells plan.now.accepts_header plan.now.opening N.seen first (address_of plan.now.to.now) first_net connection.old
-        → StandsFor C.meaning C.stands C.for_peer cfg C.seen C.sound L.seen L.wrote L.tells plan.now.accepts_header plan.now.opening N.seen first (address_of plan.now.to.now) first_net connection.new }
-    ensures fresh { (cfg : C.Settings) (first : L) (first_net : N) → AllFreshFor C.stands C.for_peer cfg sets.old.items → StandsFor C.meaning C.stands C.for_peer cfg C.seen C.sound L.seen L.wrote L.tells plan.now.accepts_header plan.now.opening N.seen first (address_of plan.now.to.now) first_net connection.old
+    ensures at { (cfg : C.Settings) (first : L) (first_net : N) → AllFreshFor C.stands C.for_peer cfg sets.old.items → StandsFor C.meaning C.stands C.for_peer cfg C.seen C.sound C.rested L.seen L.wrote L.tells plan.now.accepts_header plan.now.opening N.seen first (address_of plan.now.to.now) first_net connection.old
+        → StandsFor C.meaning C.stands C.for_peer cfg C.seen C.sound C.rested L.seen L.wrote L.tells plan.now.accepts_header plan.now.opening N.seen first (address_of plan.now.to.now) first_net connection.new }
+    ensures fresh { (cfg : C.Settings) (first : L) (first_net : N) → AllFreshFor C.stands C.for_peer cfg sets.old.items → StandsFor C.meaning C.stands C.for_peer cfg C.seen C.sound C.rested L.seen L.wrote L.tells plan.now.accepts_header plan.now.opening N.seen first (address_of plan.now.to.now) first_net connection.old
         → AllFreshFor C.stands C.for_peer cfg sets.new.items }
-    ensures logs { (cfg : C.Settings) (first : L) (first_net : N) → AllFreshFor C.stands C.for_peer cfg sets.old.items → StandsFor C.meaning C.stands C.for_peer cfg C.seen C.sound L.seen L.wrote L.tells plan.now.accepts_header plan.now.opening N.seen first (address_of plan.now.to.now) first_net connection.old
+    ensures logs { (cfg : C.Settings) (first : L) (first_net : N) → AllFreshFor C.stands C.for_peer cfg sets.old.items → StandsFor C.meaning C.stands C.for_peer cfg C.seen C.sound C.rested L.seen L.wrote L.tells plan.now.accepts_header plan.now.opening N.seen first (address_of plan.now.to.now) first_net connection.old
         → MoreLines (IsLine plan.now.logs connection.old.number (IsToldOf (C.meaning ∘ C.for_peer cfg ∘ source_in) (C.stands ∘ C.for_peer cfg ∘ source_in) C.seen L.seen L.wrote L.tells plan.now.accepts_header plan.now.opening N.seen (address_of plan.now.to.now) first first_net)) tools.old.log.text.items tools.new.log.text.items }
     ensures looked { LookedSo result connection.old.number connection.old.conn.ran connection.new.conn.ran }
     ensures number { connection.new.number ≡ connection.old.number }

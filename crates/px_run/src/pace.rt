@@ -30,7 +30,11 @@ pub(crate) struct Pace {
     /// What was wanted when it was looked at last.
     wants: Wants,
     /// The room for bytes of its client while none of them wait; none while it has no core.
-    pub room: Option<usize>,
+    room: Option<usize>,
+    /// It rests between two requests, and gave its core back.
+    at_rest: bool,
+    /// It waits for a core.
+    pub hungry: bool,
     /// The time of its connect is over.
     pub connect_over: bool,
     /// The time of something that it waits for is over, and nothing was done since.
@@ -90,11 +94,36 @@ impl Pace {
             phase: Phase::First,
             wants: WAITING,
             room: None,
+            at_rest: false,
+            hungry: false,
             connect_over: false,
             expired: false,
             until: deadline_of(&WAITING, Phase::First, times, &marks),
             due: false,
             tally: Tally::new(),
+        }
+    }
+
+    /// It has a core, with so much room for bytes of its client while none of them wait.
+    pub fn takes_core(&mut self, room: usize) {
+        self.room = Some(room);
+        self.at_rest = false;
+        self.hungry = false;
+    }
+
+    /// It rests, and gave its core back. What it wants and since when stays.
+    pub fn gives_core(&mut self) {
+        self.room = None;
+        self.at_rest = true;
+    }
+
+    /// It wants a core, and none is free. Where it rested its client goes on: the time of a head begins.
+    pub fn hungers(&mut self, times: &Times, now: u64) {
+        let kept = matches!(self.phase, Phase::Kept);
+        if kept && self.at_rest && !self.expired {
+            self.phase = Phase::Head;
+            self.marks.head = now;
+            self.until = deadline_of(&self.wants, self.phase, times, &self.marks);
         }
     }
 
@@ -121,7 +150,7 @@ impl Pace {
         self.wants.server_open
     }
 
-    /// Since when it rests between two requests, with a core.
+    /// Since when it rests between two requests, with a core: one that gave it back is not asked to end for another.
     pub fn rested_since(&self) -> Option<u64> {
         let rests = matches!(self.phase, Phase::Kept) && self.room.is_some() && !self.expired;
         if rests {
@@ -133,7 +162,8 @@ impl Pace {
 
     /// It waits from now on, for what it wants.
     pub fn rests(&mut self, times: &Times) {
-        if self.room.is_some() && !self.expired {
+        let counts = self.room.is_some() || self.at_rest;
+        if counts && !self.expired {
             self.until = deadline_of(&self.wants, self.phase, times, &self.marks);
         }
     }
@@ -155,6 +185,7 @@ impl Pace {
     /// It has ended, and its client's link waits for the end of its peer.
     pub fn ended(&mut self, now: u64) {
         self.room = None;
+        self.at_rest = false;
         self.expired = false;
         self.until = Some(now.saturating_add(PATIENCE));
     }

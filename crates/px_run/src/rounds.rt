@@ -80,14 +80,19 @@ fn again(
     place: usize,
     looked: Looked,
     plan: &Plan,
+    now: u64,
 ) -> Result<(), OutOfMemory> {
     match looked {
         Looked::Waits => {
             agenda.rest(place, &plan.times);
             Ok(())
         }
+        Looked::Rests => {
+            agenda.rest(place, &plan.times);
+            agenda.feed()
+        }
         Looked::GoesOn => agenda.call_next(place),
-        Looked::Hungry => agenda.wait_for_core(place),
+        Looked::Hungry => agenda.wait_for_core(place, &plan.times, now),
         Looked::Ended(_, _) => {
             agenda.call_next(place)?;
             agenda.feed()
@@ -112,9 +117,9 @@ fn visit_place<
     out: &mut K,
     plan: &Plan,
 ) -> Result<Looked, OutOfMemory>
-    requires goes { (cfg : C.Settings) × (begun : NetSeen) × (writes : ℕ) × (before : Option (List ℕ)) × GoesFor C.meaning C.stands C.for_peer cfg C.seen C.sound L.seen L.wrote L.tells plan.now.accepts_header plan.now.logs plan.now.opening N.seen (address_of plan.now.to.now) true true begun (N.seen net.old) writes (K.faults out.old) before (K.written out.old) hall.old }
+    requires goes { (cfg : C.Settings) × (begun : NetSeen) × (writes : ℕ) × (before : Option (List ℕ)) × GoesFor C.meaning C.stands C.for_peer cfg C.seen C.sound C.rested L.seen L.wrote L.tells plan.now.accepts_header plan.now.logs plan.now.opening N.seen (address_of plan.now.to.now) true true begun (N.seen net.old) writes (K.faults out.old) before (K.written out.old) hall.old }
     requires lent { count_taken hall.old.places.items ≤ (N.seen net.old).lent }
-    ensures goes { KeepsGoing C.meaning C.stands C.for_peer C.seen C.sound L.seen L.wrote L.tells plan.now.accepts_header plan.now.logs plan.now.opening N.seen (address_of plan.now.to.now) K.faults K.written (is_ok result) net.old net.new out.old out.new hall.old hall.new }
+    ensures goes { KeepsGoing C.meaning C.stands C.for_peer C.seen C.sound C.rested L.seen L.wrote L.tells plan.now.accepts_header plan.now.logs plan.now.opening N.seen (address_of plan.now.to.now) K.faults K.written (is_ok result) net.old net.new out.old out.new hall.old hall.new }
     ensures accepted { hall.new.accepted ≡ hall.old.accepted }
     ensures balanced { IsBalanced (N.seen net.old) (N.seen net.new) hall.old.places.items hall.new.places.items }
     ensures net { IsSameNet (N.seen net.old) (N.seen net.new) }
@@ -147,9 +152,9 @@ fn visits<
     out: &mut K,
     plan: &Plan,
 ) -> Result<(), OutOfMemory>
-    requires goes { (cfg : C.Settings) × (begun : NetSeen) × (writes : ℕ) × (before : Option (List ℕ)) × GoesFor C.meaning C.stands C.for_peer cfg C.seen C.sound L.seen L.wrote L.tells plan.now.accepts_header plan.now.logs plan.now.opening N.seen (address_of plan.now.to.now) true true begun (N.seen net.old) writes (K.faults out.old) before (K.written out.old) hall.old }
+    requires goes { (cfg : C.Settings) × (begun : NetSeen) × (writes : ℕ) × (before : Option (List ℕ)) × GoesFor C.meaning C.stands C.for_peer cfg C.seen C.sound C.rested L.seen L.wrote L.tells plan.now.accepts_header plan.now.logs plan.now.opening N.seen (address_of plan.now.to.now) true true begun (N.seen net.old) writes (K.faults out.old) before (K.written out.old) hall.old }
     requires lent { count_taken hall.old.places.items ≤ (N.seen net.old).lent }
-    ensures goes { KeepsGoing C.meaning C.stands C.for_peer C.seen C.sound L.seen L.wrote L.tells plan.now.accepts_header plan.now.logs plan.now.opening N.seen (address_of plan.now.to.now) K.faults K.written (is_ok result) net.old net.new out.old out.new hall.old hall.new }
+    ensures goes { KeepsGoing C.meaning C.stands C.for_peer C.seen C.sound C.rested L.seen L.wrote L.tells plan.now.accepts_header plan.now.logs plan.now.opening N.seen (address_of plan.now.to.now) K.faults K.written (is_ok result) net.old net.new out.old out.new hall.old hall.new }
     ensures accepted { hall.new.accepted ≡ hall.old.accepted }
     ensures balanced { IsBalanced (N.seen net.old) (N.seen net.new) hall.old.places.items hall.new.places.items }
     ensures net { IsSameNet (N.seen net.old) (N.seen net.new) }
@@ -160,7 +165,7 @@ fn visits<
             return Ok(());
         };
         match visit_place(hall, net, &mut agenda.paces[place], wakes, out, plan) {
-            Ok(looked) => match again(agenda, place, looked, plan) {
+            Ok(looked) => match again(agenda, place, looked, plan, hall.tools.now) {
                 Ok(()) => {}
                 Err(OutOfMemory) => return Err(OutOfMemory),
             },
@@ -246,9 +251,9 @@ pub(crate) fn looks<
     out: &mut K,
     plan: &Plan,
 ) -> Result<(), OutOfMemory>
-    requires goes { (cfg : C.Settings) × (begun : NetSeen) × (writes : ℕ) × (before : Option (List ℕ)) × GoesFor C.meaning C.stands C.for_peer cfg C.seen C.sound L.seen L.wrote L.tells plan.now.accepts_header plan.now.logs plan.now.opening N.seen (address_of plan.now.to.now) true true begun (N.seen net.old) writes (K.faults out.old) before (K.written out.old) hall.old }
+    requires goes { (cfg : C.Settings) × (begun : NetSeen) × (writes : ℕ) × (before : Option (List ℕ)) × GoesFor C.meaning C.stands C.for_peer cfg C.seen C.sound C.rested L.seen L.wrote L.tells plan.now.accepts_header plan.now.logs plan.now.opening N.seen (address_of plan.now.to.now) true true begun (N.seen net.old) writes (K.faults out.old) before (K.written out.old) hall.old }
     requires lent { count_taken hall.old.places.items ≤ (N.seen net.old).lent }
-    ensures goes { KeepsGoing C.meaning C.stands C.for_peer C.seen C.sound L.seen L.wrote L.tells plan.now.accepts_header plan.now.logs plan.now.opening N.seen (address_of plan.now.to.now) K.faults K.written (is_ok result) net.old net.new out.old out.new hall.old hall.new }
+    ensures goes { KeepsGoing C.meaning C.stands C.for_peer C.seen C.sound C.rested L.seen L.wrote L.tells plan.now.accepts_header plan.now.logs plan.now.opening N.seen (address_of plan.now.to.now) K.faults K.written (is_ok result) net.old net.new out.old out.new hall.old hall.new }
     ensures accepted { hall.new.accepted ≡ hall.old.accepted }
     ensures balanced { IsBalanced (N.seen net.old) (N.seen net.new) hall.old.places.items hall.new.places.items }
     ensures net { IsSameNet (N.seen net.old) (N.seen net.new) }

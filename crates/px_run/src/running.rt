@@ -7,6 +7,7 @@ ghost use Rattle.px_proxyproto.specs.Meeting.{source_in};
 ghost use Rattle.px_run.specs.Connection.{◌∘◌, IsFreshFor};
 ghost use Rattle.px_run.specs.Callers.{IsAtFor, CameBack};
 ghost use Rattle.px_run.specs.History.{Visit};
+ghost use Rattle.px_run.specs.declared.held.Held.{Held};
 ghost use Rattle.px_run.specs.declared.plan.Opening.{Opening};
 ghost use Rattle.px_run.specs.Served.{had_memory, ServedMany};
 ghost use Rattle.px_run.specs.Hall.{IsPlaced, GaveUpAt, taken_at, count_taken, IsSameNet, IsBalanced, KeepsGoing, GoesFor};
@@ -48,9 +49,9 @@ fn rounds<
     out: &mut K,
     plan: &Plan,
 ) -> Result<(), RunFault>
-    requires goes { (cfg : C.Settings) × (begun : NetSeen) × (writes : ℕ) × (before : Option (List ℕ)) × GoesFor C.meaning C.stands C.for_peer cfg C.seen C.sound L.seen L.wrote L.tells plan.now.accepts_header plan.now.logs plan.now.opening N.seen (address_of plan.now.to.now) true true begun (N.seen net.old) writes (K.faults out.old) before (K.written out.old) hall.old }
+    requires goes { (cfg : C.Settings) × (begun : NetSeen) × (writes : ℕ) × (before : Option (List ℕ)) × GoesFor C.meaning C.stands C.for_peer cfg C.seen C.sound C.rested L.seen L.wrote L.tells plan.now.accepts_header plan.now.logs plan.now.opening N.seen (address_of plan.now.to.now) true true begun (N.seen net.old) writes (K.faults out.old) before (K.written out.old) hall.old }
     requires lent { count_taken hall.old.places.items ≤ (N.seen net.old).lent }
-    ensures goes { KeepsGoing C.meaning C.stands C.for_peer C.seen C.sound L.seen L.wrote L.tells plan.now.accepts_header plan.now.logs plan.now.opening N.seen (address_of plan.now.to.now) K.faults K.written (had_memory result) net.old net.new out.old out.new hall.old hall.new }
+    ensures goes { KeepsGoing C.meaning C.stands C.for_peer C.seen C.sound C.rested L.seen L.wrote L.tells plan.now.accepts_header plan.now.logs plan.now.opening N.seen (address_of plan.now.to.now) K.faults K.written (had_memory result) net.old net.new out.old out.new hall.old hall.new }
     ensures within { IfSome plan.now.connections (λ count. hall.old.accepted ≤ count → hall.new.accepted ≤ count) }
     ensures balanced { IsBalanced (N.seen net.old) (N.seen net.new) hall.old.places.items hall.new.places.items }
     ensures net { IsSameNet (N.seen net.old) (N.seen net.new) }
@@ -86,8 +87,8 @@ fn give_up<C: ResetsFor, L: Waits + HasPair, N: WaitsNet<Link = L>>(
     caller: &Caller,
     conn: &mut Conn<L, N>,
 )
-    requires at { (cfg : C.Settings) × (accepts_header : Bool) × (opening : Opening) × (to : Place) × (first : L) × (first_net : N) × (held : Option C) × IsAtFor (C.meaning ∘ C.for_peer cfg ∘ source_in) (C.stands ∘ C.for_peer cfg ∘ source_in) C.seen C.sound L.seen L.wrote L.tells accepts_header opening N.seen first caller.now conn.old.client conn.old.server to (N.seen first_net) (N.seen conn.old.net) conn.old.ran held }
-    ensures left { (cfg : C.Settings) (accepts_header : Bool) (opening : Opening) (to : Place) (first : L) (first_net : N) (held : Option C) → IsAtFor (C.meaning ∘ C.for_peer cfg ∘ source_in) (C.stands ∘ C.for_peer cfg ∘ source_in) C.seen C.sound L.seen L.wrote L.tells accepts_header opening N.seen first caller.now conn.old.client conn.old.server to (N.seen first_net) (N.seen conn.old.net) conn.old.ran held
+    requires at { (cfg : C.Settings) × (accepts_header : Bool) × (opening : Opening) × (to : Place) × (first : L) × (first_net : N) × (held : Held C) × IsAtFor (C.meaning ∘ C.for_peer cfg ∘ source_in) (C.stands ∘ C.for_peer cfg ∘ source_in) C.seen C.sound C.rested L.seen L.wrote L.tells accepts_header opening N.seen first caller.now conn.old.client conn.old.server to (N.seen first_net) (N.seen conn.old.net) conn.old.ran held }
+    ensures left { (cfg : C.Settings) (accepts_header : Bool) (opening : Opening) (to : Place) (first : L) (first_net : N) (held : Held C) → IsAtFor (C.meaning ∘ C.for_peer cfg ∘ source_in) (C.stands ∘ C.for_peer cfg ∘ source_in) C.seen C.sound C.rested L.seen L.wrote L.tells accepts_header opening N.seen first caller.now conn.old.client conn.old.server to (N.seen first_net) (N.seen conn.old.net) conn.old.ran held
         → CameBack (C.meaning ∘ C.for_peer cfg ∘ source_in) (C.stands ∘ C.for_peer cfg ∘ source_in) C.seen L.seen L.wrote L.tells accepts_header opening first conn.new.client to (N.seen first_net) (N.seen conn.new.net) conn.old.ran }
 {
     if conn.ran.is_some() {
@@ -105,9 +106,9 @@ fn leave<C: ResetsFor + Drop, L: Waits + HasPair + Drop, N: WaitsNet<Link = L> +
     at: Option<Connection<C, L, N>>,
     net: &mut N,
 )
-    requires placed { (cfg : C.Settings) × (accepts_header : Bool) × (opening : Opening) × (to : Place) × (visits : List (Visit L N)) × IsPlaced (C.meaning ∘ C.for_peer cfg ∘ source_in) (C.stands ∘ C.for_peer cfg ∘ source_in) C.seen C.sound L.seen L.wrote L.tells accepts_header opening N.seen to visits at }
+    requires placed { (cfg : C.Settings) × (accepts_header : Bool) × (opening : Opening) × (to : Place) × (visits : List (Visit L N)) × IsPlaced (C.meaning ∘ C.for_peer cfg ∘ source_in) (C.stands ∘ C.for_peer cfg ∘ source_in) C.seen C.sound C.rested L.seen L.wrote L.tells accepts_header opening N.seen to visits at }
     requires lent { taken_at at ≤ (N.seen net.old).lent }
-    ensures gave_up { (cfg : C.Settings) (accepts_header : Bool) (opening : Opening) (to : Place) → GaveUpAt (C.meaning ∘ C.for_peer cfg ∘ source_in) (C.stands ∘ C.for_peer cfg ∘ source_in) C.seen C.sound L.seen L.wrote L.tells accepts_header opening N.seen to (N.seen net.old) (N.seen net.new) at }
+    ensures gave_up { (cfg : C.Settings) (accepts_header : Bool) (opening : Opening) (to : Place) → GaveUpAt (C.meaning ∘ C.for_peer cfg ∘ source_in) (C.stands ∘ C.for_peer cfg ∘ source_in) C.seen C.sound C.rested L.seen L.wrote L.tells accepts_header opening N.seen to (N.seen net.old) (N.seen net.new) at }
     ensures balanced { (N.seen net.new).lent + taken_at at ≡ (N.seen net.old).lent }
     ensures net { IsSameNet (N.seen net.old) (N.seen net.new) }
 {
@@ -126,10 +127,10 @@ fn leave_all<C: ResetsFor + Drop, L: Waits + HasPair + Drop, N: WaitsNet<Link = 
     hall: &mut Hall<C, L, N>,
     net: &mut N,
 )
-    requires goes { (cfg : C.Settings) × (accepts_header logs : Bool) × (opening : Opening) × (to : Place) × (fair whole : Bool) × (begun : NetSeen) × (writes writes_now : ℕ) × (before after : Option (List ℕ)) × GoesFor C.meaning C.stands C.for_peer cfg C.seen C.sound L.seen L.wrote L.tells accepts_header logs opening N.seen to fair whole begun (N.seen net.old) writes writes_now before after hall.old }
+    requires goes { (cfg : C.Settings) × (accepts_header logs : Bool) × (opening : Opening) × (to : Place) × (fair whole : Bool) × (begun : NetSeen) × (writes writes_now : ℕ) × (before after : Option (List ℕ)) × GoesFor C.meaning C.stands C.for_peer cfg C.seen C.sound C.rested L.seen L.wrote L.tells accepts_header logs opening N.seen to fair whole begun (N.seen net.old) writes writes_now before after hall.old }
     requires lent { count_taken hall.old.places.items ≤ (N.seen net.old).lent }
-    ensures goes { (cfg : C.Settings) (accepts_header logs : Bool) (opening : Opening) (to : Place) (fair whole : Bool) (begun : NetSeen) (writes writes_now : ℕ) (before after : Option (List ℕ)) → GoesFor C.meaning C.stands C.for_peer cfg C.seen C.sound L.seen L.wrote L.tells accepts_header logs opening N.seen to fair whole begun (N.seen net.old) writes writes_now before after hall.old
-        → GoesFor C.meaning C.stands C.for_peer cfg C.seen C.sound L.seen L.wrote L.tells accepts_header logs opening N.seen to false whole begun (N.seen net.new) writes writes_now before after hall.new }
+    ensures goes { (cfg : C.Settings) (accepts_header logs : Bool) (opening : Opening) (to : Place) (fair whole : Bool) (begun : NetSeen) (writes writes_now : ℕ) (before after : Option (List ℕ)) → GoesFor C.meaning C.stands C.for_peer cfg C.seen C.sound C.rested L.seen L.wrote L.tells accepts_header logs opening N.seen to fair whole begun (N.seen net.old) writes writes_now before after hall.old
+        → GoesFor C.meaning C.stands C.for_peer cfg C.seen C.sound C.rested L.seen L.wrote L.tells accepts_header logs opening N.seen to false whole begun (N.seen net.new) writes writes_now before after hall.new }
     ensures accepted { hall.new.accepted ≡ hall.old.accepted }
     ensures none { count_taken hall.new.places.items ≡ 0 }
     ensures balanced { IsBalanced (N.seen net.old) (N.seen net.new) hall.old.places.items hall.new.places.items }

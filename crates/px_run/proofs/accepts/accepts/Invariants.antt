@@ -9,8 +9,8 @@ use Rattle.px_run.proofs.accepts.accepts.Given as goal
 abbrev pub invariant-loop : goal.invariant-loop
 invariant-loop g l =
     record {
-      goes : (cfg : g.row.C-Settings.Denot) (to : Place) (begun : NetSeen) (writes writes_now : ℕ) (before after : Option (List ℕ)) → Goes (g.C.Machine.meaning ∘ g.C.ResetsFor.for_peer cfg ∘ source_in) (g.C.Machine.stands ∘ g.C.ResetsFor.for_peer cfg ∘ source_in) g.C.Machine.seen g.C.Machine.sound g.L.Link.seen g.L.Link.wrote g.L.HasPair.tells l.plan.accepts_header l.plan.logs l.plan.opening g.N.Net.seen to true true begun (g.N.Net.seen l.initial.net) writes writes_now before after l.initial.hall
-          → Goes (g.C.Machine.meaning ∘ g.C.ResetsFor.for_peer cfg ∘ source_in) (g.C.Machine.stands ∘ g.C.ResetsFor.for_peer cfg ∘ source_in) g.C.Machine.seen g.C.Machine.sound g.L.Link.seen g.L.Link.wrote g.L.HasPair.tells l.plan.accepts_header l.plan.logs l.plan.opening g.N.Net.seen to true true begun (g.N.Net.seen l.net) writes writes_now before after l.hall;
+      goes : (cfg : g.row.C-Settings.Denot) (to : Place) (begun : NetSeen) (writes writes_now : ℕ) (before after : Option (List ℕ)) → Goes (g.C.Machine.meaning ∘ g.C.ResetsFor.for_peer cfg ∘ source_in) (g.C.Machine.stands ∘ g.C.ResetsFor.for_peer cfg ∘ source_in) g.C.Machine.seen g.C.Machine.sound g.C.Machine.rested g.L.Link.seen g.L.Link.wrote g.L.HasPair.tells l.plan.accepts_header l.plan.logs l.plan.opening g.N.Net.seen to true true begun (g.N.Net.seen l.initial.net) writes writes_now before after l.initial.hall
+          → Goes (g.C.Machine.meaning ∘ g.C.ResetsFor.for_peer cfg ∘ source_in) (g.C.Machine.stands ∘ g.C.ResetsFor.for_peer cfg ∘ source_in) g.C.Machine.seen g.C.Machine.sound g.C.Machine.rested g.L.Link.seen g.L.Link.wrote g.L.HasPair.tells l.plan.accepts_header l.plan.logs l.plan.opening g.N.Net.seen to true true begun (g.N.Net.seen l.net) writes writes_now before after l.hall;
       within : IfSome l.plan.connections (λ (count : ℕ). l.initial.hall.accepted ≤ count → l.hall.accepted ≤ count);
       balanced : IsBalanced (g.N.Net.seen l.initial.net) (g.N.Net.seen l.net) l.initial.hall.places.items l.hall.places.items;
       net : IsSameNet (g.N.Net.seen l.initial.net) (g.N.Net.seen l.net);

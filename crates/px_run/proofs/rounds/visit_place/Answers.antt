@@ -14,7 +14,7 @@ returns-then-pace-len-clause-goes g c = λ cfg begun writes before h.
     let v = c.in-Ok-Leaves.ensures.goes cfg begun (g.N.Net.seen c.args.net.now) writes before h in
     let w : c.visit.new.pace.place < length c.visit.new.hall.places.items = search rules in
     let e : get_or c.visit.new.hall.places.items c.visit.new.pace.place c.index_mut.result.now ≡ c.index_mut.result.now = search rules in
-    goes_gave (g.C.Machine.meaning ∘ g.C.ResetsFor.for_peer cfg ∘ source_in) (g.C.Machine.stands ∘ g.C.ResetsFor.for_peer cfg ∘ source_in) g.C.Machine.seen g.C.Machine.sound g.L.Link.seen g.L.Link.wrote g.L.HasPair.tells c.args.plan.now.accepts_header c.args.plan.now.logs c.args.plan.now.opening g.N.Net.seen (address_of c.args.plan.now.to.now) begun writes before (g.N.Net.seen c.args.net.now) (g.N.Net.seen c.give_back.new.net) _ _ c.visit.new.hall _ c.visit.new.pace.place c.index_mut.result.now c.give_back.new.at w e refl refl refl refl c.give_back.ensures.gives v
+    goes_gave (g.C.Machine.meaning ∘ g.C.ResetsFor.for_peer cfg ∘ source_in) (g.C.Machine.stands ∘ g.C.ResetsFor.for_peer cfg ∘ source_in) g.C.Machine.seen g.C.Machine.sound g.C.Machine.rested g.L.Link.seen g.L.Link.wrote g.L.HasPair.tells c.args.plan.now.accepts_header c.args.plan.now.logs c.args.plan.now.opening g.N.Net.seen (address_of c.args.plan.now.to.now) begun writes before (g.N.Net.seen c.args.net.now) (g.N.Net.seen c.give_back.new.net) _ _ c.visit.new.hall _ c.visit.new.pace.place c.index_mut.result.now c.give_back.new.at w e refl refl refl refl c.give_back.ensures.gives v
 
 pub returns-else-pace-len-clause-goes : goal.returns-else-pace-len-clause-goes
 returns-else-pace-len-clause-goes g c = λ cfg begun writes before h. c.in-Ok-Leaves.ensures.goes cfg begun (g.N.Net.seen c.args.net.now) writes before h

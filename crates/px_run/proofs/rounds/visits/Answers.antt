@@ -11,7 +11,7 @@ visit_place-requires-clause-goes g c = let q = c.requires.goes in (q.0, q.1, q.2
 
 pub returns-in-Err-again-clause-goes : goal.returns-in-Err-again-clause-goes
 returns-in-Err-again-clause-goes g c = λ cfg begun writes before h.
-    goes_weaker (g.C.Machine.meaning ∘ g.C.ResetsFor.for_peer cfg ∘ source_in) (g.C.Machine.stands ∘ g.C.ResetsFor.for_peer cfg ∘ source_in) g.C.Machine.seen g.C.Machine.sound g.L.Link.seen g.L.Link.wrote g.L.HasPair.tells c.args.plan.now.accepts_header c.args.plan.now.logs c.args.plan.now.opening g.N.Net.seen (address_of c.args.plan.now.to.now) begun writes before _ _ (g.N.Net.seen c.visit_place.new.net) _ _ c.visit_place.new.hall (c.in-Ok.ensures.goes cfg begun writes before (c.loop-at.invariant.goes cfg begun writes before h))
+    goes_weaker (g.C.Machine.meaning ∘ g.C.ResetsFor.for_peer cfg ∘ source_in) (g.C.Machine.stands ∘ g.C.ResetsFor.for_peer cfg ∘ source_in) g.C.Machine.seen g.C.Machine.sound g.C.Machine.rested g.L.Link.seen g.L.Link.wrote g.L.HasPair.tells c.args.plan.now.accepts_header c.args.plan.now.logs c.args.plan.now.opening g.N.Net.seen (address_of c.args.plan.now.to.now) begun writes before _ _ (g.N.Net.seen c.visit_place.new.net) _ _ c.visit_place.new.hall (c.in-Ok.ensures.goes cfg begun writes before (c.loop-at.invariant.goes cfg begun writes before h))
 
 pub returns-in-Err-clause-goes : goal.returns-in-Err-clause-goes
 returns-in-Err-clause-goes g c = λ cfg begun writes before h. c.in-Err.ensures.goes cfg begun writes before (c.loop-at.invariant.goes cfg begun writes before h)

@@ -8,8 +8,8 @@ use Rattle.px_run.proofs.rounds.visits.Given as goal
 abbrev pub invariant-loop-at : goal.invariant-loop-at
 invariant-loop-at g l =
     record {
-      goes : (cfg : g.row.C-Settings.Denot) (begun : NetSeen) (writes : ℕ) (before : Option (List ℕ)) → Goes (g.C.Machine.meaning ∘ g.C.ResetsFor.for_peer cfg ∘ source_in) (g.C.Machine.stands ∘ g.C.ResetsFor.for_peer cfg ∘ source_in) g.C.Machine.seen g.C.Machine.sound g.L.Link.seen g.L.Link.wrote g.L.HasPair.tells l.plan.accepts_header l.plan.logs l.plan.opening g.N.Net.seen (address_of l.plan.to.now) true true begun (g.N.Net.seen l.initial.net) writes (g.K.Sink.faults l.initial.out) before (g.K.Sink.written l.initial.out) l.initial.hall
-          → Goes (g.C.Machine.meaning ∘ g.C.ResetsFor.for_peer cfg ∘ source_in) (g.C.Machine.stands ∘ g.C.ResetsFor.for_peer cfg ∘ source_in) g.C.Machine.seen g.C.Machine.sound g.L.Link.seen g.L.Link.wrote g.L.HasPair.tells l.plan.accepts_header l.plan.logs l.plan.opening g.N.Net.seen (address_of l.plan.to.now) true true begun (g.N.Net.seen l.net) writes (g.K.Sink.faults l.out) before (g.K.Sink.written l.out) l.hall;
+      goes : (cfg : g.row.C-Settings.Denot) (begun : NetSeen) (writes : ℕ) (before : Option (List ℕ)) → Goes (g.C.Machine.meaning ∘ g.C.ResetsFor.for_peer cfg ∘ source_in) (g.C.Machine.stands ∘ g.C.ResetsFor.for_peer cfg ∘ source_in) g.C.Machine.seen g.C.Machine.sound g.C.Machine.rested g.L.Link.seen g.L.Link.wrote g.L.HasPair.tells l.plan.accepts_header l.plan.logs l.plan.opening g.N.Net.seen (address_of l.plan.to.now) true true begun (g.N.Net.seen l.initial.net) writes (g.K.Sink.faults l.initial.out) before (g.K.Sink.written l.initial.out) l.initial.hall
+          → Goes (g.C.Machine.meaning ∘ g.C.ResetsFor.for_peer cfg ∘ source_in) (g.C.Machine.stands ∘ g.C.ResetsFor.for_peer cfg ∘ source_in) g.C.Machine.seen g.C.Machine.sound g.C.Machine.rested g.L.Link.seen g.L.Link.wrote g.L.HasPair.tells l.plan.accepts_header l.plan.logs l.plan.opening g.N.Net.seen (address_of l.plan.to.now) true true begun (g.N.Net.seen l.net) writes (g.K.Sink.faults l.out) before (g.K.Sink.written l.out) l.hall;
       accepted : l.hall.accepted ≡ l.initial.hall.accepted;
       balanced : IsBalanced (g.N.Net.seen l.initial.net) (g.N.Net.seen l.net) l.initial.hall.places.items l.hall.places.items;
       net : IsSameNet (g.N.Net.seen l.initial.net) (g.N.Net.seen l.net);

@@ -13,12 +13,12 @@ leave-requires-clause-placed g c =
     let q = c.requires.goes in
     let cfg = q.0 in
     let h = c.loop-left.invariant.goes cfg q.1 q.2 q.3 q.4 q.5 q.6 q.7 q.8 q.9 q.10 q.11 q.12 in
-    (cfg, q.1, q.3, q.4, h.visits, placed_last (g.C.Machine.meaning ∘ g.C.ResetsFor.for_peer cfg ∘ source_in) (g.C.Machine.stands ∘ g.C.ResetsFor.for_peer cfg ∘ source_in) g.C.Machine.seen g.C.Machine.sound g.L.Link.seen g.L.Link.wrote g.L.HasPair.tells q.1 q.3 g.N.Net.seen q.4 h.visits c.loop-left.hall.places.items c.pop.new.self.items c.loop-left.hall.sets.items c.pop.result c.in-Some.at c.in-Some.is c.pop.ensures.items h.all)
+    (cfg, q.1, q.3, q.4, h.visits, placed_last (g.C.Machine.meaning ∘ g.C.ResetsFor.for_peer cfg ∘ source_in) (g.C.Machine.stands ∘ g.C.ResetsFor.for_peer cfg ∘ source_in) g.C.Machine.seen g.C.Machine.sound g.C.Machine.rested g.L.Link.seen g.L.Link.wrote g.L.HasPair.tells q.1 q.3 g.N.Net.seen q.4 h.visits c.loop-left.hall.places.items c.pop.new.self.items c.loop-left.hall.sets.items c.pop.result c.in-Some.at c.in-Some.is c.pop.ensures.items h.all)
 
 pub loop-left-init : goal.loop-left-init
 loop-left-init g c =
     record {
-      goes = λ cfg accepts_header logs opening to fair whole begun writes writes_now before after h. goes_unfair (g.C.Machine.meaning ∘ g.C.ResetsFor.for_peer cfg ∘ source_in) (g.C.Machine.stands ∘ g.C.ResetsFor.for_peer cfg ∘ source_in) g.C.Machine.seen g.C.Machine.sound g.L.Link.seen g.L.Link.wrote g.L.HasPair.tells accepts_header logs opening g.N.Net.seen to begun writes before fair whole (g.N.Net.seen c.args.net.now) writes_now after c.args.hall.now h;
+      goes = λ cfg accepts_header logs opening to fair whole begun writes writes_now before after h. goes_unfair (g.C.Machine.meaning ∘ g.C.ResetsFor.for_peer cfg ∘ source_in) (g.C.Machine.stands ∘ g.C.ResetsFor.for_peer cfg ∘ source_in) g.C.Machine.seen g.C.Machine.sound g.C.Machine.rested g.L.Link.seen g.L.Link.wrote g.L.HasPair.tells accepts_header logs opening g.N.Net.seen to begun writes before fair whole (g.N.Net.seen c.args.net.now) writes_now after c.args.hall.now h;
       accepted = refl;
       balanced = refl;
       lent = c.requires.lent;
@@ -35,7 +35,7 @@ loop-left-preserved g c =
     let many : length c.loop-left.hall.places.items ≡ length c.pop.new.self.items + 1 = ap (λ (x : List (Option (Connection g.row.C.Denot g.row.L.Denot g.row.N.Denot))). length x) all ∙ length-append c.pop.new.self.items (c.in-Some.at ∷ []) in
     record {
       goes = λ cfg accepts_header logs opening to fair whole begun writes writes_now before after h.
-          goes_left (g.C.Machine.meaning ∘ g.C.ResetsFor.for_peer cfg ∘ source_in) (g.C.Machine.stands ∘ g.C.ResetsFor.for_peer cfg ∘ source_in) g.C.Machine.seen g.C.Machine.sound g.L.Link.seen g.L.Link.wrote g.L.HasPair.tells accepts_header logs opening g.N.Net.seen to begun writes before _ whole (g.N.Net.seen c.loop-left.net) (g.N.Net.seen c.leave.new.net) writes_now after c.loop-left.hall _ c.in-Some.at all refl refl refl (l.gave_up cfg accepts_header opening to) (i.goes cfg accepts_header logs opening to fair whole begun writes writes_now before after h);
+          goes_left (g.C.Machine.meaning ∘ g.C.ResetsFor.for_peer cfg ∘ source_in) (g.C.Machine.stands ∘ g.C.ResetsFor.for_peer cfg ∘ source_in) g.C.Machine.seen g.C.Machine.sound g.C.Machine.rested g.L.Link.seen g.L.Link.wrote g.L.HasPair.tells accepts_header logs opening g.N.Net.seen to begun writes before _ whole (g.N.Net.seen c.loop-left.net) (g.N.Net.seen c.leave.new.net) writes_now after c.loop-left.hall _ c.in-Some.at all refl refl refl (l.gave_up cfg accepts_header opening to) (i.goes cfg accepts_header logs opening to fair whole begun writes writes_now before after h);
       accepted = i.accepted;
       balanced = let a = i.balanced in let b = l.balanced in omega (arith, a, b, t);
       lent = let a = i.lent in let b = l.balanced in omega (arith, a, b, t);
