@@ -28,6 +28,13 @@ impl Lane {
         self.input.room()
     }
 
+    /// How many bytes came and were not read yet.
+    pub fn input_len(&self) -> usize
+        ensures { result ≡ length self.now.input.items }
+    {
+        self.input.len()
+    }
+
     /// How the body of the head that stands in the array is framed.
     pub fn framing(&self) -> Framing
         ensures { result ≡ self.now.framing }
